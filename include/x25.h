@@ -3,17 +3,21 @@
  * A program keeps an x25_station for each station, and hands its address to each call. All zeros hold no station; x25_new
  * makes one, and x25_free lets it go. A station has no clock, no socket and no thread: the program has the line and timer T1.
  *
- * x25_connect, x25_t1, x25_receive, x25_send and x25_command let something happen to a station, and leave its answer in it:
- * frames to send, frame check sequence included, and entries of the transcript, each in order. x25_frame and x25_entry copy
- * them into memory of the program; the next such call replaces them. Messages that wait go on with each of these calls.
+ * The calls from x25_connect to x25_command let something happen to a station, and leave their answer in it: frames to send,
+ * frame check sequence included, events, and what becomes of timer T1. x25_take takes these one after another; the next such
+ * call replaces them. Messages that wait go on with each of these calls.
  *
  * Each answers 0 where it did what it was asked, and else one of the numbers below: then the station is as before, nothing is
- * answered, and timer T1 goes on, or is off. (Behind X25_NO_COMMAND the last answer stands.)
+ * answered, and timer T1 goes on, or is off. (After X25_NO_COMMAND, and X25_IN_USE of x25_new, the last answer stands.) Each
+ * may answer X25_NO_STATION and X25_NO_MEMORY; what else one answers stands beside it.
+ *
+ * An answer has at most 24 frames of at most 4,103 octets, and 3 events, of which one has at most 65,535 octets. Reading it
+ * takes no memory, but for x25_entry.
  *
  * What the library can't see, and the program has to keep:
  * - An x25_station that holds a station isn't copied, only the library reads and writes its fields, and it is in one call at
  *   a time. It may be handed to another thread, by a lock, a thread's start or join, or a sequentially consistent atomic.
- * - A pointer isn't null, also where its count is 0, and leads to memory that no other parameter of the call leads to.
+ * - A pointer leads to memory that no other parameter of the call leads to. It isn't null, but where its count is 0.
  * - The library takes memory from malloc, realloc and free alone. They are of one allocator, and it aligns a block to each
  *   power of two up to 16 that divides its size.
  * - No call from a signal handler, or from the forked child of a process with threads.
@@ -29,6 +33,9 @@
 extern "C" {
 #endif
 
+/* 0.1.0, as 10,000 times its first number, 100 times the second, and the third. x25_version tells that of the library. */
+#define X25_VERSION 100
+
 typedef struct {
     void *at;
     bool is_open;
@@ -42,26 +49,97 @@ typedef struct {
     bool long_data;   /* a call may have up to 128 octets of user data, in place of up to 16; the same at both ends */
     bool say_sizes;   /* each CALL and CALL ACCEPTED says packet sizes and windows, as X.25 over TCP asks for */
     bool wide;        /* packets are read in all the forms that X.25 lets equipment send, and not only as a station writes them */
+    uint16_t later;   /* 0: room for settings of later versions, as is */
+    uint64_t more;    /* this */
 } x25_settings;
 
-/* The name of a stretch of a channel, as an entry has it behind "at": the restarts done since link set-up, the clears done since
-   the last of these, and the resets done since the last of all these. */
+/* The name of a stretch of a channel: the restarts done since link set-up, the clears done since the last of these, and the
+   resets done since the last of all these. */
 typedef struct {
     uint64_t restarts;
     uint64_t clears;
     uint64_t resets;
 } x25_stretch_name;
 
+/* Packet sizes, as powers of 2 from 4 to 12, and windows, 1 to 7, of what the called and what the calling end of a call sends.
+   All 0 names none: a call then proposes 128 octets (7) and windows of 2, and an acceptance takes what is proposed. */
+typedef struct {
+    uint8_t size_called;
+    uint8_t size_calling;
+    uint8_t window_called;
+    uint8_t window_calling;
+} x25_sizes;
+
+/* An item of an answer: its kind, and what the kinds below have; what one doesn't have is 0. */
+typedef struct {
+    uint16_t kind;            /* X25_EVENT_FRAME .. */
+    uint16_t channel;
+    bool q;                   /* the qualifier of a message */
+    uint8_t cause;
+    uint8_t diagnostic;
+    uint8_t reason;           /* why the link went down: X25_DOWN_RETRIES .. */
+    x25_sizes sizes;
+    uint32_t timer;           /* X25_TIMER_OFF .. */
+    x25_stretch_name stretch; /* in which a message or an interrupt was sent or came, or a call */
+    size_t count;             /* how many octets of a frame or of user data there are */
+} x25_event;
+
 enum {
     X25_DTE = 0,
     X25_DCE = 1
 };
 
-/* What becomes of timer T1 (x25_timer): a program drops its deadline, sets it anew, or leaves it as it is. */
+/* What becomes of timer T1: a program drops its deadline, sets it anew, or leaves it as it is. */
 enum {
     X25_TIMER_OFF = 0,
     X25_TIMER_BEGINS = 1,
     X25_TIMER_GOES_ON = 2
+};
+
+/* The kinds of items, and what each has but its kind. docs/FORMATS.md has the entries of the transcript that they are. */
+enum {
+    X25_EVENT_FRAME = 1,           /* octets to send */
+    X25_EVENT_TIMER = 2,           /* timer: the last item of each answer */
+    X25_EVENT_LINK_UP = 3,         /* the link came up */
+    X25_EVENT_LINK_DOWN = 4,       /* the link went down: reason */
+    X25_EVENT_RESTARTED = 5,       /* the other end restarted, so each call ended: cause, diagnostic */
+    X25_EVENT_RESTART_DONE = 6,    /* this end's restart is confirmed */
+    X25_EVENT_FAULT = 7,           /* an error of procedure of the other end: channel, diagnostic; channel 0 where it is of none */
+    X25_EVENT_BESIDE = 8,          /* what the packet of the event before brought beside: channel, facilities, user data */
+    X25_EVENT_DIAGNOSTIC = 9,      /* a DIAGNOSTIC came: diagnostic */
+    X25_EVENT_INCOMING = 10,       /* the other end calls: channel, stretch, sizes, both addresses, user data */
+    X25_EVENT_CONNECTED = 11,      /* the other end accepted: channel, sizes */
+    X25_EVENT_COLLIDED = 12,       /* this end's call was dropped for the one that came: channel */
+    X25_EVENT_CLEARED = 13,        /* the other end cleared: channel, cause, diagnostic */
+    X25_EVENT_CLEAR_DONE = 14,     /* this end's clearing is confirmed: channel */
+    X25_EVENT_RESET = 15,          /* the other end reset: channel, cause, diagnostic */
+    X25_EVENT_RESET_DONE = 16,     /* this end's reset is confirmed: channel */
+    X25_EVENT_MESSAGE = 17,        /* a message came: channel, stretch, q, user data */
+    X25_EVENT_INTERRUPT = 18,      /* an interrupt came: channel, stretch, user data */
+    X25_EVENT_INTERRUPT_DONE = 19, /* this end's interrupt is confirmed: channel */
+    X25_EVENT_CONNECT_ASKED = 20,  /* from here on, what this end asked, which is the first event of its answer */
+    X25_EVENT_DISCONNECT_ASKED = 21,
+    X25_EVENT_RESTART_ASKED = 22,
+    X25_EVENT_CALL_ASKED = 23,     /* channel, stretch, sizes, both addresses, user data */
+    X25_EVENT_ACCEPT_ASKED = 24,   /* channel, sizes */
+    X25_EVENT_CLEAR_ASKED = 25,    /* channel, as those below */
+    X25_EVENT_SEND_ASKED = 26,     /* stretch, q, user data too */
+    X25_EVENT_INTERRUPT_ASKED = 27,/* stretch, user data too */
+    X25_EVENT_RESET_ASKED = 28,
+    X25_EVENT_READY_ASKED = 29,
+    X25_EVENT_NOT_READY_ASKED = 30
+};
+
+/* Why the link went down. */
+enum {
+    X25_DOWN_RETRIES = 1,   /* a command wasn't answered, however often it was sent */
+    X25_DOWN_DISC = 2,      /* DISC came */
+    X25_DOWN_DM = 3,        /* DM came */
+    X25_DOWN_FRMR_SENT = 4, /* FRMR was sent */
+    X25_DOWN_FRMR_GOT = 5,  /* FRMR came */
+    X25_DOWN_RESET = 6,     /* the other end set it up anew */
+    X25_DOWN_LOCAL = 7,     /* this end disconnected */
+    X25_DOWN_COUNTS = 8     /* a count of restarts, clears or resets is at its most */
 };
 
 /* Why a call is refused. docs/FORMATS.md says more of each. */
@@ -71,7 +149,7 @@ enum {
     X25_TIMER_NOT_RUNNING = 11,  /* timer T1 doesn't run */
     X25_SETTING_UP = 12,         /* the link is being set up */
     X25_ENDED = 13,              /* the link was ended */
-    X25_BAD_SETTING = 14,        /* a setting is out of its range (x25_new) */
+    X25_BAD_SETTING = 14,        /* a setting is out of its range, or isn't known (x25_new) */
     X25_LINK_UP = 15,            /* the link is up */
     X25_NO_STATION = 16,         /* the x25_station holds no station */
     X25_IN_USE = 17,             /* the x25_station holds one (x25_new) */
@@ -87,44 +165,82 @@ enum {
     X25_NO_MEMORY = 70           /* memory was refused; the call may be made again */
 };
 
-/* Makes a station whose link is down. end: X25_DTE or X25_DCE. */
+/* The version of the library, as X25_VERSION. */
+uint32_t x25_version(void);
+/* Makes a station whose link is down. end: X25_DTE or X25_DCE. 17, 14, 70. */
 uint32_t x25_new(x25_station *station, uint8_t end, x25_settings settings);
 /* Lets the station go, where there is one. */
 void x25_free(x25_station *station);
 
-/* Begins to set the link up. */
+/* Begins to set the link up. 12, 13, 15. */
 uint32_t x25_connect(x25_station *station);
-/* Timer T1 fired. */
+/* Disconnects the link, for good. 13. */
+uint32_t x25_disconnect(x25_station *station);
+/* Restarts the packet layer: each call ends. 9, 40, 10. */
+uint32_t x25_restart(x25_station *station);
+/* Calls the other end on a free channel, which is written to channel, with two addresses of at most 15 digits, as "123", and
+   at most 16 octets of user data, or 128 with long_data. 9, 40, 41, 10, 34; channel is then as before. */
+uint32_t x25_call(x25_station *station, const char *called, size_t called_count, const char *calling, size_t calling_count,
+                  const uint8_t *user, size_t user_count, x25_sizes sizes, uint16_t *channel);
+/* Accepts the call that came on a channel, with sizes and windows each from the one proposed to the default.
+   9, 40, 42, 10, 30, 34. */
+uint32_t x25_accept(x25_station *station, uint16_t channel, x25_sizes sizes);
+/* Clears a call, whatever its state. 9, 40, 42, 10, 30. */
+uint32_t x25_clear(x25_station *station, uint16_t channel);
+/* Resets a call: messages on the way are lost. 9, 40, 42, 10, 30. */
+uint32_t x25_reset(x25_station *station, uint16_t channel);
+/* Sends an interrupt of 1 to 32 octets. 9, 40, 42, 10, 30, 34, 33. */
+uint32_t x25_interrupt(x25_station *station, uint16_t channel, const uint8_t *user, size_t user_count);
+/* Tells the other end that this one takes data packets, or takes none for now. 9, 40, 42, 10, 30. */
+uint32_t x25_ready(x25_station *station, uint16_t channel);
+uint32_t x25_not_ready(x25_station *station, uint16_t channel);
+/* Hands down what waits in the circuits, as each call does. 9, 40. */
+uint32_t x25_pull(x25_station *station);
+/* Timer T1 fired. 11. */
 uint32_t x25_t1(x25_station *station);
 /* The octets of a frame came, as they stand between the flags, frame check sequence included. */
-uint32_t x25_receive(x25_station *station, const uint8_t *octets, size_t count);
-/* Sends a message of at most 65,535 octets on a channel, with or without the qualifier. */
-uint32_t x25_send(x25_station *station, uint16_t channel, bool q, const uint8_t *user, size_t count);
+uint32_t x25_receive(x25_station *station, const uint8_t *octets, size_t octets_count);
+/* Sends a message of at most 65,535 octets on a channel, with or without the qualifier. 9, 40, 42, 30, 32, 31. */
+uint32_t x25_send(x25_station *station, uint16_t channel, bool q, const uint8_t *user, size_t user_count);
 /* Does what a text asks, as a line of a script without the name of its end and the line feed: "call 123 4567 41",
-   "accept 1", "clear 1", "int 1 2a", "disconnect" .. */
-uint32_t x25_command(x25_station *station, const uint8_t *text, size_t count);
+   "accept 1", "clear 1", "int 1 2a", "disconnect" .. 60, and what the call for it answers. */
+uint32_t x25_command(x25_station *station, const char *text, size_t text_count);
 
-/* The frames and the entries of the last answer. x25_frame and x25_entry copy number i, from 0 on, to the front of room where
-   it fits, and tell its length in any case, 0 where there is none. A frame is of at most 4,103 octets; an entry is a line of
-   the transcript with its line feed. X25_NO_MEMORY of x25_entry leaves room and count as they were. */
+/* Takes item i of the last answer, from 0 on: its frames, its events, each in order, and then what becomes of timer T1. What it
+   is is written to event, and its octets are copied to the front of room where they fit; event->count tells how many they are
+   in any case. False after the last item: event and room are then as before.
+
+       for (size_t i = 0; x25_take(&station, i, &event, room, sizeof room); i++)
+           switch (event.kind) .. */
+bool x25_take(x25_station *station, size_t i, x25_event *event, uint8_t *room, size_t size);
+/* What else item i has: the address that is called and the one that calls, 0 to 15 digits as "0" to "9", and the facilities that
+   came beside, at most 109 octets. Each is copied to the front of text or room where it fits; its length is answered in any case,
+   0 where there is none. */
+size_t x25_called(x25_station *station, size_t i, char *text, size_t size);
+size_t x25_calling(x25_station *station, size_t i, char *text, size_t size);
+size_t x25_facilities(x25_station *station, size_t i, uint8_t *room, size_t size);
+
+/* The same answer by its parts, the events as text. x25_frame and x25_entry copy number i, from 0 on, to the front of room or
+   text where it fits, and tell its length in any case, 0 where there is none. An entry is a line of the transcript with its line
+   feed, of at most 131,200 octets. X25_NO_MEMORY of x25_entry leaves text and count as they were. */
 size_t x25_frames(x25_station *station);
 size_t x25_frame(x25_station *station, size_t i, uint8_t *room, size_t size);
 size_t x25_entries(x25_station *station);
-uint32_t x25_entry(x25_station *station, size_t i, uint8_t *room, size_t size, size_t *count);
-
-/* What became of timer T1 at the last call: read it behind each. */
+uint32_t x25_entry(x25_station *station, size_t i, char *text, size_t size, size_t *count);
+/* What became of timer T1 at the last call. */
 uint32_t x25_timer(x25_station *station);
-/* Whether memory was refused behind the last call that was accepted, for messages that may wait: they go on with the next one, as
-   "pull" of x25_command is. */
+
+/* Whether memory was refused after the last call that was accepted, for messages that may wait: they go on with the next one, as
+   x25_pull is. */
 bool x25_waits(x25_station *station);
 /* Whether the link is up, and all that was asked was sent and acknowledged. */
 bool x25_idle(x25_station *station);
 /* Whether a stretch is open on a channel: a call is up there, and no reset is under way. Then its name is written, which else is
    as it was. */
 bool x25_stretch(x25_station *station, uint16_t channel, x25_stretch_name *name);
-/* What the number of a refusal says, copied as x25_frame copies, into memory of the program: at most 64 octets, without a zero
-   behind them; none where no call answers that number. */
-size_t x25_refusal_text(uint32_t number, uint8_t *room, size_t size);
+/* What the number of a refusal says, copied as x25_called copies, into memory of the program: at most 64 octets, without a zero
+   after them; none where no call answers that number. */
+size_t x25_refusal_text(uint32_t number, char *text, size_t size);
 
 #ifdef __cplusplus
 }

@@ -42,13 +42,13 @@ class Station:
     def ask(self, event):
         """The answer to an event, a line without its line feed."""
         try:
-            answer = self._asked(event)
+            answer, lines = self._asked(event), self._station.lines()
         except x25.Refused as refusal:
             if refusal.number == 70:
                 raise BadInput("no memory") from refusal
             return self._quiet("? 60" if refusal.number == 60 else f"! {refusal.number}")
         frames = [FrameLine(ENDS[self._end][1], octets) for octets in answer.frames]
-        return Answer([entry.line for entry in answer.entries], frames, None, T1[answer.timer], self._station.is_idle)
+        return Answer([line.rstrip("\n") for line in lines], frames, None, T1[answer.timer], self._station.is_idle)
 
     def _quiet(self, refusal):
         """What nothing is answered by, but perhaps a refusal: T1 is as it was."""

@@ -59,7 +59,8 @@ static void write_all(const char *text, size_t count)
 /* Hands on what the station answered: frames to the line, entries to standard output, and timer T1 is set. */
 static void hand_on(void)
 {
-    static uint8_t octets[MOST_OCTETS], entry[MOST_ENTRY];
+    static uint8_t octets[MOST_OCTETS];
+    static char entry[MOST_ENTRY];
     static char text[MOST_LINE + 1];
     for (size_t i = 0; i < x25_frames(&station); i++) {
         size_t count = x25_frame(&station, i, octets, sizeof octets), at = 2;
@@ -101,13 +102,13 @@ static void hear(const char *text, size_t count)
 /* A line of standard input: a command. */
 static void ask(const char *text, size_t count)
 {
-    static uint8_t why[MOST_REFUSAL];
-    uint32_t number = x25_command(&station, (const uint8_t *)text, count);
+    static char why[MOST_REFUSAL];
+    uint32_t number = x25_command(&station, text, count);
     if (number == 0) {
         hand_on();
     } else {
         int length = (int)x25_refusal_text(number, why, sizeof why);
-        printf("! %u: %.*s\n", (unsigned)number, length, (const char *)why);
+        printf("! %u: %.*s\n", (unsigned)number, length, why);
         fflush(stdout);
     }
 }

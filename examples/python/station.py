@@ -27,13 +27,12 @@ def main(end, host, port):
         """Makes a call, sends the frames that it answers, tells its entries, and sets the timer; a refusal is told."""
         nonlocal deadline
         try:
-            answer = call(*words)
+            answer, lines = call(*words), station.lines()
         except x25.Refused as refusal:
             print(f"! {refusal}", flush=True)
             return
         line.sendall(b"".join(mark + octets.hex().encode() + b"\n" for octets in answer.frames))
-        for entry in answer.entries:
-            print(entry.line, flush=True)
+        print("".join(lines), end="", flush=True)
         if answer.timer != x25.Timer.GOES_ON:
             deadline = time.monotonic() + T1 if answer.timer == x25.Timer.BEGINS else None
 

@@ -7,7 +7,7 @@ static void take(end_t *end)
     take_frames(end);
     for (size_t i = 0; i < x25_entries(&end->station); i++) {
         size_t count = 0;
-        expect("entry", x25_entry(&end->station, i, (uint8_t *)end->told + end->length, TEXT - end->length, &count), 0);
+        expect("entry", x25_entry(&end->station, i, end->told + end->length, TEXT - end->length, &count), 0);
         end->length += count;
     }
     if (x25_waits(&end->station))
@@ -16,7 +16,7 @@ static void take(end_t *end)
 
 static void ask(end_t *end, const char *text)
 {
-    expect(text, x25_command(&end->station, (const uint8_t *)text, strlen(text)), 0);
+    expect(text, x25_command(&end->station, text, strlen(text)), 0);
     take(end);
 }
 
@@ -50,14 +50,32 @@ static void try_refusals(void)
 {
     x25_station *station = &dte.station;
     uint8_t room[4] = {1, 2, 3, 4};
+    char text[4] = "abc";
+    x25_event event = {.kind = 77};
+    uint16_t channel = 78;
     size_t count = 7;
     expect("t1 of none", x25_t1(station), X25_NO_STATION);
     expect("connect of none", x25_connect(station), X25_NO_STATION);
     expect("receive of none", x25_receive(station, room, 4), X25_NO_STATION);
     expect("send of none", x25_send(station, 1, false, room, 4), X25_NO_STATION);
-    expect("command of none", x25_command(station, (const uint8_t *)"connect", 7), X25_NO_STATION);
-    expect("entry of none", x25_entry(station, 0, room, 4, &count), X25_NO_STATION);
+    expect("command of none", x25_command(station, "connect", 7), X25_NO_STATION);
+    expect("entry of none", x25_entry(station, 0, text, 4, &count), X25_NO_STATION);
     expect("entry of none, its length", (uint32_t)count, 7);
+    expect("disconnect of none", x25_disconnect(station), X25_NO_STATION);
+    expect("restart of none", x25_restart(station), X25_NO_STATION);
+    expect("call of none", x25_call(station, "1", 1, "2", 1, room, 4, (x25_sizes){0, 0, 0, 0}, &channel), X25_NO_STATION);
+    expect("call of none, its channel", channel, 78);
+    expect("accept of none", x25_accept(station, 1, (x25_sizes){0, 0, 0, 0}), X25_NO_STATION);
+    expect("clear of none", x25_clear(station, 1), X25_NO_STATION);
+    expect("reset of none", x25_reset(station, 1), X25_NO_STATION);
+    expect("interrupt of none", x25_interrupt(station, 1, room, 4), X25_NO_STATION);
+    expect("ready of none", x25_ready(station, 1), X25_NO_STATION);
+    expect("not ready of none", x25_not_ready(station, 1), X25_NO_STATION);
+    expect("pull of none", x25_pull(station), X25_NO_STATION);
+    expect("item of none", x25_take(station, 0, &event, room, 4), false);
+    expect("item of none, its kind", event.kind, 77);
+    expect("addresses of none", (uint32_t)(x25_called(station, 0, text, 4) + x25_calling(station, 0, text, 4)), 0);
+    expect("facilities of none", (uint32_t)x25_facilities(station, 0, room, 4), 0);
     expect("frame of none", (uint32_t)x25_frame(station, 0, room, 4), 0);
     expect("frames of none", (uint32_t)x25_frames(station), 0);
     expect("entries of none", (uint32_t)x25_entries(station), 0);
@@ -68,10 +86,11 @@ static void try_refusals(void)
     expect("a bad end", x25_new(station, 2, one_channel), X25_BAD_SETTING);
     expect("a bad window", x25_new(station, X25_DTE, (x25_settings){.k = 8, .n2 = 10, .channels = 1}), X25_BAD_SETTING);
     expect("no channel", x25_new(station, X25_DTE, (x25_settings){.k = 7, .n2 = 10}), X25_BAD_SETTING);
+    expect("a setting of a later version", x25_new(station, X25_DTE, (x25_settings){.k = 7, .n2 = 10, .channels = 1, .more = 1}), X25_BAD_SETTING);
     expect("new", x25_new(station, X25_DTE, one_channel), 0);
     expect("new again", x25_new(station, X25_DTE, one_channel), X25_IN_USE);
-    expect("sing", x25_command(station, (const uint8_t *)"sing 1", 6), X25_NO_COMMAND);
-    expect("a call while the link is down", x25_command(station, (const uint8_t *)"call 123 4567 41", 16), X25_LINK_NOT_UP);
+    expect("sing", x25_command(station, "sing 1", 6), X25_NO_COMMAND);
+    expect("a call while the link is down", x25_command(station, "call 123 4567 41", 16), X25_LINK_NOT_UP);
     expect("T1 that doesn't run", x25_t1(station), X25_TIMER_NOT_RUNNING);
     expect("a new station is idle", x25_idle(station), false);
 }
@@ -91,13 +110,14 @@ static void try_rooms(void)
 
 static void try_texts(void)
 {
-    uint8_t room[8] = {9, 9, 9, 9, 9, 9, 9, 9};
+    char room[8] = {9, 9, 9, 9, 9, 9, 9, 9};
+    expect("the version", x25_version(), X25_VERSION);
     expect("a text into little room", (uint32_t)x25_refusal_text(X25_NO_MEMORY, room, 8), 9);
     expect("what is there then", room[0], 9);
-    expect("a text", (uint32_t)x25_refusal_text(X25_NO_MEMORY, (uint8_t *)dte.told, TEXT), 9);
+    expect("a text", (uint32_t)x25_refusal_text(X25_NO_MEMORY, dte.told, TEXT), 9);
     expect("its octets", memcmp(dte.told, "no memory", 9) != 0, 0);
     for (uint32_t number = 0; number < 100; number++)
-        if (x25_refusal_text(number, (uint8_t *)dte.told, TEXT) > 64)
+        if (x25_refusal_text(number, dte.told, TEXT) > 64)
             fail("a long text", number);
     expect("a number that is none", (uint32_t)x25_refusal_text(0, room, 8), 0);
 }

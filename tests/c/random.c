@@ -1,8 +1,13 @@
-/* Hands random octets, commands, messages, firings and frames of the other end to two stations, and takes what they answer:
-   nothing may go wrong, whatever comes. The words are a seed and how many calls are made. */
+/* Makes calls of all kinds in any order on two stations, with octets that end where memory ends, and takes each answer: nothing may
+   go wrong, whatever comes, and its events say what its entries say. The words are a seed and how many calls are made. */
+#define _GNU_SOURCE
 #include "two.h"
+#include <sys/mman.h>
+
+enum { AREA = 1 << 18, AREAS = 5, KINDS = 31 };
 
 static uint64_t state;
+static uint8_t *ends[AREAS]; /* of memory behind which none may be touched */
 
 static uint32_t draw(uint32_t bound)
 {
@@ -10,70 +15,289 @@ static uint32_t draw(uint32_t bound)
     return (uint32_t)(state >> 33) % bound;
 }
 
-static uint32_t draw_octets(uint8_t *octets, uint32_t most)
+static void make_areas(void)
 {
-    uint32_t count = draw(most);
-    for (uint32_t i = 0; i < count; i++)
-        octets[i] = (uint8_t)draw(256);
-    return count;
+    for (int i = 0; i < AREAS; i++) {
+        uint8_t *begin = mmap(NULL, AREA + 4096, PROT_READ | PROT_WRITE, MAP_PRIVATE | MAP_ANONYMOUS, -1, 0);
+        if (begin == MAP_FAILED || mprotect(begin + AREA, 4096, PROT_NONE))
+            fail("memory", (uint32_t)i);
+        ends[i] = begin + AREA;
+    }
+}
+
+/* So many octets at the end of an area; where there are none, at times a null pointer. */
+static uint8_t *room(int area, size_t count)
+{
+    return count == 0 && draw(2) ? NULL : ends[area] - count;
+}
+
+static uint8_t *octets(int area, size_t count)
+{
+    uint8_t *begin = room(area, count);
+    for (size_t i = 0; i < count; i++)
+        begin[i] = (uint8_t)draw(256);
+    return begin;
+}
+
+/* Digits at the end of an area, at times with an octet that is none. */
+static const char *digits(int area, size_t count)
+{
+    uint8_t *begin = octets(area, count);
+    for (size_t i = 0; i < count && draw(64); i++)
+        begin[i] = (uint8_t)('0' + begin[i] % 10);
+    return (const char *)begin;
+}
+
+static x25_sizes sizes(void)
+{
+    static const x25_sizes few[] = {{0, 0, 0, 0}, {0, 0, 0, 0}, {7, 7, 2, 2}, {8, 4, 7, 1}, {12, 12, 7, 7}, {3, 7, 2, 2}, {7, 0, 2, 8}};
+    return few[draw(sizeof few / sizeof *few)];
+}
+
+static uint32_t command(x25_station *station)
+{
+    static const char *const texts[] = {
+        "connect", "call 1 2 41", "accept 1", "clear 1", "send 1 0 4142", "int 1 01", "reset 1", "restart", "pull", "notready 1", "ready 1", "x", ""};
+    const char *text = texts[draw(sizeof texts / sizeof *texts)];
+    size_t count = strlen(text);
+    uint8_t *copy = room(0, count);
+    if (count)
+        memcpy(copy, text, count);
+    return x25_command(station, (const char *)copy, count);
+}
+
+static uint32_t hear(x25_station *station, end_t *other)
+{
+    size_t count;
+    uint8_t *frame = next_frame(other, &count), *copy;
+    if (frame == NULL)
+        return draw(16) ? x25_t1(station) : x25_connect(station);
+    copy = room(0, count);
+    memcpy(copy, frame, count);
+    if (draw(64) == 0)
+        copy[draw((uint32_t)count)] ^= 1;
+    return x25_receive(station, copy, count);
 }
 
 static uint32_t call(end_t *end, end_t *other)
 {
-    static const char *const texts[] = {
-        "connect", "call 1 2 41", "accept 1", "clear 1", "send 1 0 4142", "int 1 01", "reset 1", "restart", "pull",
-        "notready 1", "ready 1", "x"};
-    static uint8_t octets[512];
-    size_t count;
-    switch (draw(6)) {
+    x25_station *station = &end->station;
+    uint16_t channel = (uint16_t)draw(4), called = 77;
+    size_t count = draw(40), long_count = draw(8) ? draw(600) : draw(70000), first = draw(17), second = draw(17);
+    uint32_t number;
+    switch (draw(40)) {
     case 0:
-        count = draw_octets(octets, 64);
-        return x25_receive(&end->station, octets, count);
+        return x25_receive(station, octets(0, count), count);
     case 1:
-        return x25_t1(&end->station);
-    case 2: {
-        const char *text = texts[draw(sizeof texts / sizeof *texts)];
-        return x25_command(&end->station, (const uint8_t *)text, strlen(text));
+        return x25_t1(station);
+    case 2:
+        return command(station);
+    case 3: case 4: case 5:
+        return x25_send(station, channel, draw(2), octets(0, long_count), long_count);
+    case 6: case 7:
+        number = x25_call(station, digits(0, first), first, digits(1, second), second, octets(2, count), count, sizes(), &called);
+        if (number ? called != 77 : called < 1 || called > 2)
+            fail("the channel of a call", called);
+        return number;
+    case 8: case 9:
+        return x25_accept(station, channel, sizes());
+    case 10:
+        return draw(8) ? x25_pull(station) : x25_clear(station, channel);
+    case 11:
+        return draw(8) ? x25_pull(station) : x25_reset(station, channel);
+    case 12:
+        return x25_interrupt(station, channel, octets(0, count), count);
+    case 13:
+        return x25_ready(station, channel);
+    case 14:
+        return draw(4) ? x25_pull(station) : x25_not_ready(station, channel);
+    case 15:
+        return draw(64) ? x25_pull(station) : x25_restart(station);
+    case 16:
+        return x25_pull(station);
+    case 17:
+        return draw(1000) ? x25_pull(station) : x25_disconnect(station);
+    default:
+        return hear(station, other);
     }
-    case 3:
-        count = draw_octets(octets, sizeof octets);
-        return x25_send(&end->station, (uint16_t)draw(4), draw(2), octets, count);
-    default: {
-        uint8_t *frame = next_frame(other, &count);
-        return frame == NULL ? x25_connect(&end->station) : x25_receive(&end->station, frame, count);
+}
+
+/* ---- the line of an event */
+
+static char line[1 << 18];
+static size_t length;
+
+static void put(const char *form, unsigned long long number)
+{
+    length += (size_t)snprintf(line + length, sizeof line - length, form, number);
+}
+
+static void put_octets(const char *label, const uint8_t *given, size_t count)
+{
+    put(label, 0);
+    if (count == 0)
+        put("-", 0);
+    for (size_t i = 0; i < count; i++) {
+        line[length++] = "0123456789abcdef"[given[i] >> 4];
+        line[length++] = "0123456789abcdef"[given[i] & 15];
     }
+}
+
+static void put_address(const char *label, size_t (*read)(x25_station *, size_t, char *, size_t), x25_station *station, size_t i)
+{
+    size_t count = read(station, i, NULL, 0);
+    char *text = (char *)room(3, count);
+    if (count > 15 || read(station, i, text, count) != count)
+        fail("an address", (uint32_t)count);
+    put(label, 0);
+    put(count ? "" : "-", 0);
+    for (size_t j = 0; j < count; j++)
+        line[length++] = text[j];
+}
+
+static void put_sizes(x25_sizes s)
+{
+    if (s.size_called == 7 && s.size_calling == 7 && s.window_called == 2 && s.window_calling == 2)
+        return;
+    put(" size=%llu", s.size_called);
+    put(",%llu", s.size_calling);
+    put(" win=%llu", s.window_called);
+    put(",%llu", s.window_calling);
+}
+
+static void put_reason(const x25_event *event)
+{
+    put(" cause=%llu", event->cause);
+    put(" diag=%llu", event->diagnostic);
+}
+
+static void put_stretch(const x25_event *event)
+{
+    put(" at %llu", event->stretch.restarts);
+    put(".%llu", event->stretch.clears);
+    put(".%llu", event->stretch.resets);
+}
+
+/* Writes the line that an event stands for. */
+static void write_event(end_t *end, size_t i, const x25_event *event, const uint8_t *user)
+{
+    static const char *const names[KINDS] = {
+        "", "", "", "linkup", "linkdown ", "restarted", "restartdone", "fault", "beside", "diagnostic", "incoming", "connected", "collided",
+        "cleared", "cleardone", "wasreset", "resetdone", "message", "interrupt", "intdone", "connect", "disconnect", "restart", "call", "accept",
+        "clear", "send", "int", "reset", "ready", "notready"};
+    static const char *const reasons[] = {"", "retries", "disc", "dm", "frmr-sent", "frmr-got", "reset", "local", "counts"};
+    unsigned kind = event->kind;
+    length = 0;
+    put(end == &dte ? "dte " : "dce ", 0);
+    put(names[kind], 0);
+    if (kind == X25_EVENT_LINK_DOWN)
+        put(reasons[event->reason], 0);
+    if (kind == X25_EVENT_FAULT || kind == X25_EVENT_BESIDE || (kind >= X25_EVENT_INCOMING && kind < X25_EVENT_CONNECT_ASKED)
+        || kind >= X25_EVENT_CALL_ASKED)
+        put(" ch=%llu", event->channel);
+    if (kind == X25_EVENT_INCOMING || kind == X25_EVENT_CALL_ASKED || kind == X25_EVENT_MESSAGE || kind == X25_EVENT_SEND_ASKED
+        || kind == X25_EVENT_INTERRUPT || kind == X25_EVENT_INTERRUPT_ASKED)
+        put_stretch(event);
+    if (kind == X25_EVENT_INCOMING || kind == X25_EVENT_CALL_ASKED) {
+        put_address(" called=", x25_called, &end->station, i);
+        put_address(" calling=", x25_calling, &end->station, i);
     }
+    if (kind == X25_EVENT_MESSAGE || kind == X25_EVENT_SEND_ASKED)
+        put(" q=%llu", event->q);
+    if (kind == X25_EVENT_BESIDE) {
+        size_t count = x25_facilities(&end->station, i, NULL, 0);
+        uint8_t *field = room(3, count);
+        x25_facilities(&end->station, i, field, count);
+        put_octets(" fac=", field, count);
+    }
+    if (event->count || kind == X25_EVENT_INCOMING || kind == X25_EVENT_CALL_ASKED || kind == X25_EVENT_MESSAGE || kind == X25_EVENT_SEND_ASKED
+        || kind == X25_EVENT_BESIDE)
+        put_octets(" data=", user, event->count);
+    if (kind == X25_EVENT_INCOMING || kind == X25_EVENT_CALL_ASKED || kind == X25_EVENT_CONNECTED || kind == X25_EVENT_ACCEPT_ASKED)
+        put_sizes(event->sizes);
+    if (kind == X25_EVENT_RESTARTED || kind == X25_EVENT_CLEARED || kind == X25_EVENT_RESET)
+        put_reason(event);
+    if (kind == X25_EVENT_FAULT || kind == X25_EVENT_DIAGNOSTIC)
+        put(" diag=%llu", event->diagnostic);
+    put("\n", 0);
+}
+
+static long seen[KINDS];
+
+/* Takes the items of an answer one by one, and compares them with its frames and entries. */
+static void take(end_t *end)
+{
+    size_t frames = x25_frames(&end->station), entries = x25_entries(&end->station), i = 0, count = 0;
+    x25_event event;
+    if (frames > 24 || entries > 3)
+        fail("many frames or entries", (uint32_t)(frames * 100 + entries));
+    for (; x25_take(&end->station, i, &event, NULL, 0); i++) {
+        uint8_t *taken = room(1, event.count), *told;
+        if (!x25_take(&end->station, i, &event, taken, event.count) || event.kind < 1 || event.kind >= KINDS)
+            fail("an item", event.kind);
+        seen[event.kind]++;
+        if ((event.kind == X25_EVENT_FRAME) != (i < frames) || (event.kind == X25_EVENT_TIMER) != (i == frames + entries))
+            fail("its place", (uint32_t)i);
+        if (event.kind == X25_EVENT_TIMER) {
+            expect("the timer", event.timer, x25_timer(&end->station));
+            continue;
+        }
+        if (event.kind == X25_EVENT_FRAME) {
+            told = room(2, event.count);
+            count = x25_frame(&end->station, i, told, event.count);
+            if (count != event.count || memcmp(told, taken, count))
+                fail("a frame", (uint32_t)count);
+            continue;
+        }
+        write_event(end, i, &event, taken);
+        told = room(2, length);
+        expect("entry", x25_entry(&end->station, i - frames, (char *)told, length, &count), 0);
+        if (count != length || memcmp(told, line, count))
+            fail(line, event.kind);
+    }
+    if (i != frames + entries + 1)
+        fail("many items", (uint32_t)i);
+    take_frames(end);
+    if (end->next - end->first > MOST / 2)
+        end->first = end->next;
+}
+
+static void begin(end_t *end, uint8_t at)
+{
+    x25_settings settings = {.k = (uint8_t)(1 + draw(7)), .n2 = 3, .channels = 2, .long_data = draw(2), .say_sizes = draw(2), .wide = draw(2)};
+    x25_free(&end->station);
+    expect("new", x25_new(&end->station, at, settings), 0);
 }
 
 int main(int argc, char **argv)
 {
     long did = 0, refused = 0, calls = argc > 2 ? atol(argv[2]) : 100000;
     state = argc > 1 ? strtoull(argv[1], NULL, 10) : 1;
-    x25_settings settings = {.k = 7, .n2 = 10, .channels = 2};
-    expect("new", x25_new(&dte.station, X25_DTE, settings), 0);
-    settings.say_sizes = settings.wide = true;
-    expect("new", x25_new(&dce.station, X25_DCE, settings), 0);
+    make_areas();
     for (long i = 0; i < calls; i++) {
         end_t *end = draw(2) ? &dte : &dce;
-        if (call(end, end == &dte ? &dce : &dte))
+        if (i % 5000 == 0) {
+            begin(&dte, X25_DTE);
+            begin(&dce, X25_DCE);
+        }
+        uint32_t number = call(end, end == &dte ? &dce : &dte);
+        if (number)
             refused++;
         else
             did++;
-        if (end->next - end->first > MOST / 2)
-            end->first = end->next;
-        take_frames(end);
-        for (size_t j = 0; j < x25_entries(&end->station); j++) {
-            size_t count = 0;
-            expect("entry", x25_entry(&end->station, j, (uint8_t *)end->told, TEXT, &count), 0);
-            if (count == 0 || count > TEXT || end->told[count - 1] != '\n')
-                fail("a line that is none", (uint32_t)count);
-        }
+        if (number == X25_NO_STATION || number == X25_NO_MEMORY || (number && x25_refusal_text(number, NULL, 0) == 0))
+            fail("a number", number);
+        if (number != X25_NO_COMMAND)
+            take(end);
         x25_idle(&end->station);
         x25_waits(&end->station);
-        x25_stretch(&end->station, (uint16_t)draw(4), &(x25_stretch_name){0});
+        x25_stretch(&end->station, (uint16_t)draw(4), &(x25_stretch_name){0, 0, 0});
     }
     x25_free(&dte.station);
     x25_free(&dce.station);
-    printf("%ld did, %ld refused\n", did, refused);
+    unsigned kinds = 0;
+    for (int kind = 0; kind < KINDS; kind++)
+        kinds += seen[kind] > 0;
+    printf("%ld did, %ld refused, %u kinds of items\n", did, refused, kinds);
     return 0;
 }

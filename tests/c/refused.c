@@ -26,13 +26,13 @@ static void take(end_t *end)
     take_frames(end);
     for (size_t i = 0; i < x25_entries(&end->station); i++) {
         size_t count = 0;
-        uint8_t *room = (uint8_t *)end->told + end->length;
+        char *room = end->told + end->length;
         expect("entry", AGAIN(x25_entry(&end->station, i, room, TEXT - end->length, &count)), 0);
         end->length += count;
     }
     if (x25_waits(&end->station)) {
         met++;
-        number = x25_command(&end->station, (const uint8_t *)"pull", 4);
+        number = x25_command(&end->station, "pull", 4);
         if (number != 0 && number != X25_LINK_NOT_UP && number != X25_RESTARTING)
             fail("pull", number);
         take_frames(end);
@@ -42,7 +42,7 @@ static void take(end_t *end)
 static void ask(end_t *end, const char *text)
 {
     uint32_t number;
-    expect(text, AGAIN(x25_command(&end->station, (const uint8_t *)text, strlen(text))), 0);
+    expect(text, AGAIN(x25_command(&end->station, text, strlen(text))), 0);
     take(end);
 }
 

@@ -35,16 +35,27 @@ def declared():
 
 class Declared(unittest.TestCase):
     def test_each_binding_has_the_functions_of_the_header(self):
-        rust = support.read("bindings/rust/src/lib.rs").decode()
+        rust = support.read("bindings/rust/src/raw.rs").decode()
         self.assertEqual(list(x25._FUNCTIONS), declared())
-        self.assertEqual(re.findall(r"^    fn x25_(\w+)\(", rust, re.MULTILINE), declared())
+        # Frames come as items of the answer.
+        self.assertEqual(re.findall(r"^    pub fn x25_(\w+)\(", rust, re.MULTILINE), [name for name in declared() if name not in ("frames", "frame")])
+
+    def test_each_binding_has_the_kinds_of_the_header(self):
+        header, rust = support.read("include/x25.h").decode(), support.read("bindings/rust/src/event.rs").decode()
+        kinds = [(name, int(number)) for name, number in re.findall(r"^    X25_EVENT_(\w+) = (\d+)", header, re.MULTILINE)]
+        self.assertEqual([("FRAME", x25._FRAME), ("TIMER", x25._TIMER), *((kind.name, kind.value) for kind in x25.Kind)], kinds)
+        downs = re.findall(r"^    X25_DOWN_(\w+) = (\d+)", header, re.MULTILINE)
+        self.assertEqual([(down.name, str(down.value)) for down in x25.Down], downs)
+        arms = re.findall(r"^            (\d+|_) => Event::(\w+)", rust, re.MULTILINE)
+        self.assertEqual([name for _, name in arms], ["".join(word.capitalize() for word in name.split("_")) for name, number in kinds[2:]])
+        self.assertEqual([number for number, _ in arms], [*(str(number) for _, number in kinds[2:-1]), "_"])
 
 
 class Answers(unittest.TestCase):
     """What the binding of Python makes of the answers of a library, whose calls a test says."""
 
-    def station(self, *plays, unread=0):
-        patch = mock.patch.dict(x25._loaded, fake=Library(plays, unread))
+    def station(self, *plays):
+        patch = mock.patch.dict(x25._loaded, fake=Library(plays))
         patch.start()
         self.addCleanup(patch.stop)
         return x25.Station(x25.DTE, library="fake")
@@ -78,26 +89,15 @@ class Answers(unittest.TestCase):
                 self.assertIs(answer.timer, expected)
 
     def test_a_refusal_among_frames_has_what_was_answered_before(self):
-        station = self.station((0, [b"one"], [b"dte linkup\n"], 1), (70, [], [], 0))
+        station = self.station((0, [b"one"], [x25.Kind.LINK_UP], 1), (70, [], [], 0))
         with self.assertRaises(x25.Refused) as caught:
             station.receive_all([b"", b"", b""])
         self.assertEqual((caught.exception.number, caught.exception.taken), (70, 1))
-        self.assertEqual((caught.exception.answer.frames, caught.exception.answer.timer), ([b"one"], x25.Timer.BEGINS))
-
-    def test_entries_that_cannot_be_read_take_no_frame_along(self):
-        station = self.station((0, [b"one"], [b"dte linkup\n"], 1), unread=1)
-        with self.assertRaises(x25.Unread) as caught:
-            station.connect()
-        self.assertEqual(caught.exception.answer, x25.Answer([b"one"], [], x25.Timer.BEGINS))
-        self.assertEqual([entry.what for entry in station.entries()], ["linkup"])
-        station = self.station((0, [b"one"], [], 1), (0, [b"two"], [b"dte linkup\n"], 2), unread=1)
-        with self.assertRaises(x25.Unread) as caught:
-            station.receive_all([b"", b"", b""])
-        self.assertEqual((caught.exception.taken, caught.exception.answer), (2, x25.Answer([b"one", b"two"], [], x25.Timer.BEGINS)))
+        self.assertEqual(caught.exception.answer, x25.Answer([b"one"], [x25.Event(x25.Kind.LINK_UP)], x25.Timer.BEGINS))
 
     def test_errors_are_pickled_whole(self):
-        answer = x25.Answer([b"one"], [x25.read_entry("dte linkup")], x25.Timer.BEGINS)
-        for error in x25.Refused(9, "the link isn't up"), x25.Refused(70, "no memory", 2, answer), x25.Unread(answer, 3):
+        answer = x25.Answer([b"one"], [x25.Event(x25.Kind.LINK_UP)], x25.Timer.BEGINS)
+        for error in x25.Refused(9, "the link isn't up"), x25.Refused(70, "no memory", 2, answer):
             with self.subTest(error):
                 again = pickle.loads(pickle.dumps(error))
                 self.assertEqual((str(again), vars(again)), (str(error), vars(error)))
@@ -119,43 +119,14 @@ class Python(unittest.TestCase):
                 x25.Station(x25.DTE, library=LIBRARY, **settings)
 
 
-UNREAD = """
-use x25_station::{End, Error, Settings, Station, Timer};
-
-#[test]
-fn entries_that_cannot_be_read_take_no_frame_along() {
-    let mut station = Station::new(End::Dte, Settings::default()).unwrap();
-    let Err(Error::Unread(answer)) = station.connect() else { panic!("an entry was read") };
-    assert_eq!((answer.frames, answer.entries, answer.timer), (vec![b"frame".to_vec()], vec![], Timer::Begins));
-    assert_eq!(station.entries().unwrap(), ["dte connect\\n"]);
-}
-"""
-
-
+@needs_library
 @unittest.skipUnless(shutil.which("cargo"), "there is no cargo")
 class Rust(ToolCase):
-    def cargo(self, library, *words):
-        """Runs cargo over a copy of the crate and a library in a folder."""
-        environment = {**os.environ, "X25_LIBRARY": library}
-        done = subprocess.run(["cargo", *words, "--offline", "-q"], cwd=f"{self.folder}/rust", env=environment, capture_output=True, text=True)
-        self.assertEqual(done.returncode, 0, done.stdout + done.stderr)
-
-    def setUp(self):
-        super().setUp()
-        shutil.copytree(RUST, f"{self.folder}/rust", ignore=shutil.ignore_patterns("target"))
-
-    @needs_library
     def test_its_tests(self):
-        self.cargo(os.path.dirname(ARCHIVE), "test")
-
-    @unittest.skipUnless(shutil.which("cc"), "there is no C compiler")
-    def test_entries_that_cannot_be_read(self):
-        source, made = os.path.join(support.ROOT, "tests", "c", "unread.c"), f"{self.folder}/unread.o"
-        subprocess.run(["cc", "-Wall", "-Wextra", "-Werror", "-fPIC", f"-I{support.ROOT}/include", "-c", source, "-o", made], check=True)
-        subprocess.run(["ar", "rcs", f"{self.folder}/libx25.a", made], check=True)
-        os.mkdir(f"{self.folder}/rust/tests")
-        self.file("rust/tests/unread.rs", UNREAD.encode())
-        self.cargo(self.folder, "test", "--test", "unread")
+        shutil.copytree(RUST, f"{self.folder}/rust", ignore=shutil.ignore_patterns("target"))
+        environment = {**os.environ, "X25_LIBRARY": os.path.dirname(ARCHIVE)}
+        done = subprocess.run(["cargo", "test", "--offline", "-q"], cwd=f"{self.folder}/rust", env=environment, capture_output=True, text=True)
+        self.assertEqual(done.returncode, 0, done.stdout + done.stderr)
 
 
 @needs_library

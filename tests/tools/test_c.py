@@ -19,8 +19,10 @@ LATER = re.compile(
     r"|test|mul(?:ld|dq)|m(?:ax|in)(?:sb|uw|ud|sd)|(?:ins|ext)r[bdq]|mov[sz]x\w+|ackusdw|cmp(?:eqq|gtq|[ei]str[im])|blend(?:w|vb))|blendv?p[sd]|round[ps][sd]"
     r"|dpp[sd]|mpsadbw|phminposuw|insertps|extractps|movntdqa"
 )
-NUMBERS = {"u8": "uint8_t", "u16": "uint16_t", "u32": "uint32_t", "usize": "size_t", "bool": "bool"}
-COUNTS = ("restarts", "clears", "resets")
+NUMBERS = {"u8": "uint8_t", "u16": "uint16_t", "u32": "uint32_t", "u64": "uint64_t", "usize": "size_t", "bool": "bool"}
+STRUCTURES = {"Settings": "x25_settings", "StretchName": "x25_stretch_name", "Sizes": "x25_sizes", "Event": "x25_event"}
+# The parameters that are text in C, and not octets.
+TEXTS = ("called", "calling", "text")
 EXPORT = re.compile(r'pub extern "C" fn (\w+)\(([^)]*)\)(?: -> (\w+))?')
 PROTOTYPE = re.compile(r"^(?:void|bool|\w+_t) x25_\w+\([^)]*\);", re.MULTILINE)
 
@@ -32,17 +34,19 @@ def parameter(text):
         return None
     if kind == "&mut Slot":
         return "x25_station *station"
-    if kind == "Settings":
-        return f"x25_settings {name}"
+    octet = "char" if name in TEXTS else "uint8_t"
     if kind == "&[u8]":
-        return f"const uint8_t *{name}, size_t count"
+        return f"const {octet} *{name}, size_t {name}_count"
     if kind == "&mut [u8]":
-        return f"uint8_t *{name}, size_t size"
-    if kind == "&mut StretchName":
-        return f"x25_stretch_name *{name}"
+        return f"{octet} *{name}, size_t size"
     if kind.startswith("&mut "):
-        return f"{NUMBERS[kind[5:]]} *{name}"
-    return f"{NUMBERS[kind]} {name}"
+        return f"{c_type(kind[5:])} *{name}"
+    return f"{c_type(kind)} {name}"
+
+
+def c_type(name):
+    """A type as C has it."""
+    return STRUCTURES.get(name) or NUMBERS[name]
 
 
 def exported():
@@ -50,7 +54,7 @@ def exported():
     found = []
     for name, parameters, result in EXPORT.findall(support.read("crates/x25_c/src/lib.rt").decode()):
         texts = [parameter(" ".join(text.split())) for text in parameters.split(",") if text.strip()]
-        found.append(f"{NUMBERS.get(result, 'void')} {name}({', '.join(text for text in texts if text)});")
+        found.append(f"{NUMBERS.get(result, 'void')} {name}({', '.join(text for text in texts if text) or 'void'});")
     return found
 
 
@@ -73,24 +77,39 @@ class Header(unittest.TestCase):
         self.assertRegex(slot, r"pub struct Slot \{\n    pub\(crate\) handle: Handle,\n    pub\(crate\) is_open: bool,\n    pub\(crate\) ghost")
         self.assertIn("typedef struct {\n    void *at;\n    bool is_open;\n} x25_station;", self.HEADER)
 
-        settings = support.read("crates/x25_c/src/settings.rt").decode()
-        fields = re.findall(r"pub (\w+): (\w+),", re.search(r"#\[repr\(C\)\]\n.*\npub struct Settings \{\n([^}]*)\}", settings)[1])
-        declared = re.search(r"typedef struct \{\n([^}]*)\} x25_settings;", self.HEADER)[1]
-        self.assertEqual(re.findall(r"^    (\w+) (\w+);", declared, re.MULTILINE), [(NUMBERS[kind], name) for name, kind in fields])
+        for name, called in STRUCTURES.items():
+            with self.subTest(called):
+                source = re.sub("([a-z])([A-Z])", r"\1_\2", name).lower()
+                text = support.read(f"crates/x25_c/src/{source}.rt").decode()
+                fields = re.findall(r"^    pub (\w+): (\w+),", re.search(rf"#\[repr\(C\)\]\n.*\npub struct {name} \{{\n([^}}]*)\}}", text)[1], re.MULTILINE)
+                declared = re.search(rf"typedef struct \{{\n([^}}]*)\}} {called};", self.HEADER)[1]
+                self.assertEqual(re.findall(r"^    (\w+) (\w+);", declared, re.MULTILINE), [(c_type(kind), name) for name, kind in fields])
 
-        name = support.read("crates/x25_c/src/stretch_name.rt").decode()
-        self.assertIn("#[repr(C)]\n#[derive(Clone, Copy)]\npub struct StretchName {\n" + "".join(f"    pub {count}: u64,\n" for count in COUNTS) + "}", name)
-        self.assertIn("typedef struct {\n" + "".join(f"    uint64_t {count};\n" for count in COUNTS) + "} x25_stretch_name;", self.HEADER)
+    def test_its_kinds_of_events_are_those_of_the_crate(self):
+        event = support.read("crates/x25_c/src/event.rt").decode()
+        kinds = re.findall(r"^(?:pub\(crate\) )?const (\w+): u16 = (\d+);", event, re.MULTILINE)
+        self.assertEqual(re.findall(r"^    X25_EVENT_(\w+) = (\d+)", self.HEADER, re.MULTILINE), kinds)
+        reasons = re.findall(r"^        Reason::(\w+) => (\d),", event, re.MULTILINE)
+        declared = re.findall(r"^    X25_DOWN_(\w+) = (\d)", self.HEADER, re.MULTILINE)
+        self.assertEqual([(name.replace("_", "").lower(), number) for name, number in declared], [(name.lower(), number) for name, number in reasons])
+
+    def test_its_version_is_that_of_the_library(self):
+        version = support.read("bindings/rust/Cargo.toml").decode()
+        first, second, third = map(int, re.search(r'^version = "(\d+)\.(\d+)\.(\d+)"', version, re.MULTILINE).groups())
+        number = 10_000 * first + 100 * second + third
+        self.assertIn(f"/* {first}.{second}.{third}, as 10,000 times", self.HEADER)
+        self.assertIn(f"#define X25_VERSION {number}\n", self.HEADER)
+        self.assertIn(f"const VERSION: u32 = {number};\n", support.read("crates/x25_c/src/lib.rt").decode())
 
     def test_its_numbers_and_their_texts_are_those_of_the_scripts(self):
         texts = re.findall(r"^        (\d+) => b\"(.*)\",$", support.read("crates/x25_c/src/refusal_text.rt").decode(), re.MULTILINE)
         others = {14: "a setting is out of its range", 16: "no station is held", 17: "a station is held where one was to be made", 60: "no command"}
         for number, text in texts:
             self.assertEqual((x25names.REFUSALS | others)[int(number)], text)
-        numbers = {name: number for name, number in numbers_of(self.HEADER).items() if number > 2}
+        numbers = numbers_of(self.HEADER.partition("/* Why a call is refused.")[2])
         self.assertEqual(sorted(numbers.values()), [int(number) for number, _ in texts])
         source = support.read("crates/x25_c/src/lib.rt").decode()
-        for name, number in re.findall(r"^const (\w+): u32 = (\d+);", source, re.MULTILINE):
+        for name, number in re.findall(r"^const (?!VERSION)(\w+): u32 = (\d+);", source, re.MULTILINE):
             self.assertEqual(numbers[name], int(number))
 
 

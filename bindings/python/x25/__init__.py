@@ -2,18 +2,24 @@
 
 >>> dte, dce = Station(DTE), Station(DCE)
 >>> answer = dte.connect()
->>> answer.frames[0].hex(), answer.entries[0].what, answer.timer
-('013febdf', 'connect', <Timer.BEGINS: 1>)
+>>> answer.frames[0].hex(), answer.events[0].kind, answer.timer
+('013febdf', <Kind.CONNECT_ASKED: 20>, <Timer.BEGINS: 1>)
 >>> def talk(answer, near, far):  # a line that loses nothing, until nothing is on it
+...     events = answer.events
 ...     while answer.frames:
 ...         answer, near, far = far.receive_all(answer.frames), far, near
->>> talk(answer, dte, dce)
->>> talk(dte.command("call 123 4567 41"), dte, dce)
->>> talk(dce.command("accept 1"), dce, dte)
->>> talk(dte.send(1, b"hello"), dte, dce)
->>> dte.is_idle, dte.timer, dte.stretch(1)
+...         events += answer.events
+...     return events
+>>> _ = talk(answer, dte, dce)
+>>> channel, answer = dte.call("123", "4567", b"A")
+>>> talk(answer, dte, dce)[-1]
+Event(kind=<Kind.INCOMING: 10>, channel=1, stretch=(1, 0, 0), sizes=Sizes(7, 7, 2, 2), called='123', calling='4567', user=b'A')
+>>> _ = talk(dce.accept(channel), dce, dte)
+>>> talk(dte.send(channel, b"hello"), dte, dce)[-1]
+Event(kind=<Kind.MESSAGE: 17>, channel=1, stretch=(1, 0, 0), user=b'hello')
+>>> dte.is_idle, dte.timer, dte.stretch(channel)
 (True, <Timer.OFF: 0>, (1, 0, 0))
->>> dce.receive(bytes(4)).entries  # octets that are no frame
+>>> dce.receive(bytes(4)).events  # octets that are no frame
 []
 >>> dte.connect()
 Traceback (most recent call last):
@@ -26,10 +32,11 @@ of a `with` block, or with its last name.
 from __future__ import annotations
 
 import ctypes
+import dataclasses
 import enum
 import os
 import threading
-from typing import Any, Iterable, NamedTuple
+from typing import Any, Callable, Iterable, NamedTuple
 
 DTE, DCE = 0, 1
 
@@ -40,6 +47,99 @@ class Timer(enum.IntEnum):
     OFF = 0
     BEGINS = 1
     GOES_ON = 2
+
+
+class Kind(enum.IntEnum):
+    """What an event tells, as `x25.h` has it; from CONNECT_ASKED on, what this end asked."""
+
+    LINK_UP = 3
+    LINK_DOWN = 4
+    RESTARTED = 5
+    RESTART_DONE = 6
+    FAULT = 7
+    BESIDE = 8
+    DIAGNOSTIC = 9
+    INCOMING = 10
+    CONNECTED = 11
+    COLLIDED = 12
+    CLEARED = 13
+    CLEAR_DONE = 14
+    RESET = 15
+    RESET_DONE = 16
+    MESSAGE = 17
+    INTERRUPT = 18
+    INTERRUPT_DONE = 19
+    CONNECT_ASKED = 20
+    DISCONNECT_ASKED = 21
+    RESTART_ASKED = 22
+    CALL_ASKED = 23
+    ACCEPT_ASKED = 24
+    CLEAR_ASKED = 25
+    SEND_ASKED = 26
+    INTERRUPT_ASKED = 27
+    RESET_ASKED = 28
+    READY_ASKED = 29
+    NOT_READY_ASKED = 30
+
+
+class Down(enum.IntEnum):
+    """Why the link went down, as `x25.h` has it."""
+
+    RETRIES = 1
+    DISC = 2
+    DM = 3
+    FRMR_SENT = 4
+    FRMR_GOT = 5
+    RESET = 6
+    LOCAL = 7
+    COUNTS = 8
+
+
+class Sizes(NamedTuple):
+    """Packet sizes, as powers of 2 from 4 to 12, and windows, 1 to 7, of what the called and what the calling end of a call sends."""
+
+    size_called: int
+    size_calling: int
+    window_called: int
+    window_calling: int
+
+    def __repr__(self) -> str:
+        return f"Sizes{tuple(self)}"
+
+
+@dataclasses.dataclass(frozen=True, repr=False)
+class Event:
+    """What a station tells, and what its kind has of these: `x25.h` lists that. A stretch is the restarts, clears and resets that name it."""
+
+    kind: Kind
+    channel: int = 0
+    stretch: tuple[int, int, int] | None = None
+    q: bool = False
+    cause: int = 0
+    diagnostic: int = 0
+    reason: Down | None = None
+    sizes: Sizes | None = None
+    called: str = ""
+    calling: str = ""
+    facilities: bytes = b""
+    user: bytes = b""
+
+    def __repr__(self) -> str:
+        told = ((field.name, getattr(self, field.name), field.default) for field in dataclasses.fields(self))
+        return f"Event({', '.join(f'{name}={value!r}' for name, value, default in told if value != default)})"
+
+
+class Answer(NamedTuple):
+    """What a station answers to a call: frames to send, events, and what becomes of timer T1."""
+
+    frames: list[bytes]
+    events: list[Event]
+    timer: Timer
+
+    def then(self, later: Answer) -> Answer:
+        """This answer and one behind it, as one: a timer that the later one leaves as it is becomes what this one says."""
+        timer = self.timer if later.timer == Timer.GOES_ON else later.timer
+        return Answer(self.frames + later.frames, self.events + later.events, timer)
 
 
 class Refused(Exception):
@@ -55,104 +155,81 @@ class Refused(Exception):
         return f"{self.number}: {self.text}"
 
 
-class Unread(Exception):
-    """A call was done, and memory was refused for one of its entries: `answer` has its frames, its timer and the entries before that one,
-    and `Station.entries` reads all of them again. Of `receive_all`, `taken` counts the frames that were taken."""
-
-    def __init__(self, answer: Answer, taken: int = 1) -> None:
-        super().__init__(answer, taken)
-        self.answer, self.taken = answer, taken
-
-    def __str__(self) -> str:
-        return f"70: no memory for entry {len(self.answer.entries)} of what was done"
-
-
-class Entry(NamedTuple):
-    """An entry of the transcript, and the line that spells it: `docs/FORMATS.md` has the words.
-
-    >>> entry = read_entry("dte message ch=1 at 1.0.0 q=1 data=6869")
-    >>> entry.what, entry.channel, entry.stretch, entry.user, entry.values
-    ('message', 1, (1, 0, 0), b'hi', {'q': '1'})
-    >>> read_entry("dce linkdown disc").values
-    {'reason': 'disc'}
-    """
-
-    end: str
-    what: str
-    channel: int | None
-    stretch: tuple[int, ...] | None
-    user: bytes | None
-    values: dict[str, str]
-    line: str
-
-
-class Answer(NamedTuple):
-    """What a station answers to a call: frames to send, entries to report, and what becomes of timer T1."""
-
-    frames: list[bytes]
-    entries: list[Entry]
-    timer: Timer
-
-    def then(self, later: Answer) -> Answer:
-        """This answer and one behind it, as one: a timer that the later one leaves as it is becomes what this one says."""
-        timer = self.timer if later.timer == Timer.GOES_ON else later.timer
-        return Answer(self.frames + later.frames, self.entries + later.entries, timer)
-
-
-def read_entry(line: str) -> Entry:
-    """The entry that a line of the transcript spells."""
-    end, what, *words = line.split()
-    channel: int | None = None
-    stretch: tuple[int, ...] | None = None
-    user: bytes | None = None
-    values: dict[str, str] = {}
-    while words:
-        name, equals, value = words.pop(0).partition("=")
-        if name == "at":
-            stretch = tuple(int(count) for count in words.pop(0).split("."))
-        elif name == "ch":
-            channel = int(value)
-        elif name == "data":
-            user = b"" if value == "-" else bytes.fromhex(value)
-        elif equals:
-            values[name] = value
-        else:
-            values["reason"] = name
-    return Entry(end, what, channel, stretch, user, values, line.rstrip("\n"))
-
-
 class _Slot(ctypes.Structure):
     _fields_ = [("at", ctypes.c_void_p), ("is_open", ctypes.c_bool)]
 
 
 class _Settings(ctypes.Structure):
-    _fields_ = [(name, ctypes.c_uint8) for name in ("k", "n2", "channels")] + [(name, ctypes.c_bool) for name in ("long_data", "say_sizes", "wide")]
+    _fields_ = [
+        *((name, ctypes.c_uint8) for name in ("k", "n2", "channels")),
+        *((name, ctypes.c_bool) for name in ("long_data", "say_sizes", "wide")),
+        ("later", ctypes.c_uint16),
+        ("more", ctypes.c_uint64),
+    ]
 
 
 class _StretchName(ctypes.Structure):
     _fields_ = [("restarts", ctypes.c_uint64), ("clears", ctypes.c_uint64), ("resets", ctypes.c_uint64)]
 
 
-_STATION = ctypes.POINTER(_Slot)
+class _Sizes(ctypes.Structure):
+    _fields_ = [(name, ctypes.c_uint8) for name in Sizes._fields]
+
+
+class _Event(ctypes.Structure):
+    _fields_ = [
+        ("kind", ctypes.c_uint16),
+        ("channel", ctypes.c_uint16),
+        ("q", ctypes.c_bool),
+        *((name, ctypes.c_uint8) for name in ("cause", "diagnostic", "reason")),
+        ("sizes", _Sizes),
+        ("timer", ctypes.c_uint32),
+        ("stretch", _StretchName),
+        ("count", ctypes.c_size_t),
+    ]
+
+
+_STATION, _ROOM, _SIZE = ctypes.POINTER(_Slot), ctypes.c_void_p, ctypes.c_size_t
+_OCTETS = [ctypes.c_char_p, _SIZE]
+_AT = [_STATION, _SIZE, _ROOM, _SIZE]
 # The functions of x25.h: parameters and result.
 _FUNCTIONS: dict[str, tuple[list[Any], Any]] = {
+    "version": ([], ctypes.c_uint32),
     "new": ([_STATION, ctypes.c_uint8, _Settings], ctypes.c_uint32),
     "free": ([_STATION], None),
     "connect": ([_STATION], ctypes.c_uint32),
+    "disconnect": ([_STATION], ctypes.c_uint32),
+    "restart": ([_STATION], ctypes.c_uint32),
+    "call": ([_STATION, *_OCTETS * 3, _Sizes, ctypes.POINTER(ctypes.c_uint16)], ctypes.c_uint32),
+    "accept": ([_STATION, ctypes.c_uint16, _Sizes], ctypes.c_uint32),
+    "clear": ([_STATION, ctypes.c_uint16], ctypes.c_uint32),
+    "reset": ([_STATION, ctypes.c_uint16], ctypes.c_uint32),
+    "interrupt": ([_STATION, ctypes.c_uint16, *_OCTETS], ctypes.c_uint32),
+    "ready": ([_STATION, ctypes.c_uint16], ctypes.c_uint32),
+    "not_ready": ([_STATION, ctypes.c_uint16], ctypes.c_uint32),
+    "pull": ([_STATION], ctypes.c_uint32),
     "t1": ([_STATION], ctypes.c_uint32),
-    "receive": ([_STATION, ctypes.c_char_p, ctypes.c_size_t], ctypes.c_uint32),
-    "send": ([_STATION, ctypes.c_uint16, ctypes.c_bool, ctypes.c_char_p, ctypes.c_size_t], ctypes.c_uint32),
-    "command": ([_STATION, ctypes.c_char_p, ctypes.c_size_t], ctypes.c_uint32),
-    "frames": ([_STATION], ctypes.c_size_t),
-    "frame": ([_STATION, ctypes.c_size_t, ctypes.c_void_p, ctypes.c_size_t], ctypes.c_size_t),
-    "entries": ([_STATION], ctypes.c_size_t),
-    "entry": ([_STATION, ctypes.c_size_t, ctypes.c_void_p, ctypes.c_size_t, ctypes.POINTER(ctypes.c_size_t)], ctypes.c_uint32),
+    "receive": ([_STATION, *_OCTETS], ctypes.c_uint32),
+    "send": ([_STATION, ctypes.c_uint16, ctypes.c_bool, *_OCTETS], ctypes.c_uint32),
+    "command": ([_STATION, *_OCTETS], ctypes.c_uint32),
+    "take": ([_STATION, _SIZE, ctypes.POINTER(_Event), _ROOM, _SIZE], ctypes.c_bool),
+    "called": (_AT, _SIZE),
+    "calling": (_AT, _SIZE),
+    "facilities": (_AT, _SIZE),
+    "frames": ([_STATION], _SIZE),
+    "frame": (_AT, _SIZE),
+    "entries": ([_STATION], _SIZE),
+    "entry": ([*_AT, ctypes.POINTER(_SIZE)], ctypes.c_uint32),
     "timer": ([_STATION], ctypes.c_uint32),
     "waits": ([_STATION], ctypes.c_bool),
     "idle": ([_STATION], ctypes.c_bool),
     "stretch": ([_STATION, ctypes.c_uint16, ctypes.POINTER(_StretchName)], ctypes.c_bool),
-    "refusal_text": ([ctypes.c_uint32, ctypes.c_void_p, ctypes.c_size_t], ctypes.c_size_t),
+    "refusal_text": ([ctypes.c_uint32, _ROOM, _SIZE], _SIZE),
 }
+_FRAME, _TIMER = 1, 2
+_WITH_STRETCH = {Kind.INCOMING, Kind.CALL_ASKED, Kind.MESSAGE, Kind.SEND_ASKED, Kind.INTERRUPT, Kind.INTERRUPT_ASKED}
+_WITH_SIZES = {Kind.INCOMING, Kind.CALL_ASKED, Kind.CONNECTED, Kind.ACCEPT_ASKED}
+_WITH_ADDRESSES = {Kind.INCOMING, Kind.CALL_ASKED}
 
 _loaded: dict[str, ctypes.PyDLL] = {}
 
@@ -195,9 +272,10 @@ class Station:
         wide: bool = False,
         library: str | None = None,
     ) -> None:
-        self._library, self._slot = load(library), _Slot()
         # It is held from a call to the end of its answer.
-        self._lock, self._room = threading.RLock(), ctypes.create_string_buffer(1 << 18)
+        self._lock = threading.RLock()
+        self._library, self._slot, self._event = load(library), _Slot(), _Event()
+        self._room = ctypes.create_string_buffer(1 << 18)
         self._check(0 if all(0 <= setting < 256 for setting in (end, k, n2, channels)) else 14)
         self._check(self._library.x25_new(self._slot, end, _Settings(k, n2, channels, long_data, say_sizes, wide)))
 
@@ -220,6 +298,49 @@ class Station:
         """Begins to set the link up."""
         return self._call(self._library.x25_connect)
 
+    def disconnect(self) -> Answer:
+        """Disconnects the link, for good."""
+        return self._call(self._library.x25_disconnect)
+
+    def restart(self) -> Answer:
+        """Restarts the packet layer: each call ends."""
+        return self._call(self._library.x25_restart)
+
+    def call(self, called: str, calling: str, user: bytes = b"", sizes: Sizes | None = None) -> tuple[int, Answer]:
+        """Calls the other end, from one address to another, each of at most 15 digits; answers the channel of the call too."""
+        channel, texts = ctypes.c_uint16(), (called.encode(), calling.encode(), user)
+        words = [word for text in texts for word in (text, len(text))]
+        answer = self._call(self._library.x25_call, *words, _sizes(sizes), channel)
+        return channel.value, answer
+
+    def accept(self, channel: int, sizes: Sizes | None = None) -> Answer:
+        """Accepts the call that came on a channel."""
+        return self._on(self._library.x25_accept, channel, _sizes(sizes))
+
+    def clear(self, channel: int) -> Answer:
+        """Clears a call, whatever its state."""
+        return self._on(self._library.x25_clear, channel)
+
+    def reset(self, channel: int) -> Answer:
+        """Resets a call: messages on the way are lost."""
+        return self._on(self._library.x25_reset, channel)
+
+    def interrupt(self, channel: int, user: bytes) -> Answer:
+        """Sends an interrupt of 1 to 32 octets."""
+        return self._on(self._library.x25_interrupt, channel, user, len(user))
+
+    def ready(self, channel: int) -> Answer:
+        """Tells the other end that this one takes data packets."""
+        return self._on(self._library.x25_ready, channel)
+
+    def not_ready(self, channel: int) -> Answer:
+        """Tells the other end that this one takes no data packets for now."""
+        return self._on(self._library.x25_not_ready, channel)
+
+    def pull(self) -> Answer:
+        """Hands down what waits in the circuits, as each call does."""
+        return self._call(self._library.x25_pull)
+
     def t1(self) -> Answer:
         """Timer T1 fired."""
         return self._call(self._library.x25_t1)
@@ -229,8 +350,8 @@ class Station:
         return self._call(self._library.x25_receive, octets, len(octets))
 
     def receive_all(self, frames: Iterable[bytes]) -> Answer:
-        """Several frames came, one behind another; what is answered to all of them. It ends at one that is refused, or whose entries
-        can't be read, and that error has what was answered up to there."""
+        """Several frames came, one behind another; what is answered to all of them. It ends at one that is refused, and the error has
+        what was answered up to there."""
         whole = Answer([], [], Timer.GOES_ON)
         with self._lock:
             for taken, octets in enumerate(frames):
@@ -238,24 +359,26 @@ class Station:
                     whole = whole.then(self.receive(octets))
                 except Refused as refusal:
                     raise Refused(refusal.number, refusal.text, taken, whole) from None
-                except Unread as unread:
-                    raise Unread(whole.then(unread.answer), taken + 1) from None
         return whole
 
     def send(self, channel: int, user: bytes, q: bool = False) -> Answer:
-        """Sends a message on a channel."""
-        self._check(0 if 0 <= channel < 65536 else 42)
-        return self._call(self._library.x25_send, channel, q, user, len(user))
+        """Sends a message of at most 65,535 octets, with or without the qualifier."""
+        return self._on(self._library.x25_send, channel, q, user, len(user))
 
     def command(self, text: str) -> Answer:
         """Does what a text asks, as a line of a script without the name of its end: `call 123 4567 41`, `accept 1`."""
         octets = text.encode()
         return self._call(self._library.x25_command, octets, len(octets))
 
-    def entries(self) -> list[Entry]:
-        """The entries of the last call that was done, read again. Refused with 70 where memory is refused, and may be asked again."""
+    def lines(self) -> list[str]:
+        """The events of the last answer as lines of the transcript, each with its line feed. Refused with 70 where memory is refused, and
+        may be asked again."""
+        count, lines = ctypes.c_size_t(), []
         with self._lock:
-            return [self._entry(i) for i in range(self._library.x25_entries(self._slot))]
+            for i in range(self._library.x25_entries(self._slot)):
+                self._check(self._library.x25_entry(self._slot, i, self._room, len(self._room), count))
+                lines.append(self._octets(count.value).decode())
+        return lines
 
     @property
     def timer(self) -> Timer:
@@ -276,37 +399,72 @@ class Station:
             return bool(self._library.x25_idle(self._slot))
 
     def stretch(self, channel: int) -> tuple[int, int, int] | None:
-        """The stretch that is open on a channel, as `Entry.stretch` has it; None where none is."""
+        """The stretch that is open on a channel, as `Event.stretch` has it; None where none is."""
         name = _StretchName()
         with self._lock:
             if not (0 <= channel < 65536 and self._library.x25_stretch(self._slot, channel, name)):
                 return None
         return name.restarts, name.clears, name.resets
 
+    def _octets(self, count: int) -> bytes:
+        return ctypes.string_at(self._room, count)
+
     def _check(self, number: int) -> None:
         if number:
             with self._lock:
                 count = self._library.x25_refusal_text(number, self._room, len(self._room))
-                raise Refused(number, ctypes.string_at(self._room, count).decode())
+                raise Refused(number, self._octets(count).decode())
 
-    def _call(self, function: Any, *words: Any) -> Answer:
-        """Makes a call and reads its answer, while no other thread is in one."""
+    def _on(self, function: Callable[..., int], channel: int, *words: Any) -> Answer:
+        """Makes a call that names a channel; one that no number of 16 bits names isn't configured."""
+        self._check(0 if 0 <= channel < 65536 else 42)
+        return self._call(function, channel, *words)
+
+    def _call(self, function: Callable[..., int], *words: Any) -> Answer:
+        """Makes a call and takes its answer, while no other thread is in one."""
+        frames: list[bytes] = []
+        events: list[Event] = []
+        timer, i, event, room = Timer.GOES_ON, 0, self._event, self._room
         with self._lock:
             self._check(function(self._slot, *words))
-            frames = [self._frame(i) for i in range(self._library.x25_frames(self._slot))]
-            answer = Answer(frames, [], self.timer)
-            try:
-                for i in range(self._library.x25_entries(self._slot)):
-                    answer.entries.append(self._entry(i))
-            except Refused:
-                raise Unread(answer) from None
-            return answer
+            while self._library.x25_take(self._slot, i, event, room, len(room)):
+                if event.kind == _FRAME:
+                    frames.append(self._octets(event.count))
+                elif event.kind == _TIMER:
+                    timer = Timer(event.timer)
+                else:
+                    events.append(self._told(i, Kind(event.kind), event))
+                i += 1
+        return Answer(frames, events, timer)
 
-    def _frame(self, i: int) -> bytes:
-        count = self._library.x25_frame(self._slot, i, self._room, len(self._room))
-        return ctypes.string_at(self._room, count)
+    def _told(self, i: int, kind: Kind, event: Any) -> Event:
+        """The event that stands in a place of the answer, whose user data lie in the room."""
+        user, called, calling, facilities = self._octets(event.count), "", "", b""
+        if kind in _WITH_ADDRESSES:
+            called, calling = (self._part(read, i).decode() for read in (self._library.x25_called, self._library.x25_calling))
+        elif kind == Kind.BESIDE:
+            facilities = self._part(self._library.x25_facilities, i)
+        name, sizes = event.stretch, event.sizes
+        return Event(
+            kind,
+            event.channel,
+            (name.restarts, name.clears, name.resets) if kind in _WITH_STRETCH else None,
+            event.q,
+            event.cause,
+            event.diagnostic,
+            Down(event.reason) if kind == Kind.LINK_DOWN else None,
+            Sizes(sizes.size_called, sizes.size_calling, sizes.window_called, sizes.window_calling) if kind in _WITH_SIZES else None,
+            called,
+            calling,
+            facilities,
+            user,
+        )
 
-    def _entry(self, i: int) -> Entry:
-        count = ctypes.c_size_t()
-        self._check(self._library.x25_entry(self._slot, i, self._room, len(self._room), count))
-        return read_entry(ctypes.string_at(self._room, count.value).decode())
+    def _part(self, read: Callable[..., int], i: int) -> bytes:
+        return self._octets(read(self._slot, i, self._room, len(self._room)))
+
+
+def _sizes(sizes: Sizes | None) -> _Sizes:
+    """Sizes and windows as C has them, all 0 for none; one of no octet is out of range."""
+    given = sizes or (0, 0, 0, 0)
+    return _Sizes(*(value if 0 <= value < 256 else 255 for value in given))

@@ -1,43 +1,22 @@
 //! A station of X.25, DTE or DCE (ITU-T X.25 10/96), over the library for C.
 //!
 //! ```
-//! use x25_station::{End, Settings, Station, Timer};
+//! use x25_station::{End, Event, Settings, Station, Timer};
 //!
 //! let mut station = Station::new(End::Dte, Settings::default())?;
 //! let answer = station.connect()?;
 //! assert_eq!(answer.frames, [[0x01, 0x3f, 0xeb, 0xdf]]);
-//! assert_eq!(answer.entries, ["dte connect\n"]);
+//! assert_eq!(answer.events, [Event::ConnectAsked]);
 //! assert_eq!(answer.timer, Timer::Begins);
-//! # Ok::<(), x25_station::Error>(())
+//! # Ok::<(), x25_station::Refused>(())
 //! ```
 
-use std::{error, ffi::c_void, fmt, ptr};
+mod event;
+mod raw;
 
-/// What `x25.h` calls an x25_station.
-#[repr(C)]
-struct Slot {
-    at: *mut c_void,
-    is_open: bool,
-}
+use std::{error, fmt, ptr};
 
-extern "C" {
-    fn x25_new(slot: *mut Slot, end: u8, settings: Settings) -> u32;
-    fn x25_free(slot: *mut Slot);
-    fn x25_connect(slot: *mut Slot) -> u32;
-    fn x25_t1(slot: *mut Slot) -> u32;
-    fn x25_receive(slot: *mut Slot, octets: *const u8, count: usize) -> u32;
-    fn x25_send(slot: *mut Slot, channel: u16, q: bool, user: *const u8, count: usize) -> u32;
-    fn x25_command(slot: *mut Slot, text: *const u8, count: usize) -> u32;
-    fn x25_frames(slot: *mut Slot) -> usize;
-    fn x25_frame(slot: *mut Slot, i: usize, room: *mut u8, size: usize) -> usize;
-    fn x25_entries(slot: *mut Slot) -> usize;
-    fn x25_entry(slot: *mut Slot, i: usize, room: *mut u8, size: usize, count: *mut usize) -> u32;
-    fn x25_timer(slot: *mut Slot) -> u32;
-    fn x25_waits(slot: *mut Slot) -> bool;
-    fn x25_idle(slot: *mut Slot) -> bool;
-    fn x25_stretch(slot: *mut Slot, channel: u16, name: *mut Stretch) -> bool;
-    fn x25_refusal_text(number: u32, room: *mut u8, size: usize) -> usize;
-}
+pub use event::{Down, Event, Sizes, Stretch};
 
 /// Which end a station is.
 #[derive(Clone, Copy, Debug, PartialEq, Eq)]
@@ -49,7 +28,6 @@ pub enum End {
 /// The window, 1 to 7; how often a command is sent again, 1 to 255; how many channels there are, 1 to 16; whether a call may have
 /// 128 octets of user data in place of 16; whether calls and acceptances say packet sizes and windows, as X.25 over TCP asks for;
 /// and whether packets are read in all the forms that X.25 lets equipment send.
-#[repr(C)]
 #[derive(Clone, Copy, Debug, PartialEq, Eq)]
 pub struct Settings {
     pub k: u8,
@@ -81,22 +59,22 @@ pub enum Timer {
     GoesOn,
 }
 
-/// What a call answers: frames to send, frame check sequence included, and lines of the transcript, each in order.
+impl Timer {
+    fn of(number: u32) -> Timer {
+        match number {
+            0 => Timer::Off,
+            1 => Timer::Begins,
+            _ => Timer::GoesOn,
+        }
+    }
+}
+
+/// What a call answers: frames to send, frame check sequence included, events, each in order, and what becomes of timer T1.
 #[derive(Clone, Debug, PartialEq, Eq)]
 pub struct Answer {
     pub frames: Vec<Vec<u8>>,
-    pub entries: Vec<String>,
+    pub events: Vec<Event>,
     pub timer: Timer,
-}
-
-/// The name of a stretch of a channel: the restarts done since link set-up, the clears done since the last of these, and the
-/// resets done since the last of all these.
-#[repr(C)]
-#[derive(Clone, Copy, Debug, Default, PartialEq, Eq)]
-pub struct Stretch {
-    pub restarts: u64,
-    pub clears: u64,
-    pub resets: u64,
 }
 
 /// A call was refused, by a number of `x25.h`; the station is as before.
@@ -107,7 +85,7 @@ impl Refused {
     /// What the number says.
     pub fn text(self) -> String {
         let mut room = [0; 64];
-        let count = unsafe { x25_refusal_text(self.0, room.as_mut_ptr(), room.len()) };
+        let count = unsafe { raw::x25_refusal_text(self.0, room.as_mut_ptr(), room.len()) };
         String::from_utf8_lossy(&room[..count]).into_owned()
     }
 }
@@ -119,37 +97,6 @@ impl fmt::Display for Refused {
 }
 
 impl error::Error for Refused {}
-
-/// Why a call doesn't answer.
-#[derive(Clone, Debug, PartialEq, Eq)]
-pub enum Error {
-    /// It was refused, and the station is as before.
-    Refused(Refused),
-    /// It was done, and memory was refused for one of its entries. The answer has its frames, its timer and the entries before
-    /// that one; `Station::entries` reads all of them again.
-    Unread(Answer),
-}
-
-impl From<Refused> for Error {
-    fn from(refused: Refused) -> Error {
-        Error::Refused(refused)
-    }
-}
-
-impl fmt::Display for Error {
-    fn fmt(&self, out: &mut fmt::Formatter<'_>) -> fmt::Result {
-        match self {
-            Error::Refused(refused) => refused.fmt(out),
-            Error::Unread(answer) => write!(
-                out,
-                "70: no memory for entry {} of what was done",
-                answer.entries.len()
-            ),
-        }
-    }
-}
-
-impl error::Error for Error {}
 
 fn checked(number: u32) -> Result<(), Refused> {
     match number {
@@ -172,7 +119,7 @@ fn checked(number: u32) -> Result<(), Refused> {
 /// is_shared::<x25_station::Station>();
 /// ```
 pub struct Station {
-    slot: Slot,
+    slot: raw::Slot,
     room: Vec<u8>,
 }
 
@@ -183,136 +130,235 @@ impl Station {
     /// A station whose link is down; 14 where a setting is out of its range, and 70 where memory is refused.
     pub fn new(end: End, settings: Settings) -> Result<Station, Refused> {
         let mut station = Station {
-            slot: Slot {
+            slot: raw::Slot {
                 at: ptr::null_mut(),
                 is_open: false,
             },
             room: vec![0; 1 << 18],
         };
-        checked(unsafe { x25_new(&mut station.slot, end as u8, settings) })?;
+        let settings = raw::Settings::of(settings);
+        checked(unsafe { raw::x25_new(&mut station.slot, end as u8, settings) })?;
         Ok(station)
     }
 
     /// Begins to set the link up.
-    pub fn connect(&mut self) -> Result<Answer, Error> {
-        let number = unsafe { x25_connect(&mut self.slot) };
+    pub fn connect(&mut self) -> Result<Answer, Refused> {
+        let number = unsafe { raw::x25_connect(&mut self.slot) };
+        self.answer(number)
+    }
+
+    /// Disconnects the link, for good.
+    pub fn disconnect(&mut self) -> Result<Answer, Refused> {
+        let number = unsafe { raw::x25_disconnect(&mut self.slot) };
+        self.answer(number)
+    }
+
+    /// Restarts the packet layer: each call ends.
+    pub fn restart(&mut self) -> Result<Answer, Refused> {
+        let number = unsafe { raw::x25_restart(&mut self.slot) };
+        self.answer(number)
+    }
+
+    /// Calls the other end, from one address to another, each of at most 15 digits; answers the channel of the call too. Without
+    /// sizes it proposes packets of 128 octets and windows of 2.
+    pub fn call(
+        &mut self,
+        called: &str,
+        calling: &str,
+        user: &[u8],
+        sizes: Option<Sizes>,
+    ) -> Result<(u16, Answer), Refused> {
+        let mut channel = 0;
+        let number = unsafe {
+            raw::x25_call(
+                &mut self.slot,
+                called.as_ptr(),
+                called.len(),
+                calling.as_ptr(),
+                calling.len(),
+                user.as_ptr(),
+                user.len(),
+                sizes.unwrap_or_default(),
+                &mut channel,
+            )
+        };
+        Ok((channel, self.answer(number)?))
+    }
+
+    /// Accepts the call that came on a channel, without sizes with those that it proposes.
+    pub fn accept(&mut self, channel: u16, sizes: Option<Sizes>) -> Result<Answer, Refused> {
+        let number = unsafe { raw::x25_accept(&mut self.slot, channel, sizes.unwrap_or_default()) };
+        self.answer(number)
+    }
+
+    /// Clears a call, whatever its state.
+    pub fn clear(&mut self, channel: u16) -> Result<Answer, Refused> {
+        let number = unsafe { raw::x25_clear(&mut self.slot, channel) };
+        self.answer(number)
+    }
+
+    /// Resets a call: messages on the way are lost.
+    pub fn reset(&mut self, channel: u16) -> Result<Answer, Refused> {
+        let number = unsafe { raw::x25_reset(&mut self.slot, channel) };
+        self.answer(number)
+    }
+
+    /// Sends an interrupt of 1 to 32 octets.
+    pub fn interrupt(&mut self, channel: u16, user: &[u8]) -> Result<Answer, Refused> {
+        let number =
+            unsafe { raw::x25_interrupt(&mut self.slot, channel, user.as_ptr(), user.len()) };
+        self.answer(number)
+    }
+
+    /// Tells the other end that this one takes data packets.
+    pub fn ready(&mut self, channel: u16) -> Result<Answer, Refused> {
+        let number = unsafe { raw::x25_ready(&mut self.slot, channel) };
+        self.answer(number)
+    }
+
+    /// Tells the other end that this one takes no data packets for now.
+    pub fn not_ready(&mut self, channel: u16) -> Result<Answer, Refused> {
+        let number = unsafe { raw::x25_not_ready(&mut self.slot, channel) };
+        self.answer(number)
+    }
+
+    /// Hands down what waits in the circuits, as each call does.
+    pub fn pull(&mut self) -> Result<Answer, Refused> {
+        let number = unsafe { raw::x25_pull(&mut self.slot) };
         self.answer(number)
     }
 
     /// Timer T1 fired.
-    pub fn t1(&mut self) -> Result<Answer, Error> {
-        let number = unsafe { x25_t1(&mut self.slot) };
+    pub fn t1(&mut self) -> Result<Answer, Refused> {
+        let number = unsafe { raw::x25_t1(&mut self.slot) };
         self.answer(number)
     }
 
     /// The octets of a frame came, frame check sequence included.
-    pub fn receive(&mut self, octets: &[u8]) -> Result<Answer, Error> {
-        let number = unsafe { x25_receive(&mut self.slot, octets.as_ptr(), octets.len()) };
+    pub fn receive(&mut self, octets: &[u8]) -> Result<Answer, Refused> {
+        let number = unsafe { raw::x25_receive(&mut self.slot, octets.as_ptr(), octets.len()) };
         self.answer(number)
     }
 
-    /// Sends a message on a channel.
-    pub fn send(&mut self, channel: u16, q: bool, user: &[u8]) -> Result<Answer, Error> {
-        let number = unsafe { x25_send(&mut self.slot, channel, q, user.as_ptr(), user.len()) };
+    /// Sends a message of at most 65,535 octets, with or without the qualifier.
+    pub fn send(&mut self, channel: u16, q: bool, user: &[u8]) -> Result<Answer, Refused> {
+        let number =
+            unsafe { raw::x25_send(&mut self.slot, channel, q, user.as_ptr(), user.len()) };
         self.answer(number)
     }
 
     /// Does what a text asks, as a line of a script without the name of its end: `call 123 4567 41`, `accept 1`.
-    pub fn command(&mut self, text: &str) -> Result<Answer, Error> {
-        let number = unsafe { x25_command(&mut self.slot, text.as_ptr(), text.len()) };
+    pub fn command(&mut self, text: &str) -> Result<Answer, Refused> {
+        let number = unsafe { raw::x25_command(&mut self.slot, text.as_ptr(), text.len()) };
         self.answer(number)
     }
 
-    /// The entries of the last call that was done, read again; 70 where memory is refused, and it may be asked again.
-    pub fn entries(&mut self) -> Result<Vec<String>, Refused> {
-        (0..unsafe { x25_entries(&mut self.slot) })
-            .map(|i| self.entry(i))
+    /// The events of the last answer as lines of the transcript, each with its line feed; 70 where memory is refused, and it may be
+    /// asked again.
+    pub fn lines(&mut self) -> Result<Vec<String>, Refused> {
+        let entries = unsafe { raw::x25_entries(&mut self.slot) };
+        (0..entries)
+            .map(|i| {
+                let (at, size) = (self.room.as_mut_ptr(), self.room.len());
+                let mut count = 0;
+                checked(unsafe { raw::x25_entry(&mut self.slot, i, at, size, &mut count) })?;
+                Ok(String::from_utf8_lossy(&self.room[..count]).into_owned())
+            })
             .collect()
     }
 
     /// What became of timer T1 at the last call.
     pub fn timer(&mut self) -> Timer {
-        match unsafe { x25_timer(&mut self.slot) } {
-            0 => Timer::Off,
-            1 => Timer::Begins,
-            _ => Timer::GoesOn,
-        }
+        Timer::of(unsafe { raw::x25_timer(&mut self.slot) })
     }
 
     /// Whether memory was refused for messages that wait, behind the last call.
     pub fn waits(&mut self) -> bool {
-        unsafe { x25_waits(&mut self.slot) }
+        unsafe { raw::x25_waits(&mut self.slot) }
     }
 
     /// Whether the link is up, and all that was asked was sent and acknowledged.
     pub fn is_idle(&mut self) -> bool {
-        unsafe { x25_idle(&mut self.slot) }
+        unsafe { raw::x25_idle(&mut self.slot) }
     }
 
     /// The stretch that is open on a channel, where one is.
     pub fn stretch(&mut self, channel: u16) -> Option<Stretch> {
         let mut name = Stretch::default();
-        unsafe { x25_stretch(&mut self.slot, channel, &mut name) }.then_some(name)
+        unsafe { raw::x25_stretch(&mut self.slot, channel, &mut name) }.then_some(name)
     }
 
-    fn answer(&mut self, number: u32) -> Result<Answer, Error> {
+    /// What a call answered, where it was done.
+    fn answer(&mut self, number: u32) -> Result<Answer, Refused> {
         checked(number)?;
-        let frames = (0..unsafe { x25_frames(&mut self.slot) })
-            .map(|i| self.frame(i))
-            .collect();
-        let mut answer = Answer {
-            frames,
-            entries: Vec::new(),
-            timer: self.timer(),
-        };
-        for i in 0..unsafe { x25_entries(&mut self.slot) } {
-            match self.entry(i) {
-                Ok(entry) => answer.entries.push(entry),
-                Err(_) => return Err(Error::Unread(answer)),
+        let (mut frames, mut events) = (Vec::new(), Vec::new());
+        let (mut timer, mut item) = (Timer::GoesOn, raw::Event::default());
+        let (at, size) = (self.room.as_mut_ptr(), self.room.len());
+        for i in 0.. {
+            if !unsafe { raw::x25_take(&mut self.slot, i, &mut item, at, size) } {
+                break;
+            }
+            let octets = self.room[..item.count].to_vec();
+            match item.kind {
+                raw::FRAME => frames.push(octets),
+                raw::TIMER => timer = Timer::of(item.timer),
+                _ => events.push(self.event(i, item, octets)),
             }
         }
-        Ok(answer)
+        Ok(Answer {
+            frames,
+            events,
+            timer,
+        })
     }
 
-    fn frame(&mut self, i: usize) -> Vec<u8> {
-        let room = &mut self.room;
-        let count = unsafe { x25_frame(&mut self.slot, i, room.as_mut_ptr(), room.len()) };
-        room[..count].to_vec()
+    /// The event that stands in a place of the answer.
+    fn event(&mut self, i: usize, item: raw::Event, user: Vec<u8>) -> Event {
+        let called = self.part(i, raw::x25_called);
+        let calling = self.part(i, raw::x25_calling);
+        let facilities = self.part(i, raw::x25_facilities);
+        let text = |octets: Vec<u8>| String::from_utf8_lossy(&octets).into_owned();
+        Event::of(item, text(called), text(calling), facilities, user)
     }
 
-    fn entry(&mut self, i: usize) -> Result<String, Refused> {
-        let room = &mut self.room;
-        let mut count = 0;
-        let number =
-            unsafe { x25_entry(&mut self.slot, i, room.as_mut_ptr(), room.len(), &mut count) };
-        checked(number)?;
-        Ok(String::from_utf8_lossy(&room[..count]).into_owned())
+    fn part(
+        &mut self,
+        i: usize,
+        read: unsafe extern "C" fn(*mut raw::Slot, usize, *mut u8, usize) -> usize,
+    ) -> Vec<u8> {
+        let count = unsafe { read(&mut self.slot, i, self.room.as_mut_ptr(), self.room.len()) };
+        self.room[..count].to_vec()
     }
 }
 
 impl Drop for Station {
     fn drop(&mut self) {
-        unsafe { x25_free(&mut self.slot) }
+        unsafe { raw::x25_free(&mut self.slot) }
     }
+}
+
+/// The version of the library: 10,000 times its first number, 100 times the second, and the third.
+pub fn version() -> u32 {
+    unsafe { raw::x25_version() }
 }
 
 #[cfg(test)]
 mod tests {
     use super::*;
 
-    /// Delivers frames from one station to the other and back, until there is none.
+    /// Delivers frames from one station to the other and back, until there is none; answers what is told meanwhile.
     fn talk<'a>(
         mut answer: Answer,
         mut near: &'a mut Station,
         mut far: &'a mut Station,
-    ) -> Vec<String> {
-        let mut told = answer.entries;
+    ) -> Vec<Event> {
+        let mut told = answer.events;
         while !answer.frames.is_empty() {
             let mut frames = Vec::new();
             for octets in &answer.frames {
                 let next = far.receive(octets).unwrap();
                 frames.extend(next.frames);
-                told.extend(next.entries);
+                told.extend(next.events);
             }
             answer.frames = frames;
             (near, far) = (far, near);
@@ -326,28 +372,65 @@ mod tests {
         let mut dce = Station::new(End::Dce, Settings::default()).unwrap();
         let answer = dte.connect().unwrap();
         talk(answer, &mut dte, &mut dce);
-        let answer = dte.command("call 123 4567 41").unwrap();
-        talk(answer, &mut dte, &mut dce);
-        let answer = dce.command("accept 1").unwrap();
-        talk(answer, &mut dce, &mut dte);
-        let answer = dte.send(1, true, b"hi").unwrap();
-        let told = talk(answer, &mut dte, &mut dce);
-        assert_eq!(
-            told,
-            [
-                "dte send ch=1 at 1.0.0 q=1 data=6869\n",
-                "dce message ch=1 at 1.0.0 q=1 data=6869\n"
-            ]
-        );
-        assert!(dte.is_idle() && dce.is_idle() && !dte.waits());
-        assert_eq!(dte.timer(), Timer::Off);
+        let (channel, answer) = dte.call("123", "4567", b"A", None).unwrap();
         let stretch = Stretch {
             restarts: 1,
             clears: 0,
             resets: 0,
         };
-        assert_eq!(dce.stretch(1), Some(stretch));
+        let told = talk(answer, &mut dte, &mut dce);
+        let incoming = Event::Incoming {
+            channel,
+            stretch,
+            sizes: Sizes::USUAL,
+            called: "123".into(),
+            calling: "4567".into(),
+            user: b"A".to_vec(),
+        };
+        assert_eq!(told[1], incoming);
+        let answer = dce.accept(channel, None).unwrap();
+        talk(answer, &mut dce, &mut dte);
+        let answer = dte.send(channel, true, b"hi").unwrap();
+        assert_eq!(
+            dte.lines().unwrap(),
+            ["dte send ch=1 at 1.0.0 q=1 data=6869\n"]
+        );
+        let (q, user) = (true, b"hi".to_vec());
+        let message = Event::Message {
+            channel,
+            stretch,
+            q,
+            user: user.clone(),
+        };
+        let asked = Event::SendAsked {
+            channel,
+            stretch,
+            q,
+            user,
+        };
+        assert_eq!(talk(answer, &mut dte, &mut dce), [asked, message]);
+        assert!(dte.is_idle() && dce.is_idle() && !dte.waits());
+        assert_eq!(dte.timer(), Timer::Off);
+        assert_eq!(dce.stretch(channel), Some(stretch));
         assert_eq!(dce.stretch(2), None);
+        let answer = dce.interrupt(channel, &[1]).unwrap();
+        assert!(talk(answer, &mut dce, &mut dte).contains(&Event::InterruptDone { channel }));
+        let answer = dce.not_ready(channel).unwrap();
+        talk(answer, &mut dce, &mut dte);
+        let answer = dce.ready(channel).unwrap();
+        talk(answer, &mut dce, &mut dte);
+        let answer = dte.reset(channel).unwrap();
+        assert!(talk(answer, &mut dte, &mut dce).contains(&Event::ResetDone { channel }));
+        let answer = dte.clear(channel).unwrap();
+        assert!(talk(answer, &mut dte, &mut dce).contains(&Event::ClearDone { channel }));
+        let answer = dce.restart().unwrap();
+        assert!(talk(answer, &mut dce, &mut dte).contains(&Event::RestartDone));
+        let answer = dte.pull().unwrap();
+        talk(answer, &mut dte, &mut dce);
+        let answer = dte.disconnect().unwrap();
+        let reason = Down::Disc;
+        assert!(talk(answer, &mut dte, &mut dce).contains(&Event::LinkDown { reason }));
+        assert_eq!(version(), 100);
     }
 
     #[test]
@@ -358,9 +441,10 @@ mod tests {
         };
         assert_eq!(Station::new(End::Dte, settings).err(), Some(Refused(14)));
         let mut dte = Station::new(End::Dte, Settings::default()).unwrap();
-        assert_eq!(dte.t1(), Err(Refused(11).into()));
-        assert_eq!(dte.command("sing"), Err(Refused(60).into()));
-        assert_eq!(dte.send(1, false, b""), Err(Refused(9).into()));
+        assert_eq!(dte.t1(), Err(Refused(11)));
+        assert_eq!(dte.command("sing"), Err(Refused(60)));
+        assert_eq!(dte.send(1, false, b""), Err(Refused(9)));
+        assert_eq!(dte.call("1", "2", b"", None), Err(Refused(9)));
         assert_eq!(Refused(9).to_string(), "9: the link isn't up");
         assert_eq!(Refused(8).text(), "");
     }
@@ -375,6 +459,6 @@ mod tests {
         .join()
         .unwrap();
         assert_eq!(answer.unwrap().frames.len(), 1);
-        assert_eq!(dte.connect(), Err(Refused(12).into()));
+        assert_eq!(dte.connect(), Err(Refused(12)));
     }
 }

@@ -1,3 +1,4 @@
 pub mod BoxLemmas
 pub mod HappenLemmas
 pub mod AskedLemmas
+pub mod ItemLemmas

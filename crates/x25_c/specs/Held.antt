@@ -1,6 +1,7 @@
 -- What a station that is held last answered, as C takes it (profile).
-use Rattle.std.specs.Prelude.{◌≡◌, ℕ, List, [], map, get_or, Option, Some, None}
+use Rattle.std.specs.Prelude.{◌≡◌, ℕ, List, [], ◌∷◌, map, get_or, Option, Some, None}
 use Rattle.x25_station.specs.code.PlainEntry.{plain_entry}
+use Rattle.x25_station.specs.Entry.{StationEntry, of_channel}
 use Rattle.x25_transcript.specs.EntryText.{entry_line}
 use Rattle.x25_c.specs.declared.held.Held.{Held}
 
@@ -11,6 +12,14 @@ frames_of h = map (λ frame. frame.items) h.step.frames.items
 -- the line of each entry
 abbrev pub lines_of : Held → List (List ℕ)
 lines_of h = map (λ entry. entry_line h.end (plain_entry entry)) h.step.entries.items
+
+-- the channel of the first entry, 0 where that has none
+abbrev pub first_channel : List StationEntry → ℕ
+first_channel (of_channel e ∷ entries) = e.channel
+first_channel _ = 0
+
+abbrev pub channel_of : Held → ℕ
+channel_of h = first_channel (map plain_entry h.step.entries.items)
 
 -- one of a list; none of the octets where there is none
 abbrev pub in_place : List (List ℕ) → ℕ → List ℕ

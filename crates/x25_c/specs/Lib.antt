@@ -1,10 +1,14 @@
 pub mod Copying
+pub mod Dialing
+pub mod Event
 pub mod Handle
 pub mod Happening
 pub mod Held
+pub mod Item
 pub mod Making
 pub mod RefusalText
 pub mod Settings
+pub mod Sizes
 pub mod Slot
 pub mod StretchName
 pub mod code

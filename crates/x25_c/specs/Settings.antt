@@ -1,4 +1,6 @@
--- The settings of a station, as C hands them over (profile): each is that of the station.
+-- The settings of a station, as C hands them over (profile): each is that of the station, and one that this version
+-- doesn't know is 0.
+use Rattle.std.specs.Prelude.{◌==◌, ◌&&◌, if◌then◌else◌, Option, Some, None}
 use Rattle.x25_station.specs.declared.config.Cfg.{Cfg}
 use Rattle.x25_c.specs.declared.settings.Settings.{Settings}
 
@@ -11,3 +13,6 @@ cfg_of s = record {
   say_sizes = s.say_sizes;
   wide = s.wide;
 }
+
+abbrev pub cfg_in : Settings → Option Cfg
+cfg_in s = if s.later == 0 && s.more == 0 then Some (cfg_of s) else None

@@ -3,6 +3,7 @@ use Rattle.std.specs.Prelude.{◌≡◌, ℕ, Option, Some, None, IsSomeAnd, Res
 use Rattle.x25_console.specs.Commands.{command_asked}
 use Rattle.x25_script.specs.ScriptLine.{PlainCommand}
 use Rattle.x25_station.specs.declared.error.StationError.{StationError}
+use Rattle.x25_station.specs.declared.error.StationError.TheVariants.{BadConfig}
 use Rattle.x25_station.specs.declared.config.Cfg.{Cfg}
 use Rattle.x25_station.specs.declared.timer.Timer.{Timer}
 use Rattle.x25_station.specs.declared.timer.Timer.TheVariants.{Off, Begins, GoesOn}
@@ -49,9 +50,15 @@ abbrev pub RefusesNumber : ℕ → Option StationError → Type 0
 RefusesNumber number None = number ≡ 70
 RefusesNumber number (Some e) = number ≡ number_of e
 
+-- why no station is made, but for want of memory: a setting that isn't known, or one out of its range
+abbrev pub refusal_in : ℕ → Option Cfg → Option StationError
+refusal_in end None = Some BadConfig
+refusal_in end (Some cfg) = making_refusal end cfg
+
 -- A station is made where none was held, or the number says why not: 17 where one was held, else that of a bad setting,
 -- and else 70 alone.
-abbrev pub Makes : Option Held → Option Held → ℕ → ℕ → Cfg → Type 0
+abbrev pub Makes : Option Held → Option Held → ℕ → ℕ → Option Cfg → Type 0
 Makes (Some old) new number end cfg = (number ≡ 17) × (new ≡ Some old)
-Makes None None number end cfg = RefusesNumber number (making_refusal end cfg)
-Makes None (Some new) number end cfg = (number ≡ 0) × IsSomeAnd (role_of end) (λ role. IsNew role cfg new)
+Makes None None number end cfg = RefusesNumber number (refusal_in end cfg)
+Makes None (Some new) number end cfg = (number ≡ 0)
+    × IsSomeAnd cfg (λ known. IsSomeAnd (role_of end) (λ role. IsNew role known new))

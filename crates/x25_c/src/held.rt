@@ -1,5 +1,6 @@
 //! A station, and what it last answered.
-ghost use Rattle.std.specs.Prelude.{◌≡◌, OnOk};
+ghost use Rattle.std.specs.Prelude.{◌≡◌, ◌<◌, OnOk, Some, length, map, slice_get};
+ghost use Rattle.std.specs.Option.{option_map};
 ghost use Rattle.x25_bits.specs.declared.role.Role.{Role};
 ghost use Rattle.x25_console.specs.Commands.{command_asked};
 ghost use Rattle.x25_script.specs.Reading.{command_in};
@@ -9,14 +10,16 @@ ghost use Rattle.x25_station.specs.Config.{settings_from};
 ghost use Rattle.x25_station.specs.Station.{new_station};
 ghost use Rattle.x25_station.specs.laws.TimerLaw.{Asks, Event};
 ghost use Rattle.x25_station.specs.code.FitsStation.{FitsStation};
-ghost use Rattle.x25_c.specs.Held.{frames_of, in_place, lines_of};
+ghost use Rattle.x25_c.specs.Held.{channel_of, frames_of, in_place, lines_of};
+ghost use Rattle.x25_c.specs.Item.{a_frame, items_of, later_items, plain_item};
 ghost use Rattle.x25_c.specs.code.Happens.{GivesAnswer, Happens, IsNew, PullsBehind, event_of};
 
 use crate::happening::{Happening, happen};
+use crate::item::Item;
 use std::alloc::{AllocError, Global};
 use x25_console::{read_user, station_command};
 use x25_script::{Command, HexDigits, ScriptTaker, read_command};
-use x25_station::{Role, Station, StationError, Step};
+use x25_station::{Entry, Role, Station, StationError, Step};
 use x25_text::Text;
 use x25_transcript::push_entry;
 
@@ -104,6 +107,48 @@ impl Held {
         match self.step.frames.get(i) {
             Some(frame) => frame.as_slice(),
             None => &[],
+        }
+    }
+
+    // Item `i` behind the frames: the entries, and then what becomes of timer T1.
+    fn later_item(&self, i: usize) -> Option<Item<'_>>
+        ensures { option_map plain_item result ≡ slice_get (later_items self.now) i }
+    {
+        if i < self.step.entries.len() {
+            return Some(Item::Entry(&self.step.entries[i]));
+        }
+        if i == self.step.entries.len() {
+            return Some(Item::Timer(self.step.timer));
+        }
+        None
+    }
+
+    // Frame `i` as an item.
+    fn frame_item(&self, i: usize) -> Item<'_>
+        requires { i < length self.now.step.frames.items }
+        ensures { slice_get (map a_frame (frames_of self.now)) i ≡ Some (plain_item result) }
+    {
+        Item::Frame(self.step.frames[i].as_slice())
+    }
+
+    /// Item `i` of the answer.
+    pub(crate) fn item(&self, i: usize) -> Option<Item<'_>>
+        ensures { option_map plain_item result ≡ slice_get (items_of self.now) i }
+    {
+        let frames = self.step.frames.len();
+        if i < frames {
+            return Some(self.frame_item(i));
+        }
+        self.later_item(i - frames)
+    }
+
+    /// The channel of the first entry, 0 where that has none.
+    pub(crate) fn channel(&self) -> u16
+        ensures { result ≡ channel_of self.now }
+    {
+        match self.step.entries.first() {
+            Some(Entry::OnChannel { channel, .. }) => *channel,
+            _ => 0,
         }
     }
 

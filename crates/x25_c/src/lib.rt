@@ -4,42 +4,61 @@
 #![tactic(auto)]
 
 mod copying;
+mod dialing;
+mod event;
 mod handle;
 mod happening;
 mod held;
+mod item;
 mod making;
+mod numbers;
 mod refusal_text;
 mod settings;
+mod sizes;
 mod slot;
 mod stretch_name;
 mod unboxed;
 
-ghost use Rattle.std.specs.Prelude.{◌≡◌, ◌≢◌, false, None, IfSome, IfNone, length};
-ghost use Rattle.x25_circuit.specs.Calling.{Sends};
-ghost use Rattle.x25_layer.specs.Calls.{Asks as OnChannel};
+ghost use Rattle.std.specs.Prelude.{◌≡◌, ◌≢◌, false, None, IfSome, IfNone, length, slice_get, unwrap_or};
+ghost use Rattle.x25_circuit.specs.Calling.{Accepts, Clears, Interrupts, Resets, SaysNotReady, SaysReady, Sends};
+ghost use Rattle.x25_circuit.specs.Params.{default_params, in_brief};
+ghost use Rattle.x25_layer.specs.Calls.{Asks as OnChannel, Dials, PullsAll, Restarts};
 ghost use Rattle.x25_script.specs.Reading.{command_in};
-ghost use Rattle.x25_station.specs.Command.{Connects, Requests};
+ghost use Rattle.x25_station.specs.Command.{Connects, Disconnects, Requests, answer_in_brief, command_of};
 ghost use Rattle.x25_station.specs.Config.{Settings as StationSettings};
 ghost use Rattle.x25_station.specs.Station.{Station as State};
 ghost use Rattle.x25_station.specs.Station.Told.{is_idle, stretch};
 ghost use Rattle.x25_station.specs.laws.TimerLaw.{Asks, Comes, Fires};
 ghost use Rattle.x25_station.specs.code.FitsStation.{FitsStation};
 ghost use Rattle.x25_c.specs.Copying.{Copies};
-ghost use Rattle.x25_c.specs.Held.{AreSame, frames_of, in_place, lines_of};
+ghost use Rattle.x25_c.specs.Dialing.{dialed};
+ghost use Rattle.x25_c.specs.Held.{AreSame, channel_of, frames_of, in_place, lines_of};
+ghost use Rattle.x25_c.specs.Item.{Takes, called_at, calling_at, facilities_at, items_of, of_item};
 ghost use Rattle.x25_c.specs.RefusalText.{text_of};
-ghost use Rattle.x25_c.specs.Settings.{cfg_of};
-ghost use Rattle.x25_c.specs.Slot.{Answers, Commands, Makes, number_in, number_of_timer};
+ghost use Rattle.x25_c.specs.Settings.{cfg_in};
+ghost use Rattle.x25_c.specs.Sizes.{params_in};
+ghost use Rattle.x25_c.specs.Slot.{Answers, Commands, Makes, number_of_timer};
 ghost use Rattle.x25_c.specs.StretchName.{Names};
 
 use crate::copying::copy;
+use crate::dialing::dialed;
+use crate::event::Event;
 use crate::happening::Happening;
 use crate::making::make;
+use crate::numbers::{number_of, timer_number};
 use crate::refusal_text::refusal_text;
 use crate::settings::Settings;
+use crate::sizes::Sizes;
 use crate::slot::Slot;
 use crate::stretch_name::{StretchName, tell_name};
 use std::alloc::Global;
-use x25_station::{Cmd, StationError, Timer};
+use x25_station::Cmd;
+
+/// 10,000 times the first number of the version, 100 times the second, and the third.
+const VERSION: u32 = 100;
+
+/// A setting is out of its range.
+const BAD_SETTING: u32 = 14;
 
 /// The slot holds no station.
 const NO_STATION: u32 = 16;
@@ -53,37 +72,41 @@ const NO_COMMAND: u32 = 60;
 /// Memory was refused.
 const NO_MEMORY: u32 = 70;
 
-fn number_of(answer: Result<(), StationError>) -> u32
-    ensures { result ≡ number_in answer }
+// Asks for something, and pulls behind it.
+fn ask(alloc: Global, slot: &mut Slot, command: Cmd<'_>) -> u32
+    ensures { Answers slot.old.handle.held slot.new.handle.held result (Asks (command_of command.entry)) }
 {
-    match answer {
-        Ok(()) => 0,
-        Err(error) => u32::from(error.number()),
-    }
+    let Some(mut held) = slot.take(alloc) else {
+        return NO_STATION;
+    };
+    let answer = held.happen(Happening::Asks(command));
+    slot.put(held);
+    number_of(answer)
 }
 
-fn timer_number(timer: Timer) -> u32
-    ensures { result ≡ number_of_timer timer }
+/// The version of the library, as X25_VERSION of the header is that of a program.
+#[unsafe(no_mangle)]
+pub extern "C" fn x25_version() -> u32
+    ensures { result ≡ 100 }
 {
-    match timer {
-        Timer::Off => 0,
-        Timer::Begins => 1,
-        Timer::GoesOn => 2,
-    }
+    VERSION
 }
 
 /// Makes a station whose link is down: `end` is 0 for a DTE and 1 for a DCE.
 ///
-/// 17 where the slot holds a station, else 14 where a setting is out of its range, and else 70 alone; the slot is then
-/// as before.
+/// 17 where the slot holds a station, else 14 where a setting is out of its range or isn't known, and else 70 alone;
+/// the slot is then as before.
 #[unsafe(no_mangle)]
 pub extern "C" fn x25_new(alloc: Global, slot: &mut Slot, end: u8, settings: Settings) -> u32
-    ensures { Makes slot.old.handle.held slot.new.handle.held result end (cfg_of settings) }
+    ensures { Makes slot.old.handle.held slot.new.handle.held result end (cfg_in settings) }
 {
     if slot.is_open {
         return IN_USE;
     }
-    match make(alloc, end, settings.cfg()) {
+    let Some(cfg) = settings.cfg() else {
+        return BAD_SETTING;
+    };
+    match make(alloc, end, cfg) {
         Ok(held) => {
             slot.put(held);
             0
@@ -113,6 +136,138 @@ pub extern "C" fn x25_connect(alloc: Global, slot: &mut Slot) -> u32
     let answer = held.happen(Happening::Asks(Cmd::Connect));
     slot.put(held);
     number_of(answer)
+}
+
+/// Disconnects the link, for good.
+///
+/// 16 where the slot holds no station, else as `Station::command` of `Cmd::Disconnect`. The station is as before then.
+#[unsafe(no_mangle)]
+pub extern "C" fn x25_disconnect(alloc: Global, slot: &mut Slot) -> u32
+    ensures { Answers slot.old.handle.held slot.new.handle.held result (Asks Disconnects) }
+{
+    ask(alloc, slot, Cmd::Disconnect)
+}
+
+/// Restarts the packet layer: all calls are cleared.
+///
+/// 16 where the slot holds no station, else as `Station::command` of `Cmd::Restart`. The station is as before then.
+#[unsafe(no_mangle)]
+pub extern "C" fn x25_restart(alloc: Global, slot: &mut Slot) -> u32
+    ensures { Answers slot.old.handle.held slot.new.handle.held result (Asks (Requests Restarts)) }
+{
+    ask(alloc, slot, Cmd::Restart)
+}
+
+/// Calls the other end on a free channel, with addresses in digits, and packet sizes and windows where some are named;
+/// `channel` becomes that of the call.
+///
+/// 16 where the slot holds no station, else as `Station::command` of `Cmd::Call`. The station and `channel` are as
+/// before then.
+#[unsafe(no_mangle)]
+pub extern "C" fn x25_call(
+    alloc: Global,
+    slot: &mut Slot,
+    called: &[u8],
+    calling: &[u8],
+    user: &[u8],
+    sizes: Sizes,
+    channel: &mut u16,
+) -> u32
+    ensures calls { Answers slot.old.handle.held slot.new.handle.held result
+        (Asks (Requests (Dials (dialed called.now) (dialed calling.now) user.now
+        (in_brief (unwrap_or (params_in sizes) default_params))))) }
+    ensures channel { result ≡ 0 → IfSome slot.new.handle.held (λ h. channel.new ≡ channel_of h) }
+    ensures refused { result ≢ 0 → channel.new ≡ channel.old }
+{
+    let Some(mut held) = slot.take(alloc) else {
+        return NO_STATION;
+    };
+    let answer = held.happen(Happening::Asks(Cmd::Call {
+        called: dialed(called),
+        calling: dialed(calling),
+        user,
+        params: sizes.params(),
+    }));
+    let number = number_of(answer);
+    if number == 0 {
+        *channel = held.channel();
+    }
+    slot.put(held);
+    number
+}
+
+/// Accepts an incoming call, with the packet sizes and windows that are named, or where none is with those proposed.
+///
+/// 16 where the slot holds no station, else as `Station::command` of `Cmd::Accept`. The station is as before then.
+#[unsafe(no_mangle)]
+pub extern "C" fn x25_accept(alloc: Global, slot: &mut Slot, channel: u16, sizes: Sizes) -> u32
+    ensures { Answers slot.old.handle.held slot.new.handle.held result
+        (Asks (Requests (OnChannel channel (Accepts (answer_in_brief (params_in sizes)))))) }
+{
+    let params = sizes.params();
+    ask(alloc, slot, Cmd::Accept { channel, params })
+}
+
+/// Clears a call.
+///
+/// 16 where the slot holds no station, else as `Station::command` of `Cmd::Clear`. The station is as before then.
+#[unsafe(no_mangle)]
+pub extern "C" fn x25_clear(alloc: Global, slot: &mut Slot, channel: u16) -> u32
+    ensures { Answers slot.old.handle.held slot.new.handle.held result (Asks (Requests (OnChannel channel Clears))) }
+{
+    ask(alloc, slot, Cmd::Clear { channel })
+}
+
+/// Resets a call.
+///
+/// 16 where the slot holds no station, else as `Station::command` of `Cmd::Reset`. The station is as before then.
+#[unsafe(no_mangle)]
+pub extern "C" fn x25_reset(alloc: Global, slot: &mut Slot, channel: u16) -> u32
+    ensures { Answers slot.old.handle.held slot.new.handle.held result (Asks (Requests (OnChannel channel Resets))) }
+{
+    ask(alloc, slot, Cmd::Reset { channel })
+}
+
+/// Sends an interrupt of 1 to 32 octets.
+///
+/// 16 where the slot holds no station, else as `Station::command` of `Cmd::Interrupt`. The station is as before then.
+#[unsafe(no_mangle)]
+pub extern "C" fn x25_interrupt(alloc: Global, slot: &mut Slot, channel: u16, user: &[u8]) -> u32
+    ensures { Answers slot.old.handle.held slot.new.handle.held result
+        (Asks (Requests (OnChannel channel (Interrupts user.now)))) }
+{
+    ask(alloc, slot, Cmd::Interrupt { channel, user })
+}
+
+/// Tells the other end that this one takes data packets.
+///
+/// 16 where the slot holds no station, else as `Station::command` of `Cmd::Ready`. The station is as before then.
+#[unsafe(no_mangle)]
+pub extern "C" fn x25_ready(alloc: Global, slot: &mut Slot, channel: u16) -> u32
+    ensures { Answers slot.old.handle.held slot.new.handle.held result (Asks (Requests (OnChannel channel SaysReady))) }
+{
+    ask(alloc, slot, Cmd::Ready { channel })
+}
+
+/// Tells the other end that this one takes no data packets for now.
+///
+/// 16 where the slot holds no station, else as `Station::command` of `Cmd::NotReady`. The station is as before then.
+#[unsafe(no_mangle)]
+pub extern "C" fn x25_not_ready(alloc: Global, slot: &mut Slot, channel: u16) -> u32
+    ensures { Answers slot.old.handle.held slot.new.handle.held result
+        (Asks (Requests (OnChannel channel SaysNotReady))) }
+{
+    ask(alloc, slot, Cmd::NotReady { channel })
+}
+
+/// Hands down what waits in the circuits, as far as the link has room.
+///
+/// 16 where the slot holds no station, else as `Station::command` of `Cmd::Pull`. The station is as before then.
+#[unsafe(no_mangle)]
+pub extern "C" fn x25_pull(alloc: Global, slot: &mut Slot) -> u32
+    ensures { Answers slot.old.handle.held slot.new.handle.held result (Asks (Requests PullsAll)) }
+{
+    ask(alloc, slot, Cmd::Pull)
 }
 
 /// Timer T1 fired; what waits is pulled behind it.
@@ -186,6 +341,100 @@ pub extern "C" fn x25_command(alloc: Global, slot: &mut Slot, text: &[u8]) -> u3
     }
 }
 
+/// Takes item `i` of the last answer, counted from 0: its frames, its entries, and then what becomes of timer T1. What
+/// it is is written to `event`, and its octets to the front of `room` where they fit.
+///
+/// `false` where there is none, and where the slot holds no station; `event` and `room` are then as before.
+#[unsafe(no_mangle)]
+pub extern "C" fn x25_take(
+    alloc: Global,
+    slot: &mut Slot,
+    i: usize,
+    event: &mut Event,
+    room: &mut [u8],
+) -> bool
+    ensures kept { slot.new.handle.held ≡ slot.old.handle.held }
+    ensures taken { IfSome slot.old.handle.held
+        (λ h. Takes (slice_get (items_of h) i) result event.old event.new room.old room.new) }
+    ensures none { IfNone slot.old.handle.held (Takes None result event.old event.new room.old room.new) }
+{
+    let Some(held) = slot.take(alloc) else {
+        return false;
+    };
+    let is_there = match held.item(i) {
+        Some(item) => {
+            *event = item.event();
+            copy(item.octets(), room);
+            true
+        }
+        None => false,
+    };
+    slot.put(held);
+    is_there
+}
+
+/// Copies the address that is called, in digits, of item `i` of the last answer, as `x25_frame` does; 0 where it has
+/// none.
+#[unsafe(no_mangle)]
+pub extern "C" fn x25_called(alloc: Global, slot: &mut Slot, i: usize, text: &mut [u8]) -> usize
+    ensures kept { slot.new.handle.held ≡ slot.old.handle.held }
+    ensures copied { IfSome slot.old.handle.held
+        (λ h. Copies (of_item called_at (slice_get (items_of h) i)) text.old text.new) }
+    ensures count { IfSome slot.old.handle.held (λ h. result ≡ length (of_item called_at (slice_get (items_of h) i))) }
+    ensures none { IfNone slot.old.handle.held ((result ≡ 0) × (text.new ≡ text.old)) }
+{
+    let Some(held) = slot.take(alloc) else {
+        return 0;
+    };
+    let count = match held.item(i) {
+        Some(item) => item.called(text),
+        None => copy(&[], text),
+    };
+    slot.put(held);
+    count
+}
+
+/// Copies the address that calls, in digits, of item `i` of the last answer, as `x25_frame` does; 0 where it has none.
+#[unsafe(no_mangle)]
+pub extern "C" fn x25_calling(alloc: Global, slot: &mut Slot, i: usize, text: &mut [u8]) -> usize
+    ensures kept { slot.new.handle.held ≡ slot.old.handle.held }
+    ensures copied { IfSome slot.old.handle.held
+        (λ h. Copies (of_item calling_at (slice_get (items_of h) i)) text.old text.new) }
+    ensures count { IfSome slot.old.handle.held (λ h. result ≡ length (of_item calling_at (slice_get (items_of h) i))) }
+    ensures none { IfNone slot.old.handle.held ((result ≡ 0) × (text.new ≡ text.old)) }
+{
+    let Some(held) = slot.take(alloc) else {
+        return 0;
+    };
+    let count = match held.item(i) {
+        Some(item) => item.calling(text),
+        None => copy(&[], text),
+    };
+    slot.put(held);
+    count
+}
+
+/// Copies the facility field of item `i` of the last answer, as `x25_frame` does; 0 where it has none.
+#[unsafe(no_mangle)]
+pub extern "C" fn x25_facilities(alloc: Global, slot: &mut Slot, i: usize, room: &mut [u8]) -> usize
+    ensures kept { slot.new.handle.held ≡ slot.old.handle.held }
+    ensures copied { IfSome slot.old.handle.held
+        (λ h. Copies (of_item facilities_at (slice_get (items_of h) i)) room.old room.new) }
+    ensures count { IfSome slot.old.handle.held (λ h. result
+        ≡ length (of_item facilities_at (slice_get (items_of h) i))) }
+    ensures none { IfNone slot.old.handle.held ((result ≡ 0) × (room.new ≡ room.old)) }
+{
+    let Some(held) = slot.take(alloc) else {
+        return 0;
+    };
+    let count = match held.item(i) {
+        Some(item) => copy(item.facilities(), room),
+        None => copy(&[], room),
+    };
+    slot.put(held);
+    count
+}
+
 /// How many frames the last call answered.
 #[unsafe(no_mangle)]
 pub extern "C" fn x25_frames(alloc: Global, slot: &mut Slot) -> usize
@@ -235,21 +484,21 @@ pub extern "C" fn x25_entries(alloc: Global, slot: &mut Slot) -> usize
 
 /// Copies the line of entry `i`, with its line feed, as `x25_frame` does, and writes its length to `count`.
 ///
-/// 16 where the slot holds no station, and else 70 alone; `room` and `count` are then as before.
+/// 16 where the slot holds no station, and else 70 alone; `text` and `count` are then as before.
 #[unsafe(no_mangle)]
 pub extern "C" fn x25_entry(
     alloc: Global,
     slot: &mut Slot,
     i: usize,
-    room: &mut [u8],
+    text: &mut [u8],
     count: &mut usize,
 ) -> u32
     ensures kept { AreSame slot.old.handle.held slot.new.handle.held }
     ensures copied { result ≡ 0 →
-        IfSome slot.old.handle.held (λ h. Copies (in_place (lines_of h) i) room.old room.new) }
+        IfSome slot.old.handle.held (λ h. Copies (in_place (lines_of h) i) text.old text.new) }
     ensures count { result ≡ 0 →
         IfSome slot.old.handle.held (λ h. count.new ≡ length (in_place (lines_of h) i)) }
-    ensures refused { result ≢ 0 → (room.new ≡ room.old) × (count.new ≡ count.old) }
+    ensures refused { result ≢ 0 → (text.new ≡ text.old) × (count.new ≡ count.old) }
     ensures memory { IfSome slot.old.handle.held (λ h. result ≢ 0 → result ≡ 70) }
     ensures none { IfNone slot.old.handle.held (result ≡ 16) }
 {
@@ -258,7 +507,7 @@ pub extern "C" fn x25_entry(
     };
     let number = match held.write(i) {
         Ok(()) => {
-            *count = copy(held.line.as_slice(), room);
+            *count = copy(held.line.as_slice(), text);
             0
         }
         Err(_) => NO_MEMORY,
@@ -336,9 +585,9 @@ pub extern "C" fn x25_stretch(
 
 /// Copies what the number of a refusal says, as `x25_frame` does; 0 where there is no such number.
 #[unsafe(no_mangle)]
-pub extern "C" fn x25_refusal_text(number: u32, room: &mut [u8]) -> usize
-    ensures copied { Copies (text_of number) room.old room.new }
+pub extern "C" fn x25_refusal_text(number: u32, text: &mut [u8]) -> usize
+    ensures copied { Copies (text_of number) text.old text.new }
     ensures count { result ≡ length (text_of number) }
 {
-    copy(refusal_text(number), room)
+    copy(refusal_text(number), text)
 }

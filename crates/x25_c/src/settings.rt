@@ -1,6 +1,6 @@
 //! The settings of a station, as a C program hands them over.
 ghost use Rattle.std.specs.Prelude.{◌≡◌};
-ghost use Rattle.x25_c.specs.Settings.{cfg_of};
+ghost use Rattle.x25_c.specs.Settings.{cfg_in};
 
 use x25_station::Cfg;
 
@@ -14,19 +14,26 @@ pub struct Settings {
     pub long_data: bool,
     pub say_sizes: bool,
     pub wide: bool,
+    /// For settings of later versions, together with `more`.
+    pub later: u16,
+    pub more: u64,
 }
 
 impl Settings {
-    pub(crate) fn cfg(self) -> Cfg
-        ensures { result ≡ cfg_of self }
+    /// None where one is set that this version doesn't know.
+    pub(crate) fn cfg(self) -> Option<Cfg>
+        ensures { result ≡ cfg_in self }
     {
-        Cfg {
+        if self.later != 0 || self.more != 0 {
+            return None;
+        }
+        Some(Cfg {
             k: self.k,
             n2: self.n2,
             channels: self.channels,
             long_data: self.long_data,
             say_sizes: self.say_sizes,
             wide: self.wide,
-        }
+        })
     }
 }

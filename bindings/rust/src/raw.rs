@@ -1,0 +1,111 @@
+//! What `x25.h` declares.
+
+use crate::event::{Sizes, Stretch};
+use std::ffi::c_void;
+
+pub const FRAME: u16 = 1;
+pub const TIMER: u16 = 2;
+
+/// An x25_station.
+#[repr(C)]
+pub struct Slot {
+    pub at: *mut c_void,
+    pub is_open: bool,
+}
+
+#[repr(C)]
+#[derive(Clone, Copy)]
+pub struct Settings {
+    k: u8,
+    n2: u8,
+    channels: u8,
+    long_data: bool,
+    say_sizes: bool,
+    wide: bool,
+    later: u16,
+    more: u64,
+}
+
+impl Settings {
+    pub fn of(settings: crate::Settings) -> Settings {
+        Settings {
+            k: settings.k,
+            n2: settings.n2,
+            channels: settings.channels,
+            long_data: settings.long_data,
+            say_sizes: settings.say_sizes,
+            wide: settings.wide,
+            later: 0,
+            more: 0,
+        }
+    }
+}
+
+#[repr(C)]
+#[derive(Clone, Copy, Default)]
+pub struct Event {
+    pub kind: u16,
+    pub channel: u16,
+    pub q: bool,
+    pub cause: u8,
+    pub diagnostic: u8,
+    pub reason: u8,
+    pub sizes: Sizes,
+    pub timer: u32,
+    pub stretch: Stretch,
+    pub count: usize,
+}
+
+extern "C" {
+    pub fn x25_version() -> u32;
+    pub fn x25_new(slot: *mut Slot, end: u8, settings: Settings) -> u32;
+    pub fn x25_free(slot: *mut Slot);
+    pub fn x25_connect(slot: *mut Slot) -> u32;
+    pub fn x25_disconnect(slot: *mut Slot) -> u32;
+    pub fn x25_restart(slot: *mut Slot) -> u32;
+    pub fn x25_call(
+        slot: *mut Slot,
+        called: *const u8,
+        called_count: usize,
+        calling: *const u8,
+        calling_count: usize,
+        user: *const u8,
+        user_count: usize,
+        sizes: Sizes,
+        channel: *mut u16,
+    ) -> u32;
+    pub fn x25_accept(slot: *mut Slot, channel: u16, sizes: Sizes) -> u32;
+    pub fn x25_clear(slot: *mut Slot, channel: u16) -> u32;
+    pub fn x25_reset(slot: *mut Slot, channel: u16) -> u32;
+    pub fn x25_interrupt(slot: *mut Slot, channel: u16, user: *const u8, count: usize) -> u32;
+    pub fn x25_ready(slot: *mut Slot, channel: u16) -> u32;
+    pub fn x25_not_ready(slot: *mut Slot, channel: u16) -> u32;
+    pub fn x25_pull(slot: *mut Slot) -> u32;
+    pub fn x25_t1(slot: *mut Slot) -> u32;
+    pub fn x25_receive(slot: *mut Slot, octets: *const u8, count: usize) -> u32;
+    pub fn x25_send(slot: *mut Slot, channel: u16, q: bool, user: *const u8, count: usize) -> u32;
+    pub fn x25_command(slot: *mut Slot, text: *const u8, count: usize) -> u32;
+    pub fn x25_take(
+        slot: *mut Slot,
+        i: usize,
+        event: *mut Event,
+        room: *mut u8,
+        size: usize,
+    ) -> bool;
+    pub fn x25_called(slot: *mut Slot, i: usize, text: *mut u8, size: usize) -> usize;
+    pub fn x25_calling(slot: *mut Slot, i: usize, text: *mut u8, size: usize) -> usize;
+    pub fn x25_facilities(slot: *mut Slot, i: usize, room: *mut u8, size: usize) -> usize;
+    pub fn x25_entries(slot: *mut Slot) -> usize;
+    pub fn x25_entry(
+        slot: *mut Slot,
+        i: usize,
+        text: *mut u8,
+        size: usize,
+        count: *mut usize,
+    ) -> u32;
+    pub fn x25_timer(slot: *mut Slot) -> u32;
+    pub fn x25_waits(slot: *mut Slot) -> bool;
+    pub fn x25_idle(slot: *mut Slot) -> bool;
+    pub fn x25_stretch(slot: *mut Slot, channel: u16, name: *mut Stretch) -> bool;
+    pub fn x25_refusal_text(number: u32, text: *mut u8, size: usize) -> usize;
+}

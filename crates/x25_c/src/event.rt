@@ -1,0 +1,258 @@
+//! What a C program is told of an item of an answer: an event, of which each kind has what `include/x25.h` says, and
+//! else 0.
+ghost use Rattle.std.specs.Prelude.{◌≡◌};
+ghost use Rattle.x25_c.specs.Event.{asked_event, entry_event, kind_alone, on, reason_number, under};
+ghost use Rattle.x25_c.specs.Event.{told_event};
+ghost use Rattle.x25_station.specs.code.PlainEntry.{plain_asked, plain_entry, plain_name, plain_told};
+
+use crate::sizes::Sizes;
+use crate::stretch_name::StretchName;
+use x25_layer::{Params, Stretch};
+use x25_link::Reason;
+use x25_station::{Asked, Entry, Said, Told};
+
+pub(crate) const FRAME: u16 = 1;
+
+pub(crate) const TIMER: u16 = 2;
+
+const LINK_UP: u16 = 3;
+
+const LINK_DOWN: u16 = 4;
+
+const RESTARTED: u16 = 5;
+
+const RESTART_DONE: u16 = 6;
+
+const FAULT: u16 = 7;
+
+const BESIDE: u16 = 8;
+
+const DIAGNOSTIC: u16 = 9;
+
+const INCOMING: u16 = 10;
+
+const CONNECTED: u16 = 11;
+
+const COLLIDED: u16 = 12;
+
+const CLEARED: u16 = 13;
+
+const CLEAR_DONE: u16 = 14;
+
+const RESET: u16 = 15;
+
+const RESET_DONE: u16 = 16;
+
+const MESSAGE: u16 = 17;
+
+const INTERRUPT: u16 = 18;
+
+const INTERRUPT_DONE: u16 = 19;
+
+const CONNECT_ASKED: u16 = 20;
+
+const DISCONNECT_ASKED: u16 = 21;
+
+const RESTART_ASKED: u16 = 22;
+
+const CALL_ASKED: u16 = 23;
+
+const ACCEPT_ASKED: u16 = 24;
+
+const CLEAR_ASKED: u16 = 25;
+
+const SEND_ASKED: u16 = 26;
+
+const INTERRUPT_ASKED: u16 = 27;
+
+const RESET_ASKED: u16 = 28;
+
+const READY_ASKED: u16 = 29;
+
+const NOT_READY_ASKED: u16 = 30;
+
+/// An event: its kind, and what that has; `count` is how many octets of a frame or of user data there are.
+#[repr(C)]
+#[derive(Clone, Copy)]
+pub struct Event {
+    pub kind: u16,
+    pub channel: u16,
+    pub q: bool,
+    pub cause: u8,
+    pub diagnostic: u8,
+    pub reason: u8,
+    pub sizes: Sizes,
+    pub timer: u32,
+    pub stretch: StretchName,
+    pub count: usize,
+}
+
+impl Event {
+    /// A kind that has nothing.
+    pub(crate) fn alone(kind: u16) -> Event
+        ensures { result ≡ kind_alone kind }
+    {
+        Event {
+            kind,
+            channel: 0,
+            q: false,
+            cause: 0,
+            diagnostic: 0,
+            reason: 0,
+            sizes: Sizes::none(),
+            timer: 0,
+            stretch: StretchName::none(),
+            count: 0,
+        }
+    }
+
+    fn on(kind: u16, channel: u16) -> Event
+        ensures { result ≡ on kind channel }
+    {
+        Event {
+            channel,
+            ..Event::alone(kind)
+        }
+    }
+
+    fn under(kind: u16, channel: u16, name: &Stretch) -> Event
+        ensures { result ≡ under kind channel (plain_name name.now) }
+    {
+        Event {
+            channel,
+            stretch: StretchName::of(name),
+            ..Event::alone(kind)
+        }
+    }
+
+    fn of_asked(channel: u16, name: &Stretch, asked: &Asked) -> Event
+        ensures { result ≡ asked_event channel (plain_name name.now) (plain_asked asked.now) }
+    {
+        match asked {
+            Asked::Call { user, params, .. } => Event {
+                sizes: Sizes::of(*params),
+                count: user.len(),
+                ..Event::under(CALL_ASKED, channel, name)
+            },
+            Asked::Accept { params } => Event {
+                sizes: Sizes::of(*params),
+                ..Event::on(ACCEPT_ASKED, channel)
+            },
+            Asked::Clear => Event::on(CLEAR_ASKED, channel),
+            Asked::Send { q, user } => Event {
+                q: *q,
+                count: user.len(),
+                ..Event::under(SEND_ASKED, channel, name)
+            },
+            Asked::Interrupt { user } => Event {
+                count: user.len(),
+                ..Event::under(INTERRUPT_ASKED, channel, name)
+            },
+            Asked::Reset => Event::on(RESET_ASKED, channel),
+            Asked::Ready => Event::on(READY_ASKED, channel),
+            Asked::NotReady => Event::on(NOT_READY_ASKED, channel),
+        }
+    }
+
+    fn of_told(channel: u16, name: &Stretch, told: &Told) -> Event
+        ensures { result ≡ told_event channel (plain_name name.now) (plain_told told.now) }
+    {
+        match told {
+            Told::Incoming { user, params, .. } => Event {
+                sizes: Sizes::of(*params),
+                count: user.len(),
+                ..Event::under(INCOMING, channel, name)
+            },
+            Told::Connected { params } => Event {
+                sizes: Sizes::of(*params),
+                ..Event::on(CONNECTED, channel)
+            },
+            Told::Collided => Event::on(COLLIDED, channel),
+            Told::Cleared { cause, diagnostic } => Event {
+                cause: *cause,
+                diagnostic: *diagnostic,
+                ..Event::on(CLEARED, channel)
+            },
+            Told::ClearDone => Event::on(CLEAR_DONE, channel),
+            Told::WasReset { cause, diagnostic } => Event {
+                cause: *cause,
+                diagnostic: *diagnostic,
+                ..Event::on(RESET, channel)
+            },
+            Told::ResetDone => Event::on(RESET_DONE, channel),
+            Told::Delivered(message) => Event {
+                q: message.q,
+                count: message.user.as_slice().len(),
+                ..Event::under(MESSAGE, channel, name)
+            },
+            Told::Interrupted { user } => Event {
+                count: user.len(),
+                ..Event::under(INTERRUPT, channel, name)
+            },
+            Told::InterruptDone => Event::on(INTERRUPT_DONE, channel),
+            Told::Fault { diagnostic } => Event {
+                diagnostic: *diagnostic,
+                ..Event::on(FAULT, channel)
+            },
+        }
+    }
+
+    /// What an entry of the transcript says.
+    pub(crate) fn of_entry(entry: &Entry) -> Event
+        ensures { result ≡ entry_event (plain_entry entry.now) }
+    {
+        match entry {
+            Entry::OnChannel {
+                channel,
+                name,
+                said: Said::Asked(asked),
+            } => Event::of_asked(*channel, name, asked),
+            Entry::OnChannel {
+                channel,
+                name,
+                said: Said::Told(told),
+            } => Event::of_told(*channel, name, told),
+            Entry::RestartAsked => Event::alone(RESTART_ASKED),
+            Entry::ConnectAsked => Event::alone(CONNECT_ASKED),
+            Entry::DisconnectAsked => Event::alone(DISCONNECT_ASKED),
+            Entry::LinkUp => Event::alone(LINK_UP),
+            Entry::LinkDown(reason) => Event {
+                reason: number_of_reason(*reason),
+                ..Event::alone(LINK_DOWN)
+            },
+            Entry::WasRestarted { cause, diagnostic } => Event {
+                cause: *cause,
+                diagnostic: *diagnostic,
+                ..Event::alone(RESTARTED)
+            },
+            Entry::RestartDone => Event::alone(RESTART_DONE),
+            Entry::Fault { diagnostic } => Event {
+                diagnostic: *diagnostic,
+                ..Event::alone(FAULT)
+            },
+            Entry::Beside { channel, user, .. } => Event {
+                count: user.len(),
+                ..Event::on(BESIDE, *channel)
+            },
+            Entry::Diagnosed { diagnostic } => Event {
+                diagnostic: *diagnostic,
+                ..Event::alone(DIAGNOSTIC)
+            },
+        }
+    }
+}
+
+fn number_of_reason(reason: Reason) -> u8
+    ensures { result ≡ reason_number reason }
+{
+    match reason {
+        Reason::Retries => 1,
+        Reason::Disc => 2,
+        Reason::Dm => 3,
+        Reason::FrmrSent => 4,
+        Reason::FrmrGot => 5,
+        Reason::Reset => 6,
+        Reason::Local => 7,
+        Reason::Counts => 8,
+    }
+}

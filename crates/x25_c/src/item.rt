@@ -1,0 +1,138 @@
+//! An item of what a station last answered.
+ghost use Rattle.std.specs.Prelude.{◌≡◌, length};
+ghost use Rattle.x25_station.specs.code.PlainEntry.{plain_asked, plain_entry, plain_told};
+ghost use Rattle.x25_c.specs.Copying.{Copies};
+ghost use Rattle.x25_c.specs.Event.{asked_user, entry_user, told_user};
+ghost use Rattle.x25_c.specs.Item.{called_at, calling_at, event_at, facilities_at, octets_at, plain_item};
+
+use crate::copying::{copy, copy_figures};
+use crate::event::{Event, FRAME, TIMER};
+use crate::numbers::timer_number;
+use x25_station::{Asked, Entry, Said, Timer, Told};
+
+/// A frame to send, an entry of the transcript, or what becomes of timer T1.
+#[derive(Clone, Copy)]
+pub(crate) enum Item<'a> {
+    Frame(&'a [u8]),
+    Entry(&'a Entry),
+    Timer(Timer),
+}
+
+impl<'a> Item<'a> {
+    pub(crate) fn event(&self) -> Event
+        ensures { result ≡ event_at (plain_item self.now) }
+    {
+        match self {
+            Item::Frame(octets) => Event {
+                count: octets.len(),
+                ..Event::alone(FRAME)
+            },
+            Item::Entry(entry) => Event::of_entry(entry),
+            Item::Timer(timer) => Event {
+                timer: timer_number(*timer),
+                ..Event::alone(TIMER)
+            },
+        }
+    }
+
+    /// The octets of a frame, or user data.
+    pub(crate) fn octets(&self) -> &[u8]
+        ensures { result.now ≡ octets_at (plain_item self.now) }
+    {
+        match self {
+            Item::Frame(octets) => octets,
+            Item::Entry(entry) => user_of(entry),
+            Item::Timer(_) => &[],
+        }
+    }
+
+    /// Copies the address that is called, in figures.
+    pub(crate) fn called(&self, room: &mut [u8]) -> usize
+        ensures copied { Copies (called_at (plain_item self.now)) room.old room.new }
+        ensures count { result ≡ length (called_at (plain_item self.now)) }
+    {
+        match self {
+            Item::Entry(
+                Entry::OnChannel {
+                    said: Said::Asked(Asked::Call { called, .. }),
+                    ..
+                },
+            ) => copy(called.as_bytes(), room),
+            Item::Entry(
+                Entry::OnChannel {
+                    said: Said::Told(Told::Incoming { called, .. }),
+                    ..
+                },
+            ) => copy_figures(called, room),
+            _ => copy(&[], room),
+        }
+    }
+
+    /// Copies the address that calls, in figures.
+    pub(crate) fn calling(&self, room: &mut [u8]) -> usize
+        ensures copied { Copies (calling_at (plain_item self.now)) room.old room.new }
+        ensures count { result ≡ length (calling_at (plain_item self.now)) }
+    {
+        match self {
+            Item::Entry(
+                Entry::OnChannel {
+                    said: Said::Asked(Asked::Call { calling, .. }),
+                    ..
+                },
+            ) => copy(calling.as_bytes(), room),
+            Item::Entry(
+                Entry::OnChannel {
+                    said: Said::Told(Told::Incoming { calling, .. }),
+                    ..
+                },
+            ) => copy_figures(calling, room),
+            _ => copy(&[], room),
+        }
+    }
+
+    /// The facility field that came beside.
+    pub(crate) fn facilities(&self) -> &[u8]
+        ensures { result.now ≡ facilities_at (plain_item self.now) }
+    {
+        match self {
+            Item::Entry(Entry::Beside { facilities, .. }) => facilities,
+            _ => &[],
+        }
+    }
+}
+
+fn user_of(entry: &Entry) -> &[u8]
+    ensures { result.now ≡ entry_user (plain_entry entry.now) }
+{
+    match entry {
+        Entry::OnChannel {
+            said: Said::Asked(asked),
+            ..
+        } => user_asked(asked),
+        Entry::OnChannel {
+            said: Said::Told(told),
+            ..
+        } => user_told(told),
+        Entry::Beside { user, .. } => user,
+        _ => &[],
+    }
+}
+
+fn user_asked(asked: &Asked) -> &[u8]
+    ensures { result.now ≡ asked_user (plain_asked asked.now) }
+{
+    match asked {
+        Asked::Call { user, .. } | Asked::Send { user, .. } | Asked::Interrupt { user } => user,
+        _ => &[],
+    }
+}
+
+fn user_told(told: &Told) -> &[u8]
+    ensures { result.now ≡ told_user (plain_told told.now) }
+{
+    match told {
+        Told::Incoming { user, .. } | Told::Interrupted { user } => user,
+        Told::Delivered(message) => message.user.as_slice(),
+        _ => &[],
+    }
+}

@@ -1,0 +1,26 @@
+//! Answers as the numbers that a C program takes.
+ghost use Rattle.std.specs.Prelude.{◌≡◌};
+ghost use Rattle.x25_c.specs.Slot.{number_in, number_of_timer};
+
+use x25_station::{StationError, Timer};
+
+/// The number of how a call ended: 0, or that of its error.
+pub(crate) fn number_of(answer: Result<(), StationError>) -> u32
+    ensures { result ≡ number_in answer }
+{
+    match answer {
+        Ok(()) => 0,
+        Err(error) => u32::from(error.number()),
+    }
+}
+
+/// The number of what becomes of timer T1.
+pub(crate) fn timer_number(timer: Timer) -> u32
+    ensures { result ≡ number_of_timer timer }
+{
+    match timer {
+        Timer::Off => 0,
+        Timer::Begins => 1,
+        Timer::GoesOn => 2,
+    }
+}

@@ -1,0 +1,122 @@
+#!/usr/bin/env python3
+"""Plays a tunnel of examples/ at each end of a relay that loses datagrams, with clients that send octets to an echo and get them back.
+
+    tunnels.py NEAR FAR [--loss PERCENT] [--clients N] [--octets N] [--seed N]
+
+NEAR and FAR are commands, as 'python3 examples/python/tunnel.py'. A client ends what it sends and reads to the end; the exit status is 0
+where each has got its own octets back, and 1 else.
+"""
+
+import argparse
+import os
+import random
+import select
+import shlex
+import socket
+import subprocess
+import sys
+import tempfile
+import threading
+import time
+
+SECONDS = 120
+
+
+def free_ports(count):
+    """Ports of UDP that nobody has."""
+    made = [socket.socket(socket.AF_INET, socket.SOCK_DGRAM) for _ in range(count)]
+    for one in made:
+        one.bind(("127.0.0.1", 0))
+    ports = [one.getsockname()[1] for one in made]
+    for one in made:
+        one.close()
+    return ports
+
+
+def relay(near, far, ends, loss, seed):
+    """Passes datagrams on from each port to the end behind the other, but for those that it loses, until the process ends."""
+    draw = random.Random(seed).random
+    sides = [socket.socket(socket.AF_INET, socket.SOCK_DGRAM) for _ in range(2)]
+    for side, port in zip(sides, (near, far)):
+        side.bind(("127.0.0.1", port))
+    while True:
+        for side in select.select(sides, [], [])[0]:
+            octets = side.recv(1 << 16)
+            if draw() >= loss:
+                other = sides.index(side) ^ 1
+                sides[other].sendto(octets, ("127.0.0.1", ends[other]))
+
+
+def echo(path):
+    """A server that gives each client its octets back, and ends behind it."""
+    server = socket.socket(socket.AF_UNIX)
+    server.bind(path)
+    server.listen(32)
+
+    def serve(client):
+        while octets := client.recv(1 << 16):
+            client.sendall(octets)
+        client.close()
+
+    while True:
+        threading.Thread(target=serve, args=(server.accept()[0],), daemon=True).start()
+
+
+def client(path, octets, got):
+    """Sends octets, while what comes is read to its end."""
+    one = socket.socket(socket.AF_UNIX)
+    one.settimeout(SECONDS)
+    while one.connect_ex(path):
+        time.sleep(0.05)
+
+    def send():
+        one.sendall(octets)
+        one.shutdown(socket.SHUT_WR)
+
+    threading.Thread(target=send, daemon=True).start()
+    come = b""
+    while more := one.recv(1 << 16):
+        come += more
+    got.append(come == octets)
+
+
+def run(near, far, loss=0.1, clients=16, octets=20_000, seed=1):
+    """Runs two tunnels, two lists of words; answers how many clients got back what they sent."""
+    draw, got = random.Random(seed), []
+    with tempfile.TemporaryDirectory() as folder:
+        a, b, at_a, at_b = free_ports(4)
+        paths = [os.path.join(folder, name) for name in ("near", "far")]
+        for target, words in (relay, (at_a, at_b, (a, b), loss, seed)), (echo, (paths[1],)):
+            threading.Thread(target=target, args=words, daemon=True).start()
+        children = [
+            subprocess.Popen([*far, "dce", str(b), str(at_b), "connect", paths[1]]),
+            subprocess.Popen([*near, "dte", str(a), str(at_a), "listen", paths[0]]),
+        ]
+        threads = [threading.Thread(target=client, args=(paths[0], draw.randbytes(octets), got), daemon=True) for _ in range(clients)]
+        for thread in threads:
+            thread.start()
+        for thread in threads:
+            thread.join(SECONDS)
+        for child in children:
+            child.kill()
+            child.wait()
+    return got.count(True)
+
+
+def main():
+    parser = argparse.ArgumentParser(description=__doc__, formatter_class=argparse.RawDescriptionHelpFormatter)
+    parser.add_argument("near", metavar="NEAR")
+    parser.add_argument("far", metavar="FAR")
+    parser.add_argument("--loss", type=int, default=10, metavar="PERCENT")
+    parser.add_argument("--clients", type=int, default=16, metavar="N")
+    parser.add_argument("--octets", type=int, default=20_000, metavar="N")
+    parser.add_argument("--seed", type=int, default=1, metavar="N")
+    words = parser.parse_args()
+    begun = time.monotonic()
+    good = run(shlex.split(words.near), shlex.split(words.far), words.loss / 100, words.clients, words.octets, words.seed)
+    print(f"{good} of {words.clients} clients got their {words.octets} octets back, {time.monotonic() - begun:.1f} s")
+    return 0 if good == words.clients else 1
+
+
+if __name__ == "__main__":
+    sys.exit(main())
