@@ -135,7 +135,7 @@ SCRIPTS = x25dump:x25dump pcap2x25:pcap2x25 x25pcap:x25pcap x25bridge:bridge x25
 install:
 	@test -x $(PROGRAM) || { echo "There is no $(PROGRAM): make x25 leaves it there." >&2; exit 1; }
 	install -d $(INSTALLED)/bin $(INSTALLED)/lib/x25 $(INSTALLED)/share/man/man1 $(INSTALLED)/share/bash-completion/completions
-	install -d $(DOCUMENTS)/examples/embed $(DOCUMENTS)/examples/c $(DOCUMENTS)/examples/python
+	install -d $(DOCUMENTS)/examples/embed $(DOCUMENTS)/examples/c $(DOCUMENTS)/examples/python $(DOCUMENTS)/examples/rust/src
 	install -m 755 $(PROGRAM) $(INSTALLED)/bin/x25
 	install -m 644 $(filter-out tools/manpage.py,$(wildcard tools/*.py)) $(INSTALLED)/lib/x25
 	for pair in $(SCRIPTS); do \
@@ -153,7 +153,7 @@ install:
 	    python3 tools/manpage.py --text --prefix $(PREFIX) $$document > $(DOCUMENTS)/$${document#docs/} && chmod 644 $(DOCUMENTS)/$${document#docs/} || exit $$?; \
 	done
 	install -m 644 $(wildcard examples/*.*) $(DOCUMENTS)/examples
-	for folder in embed c python; do install -m 644 examples/$$folder/*.* $(DOCUMENTS)/examples/$$folder || exit $$?; done
+	for folder in embed c python rust rust/src; do install -m 644 examples/$$folder/*.* $(DOCUMENTS)/examples/$$folder || exit $$?; done
 	if [ -e $(dir $(PROGRAM))commit ]; then install -m 644 $(dir $(PROGRAM))commit $(DOCUMENTS)/COMMIT; fi
 	if [ -e $(LIBRARY)/libx25.so ]; then $(MAKE) --no-print-directory install-lib; fi
 

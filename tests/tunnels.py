@@ -8,6 +8,7 @@ where each has got its own octets back, and 1 else.
 """
 
 import argparse
+import contextlib
 import os
 import random
 import select
@@ -33,65 +34,66 @@ def free_ports(count):
     return ports
 
 
-def relay(near, far, ends, loss, seed):
-    """Passes datagrams on from each port to the end behind the other, but for those that it loses, until the process ends."""
+def relay(near, far, ends, loss, seed, is_over):
+    """Passes datagrams on from each port to the end behind the other, but for those that it loses, until it is over."""
     draw = random.Random(seed).random
-    sides = [socket.socket(socket.AF_INET, socket.SOCK_DGRAM) for _ in range(2)]
-    for side, port in zip(sides, (near, far)):
-        side.bind(("127.0.0.1", port))
-    while True:
-        for side in select.select(sides, [], [])[0]:
-            octets = side.recv(1 << 16)
-            if draw() >= loss:
-                other = sides.index(side) ^ 1
-                sides[other].sendto(octets, ("127.0.0.1", ends[other]))
+    with socket.socket(socket.AF_INET, socket.SOCK_DGRAM) as one, socket.socket(socket.AF_INET, socket.SOCK_DGRAM) as other:
+        sides = one, other
+        for side, port in zip(sides, (near, far)):
+            side.bind(("127.0.0.1", port))
+        while not is_over.is_set():
+            for side in select.select(sides, [], [], 0.1)[0]:
+                octets, there = side.recv(1 << 16), sides.index(side) ^ 1
+                if draw() >= loss:
+                    sides[there].sendto(octets, ("127.0.0.1", ends[there]))
 
 
-def echo(path):
-    """A server that gives each client its octets back, and ends behind it."""
-    server = socket.socket(socket.AF_UNIX)
-    server.bind(path)
-    server.listen(32)
+def echo(server):
+    """Gives each client of a server its octets back, and ends behind it, until the server is closed."""
 
     def serve(client):
-        while octets := client.recv(1 << 16):
-            client.sendall(octets)
-        client.close()
+        with client:
+            while octets := client.recv(1 << 16):
+                client.sendall(octets)
 
-    while True:
-        threading.Thread(target=serve, args=(server.accept()[0],), daemon=True).start()
+    with contextlib.suppress(OSError):
+        while True:
+            threading.Thread(target=serve, args=(server.accept()[0],), daemon=True).start()
 
 
 def client(path, octets, got):
     """Sends octets, while what comes is read to its end."""
-    one = socket.socket(socket.AF_UNIX)
-    one.settimeout(SECONDS)
-    while one.connect_ex(path):
-        time.sleep(0.05)
+    with socket.socket(socket.AF_UNIX) as one:
+        one.settimeout(SECONDS)
+        while one.connect_ex(path):
+            time.sleep(0.05)
 
-    def send():
-        one.sendall(octets)
-        one.shutdown(socket.SHUT_WR)
+        def send():
+            one.sendall(octets)
+            one.shutdown(socket.SHUT_WR)
 
-    threading.Thread(target=send, daemon=True).start()
-    come = b""
-    while more := one.recv(1 << 16):
-        come += more
-    got.append(come == octets)
+        sender = threading.Thread(target=send, daemon=True)
+        sender.start()
+        come = b""
+        while more := one.recv(1 << 16):
+            come += more
+        sender.join(SECONDS)
+        got.append(come == octets)
 
 
 def run(near, far, loss=0.1, clients=16, octets=20_000, seed=1):
     """Runs two tunnels, two lists of words; answers how many clients got back what they sent."""
-    draw, got = random.Random(seed), []
-    with tempfile.TemporaryDirectory() as folder:
+    draw, got, is_over = random.Random(seed), [], threading.Event()
+    with tempfile.TemporaryDirectory() as folder, socket.socket(socket.AF_UNIX) as server:
         a, b, at_a, at_b = free_ports(4)
         paths = [os.path.join(folder, name) for name in ("near", "far")]
-        for target, words in (relay, (at_a, at_b, (a, b), loss, seed)), (echo, (paths[1],)):
-            threading.Thread(target=target, args=words, daemon=True).start()
-        children = [
-            subprocess.Popen([*far, "dce", str(b), str(at_b), "connect", paths[1]]),
-            subprocess.Popen([*near, "dte", str(a), str(at_a), "listen", paths[0]]),
-        ]
+        server.bind(paths[1])
+        server.listen(clients)
+        line = threading.Thread(target=relay, args=(at_a, at_b, (a, b), loss, seed, is_over))
+        line.start()
+        threading.Thread(target=echo, args=(server,), daemon=True).start()
+        commands = [*far, "dce", str(b), str(at_b), "connect", paths[1]], [*near, "dte", str(a), str(at_a), "listen", paths[0]]
+        children = [subprocess.Popen(command) for command in commands]
         threads = [threading.Thread(target=client, args=(paths[0], draw.randbytes(octets), got), daemon=True) for _ in range(clients)]
         for thread in threads:
             thread.start()
@@ -100,6 +102,9 @@ def run(near, far, loss=0.1, clients=16, octets=20_000, seed=1):
         for child in children:
             child.kill()
             child.wait()
+        is_over.set()
+        line.join()
+        server.shutdown(socket.SHUT_RDWR)
     return got.count(True)
 
 

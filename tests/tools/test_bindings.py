@@ -19,6 +19,7 @@ from test_c import PROTOTYPE
 
 import linked
 import piped
+import tunnels
 import x25  # where linked finds it
 from x25lines import BadInput
 
@@ -130,52 +131,59 @@ class Rust(ToolCase):
 
 
 @needs_library
-@support.needs_station
 class Examples(ToolCase):
-    SOURCE = os.path.join(support.ROOT, "examples", "python", "station.py")
-    # Commands of the DTE, each with what has to be told before the next one.
-    TALK = [
-        ("connect", "dte restarted"),
-        ("call 123 4567 41", "dte connected ch=1"),
-        ("send 1 0 68656c6c6f", "dte message ch=1 at 1.0.0 q=0 data=6869"),
-        ("sing", "! 60: no command"),
-    ]
+    """The tunnels of examples/, of the same or of two languages, over a line that loses a tenth of what it carries."""
 
-    def talk(self, *command, far=(), **environment):
-        """Plays a station on a line of TCP with a bridge at the other end, which answers a message."""
-        answers = b"wait dce incoming\ndce accept 1\nwait dce message\ndce send 1 0 6869\n"
-        commands = self.file("commands", answers)
-        station = far or ["--x25", support.PROGRAM]
-        bridge = [sys.executable, os.path.join(support.TOOLS, "bridge.py"), "dce", "--listen", "0", "--commands", commands, *station]
-        with subprocess.Popen(bridge, stdout=subprocess.PIPE, stderr=subprocess.PIPE, text=True) as far:
-            port = far.stderr.readline().rpartition(":")[2].strip()
-            with subprocess.Popen(
-                [*command, "dte", "127.0.0.1", port], stdin=subprocess.PIPE, stdout=subprocess.PIPE, text=True, env={**os.environ, **environment}
-            ) as near:
-                told = []
-                for asked, awaited in self.TALK:
-                    near.stdin.write(f"{asked}\n")
-                    near.stdin.flush()
-                    while not told or not told[-1].startswith(awaited):
-                        told.append(near.stdout.readline())
-                        self.assertTrue(told[-1], f"{awaited} didn't come behind {told}")
-                near.stdin.close()
-                self.assertEqual(near.wait(30), 0)
-            self.assertIn("dce message ch=1 at 1.0.0 q=0 data=68656c6c6f\n", far.communicate(timeout=60)[0])
+    FOLDER = os.path.join(support.ROOT, "examples")
 
-    @unittest.skipUnless(shutil.which("cc"), "there is no C compiler")
-    def test_the_one_in_c(self):
-        path = f"{self.folder}/station"
-        source = os.path.join(support.ROOT, "examples", "c", "station.c")
+    def in_c(self):
+        path, source = f"{self.folder}/tunnel", os.path.join(self.FOLDER, "c", "tunnel.c")
         words = ["-std=gnu11", "-Wall", "-Wextra", "-Werror", "-O1", f"-I{support.ROOT}/include", source, ARCHIVE, "-o", path]
         subprocess.run(["cc", *words], check=True)
-        self.talk(path)
+        return [path]
 
-    def test_the_one_in_python(self):
-        self.talk(sys.executable, self.SOURCE, X25_SO=LIBRARY, PYTHONPATH=BINDING)
+    def in_python(self):
+        return ["env", f"X25_SO={LIBRARY}", f"PYTHONPATH={BINDING}", sys.executable, os.path.join(self.FOLDER, "python", "tunnel.py")]
+
+    def in_rust(self):
+        for name, source in ("bindings/rust", RUST), ("examples/rust", os.path.join(self.FOLDER, "rust")):
+            shutil.copytree(source, f"{self.folder}/{name}", ignore=shutil.ignore_patterns("target"))
+        environment = {**os.environ, "X25_LIBRARY": os.path.dirname(ARCHIVE)}
+        subprocess.run(["cargo", "build", "--offline", "-q"], cwd=f"{self.folder}/examples/rust", env=environment, check=True)
+        return [f"{self.folder}/examples/rust/target/debug/tunnel"]
+
+    @unittest.skipUnless(shutil.which("cc"), "there is no C compiler")
+    def test_one_in_c_and_one_in_python(self):
+        near, far = self.in_c(), self.in_python()
+        self.assertEqual((tunnels.run(near, far), tunnels.run(far, near)), (16, 16))
+
+    @unittest.skipUnless(shutil.which("cargo"), "there is no cargo")
+    def test_two_in_rust(self):
+        words = self.in_rust()
+        self.assertEqual(tunnels.run(words, words), 16)
+
+    def test_they_are_short(self):
+        for name in "c/tunnel.c", "python/tunnel.py", "rust/src/main.rs":
+            self.assertLess(support.read(f"examples/{name}").count(b"\n"), 150, name)
+
+
+@needs_library
+@support.needs_station
+class Bridges(ToolCase):
+    def bridge(self, end, commands, *words):
+        """A bridge of an end, with commands of its own."""
+        command = [sys.executable, os.path.join(support.TOOLS, "bridge.py"), end, "--commands", self.file(end, commands), *words]
+        return subprocess.Popen(command, stdout=subprocess.PIPE, stderr=subprocess.PIPE, text=True)
 
     def test_a_bridge_over_the_library(self):
-        self.talk(sys.executable, self.SOURCE, far=["--library", LIBRARY], X25_SO=LIBRARY, PYTHONPATH=BINDING)
+        """It talks to one over the program."""
+        answers = b"wait dce incoming\ndce accept 1\nwait dce message\ndce send 1 0 6869\n"
+        asks = b"dte connect\nwait dte restarted\ndte call 123 4567 41\nwait dte connected\ndte send 1 0 68656c6c6f\nwait dte message\ndte sing\n"
+        with self.bridge("dce", answers, "--listen", "0", "--library", LIBRARY) as far:
+            port = far.stderr.readline().rpartition(":")[2].strip()
+            with self.bridge("dte", asks, "--connect", f"127.0.0.1:{port}", "--x25", support.PROGRAM) as near:
+                self.assertIn("dte message ch=1 at 1.0.0 q=0 data=6869\n", near.communicate(timeout=60)[0])
+            self.assertIn("dce message ch=1 at 1.0.0 q=0 data=68656c6c6f\n", far.communicate(timeout=60)[0])
 
 
 @needs_library
