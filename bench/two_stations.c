@@ -1,13 +1,13 @@
-/* Two stations in memory, from C: the user of the one sends messages, and what each puts on the line arrives at the other at once.
+/* Two stations in memory, from C: the user of the one sends messages, and what each puts on the line arrives at the other at once,
+ * whose user reads it.
  *
  *     two_stations COUNT LENGTH     writes how many messages were delivered
  */
 #include "x25.h"
 #include <stdio.h>
 #include <stdlib.h>
-#include <string.h>
 
-enum { ROOM = 4103, MOST = 64 };
+enum { ROOM = 65536, MOST = 64 };
 
 static x25_station stations[2];
 static uint8_t octets[2][MOST][ROOM];    /* frames on their way from each */
@@ -22,15 +22,15 @@ static void check(uint32_t number)
     }
 }
 
-/* What a call answered goes on the line. */
+/* What a call answered is read, and its frames go on the line. */
 static void take(int end)
 {
-    for (size_t i = 0, all = x25_frames(&stations[end]); i < all; i++) {
-        size_t place = waiting[end]++ % MOST;
-        counts[end][place] = x25_frame(&stations[end], i, octets[end][place], ROOM);
+    x25_event event;
+    for (size_t i = 0; x25_take(&stations[end], i, &event, octets[end][waiting[end] % MOST], ROOM); i++) {
+        if (event.kind == X25_EVENT_FRAME)
+            counts[end][waiting[end]++ % MOST] = event.count;
+        delivered += event.kind == X25_EVENT_MESSAGE;
     }
-    if (end == 1)
-        delivered += (long)x25_entries(&stations[end]);
 }
 
 /* All frames arrive, and those that are answered, until there is none. */
@@ -48,27 +48,27 @@ static void arrive(void)
     }
 }
 
-static void ask(int end, const char *text)
-{
-    check(x25_command(&stations[end], (const uint8_t *)text, strlen(text)));
-    take(end);
-    arrive();
-}
-
 int main(int argc, char **argv)
 {
     static uint8_t message[65535];
     long count = argc > 1 ? atol(argv[1]) : 1;
     size_t length = argc > 2 ? (size_t)atol(argv[2]) : 3;
     x25_settings settings = {.k = 7, .n2 = 10, .channels = 1};
+    x25_sizes sizes = {0, 0, 0, 0};
+    uint16_t channel;
     check(x25_new(&stations[0], X25_DTE, settings));
     check(x25_new(&stations[1], X25_DCE, settings));
-    ask(0, "connect");
-    ask(0, "call 1 2 -");
-    ask(1, "accept 1");
-    delivered = 0;
+    check(x25_connect(&stations[0]));
+    take(0);
+    arrive();
+    check(x25_call(&stations[0], "1", 1, "2", 1, NULL, 0, sizes, &channel));
+    take(0);
+    arrive();
+    check(x25_accept(&stations[1], channel, sizes));
+    take(1);
+    arrive();
     for (long i = 0; i < count; i++) {
-        check(x25_send(&stations[0], 1, false, message, length));
+        check(x25_send(&stations[0], channel, false, message, length));
         take(0);
         arrive();
     }

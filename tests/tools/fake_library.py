@@ -3,6 +3,9 @@
 import ctypes
 import time
 
+import linked  # noqa: F401, which finds x25
+import x25
+
 FRAME, TIMER = 1, 2
 
 
@@ -36,6 +39,7 @@ class Library:
         time.sleep(0)
         if i >= len(self.items):
             return False
+        event = x25._Event.from_address(event)
         event.kind, octets, event.timer = self.items[i]
         event.count = len(octets)
         ctypes.memmove(room, octets, len(octets))

@@ -189,7 +189,8 @@ class _Event(ctypes.Structure):
     ]
 
 
-_STATION, _ROOM, _SIZE = ctypes.POINTER(_Slot), ctypes.c_void_p, ctypes.c_size_t
+# Pointers go as addresses, which takes a fifth of the time of a structure.
+_STATION, _ROOM, _SIZE = ctypes.c_void_p, ctypes.c_void_p, ctypes.c_size_t
 _OCTETS = [ctypes.c_char_p, _SIZE]
 _AT = [_STATION, _SIZE, _ROOM, _SIZE]
 # The functions of x25.h: parameters and result.
@@ -212,7 +213,7 @@ _FUNCTIONS: dict[str, tuple[list[Any], Any]] = {
     "receive": ([_STATION, *_OCTETS], ctypes.c_uint32),
     "send": ([_STATION, ctypes.c_uint16, ctypes.c_bool, *_OCTETS], ctypes.c_uint32),
     "command": ([_STATION, *_OCTETS], ctypes.c_uint32),
-    "take": ([_STATION, _SIZE, ctypes.POINTER(_Event), _ROOM, _SIZE], ctypes.c_bool),
+    "take": ([_STATION, _SIZE, ctypes.c_void_p, _ROOM, _SIZE], ctypes.c_bool),
     "called": (_AT, _SIZE),
     "calling": (_AT, _SIZE),
     "facilities": (_AT, _SIZE),
@@ -227,6 +228,8 @@ _FUNCTIONS: dict[str, tuple[list[Any], Any]] = {
     "refusal_text": ([ctypes.c_uint32, _ROOM, _SIZE], _SIZE),
 }
 _FRAME, _TIMER = 1, 2
+_ROOM_SIZE = 1 << 18
+_TIMERS = tuple(Timer)
 _WITH_STRETCH = {Kind.INCOMING, Kind.CALL_ASKED, Kind.MESSAGE, Kind.SEND_ASKED, Kind.INTERRUPT, Kind.INTERRUPT_ASKED}
 _WITH_SIZES = {Kind.INCOMING, Kind.CALL_ASKED, Kind.CONNECTED, Kind.ACCEPT_ASKED}
 _WITH_ADDRESSES = {Kind.INCOMING, Kind.CALL_ASKED}
@@ -274,8 +277,9 @@ class Station:
     ) -> None:
         # It is held from a call to the end of its answer.
         self._lock = threading.RLock()
-        self._library, self._slot, self._event = load(library), _Slot(), _Event()
-        self._room = ctypes.create_string_buffer(1 << 18)
+        self._library, self._held, self._event = load(library), _Slot(), _Event()
+        self._buffer = ctypes.create_string_buffer(_ROOM_SIZE)
+        self._slot, self._told_at, self._room = map(ctypes.addressof, (self._held, self._event, self._buffer))
         self._check(0 if all(0 <= setting < 256 for setting in (end, k, n2, channels)) else 14)
         self._check(self._library.x25_new(self._slot, end, _Settings(k, n2, channels, long_data, say_sizes, wide)))
 
@@ -376,7 +380,7 @@ class Station:
         count, lines = ctypes.c_size_t(), []
         with self._lock:
             for i in range(self._library.x25_entries(self._slot)):
-                self._check(self._library.x25_entry(self._slot, i, self._room, len(self._room), count))
+                self._check(self._library.x25_entry(self._slot, i, self._room, _ROOM_SIZE, count))
                 lines.append(self._octets(count.value).decode())
         return lines
 
@@ -412,7 +416,7 @@ class Station:
     def _check(self, number: int) -> None:
         if number:
             with self._lock:
-                count = self._library.x25_refusal_text(number, self._room, len(self._room))
+                count = self._library.x25_refusal_text(number, self._room, _ROOM_SIZE)
                 raise Refused(number, self._octets(count).decode())
 
     def _on(self, function: Callable[..., int], channel: int, *words: Any) -> Answer:
@@ -424,18 +428,21 @@ class Station:
         """Makes a call and takes its answer, while no other thread is in one."""
         frames: list[bytes] = []
         events: list[Event] = []
-        timer, i, event, room = Timer.GOES_ON, 0, self._event, self._room
+        take, slot, event, at, room, i = self._library.x25_take, self._slot, self._event, self._told_at, self._room, 0
         with self._lock:
-            self._check(function(self._slot, *words))
-            while self._library.x25_take(self._slot, i, event, room, len(room)):
-                if event.kind == _FRAME:
-                    frames.append(self._octets(event.count))
-                elif event.kind == _TIMER:
-                    timer = Timer(event.timer)
+            number = function(slot, *words)
+            if number:
+                self._check(number)
+            while take(slot, i, at, room, _ROOM_SIZE):
+                kind = event.kind
+                if kind == _FRAME:
+                    frames.append(ctypes.string_at(room, event.count))
+                elif kind == _TIMER:  # the last item
+                    return Answer(frames, events, _TIMERS[event.timer])
                 else:
-                    events.append(self._told(i, Kind(event.kind), event))
+                    events.append(self._told(i, Kind(kind), event))
                 i += 1
-        return Answer(frames, events, timer)
+        return Answer(frames, events, Timer.GOES_ON)
 
     def _told(self, i: int, kind: Kind, event: Any) -> Event:
         """The event that stands in a place of the answer, whose user data lie in the room."""
@@ -461,7 +468,7 @@ class Station:
         )
 
     def _part(self, read: Callable[..., int], i: int) -> bytes:
-        return self._octets(read(self._slot, i, self._room, len(self._room)))
+        return self._octets(read(self._slot, i, self._room, _ROOM_SIZE))
 
 
 def _sizes(sizes: Sizes | None) -> _Sizes:
