@@ -203,6 +203,21 @@ class InstalledLibrary(ToolCase):
         self.assertEqual(len(found), 1)
         return found[0]
 
+    def test_the_packages_of_debian_share_out_what_is_installed(self):
+        there, words = f"{self.folder}/tmp", ("PREFIX=/usr", "LIBDIR=/usr/lib/some", "PYTHONDIR=/usr/lib/python3/dist-packages")
+        self.assertEqual(make("install-lib", f"DESTDIR={there}", f"LIBRARY={self.folder}", *words).returncode, 0)
+        for word in words[2:]:
+            self.assertIn(word, support.read("debian/rules").decode())
+        taken = []
+        for name in re.findall(r"^Package: (\S*x25-\S+|python3-x25)$", support.read("debian/control").decode(), re.MULTILINE):
+            for pattern in support.read(f"debian/{name}.install").decode().split():
+                found = glob(f"{there}/{pattern}")
+                self.assertEqual(len(found), 1, pattern)
+                inside = [os.path.join(folder, file) for folder, _, files in os.walk(found[0]) for file in files]
+                taken += inside if os.path.isdir(found[0]) and not os.path.islink(found[0]) else found
+        installed = [os.path.join(folder, name) for folder, folders, files in os.walk(there) for name in files + [one for one in folders if os.path.islink(f"{folder}/{one}")]]
+        self.assertEqual(sorted(taken), sorted(installed))
+
     def test_it_says_what_is_left_to_do_on_the_system_itself(self):
         done = make("install-lib", f"PREFIX={self.folder}/here", f"LIBRARY={self.folder}")
         self.assertEqual(done.stdout, f"Now run ldconfig, as root: it lets programs find {self.folder}/here/lib/libx25.so.1.\n")
