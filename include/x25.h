@@ -12,7 +12,7 @@
  * may answer X25_NO_STATION and X25_NO_MEMORY; what else one answers stands beside it.
  *
  * An answer has at most 24 frames of at most 4,103 octets, and 3 events, of which one has at most 65,535 octets. Reading it
- * takes no memory, but for x25_entry.
+ * takes no memory, but for x25_entry. A station takes some 80 kB, and some 10 MB with all that may wait on 16 channels.
  *
  * What the library can't see, and the program has to keep:
  * - An x25_station that holds a station isn't copied, only the library reads and writes its fields, and it is in one call at

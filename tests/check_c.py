@@ -4,8 +4,8 @@
     check_c.py [--library FOLDER] [--calls N]
 
 `main` has to print what `crates/x25_embed` does; `refused` refuses each allocation of a call in turn, and makes the calls again;
-`random` makes calls of all kinds in any order, N of them, 1,000,000 where N isn't given; `threads` has stations go from thread to thread.
-Each is compiled as C11 with all warnings, and run as it is, under the address and the undefined-behaviour sanitizer and under that of
+`random` makes calls of all kinds in any order, N of them, 1,000,000 where N isn't given; `threads` has stations go from thread to thread;
+`memory` says how much a station takes. Each is compiled as C11 with all warnings, and run as it is, under the address and the undefined-behaviour sanitizer and under that of
 threads, where the compiler has these, and under valgrind where that is there. The header has to be one of C from C99 on and of C++
 from C++11 on, as far as the compilers know these.
 
@@ -38,7 +38,7 @@ CALLS = 1_000_000
 def compiled(name, library, folder, *flags):
     """The path of a program of tests/c, compiled over the library in a folder."""
     path = os.path.join(folder, name)
-    wrapped = ["-Wl,--wrap=malloc,--wrap=realloc"] if name == "refused" else []
+    wrapped = {"refused": ["-Wl,--wrap=malloc,--wrap=realloc"], "memory": ["-Wl,--wrap=malloc,--wrap=realloc,--wrap=free"]}.get(name, [])
     source = os.path.join(SOURCES, f"{name}.c")
     subprocess.run(["cc", *STRICT, *flags, f"-I{INCLUDE}", source, library, "-pthread", *wrapped, "-o", path], check=True)
     return path
@@ -70,7 +70,7 @@ def runs_of(calls):
     with open(os.path.join(ROOT, "crates", "x25_embed", "stdout")) as file:
         told = file.read()
     randoms = (("random", [str(seed), str(calls // 4)], None) for seed in range(1, 5))
-    return [("main", [], told), ("refused", [], None), ("threads", [], None), *randoms]
+    return [("main", [], told), ("refused", [], None), ("threads", [], None), ("memory", [], None), *randoms]
 
 
 def headers():
@@ -91,7 +91,7 @@ def run(library, calls=CALLS):
     wrong = 0
     with tempfile.TemporaryDirectory() as folder:
         for way, flags, before in ways(folder):
-            programs = {name: compiled(name, library, folder, *flags) for name in ("main", "refused", "threads", "random")}
+            programs = {name: compiled(name, library, folder, *flags) for name in ("main", "refused", "threads", "memory", "random")}
             for name, words, wanted in runs_of(calls // SLOWNESS if before else calls):
                 done = subprocess.run([*before, programs[name], *words], capture_output=True, text=True)
                 good = done.returncode == 0 and not done.stderr and wanted in (None, done.stdout)
