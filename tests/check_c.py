@@ -30,8 +30,6 @@ OF_THREADS = ["-fsanitize=thread"]
 PEDANTIC = ["-Wall", "-Wextra", "-pedantic", "-Werror"]
 STANDARDS = {"cc": ("c", "c99", "c11", "c17", "c2x"), "c++": ("c++", "c++11", "c++14", "c++17", "c++20")}
 VALGRIND = ["valgrind", "-q", "--error-exitcode=9", "--leak-check=full", "--show-leak-kinds=all"]
-# How many times fewer random calls are made under valgrind.
-SLOWNESS = 50
 CALLS = 1_000_000
 
 
@@ -54,14 +52,15 @@ def has_sanitizers(folder, flags):
 
 
 def ways(folder):
-    """The ways in which the programs are run here: a name, flags of the compiler, and what stands before the program."""
-    found = [("as it is", [], [])]
+    """The ways in which the programs are run here: a name, flags of the compiler, what stands before the program, and how many times
+    fewer random calls are made."""
+    found = [("as it is", [], [], 1)]
     if has_sanitizers(folder, SANITIZERS):
-        found.append(("under the sanitizers", SANITIZERS, []))
+        found.append(("under the sanitizers", SANITIZERS, [], 10))
     if has_sanitizers(folder, OF_THREADS):
-        found.append(("under that of threads", OF_THREADS, []))
+        found.append(("under that of threads", OF_THREADS, [], 10))
     if shutil.which("valgrind"):
-        found.append(("under valgrind", [], VALGRIND))
+        found.append(("under valgrind", [], VALGRIND, 200))
     return found
 
 
@@ -90,9 +89,9 @@ def run(library, calls=CALLS):
     """Compiles and runs all, and says what each printed; answers how many runs went wrong."""
     wrong = 0
     with tempfile.TemporaryDirectory() as folder:
-        for way, flags, before in ways(folder):
+        for way, flags, before, fewer in ways(folder):
             programs = {name: compiled(name, library, folder, *flags) for name in ("main", "refused", "threads", "memory", "random")}
-            for name, words, wanted in runs_of(calls // SLOWNESS if before else calls):
+            for name, words, wanted in runs_of(calls // fewer):
                 done = subprocess.run([*before, programs[name], *words], capture_output=True, text=True)
                 good = done.returncode == 0 and not done.stderr and wanted in (None, done.stdout)
                 wrong += not good

@@ -174,6 +174,32 @@ static void try_forms(bool wide)
     x25_free(&dce.station);
 }
 
+/* An acceptance with a facility that a station doesn't know and an octet of user data: both are told beside it. */
+static void try_beside(void)
+{
+    static const uint8_t ua[] = {0x01, 0x73, 0x83, 0x57}, restart[] = {0x03, 0x00, 0x10, 0x00, 0xfb, 0x07, 0x4c, 0xd4};
+    static const uint8_t acceptance[] = {0x03, 0x42, 0x10, 0x01, 0x0f, 0x11, 0x12, 0x02, 0x02, 0xaa, 0xc0, 0x93, 0x63};
+    x25_settings settings = one_channel;
+    x25_event event;
+    uint8_t room[8];
+    uint16_t channel = 0;
+    settings.wide = true;
+    expect("new", x25_new(&dte.station, X25_DTE, settings), 0);
+    expect("connect", x25_connect(&dte.station), 0);
+    expect("UA", x25_receive(&dte.station, ua, sizeof ua), 0);
+    expect("a restart", x25_receive(&dte.station, restart, sizeof restart), 0);
+    expect("call", x25_call(&dte.station, "1", 1, "2", 1, NULL, 0, (x25_sizes){0, 0, 0, 0}, &channel), 0);
+    expect("its channel", channel, 1);
+    expect("an acceptance", x25_receive(&dte.station, acceptance, sizeof acceptance), 0);
+    size_t i = x25_frames(&dte.station) + 1;
+    expect("beside", x25_take(&dte.station, i, &event, room, sizeof room), true);
+    expect("its kind", event.kind, X25_EVENT_BESIDE);
+    expect("user data", event.count == 1 && room[0] == 0xc0, true);
+    expect("facilities", x25_facilities(&dte.station, i, room, sizeof room) == 2 && room[0] == 0x02 && room[1] == 0xaa, true);
+    expect("no address", (uint32_t)x25_called(&dte.station, i, NULL, 0), 0);
+    x25_free(&dte.station);
+}
+
 int main(void)
 {
     try_texts();
@@ -211,5 +237,6 @@ int main(void)
     try_sizes();
     try_forms(true);
     try_forms(false);
+    try_beside();
     return 0;
 }

@@ -133,7 +133,7 @@ class Programs(unittest.TestCase):
     def test_the_programs_over_the_library(self):
         said = io.StringIO()
         with contextlib.redirect_stdout(said):
-            wrong = check_c.run(LIBRARY, 40_000)
+            wrong = check_c.run(LIBRARY)
         self.assertEqual(wrong, 0, said.getvalue())
         self.assertIn("main as it is: as crates/x25_embed\n", said.getvalue())
         self.assertRegex(said.getvalue(), r"refused as it is: \d{3,} allocations refused in turn, \d{3,} calls made again\n")
