@@ -171,7 +171,7 @@ install-lib:
 	ln -srf $(DESTDIR)$(LIBDIR)/$(SHARED) $(PACKAGE)/libx25.so
 	ln -srfn $(PACKAGE) $(DESTDIR)$(PYTHONDIR)/x25
 	install -m 644 bindings/rust/Cargo.toml bindings/rust/build.rs $(CRATE_OF_RUST)
-	install -m 644 bindings/rust/src/lib.rs $(CRATE_OF_RUST)/src
+	install -m 644 $(wildcard bindings/rust/src/*.rs) $(CRATE_OF_RUST)/src
 	@test -n "$(DESTDIR)" || echo "Now run ldconfig, as root: it lets programs find $(LIBDIR)/$(SHARED)."
 
 uninstall:

@@ -176,7 +176,9 @@ class InstalledLibrary(ToolCase):
         self.assertTrue(os.path.exists(f"{self.there}/lib64/libx25.a"))
         told = support.read(f"{self.there}/lib64/pkgconfig/x25.pc").decode()
         self.assertIn(f"prefix={PREFIX}\nlibdir={PREFIX}/lib64\n", told)
-        self.assertTrue(os.path.exists(f"{self.there}/share/x25/rust/src/lib.rs"))
+        crate = f"{self.there}/share/x25/rust"
+        self.assertEqual(sorted(os.listdir(f"{crate}/src")), sorted(os.listdir(f"{support.ROOT}/bindings/rust/src")))
+        self.assertTrue(os.path.exists(f"{crate}/Cargo.toml") and os.path.exists(f"{crate}/build.rs"))
 
     def test_the_package_of_python_finds_the_library(self):
         place = self.packages()
