@@ -1,6 +1,6 @@
 ghost use Rattle.std.specs.Prelude.{ℕ, ◌≡◌, ◌+◌, ◌*◌, ◌/◌, ◌%◌, ◌^◌, ◌<◌, ◌≤◌, ◌++◌, ◌∷◌, [], ◌==◌, ◌↔◌, Bool, List};
 ghost use Rattle.std.specs.Prelude.{false, length, take, IsTrue, IfOk, OnOk, OnErr, slice_get, slice_index};
-ghost use Rattle.std.specs.Prelude.{slice_index_or};
+ghost use Rattle.std.specs.Prelude.{slice_index_or, vec_capacity};
 ghost use Rattle.x25_bits.specs.code.Prefix.{IsPrefix};
 ghost use Rattle.x25_bits.specs.FrameCheck.{bits_of, low_bits};
 ghost use Rattle.x25_bits.specs.Found.{octets_by, octets_of};
@@ -169,6 +169,7 @@ pub(crate) fn set_bit(octets: &mut Vec<u8>, place: usize, bit: bool)
     requires { place < 8 * length octets.old.items }
     ensures bits { take (place + 1) (bits_of octets.new.items) ≡ take place (bits_of octets.old.items) ++ bit ∷ [] }
     ensures len { length octets.new.items ≡ length octets.old.items }
+    ensures capacity { vec_capacity octets.new ≡ vec_capacity octets.old }
 {
     let at = place / 8;
     octets[at] = with_bit(octets[at], place % 8, bit);
@@ -206,6 +207,7 @@ pub(crate) fn set_octet(octets: &mut Vec<u8>, place: usize, octet: u8)
         → take (place + count) (bits_of octets.new.items) ≡ take place (bits_of octets.old.items)
         ++ low_bits count octet }
     ensures len { length octets.new.items ≡ length octets.old.items }
+    ensures capacity { vec_capacity octets.new ≡ vec_capacity octets.old }
 {
     write_octet(octets.as_mut_slice(), place, octet);
 }

@@ -1,5 +1,5 @@
 //! Whole octets of a content, one after another, up to one in which a flag ends or a seventh 1 bit comes.
-ghost use Rattle.std.specs.Prelude.{◌≡◌, ◌+◌, ◌-◌, ◌*◌, ◌<◌, ◌≤◌, ◌++◌, [], true, false, length, take};
+ghost use Rattle.std.specs.Prelude.{◌≡◌, ◌+◌, ◌-◌, ◌*◌, ◌<◌, ◌≤◌, ◌++◌, [], true, false, length, take, vec_capacity};
 ghost use Rattle.x25_bits.specs.FrameCheck.{bits_of};
 ghost use Rattle.x25_bits.specs.Passing.{PassesOn, kept_from};
 ghost use Rattle.x25_bits.specs.code.FitsSeen.{FitsSeen};
@@ -96,6 +96,7 @@ pub(crate) fn take_whole(
         ++ kept_from scan.run (part (8 * at) (8 * result.end) (bits_of octets.now)) }
     ensures few { result.count ≤ size + 8 * (end - at) }
     ensures len { length memory.new.items ≡ length memory.old.items }
+    ensures capacity { vec_capacity memory.new ≡ vec_capacity memory.old }
 {
     take_into(octets, at, end, scan, memory.as_mut_slice(), size)
 }

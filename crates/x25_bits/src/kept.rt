@@ -1,5 +1,6 @@
 //! The bits that are kept between flags, in memory that was set aside for all of them.
 ghost use Rattle.std.specs.Prelude.{◌≡◌, ◌+◌, ◌-◌, ◌*◌, ◌<◌, ◌≤◌, ◌++◌, ◌∷◌, [], true, length, IfOk};
+ghost use Rattle.std.specs.Prelude.{vec_len, vec_capacity};
 ghost use Rattle.x25_bits.specs.FrameCheck.{bits_of, low_bits};
 ghost use Rattle.x25_bits.specs.Passing.{PassesOn, kept_from};
 ghost use Rattle.x25_bits.specs.Found.{octets_of};
@@ -9,13 +10,13 @@ use crate::bits::{set_bit, set_octet, whole_octets};
 use crate::contents::{Taken, take_whole};
 use crate::no_memory::NoMemory;
 use crate::scan::Scan;
-use std::alloc::Global;
+use std::alloc::{AllocError, Global};
 use std::marker::Model;
 
 /// The octets that 32,832 bits fill.
 const ROOM: usize = 4104;
 
-/// A list of at most 32,832 bits, kept eight in an octet, in memory for all of them.
+/// A list of at most 32,832 bits, kept eight in an octet, in memory for all of them and no more.
 #[derive(Debug, Drop)]
 pub struct Kept {
     octets: Vec<u8>,
@@ -23,14 +24,26 @@ pub struct Kept {
 }
 
 impl Model for Kept {
-    ghost use Rattle.std.specs.Prelude.{◌≡◌, ◌≤◌, Bool, List, length, take};
+    ghost use Rattle.std.specs.Prelude.{◌≡◌, ◌≤◌, Bool, List, length, take, vec_capacity};
     ghost use Rattle.x25_bits.specs.FrameCheck.{bits_of};
 
     ghost Value = { List Bool };
 
     ghost view = { λ k. take k.count (bits_of k.octets.items) };
 
-    ghost invariant = { λ k. (k.count ≤ 32832) × (length k.octets.items ≡ 4104) };
+    ghost invariant = { λ k. (k.count ≤ 32832) × (length k.octets.items ≡ 4104) × (vec_capacity k.octets ≡ 4104) };
+}
+
+// 4,104 octets, in memory for them and no more. What std fills by itself may take more.
+fn blank_octets(alloc: Global) -> Result<Vec<u8>, AllocError>
+    ensures places { IfOk result (λ octets. vec_len octets ≡ 4104) }
+    ensures room { IfOk result (λ octets. vec_capacity octets ≡ 4104) }
+{
+    let mut octets = Vec::with_capacity(alloc, ROOM)?;
+    for _place in 0..ROOM {
+        octets.push_reserved(0u8);
+    }
+    Ok(octets)
 }
 
 impl Kept {
@@ -39,7 +52,7 @@ impl Kept {
         ensures { IfOk result (λ kept. kept ≡ []) }
     {
         Ok(Kept {
-            octets: vec![in alloc; 0u8; ROOM]?,
+            octets: blank_octets(alloc)?,
             count: 0,
         })
     }

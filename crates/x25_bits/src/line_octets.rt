@@ -1,6 +1,6 @@
 //! Frames put as octets of a synchronous line, each octet lowest bit first. Profile.
-ghost use Rattle.std.specs.Prelude.{ℕ, ◌≡◌, ◌≤◌, ◌+◌, ◌-◌, ◌/◌, ◌^◌, ◌++◌, ◌∷◌, [], min, Bool, true, List, length};
-ghost use Rattle.std.specs.Prelude.{IfOk, OnOk, OnErr};
+ghost use Rattle.std.specs.Prelude.{ℕ, ◌≡◌, ◌≤◌, ◌+◌, ◌-◌, ◌*◌, ◌/◌, ◌^◌, ◌++◌, ◌∷◌, [], min, Bool, true, List, length};
+ghost use Rattle.std.specs.Prelude.{IfOk, OnOk, OnErr, max, vec_len, vec_capacity};
 ghost use Rattle.x25_bits.specs.code.Prefix.{IsPrefix};
 ghost use Rattle.x25_bits.specs.FrameCheck.{bits_of};
 ghost use Rattle.x25_bits.specs.Found.{Content, found_of, octets_of};
@@ -11,6 +11,7 @@ use crate::bits::Bits;
 use crate::no_memory::NoMemory;
 use crate::stuffing::put;
 use std::alloc::Global;
+use std::mem;
 
 /// Eight 1 bits.
 const ONES: u8 = 0xFF;
@@ -42,17 +43,52 @@ fn whole_frame(octets: &[u8], alloc: Global) -> Result<Bits, NoMemory>
     Ok(bits)
 }
 
+/// Makes room for so many octets more. It doubles, so that a line that grows isn't copied at each call.
+fn make_room(line: &mut Vec<u8>, more: usize) -> Result<(), NoMemory>
+    ensures items { line.new.items ≡ line.old.items }
+    ensures room { OnOk result (vec_len line.new + more ≤ vec_capacity line.new) }
+    ensures most { vec_capacity line.new ≤ max (vec_capacity line.old) (2 * (vec_len line.old + more)) }
+    ensures err { OnErr result (vec_capacity line.new ≡ vec_capacity line.old) }
+{
+    let Some(end) = line.len().checked_add(more) else {
+        return Err(NoMemory);
+    };
+    if end <= line.capacity() {
+        return Ok(());
+    }
+    line.reserve_exact(more.max(line.len()))?;
+    Ok(())
+}
+
+// The line, and these octets behind it, in room that there is. It owns it, so that they are copied as a block.
+fn with_octets(line: Vec<u8>, octets: &[u8]) -> Vec<u8>
+    requires { vec_len line + length octets.now ≤ vec_capacity line }
+    ensures items { result.items ≡ line.items ++ octets.now }
+    ensures len { vec_len result ≡ vec_len line + length octets.now }
+    ensures capacity { vec_capacity result ≡ vec_capacity line }
+{
+    let mut all = line;
+    for octet in octets {
+        all.push_reserved(*octet);
+    }
+    all
+}
+
 /// Appends octets of a synchronous line, whose bits, lowest first, are those that `put` appends, and then as few 1 bits
-/// as fill the last octet. Of 4 to 4,103 octets the content between the flags is found, behind any octets before it.
-/// Error 70 where there is no memory for it.
+/// as fill the last octet. Of 4 to 4,103 octets the content between the flags is found, behind any octets before it. It
+/// takes memory for no more than twice the octets that are there then. Error 70 where there is none.
 pub fn put_octets(octets: &[u8], line: &mut Vec<u8>) -> Result<(), NoMemory>
     ensures ok { OnOk result (bits_of line.new.items ≡ bits_of line.old.items ++ filled (framed octets.now)) }
     ensures begins { IsPrefix line.old.items line.new.items }
     ensures found { OnOk result (4 ≤ length octets.now → length octets.now ≤ 4103
         → found_of (bits_of line.new.items) ≡ found_of (bits_of line.old.items ++ flag) ++ Content octets.now ∷ []) }
+    ensures room { vec_capacity line.new ≤ max (vec_capacity line.old) (2 * vec_len line.new) }
     ensures err { OnErr result (line.new.items ≡ line.old.items) }
 {
-    let bits = whole_frame(octets, *line.allocator())?;
-    line.extend_from_slice(bits.whole_octets())?;
+    let alloc = *line.allocator();
+    let bits = whole_frame(octets, alloc)?;
+    let whole = bits.whole_octets();
+    make_room(line, whole.len())?;
+    *line = with_octets(mem::replace(line, Vec::new(alloc)), whole);
     Ok(())
 }

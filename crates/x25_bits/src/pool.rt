@@ -11,12 +11,13 @@ struct Unused<const ROOM: usize> {
     ghost few: { vec_capacity octets ≤ ROOM },
 }
 
-/// Memory that isn't in use any more, kept for later use: at most MOST buffers, each for at most ROOM octets. Contracts
-/// see how many there are.
+/// Memory that isn't in use any more, kept for later use: at most MOST buffers, each for at most ROOM octets, in a list
+/// with no more places. Contracts see how many there are.
 #[derive(Drop)]
 pub struct Pool<const ROOM: usize, const MOST: usize> {
     buffers: Vec<Unused<ROOM>>,
     ghost few: { vec_len buffers ≤ MOST },
+    ghost places: { vec_capacity buffers ≤ MOST },
 }
 
 impl<const ROOM: usize, const MOST: usize> Model for Pool<ROOM, MOST> {
@@ -79,6 +80,14 @@ impl<const ROOM: usize, const MOST: usize> Pool<ROOM, MOST> {
             return;
         }
         octets.clear();
-        let _ = self.buffers.push(Unused { octets });
+        if self.buffers.capacity() <= self.buffers.len()
+            && self
+                .buffers
+                .reserve_exact(MOST - self.buffers.len())
+                .is_err()
+        {
+            return;
+        }
+        self.buffers.push_reserved(Unused { octets });
     }
 }

@@ -11,7 +11,7 @@ struct Blank<const ROOM: usize> {
     ghost room: { vec_capacity octets ≡ ROOM },
 }
 
-// Makes blanks until there are so many, which it may be refused.
+// Makes blanks until there are so many, which it may be refused, in a list with no more places.
 fn make_up<const ROOM: usize>(
     blanks: &mut Vec<Blank<ROOM>>,
     alloc: Global,
@@ -20,10 +20,12 @@ fn make_up<const ROOM: usize>(
     ensures ok { OnOk result (vec_len blanks.new ≡ max (vec_len blanks.old) count) }
     ensures no_fewer { vec_len blanks.old ≤ vec_len blanks.new }
     ensures most { vec_len blanks.new ≤ max (vec_len blanks.old) count }
+    ensures places { vec_capacity blanks.new ≤ max (vec_capacity blanks.old) (max (vec_len blanks.old) count) }
 {
+    blanks.reserve_exact(count.saturating_sub(blanks.len()))?;
     while blanks.len() < count {
         let octets = Vec::with_capacity(alloc, ROOM)?;
-        blanks.push(Blank { octets })?;
+        blanks.push_reserved(Blank { octets });
     }
     Ok(())
 }
@@ -40,13 +42,14 @@ pub struct Promise<const ROOM: usize, const MOST: usize> {
 }
 
 impl<const ROOM: usize, const MOST: usize> Model for Promise<ROOM, MOST> {
-    ghost use Rattle.std.specs.Prelude.{ℕ, ◌≤◌, vec_len};
+    ghost use Rattle.std.specs.Prelude.{ℕ, ◌≤◌, vec_len, vec_capacity};
 
     ghost Value = { ℕ };
 
     ghost view = { λ p. p.promised };
 
-    ghost invariant = { λ p. (p.promised ≤ vec_len p.blanks) × (vec_len p.blanks ≤ MOST) };
+    ghost invariant = { λ p. (p.promised ≤ vec_len p.blanks) × (vec_len p.blanks ≤ MOST)
+        × (vec_capacity p.blanks ≤ MOST) };
 }
 
 impl<const ROOM: usize, const MOST: usize> Promise<ROOM, MOST> {

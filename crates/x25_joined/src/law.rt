@@ -1,10 +1,8 @@
 //! Two programs `x25 station`, or one and any peer, joined by a line, as laws about what they read and write. Each is
 //! the contract of a function that does nothing.
-ghost use Rattle.x25_peer.specs.laws.BesideSessionClaims.{MeetInStep, MetAreInOrder, UnmetAreToldNothing};
-ghost use Rattle.x25_peer.specs.laws.BesideSessionClaims.{EachMeetsLatest, UpIsLatest, FindsNoError};
 ghost use Rattle.x25_world.specs.laws.Claims.{HasNoProcedureError, IsNamed};
 ghost use Rattle.x25_world.specs.laws.SessionClaims.{SessionsKeepOrder};
-ghost use Rattle.x25_joined.specs.laws.BesidePeerClaims.{OfProgram};
+ghost use Rattle.x25_joined.specs.laws.BesidePeerClaims.{KeepsSessions, OfProgram};
 ghost use Rattle.x25_joined.specs.laws.JoinedClaims.{AreLawful, AreWorlds, Arrive, OfPrograms, OfProgramsUpOnce};
 ghost use Rattle.x25_joined.specs.laws.JoinedClaims.{UntilSecondUp};
 ghost use Rattle.x25_joined.specs.rows.BesidePeerRows.{CallIsReported};
@@ -69,18 +67,14 @@ pub fn programs_meet_in_sessions()
 /// it read, by its clause `text`, is told by a station beside that peer, set up and set up again at any moment: its
 /// entries are those of its sessions, one after another, its frames what it put on the line, each in the session that
 /// the last `linkup` began, and the station and the frames on the line are those where that leads. A line that is
-/// refused, and one that names the other end's user, is nothing of it. Of that station the clauses say what those of
-/// `any_peer_keeps_stations_over_sessions` do.
+/// refused, and one that names the other end's user, is nothing of it. Of that one station all holds that
+/// `any_peer_keeps_stations_over_sessions` says: who meets whom, the order, that all was taken where its link is idle,
+/// and that it reports no error of procedure.
 ///
 /// Premises: k is 1 to 7, N2 1 to 255, channels 1 to 16; a user's line is no frame of the other end; a frame that comes
 /// is at most 4,103 octets; timer T1 of a station that awaits UA runs out where it is due.
 pub fn any_peer_keeps_programs()
-    ensures step { OfProgram MeetInStep }
-    ensures order { OfProgram MetAreInOrder }
-    ensures unmet { OfProgram UnmetAreToldNothing }
-    ensures agree { OfProgram EachMeetsLatest }
-    ensures latest { OfProgram UpIsLatest }
-    ensures quiet { OfProgram FindsNoError }
+    ensures { OfProgram KeepsSessions }
 {
     lines_are_in_octets();
     any_peer_keeps_stations_over_sessions();

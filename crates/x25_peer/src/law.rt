@@ -2,6 +2,7 @@ ghost use Rattle.x25_peer.specs.laws.BesideClaims.{WithAnyPeer, FindsNoError, Is
 ghost use Rattle.x25_peer.specs.laws.BesideSessionClaims as over_sessions;
 ghost use Rattle.x25_peer.specs.laws.BesideSessionClaims.{MeetInStep, MetAreInOrder, UnmetAreToldNothing};
 ghost use Rattle.x25_peer.specs.laws.BesideSessionClaims.{EachMeetsLatest, UpIsLatest};
+ghost use Rattle.x25_peer.specs.rows.BesideSessionRows.{DamagedUaIsMissing, LeavingPeerAsks, LostSabmGoesAgain};
 
 use x25_layer::any_peer_keeps_transcripts;
 use x25_line::any_peer_keeps_order;
@@ -68,3 +69,11 @@ pub fn any_peer_keeps_stations_over_sessions()
     steps_keep_bounds();
     notes_what_changes();
 }
+
+/// Worked rows of that: SABM is lost, and goes again at a firing of T1; UA is damaged, so that the peer's second
+/// session meets the station's first one; a peer leaves its session, and asks for the next one.
+pub fn stations_move_beside_peers()
+    ensures lost { LostSabmGoesAgain }
+    ensures damaged { DamagedUaIsMissing }
+    ensures leaves { LeavingPeerAsks }
+{}

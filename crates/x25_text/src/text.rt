@@ -1,25 +1,29 @@
 //! A text that waits to be written.
 ghost use Rattle.std.specs.Prelude.{◌≡◌, ◌↔◌, ◌+◌, ◌*◌, ◌≤◌, ◌<◌, ◌++◌, [], ◌∷◌, ℕ, List, IfOk, OnOk, OnErr, IsTrue};
-ghost use Rattle.std.specs.Prelude.{length, max, take, decimal};
+ghost use Rattle.std.specs.Prelude.{length, max, take, replicate, decimal, vec_len, vec_capacity};
 ghost use Rattle.std.specs.List.{flat_map};
 ghost use Rattle.x25_frame.specs.Spelling.{bit};
 ghost use Rattle.x25_text.specs.Text.{octet_text, octets_text};
-ghost use Rattle.x25_text.specs.declared.text.TheConstants.{ROOM};
+ghost use Rattle.x25_text.specs.declared.text.TheConstants.{MOST_ROOM, ROOM};
 
 use crate::hexadecimal::write_hexadecimal;
 use itoa::Buffer;
 use std::alloc::{AllocError, Global};
 use std::marker::Model;
+use std::mem;
 use x25_frame::Seq;
 
 /// The characters that a text has room for at least.
 pub const ROOM: usize = 65_536;
 
+/// The characters that a text has room for at most.
+pub const MOST_ROOM: usize = 262_144;
+
 /// The most octets of a frame: with 4,099 octets of information, address, control and frame check sequence.
 pub const MOST_OCTETS: usize = 4_103;
 
-/// Characters, at the front of a buffer of `ROOM` of them or more. No call takes memory but `new` and those named
-/// `try_push`, which make it longer where it has no room.
+/// Characters, at the front of a buffer of `ROOM` of them or more, and of `MOST_ROOM` at most. No call takes memory but
+/// `new` and those named `try_push`, which make it longer where it has no room.
 #[derive(Drop)]
 pub struct Text {
     buffer: Vec<u8>,
@@ -31,30 +35,55 @@ impl Model for Text {
 
     ghost view = { λ text. take text.count text.buffer.items };
 
-    ghost invariant = { λ text. (ROOM ≤ length text.buffer.items) × (text.count ≤ length text.buffer.items) };
+    ghost invariant = { λ text. (ROOM ≤ length text.buffer.items) × (text.count ≤ length text.buffer.items)
+        × (vec_capacity text.buffer ≤ MOST_ROOM) };
 }
 
-/// Makes the buffer longer, so that `more` characters have room behind the first `count`, which stay.
+// What a buffer has, and behind it so many blank places, in memory that there is.
+fn with_places(buffer: Vec<u8>, more: usize) -> Vec<u8>
+    requires { vec_len buffer + more ≤ vec_capacity buffer }
+    ensures items { result.items ≡ buffer.items ++ replicate more 0 }
+    ensures len { vec_len result ≡ vec_len buffer + more }
+    ensures capacity { vec_capacity result ≡ vec_capacity buffer }
+{
+    let mut places = buffer;
+    for _place in 0..more {
+        places.push_reserved(0);
+    }
+    places
+}
+
+/// Makes the buffer longer, so that `more` characters have room behind the first `count`, which stay. Err: no memory,
+/// or these are more than `MOST_ROOM`.
 #[cold]
 fn grow(buffer: &mut Vec<u8>, count: usize, more: usize) -> Result<(), AllocError>
     requires held { count ≤ length buffer.old.items }
     requires short { length buffer.old.items ≤ count + more }
+    requires few { vec_capacity buffer.old ≤ MOST_ROOM }
     ensures room { OnOk result (length buffer.new.items ≡ count + more) }
     ensures kept { take count buffer.new.items ≡ take count buffer.old.items }
+    ensures few { vec_capacity buffer.new ≤ MOST_ROOM }
     ensures unchanged { OnErr result (buffer.new.items ≡ buffer.old.items) }
 {
-    let Some(end) = count.checked_add(more) else {
+    let end = count.saturating_add(more);
+    if end > MOST_ROOM {
         return Err(AllocError);
-    };
-    buffer.resize(end, 0u8)
+    }
+    let missing = end - buffer.len();
+    buffer.reserve_exact(missing)?;
+    let none = Vec::new(*buffer.allocator());
+    *buffer = with_places(mem::replace(buffer, none), missing);
+    Ok(())
 }
 
 /// Makes room for `more` characters behind the first `count`, which stay.
 #[inline(always)]
 fn reserve(buffer: &mut Vec<u8>, count: usize, more: usize) -> Result<(), AllocError>
-    requires { count ≤ length buffer.old.items }
+    requires held { count ≤ length buffer.old.items }
+    requires few { vec_capacity buffer.old ≤ MOST_ROOM }
     ensures room { OnOk result (length buffer.new.items ≡ max (length buffer.old.items) (count + more)) }
     ensures kept { take count buffer.new.items ≡ take count buffer.old.items }
+    ensures few { vec_capacity buffer.new ≤ MOST_ROOM }
     ensures unchanged { OnErr result (buffer.new.items ≡ buffer.old.items) }
 {
     if more <= buffer.len() - count {
@@ -119,7 +148,7 @@ impl Text {
     pub fn new(alloc: Global) -> Result<Text, AllocError>
         ensures { IfOk result (λ text. text ≡ []) }
     {
-        let buffer = vec![in alloc; 0u8; ROOM]?;
+        let buffer = with_places(Vec::with_capacity(alloc, ROOM)?, ROOM);
         Ok(Text { buffer, count: 0 })
     }
 
@@ -232,7 +261,7 @@ impl Text {
         }
     }
 
-    /// Appends characters, however many. Err: no memory.
+    /// Appends characters, however many. Err: no memory, or the text would be longer than `MOST_ROOM`.
     #[inline(always)]
     pub fn try_push(&mut self, characters: &[u8]) -> Result<(), AllocError>
         ensures text { OnOk result (self.new ≡ self.old ++ characters.now) }
@@ -256,7 +285,7 @@ impl Text {
         Ok(())
     }
 
-    /// Appends a label and then a number in decimal. Err: no memory.
+    /// Appends a label and then a number in decimal. Err: no memory, or the text would be longer than `MOST_ROOM`.
     #[inline(always)]
     pub fn try_push_number(&mut self, label: &[u8], number: u64) -> Result<(), AllocError>
         ensures text { OnOk result (self.new ≡ self.old ++ (label.now ++ decimal number)) }
@@ -269,7 +298,8 @@ impl Text {
         self.try_push_both(label, figures.format(number).as_bytes())
     }
 
-    /// Appends octets as hexadecimal digits, however many. Err: no memory.
+    /// Appends octets as hexadecimal digits, however many. Err: no memory, or the text would be longer than
+    /// `MOST_ROOM`.
     pub fn try_push_hexadecimal(&mut self, octets: &[u8]) -> Result<(), AllocError>
         ensures text { OnOk result (self.new ≡ self.old ++ flat_map octet_text octets.now) }
         ensures unchanged { OnErr result (self.new ≡ self.old) }
@@ -279,7 +309,8 @@ impl Text {
         Ok(())
     }
 
-    /// Appends octets as hexadecimal digits, `-` where there are none, however many. Err: no memory.
+    /// Appends octets as hexadecimal digits, `-` where there are none, however many. Err: no memory, or the text would
+    /// be longer than `MOST_ROOM`.
     pub fn try_push_octets(&mut self, octets: &[u8]) -> Result<(), AllocError>
         ensures text { OnOk result (self.new ≡ self.old ++ octets_text octets.now) }
         ensures unchanged { OnErr result (self.new ≡ self.old) }

@@ -1,5 +1,5 @@
 -- What a station takes octets for: its channel, its user data, and the ranges of its fields.
-use Rattle.std.proofs.Common.{ℕ, zero, suc, lit≤, ◌+◌, ◌*◌, ◌/◌, ◌%◌, ◌<◌, ◌≤◌, ◌≡◌, ◌∙◌, Bool, true, false, List, [], ◌∷◌, length, refl, ap, sym, subst, arith, All, Some, Result, Ok, Err}
+use Rattle.std.proofs.Common.{ℕ, zero, suc, lit≤, ◌+◌, ◌*◌, ◌/◌, ◌%◌, ◌<◌, ◌≤◌, ◌≡◌, ◌∙◌, Bool, true, false, List, [], ◌∷◌, ◌++◌, length, take, refl, ap, sym, subst, arith, All, Some, Result, Ok, Err}
 use Rattle.x25_bits.specs.Bits.{bit}
 use Rattle.x25_packet.specs.Packet as strict
 use Rattle.x25_packet.specs.Reading.{packet_of, channel_in}
@@ -12,7 +12,7 @@ use Rattle.x25_wide.specs.Packet.{PlainKind, PlainWide, call, accept, clear, ext
 use Rattle.x25_wide.specs.Packet.Spelling.{spelling_of, body_of, Spells}
 use Rattle.x25_wide.specs.Reading.{wide_of}
 use Rattle.x25_wide.specs.Taking.{or_taken, read_in}
-use Rattle.x25_wide.specs.laws.TakingLaw.{TakesWhatIsWritten, TakesOnItsChannel, TakesItsUserData, TakesInRange}
+use Rattle.x25_wide.specs.laws.TakingLaw.{TakesWhatIsWritten, TakesOnItsChannel, TakesItsUserData, TakesAllBehindThree, TakesInRange}
 use Rattle.x25_wide.proofs.NarrowRange.{InRange, in_range, field_fits}
 use Rattle.x25_wide.proofs.FoundLaws.{AreSmall, found_spells, ok_err, ok_same}
 
@@ -143,6 +143,15 @@ takes_its_user_data reads wide most channel q m ps pr user octets small e =
     in_either reads most v octets small (length octets ≡ 3 + length user)
     (λ spells. ap length spells.spelling ∙ header (length user))
     (λ w spells is. ap length spells.spelling ∙ header (length (body_of w.bit_8 w.kind)) ∙ taken_with w v is (λ field said h. ap (λ (body : List ℕ). 3 + length body) (with_user w.channel w.bit_8 w.kind field v h tt)))
+    wide e
+
+pub takes_all_behind_three : ReadsWhatIsSpelled → TakesAllBehindThree
+takes_all_behind_three reads wide most channel q m ps pr user octets small e =
+    let v : strict.PlainPacket = strict.user_data channel q m ps pr user in
+    in_either reads most v octets small (octets ≡ take 3 octets ++ user)
+    (λ spells. subst (λ o. o ≡ take 3 o ++ user) (sym spells.spelling) refl)
+    (λ w spells is. subst (λ o. o ≡ take 3 o ++ user) (sym spells.spelling)
+    (taken_with w v is (λ field said h. ap (λ (body : List ℕ). take 3 (spelling_of w) ++ body) (with_user w.channel w.bit_8 w.kind field v h tt))))
     wide e
 
 -- ---- the ranges of its fields

@@ -6,6 +6,8 @@ use Rattle.x25_station.specs.Config.{Settings, settings_from, config_refusal}
 use Rattle.x25_station.specs.Entry.{StationEntry}
 use Rattle.x25_peer.specs.laws.BesideSessions as beside
 use Rattle.x25_peer.specs.laws.BesideSessions.{Own, BesideSessions}
+use Rattle.x25_peer.specs.laws.BesideSessionClaims.{MeetInStep, MetAreInOrder, IdleHasArrived, UnmetAreToldNothing}
+use Rattle.x25_peer.specs.laws.BesideSessionClaims.{EachMeetsLatest, UpIsLatest, FindsNoError}
 use Rattle.x25_joined.specs.laws.Joined.{written, entries_in}
 use Rattle.x25_joined.specs.laws.BesidePeer.{Program, begun_in, seen, IsReached}
 
@@ -19,6 +21,16 @@ entries_to (suc n) own = entries_to n own ++ (own (suc n)).entries
 pub record Tells (c : Settings) (p : Program) (own : ℕ → Own) : Type 0 where
   pub reached : beside.IsReached c (seen c own p)
   pub entries : entries_to (begun_in c p.read) own ≡ entries_in (written c p.read)
+
+-- all that `any_peer_keeps_stations_over_sessions` says of a station
+pub record KeepsSessions (w : BesideSessions) : Type 0 where
+  pub step : MeetInStep w
+  pub order : MetAreInOrder w
+  pub idle : IdleHasArrived w
+  pub unmet : UnmetAreToldNothing w
+  pub agree : EachMeetsLatest w
+  pub latest : UpIsLatest w
+  pub quiet : FindsNoError w
 
 -- what holds of the station that the program tells of, after all that happens
 abbrev pub OfProgram : (BesideSessions → Type 0) → Type 0

@@ -1,7 +1,7 @@
 -- What a station reads octets as, in the form that it writes alone or in any: what they are in the form that it
--- writes, where they are a packet then. It is on the channel that they name, brings no more user data than they have,
--- and has its fields in their ranges.
-use Rattle.std.specs.Prelude.{◌≡◌, ◌≢◌, ◌+◌, ◌<◌, ◌≤◌, ℕ, Bool, List, length, All, Some, Ok, Err}
+-- writes, where they are a packet then. It is on the channel that they name, its data are all that lies behind the
+-- first three octets, and its fields are in their ranges.
+use Rattle.std.specs.Prelude.{◌≡◌, ◌≢◌, ◌+◌, ◌<◌, ◌≤◌, ℕ, Bool, List, ◌++◌, length, take, All, Some, Ok, Err}
 use Rattle.x25_packet.specs.declared.error.PacketError.TheVariants.{NoMemory}
 use Rattle.x25_packet.specs.Packet.{PlainPacket, user_data}
 use Rattle.x25_packet.specs.Reading.{packet_of, channel_in}
@@ -20,6 +20,11 @@ abbrev pub TakesItsUserData : Type 0
 TakesItsUserData = (wide : Bool) (most channel : ℕ) (q m : Bool) (ps pr : ℕ) (user octets : List ℕ)
     → All (λ octet. octet < 256) octets → read_in wide most octets ≡ Ok (user_data channel q m ps pr user)
     → length octets ≡ 3 + length user
+
+abbrev pub TakesAllBehindThree : Type 0
+TakesAllBehindThree = (wide : Bool) (most channel : ℕ) (q m : Bool) (ps pr : ℕ) (user octets : List ℕ)
+    → All (λ octet. octet < 256) octets → read_in wide most octets ≡ Ok (user_data channel q m ps pr user)
+    → octets ≡ take 3 octets ++ user
 
 abbrev pub TakesInRange : Type 0
 TakesInRange = (wide : Bool) (most : ℕ) (v : PlainPacket) (octets : List ℕ) → most ≤ 128

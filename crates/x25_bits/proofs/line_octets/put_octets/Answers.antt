@@ -7,11 +7,11 @@ use Rattle.x25_bits.proofs.line_octets.put_octets.Goals as goal
 
 pub returns-clause-ok : goal.returns-clause-ok
 returns-clause-ok c =
-    let part : c.whole_octets.result.now ≡ octets_of (filled (framed c.args.octets.now)) = search rules in
-    line_is c.args.line.now.items c.whole_octets.result.now c.extend_from_slice.new.self.items (framed c.args.octets.now) part (search rules)
+    let part : c.whole_octets-whole.result.now ≡ octets_of (filled (framed c.args.octets.now)) = search rules in
+    line_is c.args.line.now.items c.whole_octets-whole.result.now c.with_octets.result.items (framed c.args.octets.now) part (search rules)
 
 pub returns-clause-found : goal.returns-clause-found
 returns-clause-found c = λ low high.
-    let part : c.whole_octets.result.now ≡ octets_of (filled (framed c.args.octets.now)) = search rules in
-    line_found (bits_of c.args.line.now.items) (bits_of c.extend_from_slice.new.self.items) c.args.octets.now (λ k. omega (arith, c.type_inv.octets k)) low high
-    (line_is c.args.line.now.items c.whole_octets.result.now c.extend_from_slice.new.self.items (framed c.args.octets.now) part (search rules))
+    let part : c.whole_octets-whole.result.now ≡ octets_of (filled (framed c.args.octets.now)) = search rules in
+    line_found (bits_of c.args.line.now.items) (bits_of c.with_octets.result.items) c.args.octets.now (λ k. omega (arith, c.type_inv.octets k)) low high
+    (line_is c.args.line.now.items c.whole_octets-whole.result.now c.with_octets.result.items (framed c.args.octets.now) part (search rules))

@@ -23,4 +23,4 @@ invariant_of-self c =
     let few : length c.args.self.now ≤ 32823 = c.requires.few in
     let small : c.args.size ≤ 8 = c.requires.size in
     let same : length c.set_octet.new.octets.items ≡ length c.self.inside.octets.items = c.set_octet.ensures.len in
-    (omega arith, omega arith)
+    (omega arith, omega arith, c.set_octet.ensures.capacity ∙ c.self.invariant.2)

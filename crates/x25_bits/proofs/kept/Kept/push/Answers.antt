@@ -21,4 +21,4 @@ invariant_of-self c =
     let room : length c.self.inside.octets.items ≡ 4104 = c.self.invariant.1 in
     let few : length c.args.self.now < 32832 = c.requires in
     let same : length c.set_bit.new.octets.items ≡ length c.self.inside.octets.items = c.set_bit.ensures.len in
-    (omega arith, omega arith)
+    (omega arith, omega arith, c.set_bit.ensures.capacity ∙ c.self.invariant.2)

@@ -24,7 +24,7 @@ invariant_of-self c =
     let few : length c.args.self.now + 8 * (c.args.end - c.args.at) ≤ 32831 = c.requires.few in
     let more = c.take_whole-taken.ensures.few in
     let same : length c.take_whole-taken.new.memory.items ≡ length c.self.inside.octets.items = c.take_whole-taken.ensures.len in
-    (omega arith, omega arith)
+    (omega arith, omega arith, c.take_whole-taken.ensures.capacity ∙ c.self.invariant.2)
 
 pub returns-clause-few : goal.returns-clause-few
 returns-clause-few c =
