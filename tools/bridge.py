@@ -240,7 +240,7 @@ class Bridge:
     def _is_cut_off(self):
         """The other end has gone: it is told where something was left to do."""
         if not (self._user.has_asked() and (self._is_idle or not self._circuits.is_up)):
-            x25lines.warn("the line has ended before all was done")
+            self._user.warn("the line has ended before all was done")
             self.status = 1
         return False
 

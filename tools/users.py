@@ -282,6 +282,13 @@ class User:
         """Tells something in the bridge's own words, as a comment."""
         self.tell(f"# {text}")
 
+    def warn(self, text):
+        """Says what went wrong on standard error, or at a terminal as a notice."""
+        if self._is_at_terminal:
+            self.note(text)
+        else:
+            x25lines.warn(text)
+
     def has_done(self):
         """Whether no command is left, and none will come."""
         return self._is_ended and self.commands.are_done()

@@ -208,6 +208,15 @@ class Live(ToolCase):
                     self.terminal.types(typed)
                 self.assertEqual((self.terminal.end()[0], self.terminal.echoes()), (status, True))
 
+    def test_a_line_that_ends_too_early(self):
+        self.begin(f". off idle\n= {UA}\ndte linkup\n. off busy\n")
+        self.join()
+        self.sends(UA)
+        self.terminal.shows("linkup")
+        self.line.close()
+        status, text = self.terminal.end()
+        self.assertEqual((status, text.splitlines()[-2:]), (1, ["# the connection has ended: the other end has closed it", "# the line has ended before all was done"]))
+
     def test_ctrl_c_twice(self):
         """The second one ends it at once; the terminal is as it was."""
         self.begin(f". off idle\n= {UA}\ndte linkup\n. off idle\n= dte disconnect\ndte disconnect\n. off idle\n", "--t1", "60")
