@@ -183,12 +183,13 @@ passes p (Ok (info ns nr pf x)) = (false, false, tt, refl)
 passes p (Ok (rr command nr pf)) = (false, refl)
 passes p (Ok (rnr command nr pf)) = (false, refl)
 passes p (Ok (rej command nr pf)) = (false, refl)
-passes p (Ok (sabm pf)) = refl
-passes p (Ok (disc pf)) = refl
-passes p (Ok (ua pf)) = refl
-passes p (Ok (dm pf)) = refl
-passes p (Ok (frmr pf why)) = refl
-passes p (Err e) = refl
+passes p (Err Short) = refl
+passes p r = refl
+
+-- octets that read as no frame say nothing
+error_said : (p : Peer) (e : FrameError) (q : Peer) → MayHear p (Err e) q → q ≡ p
+error_said p Short q h = h
+error_said p e q h = h
 
 pub record Taken (from : Role) (p : Peer) (way : List PlainFrame) (q : Peer) (octets : List ℕ) (back out : List (List ℕ)) : Type 0 where
   pub left : List PlainFrame
@@ -211,5 +212,5 @@ taken from p q way left octets all back out e (damaged l o b x is h) d = record 
   left = left;
   on_line = subst (OnLine (other from) left) (others_are o octets b back e) h;
   did = λ r may. subst (λ (y : Peer). Did from p way y left out)
-      (sym (subst (λ (y : Result PlainFrame FrameError). MayHear q y r) (ap (λ (y : List ℕ). frame_of (other from) n1 y) (sym (first_is o octets b back e)) ∙ is) may)) d;
+      (sym (error_said q x r (subst (λ (y : Result PlainFrame FrameError). MayHear q y r) (ap (λ (y : List ℕ). frame_of (other from) n1 y) (sym (first_is o octets b back e)) ∙ is) may))) d;
 }
