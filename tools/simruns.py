@@ -1,14 +1,15 @@
 """A run of `x25 sim --tap` from its script: its lines, and what became of each frame that was put on the line.
 
 The lines of a run don't say which event made them. So a line that is no event, an empty one, is put behind each event of the
-script; the program answers it by `? 60` and does nothing, and that parts what the events made.
+script; the program answers it by `? 60` and does nothing, and that parts what the events made. Which lines of the script are no
+events the program itself says on standard error.
 """
 
+import re
 import subprocess
 from typing import NamedTuple
 
 import decoding
-import simscript
 import x25lines
 from drawing import DAMAGED, LOST, WAITING
 from x25lines import BadInput
@@ -16,6 +17,9 @@ from x25lines import BadInput
 MARK, ANSWERED = "", "? 60"
 SECONDS = 60
 DIRECTIONS = (">", "<")
+DRAIN = re.compile("drain ([1-9][0-9]{0,4})")
+# What the program says of a line that is no event, but for those that part them.
+NO_EVENT = re.compile(r"^line (\d+): (?!empty$)(.*)$", re.MULTILINE)
 # A run is held whole; `drain 65535` alone is as many events.
 MOST_EVENTS = 200_000
 
@@ -28,7 +32,7 @@ class Run(NamedTuple):
 
 
 def answer(program, words, given):
-    """What a program writes for some words and some input, as a text; bad input where it can't be run, or refuses."""
+    """What a program writes for some words and some input, and what it says on standard error; bad input where it can't be run, or refuses."""
     decoding.say_if_unproved(program)
     try:
         done = subprocess.run([program, *words], input=given, capture_output=True, timeout=SECONDS)
@@ -39,20 +43,18 @@ def answer(program, words, given):
     if done.returncode not in (0, 1):
         said = done.stderr.decode(errors="replace").strip().splitlines() or [f"status {done.returncode}"]
         raise BadInput(f"{program} {words[0]}: {said[0]}")
-    return done.stdout.decode("ascii", "replace")
+    return done.stdout.decode("ascii", "replace"), done.stderr.decode(errors="replace")
 
 
 def events_of(file):
-    """The events of a script; `drain N` is N of `drain 1`, so that each delivery is seen by itself."""
+    """The events of a script, each with the number of its line; `drain N` is N of `drain 1`, so that each delivery is seen by itself."""
     events = []
     for number, line in x25lines.lines_of(file):
         if x25lines.is_passed_over(line):
             continue
         event = line.decode("ascii", "replace")
-        if not simscript.is_line(event):
-            raise BadInput(f"line {number} of the script is no event: {x25lines.shown(line)}")
-        kind, *fields = event.split(" ")
-        events += ["drain 1"] * int(fields[0]) if kind == "drain" else [event]
+        drain = DRAIN.fullmatch(event)
+        events += [(number, "drain 1")] * int(drain[1]) if drain else [(number, event)]
         if len(events) > MOST_EVENTS:
             raise BadInput(f"the script has more than {MOST_EVENTS:,} events")
     return events
@@ -68,8 +70,10 @@ def run(program, file, words):
 def parts(program, file, words):
     """The lines that the set-up of a script made, and its events, each with the lines that it made."""
     events = events_of(file)
-    given = f"{MARK}\n" + "".join(f"{event}\n{MARK}\n" for event in events)
-    text = answer(program, ["sim", "--tap", *words], given.encode())
+    given = f"{MARK}\n" + "".join(f"{event}\n{MARK}\n" for _, event in events)
+    text, said = answer(program, ["sim", "--tap", *words], given.encode())
+    if found := NO_EVENT.search(said):
+        raise BadInput(f"line {events[int(found[1]) // 2 - 1][0]} of the script: {found[2]}")
     made = [[]]
     for line in text.splitlines():
         if line == ANSWERED:
@@ -78,7 +82,7 @@ def parts(program, file, words):
             made[-1].append(line)
     if len(made) != len(events) + 2 or made[-1]:
         raise BadInput(f"{program} sim didn't answer event by event")
-    return made[0], zip(events, made[1:])
+    return made[0], zip((event for _, event in events), made[1:])
 
 
 def follow(line, begun, steps):

@@ -27,6 +27,7 @@ EVENTS = [
     ("lose < 0", []),
     ("dte call 1 2 -", ["dte call ch=1 at 1.0.0 called=1 calling=2 data=-", "> 012210010b1112007da6"]),
 ]
+NO_EVENTS = ("drain 0", "deliver", " # comment")
 TEXTS = {
     "> 013febdf": "> SABM cmd P=1",
     "< 01738357": "< UA rsp F=1",
@@ -45,8 +46,11 @@ def sim(lines):
     """Answers the events of the script, each as the list above has it; any other line by `? 60`."""
     events = iter(EVENTS)
     answer = list(SET_UP)
-    for line in lines:
+    for number, line in enumerate(lines, 1):
         event, made = ("", ["? 60"]) if line == "" else next(events)
+        if line in NO_EVENTS:
+            print(f"line {number}: no such event '{line}'", file=sys.stderr)
+            return answer
         if event != line:
             print(f"the script is another one: {line!r} for {event!r}", file=sys.stderr)
             sys.exit(2)

@@ -175,7 +175,7 @@ class Refused(ToolCase):
     def test_scripts_that_are_none(self):
         for line in (b"drain 0", b"deliver", b" # comment"):
             with self.subTest(line):
-                self.assert_refused(support.run("chart.py", "--script", "--x25", FAKE, given=b"deliver >\n" + line + b"\n"), "line 2 of the script is no event")
+                self.assert_refused(support.run("chart.py", "--script", "--x25", FAKE, given=b"damage > 0 013febdf\n" + line + b"\n"), f"line 2 of the script: no such event '{line.decode()}'")
         many = b"drain 65535\n" * 4
         self.assert_refused(support.run("chart.py", "--script", "--x25", FAKE, given=many), "more than 200,000 events")
 

@@ -10,7 +10,6 @@ import support
 from support import PROGRAM, ToolCase
 
 import losses
-import simscript
 import x25lines
 
 # One line of each form, and lines that are none.
@@ -19,7 +18,7 @@ dte int 1 -|dte reset 1|dce ready 1|dte notready 1|dce restart|dce connect|dte d
 damage > 0 00|damage < 12 -|drain 1|drain 100|drain 65535|heal"""
 NO_LINES = """|dte| dte restart|dte restart |dte  restart|dte\trestart|DTE restart|dte call 1 2|dte call 1 2 4|dte call x 2 -|dte call  2 -|dte accept
 dte accept 01|dte accept -1|dte accept +1|dte accept 65536|dte accept 1 |dte send 1 2 -|dte send 1 0|dte int 1 0g|t1|t1 both|deliver|deliver =
-deliver > 0|lose >|lose > 70000|damage > 0|damage > 0 0|drain|drain 0|drain 00|drain 65536|drain 1.5|heal |heal 1|dte heal|dte connect 1|dte restart\r|dte restart\n"""
+deliver > 0|lose >|lose > 70000|damage > 0|damage > 0 0|drain|drain 0|drain 00|drain 65536|drain 1.5|heal |heal 1|dte heal|dte connect 1|dte restart\r"""
 
 # What may follow a call or its acceptance, and what may not.
 PARAMS = ["7 7 2 2", "7 8 3 2", "0 255 0 255", "3 9 99 199", "12 10 249 250"]
@@ -38,41 +37,61 @@ def kinds(lines):
     return collections.Counter(it[1] if it[0] in ("dte", "dce") else it[0] for it in fields)
 
 
+def refused(lines, *words):
+    """How many of the lines the program says are none of a script."""
+    given = "".join(f"{line}\n" for line in lines).encode()
+    return subprocess.run([PROGRAM, "sim", "--down", *words], input=given, capture_output=True, timeout=60).stdout.splitlines().count(b"? 60")
+
+
+@support.needs_program
 class Grammar(unittest.TestCase):
     def test_lines(self):
-        for line in LINES.replace("\n", "|").split("|"):
-            self.assertTrue(simscript.is_line(line), line)
+        self.assertEqual(refused(LINES.replace("\n", "|").split("|")), 0)
 
     def test_no_lines(self):
-        for line in NO_LINES.replace("\ndte accept 01", "|dte accept 01").replace("\ndeliver > 0", "|deliver > 0").split("|"):
-            self.assertFalse(simscript.is_line(line), repr(line))
+        lines = NO_LINES.replace("\n", "|").split("|")
+        self.assertEqual(refused(lines), len(lines))
 
     def test_numbers(self):
-        taken = [number for number in range(70_000) if simscript.is_line(f"lose > {number}")]
-        self.assertEqual(taken, list(range(65_536)))
+        self.assertEqual(refused([f"lose > {number}" for number in range(65_530, 70_000)]), 70_000 - 65_536)
 
     def test_sizes_and_windows(self):
         for front in "dte call 1 2 -", "dce call - - 0A", "dce accept 0":
-            for params in PARAMS:
-                self.assertTrue(simscript.is_line(f"{front} {params}"), params)
-            for params in NO_PARAMS:
-                self.assertFalse(simscript.is_line(f"{front} {params}"), params)
-        for front in "dte clear 1", "dte send 1 0 -", "dte int 1 00", "dte call 1 2", "dte restart", "dte accept":
-            self.assertFalse(simscript.is_line(f"{front} 7 7 2 2"), front)
+            self.assertEqual(refused([f"{front} {params}" for params in PARAMS]), 0)
+            self.assertEqual(refused([f"{front} {params}" for params in NO_PARAMS]), len(NO_PARAMS))
+        fronts = "dte clear 1", "dte send 1 0 -", "dte int 1 00", "dte call 1 2", "dte restart", "dte accept"
+        self.assertEqual(refused([f"{front} 7 7 2 2" for front in fronts]), len(fronts))
 
     def test_the_longest_line(self):
         line = "dte send 1 0 " + "00" * 65_593
         self.assertEqual(len(line), 131_199)
-        self.assertTrue(simscript.is_line(line))
-        self.assertFalse(simscript.is_line(line + "00"))
+        self.assertEqual((refused([line]), refused([line + "00"])), (0, 1))
+
+    def test_what_is_said_of_a_line(self):
+        said = {
+            "drian 9": "no such event 'drian 9' (did you mean drain?)",
+            "dte sned 1 0 -": "no such event 'dte sned 1 0 -' (did you mean send?)",
+            "drain x": "'drain x' isn't of the form 'drain N'",
+            "dce call 1 2": "'dce call 1 2' isn't of the form 'END call CALLED CALLING HEX [SIZE SIZE WINDOW WINDOW]'",
+            "xyzzy": "no such event 'xyzzy'",
+            "# comment": "no such event '# comment'",
+            "": "empty",
+            "heal\r": "has other characters than text, as a tab or a carriage return",
+            "x" * 99: f"no such event '{'x' * 60}'",
+            "x" * 131_201: "longer than 131,200 characters",
+        }
+        done = subprocess.run([PROGRAM, "sim", "--down"], input="".join(f"{line}\n" for line in said), capture_output=True, text=True, timeout=60)
+        self.assertEqual(done.stderr.splitlines(), [f"line {number}: {why}" for number, why in enumerate(said.values(), 1)])
+        self.assertEqual((done.returncode, done.stdout), (1, "? 60\n" * len(said)))
 
 
 class Scripts(ToolCase):
+    @support.needs_program
     def test_all_lines_are_in_the_grammar(self):
         for seed in range(5):
             lines = script(str(seed), "1000", "--loss", "0.1", "--damage", "0.1", "--t1", "0.1", "--channels", "16")
             self.assertEqual(len(lines), 1000)
-            self.assertEqual([line for line in lines if not simscript.is_line(line)], [])
+            self.assertEqual(refused(lines, "--channels", "16"), 0)
 
     def test_the_same_numbers_give_the_same_script(self):
         words = "9", "500", "--loss", "0.2", "--channels", "3"

@@ -45,7 +45,22 @@ class Program(unittest.TestCase):
             with self.subTest(words):
                 script = f'yes "$1" | "$0" {words} | head -1; echo "${{PIPESTATUS[1]}}"'
                 done = subprocess.run(["bash", "-c", script, support.PROGRAM, line], capture_output=True, timeout=60)
-                self.assertEqual((done.stdout, done.stderr), (first + b"3\n", b""))
+                self.assertEqual(done.stdout, first + b"3\n")
+                # The first lines that are none of a script are told, and no more.
+                self.assertEqual(done.stderr.count(b"\n"), 21 if words == "sim --down" else 0)
+
+    def test_a_file_in_place_of_standard_input(self):
+        trace, script = (os.path.join(support.ROOT, "examples", name) for name in ("exchange.trace", "call.script"))
+        for words, path in (["decode"], trace), (["decode", "--wide"], trace), (["judge", "--k", "3"], trace), (["frame"], trace), (["sim"], script), (["deframe", "dte"], trace):
+            with self.subTest(words), open(path, "rb") as file:
+                read = subprocess.run([support.PROGRAM, *words], stdin=file, capture_output=True, timeout=60)
+                named = subprocess.run([support.PROGRAM, *words, path], stdin=subprocess.DEVNULL, capture_output=True, timeout=60)
+                self.assertEqual((named.returncode, named.stdout, named.stderr), (read.returncode, read.stdout, read.stderr))
+        status, said = self.run_on(["decode", "/none"], input=b"> 013febdf\n", stdout=subprocess.DEVNULL)
+        self.assertEqual(status, 2)
+        self.assertRegex(said, rb"^/none: .*\n$")
+        for words in (["vectors", trace], [trace], ["decode", trace, trace], ["decode", trace, "--wide"]):
+            self.assertEqual(self.run_on(words, input=b"", stdout=subprocess.DEVNULL)[0], 2)
 
     def test_a_read_that_fails(self):
         folder = os.open("/", os.O_RDONLY)

@@ -5,17 +5,21 @@
 #![tactic(auto)]
 
 ghost use Rattle.clap.specs.Values.{kind_of};
-ghost use Rattle.std.specs.Prelude.{◌≡◌, ◌≤◌, ◌⊎◌, IfErr, IfOk, OnErr, map};
+ghost use Rattle.std.specs.Prelude.{◌≡◌, ◌≢◌, ◌≤◌, ◌⊎◌, ◌↔◌, ◌++◌, ◌∷◌, [], ℕ, List, IfErr, IfOk, IfSome, IsTrue, OnErr, map};
 ghost use Rattle.x25.specs.Main.{EndsWithout, IsToldOf};
 ghost use Rattle.x25.specs.Tasks.{Ends};
 ghost use Rattle.x25_settings.specs.Words.{AreInRange, Say};
 ghost use Rattle.x25_settings.specs.declared.words.Task.{Task as TaskValue};
 
+mod explainer;
 mod output;
 mod tasks;
 
+use explainer::Explainer;
 use output::{Output, is_unread};
+use std::alloc::Global;
 use std::convert::AsStr;
+use std::fs::{File, Files};
 use std::io::{ErrorKind, Write};
 use std::process::ExitCode;
 use std::rt::Env;
@@ -57,7 +61,7 @@ fn run<E: Eprint + AllocGlobal, R: Source, W: Write>(
     requires { AreInRange task }
     ensures { Ends task result (R.remaining reader.old) (W.contents writer.old.writer) (W.contents writer.new.writer) }
 {
-    let result = perform(rt.alloc(), task, reader, writer);
+    let result = perform(rt.alloc(), task, Explainer::new(rt), reader, writer);
     conclude(rt, result, writer.is_closed())
 }
 
@@ -117,8 +121,55 @@ fn start<E: Print + Eprint + AllocGlobal, R: Source, W: Write, S: AsStr>(
     carry_out(rt, settings(rt.alloc(), words), reader, writer)
 }
 
+/// Whether a task reads anything.
+fn reads(task: Task) -> bool
+    ensures { IsTrue result ↔ (task ≢ TaskValue.Vectors) }
+{
+    task != Task::Vectors
+}
+
+/// The task that words ask for but for their last one, where that names a file to read in place of standard input: the
+/// words as they are aren't plain, those before it are, and it begins with no dash. Profile.
+fn on_file<S: AsStr>(alloc: Global, words: &[S]) -> Option<(Task, &str)>
+    ensures named { IfSome result (λ named. (front : List (List ℕ)) × (map S.text words.now
+        ≡ front ++ named.1.now ∷ []) × Say front named.0) }
+    ensures other { IfSome result (λ named. (task : TaskValue) → ¬ Say (map S.text words.now) task) }
+    ensures range { IfSome result (λ named. AreInRange named.0) }
+{
+    if settings(alloc, words).is_ok() {
+        return None;
+    }
+    let (last, front) = words.split_last()?;
+    let task = settings(alloc, front).ok()?;
+    let path = last.as_str();
+    if reads(task) && !path.starts_with('-') {
+        Some((task, path))
+    } else {
+        None
+    }
+}
+
+/// Does a task on a file, and answers the exit status: the task's, 3 at a fault, or 2 where there is no such file.
+fn run_on<R: Eprint + AllocGlobal + Files, W: Write>(
+    rt: &R,
+    task: Task,
+    path: &str,
+    writer: &mut Output<W>,
+) -> u8
+    requires { AreInRange task }
+    ensures { result ≤ 3 }
+{
+    match File::open(rt, path) {
+        Ok(file) => run(rt, task, &mut Device::new(file), writer),
+        Err(error) => {
+            eprintln!(rt; "{path}: {error}").ok();
+            USAGE
+        }
+    }
+}
+
 /// Does what the words of the command line ask for, and answers the exit status.
-fn answer<R: Input + Print + Eprint + Env + AllocGlobal>(rt: &R) -> u8
+fn answer<R: Input + Print + Eprint + Env + AllocGlobal + Files>(rt: &R) -> u8
     ensures { result ≤ 3 }
 {
     let words = match env::args(rt) {
@@ -134,9 +185,14 @@ fn answer<R: Input + Print + Eprint + Env + AllocGlobal>(rt: &R) -> u8
     let Ok(words) = words.skip(1).collect::<Vec<String>>(rt.alloc()) else {
         return report(rt, Fault::NoMemory);
     };
-    let mut reader = Device::new(rt.reader());
     let mut writer = Output::new(io::writer(rt));
-    start(rt, words.as_slice(), &mut reader, &mut writer)
+    match on_file(rt.alloc(), words.as_slice()) {
+        Some((task, path)) => run_on(rt, task, path, &mut writer),
+        None => {
+            let mut reader = Device::new(rt.reader());
+            start(rt, words.as_slice(), &mut reader, &mut writer)
+        }
+    }
 }
 
 fn main(rt: HostRuntime) -> ExitCode {

@@ -16,7 +16,7 @@ use x25_io::{Fault, Sink, Source};
 use x25_judge::{Strictness, judge_lines};
 use x25_pipe::{Role, station};
 use x25_settings::{End, Place, Simulation, StationOptions, Task};
-use x25_sim::{Cfg, sim};
+use x25_sim::{Cfg, Reporter, sim};
 
 /// The settings of a station, as the words of the command line say them.
 fn settings_of(options: StationOptions) -> Cfg
@@ -63,9 +63,10 @@ fn answer_lines<R: Source, W: Sink>(
 }
 
 /// Runs the simulator as the words of the command line ask for.
-fn simulate<R: Source, W: Sink>(
+fn simulate<P: Reporter, R: Source, W: Sink>(
     alloc: Global,
     simulation: Simulation,
+    reporter: P,
     reader: &mut R,
     writer: &mut W,
 ) -> Result<u8, Fault>
@@ -78,13 +79,22 @@ fn simulate<R: Source, W: Sink>(
         (W.contents writer.old) (W.contents writer.new))) }
 {
     let Simulation { down, tap, station } = simulation;
-    sim(alloc, down, settings_of(station), tap, reader, writer)
+    sim(
+        alloc,
+        down,
+        settings_of(station),
+        tap,
+        reporter,
+        reader,
+        writer,
+    )
 }
 
 /// Does a task, and answers the exit status: 1 where a line was refused, a rule was broken or a vector is bad, else 0.
-pub(crate) fn perform<R: Source, W: Sink>(
+pub(crate) fn perform<P: Reporter, R: Source, W: Sink>(
     alloc: Global,
     task: Task,
+    reporter: P,
     reader: &mut R,
     writer: &mut W,
 ) -> Result<u8, Fault>
@@ -101,7 +111,7 @@ pub(crate) fn perform<R: Source, W: Sink>(
 {
     match task {
         Task::Decode { long, wide } => decode_lines(alloc, Reading { long, wide }, reader, writer),
-        Task::Sim(simulation) => simulate(alloc, simulation, reader, writer),
+        Task::Sim(simulation) => simulate(alloc, simulation, reporter, reader, writer),
         Task::Station(place) => answer_lines(alloc, place, reader, writer),
         Task::Vectors => vectors(alloc, writer),
         Task::Judge(judging) => judge_lines(

@@ -4,7 +4,7 @@ use x25_bit_line::{Role, deframe, frame};
 use x25_decode::{Reading, decode_lines};
 use x25_io::{Fault, Sink, Source};
 use x25_pipe::station;
-use x25_sim::{Cfg, sim};
+use x25_sim::{Cfg, Silent, sim};
 
 #[derive(Clone, Copy)]
 pub enum Task {
@@ -80,7 +80,7 @@ pub fn does<R: Source, W: Sink>(
 ) -> Result<u8, Fault> {
     match task {
         Task::Decode => decode_lines(alloc, AS_WRITTEN, reader, writer),
-        Task::Sim => sim(alloc, false, USUAL, false, reader, writer),
+        Task::Sim => sim(alloc, false, USUAL, false, Silent, reader, writer),
         Task::Station => station(alloc, Role::Dte, USUAL, reader, writer),
         Task::Deframe(from) => deframe(alloc, from, reader, writer),
         Task::Frame => frame(alloc, reader, writer),

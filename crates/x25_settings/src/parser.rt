@@ -59,7 +59,7 @@ static COMMANDS: [Row; 7] = [
     Row {
         name: "decode",
         about: "Answer lines of octets, `> HEX` from the DTE and `< HEX` from the DCE, by lines of text",
-        usage: "x25 decode [--long] [--wide] < TRACE",
+        usage: "x25 decode [--long] [--wide] [FILE]",
         examples: None,
         words: &[LONG, WIDE],
     },
@@ -73,7 +73,7 @@ static COMMANDS: [Row; 7] = [
     Row {
         name: "sim",
         about: "Run a script of two stations joined by a line, and write what each end is told",
-        usage: "x25 sim [OPTIONS] < SCRIPT",
+        usage: "x25 sim [OPTIONS] [FILE]",
         examples: Some(
             "Examples:
   x25 sim < examples/call.script
@@ -99,7 +99,7 @@ static COMMANDS: [Row; 7] = [
     Row {
         name: "station",
         about: "Run one station: lines of the other end and of its user in, what it does out",
-        usage: "x25 station END [OPTIONS] < LINES",
+        usage: "x25 station END [OPTIONS] [FILE]",
         examples: Some(
             "Examples:
   printf 'dte connect\\n< 01738357\\n' | x25 station dte",
@@ -117,7 +117,7 @@ static COMMANDS: [Row; 7] = [
     Row {
         name: "judge",
         about: "Answer lines of a trace of both ends as `decode` does, and say which end broke which rule",
-        usage: "x25 judge [OPTIONS] < TRACE",
+        usage: "x25 judge [OPTIONS] [FILE]",
         examples: Some(
             "Examples:
   x25 judge < examples/exchange.trace
@@ -137,7 +137,7 @@ static COMMANDS: [Row; 7] = [
     Row {
         name: "deframe",
         about: "Answer octets of a synchronous line by the lines of a trace that it carries",
-        usage: "x25 deframe END < LINE",
+        usage: "x25 deframe END [FILE]",
         examples: Some(
             "Examples:
   x25 deframe dte < line.bin | grep -v '^#' | x25 decode
@@ -148,7 +148,7 @@ static COMMANDS: [Row; 7] = [
     Row {
         name: "frame",
         about: "Answer lines of a trace by octets of a synchronous line that carries their frames",
-        usage: "x25 frame < TRACE",
+        usage: "x25 frame [FILE]",
         examples: None,
         words: &[],
     },

@@ -23,7 +23,7 @@ module _ (cfg : Cfg) (down tap asked : Bool) (same : asked ≡ tap) (old now : O
       (begins_before cfg asked old now stage [] false (turns cfg asked (lines_of script)) (opened cfg down asked) b)
 
   -- the script is still to come
-  leads_script : (s : Simulator) → StandsAt cfg tap old now s.stage [] false (opened cfg down tap) → Simulates (record { cfg = cfg; down = down; tap = tap }) s old now (lines_of script) script
+  leads_script : (s : Stage) → StandsAt cfg tap old now s [] false (opened cfg down tap) → Simulates (record { cfg = cfg; down = down; tap = tap }) s old now (lines_of script) script
   unfolding simulated
   leads_script s h = record {
     at = (opened cfg down tap).next;
@@ -35,9 +35,9 @@ module _ (cfg : Cfg) (down tap asked : Bool) (same : asked ≡ tap) (old now : O
     any = parts_refused false (opened cfg down tap).sayings (turns cfg tap (lines_of script) (opened cfg down tap).next).sayings;
   }
 
-  pub script_begins : (s t : Simulator) (held first : HeldLine) → held ≡ first → s ≡ t → t.stage ≡ stage → HoldsLine [] first → StandsAt cfg asked old now stage [] false (opened cfg down asked)
-      → LinesLead (λ lines. Simulates (record { cfg = cfg; down = down; tap = tap }) s old now lines script) held script
-  script_begins s t held first is_held is_simulator is_stage empty h =
-      between (λ (lines : List (List ℕ)). Simulates (record { cfg = cfg; down = down; tap = tap }) s old now lines script) held script (subst (HoldsLine []) (sym is_held) empty)
-      (leads_script s (subst (λ u. StandsAt cfg tap old now u [] false (opened cfg down tap)) (sym (ap (λ (s : Simulator). s.stage) is_simulator ∙ is_stage))
+  pub script_begins : {P : Type 0} (s t : Simulator P) (held first : HeldLine) → held ≡ first → s ≡ t → t.stage ≡ stage → HoldsLine [] first → StandsAt cfg asked old now stage [] false (opened cfg down asked)
+      → LinesLead (λ lines. Simulates (record { cfg = cfg; down = down; tap = tap }) s.stage old now lines script) held script
+  script_begins {P} s t held first is_held is_simulator is_stage empty h =
+      between (λ (lines : List (List ℕ)). Simulates (record { cfg = cfg; down = down; tap = tap }) s.stage old now lines script) held script (subst (HoldsLine []) (sym is_held) empty)
+      (leads_script s.stage (subst (λ u. StandsAt cfg tap old now u [] false (opened cfg down tap)) (sym (ap (λ (s : Simulator P). s.stage) is_simulator ∙ is_stage))
       (subst (λ a. StandsAt cfg a old now stage [] false (opened cfg down a)) same h)))

@@ -5,6 +5,7 @@
 #![tactic(auto)]
 
 mod law;
+mod reporter;
 mod running;
 mod simulator;
 mod stage;
@@ -14,6 +15,7 @@ pub use law::{
     heal_is_the_schedule, scripts_are_runs, scripts_keep_order, scripts_meet_in_sessions,
     scripts_move,
 };
+pub use reporter::{Reporter, Silent};
 pub use running::sim;
 pub use x25_io::{Device, Failed, Fault, Sink, Source};
 pub use x25_station::Cfg;

@@ -8,6 +8,7 @@ ghost use Rattle.x25_sim.specs.code.Stream.{program};
 ghost use Rattle.x25_sim.specs.laws.WritesRun.{WritesRun};
 
 use crate::law::{scripts_keep_order, scripts_meet_in_sessions};
+use crate::reporter::Reporter;
 use crate::simulator::Simulator;
 use crate::stage::Stage;
 use std::alloc::Global;
@@ -36,11 +37,12 @@ fn made_ready(
 }
 
 /// As `sim`, but for what the laws say.
-fn play<R: Source, W: Sink>(
+fn play<P: Reporter, R: Source, W: Sink>(
     alloc: Global,
     down: bool,
     cfg: Cfg,
     tap: bool,
+    reporter: P,
     reader: &mut R,
     writer: &mut W,
 ) -> Result<u8, Fault>
@@ -52,7 +54,7 @@ fn play<R: Source, W: Sink>(
         drop(stage);
         return Err(fault);
     }
-    let simulator = Simulator::new(Vec::new(alloc), stage);
+    let simulator = Simulator::new(Vec::new(alloc), stage, reporter);
     let lines = LineByLine::new(held, simulator);
     take_text(lines, piece, reader, writer)
 }
@@ -62,16 +64,17 @@ fn play<R: Source, W: Sink>(
 /// the line, as lines for `decode`. With `down` nothing is set up, and both links are down where the script begins. It
 /// answers the status: 1 where a line or an event was refused, else 0.
 ///
-/// A line outside of the grammar, or of more than 131,200 characters, becomes `? 60`; an event that is refused `! ` and
+/// A line outside of the grammar, or of more than 131,200 characters, becomes `? 60`, and is reported; an event that is refused `! ` and
 /// its number, which is the station's own where the station refuses. `drain` is several deliveries, and `heal`
 /// deliveries, firings of timer T1 and pulls, each a step. What was told is let go of. Buffers are made first; a growth
 /// that is refused later ends the run with `NoMemory`. A reader is called at most 2^64 - 1 times; the clauses on the
 /// text speak of scripts of fewer octets than that. Profile.
-pub fn sim<R: Source, W: Sink>(
+pub fn sim<P: Reporter, R: Source, W: Sink>(
     alloc: Global,
     down: bool,
     cfg: Cfg,
     tap: bool,
+    reporter: P,
     reader: &mut R,
     writer: &mut W,
 ) -> Result<u8, Fault>
@@ -84,5 +87,5 @@ pub fn sim<R: Source, W: Sink>(
 {
     scripts_keep_order();
     scripts_meet_in_sessions();
-    play(alloc, down, cfg, tap, reader, writer)
+    play(alloc, down, cfg, tap, reporter, reader, writer)
 }

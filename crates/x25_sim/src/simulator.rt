@@ -1,29 +1,69 @@
 //! A script, line by line.
+use crate::reporter::Reporter;
 use crate::stage::{Stage, away_from};
 use x25_console::{read_octets, read_user, station_command};
 use x25_io::{Fault, LineTaker, Sink};
 use x25_script::{Command, HexDigits, Role, ScriptTaker, read_line};
 use x25_world::Event;
 
-/// The octets of a line, and the stations.
+/// The octets of a line, the stations, and who is told of lines that are none.
 #[derive(Drop)]
-pub(crate) struct Simulator {
+pub(crate) struct Simulator<P: Reporter> {
     octets: Vec<u8>,
     stage: Stage,
+    reporter: P,
+    // How many lines were taken, as far as that is counted.
+    number: u64,
+    // The last line that was read is none.
+    is_none: bool,
 }
 
-impl Simulator {
-    ghost use Rattle.std.specs.Prelude.{◌≡◌};
+impl<P: Reporter> Simulator<P> {
+    ghost use Rattle.std.specs.Prelude.{◌≡◌, Bool, List, ℕ, Option};
+    ghost use Rattle.x25_io.specs.code.MarksFaults.{MarksFaults};
+    ghost use Rattle.x25_script.specs.Reading.{line_in};
+    ghost use Rattle.x25_station.specs.declared.config.Cfg.{Cfg as Settings};
+    ghost use Rattle.x25_sim.specs.Stage.{asked_turn};
+    ghost use Rattle.x25_sim.specs.code.Stands.{Turns};
 
-    pub(crate) fn new(octets: Vec<u8>, stage: Stage) -> Simulator
+    pub(crate) fn new(octets: Vec<u8>, stage: Stage, reporter: P) -> Simulator<P>
         ensures { result.stage ≡ stage }
     {
-        Simulator { octets, stage }
+        Simulator {
+            octets,
+            stage,
+            reporter,
+            number: 0,
+            is_none: false,
+        }
+    }
+
+    /// Reports the line that was read, where it is none.
+    fn report_none(&mut self, line: &[u8])
+        ensures { self.new.stage ≡ self.old.stage }
+    {
+        if self.is_none {
+            self.is_none = false;
+            self.reporter.report(self.number, Some(line));
+        }
+    }
+
+    /// Does what a line asks for.
+    #[inline(always)]
+    fn read<W: Sink>(&mut self, line: &[u8], writer: &mut W) -> Result<(), Fault>
+        ensures turns { (cfg : Settings) (tap : Bool) (old : Option (List ℕ))
+            → Turns cfg tap old (W.contents writer.old) (W.contents writer.new) self.old.stage self.new.stage result
+            (λ w. asked_turn cfg tap w (line_in line.now)) }
+        ensures faults { MarksFaults W.Sink writer.old writer.new result }
+    {
+        let result = read_line(line, self, writer);
+        self.report_none(line);
+        result
     }
 }
 
 /// What a line of the script asks for happens, and is told.
-impl<W: Sink> ScriptTaker<W> for Simulator {
+impl<W: Sink, P: Reporter> ScriptTaker<W> for Simulator<P> {
     ghost use Rattle.std.specs.Prelude.{Bool, List, ℕ, Option};
     ghost use Rattle.x25_io.specs.code.MarksFaults.{MarksFaults};
     ghost use Rattle.x25_station.specs.declared.config.Cfg.{Cfg as Settings};
@@ -88,11 +128,12 @@ impl<W: Sink> ScriptTaker<W> for Simulator {
     }
 
     fn nothing(&mut self, writer: &mut W) -> Result<(), Fault> {
+        self.is_none = true;
         self.stage.read_nothing(writer)
     }
 }
 
-impl LineTaker for Simulator {
+impl<P: Reporter> LineTaker for Simulator<P> {
     ghost use Rattle.x25_sim.specs.Stage.{sim_status, sim_text, simulated};
     ghost use Rattle.x25_sim.specs.code.Stream.{Asked, Simulates, WritesLines};
 
@@ -107,16 +148,20 @@ impl LineTaker for Simulator {
 
     ghost may_want = { Unit {0} };
 
-    ghost stands = { Simulates };
+    ghost stands = { λ a s. Simulates a s.stage };
 
     ghost ended = { λ a old now lines script. WritesLines a.cfg a.tap old now lines
         (simulated a.cfg a.down a.tap script) };
 
     #[inline(always)]
     fn take_line<W: Sink>(&mut self, line: Option<&[u8]>, writer: &mut W) -> Result<(), Fault> {
+        self.number = self.number.saturating_add(1);
         match line {
-            Some(line) => read_line(line, self, writer),
-            None => self.stage.read_nothing(writer),
+            Some(line) => self.read(line, writer),
+            None => {
+                self.reporter.report(self.number, None);
+                self.stage.read_nothing(writer)
+            }
         }
     }
 

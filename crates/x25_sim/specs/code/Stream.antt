@@ -8,7 +8,7 @@ use Rattle.x25_world.specs.World.{World}
 use Rattle.x25_sim.specs.Telling.{sayings_text}
 use Rattle.x25_sim.specs.Stage.{Turn, sim_status, sim_text, simulated, turns}
 use Rattle.x25_sim.specs.code.Leaves.{Leaves}
-use Rattle.x25_sim.specs.declared.simulator.Simulator.{Simulator}
+use Rattle.x25_sim.specs.declared.stage.Stage.{Stage}
 
 -- how a simulation is asked for
 pub record Asked : Type 0 where
@@ -17,8 +17,8 @@ pub record Asked : Type 0 where
   pub tap : Bool
 
 -- With `lines` to come the turns of the script are made in the end.
-abbrev pub Simulates : Asked → Simulator → Option (List ℕ) → Option (List ℕ) → List (List ℕ) → List ℕ → Type 0
-Simulates a s old now lines script = Leaves a.cfg a.tap old now s.stage (turns a.cfg a.tap lines) [] false
+abbrev pub Simulates : Asked → Stage → Option (List ℕ) → Option (List ℕ) → List (List ℕ) → List ℕ → Type 0
+Simulates a s old now lines script = Leaves a.cfg a.tap old now s (turns a.cfg a.tap lines) [] false
     (simulated a.cfg a.down a.tap script)
 
 -- Written is all of the text but what is said of the lines to come.

@@ -12,12 +12,12 @@ returns-in-Some-clause-on g c = λ a old first lines script line l.
     let whole = simulated a.cfg a.down a.tap script in
     let is = subst (λ o. MatchOption o (most_line < length first) (λ held. (held.now ≡ first) × (length first ≤ most_line))) c.in-Some.is line in
     let few = subst (λ line. length line ≤ most_line) (sym is.0) is.1 in
-    let obeys = obeyed a.cfg a.tap old (g.W.Sink.contents c.args.writer.now) (g.W.Sink.contents c.read_line.new.with) c.args.self.now.stage c.read_line.new.taker.stage c.read_line.result c.in-Some.line.now
-    few (c.read_line.ensures.exact.0 a.cfg a.tap old) in
-    let turned = subst (λ line. Turns a.cfg a.tap old (g.W.Sink.contents c.args.writer.now) (g.W.Sink.contents c.read_line.new.with) c.args.self.now.stage c.read_line.new.taker.stage c.read_line.result (turn a.cfg a.tap line)) is.0
+    let obeys = obeyed a.cfg a.tap old (g.W.Sink.contents c.args.writer.now) (g.W.Sink.contents c.read.new.writer) c.args.self.now.stage c.read.new.self.stage c.read.result c.in-Some.line.now
+    few (c.read.ensures.turns a.cfg a.tap old) in
+    let turned = subst (λ line. Turns a.cfg a.tap old (g.W.Sink.contents c.args.writer.now) (g.W.Sink.contents c.read.new.writer) c.args.self.now.stage c.read.new.self.stage c.read.result (turn a.cfg a.tap line)) is.0
     obeys in
-    MatchResult-weaker c.read_line.result (turned l.at l.text l.status l.stands)
-    (λ _ done. line_done a.cfg a.tap old _ _ whole c.args.self.now.stage c.read_line.new.taker.stage first lines l done)
+    MatchResult-weaker c.read.result (turned l.at l.text l.status l.stands)
+    (λ _ done. line_done a.cfg a.tap old _ _ whole c.args.self.now.stage c.read.new.self.stage first lines l done)
     (λ _ begins. line_failed a.cfg a.tap old _ _ whole c.args.self.now.stage first lines l begins)
 
 pub returns-in-None-clause-on : goal.returns-in-None-clause-on

@@ -1,0 +1,15 @@
+//! Who is told which lines of a script ask for nothing.
+
+/// Is told of the lines that are none. What it is told of, and what becomes of that, changes nothing of a run.
+pub trait Reporter: Drop {
+    /// The line of that number, counted from 1, is none of a script; `None` where it is longer than any that is held.
+    fn report(&mut self, number: u64, line: Option<&[u8]>);
+}
+
+/// Tells nobody.
+#[derive(Drop)]
+pub struct Silent;
+
+impl Reporter for Silent {
+    fn report(&mut self, _number: u64, _line: Option<&[u8]>) {}
+}
