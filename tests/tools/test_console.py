@@ -222,7 +222,7 @@ class Live(ToolCase):
         self.begin(f". off idle\n= {UA}\ndte linkup\n. off idle\n= dte disconnect\ndte disconnect\n. off idle\n", "--t1", "60")
         self.join()
         self.sends(UA)
-        self.terminal.shows("linkup")
+        self.terminal.shows("linkup  (the link is up)\ndte>")
         self.terminal.types("\x03")
         self.terminal.shows("disconnect")
         self.terminal.types("\x03")
