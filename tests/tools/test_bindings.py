@@ -51,6 +51,11 @@ class Declared(unittest.TestCase):
         self.assertEqual([name for _, name in arms], ["".join(word.capitalize() for word in name.split("_")) for name, number in kinds[2:]])
         self.assertEqual([number for number, _ in arms], [*(str(number) for _, number in kinds[2:-1]), "_"])
 
+    @unittest.skipUnless(shutil.which("mypy"), "mypy isn't installed")
+    def test_the_binding_of_python_is_typed(self):
+        done = subprocess.run(["mypy", "--strict", "--cache-dir=/dev/null", os.path.join(BINDING, "x25")], capture_output=True, text=True)
+        self.assertEqual((done.returncode, done.stderr), (0, ""), done.stdout)
+
 
 class Answers(unittest.TestCase):
     """What the binding of Python makes of the answers of a library, whose calls a test says."""
