@@ -335,7 +335,7 @@ Usage: x25 <COMMAND>\n\nFor more information, try '--help'.\n";
 /// The help of `decode`.
 const DECODE: &str =
     "Answer lines of octets, `> HEX` from the DTE and `< HEX` from the DCE, by lines of text\n\n\
-Usage: x25 decode [--long] [--wide] < TRACE\n\nOptions:\n      \
+Usage: x25 decode [--long] [--wide] [FILE]\n\nOptions:\n      \
 --long  Take up to 128 octets of user data in a CALL, in place of 16\n      \
 --wide  Read packets in all the forms that X.25 lets equipment send, and mark those by `~ wide`\n  \
 -h, --help  Print help\n";
@@ -343,7 +343,7 @@ Usage: x25 decode [--long] [--wide] < TRACE\n\nOptions:\n      \
 /// The help of `sim`.
 const SIM: &str =
     "Run a script of two stations joined by a line, and write what each end is told\n\n\
-Usage: x25 sim [OPTIONS] < SCRIPT\n\nOptions:\n      \
+Usage: x25 sim [OPTIONS] [FILE]\n\nOptions:\n      \
 --tap           Tell the frames of each step behind its entries, as lines for `decode`\n      \
 --down          Begin with both links down, in place of just set up\n      \
 --long          Take up to 128 octets of user data in a CALL, in place of 16\n      \
@@ -358,7 +358,7 @@ x25 sim --tap < examples/call.script | grep '^[<>]' | x25 decode\n";
 /// The help of `judge`.
 const JUDGE: &str =
     "Answer lines of a trace of both ends as `decode` does, and say which end broke which rule\n\n\
-Usage: x25 judge [OPTIONS] < TRACE\n\nOptions:\n      \
+Usage: x25 judge [OPTIONS] [FILE]\n\nOptions:\n      \
 --k <N>    The window of the link: 1 to 7 [default: 7]\n      \
 --long     Take up to 128 octets of user data in a CALL, in place of 16\n      \
 --wide     Read packets in all the forms that X.25 lets equipment send, and mark those by `~ wide`\n      \
