@@ -5,7 +5,8 @@
 #![tactic(auto)]
 
 ghost use Rattle.clap.specs.Values.{kind_of};
-ghost use Rattle.std.specs.Prelude.{◌≡◌, ◌≢◌, ◌≤◌, ◌⊎◌, ◌↔◌, ◌++◌, ◌∷◌, [], ℕ, List, IfErr, IfOk, IfSome, IsTrue, OnErr, map};
+ghost use Rattle.std.specs.Prelude.{◌≡◌, ◌≢◌, ◌≤◌, ◌⊎◌, ◌↔◌, ◌++◌, ◌∷◌, [], ℕ, List};
+ghost use Rattle.std.specs.Prelude.{IfErr, IfOk, IfSome, IsTrue, OnErr, map};
 ghost use Rattle.x25.specs.Main.{EndsWithout, IsToldOf};
 ghost use Rattle.x25.specs.Tasks.{Ends};
 ghost use Rattle.x25_settings.specs.Words.{AreInRange, Say};

@@ -64,11 +64,11 @@ fn play<P: Reporter, R: Source, W: Sink>(
 /// the line, as lines for `decode`. With `down` nothing is set up, and both links are down where the script begins. It
 /// answers the status: 1 where a line or an event was refused, else 0.
 ///
-/// A line outside of the grammar, or of more than 131,200 characters, becomes `? 60`, and is reported; an event that is refused `! ` and
-/// its number, which is the station's own where the station refuses. `drain` is several deliveries, and `heal`
-/// deliveries, firings of timer T1 and pulls, each a step. What was told is let go of. Buffers are made first; a growth
-/// that is refused later ends the run with `NoMemory`. A reader is called at most 2^64 - 1 times; the clauses on the
-/// text speak of scripts of fewer octets than that. Profile.
+/// A line outside of the grammar, or of more than 131,200 characters, becomes `? 60`, and is reported; an event that is
+/// refused `! ` and its number, which is the station's own where the station refuses. `drain` is several deliveries,
+/// and `heal` deliveries, firings of timer T1 and pulls, each a step. What was told is let go of. Buffers are made
+/// first; a growth that is refused later ends the run with `NoMemory`. A reader is called at most 2^64 - 1 times; the
+/// clauses on the text speak of scripts of fewer octets than that. Profile.
 pub fn sim<P: Reporter, R: Source, W: Sink>(
     alloc: Global,
     down: bool,
