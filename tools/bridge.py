@@ -149,6 +149,7 @@ class Bridge:
         if is_still and self._leaves is None:
             self._act()
         self._user.read(ready)
+        self._signals.read(ready)
         for outlet in self._outlets:
             outlet.flush()
         return True
