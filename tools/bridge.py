@@ -66,19 +66,13 @@ import sys
 import time
 from collections import Counter
 
-import decoding
-import piped
-import wires
-import x25lines
-import x25names
-import xot_wire
-from circuits import Circuits
-from losses import within
-from mishaps import Mishaps
-from places import host_and_port, ports, xot_host
-from users import SLOW, Outlet, Signals, User, kind
-from x25lines import BadInput, FrameLine
-from xot import XOT_PORT
+from x25tools import decoding, piped, wires, x25lines, x25names, xot_wire
+from x25tools.circuits import Circuits
+from x25tools.mishaps import Mishaps
+from x25tools.places import host_and_port, ports, within, xot_host
+from x25tools.users import SLOW, Outlet, Signals, User, kind
+from x25tools.x25lines import BadInput, FrameLine
+from x25tools.xot import XOT_PORT
 
 # What a station answers where there is room again once something is acknowledged, where the link was ended for good, for a parameter
 # out of range, and for a line that asks for nothing.
@@ -445,7 +439,7 @@ def station_of(options):
     """The station that the words ask for: the program's, or that of a library."""
     if not options.library:
         return piped.Station(options.x25, options.end, station_words(options))
-    import linked
+    from x25tools import linked
 
     given = {name: getattr(options, name) for name in ("k", "n2", "channels") if getattr(options, name) is not None}
     return linked.Station(options.library, options.end, long_data=options.long, say_sizes=is_xot(options), wide=options.wide, **given)
@@ -549,7 +543,7 @@ def main():
         signals = files.enter_context(Signals())
         console = None
         if has_console(options):
-            from console import Console, Screen
+            from x25tools.console import Console, Screen
 
             console = Console(options, signals.leave)
             signals.at_first = console.close

@@ -20,12 +20,9 @@ import argparse
 import itertools
 import sys
 
-import decoding
-import drawing
-import simruns
-import x25lines
-from drawing import Entry, Frame, Note
-from x25lines import BadInput
+from x25tools import decoding, drawing, simruns, x25lines
+from x25tools.drawing import Entry, Frame, Note
+from x25tools.x25lines import BadInput
 
 LEAST_WIDTH, MOST_WIDTH = 40, 400
 

@@ -43,15 +43,10 @@ import re
 import sys
 from collections import Counter, defaultdict
 
-import captures
-import decoding
-import judging
-import pcap2x25
-import x25lines
-import x25names
-from ahead import ahead
-from messages import I_FRAME, WIDE, Messages, octets_of
-from x25lines import BadInput
+from x25tools import captures, decoding, judging, pcap2x25, x25lines, x25names
+from x25tools.ahead import ahead
+from x25tools.messages import I_FRAME, WIDE, Messages, dumped
+from x25tools.x25lines import BadInput
 
 # What a capture of either format begins with; no line does.
 CAPTURE = (b"\xa1", b"\xd4", b"\x4d", b"\x0a")
@@ -59,9 +54,6 @@ RED, BLUE, GREEN, GREY, PLAIN = "\x1b[31m", "\x1b[34m", "\x1b[32m", "\x1b[90m", 
 COLOURS = {">": BLUE, "<": GREEN}
 CHANNEL = re.compile(r" ch=(\d+)")
 OF_NO_CHANNEL = re.compile(r"\| (?:RESTART|DIAG|REG)|^(?:dte|dce) restart")
-A_ROW = 16
-# Each octet as it is shown as text.
-SHOWN = bytes(octet if 0x20 <= octet < 0x7F else ord(".") for octet in range(256))
 # Data of more than 32 octets, and how many of its digits are shown where it is folded.
 LONG_DATA, FOLDED = re.compile("(?<==)[0-9a-f]{66,}"), 48
 # Where the packet begins in the text of a frame that was made up.
@@ -76,13 +68,6 @@ def channel_of(text):
     """The channel of a frame's packet, or of an entry; None where it has none."""
     found = CHANNEL.search(text)
     return int(found[1]) if found else 0 if OF_NO_CHANNEL.search(text) else None
-
-
-def dumped(octets):
-    """The rows of some octets: where each stands, its octets in hexadecimal digits and as text."""
-    text = octets.translate(SHOWN).decode()
-    for at in range(0, len(octets), A_ROW):
-        yield f"    {at:04x}  {octets[at : at + A_ROW].hex(' '):{3 * A_ROW}} {text[at : at + A_ROW]}"
 
 
 class Reader:

@@ -18,13 +18,9 @@ import support
 from support import ToolCase
 
 import bridge
-import places
-import tcp
-import users
-import wires
-import x25lines
-from circuits import Circuits
-from mishaps import Mishaps
+from x25tools import places, tcp, users, wires, x25lines
+from x25tools.circuits import Circuits
+from x25tools.mishaps import Mishaps
 
 FAKE = os.path.join(os.path.dirname(os.path.abspath(__file__)), "fake_station.py")
 SABM, UA = "> 013febdf", "< 01738357"

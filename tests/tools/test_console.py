@@ -13,8 +13,8 @@ import support
 from support import ToolCase
 from terminal import Terminal, script
 
-import console
 from test_bridge import FAKE, RESTART, SABM, UA
+from x25tools import console
 
 MESSAGE = "dte message ch=1 at 1.0.0 q=0 data="
 

@@ -9,8 +9,8 @@ import socket
 import time
 from collections import Counter, deque
 
-import x25lines
-from wires import MOST_READ, ROOM
+from x25tools import x25lines
+from x25tools.wires import MOST_READ, ROOM
 
 # How many notices a `wait` may find that came before it, and how much of each.
 MOST_NOTICES, MOST_OF_A_NOTICE = 10_000, 200
