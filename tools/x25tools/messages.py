@@ -1,7 +1,9 @@
 """Messages out of the frames of a line: what each end's link took, in order and once, and its data joined by the M bit."""
 
+from __future__ import annotations
+
 import re
-from typing import NamedTuple, Optional
+from typing import Iterator, NamedTuple, Optional
 
 OTHER = {">": "<", "<": ">"}
 # What `decode --wide` puts behind the text of a frame or a packet in another form than a station writes.
@@ -31,12 +33,12 @@ class Message(NamedTuple):
     q: str = ""
 
 
-def octets_of(data):
+def octets_of(data: str) -> bytes:
     """The octets of a field `data`, of which `-` has none."""
     return b"" if data == "-" else bytes.fromhex(data)
 
 
-def dumped(octets):
+def dumped(octets: bytes) -> Iterator[str]:
     """The rows of some octets: where each stands, its octets in hexadecimal digits and as text."""
     text = octets.translate(SHOWN).decode()
     for at in range(0, len(octets), A_ROW):
@@ -50,11 +52,11 @@ class Way:
     that the recorder missed a frame and that end didn't. Where the first number isn't known the first N(R) of the other end tells it.
     """
 
-    def __init__(self, due=None):
+    def __init__(self, due: int | None = None) -> None:
         self._due = self._acknowledged = due
-        self._held = {}
+        self._held: dict[int, str] = {}
 
-    def take(self, number, packet):
+    def take(self, number: int, packet: str) -> list[str]:
         """Takes the I frame of a number; returns its packet, in a list, where it is due."""
         if number == self._due:
             self._held.pop(number, None)
@@ -67,11 +69,11 @@ class Way:
             self._held[number] = packet
         return []
 
-    def acknowledge(self, number):
+    def acknowledge(self, number: int) -> list[str | None]:
         """Takes an N(R); returns the packets that it shows were taken, and None for each of these that is missing."""
-        taken = []
+        taken: list[str | None] = []
         if self._due is None:
-            taken = self._begin(number)
+            taken += self._begin(number)
         elif self._acknowledged is not None and self._after(number) > self._after(self._due):
             if (number - 1) % MODULUS not in self._held:
                 # What it acknowledges wasn't seen: it tells nothing, and may be wrong.
@@ -83,7 +85,7 @@ class Way:
         self._acknowledged = number
         return taken
 
-    def end(self):
+    def end(self) -> list[str]:
         """Returns what is held of a way that nothing was heard of, in the order in which it came."""
         if self._due is not None or not self._held:
             return []
@@ -92,7 +94,7 @@ class Way:
         self._held.clear()
         return taken
 
-    def _begin(self, number):
+    def _begin(self, number: int) -> list[str]:
         """Begins where the other end stands; returns what is held and lies just before that, or from there on without a gap."""
         first = number
         while (first - 1) % MODULUS in self._held:
@@ -103,18 +105,19 @@ class Way:
             self._due = (self._due + 1) % MODULUS
         return taken
 
-    def _after(self, number):
+    def _after(self, number: int) -> int:
+        assert self._acknowledged is not None
         return (number - self._acknowledged) % MODULUS
 
 
 class Messages:
     """Joins the messages of one line. Give it the text of each frame, as `x25 decode` has it, and the first number, if it is known."""
 
-    def __init__(self, due=None):
+    def __init__(self, due: int | None = None) -> None:
         self._ways = {direction: Way(due) for direction in OTHER}
-        self._begun = {}
+        self._begun: dict[tuple[str, int], bytearray] = {}
 
-    def take(self, direction, text):
+    def take(self, direction: str, text: str) -> list[Message]:
         """Returns what a frame completes, in order."""
         if found := I_FRAME.match(text):
             completed = self._acknowledged(direction, int(found[2]))
@@ -128,20 +131,20 @@ class Messages:
             return [message for way in OTHER for message in self._broken(way, None, "link set up")]
         return []
 
-    def end(self):
+    def end(self) -> Iterator[Message]:
         """Yields what is known at the end alone."""
         for direction, way in self._ways.items():
             for packet in way.end():
                 yield from self._packet(direction, packet)
 
-    def _acknowledged(self, direction, number):
+    def _acknowledged(self, direction: str, number: int) -> list[Message]:
         """What an N(R) of an end completes of the other's messages."""
         way, completed = OTHER[direction], []
         for packet in self._ways[way].acknowledge(number):
             completed += [Message(way, None, "packet not recorded")] if packet is None else self._packet(way, packet)
         return completed
 
-    def _packet(self, direction, packet):
+    def _packet(self, direction: str, packet: str) -> list[Message]:
         """What a packet that was taken completes."""
         if found := DATA.fullmatch(packet):
             key = direction, int(found[1])
@@ -156,7 +159,7 @@ class Messages:
             return self._broken(direction, int(found[2]) if found[2] else None, found[1])
         return []
 
-    def _broken(self, direction, channel, why):
+    def _broken(self, direction: str, channel: int | None, why: str) -> list[Message]:
         """Drops what an end had begun on a channel, or on all, and tells it."""
         keys = [key for key in self._begun if key[0] == direction and channel in (None, key[1])]
         return [Message(*key, f"message broken off by {why}", bytes(self._begun.pop(key))) for key in keys]
