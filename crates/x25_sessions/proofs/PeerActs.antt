@@ -18,7 +18,7 @@ use Rattle.x25_link.specs.laws.NoteLaw.{Tells}
 use Rattle.x25_link.specs.laws.SetUp.{Is, TakesPart, waiting_after, waiting_sends, waiting_up}
 use Rattle.x25_link.specs.laws.WindowMachine.{hands_down, nothing}
 use Rattle.x25_link.specs.laws.WindowLaw.{window_of, brought_by, ends_in, ending_of, Ends, Follows, IsRunning, IsOut, sets_up, StaysOut}
-use Rattle.x25_line.specs.laws.Stations.{Act, Put, Deliver, T1, Connect, Disconnect, Abandon, Lose, Damage, is_visible}
+use Rattle.x25_line.specs.laws.Stations.{Act, Put, Deliver, T1, Connect, Disconnect, Abandon, Probe, Lose, Damage, is_visible}
 use Rattle.x25_line.specs.laws.Stations as one
 use Rattle.x25_line.specs.laws.StationClaims.{number_in}
 use Rattle.x25_line.specs.laws.Sessions.{Entry, Meeting, Sessions, sabm_in, ua_in, disc_in, how_many, after_step, unless, heard, delivered, replaced, acts}
@@ -405,20 +405,14 @@ module _ (reads : ReadsSpelled) (rests : SessionLaws) (Odd : Type 0) (c : Settin
       by false step i =
           asks_held w h (ap is_up waiting) (with_nothing Down w.near.station.tries) [] (Some Retries) step i refl tt refl (λ _. due.ua) (omega (arith, due.sabm, due.ua), omega (arith, no_disc)) latest
 
-  timer_up : (w : PeerSessions) (h : Held Odd c w) → is_up w.near.station.phase ≡ true → timer_refusal w.near.station ≡ None → HeldThen w (after_step c (both_ends w) w.back w.met [] (timer_step c w.near.station))
-  timer_up w h up accepted = by (nat_lt w.near.station.tries c.retries) (rests.laws.window.timer c w.near.station (running w h up))
+  timer_up : (w : PeerSessions) (h : Held Odd c w) → is_up w.near.station.phase ≡ true → IsReached Odd c (with_peer_once h.alone.peer (one.after_step c (our_end h.alone) (octets_of w.back) [] (timer_step c w.near.station))) → HeldThen w (after_step c (both_ends w) w.back w.met [] (timer_step c w.near.station))
+  timer_up w h up reached = by (nat_lt w.near.station.tries c.retries) (rests.laws.window.timer c w.near.station (running w h up))
     where
       i : InSession Odd c w h
       i = in_session Odd c w h up
 
       step : Step
       step = timer_step c w.near.station
-
-      reached : IsReached Odd c (with_peer_once h.alone.peer (one.after_step c (our_end h.alone) (octets_of w.back) [] step))
-      reached =
-          alone_acts h.alone h.reached T1 h.alone.back [] (timer_step c)
-          (ap (λ (o : Option LinkError). one.unless o (our_end h.alone) (one.after_step c (our_end h.alone) h.alone.back [] (timer_step c h.alone.near.station))) (ap timer_refusal i.station ∙ accepted))
-          w.near.station i.station w.back i.comes.octets
 
       never_reset : Retries ≡ Reset → ⊥
       never_reset k = cc
@@ -435,6 +429,22 @@ module _ (reads : ReadsSpelled) (rests : SessionLaws) (Odd : Type 0) (c : Settin
           (stays_facts reads c (Odd → ⊥) (w.peer.stand ≡ Asking) nothing w.near.station step tt (h.running up).1 stays) (stays_no_packet c.window nothing w.near.station step (λ v y k. k) stays)
       by false ends = leaves_held w h up Retries never_reset never_disc never_frmr step reached (rests.laws.timer_tells c w.near.station) ends
 
+  fired_alone : (w : PeerSessions) (h : Held Odd c w) → is_up w.near.station.phase ≡ true → timer_refusal w.near.station ≡ None
+      → IsReached Odd c (with_peer_once h.alone.peer (one.after_step c (our_end h.alone) (octets_of w.back) [] (timer_step c w.near.station)))
+  fired_alone w h up accepted =
+      let i = in_session Odd c w h up in
+      alone_acts h.alone h.reached T1 h.alone.back [] (timer_step c)
+      (ap (λ (o : Option LinkError). one.unless o (our_end h.alone) (one.after_step c (our_end h.alone) h.alone.back [] (timer_step c h.alone.near.station))) (ap timer_refusal i.station ∙ accepted))
+      w.near.station i.station w.back i.comes.octets
+
+  probed_alone : (w : PeerSessions) (h : Held Odd c w) → is_up w.near.station.phase ≡ true
+      → IsReached Odd c (with_peer_once h.alone.peer (one.after_step c (our_end h.alone) (octets_of w.back) [] (timer_step c w.near.station)))
+  probed_alone w h up =
+      let i = in_session Odd c w h up in
+      alone_acts h.alone h.reached Probe h.alone.back [] (timer_step c)
+      (ap (λ (b : Bool). let v : one.Stations = if b then one.after_step c (our_end h.alone) h.alone.back [] (timer_step c h.alone.near.station) else our_end h.alone in v) (ap (λ (z : LinkStation). is_up z.phase) i.station ∙ up))
+      w.near.station i.station w.back i.comes.octets
+
   timer_held : (w : PeerSessions) (h : Held Odd c w) → IsTimely c T1 w → HeldThen w (unless (timer_refusal w.near.station) (both_ends w) (after_step c (both_ends w) w.back w.met [] (timer_step c w.near.station)))
   timer_held w h timely = by w.near.station.phase refl
     where
@@ -443,7 +453,7 @@ module _ (reads : ReadsSpelled) (rests : SessionLaws) (Odd : Type 0) (c : Settin
 
       by : (p : Phase) → w.near.station.phase ≡ p → HeldThen w (unless (timer_refusal w.near.station) (both_ends w) done)
       by Waiting is = held_unless (timer_refusal w.near.station) w done h (λ _. timer_waiting w h is (timely is))
-      by Up is = held_unless (timer_refusal w.near.station) w done h (λ accepted. timer_up w h (ap is_up is) accepted)
+      by Up is = held_unless (timer_refusal w.near.station) w done h (λ accepted. timer_up w h (ap is_up is) (fired_alone w h (ap is_up is) accepted))
       by phase is = rw (ap (λ (p : Phase). timer_runs p w.near.station) is) h
 
   -- ---- connect, disconnect and abandon
@@ -536,6 +546,8 @@ module _ (reads : ReadsSpelled) (rests : SessionLaws) (Odd : Type 0) (c : Settin
   acts_held Disconnect w h timely =
       held_unless (disconnect_refusal w.near.station.phase) w (after_step c (both_ends w) w.back w.met [] (disconnect_step c w.near.station)) h (λ accepted. disconnect_held w h accepted)
   acts_held Abandon w h timely = held_if (is_up w.near.station.phase) w (after_step c (both_ends w) w.back w.met [] (abandon_step c w.near.station)) h (λ up. abandon_held w h up)
+  acts_held Probe w h timely =
+      held_if (is_up w.near.station.phase) w (after_step c (both_ends w) w.back w.met [] (timer_step c w.near.station)) h (λ up. timer_up w h up (probed_alone w h up))
   acts_held (Lose i) w h timely = back_lost Odd c w h (remove w.back i) (less_removes w.back i)
   acts_held (Damage i octets) w h timely =
       held_if (is_visible octets) w (record (both_ends w) { back = replaced w.back i octets }) h (λ visible. back_lost Odd c w h (replaced w.back i octets) (less_replaces octets visible w.back i))

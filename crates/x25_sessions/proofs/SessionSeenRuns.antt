@@ -20,7 +20,7 @@ use Rattle.x25_link.specs.laws.WindowMachine.{Window, hands_down, nothing}
 use Rattle.x25_link.specs.laws.WindowLaw.{window_of, Follows, IsOut}
 use Rattle.x25_window.specs.laws.Window.{after}
 use Rattle.x25_window.specs.laws.Window.Step.{HandDown}
-use Rattle.x25_line.specs.laws.Stations.{Act, Put, Deliver, T1, Connect, Disconnect, Abandon, Lose, Damage, Event, Near, Far, is_visible}
+use Rattle.x25_line.specs.laws.Stations.{Act, Put, Deliver, T1, Connect, Disconnect, Abandon, Probe, Lose, Damage, Event, Near, Far, is_visible}
 use Rattle.x25_line.specs.laws.StationClaims.{AreJoined}
 use Rattle.x25_line.specs.laws.Sessions.{Entry, SessionEnd, Meeting, Sessions, turned, swapped, sabm_in, ua_in, disc_in, how_many, sent_in, after_step, unless, delivered, replaced, acts, happens, run, from_nothing, from_set_up, asked, IsTimely, IsTimelyAt, AreTimely}
 use Rattle.x25_line.specs.laws.SessionClaims.{Throughout}
@@ -77,6 +77,7 @@ alike c p T1 w = alike_unless p (timer_refusal w.near.station) w _ (both_ends (w
 alike c p Connect w = alike_unless p (connect_refusal w.near.station.phase) w _ (both_ends (with_peer p w)) _ refl refl
 alike c p Disconnect w = alike_unless p (disconnect_refusal w.near.station.phase) w _ (both_ends (with_peer p w)) _ refl refl
 alike c p Abandon w = alike_if p (is_up w.near.station.phase) w _ (both_ends (with_peer p w)) _ refl refl
+alike c p Probe w = alike_if p (is_up w.near.station.phase) w _ (both_ends (with_peer p w)) _ refl refl
 alike c p (Lose i) w = refl
 alike c p (Damage i octets) w = alike_if p (is_visible octets) w _ (both_ends (with_peer p w)) _ refl refl
 
@@ -104,6 +105,7 @@ acts_still c T1 w = still_unless (timer_refusal w.near.station) w _ (record { fa
 acts_still c Connect w = still_unless (connect_refusal w.near.station.phase) w _ (record { far = refl; less = all w.back })
 acts_still c Disconnect w = still_unless (disconnect_refusal w.near.station.phase) w _ (record { far = refl; less = all w.back })
 acts_still c Abandon w = still_if (is_up w.near.station.phase) w _ (record { far = refl; less = all w.back })
+acts_still c Probe w = still_if (is_up w.near.station.phase) w _ (record { far = refl; less = all w.back })
 acts_still c (Lose i) w = record { far = refl; less = less_removes w.back i }
 acts_still c (Damage i octets) w = by (is_visible octets) refl
   where
@@ -341,6 +343,7 @@ module _ (c d : Settings) (joined : AreJoined c d) (reads : ReadsSpelled) (rests
   peer_acts Disconnect w timely owes h =
       seen_unless (disconnect_refusal w.near.station.phase) w (after_step d w w.back w.met [] (disconnect_step d w.near.station)) h (λ accepted. disconnect_seen w h accepted)
   peer_acts Abandon w timely owes h = seen_if (is_up w.near.station.phase) w (after_step d w w.back w.met [] (abandon_step d w.near.station)) h (λ up. abandon_seen w h up)
+  peer_acts Probe w timely owes h = seen_if (is_up w.near.station.phase) w (after_step d w w.back w.met [] (timer_step d w.near.station)) h (λ up. timer_up w h up)
   peer_acts (Lose i) w timely owes h = line_seen w h (remove w.back i) (sessions.Loses i)
   peer_acts (Damage i octets) w timely owes h =
       seen_if (is_visible octets) w (record w { back = replaced w.back i octets }) h (λ visible. line_seen w h (replaced w.back i octets) (sessions.Damages i octets visible))
