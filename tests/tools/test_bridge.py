@@ -17,8 +17,7 @@ from unittest import mock
 import support
 from support import ToolCase
 
-import bridge
-from x25tools import places, tcp, users, wires, x25lines
+from x25tools import bridge, places, tcp, users, wires, x25lines
 from x25tools.circuits import Circuits
 from x25tools.mishaps import Mishaps
 
