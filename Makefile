@@ -135,10 +135,11 @@ SCRIPTS = x25dump:x25dump pcap2x25:pcap2x25 x25pcap:x25pcap x25bridge:bridge x25
 # No dependency has the program proved: `sudo make install` is to install what is there.
 install:
 	@test -x $(PROGRAM) || { echo "There is no $(PROGRAM): make x25 leaves it there." >&2; exit 1; }
-	install -d $(INSTALLED)/bin $(INSTALLED)/lib/x25 $(INSTALLED)/share/man/man1 $(INSTALLED)/share/bash-completion/completions
+	install -d $(INSTALLED)/bin $(INSTALLED)/lib/x25/x25tools $(INSTALLED)/share/man/man1 $(INSTALLED)/share/bash-completion/completions
 	install -d $(DOCUMENTS)/examples/embed $(DOCUMENTS)/examples/c $(DOCUMENTS)/examples/python $(DOCUMENTS)/examples/rust/src
 	install -m 755 $(PROGRAM) $(INSTALLED)/bin/x25
 	install -m 644 $(filter-out tools/manpage.py,$(wildcard tools/*.py)) $(INSTALLED)/lib/x25
+	install -m 644 $(wildcard tools/x25tools/*.py) $(INSTALLED)/lib/x25/x25tools
 	for pair in $(SCRIPTS); do \
 	    chmod 755 $(INSTALLED)/lib/x25/$${pair#*:}.py && \
 	    ln -sf ../lib/x25/$${pair#*:}.py $(INSTALLED)/bin/$${pair%:*} && \

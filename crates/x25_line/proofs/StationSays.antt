@@ -37,14 +37,14 @@ single_of (f ∷ e ∷ fs) g h = absurd h.1
 
 -- ---- frames with an N(R)
 
-tell_sent : (k : ℕ) (p : Peer) → p.told ≤ length p.taken → (f : PlainFrame) → Shows f (machine_frame (machine_of k p) None) → MaySend ⊥ p (Ok f) (told_to (length p.taken) p)
+pub tell_sent : (k : ℕ) (p : Peer) → p.told ≤ length p.taken → (f : PlainFrame) → Shows f (machine_frame (machine_of k p) None) → MaySend ⊥ p (Ok f) (told_to (length p.taken) p)
 tell_sent k p told (info ns nr pf x) h = absurd h.0
 tell_sent k p told (rr command nr pf) h = (length p.taken, record { number = h.1; rising = told; taken = omega arith }, refl)
 tell_sent k p told (rnr command nr pf) h = (length p.taken, record { number = h.1; rising = told; taken = omega arith }, refl)
 tell_sent k p told (rej command nr pf) h = (length p.taken, record { number = h.1; rising = told; taken = omega arith }, refl)
 tell_sent k p told f h = absurd h
 
-item_sent : (k n : ℕ) (p : Peer) → k ≤ 7 → p.sent ≤ p.acked + k → p.told ≤ length p.taken → Allows (machine_of k p) (Send n) → (n1 : ℕ) → Item n1 p.given n
+pub item_sent : (k n : ℕ) (p : Peer) → k ≤ 7 → p.sent ≤ p.acked + k → p.told ≤ length p.taken → Allows (machine_of k p) (Send n) → (n1 : ℕ) → Item n1 p.given n
     → (f : PlainFrame) → Shows f (machine_frame (after (machine_of k p) (Send n)) (numbered n (slice_get p.given n))) → MaySend ⊥ p (Ok f) (told_to (length p.taken) (numbered_to n p))
 item_sent k n p high room told may n1 i (info ns nr pf x) h =
     let shown : ShowsItem (numbered n (Some i.item)) ns x = subst (λ (o : Option (List ℕ)). ShowsItem (numbered n o) ns x) i.is h.0 in
