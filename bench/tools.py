@@ -24,8 +24,7 @@ from building import TOP
 TOOLS = os.path.join(TOP, "tools")
 sys.path.insert(0, TOOLS)
 
-import captures  # noqa: E402
-import x25lines  # noqa: E402
+from x25tools import captures, x25lines  # noqa: E402
 
 PROGRAM = os.environ.get("X25") or os.path.join(TOP, "build", "x25")
 SITA, ETHERNET = 196, 1

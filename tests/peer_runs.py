@@ -17,7 +17,7 @@ import sys
 import runs
 from runs import RNR, RR
 
-from x25lines import fcs  # where runs finds it
+from x25tools.x25lines import fcs  # where runs finds it
 
 STEPS, MESSAGES = 250, 12
 REJ = 0x09

@@ -20,7 +20,7 @@ import re
 import subprocess
 import sys
 
-import x25lines
+from x25tools import x25lines
 
 MANUAL = os.path.join(os.path.dirname(os.path.dirname(os.path.abspath(__file__))), "docs", "MANUAL.md")
 HEAD = [

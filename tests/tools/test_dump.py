@@ -13,9 +13,8 @@ import support
 from support import ToolCase
 
 import golden
-import messages
-import x25names
-from x25lines import fcs
+from x25tools import messages, x25names
+from x25tools.x25lines import fcs
 
 CALL, DATA = bytes.fromhex("10010b43123456700041"), bytes.fromhex("1001006869")
 DECODED = b"""0.5\t> SABM cmd P=1

@@ -15,7 +15,7 @@ import judge_runs
 import link_runs
 import odd_runs
 import order_runs
-from x25lines import fcs, is_sealed
+from x25tools.x25lines import fcs, is_sealed
 
 # In the gate; `make judge-runs` plays 10,000, 10,000, 5,000 and 3,600.
 RUNS = 300

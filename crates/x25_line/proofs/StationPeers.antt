@@ -19,7 +19,7 @@ use Rattle.x25_link.specs.Hearing.{Step, other}
 use Rattle.x25_link.specs.Link.{take_step, put_step, put_refusal, timer_refusal, connect_refusal, disconnect_refusal}
 use Rattle.x25_link.specs.laws.WindowMachine.{Window, Input, hands_down, receives, nothing}
 use Rattle.x25_link.specs.laws.WindowLaw.{window_of, after_input, MayHandUp, ending_of, brought_by, Stays, Ends, Follows}
-use Rattle.x25_line.specs.laws.Stations.{StationEnd, Stations, Act, Put, Deliver, T1, Connect, Disconnect, Abandon, Lose, Damage, Event, Near, Far, after_step, unless, delivered, replaced, is_visible, acts, swapped, happens, run, start}
+use Rattle.x25_line.specs.laws.Stations.{StationEnd, Stations, Act, Put, Deliver, T1, Connect, Disconnect, Abandon, Probe, Lose, Damage, Event, Near, Far, after_step, unless, delivered, replaced, is_visible, acts, swapped, happens, run, start}
 use Rattle.x25_line.specs.laws.StationClaims.{AreJoined, IsSetUpOnce, Always, HandsOne}
 use Rattle.x25_line.specs.laws.LawsBelow.{Laws}
 use Rattle.x25_line.specs.laws.Said.{Said, Tells, said}
@@ -357,6 +357,7 @@ alike c p T1 w = alike_unless p (timer_refusal w.near.station) w _ (our_end (wit
 alike c p Connect w = alike_unless p (connect_refusal w.near.station.phase) w _ (our_end (with_peer p w)) _ refl refl
 alike c p Disconnect w = alike_unless p (disconnect_refusal w.near.station.phase) w _ (our_end (with_peer p w)) _ refl refl
 alike c p Abandon w = alike_if p (is_up w.near.station.phase) w _ (our_end (with_peer p w)) _ refl refl
+alike c p Probe w = alike_if p (is_up w.near.station.phase) w _ (our_end (with_peer p w)) _ refl refl
 alike c p (Lose i) w = refl
 alike c p (Damage i octets) w = alike_if p (is_visible octets) w _ (our_end (with_peer p w)) _ refl refl
 

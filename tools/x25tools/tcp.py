@@ -5,8 +5,8 @@ import errno
 import os
 import socket
 
-import x25lines
-from x25lines import BadInput
+from x25tools import x25lines
+from x25tools.x25lines import BadInput
 
 MOST_READ = 65_536
 

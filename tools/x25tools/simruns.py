@@ -9,10 +9,9 @@ import re
 import subprocess
 from typing import NamedTuple
 
-import decoding
-import x25lines
-from drawing import DAMAGED, LOST, WAITING
-from x25lines import BadInput
+from x25tools import decoding, x25lines
+from x25tools.drawing import DAMAGED, LOST, WAITING
+from x25tools.x25lines import BadInput
 
 MARK, ANSWERED = "", "? 60"
 SECONDS = 60

@@ -13,10 +13,9 @@ import termios
 import textwrap
 import threading
 
-import tcp
-import x25names
-from users import Outlet, kind
-from x25dump import dumped
+from x25tools import tcp, x25names
+from x25tools.messages import dumped
+from x25tools.users import Outlet, kind
 
 with contextlib.suppress(ImportError):
     import readline

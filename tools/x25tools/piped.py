@@ -8,9 +8,9 @@ before the next event, so that neither pipe can fill.
 import subprocess
 from typing import List, NamedTuple, Optional
 
-import x25lines
-from decoding import MISSING_STATION, let_end, say_if_unproved
-from x25lines import BadInput, FrameLine
+from x25tools import x25lines
+from x25tools.decoding import MISSING_STATION, let_end, say_if_unproved
+from x25tools.x25lines import BadInput, FrameLine
 
 T1 = {b"off", b"on", b"start"}
 WORK = {b"idle": True, b"busy": False}

@@ -1,7 +1,7 @@
 """What happens to the frames of one way of a bridge's line: chances by which they are lost and damaged."""
 
-import x25lines
-from losses import Dice
+from x25tools import x25lines
+from x25tools.losses import Dice
 
 
 class Mishaps:

@@ -7,11 +7,11 @@ import select
 import shutil
 import subprocess
 
-import x25lines
-from x25lines import BadInput
+from x25tools import x25lines
+from x25tools.x25lines import BadInput
 
-# The program that was built or installed together with this file, which stands in tools/ or lib/x25/; then the one of `make look`.
-FOLDER = os.path.dirname(os.path.realpath(__file__))
+# The program that was built or installed together with the scripts, which stand in tools/ or lib/x25/; then the one of `make look`.
+FOLDER = os.path.dirname(os.path.dirname(os.path.realpath(__file__)))
 UNPROVED = "x25-unproved"
 PLACES = [os.path.normpath(os.path.join(FOLDER, place)) for place in ("../build/x25", "../../bin/x25", f"../build/{UNPROVED}")]
 MISSING = "frames in hexadecimal digits need the program x25: build it (make look, make x25) or name it (--x25)"

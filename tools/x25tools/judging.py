@@ -7,8 +7,8 @@ and such a frame would explain has a mark of its own.
 import re
 from collections import Counter
 
-import decoding
-from x25lines import fcs
+from x25tools import decoding
+from x25tools.x25lines import fcs
 
 AT = ("line", "dte", "dce")
 OTHER = {">": "<", "<": ">"}

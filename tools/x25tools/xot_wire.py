@@ -11,9 +11,7 @@ import socket
 import time
 from collections import deque
 
-import tcp
-import wires
-import x25lines
+from x25tools import tcp, wires, x25lines
 
 UA, RR, RNR, SABM, DISC, DM, FRMR, POLL = 0x63, 0x01, 0x05, 0x2F, 0x43, 0x0F, 0x87, 0x10
 CALL, CLEAR, CLEAR_CONFIRMATION, RESTART, RESTART_CONFIRMATION, DIAGNOSTIC = 0x0B, 0x13, 0x17, 0xFB, 0xFF, 0xF1

@@ -4,7 +4,7 @@ lapbether (Linux) sends a frame of LAPB, without its frame check sequence, behin
 by Ethernet type 6000 and to all stations. LLC (ISO 8802-2) carries the packets of ISO 8208 by the service access point 7e.
 """
 
-from x25lines import MOST_OCTETS, fcs
+from x25tools.x25lines import MOST_OCTETS, fcs
 
 ETHERNET, LINUX_COOKED, LINUX_COOKED_2 = 1, 113, 276
 VLAN_TAGS = (0x8100, 0x88A8, 0x9100)

@@ -1,9 +1,9 @@
-"""Words of a command line that say where something is: ports, hosts, and both."""
+"""Words of a command line: ports, hosts, both, and numbers in a range."""
 
 import argparse
 import re
 
-from xot import XOT_PORT
+from x25tools.xot import XOT_PORT
 
 
 def port(text):
@@ -37,3 +37,18 @@ def xot_host(text):
     """A word HOST or HOST:PORT of XOT."""
     has_port = re.fullmatch(r".*:[0-9]*", text) and not text.endswith("]")
     return host_and_port(text) if has_port else (host(text), XOT_PORT)
+
+
+def within(read, least, most):
+    """What reads a word that is a number in a range; `read` is `int` or `float`."""
+
+    def number(text):
+        try:
+            value = read(text)
+        except ValueError:
+            value = None
+        if value is None or not least <= value <= most:
+            raise argparse.ArgumentTypeError(f"{text!r} is no number from {least} to {most}")
+        return value
+
+    return number

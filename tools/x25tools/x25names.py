@@ -2,7 +2,7 @@
 
 import re
 
-import facilities
+from x25tools import facilities
 
 ORIGINATED = "DTE originated"
 CLEARING = {

@@ -9,8 +9,8 @@ import socket
 import time
 from collections import Counter, deque
 
-import x25lines
-from wires import MOST_READ, ROOM
+from x25tools import x25lines
+from x25tools.wires import MOST_READ, ROOM
 
 # How many notices a `wait` may find that came before it, and how much of each.
 MOST_NOTICES, MOST_OF_A_NOTICE = 10_000, 200
@@ -78,9 +78,9 @@ def kind(notice):
 
 
 class Signals:
-    """CTRL-C and SIGTERM as something to read. The first that came is `number`; a second one ends the script at once. 0 is for `leave`.
+    """CTRL-C and SIGTERM as something to read. The first is `number` once it is read; a second one ends the script at once. 0 is for `leave`.
 
-    `at_first` is called at the first one, before a second one can come.
+    `at_first` is called when the first one comes, before a second one can.
     """
 
     def __init__(self):
@@ -97,8 +97,7 @@ class Signals:
     def __exit__(self, *_):
         signal.set_wakeup_fd(-1)
 
-    def _come(self, number, _):
-        self.number = number
+    def _come(self, *_):
         if self.at_first:
             self.at_first()
         for each in (signal.SIGINT, signal.SIGTERM):
@@ -106,12 +105,16 @@ class Signals:
 
     def leave(self):
         """The user wants to end."""
-        self.number = 0
         self._writer.send(b"\0")
 
     def readers(self):
-        """The file that has something to read once one came, and None did before."""
+        """The file that has something to read once one came, until it is read."""
         return [self._reader] if self.number is None else []
+
+    def read(self, ready):
+        """Reads the first that came: what `_come` itself set could be missed by a wait that begins just then."""
+        if self._reader in ready:
+            self.number = self._reader.recv(1)[0]
 
 
 class Commands:

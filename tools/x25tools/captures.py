@@ -12,8 +12,8 @@ import math
 import struct
 from typing import NamedTuple, Optional
 
-import x25lines
-from x25lines import NANOSECONDS, BadInput
+from x25tools import x25lines
+from x25tools.x25lines import NANOSECONDS, BadInput
 
 PCAP_MAGIC = {
     b"\xa1\xb2\xc3\xd4": (">", 1000),

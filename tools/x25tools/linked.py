@@ -3,12 +3,13 @@
 import os
 import sys
 
-import x25lines
-from piped import Answer
-from x25lines import BadInput, FrameLine
+from x25tools import x25lines
+from x25tools.piped import Answer
+from x25tools.x25lines import BadInput, FrameLine
 
-# The binding stands beside this script where it is installed, and else in bindings/.
-sys.path.append(os.path.join(os.path.dirname(os.path.dirname(os.path.abspath(__file__))), "bindings", "python"))
+# The binding stands beside this package where it is installed, and else in bindings/.
+TOOLS = os.path.dirname(os.path.dirname(os.path.abspath(__file__)))
+sys.path.append(os.path.join(os.path.dirname(TOOLS), "bindings", "python"))
 import x25  # noqa: E402
 
 T1 = {x25.Timer.OFF: "off", x25.Timer.BEGINS: "start", x25.Timer.GOES_ON: "on"}

@@ -3,7 +3,7 @@
 import os
 import pickle
 
-from x25lines import BadInput
+from x25tools.x25lines import BadInput
 
 
 class End(Exception):

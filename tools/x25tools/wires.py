@@ -15,11 +15,9 @@ import socket
 import struct
 import time
 
-import lan
-import tcp
-import x25lines
-from tcp import MOST_READ
-from x25lines import BadInput
+from x25tools import lan, tcp, x25lines
+from x25tools.tcp import MOST_READ
+from x25tools.x25lines import BadInput
 
 # What `select` finds room for in a pipe: a write of this many octets doesn't block.
 ROOM = select.PIPE_BUF

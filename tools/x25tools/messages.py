@@ -16,6 +16,9 @@ ENDED = re.compile(r"((?:RESTART|CLEAR|RESET)(?:CONF)?|CALL|ACCEPT)\b(?: ch=(\d+
 MODULUS = 8
 # A message is shown in parts of about this many octets where it is longer.
 MOST_MESSAGE = 1 << 20
+A_ROW = 16
+# Each octet as it is shown as text.
+SHOWN = bytes(octet if 0x20 <= octet < 0x7F else ord(".") for octet in range(256))
 
 
 class Message(NamedTuple):
@@ -31,6 +34,13 @@ class Message(NamedTuple):
 def octets_of(data):
     """The octets of a field `data`, of which `-` has none."""
     return b"" if data == "-" else bytes.fromhex(data)
+
+
+def dumped(octets):
+    """The rows of some octets: where each stands, its octets in hexadecimal digits and as text."""
+    text = octets.translate(SHOWN).decode()
+    for at in range(0, len(octets), A_ROW):
+        yield f"    {at:04x}  {octets[at : at + A_ROW].hex(' '):{3 * A_ROW}} {text[at : at + A_ROW]}"
 
 
 class Way:
