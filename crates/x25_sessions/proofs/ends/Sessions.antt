@@ -1,10 +1,12 @@
 -- The session that stands has a line of its own: what of the line has its number. So what holds of a link set up once holds of it.
 use Rattle.std.proofs.Common.{◌≡◌, ◌≤◌, ◌<◌, ◌==◌, ◌⊎◌, inl, inr, ℕ, suc, List, [], ◌∷◌, ◌++◌, map, Bool, true, false, Option, Some, None, refl, sym, ap, ◌∙◌, subst, arith, append-nil, length}
 use Rattle.x25_window.specs.code.Modulo.{resolved}
+use Rattle.x25_line.specs.laws.InWindow.{IsPrefix}
 use Rattle.x25_line.specs.laws.Said.{Said, Carried, Tells, Sabm, Disc, Ua, Else, Odd}
 use Rattle.x25_line.specs.laws.Sessions.{Meeting, turned}
 use Rattle.x25_line.specs.laws.SessionClaims.{AllMet, SomeMet}
 use Rattle.x25_line.specs.laws.Peer.{Peer, fresh_peer, MaySay, MayMake}
+use Rattle.x25_line.proofs.Order.{Told, told, only, IsApart, only_append, only_quiet, Left, left_front, left_deeper, Hold, starts, hold_turned, handed, says, left, makes, in_order, valid_front}
 use Rattle.x25_line.proofs.sessions.SessionHeld.{View, Live, Soon, Gone, IsPaired, IsBegun}
 use Rattle.x25_line.proofs.sessions.SessionRuns.{near_turned, far_turned}
 use Rattle.x25_sessions.specs.laws.PeerSessions.{Stand, Out, Asking, In, put_for}
@@ -13,17 +15,9 @@ use Rattle.x25_sessions.specs.laws.EndClaims.{InOrder, MetInOrder, KeepSessions,
 use Rattle.x25_sessions.proofs.ends.Lines.{Less, whole, gone, hurt, deeper, less_removes, less_spoils, AllTags, tags_less}
 use Rattle.x25_sessions.proofs.ends.Held.{Side, NotIn, ViewIs}
 use Rattle.x25_sessions.proofs.ends.Moves.{Held, held_turned, in_session, nothing_held, set_up_held, moves_held, told_held, come_held, popped}
-use Rattle.x25_sessions.proofs.ends.Order.{Told, without, Hold, starts, hold_turned, handed, sent, heard as heard_one, fewer, in_order, valid_front}
 use Rattle.x25_sessions.proofs.ends.Puts.{same_or_other, put_same, put_other, put_apart, put_alike}
 
 -- ---- the line of one session
-
-abbrev told : Option Carried → ℕ → Told
-told carried nr = record { carried = carried; nr = nr }
-
-abbrev only : Said → List Told → List Told
-only (Tells c n) rest = told c n ∷ rest
-only s rest = rest
 
 abbrev keep : Bool → Said → List Told → List Told
 keep true s rest = only s rest
@@ -33,15 +27,6 @@ abbrev of : ℕ → List Letter → List Told
 of q [] = []
 of q (e ∷ es) = keep (e.session == q) e.said (of q es)
 
--- no N(R)
-abbrev IsApart : Said → Type 0
-IsApart (Tells carried nr) = ⊥
-IsApart s = Unit {0}
-
-only_append : (s : Said) (xs ys : List Told) → only s xs ++ ys ≡ only s (xs ++ ys)
-only_append (Tells c n) xs ys = refl
-only_append s xs ys = refl
-
 keep_append : (b : Bool) (s : Said) (xs ys : List Told) → keep b s xs ++ ys ≡ keep b s (xs ++ ys)
 keep_append true s xs ys = only_append s xs ys
 keep_append false s xs ys = refl
@@ -49,10 +34,6 @@ keep_append false s xs ys = refl
 of_append : (q : ℕ) (xs ys : List Letter) → of q (xs ++ ys) ≡ of q xs ++ of q ys
 of_append q [] ys = refl
 of_append q (e ∷ xs) ys = ap (keep (e.session == q) e.said) (of_append q xs ys) ∙ sym (keep_append (e.session == q) e.said (of q xs) (of q ys))
-
-only_quiet : (s : Said) (xs : List Told) → IsApart s → only s xs ≡ xs
-only_quiet (Tells c n) xs off = absurd off
-only_quiet s xs off = refl
 
 keep_quiet : (b : Bool) (s : Said) (xs : List Told) → IsApart s → keep b s xs ≡ xs
 keep_quiet true s xs off = only_quiet s xs off
@@ -72,29 +53,20 @@ of_none b q [] less h = refl
 of_none b q (e ∷ es) less h =
     (let low = h.0 in ap (λ (x : Bool). keep x e.said (of q es)) (below e.session q (omega (arith, low, less)))) ∙ of_none b q es less h.1
 
+kept_front : (b : Bool) (s : Said) (xs : List Told) → Left (keep b s xs) xs
+kept_front false s xs = (None, refl)
+kept_front true s xs = left_front s xs
+
+kept_deeper : (b : Bool) (s : Said) (xs ys : List Told) → Left xs ys → Left (keep b s xs) (keep b s ys)
+kept_deeper false s xs ys h = h
+kept_deeper true s xs ys h = left_deeper s xs ys h
+
 -- it loses one at most where the line does
-abbrev Left : List Told → List Told → Type 0
-Left xs ys = (o : Option ℕ) × (ys ≡ without o xs)
-
-left_front : (b : Bool) (s : Said) (xs : List Told) → Left (keep b s xs) xs
-left_front false s xs = (None, refl)
-left_front true (Tells c n) xs = (Some 0, refl)
-left_front true s xs = (None, refl)
-
-left_deeper : (b : Bool) (s : Said) (xs ys : List Told) → Left xs ys → Left (keep b s xs) (keep b s ys)
-left_deeper false s xs ys h = h
-left_deeper true (Tells c n) xs ys h = go h.0 h.1
-  where
-    go : (o : Option ℕ) → ys ≡ without o xs → Left (told c n ∷ xs) (told c n ∷ ys)
-    go None is = (None, ap (λ (zs : List Told). told c n ∷ zs) is)
-    go (Some i) is = (Some (suc i), ap (λ (zs : List Told). told c n ∷ zs) is)
-left_deeper true s xs ys h = h
-
 of_less : (q : ℕ) (es fs : List Letter) → Less es fs → Left (of q es) (of q fs)
 of_less q es fs (whole xs) = (None, refl)
-of_less q es fs (gone e xs) = left_front (e.session == q) e.said (of q xs)
-of_less q es fs (hurt e xs) = subst (λ (ys : List Told). Left (of q (e ∷ xs)) ys) (sym (keep_quiet (e.session == q) Else (of q xs) tt)) (left_front (e.session == q) e.said (of q xs))
-of_less q es fs (deeper e xs ys l) = left_deeper (e.session == q) e.said (of q xs) (of q ys) (of_less q xs ys l)
+of_less q es fs (gone e xs) = kept_front (e.session == q) e.said (of q xs)
+of_less q es fs (hurt e xs) = subst (λ (ys : List Told). Left (of q (e ∷ xs)) ys) (sym (keep_quiet (e.session == q) Else (of q xs) tt)) (kept_front (e.session == q) e.said (of q xs))
+of_less q es fs (deeper e xs ys l) = kept_deeper (e.session == q) e.said (of q xs) (of q ys) (of_less q xs ys l)
 
 -- ---- what a move does to the lines, and to who met whom
 
@@ -151,7 +123,10 @@ pub record All (w : Ends) : Type 0 where
   pub far_unmet : (n : ℕ) → ((w.far_of n).taken ≡ []) ⊎ SomeMet (λ (m : Meeting). m.far ≡ n) w.two.met
 
 pub both_orders : (p q : Peer) (out back : List Told) → Hold p q out back → InOrder p q × InOrder q p
-both_orders p q out back h = (in_order p q h.there h.here h.ways.from_near, in_order q p h.here h.there h.ways.from_far)
+both_orders p q out back h = (ordered (in_order p q h.there h.here h.ways.from_near), ordered (in_order q p h.here h.there h.ways.from_far))
+  where
+    ordered : {p q : Peer} → IsPrefix q.taken p.given × (p.acked ≤ length q.taken) × (p.acked ≡ length p.given → q.taken ≡ p.given) → InOrder p q
+    ordered h = record { begins = h.0; acked = h.1; all = h.2 }
 
 order_turned : (near_of far_of : ℕ → Peer) (ms : List Meeting) → AllMet (MetInOrder near_of far_of) ms → AllMet (MetInOrder far_of near_of) (map turned ms)
 order_turned near_of far_of [] h = tt
@@ -214,9 +189,8 @@ moves_all w v m h =
 
     same : Hold (w.near_of p) (w.far_of q) (of p v.out) (of q v.back)
     same =
-        let left = of_less q w.two.back v.back (back_less w.two v m) in
         subst (λ (xs : List Told). Hold (w.near_of p) (w.far_of q) xs (of q v.back)) (sym (out_same w.two v m p))
-        (subst (λ (ys : List Told). Hold (w.near_of p) (w.far_of q) (of p w.two.out) ys) (sym left.1) (fewer (w.near_of p) (w.far_of q) (of p w.two.out) (of q w.two.back) left.0 h.line))
+        (left (w.near_of p) (w.far_of q) (of p w.two.out) (of q w.two.back) (of q v.back) (of_less q w.two.back v.back (back_less w.two v m)) h.line)
 
     anew : Hold (w.near_of b) (w.far_of c) (of b v.out) (of c v.back)
     anew =
@@ -318,7 +292,7 @@ sent_all w carried nr r is may h =
     ap (λ (x : ℕ). keep (b == x) (Tells carried nr) []) (sym at) ∙ ap (λ (x : Bool). keep x (Tells carried nr) []) (equal b) in
     let lines = of_append h.held.p w.two.out (letter b (Tells carried nr) ∷ []) ∙ ap (λ (ys : List Told). of h.held.p w.two.out ++ ys) one in
     let hold = subst (λ (xs : List Told). Hold r (w.far_of h.held.q) xs (of h.held.q w.two.back)) (sym lines)
-    (sent (near_now w) (w.far_of h.held.q) (of h.held.p w.two.out) (of h.held.q w.two.back) (at_now w h is) carried nr r may) in
+    (says (near_now w) (w.far_of h.held.q) (of h.held.p w.two.out) (of h.held.q w.two.back) ⊥ (Tells carried nr) r may (at_now w h is)) in
     updated w (record w.two { out = w.two.out ++ letter b (Tells carried nr) ∷ [] }) h (told_held w.two carried nr is h.held) r is refl refl refl refl hold
     h.order h.held.meets.paired (still_unmet w h r (says_same (near_now w) r carried nr may)) h.far_unmet
 
@@ -332,8 +306,8 @@ in_front : (q t : ℕ) (c : Option Carried) (n : ℕ) (rest : List Letter) → t
 in_front q t c n rest is = ap (λ (z : ℕ). keep (z == q) (Tells c n) (of q rest)) is ∙ ap (λ (z : Bool). keep z (Tells c n) (of q rest)) (equal q)
 
 came : (x y r : Peer) (out : List Told) (q t : ℕ) (s : Said) (rest : List Letter) → OfTells s (t ≡ q) → Hold x y out (of q (letter t s ∷ rest)) → MayMake x s r → Hold r y out (of q rest)
-came x y r out q t (Tells c n) rest to hold may = heard_one x y out c n (of q rest) r (subst (λ (ys : List Told). Hold x y out ys) (in_front q t c n rest to) hold) may
-came x y r out q t s rest to hold may = subst (λ (z : Peer). Hold z y out (of q rest)) (sym may) (subst (λ (ys : List Told). Hold x y out ys) (keep_quiet (t == q) s (of q rest) tt) hold)
+came x y r out q t (Tells c n) rest to hold may = makes x y out (Tells c n) (of q rest) r may (subst (λ (ys : List Told). Hold x y out ys) (in_front q t c n rest to) hold)
+came x y r out q t s rest to hold may = makes x y out s (of q rest) r may (subst (λ (ys : List Told). Hold x y out ys) (keep_quiet (t == q) s (of q rest) tt) hold)
 
 -- a session that takes a packet meets one
 heard_unmet : (b t : ℕ) (f : ℕ → Peer) (r : Peer) (s : Said) (ms : List Meeting) → MayMake (f b) s r → (n : ℕ) → ((f n).taken ≡ []) ⊎ SomeMet (λ (m : Meeting). m.near ≡ n) ms

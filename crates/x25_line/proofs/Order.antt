@@ -1,21 +1,52 @@
--- Two ends of one session keep the way in both directions, whatever they send, hear and lose; and that says what holds of their order.
-use Rattle.std.proofs.Common.{◌≡◌, ℕ, zero, suc, ◌+◌, ◌%◌, ◌≤◌, arith, max, List, [], ◌∷◌, ◌++◌, length, drop, remove, Bool, true, false, Option, Some, None, refl, sym, ap, ◌∙◌, subst}
+-- Two ends of one link that is set up once keep the way in both directions, whatever they send, hear and lose within the rules of a peer; and that
+-- says what holds of their order.
+use Rattle.std.proofs.Common.{◌≡◌, ℕ, zero, suc, ◌+◌, ◌%◌, ◌≤◌, arith, max, List, [], ◌∷◌, ◌++◌, length, drop, remove, Bool, true, false, if◌then◌else◌, Option, Some, None, Result, Ok, Err, refl, sym, ap, ◌∙◌, subst, append-nil}
+use Rattle.std.specs.Prelude.{nat_le}
+use Rattle.std.proofs.lemmas.Bool.{le-leb}
 use Rattle.std.proofs.lemmas.List.{take-append-drop, take_all}
 use Rattle.std.proofs.lemmas.Option.{slice_get_within}
+use Rattle.x25_frame.specs.Frame.{PlainFrame, info, rr, rnr, rej}
+use Rattle.x25_frame.specs.declared.error.FrameError.{FrameError}
+use Rattle.x25_frame.specs.declared.error.FrameError.TheVariants.{Short, BadFcs, BadAddress}
 use Rattle.x25_window.specs.code.Modulo.{resolved}
 use Rattle.x25_window.specs.laws.Window.{End, Frame, Numbered}
+use Rattle.x25_link.specs.declared.phase.Reason.{Reason}
+use Rattle.x25_link.specs.declared.phase.Reason.TheVariants.{FrmrSent}
+use Rattle.x25_link.specs.laws.WindowMachine.{Window}
+use Rattle.x25_link.specs.laws.WindowLaw.{ending_of}
+use Rattle.x25_line.specs.laws.InWindow.{IsPrefix}
 use Rattle.x25_line.specs.laws.WholeNumbers.{taken_out}
-use Rattle.x25_line.specs.laws.Said.{Carried, Tells}
+use Rattle.x25_line.specs.laws.Said.{Said, Carried, Tells, Odd as OddSaid, said}
 use Rattle.x25_line.specs.laws.Peer.{Peer, fresh_peer, numbered_to, told_to, hearing, IsWanted, taking, MaySay, MayMake}
 use Rattle.x25_line.proofs.Kept.{Way, BothWays, hears_valid, Way-hand, Way-send, Way-tell, Way-told, Way-hears, Way-takes, Way-giver, Way-unheard, Way-passed, Way-acked}
-use Rattle.x25_sessions.specs.laws.EndClaims.{InOrder}
 
--- ---- the line of a session, and the frames of the window machine that it stands for
+-- ---- what is told on a line, and the frames of the window machine that it stands for
 
 -- an N(R), and perhaps a packet
 pub record Told : Type 0 where
   pub carried : Option Carried
   pub nr : ℕ
+
+abbrev pub told : Option Carried → ℕ → Told
+told carried nr = record { carried = carried; nr = nr }
+
+-- the N(R)s of a line alone
+abbrev pub only : Said → List Told → List Told
+only (Tells c n) rest = told c n ∷ rest
+only s rest = rest
+
+-- no N(R)
+abbrev pub IsApart : Said → Type 0
+IsApart (Tells carried nr) = ⊥
+IsApart s = Unit {0}
+
+pub only_append : (s : Said) (xs ys : List Told) → only s xs ++ ys ≡ only s (xs ++ ys)
+only_append (Tells c n) xs ys = refl
+only_append s xs ys = refl
+
+pub only_quiet : (s : Said) (xs : List Told) → IsApart s → only s xs ≡ xs
+only_quiet (Tells c n) xs off = absurd off
+only_quiet s xs off = refl
 
 abbrev pub Shows : Option Carried → Option (Numbered (List ℕ)) → Type 0
 Shows None None = Unit {0}
@@ -40,6 +71,22 @@ bear_removed ts gs (suc i) (here t xs g ys shows number h) = here t (remove xs i
 abbrev pub without : Option ℕ → List Told → List Told
 without None ts = ts
 without (Some i) ts = remove ts i
+
+-- one at most is gone
+abbrev pub Left : List Told → List Told → Type 0
+Left xs ys = (o : Option ℕ) × (ys ≡ without o xs)
+
+pub left_front : (s : Said) (xs : List Told) → Left (only s xs) xs
+left_front (Tells c n) xs = (Some 0, refl)
+left_front s xs = (None, refl)
+
+pub left_deeper : (s : Said) (xs ys : List Told) → Left xs ys → Left (only s xs) (only s ys)
+left_deeper (Tells c n) xs ys h = go h.0 h.1
+  where
+    go : (o : Option ℕ) → ys ≡ without o xs → Left (told c n ∷ xs) (told c n ∷ ys)
+    go None is = (None, ap (λ (zs : List Told). told c n ∷ zs) is)
+    go (Some i) is = (Some (suc i), ap (λ (zs : List Told). told c n ∷ zs) is)
+left_deeper s xs ys h = h
 
 bear_without : (o : Option ℕ) (ts : List Told) (gs : List (Frame (List ℕ))) → Bear ts gs → Bear (without o ts) (taken_out o gs)
 bear_without None ts gs h = h
@@ -88,8 +135,8 @@ module _ (p q : Peer) (out back : List Told) where
   sent_one h r t g shows number ways =
       record { there = h.there ++ g ∷ []; here = h.here; ways = ways; out_bears = bear_push out h.there t g h.out_bears shows number; back_bears = h.back_bears }
 
-  pub sent : (h : Hold p q out back) (carried : Option Carried) (nr : ℕ) (r : Peer) → MaySay ⊥ p (Tells carried nr) r → Hold r q (out ++ record { carried = carried; nr = nr } ∷ []) back
-  sent h None nr r may =
+  sent : (Odd : Type 0) (h : Hold p q out back) (carried : Option Carried) (nr : ℕ) (r : Peer) → MaySay Odd p (Tells carried nr) r → Hold r q (out ++ told carried nr ∷ []) back
+  sent Odd h None nr r may =
       let t = may.0 in
       let ack = may.1 in
       let g : Frame (List ℕ) = record { carried = None; ack = t; top = p.sent } in
@@ -97,8 +144,8 @@ module _ (p q : Peer) (out back : List Told) where
         from_near = Way-tell (end_of p) q.taken q.told h.there h.here t h.ways.from_near;
         from_far = Way-told (end_of q) p.taken p.told h.here h.there t None p.sent ack.rising ack.taken h.ways.from_far;
       } in
-      subst (λ (z : Peer). Hold z q (out ++ record { carried = None; nr = nr } ∷ []) back) (sym may.2) (sent_one h (told_to t p) (record { carried = None; nr = nr }) g tt ack.number ways)
-  sent h (Some c) nr r may =
+      subst (λ (z : Peer). Hold z q (out ++ told None nr ∷ []) back) (sym may.2) (sent_one h (told_to t p) (told None nr) g tt ack.number ways)
+  sent Odd h (Some c) nr r may =
       let i = may.0 in
       let t = may.1 in
       let number = may.2 in
@@ -110,17 +157,28 @@ module _ (p q : Peer) (out back : List Told) where
         from_near = Way-send (end_of p) q.taken q.told h.there h.here i t (Some item) (slice_get_within p.given i c.packet number.same) number.window (omega arith, omega arith, number.same) h.ways.from_near;
         from_far = Way-told (end_of q) p.taken p.told h.here h.there t (Some item) (max p.sent (i + 1)) ack.rising ack.taken h.ways.from_far;
       } in
-      subst (λ (z : Peer). Hold z q (out ++ record { carried = Some c; nr = nr } ∷ []) back) (sym may.4)
-      (sent_one h (told_to t (numbered_to i p)) (record { carried = Some c; nr = nr }) g (number.number, refl) ack.number ways)
+      subst (λ (z : Peer). Hold z q (out ++ told (Some c) nr ∷ []) back) (sym may.4)
+      (sent_one h (told_to t (numbered_to i p)) (told (Some c) nr) g (number.number, refl) ack.number ways)
+
+  unsaid : (r : Peer) → r ≡ p → Hold p q out back → Hold r q (out ++ []) back
+  unsaid r is h = subst (λ (z : Peer). Hold z q (out ++ []) back) (sym is) (subst (λ (xs : List Told). Hold p q xs back) (sym (append-nil out)) h)
+
+  pub says : (Odd : Type 0) (s : Said) (r : Peer) → MaySay Odd p s r → Hold p q out back → Hold r q (out ++ only s []) back
+  says Odd (Tells c n) r may h = sent Odd h c n r may
+  says Odd OddSaid r may h = unsaid r may.1 h
+  says Odd s r may h = unsaid r may h
 
   -- ---- the line to it
 
-  pub fewer : (o : Option ℕ) → Hold p q out back → Hold p q out (without o back)
+  fewer : (o : Option ℕ) → Hold p q out back → Hold p q out (without o back)
   fewer o h = record { there = h.there; here = taken_out o h.here; ways = ways o h.ways; out_bears = h.out_bears; back_bears = bear_without o back h.here h.back_bears }
     where
       ways : (o : Option ℕ) → Ways p q h.there h.here → Ways p q h.there (taken_out o h.here)
       ways None k = k
       ways (Some i) k = record { from_near = Way-unheard (end_of p) q.taken q.told h.there h.here i k.from_near; from_far = Way-passed (end_of q) p.taken p.told h.here h.there i k.from_far }
+
+  pub left : (ys : List Told) → Left back ys → Hold p q out back → Hold p q out ys
+  left ys l h = subst (λ (zs : List Told). Hold p q out zs) (sym l.1) (fewer l.0 h)
 
 -- ---- what comes to it
 
@@ -163,20 +221,22 @@ module _ (p q : Peer) (out : List Told) where
   front t rest r gs hs shows (here x xs g ys carried number h) k may =
       record { there = gs; here = ys; ways = comes g gs ys x.carried x.nr r carried number may k; out_bears = shows; back_bears = h }
 
-  pub heard : (carried : Option Carried) (nr : ℕ) (rest : List Told) (r : Peer) → Hold p q out (record { carried = carried; nr = nr } ∷ rest) → MayMake p (Tells carried nr) r → Hold r q out rest
-  heard carried nr rest r h may = front (record { carried = carried; nr = nr }) rest r h.there h.here h.out_bears h.back_bears h.ways may
+  pub makes : (s : Said) (rest : List Told) (r : Peer) → MayMake p s r → Hold p q out (only s rest) → Hold r q out rest
+  makes (Tells c n) rest r may h = front (told c n) rest r h.there h.here h.out_bears h.back_bears h.ways may
+  makes s rest r may h = subst (λ (z : Peer). Hold z q out rest) (sym may) h
 
 -- ---- the claims
 
-pub in_order : (p q : Peer) (gs hs : List (Frame (List ℕ))) → Way (end_of p) q.taken q.told gs hs → InOrder p q
+-- what was taken is a beginning of what was handed down; what is acknowledged was taken; so all was where all is
+pub in_order : (p q : Peer) (gs hs : List (Frame (List ℕ))) → Way (end_of p) q.taken q.told gs hs
+    → IsPrefix q.taken p.given × (p.acked ≤ length q.taken) × (p.acked ≡ length p.given → q.taken ≡ p.given)
 in_order p q gs hs h =
     let few = (Way-acked (end_of p) q.taken q.told gs hs h).0 in
-    let begins = h.begins in
-    record {
-      begins = (drop (length q.taken) p.given, ap (λ (ys : List (List ℕ)). ys ++ drop (length q.taken) p.given) begins ∙ take-append-drop (length q.taken) p.given);
-      acked = few;
-      all = λ all. begins ∙ take_all (length q.taken) p.given (omega (arith, few, all));
-    }
+    let begins = h.begins in (
+      (drop (length q.taken) p.given, ap (λ (ys : List (List ℕ)). ys ++ drop (length q.taken) p.given) begins ∙ take-append-drop (length q.taken) p.given),
+      few,
+      λ all. begins ∙ take_all (length q.taken) p.given (omega (arith, few, all)),
+    )
 
 pub valid_front : (p q : Peer) (out rest : List Told) (t : Told) → Hold p q out (t ∷ rest) → resolved p.acked t.nr ≤ p.sent
 valid_front p q out rest t h = go h.here h.back_bears h.ways.from_near
@@ -186,3 +246,24 @@ valid_front p q out rest t h = go h.here h.back_bears h.ways.from_near
         let valid = hears_valid (end_of p) q.taken q.told h.there ys g way in
         let all = ap (resolved p.acked) number ∙ valid.0 in
         omega (arith, all, valid.2)
+
+-- ---- no fault is found where an N(R) is valid, and where nothing comes that is answered by FRMR
+
+abbrev pub by_frmr : Option Reason → ℕ
+by_frmr (Some FrmrSent) = 1
+by_frmr reason = 0
+
+valid_none : (b : Bool) → b ≡ true → by_frmr (if b then None else Some FrmrSent) ≡ 0
+valid_none true is = refl
+valid_none false is = cc
+
+pub no_fault : (r : Result PlainFrame FrameError) (v : Window) → (said r ≡ OddSaid → ⊥) → ((carried : Option Carried) (nr : ℕ) → said r ≡ Tells carried nr → resolved v.acked nr ≤ v.sent) → by_frmr (ending_of r v) ≡ 0
+no_fault (Ok (info ns nr p x)) v never valid = valid_none (nat_le (resolved v.acked nr) v.sent) (le-leb _ _ (valid _ nr refl))
+no_fault (Ok (rr command nr pf)) v never valid = valid_none (nat_le (resolved v.acked nr) v.sent) (le-leb _ _ (valid None nr refl))
+no_fault (Ok (rnr command nr pf)) v never valid = valid_none (nat_le (resolved v.acked nr) v.sent) (le-leb _ _ (valid None nr refl))
+no_fault (Ok (rej command nr pf)) v never valid = valid_none (nat_le (resolved v.acked nr) v.sent) (le-leb _ _ (valid None nr refl))
+no_fault (Ok f) v never valid = refl
+no_fault (Err Short) v never valid = refl
+no_fault (Err BadFcs) v never valid = refl
+no_fault (Err BadAddress) v never valid = refl
+no_fault (Err e) v never valid = absurd (never refl)
