@@ -142,7 +142,7 @@ def shown(notice: str) -> list[str]:
     rows = []
     if data and len(octets) > A_ROW:
         entry = f"{entry[: data.start()]}data: {len(octets):,} octets{entry[data.end(1) :]}"
-        rows = [*dumped(octets[:MOST_SHOWN]), *([f"    and {len(octets) - MOST_SHOWN:,} more"] if len(octets) > MOST_SHOWN else [])]
+        rows = [*dumped(octets[:MOST_SHOWN]).split("\n"), *([f"    and {len(octets) - MOST_SHOWN:,} more"] if len(octets) > MOST_SHOWN else [])]
     words = "; ".join(filter(None, [x25names.words(notice), "" if rows else text_of(octets), means]))
     return [f"{entry}  ({words})" if words else entry, *rows]
 
