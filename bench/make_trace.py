@@ -13,7 +13,7 @@ from building import TOP
 
 sys.path.insert(0, os.path.join(TOP, "tools"))
 
-from x25lines import fcs  # noqa: E402
+from x25tools.x25lines import fcs  # noqa: E402
 
 
 def sealed(octets):

@@ -24,8 +24,7 @@ from building import TOP
 TOOLS = os.path.join(TOP, "tools")
 sys.path.insert(0, TOOLS)
 
-import captures  # noqa: E402
-import x25lines  # noqa: E402
+from x25tools import captures, x25lines  # noqa: E402
 
 PROGRAM = os.environ.get("X25") or os.path.join(TOP, "build", "x25")
 SITA, ETHERNET = 196, 1
@@ -81,7 +80,8 @@ def rows(folder):
 
     asked = ["--x25", PROGRAM]
     yield "decode, trace", f"{PROGRAM} decode < {folder}/trace"
-    yield "x25dump, trace", [*script("x25dump.py", *asked), f"{folder}/trace"]
+    for words in (), ("--messages",), ("--stats",):
+        yield " ".join(["x25dump", *words]) + ", trace", [*script("x25dump.py", *asked, *words), f"{folder}/trace"]
     yield "chart, trace", [*script("chart.py", *asked), f"{folder}/trace"]
     for capture in ("lapb", "xot"):
         if shutil.which("tshark"):

@@ -8,7 +8,7 @@ import threading
 
 sys.path.append(os.path.join(os.path.dirname(os.path.dirname(os.path.abspath(__file__))), "tools"))
 
-import wires  # noqa: E402
+from x25tools import wires  # noqa: E402
 
 # What the first octet of a frame of such a device says: that a packet follows, or that the link is to be set up, or is.
 DATA, CONNECT = b"\0", b"\1"

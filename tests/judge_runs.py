@@ -14,7 +14,7 @@ import sys
 
 import runs
 
-import losses  # where runs finds it
+from x25tools import losses  # where runs finds it
 
 LINES = 150
 MOST_LOSS, MOST_DAMAGE, MOST_T1 = 0.2, 0.1, 0.4

@@ -15,8 +15,8 @@ from collections import namedtuple
 
 import runs
 
-import losses  # where runs finds it
-from x25lines import fcs
+from x25tools import losses  # where runs finds it
+from x25tools.x25lines import fcs
 
 NAMES = {">": "dte", "<": "dce"}
 # What `judge` tells of a frame that breaks a rule of order of the link layer.

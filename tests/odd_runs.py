@@ -18,9 +18,9 @@ import runs
 from runs import ACCEPTED, CALL, CLEAR, CLEAR_CONFIRMATION, INTERRUPT, INTERRUPT_CONFIRMATION
 from runs import RESET, RESET_CONFIRMATION, RESTART, RESTART_CONFIRMATION, RNR, RR
 
-import losses  # where runs finds it
-from piped import Station
-from x25lines import fcs
+from x25tools import losses  # where runs finds it
+from x25tools.piped import Station
+from x25tools.x25lines import fcs
 
 STEPS, MOST_OUT = 80, 6
 MARKS = {"dte": ">", "dce": "<"}

@@ -26,8 +26,8 @@ import judge_runs
 import runs
 from runs import ACCEPTED, CALL, RESTART, RESTART_CONFIRMATION, RNR, RR
 
-import losses  # where runs finds it
-from x25lines import fcs
+from x25tools import losses  # where runs finds it
+from x25tools.x25lines import fcs
 
 COPIES = 10
 LINES = 120

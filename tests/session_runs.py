@@ -20,7 +20,7 @@ from packet_runs import Layer, PacketRun, User
 from peer_runs import COMMAND, RESPONSE, Failed, Peer, main, outcome
 from runs import RR
 
-from x25lines import fcs, is_sealed  # where runs finds it
+from x25tools.x25lines import fcs, is_sealed  # where runs finds it
 
 SABM, DISC, UA, DM, FRMR = 0x2F, 0x43, 0x63, 0x0F, 0x87
 P = 0x10
@@ -69,7 +69,7 @@ class SessionLayer(Layer):
 class SessionUser(User):
     """The station session by session, and its user."""
 
-    WORDS = ["station", "dte", "--n2", "5", "--channels", "2"]
+    WORDS = ["--n2", "5", "--channels", "2"]
     MAY_END = True
 
     def __init__(self, program, way):

@@ -15,11 +15,8 @@ import sys
 import runs
 
 import judge_runs
-import judging
-import losses  # where runs finds it
-import pcap2x25
-import simruns
-from drawing import DAMAGED
+from x25tools import judging, losses, pcap2x25, simruns  # where runs finds it
+from x25tools.drawing import DAMAGED
 
 LOST = 0.15
 

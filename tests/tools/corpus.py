@@ -9,7 +9,7 @@ Each packet stands in an I frame of the DTE, on a channel of its own where it ha
 import sys
 
 import support  # noqa: F401, so that tools/ is found
-from x25lines import fcs
+from x25tools.x25lines import fcs
 
 # A value of each facility whose code has a name, and one of each class whose code has none.
 FACILITIES = """

@@ -3,7 +3,8 @@
 import ctypes
 import time
 
-import linked  # noqa: F401, which finds x25
+from x25tools import linked  # noqa: F401, which finds x25
+
 import x25
 
 FRAME, TIMER = 1, 2

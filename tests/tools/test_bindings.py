@@ -17,11 +17,11 @@ from program import find_library
 from fake_library import Library
 from test_c import PROTOTYPE
 
-import linked
-import piped
 import tunnels
+from x25tools import linked, piped
+from x25tools.x25lines import BadInput
+
 import x25  # where linked finds it
-from x25lines import BadInput
 
 BINDING = os.path.join(support.ROOT, "bindings", "python")
 RUST = os.path.join(support.ROOT, "bindings", "rust")

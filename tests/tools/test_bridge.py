@@ -5,6 +5,7 @@ import contextlib
 import fcntl
 import os
 import re
+import select
 import signal
 import socket
 import subprocess
@@ -16,14 +17,9 @@ from unittest import mock
 import support
 from support import ToolCase
 
-import bridge
-import places
-import tcp
-import users
-import wires
-import x25lines
-from circuits import Circuits
-from mishaps import Mishaps
+from x25tools import bridge, places, tcp, users, wires, x25lines
+from x25tools.circuits import Circuits
+from x25tools.mishaps import Mishaps
 
 FAKE = os.path.join(os.path.dirname(os.path.abspath(__file__)), "fake_station.py")
 SABM, UA = "> 013febdf", "< 01738357"
@@ -366,6 +362,15 @@ class Joined(ToolCase):
             self.assertEqual((user.command(), user.silence()), (None, 1 + users.SILENCE))
             user.tell_silence()
             self.assertEqual((told, user.silence()), (["# 'wait dte incoming' holds 2 commands behind it"], None))
+
+    def test_a_signal_that_comes_just_before_a_wait_ends_it(self):
+        for number in (signal.SIGINT, signal.SIGTERM):
+            self.addCleanup(signal.signal, number, signal.getsignal(number))
+        for come, number in ((lambda _: os.kill(os.getpid(), signal.SIGTERM), signal.SIGTERM), (users.Signals.leave, 0)):
+            with self.subTest(number), users.Signals() as signals:
+                come(signals)
+                signals.read(select.select(signals.readers(), [], [], 10)[0])
+                self.assertEqual((signals.number, signals.readers()), (number, []))
 
     def test_a_line_that_asks_for_nothing(self):
         self.begin(". off idle\n= dte dance\n? 60\n. off idle\n= dte connect\ndte connect\n. off idle\n", user=b"dte dance\ndte connect\n")

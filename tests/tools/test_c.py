@@ -7,10 +7,10 @@ import shutil
 import subprocess
 import unittest
 
-import support
 import check_c
-import x25names
+import support
 from program import find_library
+from x25tools import x25names
 
 LIBRARY, SHARED = find_library("a"), find_library("so")
 # What plain x86-64 doesn't have: SSE3, SSSE3, SSE4, POPCNT and all of AVX.

@@ -11,12 +11,8 @@ import samples
 import support
 from support import ToolCase
 
-import ahead
-import captures
 import golden
-import pcap2x25
-import xot
-import x25lines
+from x25tools import ahead, captures, pcap2x25, x25lines, xot
 
 SABM, UA = bytes.fromhex("013f"), bytes.fromhex("0173")
 SET_UP = b"> 013febdf\n< 01738357\n"

@@ -7,7 +7,7 @@ from xml.etree import ElementTree
 import support
 from support import ToolCase
 
-import drawing
+from x25tools import drawing
 
 FAKE = os.path.join(os.path.dirname(os.path.abspath(__file__)), "fake_x25.py")
 DECODED = b"""> SABM cmd P=1

@@ -13,8 +13,8 @@ import support
 from support import ToolCase
 from terminal import Terminal, script
 
-import console
 from test_bridge import FAKE, RESTART, SABM, UA
+from x25tools import console
 
 MESSAGE = "dte message ch=1 at 1.0.0 q=0 data="
 
@@ -218,16 +218,7 @@ class Live(ToolCase):
         self.assertEqual((status, text.splitlines()[-2:]), (1, ["# the connection has ended: the other end has closed it", "# the line has ended before all was done"]))
 
     def test_ctrl_c_twice(self):
-        """The second one ends it at once; the terminal is as it was. Once in many runs the notice that is waited for isn't shown, and
-        why isn't known: so three are made at most."""
-        for runs_left in (2, 1, 0):
-            try:
-                return self.ctrl_c_twice()
-            except AssertionError:
-                if not runs_left:
-                    raise
-
-    def ctrl_c_twice(self):
+        """The second one ends it at once; the terminal is as it was."""
         self.begin(f". off idle\n= {UA}\ndte linkup\n. off idle\n= dte disconnect\ndte disconnect\n. off idle\n", "--t1", "60")
         self.join()
         self.sends(UA)

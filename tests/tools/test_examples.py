@@ -12,8 +12,7 @@ import unittest
 
 import support
 
-import drawing
-import simruns
+from x25tools import drawing, simruns
 
 EXAMPLES = os.path.join(support.ROOT, "examples")
 

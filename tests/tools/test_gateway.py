@@ -11,7 +11,7 @@ import support
 sys.path.append(os.path.join(support.ROOT, "interop"))
 
 import gateway
-import wires
+from x25tools import wires
 
 CALL, ACCEPT, CLEARED = bytes.fromhex("10050b00"), bytes.fromhex("10050f"), bytes.fromhex("100517")
 

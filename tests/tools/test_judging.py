@@ -8,7 +8,7 @@ import support
 from support import PROGRAM, ToolCase
 
 import tap_runs
-from x25lines import fcs
+from x25tools.x25lines import fcs
 
 # In the gate; `make judge-runs` plays 1,000.
 RUNS = 20

@@ -9,8 +9,7 @@ import unittest
 import support
 from support import PROGRAM, ToolCase
 
-import losses
-import x25lines
+from x25tools import losses, x25lines
 
 # One line of each form, and lines that are none.
 LINES = """dte call 123 4567 41|dce call - - -|dte call 1 2 0A0b|dte accept 1|dce clear 65535|dte send 1 0 6869|dce send 0 1 -|dte int 1 00

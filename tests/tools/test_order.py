@@ -9,7 +9,7 @@ import unittest
 import support
 from support import PROGRAM, ToolCase
 
-import losses
+from x25tools import losses
 
 LISTS, EVENTS = 1000, 80
 ENDS, OTHER = ("dte", "dce"), {"dte": "dce", "dce": "dte"}

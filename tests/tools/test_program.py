@@ -8,7 +8,7 @@ import unittest
 
 import support
 
-import x25lines
+from x25tools import x25lines
 
 MEMORY = 64 << 20
 

@@ -17,8 +17,8 @@ import support
 import test_wide
 from support import ToolCase
 
-import facilities
 import golden
+from x25tools import facilities
 
 FIELDS = """frame.p2p_dir lapb.address lapb.control.ftype lapb.control.s_ftype lapb.control.u_modifier_cmd
 lapb.control.u_modifier_resp lapb.control.n_s lapb.control.n_r lapb.control.p lapb.control.f x25.lcn x25.type x25.p_s x25.p_r x25.m

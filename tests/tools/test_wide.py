@@ -9,7 +9,7 @@ import unittest
 
 import corpus
 import support
-from x25lines import fcs
+from x25tools.x25lines import fcs
 
 # Packets of which each cut is tried, and each with more behind it: in other forms, and one of each in the form that a station writes.
 PACKETS = """

@@ -18,9 +18,7 @@ import support
 from support import ToolCase
 from program import find_library
 
-import wires
-import x25lines
-import xot_wire
+from x25tools import wires, x25lines, xot_wire
 
 CALL = bytes.fromhex("10010b431234567000c0ffee")
 IN_FULL = bytes.fromhex("10010b431234567006420707430202c0ffee")

@@ -223,6 +223,7 @@ timely_act c d line.T1 v is = absurd is
 timely_act c d line.Connect v is = absurd is
 timely_act c d line.Disconnect v is = absurd is
 timely_act c d line.Abandon v is = absurd is
+timely_act c d line.Probe v is = absurd is
 timely_act c d (line.Lose place) v is = absurd is
 timely_act c d (line.Damage place octets) v is = absurd is
 

@@ -107,6 +107,9 @@ module _ (c : LinkSettings) (v x : Sessions) (h : AreSame v x) where
   acts_same line.Abandon =
       subst (λ (s : LinkStation). AreSame (links.acts c line.Abandon v) (if is_up s.phase then links.after_step c x x.back x.met [] (abandon_step c s) else x)) (sym h.near)
       (if_same (is_up v.near.station.phase) _ v _ x (step_same v.back x.back v.met x.met [] (abandon_step c v.near.station) h.back) h)
+  acts_same line.Probe =
+      subst (λ (s : LinkStation). AreSame (links.acts c line.Probe v) (if is_up s.phase then links.after_step c x x.back x.met [] (timer_step c s) else x)) (sym h.near)
+      (if_same (is_up v.near.station.phase) _ v _ x (step_same v.back x.back v.met x.met [] (timer_step c v.near.station) h.back) h)
   acts_same (line.Lose i) = record { near = h.near; far = h.far; out = h.out; back = octets_removed x.back i ∙ ap (λ (os : List (List ℕ)). remove os i) h.back ∙ sym (octets_removed v.back i) }
   acts_same (line.Damage i octets) =
       if_same (is_visible octets) _ v _ x
@@ -146,6 +149,7 @@ timely_same c d line.T1 v x h timely = λ waiting. asked_same c d v x h ∙ time
 timely_same c d line.Connect v x h timely = tt
 timely_same c d line.Disconnect v x h timely = tt
 timely_same c d line.Abandon v x h timely = tt
+timely_same c d line.Probe v x h timely = tt
 timely_same c d (line.Lose i) v x h timely = tt
 timely_same c d (line.Damage i octets) v x h timely = tt
 

@@ -1,0 +1,568 @@
+"""Runs a station, `x25 station`, with a clock for timer T1, and joins it to a line; its user writes commands and reads notices.
+
+    printf 'wait dce incoming\\ndce accept 1\\n' | bridge.py dce --listen 7000
+    printf 'dte connect\\nwait dte restarted\\ndte call 123 4567 41\\nwait dte connected\\n' | bridge.py dte --connect localhost:7000
+    bridge.py dce --udp 5601:5600 --trace frames
+    bridge.py dce --xot-listen --channels 8 --stay
+
+The line is one of these:
+
+  --listen PORT        a connection over TCP that another makes, to this host alone, or to HOST:PORT; it has lines of a trace. While
+                       there is one, others are told that the line is taken. With --stay the next one is waited for where it ends.
+                       One that brings something else, as XOT or the frames of an end of the same kind, is told so and closed
+  --connect HOST:PORT  such a connection to one who listens; with --retry it is made again and again, with a growing pause
+  --stdio              standard input and output, with lines of a trace
+  --ethernet IFACE     an interface of Ethernet, with frames as Linux's lapbether has them (type 6000, two octets of length, the low
+                       one first, no frame check sequence: it is cut and added); only root may. Where it is down it is waited for, and
+                       calls whose packets wouldn't fit its MTU are refused
+  --udp LOCAL:REMOTE   the same in datagrams between two ports of this host, or LOCAL:HOST:REMOTE, as qemu's network `dgram` has them
+  --xot HOST[:PORT], --xot-listen [PORT]
+                       X.25 over TCP (XOT, RFC 1613), port 1998: each circuit is a connection, which a call makes, or another makes,
+                       to this host alone or to HOST:PORT; both may be given. There is no link on the line: the bridge plays one
+
+An address of IPv6 stands in brackets, [::1]:7000. With --library the station is that of `libx25.so` at a path, in this process.
+
+Commands are lines of a script of this end (`dte call 123 4567 41`), of standard input or --commands, and `wait TEXT`, which holds those
+behind it until a notice comes that begins so; a carriage return at the end of a line is left out. Notices are the entries of the
+transcript; `! N` for a command that is refused, and `? 60` for one that is none; and lines that begin with `#`, the bridge's own words,
+in UTF-8: why that was, and what becomes of the line. They go to standard output or to --notices. With --stdio commands have to come by
+--commands, and notices go to standard error. A `wait` for what can't come any more, as the answer to a call that was cleared, and one
+that has lasted --wait seconds, is refused (61), and those behind it go on; one that holds some for 10 seconds says so.
+
+At a terminal the bridge is a console: `help` shows what can be typed there, without this end and with octets as text in quotes, too, and
+`quit`, as the end of the input, ends the bridge as SIGTERM does, but with status 0, or 1.
+
+A message that is refused because 8 of its circuit wait (31) stands aside, with those behind it for that circuit, and is asked again
+behind the next frame; all else goes on, but for `clear` and `reset` of the circuit, `restart` and `disconnect`, which let the messages go
+first as long as one is taken every --quiet seconds. A command that is refused because 256 packets wait (10) is asked again behind the
+next frame, and those behind it wait; so do all while the line isn't there. `connect` behind `disconnect` begins a new station, once DISC
+is answered or T1 has passed.
+
+T1 fires --t1 seconds after it began anew, where nothing that came is unread; let it be longer than the way to the other end and
+back. Where nothing came for --t3 seconds, the other end is asked whether it is there: by an RR of a circuit that is open, which it has to
+acknowledge, and of a connection over TCP by the system. A reader of notices may be slow: 256 KB are kept for him, then channels
+by which messages come are held (`notready`) until he has read half of it. The bridge ends when the commands have, nothing is left to
+do, and no frame went or came for --quiet seconds; with --stay only when the line does. CTRL-C and SIGTERM end it too: it sends DISC,
+and waits no longer than T1 for the answer.
+
+--lose and --damage try a line: each frame that goes or comes is lost, or damaged so that its frame check sequence shows it, with
+that probability; without frame check sequence a damaged frame can't be sent, and is lost. With --heal the line is good once no
+command is left: what was sent arrives then, as long as T1 has tries left, which --n2 gives. --trace has frames as the line has them:
+those that the station sent, before they are lost here, and those that came, before that. So where one of two bridges alone has --lose,
+its trace is whole. The station reads packets in other forms than it writes too (`x25 station --wide`), as other equipment sends them;
+with --no-wide it doesn't.
+
+Exit status: 0; 1 where a command was refused or was none, the line ended before all was done, or nobody reads notices any more; 2 for
+bad words, or anything else that stops the bridge, which standard error names; 130 behind CTRL-C and 143 behind SIGTERM.
+"""
+
+import argparse
+import contextlib
+import os
+import re
+import select
+import sys
+import time
+from collections import Counter
+
+from x25tools import decoding, piped, wires, x25lines, x25names, xot_wire
+from x25tools.circuits import Circuits
+from x25tools.mishaps import Mishaps
+from x25tools.places import host_and_port, ports, within, xot_host
+from x25tools.users import SLOW, Outlet, Signals, User, kind
+from x25tools.x25lines import BadInput, FrameLine
+from x25tools.xot import XOT_PORT
+
+# What a station answers where there is room again once something is acknowledged, where the link was ended for good, for a parameter
+# out of range, and for a line that asks for nothing.
+FULL, CIRCUIT_FULL, DEAD, OUT_OF_RANGE, NOTHING = "! 10", "! 31", "! 13", "! 34", "? 60"
+# What the bridge answers a `wait` for what doesn't come.
+IN_VAIN = "! 61"
+# Commands wait while the line has so many octets unsent.
+MOST_UNSENT = 1 << 20
+# The bridge ends after a time without a frame, this many times T1.
+QUIET_T1S = 5
+MOST_CHANNELS = 16
+OTHER = {">": "<", "<": ">"}
+OTHER_END = {"dte": "dce ", "dce": "dte "}
+CALL, UA, DM = 0x0B, 0x63, 0x0F
+# A call, and an acceptance, with the two packet sizes that they may say.
+SIZED = re.compile(r"(?:call \S+ \S+ \S+|accept (?P<channel>\d+))(?: (?P<called>\d{1,3}) (?P<calling>\d{1,3}) \d+ \d+)?")
+SENDS = re.compile(r"\w+ send ")
+READY = re.compile(r"\w+ (?:not)?ready (\d+)")
+
+
+def called_channel(octets):
+    """The channel of a CALL in a frame, or None where it brings none."""
+    is_call = len(octets) >= 7 and not octets[1] & 1 and octets[4] == CALL and x25lines.is_sealed(octets)
+    return (octets[2] & 15) << 8 | octets[3] if is_call else None
+
+
+def is_answer(octets):
+    """Whether a frame is UA or DM, the answers to DISC."""
+    return x25lines.is_sealed(octets) and octets[1] & 0xEF in (UA, DM)
+
+
+class Bridge:
+    """A station, its line and its user, and the deadline of T1. `status` is what the script ends with."""
+
+    def __init__(self, station, wire, user, options, trace, signals):
+        self._station, self._wire, self._user, self._options, self._trace, self._signals = station, wire, user, options, trace, signals
+        self._end = options.end
+        self._direction = ">" if options.end == "dte" else "<"
+        self._going, self._coming = (Mishaps(options.lose, options.damage, 2 * options.seed + way) for way in (0, 1))
+        self._quiet = quiet(options)
+        self._outlets = [it for it in (user.notices, trace) if it is not None]
+        self._circuits = Circuits()
+        self._deadline, self._is_idle = None, False
+        self._is_full, self._held, self._unknown = False, set(), set()
+        self._last_frame = self._last_came = time.monotonic()
+        # Whether the link was ended here, and until when an answer to that, or to what T1 sent again, may come.
+        self._is_dead, self._answers = False, [0, 0]
+        self._leaves = None
+        self.status, self.counts = 0, Counter()
+
+    def run(self):
+        """Runs until all is done or the line ends."""
+        self._heed(self._station.first)
+        while not self._has_ended() and self._turn():
+            if self._signals.number is not None and self._leaves is None:
+                self._leave()
+
+    def _turn(self):
+        """What comes next: frames, T1, or a command; answers False where the line has ended."""
+        ready = self._ready()
+        is_still = True
+        try:
+            for octets in self._wire.frames(ready):
+                self._receive(octets)
+                is_still = False
+        except wires.Ended:
+            return self._is_cut_off()
+        if is_still and self._leaves is None:
+            self._act()
+        self._user.read(ready)
+        self._signals.read(ready)
+        for outlet in self._outlets:
+            outlet.flush()
+        return True
+
+    def _ready(self):
+        """Waits until the bridge has something to do; answers the files that are ready."""
+        wire = self._wire
+        if not wire.has_begun:
+            self._last_frame = time.monotonic()
+        # A `wait` whose notice has come is done with first: then more commands may be read.
+        patience = self._patience()
+        readers = [*self._signals.readers(), *wire.readers(), *self._user.readers()]
+        writers = [*wire.writers(), *(outlet.number for outlet in self._outlets if outlet)]
+        came, room, _ = select.select(readers, writers, [], patience)
+        return {*came, *room}
+
+    def _patience(self):
+        """How long nothing may happen before the bridge itself has to act, in seconds; None where it has nothing to do."""
+        if self._leaves is None and (self._command() is not None or self._has_caught_up() or self._in_vain()):
+            return 0
+        now = time.monotonic()
+        own = [self._leaves] if self._leaves is not None else [self._deadline, self._probing(), *self._waits()]
+        times = [at for at in (self._wire.due, *own) if at is not None]
+        if self._is_settling():
+            times.append(max(self._answers))
+        if self._is_at_rest():
+            times.append(self._last_frame + self._quiet)
+        return max(0, min(times) - now) if times else None
+
+    def _act(self):
+        """Where nothing came: T1, or what T3 asks for, or else a command."""
+        now, probing = time.monotonic(), self._probing()
+        if self._deadline is not None and now >= self._deadline:
+            self._fire()
+        elif probing is not None and now >= probing:
+            self._probe()
+        elif self._has_caught_up():
+            self._release()
+        elif (command := self._command()) is not None:
+            self._ask(command)
+        elif why := self._in_vain():
+            command, held = f"wait {self._user.awaits()[0]}", self._user.held()
+            self._user.end_wait()
+            self._refuse(IN_VAIN, "; ".join(filter(None, [why, held])), command)
+        elif (silence := self._user.silence()) is not None and now >= silence:
+            self._user.tell_silence()
+
+    def _command(self):
+        """The command that may be asked now."""
+        return None if self._is_held_up() else self._user.command()
+
+    def _is_held_up(self):
+        """Whether no command may be asked now."""
+        waits = self._is_full or self._user.notices.is_slow() or self._is_settling()
+        return waits or not self._wire.is_there or self._wire.waits > MOST_UNSENT
+
+    def _in_vain(self):
+        """Why a `wait` is given up; nothing where none is."""
+        text, since = self._user.awaits() or ("", 0)
+        if not text:
+            return ""
+        if text.startswith(OTHER_END[self._end]):
+            return f"notices of this end begin with `{self._end} `"
+        is_over = self._options.wait is not None and time.monotonic() >= since + self._options.wait
+        return self._circuits.cannot_come(text) or (f"it hasn't come in {self._options.wait:g} seconds" if is_over else "")
+
+    def _waits(self):
+        """When a `wait` is given up, when it is told that it holds commands, and when a command goes before messages that stand aside."""
+        awaited = self._user.awaits()
+        is_limited = awaited is not None and self._options.wait is not None
+        passes = None if self._is_held_up() else self._user.commands.due()
+        return [awaited[1] + self._options.wait if is_limited else None, self._user.silence(), passes]
+
+    def _is_settling(self):
+        """Whether an answer may still come though the link was ended: a new station would take it for one to its SABM."""
+        return self._is_dead and time.monotonic() < max(self._answers)
+
+    def _is_at_rest(self):
+        """Whether nothing is left to do here, if nothing comes any more."""
+        is_still = (self._is_idle or not self._circuits.is_up) and self._deadline is None and not self._wire.waits and not self._user.notices
+        return not self._options.stay and self._wire.has_begun and self._user.has_done() and is_still
+
+    def _has_ended(self):
+        now = time.monotonic()
+        if self._leaves is not None:
+            return now >= self._leaves or not (self._is_settling() or self._wire.waits or self._user.notices)
+        return self._is_at_rest() and now >= self._last_frame + self._quiet
+
+    def _is_cut_off(self):
+        """The other end has gone: it is told where something was left to do."""
+        if not (self._user.has_asked() and (self._is_idle or not self._circuits.is_up)):
+            self._user.warn("the line has ended before all was done")
+            self.status = 1
+        return False
+
+    def _leave(self):
+        """Ends the link, and the bridge once that is answered, or T1 later."""
+        self._leaves = time.monotonic() + self._options.t1
+        self.status = 128 + self._signals.number if self._signals.number else self.status
+        if self._circuits.is_up or self._deadline is not None:
+            self._heed(self._station.ask(f"{self._end} disconnect"))
+
+    def _receive(self, octets):
+        """A frame came over the line."""
+        self._last_frame = self._last_came = time.monotonic()
+        self.counts["came"] += 1
+        self._note(OTHER[self._direction], octets)
+        octets = self._befallen(octets, self._coming)
+        if octets is None:
+            return
+        self._make_room()
+        answer = self._station.ask(FrameLine(OTHER[self._direction], octets).text())
+        if answer.refusal is not None:
+            self._user.note(f"the station takes no frame of {len(octets):,} octets: it is lost")
+        self._heed(answer)
+        self._look_for_channel(octets)
+        if is_answer(octets):
+            self._answers[0] = 0
+
+    def _look_for_channel(self, octets):
+        """Tells of a call on a channel that the station doesn't have, once for each: nothing answers it."""
+        channel = called_channel(octets)
+        if channel is not None and channel > self._options.channels and channel not in self._unknown:
+            self._unknown.add(channel)
+            hint = f"--channels {channel} would have it" if channel <= MOST_CHANNELS else f"a station has at most {MOST_CHANNELS}"
+            self._user.note(f"a call came on channel {channel}, and there are {self._options.channels}: nothing answers it; {hint}")
+
+    def _make_room(self):
+        """What was refused as too much waits is asked again: a frame came, or the user did something else than send."""
+        self._is_full = False
+        self._user.commands.make_room()
+
+    def _fire(self):
+        """T1 runs out. Where the link goes down by it, no frame comes, so what waited for one is asked again."""
+        self._deadline = None
+        self._make_room()
+        self._answers[1] = time.monotonic() + self._options.t1
+        self.counts["fired"] += 1
+        answer = self._station.ask(f"t1 {self._end}")
+        self._heed(answer)
+        if answer.refusal is not None:
+            raise BadInput(f"the station refused a firing of T1, which ran: {answer.refusal}")
+
+    def _probing(self):
+        """When the other end is asked whether it is there; None where there is no circuit to ask by, or T1 asks already."""
+        is_needed = self._options.t3 and self._circuits.open() and self._deadline is None and self._leaves is None and not self._is_at_rest()
+        return self._last_came + self._options.t3 if is_needed else None
+
+    def _probe(self):
+        """Says once more on a circuit whether the user is ready: the other end has to acknowledge that."""
+        self._last_came = time.monotonic()
+        channel = self._circuits.open()[0]
+        word = "notready" if channel in self._circuits.not_ready else "ready"
+        self._heed(self._station.ask(f"{self._end} {word} {channel}")._replace(notices=[]))
+
+    def _has_caught_up(self):
+        """Whether channels are held for the reader of notices, and he has read."""
+        return bool(self._held) and len(self._user.notices) < SLOW // 2
+
+    def _release(self):
+        """What was held for the reader of notices comes again."""
+        held, self._held = sorted(self._held & self._circuits.not_ready), set()
+        for channel in held:
+            self._heed(self._station.ask(f"{self._end} ready {channel}"))
+
+    def _ask(self, command):
+        """The user asks for something."""
+        why = self._objection(command)
+        if why:
+            refusal = NOTHING if why.startswith("no command") else OUT_OF_RANGE
+            self._user.commands.take()
+            self._refuse(refusal, why, command)
+            return
+        answer = self._station.ask(command)
+        if answer.refusal == DEAD:
+            self._begin_anew()
+            answer = self._station.ask(command)
+        self._is_full = answer.refusal == FULL
+        if answer.refusal == CIRCUIT_FULL:
+            self._user.commands.have_no_room()
+        elif not self._is_full:
+            self._user.commands.take()
+            if not SENDS.match(command):
+                self._make_room()
+            if answer.refusal is not None:
+                self._refuse(answer.refusal, x25names.refusal(answer.refusal), command)
+            elif found := READY.fullmatch(command):
+                # What the user says himself of his being ready holds.
+                self._held.discard(int(found[1]))
+        self._heed(answer)
+
+    def _objection(self, command):
+        """Why the bridge itself refuses a command; nothing where it doesn't."""
+        if len(command) > x25lines.MOST_CHARACTERS:
+            return f"no command has more than {x25lines.MOST_CHARACTERS:,} characters"
+        if not command.startswith(f"{self._end} "):
+            return f"no command of this end: those begin with `{self._end} `"
+        found = SIZED.fullmatch(command.partition(" ")[2])
+        if found and self._wire.most_size < wires.MOST_SIZE:
+            said = max(int(found["called"] or 0), int(found["calling"] or 0))
+            if said > self._wire.most_size or not said and self._circuits.proposed.get(int(found["channel"] or 0), 0) > self._wire.most_size:
+                return f"packet sizes over {self._wire.most_size} ({1 << self._wire.most_size} octets) don't fit the line"
+        return ""
+
+    def _refuse(self, refusal, why, command):
+        """Tells that a command was refused, and why."""
+        self.status = 1
+        self._user.tell(refusal)
+        self._user.note(f"{refusal}, {why}: {x25lines.shown(command.encode('latin-1'))}")
+
+    def _begin_anew(self):
+        """A station that has ended its link is so for good: another one begins."""
+        self._station.begin()
+        self._circuits, self._held = Circuits(), set()
+        self._deadline, self._is_dead = None, False
+        self._heed(self._station.first)
+
+    def _heed(self, answer):
+        """Tells and sends what the station answers, and sets the deadline as its mark says."""
+        slow = set()
+        for notice in answer.notices:
+            event, channel = self._circuits.heed(notice)
+            if event == "disconnect":
+                self._is_dead, self._answers[0] = True, time.monotonic() + self._options.t1
+            self._user.tell(notice)
+            if event == "message" and self._user.notices.is_slow():
+                slow.add(channel)
+        for frame in answer.frames:
+            self._send(frame.octets)
+        if answer.t1 == "start":
+            self._deadline = time.monotonic() + self._options.t1
+        elif answer.t1 == "off":
+            self._deadline = None
+        elif self._deadline is None:
+            raise BadInput("the station left T1 running, which wasn't")
+        self._is_idle = answer.is_idle
+        for channel in slow - self._circuits.not_ready:
+            self._hold(channel)
+
+    def _hold(self, channel):
+        """Has no more messages come by a channel, as the reader of notices is slow."""
+        self._held.add(channel)
+        self._user.note(f"notices wait to be read: channel {channel} is held")
+        self._heed(self._station.ask(f"{self._end} notready {channel}"))
+
+    def _send(self, octets):
+        self._last_frame = time.monotonic()
+        self.counts["sent"] += 1
+        self._note(self._direction, octets)
+        octets = self._befallen(octets, self._going)
+        if octets is not None and (self._wire.has_fcs or x25lines.is_sealed(octets)):
+            self._wire.send(octets)
+
+    def _befallen(self, octets, mishaps):
+        """What comes of a frame; with --heal nothing happens to it any more once no command is left."""
+        return octets if self._options.heal and self._user.has_done() else mishaps.happen(octets)
+
+    def _note(self, direction, octets):
+        """Writes a frame to the trace, as the line has it."""
+        if self._trace is not None:
+            self._trace.put(FrameLine(direction, octets, time.time_ns()).text(timed=True))
+
+    def stats(self):
+        """Says on standard error what went and came."""
+        lost, damaged = (f"{getattr(self._going, kind)} + {getattr(self._coming, kind)} {kind}" for kind in ("lost", "damaged"))
+        x25lines.warn(f"frames: {self.counts['sent']} sent, {self.counts['came']} came; {lost}, {damaged}; T1 fired {self.counts['fired']} times")
+
+
+def is_xot(options):
+    """Whether the line is X.25 over TCP."""
+    return bool(options.xot or options.xot_listen)
+
+
+def add_station_words(parser):
+    """Adds the words that the station gets."""
+    parser.add_argument("end", choices=["dte", "dce"], help="which end the station is")
+    parser.add_argument("--k", type=within(int, 1, 7), metavar="N", help="the window of the link, 1 to 7 (7)")
+    parser.add_argument("--n2", type=within(int, 1, 255), metavar="N", help="how often a command is sent again, 1 to 255 (10)")
+    parser.add_argument("--channels", type=within(int, 1, MOST_CHANNELS), default=1, metavar="N", help="logical channels, 1 to 16 (1)")
+    parser.add_argument("--long", action="store_true", help="a call may have up to 128 octets of user data")
+    parser.add_argument("--no-wide", dest="wide", action="store_false", help="read packets only in the form that a station writes")
+    decoding.add_program(parser)
+
+
+def station_words(options):
+    """The words that the station gets behind its end."""
+    given = [(f"--{name}", str(getattr(options, name))) for name in ("k", "n2", "channels") if getattr(options, name) is not None]
+    flags = {"--long": options.long, "--say-sizes": is_xot(options), "--wide": options.wide}
+    return [word for pair in given for word in pair] + [word for word, is_asked in flags.items() if is_asked]
+
+
+def station_of(options):
+    """The station that the words ask for: the program's, or that of a library."""
+    if not options.library:
+        return piped.Station(options.x25, options.end, station_words(options))
+    from x25tools import linked
+
+    given = {name: getattr(options, name) for name in ("k", "n2", "channels") if getattr(options, name) is not None}
+    return linked.Station(options.library, options.end, long_data=options.long, say_sizes=is_xot(options), wide=options.wide, **given)
+
+
+def add_line_words(parser):
+    """Adds the words that say what the line is."""
+    parser.add_argument("--listen", type=host_and_port, metavar="PORT", help="lines of a trace over a connection that another makes")
+    parser.add_argument("--connect", type=host_and_port, metavar="HOST:PORT", help="lines of a trace over a connection to HOST")
+    parser.add_argument("--stdio", action="store_true", help="lines of a trace on standard input and output")
+    parser.add_argument("--ethernet", metavar="IFACE", help="lapbether on an interface")
+    parser.add_argument("--udp", type=ports, metavar="LOCAL:REMOTE", help="lapbether in datagrams between two ports")
+    parser.add_argument("--xot", type=xot_host, metavar="HOST[:PORT]", help="XOT: calls make connections to HOST")
+    own = ("127.0.0.1", XOT_PORT)
+    parser.add_argument("--xot-listen", type=host_and_port, nargs="?", const=own, metavar="PORT", help="XOT: others make connections")
+    parser.add_argument("--retry", action="store_true", help="with --connect: where there is no connection, make one again and again")
+    parser.add_argument("--lose", type=within(float, 0, 1), default=0, metavar="P", help="the probability that a frame is lost (0)")
+    parser.add_argument("--damage", type=within(float, 0, 1), default=0, metavar="P", help="the probability that it is damaged (0)")
+    parser.add_argument("--heal", action="store_true", help="lose and damage nothing any more once no command is left")
+    parser.add_argument("--seed", type=within(int, 0, 2**63), default=1, metavar="N", help="what these chances come from (1)")
+
+
+def words():
+    """The words after the script's name."""
+    parser = argparse.ArgumentParser(description=__doc__, formatter_class=argparse.RawDescriptionHelpFormatter)
+    add_station_words(parser)
+    add_line_words(parser)
+    parser.add_argument("--library", metavar="PATH", help="a libx25.so, in place of the program")
+    parser.add_argument("--t1", type=within(float, 0.001, 86_400), default=1, metavar="SECONDS", help="how long T1 is (1)")
+    parser.add_argument("--t3", type=within(float, 0, 86_400), default=60, metavar="SECONDS", help="how long nothing comes before the other end is asked; 0 for never (60)")
+    parser.add_argument("--quiet", type=within(float, 0, 86_400), metavar="SECONDS", help=f"how long nothing comes at the end ({QUIET_T1S} times T1)")
+    parser.add_argument("--wait", type=within(float, 0, 86_400), metavar="SECONDS", help="how long a `wait` waits (as long as it may come)")
+    parser.add_argument("--stay", action="store_true", help="end only when the line does")
+    parser.add_argument("--commands", metavar="FILE", help="where commands come from (standard input)")
+    parser.add_argument("--notices", metavar="FILE", help="where notices go to (standard output)")
+    parser.add_argument("--trace", metavar="FILE", help="write the frames that the station sent and those that came, each with its time")
+    parser.add_argument("--stats", action="store_true", help="say at the end how many frames went and came")
+    options = parser.parse_args()
+    lines = [options.listen, options.connect, options.stdio, options.ethernet, options.udp, is_xot(options)]
+    if sum(map(bool, lines)) != 1:
+        parser.error("name one line: --listen, --connect, --stdio, --ethernet, --udp, or --xot and --xot-listen")
+    if options.lose + options.damage > 1:
+        parser.error("the two probabilities come to more than 1")
+    if is_xot(options) and options.lose + options.damage > 0:
+        parser.error("XOT loses and damages nothing")
+    if options.retry and not options.connect:
+        parser.error("--retry is for --connect")
+    return options
+
+
+def joined(options, note):
+    """The wire that the words ask for."""
+    end, t3 = options.end, options.t3
+    if options.listen:
+        return wires.Listening(end, note, options.listen, t3, options.stay)
+    if options.connect:
+        return wires.Calling(end, note, options.connect, t3, options.retry)
+    if options.udp:
+        return wires.over_udp(end, note, *options.udp)
+    if options.ethernet:
+        return wires.Ethernet(note, options.ethernet)
+    if options.stdio:
+        return wires.Standard(end, note)
+    return xot_wire.Xot(end, note, options.xot, options.xot_listen, options.channels, t3)
+
+
+def quiet(options):
+    """How long nothing may come or go at the end, in seconds."""
+    return options.quiet if options.quiet is not None else QUIET_T1S * options.t1
+
+
+def opened(path, mode):
+    """Opens a file that the words name, without a buffer."""
+    try:
+        return open(path, mode, 0)
+    except OSError as error:
+        raise BadInput(f"{path}: {error.strerror}") from error
+
+
+def user_of(options, files):
+    """The user that the words ask for; files that are opened for it are closed with `files`."""
+    commands = None if options.stdio else sys.stdin.fileno()
+    notices = sys.stderr if options.stdio else sys.stdout
+    if options.commands:
+        commands = files.enter_context(opened(options.commands, "rb")).fileno()
+    if options.notices:
+        notices = files.enter_context(opened(options.notices, "wb"))
+    return User(commands, Outlet(notices, kind), quiet(options))
+
+
+def has_console(options):
+    """Whether the user sits at a terminal that can make room for a line, and the bridge isn't one of its jobs in the background."""
+    if options.stdio or options.commands or options.notices or os.environ.get("TERM", "dumb") == "dumb":
+        return False
+    return sys.stdin.isatty() and sys.stdout.isatty() and os.tcgetpgrp(0) == os.getpgrp()
+
+
+def main():
+    options = words()
+    with contextlib.ExitStack() as files:
+        signals = files.enter_context(Signals())
+        console = None
+        if has_console(options):
+            from x25tools.console import Console, Screen
+
+            console = Console(options, signals.leave)
+            signals.at_first = console.close
+            user = User(console.commands, Screen(), quiet(options), is_at_terminal=True)
+        else:
+            user = user_of(options, files)
+        trace = Outlet(files.enter_context(opened(options.trace, "wb"))) if options.trace else None
+        station = files.enter_context(station_of(options))
+        wire = joined(options, user.note)
+        files.callback(wire.close)
+        bridge = Bridge(station, wire, user, options, trace, signals)
+        if console:
+            console.begin(wire)
+        try:
+            bridge.run()
+        finally:
+            for outlet in filter(None, (user.notices, trace)):
+                outlet.end()
+            if console:
+                console.close()
+            if options.stats:
+                bridge.stats()
+        return bridge.status

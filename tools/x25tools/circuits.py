@@ -1,0 +1,103 @@
+"""What the entries of a station tell of its link and its circuits, and by that what can't be told any more."""
+
+from __future__ import annotations
+
+import re
+
+CHANNEL = re.compile(r" ch=(\d+)")
+PROPOSED = re.compile(r" size=(\d+),(\d+) ")
+EVENT = re.compile(r"(d[tc]e) ([a-z]+)(?: |$)")
+# The state of a circuit behind an event; behind a fault the station clears or resets it.
+BECOMES = {"call": "calling", "incoming": "called", "accept": "open", "connected": "open", "clear": "clearing", "reset": "resetting"}
+BECOMES |= {"resetdone": "open", "wasreset": "open", "fault": "fault"}
+ENDS = ("cleared", "cleardone", "collided")
+OPEN = ("open", "resetting", "fault")
+# In which states of a circuit an event may come next, or behind what the other end does first; and what is said where none is in such a one.
+COMES_IN = {
+    "connected": (("calling",), "no call waits for an answer"),
+    "cleardone": (("clearing", "fault"), "nothing is being cleared"),
+    "resetdone": (("resetting", "fault"), "nothing is being reset"),
+    **dict.fromkeys(("message", "interrupt", "intdone", "wasreset"), (("calling", *OPEN), "no call is up")),
+}
+# What comes of the link that this end sets up.
+OF_THE_LINK = ("linkup", "restarted", "incoming")
+
+
+class Circuits:
+    """The states of the circuits by their channels, those of which the user isn't ready, what calls propose, and whether the link is up."""
+
+    def __init__(self) -> None:
+        self._states: dict[int, str] = {}
+        self.not_ready: set[int] = set()
+        self.proposed: dict[int, int] = {}
+        self.is_up = False
+        # Whether this end asked for the link, whether that came to nothing, and whether it ended it; whether it has restarted.
+        self._connects = self._has_failed = self._has_ended = self._restarts = False
+
+    def open(self) -> list[int]:
+        """The channels that have a circuit open, in order."""
+        return sorted(channel for channel, state in self._states.items() if state in ("open", "resetting"))
+
+    def heed(self, notice: str) -> tuple[str, int | None]:
+        """Takes an entry; answers its event and its channel, or None."""
+        event = notice.split(" ")[1]
+        found = CHANNEL.search(notice)
+        channel = int(found[1]) if found else None
+        if channel is not None:
+            self._heed_a_circuit(event, channel, notice)
+        elif event in ("connect", "disconnect") or event.startswith(("restart", "link")):
+            self._heed_the_link(event)
+        return event, channel
+
+    def _heed_a_circuit(self, event: str, channel: int, notice: str) -> None:
+        """Takes an entry on a circuit."""
+        if event in BECOMES:
+            self._states[channel] = BECOMES[event]
+        elif event in ENDS:
+            self._states.pop(channel, None)
+        if event == "incoming":
+            said = PROPOSED.search(notice)
+            self.proposed[channel] = max(int(said[1]), int(said[2])) if said else 0
+        elif event in ("ready", "notready"):
+            (self.not_ready.add if event == "notready" else self.not_ready.discard)(channel)
+        elif event in ("clear", "cleared", "cleardone", "reset", "wasreset", "resetdone"):
+            # Both ends are ready behind a reset.
+            self.not_ready.discard(channel)
+
+    def _heed_the_link(self, event: str) -> None:
+        """Takes an entry on the link, or on all circuits."""
+        if event == "connect":
+            self._connects, self._has_failed, self._has_ended = True, False, False
+            return
+        if event == "disconnect":
+            self._connects, self._has_ended = False, True
+            return
+        self._states.clear()
+        self.not_ready.clear()
+        self._restarts = event == "restart"
+        if event == "linkdown":
+            self.is_up, self._has_failed, self._connects = False, self._connects, False
+        elif event == "linkup":
+            self.is_up, self._has_failed, self._has_ended = True, False, False
+        else:
+            self._connects = False
+
+    def cannot_come(self, text: str) -> str:
+        """Why no notice that begins with a text can come any more, while this end asks for nothing; nothing where one can."""
+        found = EVENT.match(text)
+        if not found:
+            return ""
+        end, event = found.groups()
+        if self._has_ended:
+            return "the link was ended here"
+        states, why = COMES_IN.get(event, ((), ""))
+        if why and not any(_may_begin(f"{end} {event} ch={it}", text) for it, state in self._states.items() if state in states):
+            return why if self.is_up else "the link isn't up"
+        if event == "restartdone" and not self._restarts:
+            return "no restart is under way"
+        return "the link didn't come up" if event in OF_THE_LINK and self._has_failed else ""
+
+
+def _may_begin(notice: str, text: str) -> bool:
+    """Whether a notice that goes on behind these words, or ends there, may begin with a text."""
+    return f"{notice} ".startswith(text) or text.startswith(f"{notice} ")

@@ -1,0 +1,323 @@
+"""Has `x25 judge` judge the frames of each connection of a capture by themselves, and says what the capture may lack.
+
+A capture may lack frames, as the program that made it fell behind, or as the line lost them before they came to it. What is told of a frame
+and such a frame would explain has a mark of its own.
+"""
+
+import re
+from collections import Counter
+
+from x25tools import decoding
+from x25tools.x25lines import fcs
+
+AT = ("line", "dte", "dce")
+OTHER = {">": "<", "<": ">"}
+ENDS = {"dte": ">", "dce": "<"}
+# What stands for frames of a connection that aren't there, any number of either end's; and for one of an end, of which nothing is known.
+GAP = ""
+UNREAD = {direction: f"{direction} " for direction in OTHER}
+
+# SABM of the DTE, and the UA of the DCE.
+SET_UP = ["> 013febdf", "< 01738357"]
+SABM, SABME, UA, P_OR_F = 0x2F, 0x6F, 0x63, 0x10
+
+# Before the end and the rule that it breaks, and before the same of manners; where frames that the capture lacks would explain it; and what is
+# said behind that.
+RULE, MANNERS = " ! ", " ~ manners: "
+IN_DOUBT = {RULE: " !? ", MANNERS: " ~? manners: "}
+IF_LACKING = ", or the capture lacks frames"
+# No frame that is missing explains this; and this one of the other end may, which the line lost before it came: behind it the number is a new one.
+CERTAIN, OTHER_OCTETS = "no frame of LAPB", "an I frame sent again has other octets"
+UNJUDGED = " ~ note: not judged from here on: SABME and UA, so numbers are modulo 128"
+
+COUNTS = re.compile(r"# (dte|dce)(?: channel (\d+))?: (\d+) (?:frames|packets), (\d+) judged, \d+ not judged")
+TOLD = re.compile(r"# told: (\d+) rules, (\d+) manners")
+
+
+def add_words(parser):
+    """Adds the words that say what a judge goes by to a parser of words."""
+    parser.add_argument("--k", type=int, choices=range(1, 8), default=7, help="the window that --judge goes by (7)")
+    parser.add_argument("--at", choices=AT, help="with --judge: the capture has all frames of the line, or all that this end sent and that came to it")
+    parser.add_argument("--manners", action="store_true", help="with --judge: status 1 too where manners were broken")
+    parser.add_argument("--strict", action="store_true", help="with --judge: status 1 too where a frame wasn't judged, or the capture may explain what is told")
+
+
+def is_faulty(text, options):
+    """Whether what is told of a frame makes the status 1."""
+    marks = [RULE, MANNERS] if options.manners else [RULE]
+    return any(mark in text or (options.strict and IN_DOUBT[mark] in text) for mark in marks)
+
+
+def _control(line):
+    """The control field of the frame of a line, without P or F; None where it has none."""
+    return int(line[4:6], 16) & ~P_OR_F if len(line) >= 6 else None
+
+
+def _sealed(direction, octets):
+    """The line of some octets, with their frame check sequence behind them."""
+    return f"{direction} {(octets + fcs(octets)).hex()}"
+
+
+def _taken(line):
+    """The line of the RR by which the other end says that it took the I frame of a line."""
+    direction, control = line[0], int(line[4:6], 16)
+    return _sealed(OTHER[direction], bytes([1 if direction == ">" else 3, ((control >> 1) + 1 & 7) << 5 | 1]))
+
+
+class Judge:
+    """Judges each connection by itself.
+
+    Around packets that came without frames it hears a link that is set up and takes each of them at once, so that only they are judged. `at` is
+    the place of the capture, and None where that isn't said.
+    """
+
+    def __init__(self, program, words, reading, at):
+        self._asked = program, words, reading, at
+        self._lines = {}
+
+    def __enter__(self):
+        return self
+
+    def __exit__(self, *_):
+        for line in self._lines.values():
+            line.close()
+
+    def texts(self, asked, connections):
+        """The answers to the lines of a trace in a text, each of a connection, with what is told of each behind it; None for a gap."""
+        lines, places_of = asked.splitlines(), {}
+        for place, connection in enumerate(connections):
+            places_of.setdefault(connection, []).append(place)
+        texts = [None] * len(lines)
+        for connection, places in places_of.items():
+            if connection not in self._lines:
+                self._lines[connection] = self._begun(connection)
+            for place, text in zip(places, self._lines[connection].texts([lines[place] for place in places])):
+                texts[place] = text
+        return texts
+
+    def _begun(self, connection):
+        """What judges a connection."""
+        if not connection.is_made_up:
+            return Frames(*self._asked)
+        return (Circuit if connection.name.startswith("XOT ") else Packets)(*self._asked)
+
+    def counts(self):
+        """Yields the number of each connection, and a line of how much was judged, of its frames and of the packets of each channel, or of what was told."""
+        for connection, line in self._lines.items():
+            yield from ((connection.number, text) for text in line.counts())
+
+
+class Frames:
+    """The frames of one connection, in stretches between gaps, each judged by itself."""
+
+    def __init__(self, program, words, reading, at):
+        self._program, self._words, self._reading, self._at = program, [*words, *reading], reading, at
+        self._judge, self._decoder = self._begun(), decoding.Decoder(program, reading)
+        self._is_behind_gap = False
+        # Frames and packets and how many of them were judged, by end and channel; what was told, and of these what the capture may explain.
+        self._seen, self._judged, self._told = Counter(), Counter(), Counter()
+        # Whether SABME waits for its answer, and whether UA was that; and which end's UA may be missing.
+        self._asks_128 = self._is_128 = False
+        self._awaits_ua = dict.fromkeys(OTHER, False)
+
+    def _begun(self):
+        return decoding.Decoder(self._program, self._words, "judge")
+
+    def close(self):
+        """Ends the programs."""
+        for program in self._judge, self._decoder:
+            program.__exit__()
+
+    def texts(self, lines):
+        """The answers to some lines, and None to a gap."""
+        texts, waiting = [], []
+        for line in lines:
+            if line == GAP:
+                texts += self._answers(waiting)
+                self._begin_anew()
+                texts.append(None)
+            elif self._has_128(line):
+                texts += self._answers(waiting)
+                texts.append(self._read(line))
+            else:
+                waiting.append(line)
+        return texts + self._answers(waiting)
+
+    def _begin_anew(self):
+        """Behind a gap nothing is known."""
+        self._add_counts()
+        self._judge.__exit__()
+        self._judge, self._is_behind_gap = self._begun(), True
+
+    def _has_128(self, line):
+        """Whether a frame asks for numbers modulo 128, or is one of a link that has them."""
+        control, was_128 = _control(line), self._is_128
+        if control == SABM:
+            self._asks_128 = self._is_128 = False
+            if was_128:
+                self._begin_anew()
+        elif control == SABME:
+            self._asks_128 = True
+        elif control == UA and self._asks_128:
+            self._asks_128, self._is_128 = False, True
+        return self._is_128 or control == SABME
+
+    def _read(self, line):
+        """The answer to a line that isn't judged: one of a link modulo 128, or SABME, which the judge hears as a frame of which nothing is known."""
+        text, = self._decoder.texts(f"{line}\n")
+        if self._is_128:
+            self._seen[self._end(line[0]), None] += 1
+        else:
+            self._judge.texts(f"{UNREAD[line[0]]}\n")
+        return text + UNJUDGED if _control(line) == UA else text
+
+    def _end(self, direction):
+        return "dte" if direction == ">" else "dce"
+
+    def _answers(self, waiting):
+        """The answers to the lines that wait, each with what is told of it."""
+        asked, places = [], []
+        for line in waiting:
+            asked += self._missing(line)
+            places.append(len(asked))
+            heard = self._heard(line)
+            asked += [heard, *self._behind(heard)]
+        answers = self._judge.texts("".join([f"{line}\n" for line in asked]))
+        texts = [self._said(line[0], answers[place]) for line, place in zip(waiting, places)]
+        waiting.clear()
+        return texts
+
+    def _missing(self, line):
+        """What is judged before a line: where the capture may lack the UA to a SABM, and there was none up to a frame with a number, a frame of
+        which nothing is known."""
+        control, direction = _control(line), line[0]
+        if control == SABM and (self._at is None or self._at in ENDS and direction == ENDS[self._at]):
+            self._awaits_ua[OTHER[direction]] = True
+        is_unnumbered = control is None or control & 3 == 3
+        if not self._awaits_ua[direction] or is_unnumbered and control != UA:
+            return []
+        self._awaits_ua[direction] = False
+        if control == UA:
+            return []
+        self._seen[self._end(direction), None] -= 1
+        return [UNREAD[direction]]
+
+    def _heard(self, line):
+        """The line as it is judged."""
+        return line
+
+    def _behind(self, _):
+        """What is judged behind a line."""
+        return []
+
+    def _said(self, direction, text):
+        """An answer, with the mark of what the capture may explain."""
+        mark = next((mark for mark in IN_DOUBT if mark in text), None)
+        if mark is None:
+            return text
+        whole, _, told = text.partition(mark)
+        is_far = self._at in ENDS and direction != ENDS[self._at]
+        may_lack = self._is_behind_gap or self._lacks() or (is_far and (mark == MANNERS or OTHER_OCTETS in told))
+        if not may_lack or CERTAIN in told:
+            return text
+        self._told[mark] -= 1
+        self._told[IN_DOUBT[mark]] += 1
+        return whole + IN_DOUBT[mark] + told + IF_LACKING
+
+    def _lacks(self):
+        """Whether frames of either end may be missing anywhere."""
+        return self._at is None
+
+    def _add_counts(self):
+        """Adds what the judge counts."""
+        for line in self._judge.last_lines():
+            if found := COUNTS.fullmatch(line):
+                key = found[1], found[2] and int(found[2])
+                self._seen[key] += int(found[3])
+                self._judged[key] += int(found[4])
+            elif found := TOLD.fullmatch(line):
+                self._told.update({RULE: int(found[1]), MANNERS: int(found[2])})
+
+    def counts(self):
+        """Yields the lines of how much was judged and of what was told."""
+        self._add_counts()
+        for end in ENDS:
+            yield from self._counted(end, None, "frames")
+            for channel in sorted(channel for of, channel in self._seen if of == end and channel is not None):
+                yield from self._counted(end, channel, "packets")
+        in_doubt = sum(self._told[mark] for mark in IN_DOUBT.values())
+        more = f", {in_doubt} that frames which the capture lacks would explain" if in_doubt else ""
+        yield f"# told: {self._told[RULE]} rules, {self._told[MANNERS]} manners{more}"
+
+    def _counted(self, end, channel, what):
+        seen, judged = self._seen[end, channel], self._judged[end, channel]
+        where = end if channel is None else f"{end} channel {self._shown(end, channel)}"
+        yield f"# {where}: {seen} {what}, {judged} judged, {seen - judged} not judged"
+
+    def _shown(self, _, channel):
+        """The number of a channel as an end has it."""
+        return channel
+
+
+class Packets(Frames):
+    """The packets of a connection without frames, each in an I frame that was made up. TCP and LLC show where one is missing."""
+
+    def _begun(self):
+        judge = super()._begun()
+        judge.texts("".join([f"{line}\n" for line in SET_UP]))
+        self._sent = dict.fromkeys(OTHER, 0)
+        return judge
+
+    def _heard(self, line):
+        """The line with the numbers of its stretch."""
+        direction = line[0]
+        control = (self._sent[OTHER[direction]] << 5 | self._sent[direction] << 1 & 0x0E) & 0xFF
+        self._sent[direction] += 1
+        return _sealed(direction, bytes([int(line[2:4], 16), control]) + self._packet(direction, bytes.fromhex(line[6:-4])))
+
+    def _packet(self, _, packet):
+        """The packet as it is judged."""
+        return packet
+
+    def _has_128(self, line):
+        return False
+
+    def _lacks(self):
+        return False
+
+    def _missing(self, _):
+        return []
+
+    def _behind(self, line):
+        return [_taken(line)]
+
+    def _counted(self, end, channel, what):
+        return super()._counted(end, channel, what) if channel is not None else ()
+
+
+class Circuit(Packets):
+    """The packets of a connection of XOT, which is one circuit, whatever number each end has for it: where the numbers differ, both are judged by
+    that of the end whose packet came first."""
+
+    def __init__(self, *asked):
+        super().__init__(*asked)
+        # Of each direction the numbers that were used; and where one is judged by another, both.
+        self._used, self._renamed = {direction: set() for direction in OTHER}, {}
+
+    def _packet(self, direction, packet):
+        if len(packet) < 2:
+            return packet
+        channel, used, others = (packet[0] & 0x0F) << 8 | packet[1], self._used[direction], self._used[OTHER[direction]]
+        if channel and not used and len(others) == 1 and channel not in others:
+            self._renamed[direction] = channel, *others
+        used |= {channel} - {0}
+        own, judged_by = self._renamed.get(direction, (None, None))
+        return packet if channel != own else bytes([packet[0] & 0xF0 | judged_by >> 8, judged_by & 0xFF]) + packet[2:]
+
+    def _said(self, direction, text):
+        own, judged_by = self._renamed.get(direction, (None, None))
+        return super()._said(direction, text).replace(f" ch={judged_by} ", f" ch={own} ", 1)
+
+    def _shown(self, end, channel):
+        own, judged_by = self._renamed.get(ENDS[end], (None, None))
+        return own if channel == judged_by else channel

@@ -1,0 +1,201 @@
+"""Messages out of the frames of a line: what each end's link took, in order and once, and its data joined by the M bit."""
+
+from __future__ import annotations
+
+import operator
+import re
+from typing import Callable, Iterable, Iterator, Optional
+
+OTHER = {">": "<", "<": ">"}
+# What `decode --wide` puts behind the text of a frame or a packet in another form than a station writes.
+WIDE = " ~ wide"
+# The frames of a text, a line each: the direction; of an I frame N(S), N(R), and of a DATA packet its channel, M, Q and data, of another all of
+# it; and of RR, RNR and REJ N(R). Of other frames all is empty but the direction, and what sets the link up.
+FRAMES = re.compile(
+    r"^([<>]) (?:I cmd P=[01] S=([0-7]) R=([0-7]) \| (?:DATA ch=(\d+) S=[0-7] R=[0-7] M=([01]) Q=([01])(?: D=1)? data=(\S+)(?: ~ wide)?|(.*))"
+    r"|(?:RR|RNR|REJ) (?:cmd|rsp) [PF]=[01] R=([0-7])|(SABM |UA )?.*)$",
+    re.MULTILINE,
+)
+# The parts of a frame that `FRAMES` finds; and a message: see `Messages`.
+Frame = tuple[str, ...]
+Message = tuple[str, Optional[int], str, bytes, str]
+INTERRUPT = re.compile(r"INT ch=(\d+) data=(\S+)")
+# What an end sends of these ends what it had begun; where the other end asks for it, the answer does.
+ENDED = re.compile(r"((?:RESTART|CLEAR|RESET)(?:CONF)?|CALL|ACCEPT)\b(?: ch=(\d+))?")
+MODULUS = 8
+# A message is shown in parts of about this many octets where it is longer.
+MOST_MESSAGE = 1 << 20
+A_ROW = 16
+# For how many lengths of data the form of their rows is kept.
+MOST_ROWS = 1024
+# Each octet as it is shown as text.
+SHOWN = bytes(octet if 0x20 <= octet < 0x7F else ord(".") for octet in range(256))
+
+
+def octets_of(data: str) -> bytes:
+    """The octets of a field `data`, of which `-` has none."""
+    return b"" if data == "-" else bytes.fromhex(data)
+
+
+# Of so many octets the rows, with places for the digits and the text of each, and what takes these out of all digits and all text behind them.
+_ROWS: dict[int, tuple[str, Callable[[str], tuple[str, ...]]]] = {}
+
+
+def _rows(count: int) -> tuple[str, Callable[[str], tuple[str, ...]]]:
+    *full, last = range(0, count, A_ROW)
+    rows = "\n".join([*(f"    {at:04x}  %s  %s" for at in full), f"    {last:04x}  %-{3 * A_ROW}s %s"])
+    parts = [part for at in (*full, last) for part in (slice(3 * at, min(3 * (at + A_ROW), 3 * count) - 1), slice(3 * count - 1 + at, 3 * count - 1 + at + A_ROW))]
+    found = rows, operator.itemgetter(*parts)
+    if len(_ROWS) < MOST_ROWS:
+        _ROWS[count] = found
+    return found
+
+
+def dumped(octets: bytes) -> str:
+    """The rows of some octets, as text: where each stands, its octets in hexadecimal digits and as text."""
+    rows, parts = _ROWS.get(len(octets)) or _rows(len(octets))
+    return rows % parts(octets.hex(" ") + octets.translate(SHOWN).decode())
+
+
+class Way:
+    """The I frames of one way, as the end that receives them takes them; `due` is the number of the first, where that is known.
+
+    The frame that is due is taken at once. One out of order is held: it counts only where the other end acknowledges it, so
+    that the recorder missed a frame and that end didn't. Where the first number isn't known the first N(R) of the other end tells it.
+    """
+
+    def __init__(self, due: int | None = None) -> None:
+        self.due = self.acknowledged = due
+        self.held: dict[int, Frame] = {}
+
+    def take(self, number: int, packet: Frame) -> list[Frame]:
+        """Takes the I frame of a number; returns its packet, in a list, where it is due."""
+        if number == self.due:
+            self.held.pop(number, None)
+            self.due = (number + 1) % MODULUS
+            return [packet]
+        if self.due is None:
+            self.held[number] = packet
+            return self.end() if len(self.held) == MODULUS - 1 else []
+        if self.acknowledged is None or self._after(number) > self._after(self.due):
+            self.held[number] = packet
+        return []
+
+    def acknowledge(self, number: int) -> list[Frame | None]:
+        """Takes an N(R); returns the packets that it shows were taken, and None for each of these that is missing."""
+        taken: list[Frame | None] = []
+        if self.due is None:
+            taken += self._begin(number)
+        elif self.acknowledged is not None and self._after(number) > self._after(self.due):
+            if (number - 1) % MODULUS not in self.held:
+                # What it acknowledges wasn't seen: it tells nothing, and may be wrong.
+                return taken
+            while self.due != number:
+                taken.append(self.held.get(self.due))
+                self.due = (self.due + 1) % MODULUS
+            self.held.clear()
+        self.acknowledged = number
+        return taken
+
+    def end(self) -> list[Frame]:
+        """Returns what is held of a way that nothing was heard of, in the order in which it came."""
+        if self.due is not None or not self.held:
+            return []
+        self.due = (list(self.held)[-1] + 1) % MODULUS
+        taken = list(self.held.values())
+        self.held.clear()
+        return taken
+
+    def _begin(self, number: int) -> list[Frame]:
+        """Begins where the other end stands; returns what is held and lies just before that, or from there on without a gap."""
+        first = number
+        while (first - 1) % MODULUS in self.held:
+            first = (first - 1) % MODULUS
+        self.due, taken = first, []
+        while self.due in self.held:
+            taken.append(self.held.pop(self.due))
+            self.due = (self.due + 1) % MODULUS
+        return taken
+
+    def _after(self, number: int) -> int:
+        assert self.acknowledged is not None
+        return (number - self.acknowledged) % MODULUS
+
+
+class Messages:
+    """Joins the messages of one line; `due` is the first number, if it is known.
+
+    A message is `>` or `<`, its channel (None: of the whole line), its sort, its octets, and Q where there is one.
+    """
+
+    def __init__(self, due: int | None = None) -> None:
+        self._ways = {direction: Way(due) for direction in OTHER}
+        self._begun: dict[tuple[str, int], bytearray] = {}
+
+    def take(self, texts: Iterable[str]) -> Iterator[tuple[int, list[Message]]]:
+        """Takes some frames, each a text of `x25 decode` with its direction; yields the place of each that completes messages, and these, in order."""
+        for place, frame in enumerate(FRAMES.findall("\n".join(texts))):
+            direction, ns, nr, channel, m, q, data, packet, acknowledged, set_up = frame
+            if ns:
+                completed = self._acknowledged(OTHER[direction], int(nr))
+                way, number = self._ways[direction], int(ns)
+                if number != way.due or way.held:
+                    for it in way.take(number, frame):
+                        completed += self._packet(it)
+                else:
+                    way.due = (number + 1) % MODULUS
+                    if m == "0" and not self._begun:
+                        completed.append((direction, int(channel), "message", octets_of(data), q))
+                    else:
+                        completed += self._packet(frame)
+            elif acknowledged:
+                completed = self._acknowledged(OTHER[direction], int(acknowledged))
+            elif set_up:
+                self._ways = {way: Way(0) for way in OTHER}
+                completed = [message for way in OTHER for message in self._broken(way, None, "link set up")]
+            else:
+                continue
+            if completed:
+                yield place, completed
+
+    def end(self) -> Iterator[Message]:
+        """Yields what is known at the end alone."""
+        for way in self._ways.values():
+            for frame in way.end():
+                yield from self._packet(frame)
+
+    def _acknowledged(self, direction: str, number: int) -> list[Message]:
+        """What an N(R) of the other end completes of an end's messages."""
+        way = self._ways[direction]
+        if way.due is not None and not way.held:
+            # Nothing waits for it. Where it is past what is due, what it acknowledges wasn't seen.
+            last = number if way.acknowledged is None else way.acknowledged
+            if (number - last) % MODULUS <= (way.due - last) % MODULUS:
+                way.acknowledged = number
+            return []
+        completed: list[Message] = []
+        for frame in way.acknowledge(number):
+            completed += [(direction, None, "packet not recorded", b"", "")] if frame is None else self._packet(frame)
+        return completed
+
+    def _packet(self, frame: Frame) -> list[Message]:
+        """What the packet of an I frame that was taken completes."""
+        direction, _, _, channel, m, q, data, packet, *_ = frame
+        if channel:
+            key = direction, int(channel)
+            held = self._begun.setdefault(key, bytearray())
+            held += octets_of(data)
+            if m == "1" and len(held) < MOST_MESSAGE:
+                return []
+            return [(*key, "message" if m == "0" else "message that goes on", bytes(self._begun.pop(key)), q)]
+        packet = packet.removesuffix(WIDE)
+        if found := INTERRUPT.fullmatch(packet):
+            return [(direction, int(found[1]), "interrupt", octets_of(found[2]), "")]
+        if found := ENDED.match(packet):
+            return self._broken(direction, int(found[2]) if found[2] else None, found[1])
+        return []
+
+    def _broken(self, direction: str, channel: int | None, why: str) -> list[Message]:
+        """Drops what an end had begun on a channel, or on all, and tells it."""
+        keys = [key for key in self._begun if key[0] == direction and channel in (None, key[1])]
+        return [(*key, f"message broken off by {why}", bytes(self._begun.pop(key)), "") for key in keys]

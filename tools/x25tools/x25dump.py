@@ -1,0 +1,425 @@
+"""Shows a capture or a trace line by line, as it comes: time, direction, the text of `x25 decode --wide`, and its numbers in words.
+
+    x25dump.py FILE
+    tcpdump -U -w - port 1998 | x25dump.py
+    tail -f trace | x25dump.py --channel 1
+    x25 sim --tap < script | x25dump.py --messages
+
+Reads captures, as pcap2x25.py does (its --help has the link types and the words --swap to --dte), the lines of a trace, also
+with a time and a tab before them, the lines of `x25 decode`, and those of `x25 sim --tap`; each also packed by gzip. Empty lines
+and comments, which begin with `#`, are shown as they are; a line that is none of these is answered by `? 60`, as `decode` does.
+Of a capture all connections are shown, each but the first with its number before the direction, and named where it begins;
+--connection takes one of them. Frames that were made up around packets aren't shown, their packets are.
+
+  --messages  shows what the ends' users sent: data packets joined by M, and interrupts, as hexadecimal digits and text. Each comes
+              once, though its frame be repeated
+  --stats     writes at the end how many frames, packets and octets of data went each way, and how many I frames came out of order or again
+  --judge     says behind a frame which end broke which rule or which manners of the link or the packet layer with it, and what may be noted (`x25 judge`), of each
+              connection by itself; --k is the window. Of packets without frames (XOT, LLC) the rules of the packet layer alone; not of lines of `x25 decode`. At the
+              end it says how many frames and packets there were, and how many of them were judged
+  --at        says where a capture was made: `dte` or `dce`, in front of that end, so that of the other one's frames those are missing that the line lost; or on the
+              `line`, and it has all frames. Where nothing is said a capture may lack any frame. What such frames would explain stands behind ` !? ` and ` ~? manners: `,
+              and makes the status 1 with --strict alone. Behind frames that the capture says are missing an end is judged anew; nothing is judged of a link modulo 128.
+              Lines of a trace are all that was on the line, where nothing is said
+  --strict, --manners
+              make the status 1 too where a frame or a packet wasn't judged, or where manners were broken
+  --channel   shows the packets of a channel alone; 0 is that of RESTART. With --stats it counts them
+  --epoch     shows times as they are in a capture, in seconds, and not as the time of the day, with the date where it changes
+  --fold      shows of data over 32 octets the first 24 and how many there are, as on a terminal; --whole shows all there too
+  --no-wide   reads as `x25 decode` does, which has `fault` for packets in another form than a station writes
+
+The program is the one that --x25 or the variable X25 names, or `x25` of the PATH, or else the one that was built or
+installed with this script, or that of `make look`, which is unproved. Colours are for a terminal alone, and not where the variable NO_COLOR is set.
+
+Exit status: 0; 1 where a line was none, a rule was broken, nothing was found in a capture, or something was left out; 2 for bad
+words or bad input, behind what stands before it.
+"""
+
+import argparse
+import itertools
+import operator
+import os
+import re
+import sys
+from collections import Counter, defaultdict
+
+from x25tools import captures, decoding, judging, pcap2x25, x25lines, x25names
+from x25tools.ahead import ahead
+from x25tools.messages import Messages, dumped
+from x25tools.x25lines import BadInput
+
+# What a capture of either format begins with; no line does.
+CAPTURE = (b"\xa1", b"\xd4", b"\x4d", b"\x0a")
+RED, BLUE, GREEN, GREY, PLAIN = "\x1b[31m", "\x1b[34m", "\x1b[32m", "\x1b[90m", "\x1b[0m"
+COLOURS = {">": BLUE, "<": GREEN}
+CHANNEL = re.compile(r" ch=(\d+)")
+OF_NO_CHANNEL = re.compile(r"\| (?:RESTART|DIAG|REG)|^(?:dte|dce) restart")
+CONNECTION = operator.itemgetter(1)
+# Data of more than 32 octets, and how many of its digits are shown where it is folded.
+LONG_DATA, FOLDED = re.compile("(?<==)[0-9a-f]{66,}"), 48
+# Where the packet begins in the text of a frame that was made up.
+PACKET_AT = len("> I cmd P=0 S=0 R=0 | ")
+# What stands before what is told of a frame, or noted.
+RULES, NOTES = (judging.RULE, judging.IN_DOUBT[judging.RULE]), (judging.IN_DOUBT[judging.MANNERS], " ~ ")
+# Texts without any of these letters are shown as they are. Others may be refusals, or have rules, notes, or numbers that x25names has words for: `diag=`,
+# `why=`, and `fac=`, which stands behind `calling=` or in an ACCEPT.
+SIGNS = "!?~gyE"
+
+def channel_of(text):
+    """The channel of a frame's packet, or of an entry; None where it has none."""
+    found = CHANNEL.search(text)
+    return int(found[1]) if found else 0 if OF_NO_CHANNEL.search(text) else None
+
+
+class Reader:
+    """Yields what there is to show of a capture or of lines, in blocks of what is there at once; `status` is 1 where something wasn't read.
+
+    Each thing is its time as text, its connection, and its text: a frame's with its direction, an entry with its end, a refusal.
+    """
+
+    def __init__(self, decoder, options):
+        self._decoder = decoder
+        self._options = options
+        self._time = x25lines.seconds if options.epoch else x25lines.moment
+        self.status = 0
+
+    def shown(self, file):
+        """Whatever the file holds."""
+        for block in self._captured(file) if is_capture(file) else self._lines(file):
+            if self._options.judge and any(judging.is_faulty(text, self._options) for _, _, text in block):
+                self.status = 1
+            yield block
+
+    def _captured(self, file):
+        for found in ahead(self._found(file)):
+            if isinstance(found, int):
+                self.status = max(self.status, found)
+                continue
+            connections, times, asked = found
+            shown = zip(map(self._time, times), connections, self._decoder.texts(asked, connections))
+            yield [it for it in shown if it[2] is not None]
+
+    def _found(self, file):
+        """Yields the connections, the times and the text of the lines of the frames of a capture, in blocks, and at the end the status."""
+        converter = pcap2x25.Converter(self._options)
+        wanted = self._options.connection
+        for found in converter.blocks(captures.blocks(file, converter.notes)):
+            if wanted is not None:
+                are_wanted = [connection.number == wanted for connection in found[0]]
+                found = (list(itertools.compress(column, are_wanted)) for column in found)
+            connections, times, lines = found if self._options.judge else pcap2x25.without_gaps(*found)
+            yield connections, times, "".join(lines)
+        if 0 < len(converter.connections()) < (wanted or 1):
+            raise BadInput(f"there are {len(converter.connections())} connections, and no number {wanted}")
+        yield converter.tell()
+
+    def _lines(self, file):
+        trace = pcap2x25.Connection(1, None, False)
+        if not file.peek(1):
+            x25lines.warn("nothing was found: the input is empty")
+            self.status = 1
+        for _, lines in x25lines.blocks_of_lines(file):
+            answers = decoding.answers(self._decoder, lines, trace)
+            yield [(self._time(answer[0]), trace, answer[1]) if answer else self._other(line, trace) for line, answer in zip(lines, answers)]
+
+    def _other(self, line, trace):
+        """What there is to show of a line that holds no frame in digits."""
+        if found := decoding.TEXT_LINE.fullmatch(line):
+            return (found[1] or b"").decode(), trace, found[2].decode()
+        if x25lines.is_passed_over(line):
+            return "", trace, line.decode("utf-8", "replace")
+        is_known = x25lines.ENTRY_LINE.fullmatch(line) or x25lines.REFUSAL_LINE.fullmatch(line)
+        self.status = max(self.status, 0 if is_known else 1)
+        return "", trace, line.decode() if is_known else "? 60"
+
+
+class Days:
+    """Parts times into the date, which is shown in a line of its own where it changes, and the time of the day."""
+
+    def __init__(self, paint):
+        self._paint = paint
+        self._day = None
+
+    def part(self, time):
+        """The lines to show before a time, and what is left of it."""
+        if len(time) != x25lines.MOMENT:
+            return [], time
+        day, _, clock = time.partition(" ")
+        lines = [] if day == self._day else [self._paint(GREY, day)]
+        self._day = day
+        return lines, clock
+
+
+class Lines:
+    """Shows each frame and entry in a line; long data may be folded."""
+
+    def __init__(self, paint, is_folded):
+        self._paint = paint
+        self._is_folded = is_folded
+        self._days = Days(paint)
+        self._named = set()
+
+    def take(self, block):
+        """Answers the lines of the things of a block."""
+        texts = "".join([text for _, _, text in block])
+        has_plain_texts = self._paint is unpainted and not self._is_folded and not any(sign in texts for sign in SIGNS)
+        lines, last, front, is_made_up = [], None, "", False
+        for time, connection, text in block:
+            if connection is not last:
+                last, is_made_up = connection, connection.is_made_up
+                front = f" #{connection.number} " if connection.number > 1 else " "
+                if connection.number not in self._named:
+                    self._named.add(connection.number)
+                    if connection.name is not None:
+                        lines.append(self._paint(GREY, f"connection {connection.number}: {connection.name}"))
+            if is_made_up:
+                text = text[:2] + text[PACKET_AT:]
+            if not has_plain_texts:
+                text = self._text(text)
+            day, time = self._days.part(time)
+            lines += day
+            lines.append(f"{time}{front}{text}" if time else f"{front[1:]}{text}")
+        return lines
+
+    def _text(self, text):
+        if text.startswith(("!", "?")):
+            return self._paint(RED, f"{text} {x25names.refusal(text)}".rstrip())
+        if x25lines.is_passed_over(text.encode()):
+            return self._paint(GREY, text)
+        mark = next((mark for mark in (*RULES, *NOTES) if mark in text), None)
+        whole, _, remark = text.partition(mark) if mark else (text, "", "")
+        said = x25names.words(whole)
+        shown = self._paint(colour_of(whole), LONG_DATA.sub(folded, whole) if self._is_folded else whole)
+        if said:
+            shown += self._paint(GREY, f"  ({said})")
+        return shown + self._paint(RED if mark in RULES else GREY, mark + remark) if mark else shown
+
+    def end(self):
+        """Nothing is left at the end."""
+        return []
+
+
+def folded(found):
+    """The beginning of some digits, and how many octets they are."""
+    return f"{found[0][:FOLDED]}..({len(found[0]) // 2} octets)"
+
+
+def colour_of(text):
+    """The colour of a frame or an entry."""
+    if text.startswith("FRMR", 2) or "fault" in text:
+        return RED
+    return COLOURS.get(text[0], PLAIN)
+
+
+def lead(time, connection):
+    """What stands before the direction: the time, and the connection but for the first."""
+    number = f"#{connection.number} " if connection.number > 1 else ""
+    return f"{time} {number}" if time else number
+
+
+class Joined:
+    """Shows messages."""
+
+    def __init__(self, paint, channel):
+        self._paint = paint
+        self._channel = channel
+        self._days = Days(paint)
+        self._lines = {}
+        self._last = {}
+
+    def take(self, block):
+        """Answers the lines of the messages that the frames of a block complete."""
+        lines = []
+        for connection, things in itertools.groupby(block, key=CONNECTION):
+            frames = [it for it in things if it[2][:1] in pcap2x25.OTHER]
+            if not frames:
+                continue
+            if connection not in self._lines:
+                # Frames that were made up count from 0.
+                self._lines[connection] = Messages(0 if connection.is_made_up else None)
+            self._last[connection] = frames[-1][0]
+            for place, completed in self._lines[connection].take([text for _, _, text in frames]):
+                lines += self._rows(frames[place][0], connection, completed)
+        return lines
+
+    def _rows(self, time, connection, messages):
+        """The lines of messages that are completed at a time."""
+        lines, before = [], None
+        for direction, channel, sort, octets, q in messages:
+            if self._channel is not None and channel not in (None, self._channel):
+                continue
+            if before is None:
+                lines, clock = self._days.part(time)
+                before = lead(clock, connection)
+            if channel is None:
+                lines.append(before + self._paint(RED, f"{direction} {sort}"))
+                continue
+            count = f"{len(octets):,} octet{'s' if len(octets) != 1 else ''}"
+            shown = self._paint(COLOURS[direction], f"{direction} ch={channel}{f' Q={q}' if q else ''} {sort}, {count}")
+            lines.append(f"{before}{shown}\n{dumped(octets)}" if octets else before + shown)
+        return lines
+
+    def end(self):
+        """Yields the lines of what is known at the end alone; messages that are begun there aren't shown."""
+        for connection, line in self._lines.items():
+            yield from self._rows(self._last[connection], connection, line.end())
+
+
+AGAIN, OCTETS = "I frames out of order, or again", "octets of data"
+# The frames of a text, a line each: the direction; of an I frame N(S) and whether it has DATA, its data, or another kind of packet; or the kind.
+COUNTED = re.compile(
+    r"^([<>]) (?:I cmd P=[01] S=([0-7]) R=[0-7] \| (?:(DATA) ch=\d+ S=[0-7] R=[0-7] M=[01] Q=[01](?: D=1)? data=([0-9a-f]*)|(\S+)).*|(\S+).*)$",
+    re.MULTILINE,
+)
+KIND = operator.itemgetter(0, 2, 4, 5)
+SET_UP, IN_ORDER = ("SABM", "UA"), "01234567"
+
+
+class Statistic:
+    """Counts frames, packets and octets of data each way, by connection."""
+
+    def __init__(self):
+        self._counts = defaultdict(Counter)
+        self._names = {}
+        self._due = {}
+        self._times = []
+
+    def take(self, block):
+        """Counts the frames of a block; shows nothing."""
+        for connection, things in itertools.groupby(block, key=CONNECTION):
+            if frames := [it for it in things if it[2][:1] in pcap2x25.OTHER]:
+                self._names[connection.number] = connection.name
+                self._times = [*(self._times[:1] or [frames[0][0]]), frames[-1][0]]
+                self._count(connection, COUNTED.findall("\n".join([text for _, _, text in frames])))
+        return []
+
+    def _count(self, connection, found):
+        counts = self._counts[connection.number]
+        for (direction, data, packet, frame), count in Counter(map(KIND, found)).items():
+            if frame:
+                counts[frame, direction] += count
+                continue
+            if not connection.is_made_up:
+                counts["I", direction] += count
+            counts[f"| {data or packet}", direction] += count
+            if data:
+                counts[OCTETS, direction] += sum([len(it[3]) for it in found if it[0] == direction]) // 2
+        if not connection.is_made_up:
+            for direction, again in self._out_of_order(connection.number, found):
+                counts[AGAIN, direction] += again
+
+    def _out_of_order(self, number, found):
+        """Yields how many I frames of an end come out of order, or again, where there are some; a set-up begins the numbers anew."""
+        begin = 0
+        for end in [*(place for place, it in enumerate(found) if it[5] in SET_UP), len(found)]:
+            for direction in pcap2x25.OTHER:
+                numbers = "".join([it[1] for it in found[begin:end] if it[0] == direction])
+                if again := numbers and self._again((number, direction), numbers):
+                    yield direction, again
+            if end < len(found):
+                self._due = {key: due for key, due in self._due.items() if key[0] != number}
+            begin = end
+
+    def _again(self, way, numbers):
+        """How many of these numbers, each of one digit, aren't the one that is due."""
+        due = self._due.get(way, int(numbers[0]))
+        if (IN_ORDER * (len(numbers) // 8 + 2))[due : due + len(numbers)] == numbers:
+            self._due[way] = (due + len(numbers)) % 8
+            return 0
+        again = 0
+        for number in map(int, numbers):
+            if number == due:
+                due = (number + 1) % 8
+            else:
+                again += 1
+        self._due[way] = due
+        return again
+
+    def end(self):
+        """Yields the lines of the statistic."""
+        for connection, name in self._names.items():
+            yield (f"connection {connection}: {name}" if name else "the trace").ljust(34) + f"{'>':>10}{'<':>10}"
+            counts = self._counts[connection]
+            for kind in sorted({kind for kind, _ in counts}, key=_place):
+                yield f"  {kind:32}{counts[kind, '>']:10}{counts[kind, '<']:10}"
+        if self._times and self._times[0]:
+            yield f"from {self._times[0]} to {self._times[-1]}"
+
+
+def _place(kind):
+    """Frames come first, then packets, then what was counted of them."""
+    return (0, decoding.FRAMES.index(kind), "") if kind in decoding.FRAMES else (1 if kind[0] == "|" else 2, 0, kind)
+
+
+def painted(colour, text):
+    """A text in a colour."""
+    return f"{colour}{text}{PLAIN}"
+
+
+def unpainted(_, text):
+    """A text as it is."""
+    return text
+
+
+def painter():
+    """What puts a text into a colour: on a terminal alone."""
+    return painted if sys.stdout.isatty() and not os.environ.get("NO_COLOR") else unpainted
+
+
+def words():
+    """The words after the script's name."""
+    parser = argparse.ArgumentParser(description=__doc__, formatter_class=argparse.RawDescriptionHelpFormatter)
+    x25lines.add_input(parser, "the capture or the trace")
+    parser.add_argument("--channel", type=int, metavar="N", help="show this logical channel alone")
+    which = parser.add_mutually_exclusive_group()
+    which.add_argument("--messages", action="store_true", help="show messages, not frames")
+    which.add_argument("--stats", action="store_true", help="show numbers at the end, not frames")
+    which.add_argument("--judge", action="store_true", help="say which end broke which rule of the link or the packet layer")
+    parser.add_argument("--long", action="store_true", help="a CALL may have 128 octets of user data, as with `decode --long`")
+    parser.add_argument("--no-wide", dest="wide", action="store_false", help="read as `decode` does without `--wide`")
+    parser.add_argument("--epoch", action="store_true", help="show times as seconds, not as the time of the day")
+    parser.add_argument("--fold", action="store_true", default=sys.stdout.isatty(), help="show the beginning of long data and its length, as on a terminal")
+    parser.add_argument("--whole", dest="fold", action="store_false", help="show all digits of long data, also on a terminal")
+    pcap2x25.add_capture_words(parser)
+    judging.add_words(parser)
+    decoding.add_program(parser)
+    return parser.parse_args()
+
+
+def is_capture(file):
+    """Whether a file is a capture."""
+    return file.peek(1)[:1] in CAPTURE
+
+
+def asked(options, file):
+    """What is asked for the text of a frame. Lines of a trace are all that was on the line, where nothing else is said."""
+    long, wide = ["--long"] if options.long else [], ["--wide"] if options.wide else []
+    reading = [*long, *wide]
+    if not options.judge:
+        return decoding.Decoder(options.x25, reading)
+    return judging.Judge(options.x25, ["--k", str(options.k)], reading, options.at or (None if is_capture(file) else "line"))
+
+
+def show(view, blocks, out):
+    """Writes what a view makes of the things of each block; also what it has at the end, where the user ends it."""
+    try:
+        for block in blocks:
+            out.write("".join([f"{line}\n" for line in view.take(block)]))
+    finally:
+        out.write("".join([f"{line}\n" for line in view.end()]))
+
+
+def main():
+    options = words()
+    paint = painter()
+    with x25lines.opened(options.file) as file, asked(options, file) as decoder:
+        reader = Reader(decoder, options)
+        blocks = reader.shown(file)
+        view = Joined(paint, options.channel) if options.messages else Statistic() if options.stats else Lines(paint, options.fold)
+        if options.channel is not None and not options.messages:
+            blocks = ([it for it in block if channel_of(it[2]) == options.channel] for block in blocks)
+        show(view, blocks, sys.stdout)
+        counts = list(decoder.counts()) if options.judge else []
+    for number, line in counts:
+        print(f"#{number} {line}" if number > 1 else line)
+    return 1 if options.strict and any(" judged, " in line and not line.endswith(" 0 not judged") for _, line in counts) else reader.status

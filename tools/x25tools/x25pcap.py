@@ -1,0 +1,71 @@
+"""Writes the lines of a trace as a capture (pcapng) that Wireshark and tshark open with their LAPB dissector.
+
+    x25pcap.py [FILE] > trace.pcapng
+    x25 sim --tap < script | x25pcap.py -o run.pcapng
+
+Reads `> HEX` and `< HEX` lines, also with a time in seconds and a tab before them. The other lines of a run of `x25 sim --tap`
+(entries, `! N`, `? 60`), empty lines and comments are passed over. A line without a time gets its number as milliseconds, so that it is found again.
+
+The link type is SITA (196) and not LAPB_WITH_DIR (207), which Wireshark 4.0 doesn't open; the direction stands in the flags
+of each packet, outbound being from the DTE to the DCE. The frame check sequence is cut off, as the dissector expects. A line
+that is too short for one, or whose check sequence is wrong, goes in whole, as no LAPB frame, with that error in the packet's
+flags.
+
+Exit status: 0, or 2 for bad words or bad input.
+"""
+
+from __future__ import annotations
+
+import argparse
+import sys
+from typing import BinaryIO
+
+from x25tools import captures, x25lines
+from x25tools.x25lines import BadInput
+
+SITA = 196
+# Of the five octets that a SITA frame begins with: in the first whether it was received, in the last the protocol.
+RECEIVED = 1
+NO_PROTOCOL, LAPB = 0, 1
+
+MILLISECOND = 10**6
+
+
+def packet(frame: x25lines.FrameLine) -> tuple[bytes, int]:
+    """The octets of a packet for a frame, and its flags."""
+    flags = captures.OUTBOUND if frame.direction == ">" else captures.INBOUND
+    first = 0 if frame.direction == ">" else RECEIVED
+    if x25lines.is_sealed(frame.octets):
+        return bytes([first, 0, 0, 0, LAPB]) + frame.octets[:-2], flags
+    error = captures.TOO_SHORT if len(frame.octets) < 4 else captures.CRC_ERROR
+    return bytes([first, 0, 0, 0, NO_PROTOCOL]) + frame.octets, flags | error
+
+
+def convert(file: x25lines.Readable, out: BinaryIO) -> None:
+    """Writes a packet for each frame line of a file, those of a block of lines at once."""
+    writer = captures.Writer(out, SITA)
+    for first, lines in x25lines.blocks_of_lines(file):
+        for number, line in enumerate(lines, first):
+            frame = x25lines.frame_line(line)
+            if frame is not None:
+                octets, flags = packet(frame)
+                writer.packet(octets, number * MILLISECOND if frame.time is None else frame.time, flags)
+            elif not (x25lines.is_passed_over(line) or x25lines.ENTRY_LINE.fullmatch(line) or x25lines.REFUSAL_LINE.fullmatch(line)):
+                raise BadInput(f"line {number} is no line of a trace or a run: {x25lines.shown(line)}")
+        out.flush()
+
+
+def main() -> int:
+    parser = argparse.ArgumentParser(description=__doc__, formatter_class=argparse.RawDescriptionHelpFormatter)
+    x25lines.add_input(parser, "the trace")
+    parser.add_argument("-o", "--output", metavar="CAPTURE", help="the file to write; else standard output")
+    options = parser.parse_args()
+    if options.output is None and sys.stdout.isatty():
+        parser.error("a capture isn't for a terminal: give -o CAPTURE, or send standard output to a file")
+    with x25lines.opened(options.file) as file:
+        if options.output is None:
+            convert(file, sys.stdout.buffer)
+        else:
+            with open(options.output, "wb") as out:
+                convert(file, out)
+    return 0

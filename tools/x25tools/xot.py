@@ -1,0 +1,261 @@
+"""X.25 over TCP (XOT, RFC 1613): from captured packets of IP to the X.25 packets of their connections.
+
+TCP's segments are put in order here. What the capture lacks is told by `Xot.notes`, and reading goes on behind it.
+"""
+
+from __future__ import annotations
+
+import ipaddress
+import struct
+from collections import Counter
+from typing import Optional
+
+XOT_PORT = 1998
+# What a packet of IP carries; and the ends of a segment: addresses, and ports.
+Carried = tuple[int, bytes, bytes, bytes, int]
+Ends = tuple[bytes, bytes, int, int]
+
+RAW_IP, OLD_RAW_IP, OTHER_RAW_IP, IPV4, IPV6 = 101, 12, 14, 228, 229
+NULL, LOOP = 0, 108
+TCP = 6
+# Extension headers of IPv6 that say their own length in the same way.
+EXTENSIONS = (0, 43, 60)
+MOST_EXTENSIONS = 8
+
+SYN, ACK = 2, 16
+WITHIN = "segment that begins within a packet, before the first of a connection that was captured from its midst"
+# How much is held of a connection while a segment is missing, and of how many connections.
+MOST_SEGMENTS, MOST_STREAMS = 256, 4096
+SEQUENCES = 1 << 32
+
+
+# For each link type that holds IP and no addresses of a local network, the octets of its header.
+IP_AT = {NULL: 4, LOOP: 4, **dict.fromkeys((RAW_IP, OLD_RAW_IP, OTHER_RAW_IP, IPV4, IPV6), 0)}
+
+
+_IPV4, _TCP, _HEADER = (struct.Struct(form).unpack_from for form in (">BxHxxHxB2x4s4s", ">HHIIBB", ">HH"))
+
+
+def _of_ipv4(octets: bytes) -> Carried | None:
+    """What a packet of IPv4 carries: protocol, source, target, octets, and their length, of which some may not be captured; None where it is
+    none, or a fragment."""
+    if len(octets) < 20:
+        return None
+    first, total, fragment, protocol, source, target = _IPV4(octets)
+    header = 4 * (first & 0xF)
+    if header < 20 or total < header or fragment & 0x3FFF:
+        return None
+    return protocol, source, target, octets[header:total], total - header
+
+
+def _of_ipv6(octets: bytes) -> Carried | None:
+    """The same of a packet of IPv6, behind its extension headers."""
+    if len(octets) < 40:
+        return None
+    protocol, length = octets[6], int.from_bytes(octets[4:6], "big")
+    source, target, payload = octets[8:24], octets[24:40], octets[40 : 40 + length]
+    for _ in range(MOST_EXTENSIONS):
+        if protocol not in EXTENSIONS or len(payload) < 8:
+            break
+        protocol, header = payload[0], 8 * (payload[1] + 1)
+        payload, length = payload[header:], length - header
+    return protocol, source, target, payload, length
+
+
+_READERS = {4: _of_ipv4, 6: _of_ipv6}
+
+
+def segment(octets: bytes) -> tuple[Ends, int, int, int, bytes, int] | None:
+    """The segment of TCP in a packet of IP: its ends (addresses and ports, source and target), where its octets stand in the stream, where those
+    stand that its sender wants next, its flags, its octets, and how many of these weren't captured; None where it holds none."""
+    read = _READERS.get(octets[0] >> 4 if octets else 0)
+    payload = read(octets) if read else None
+    if payload is None or payload[0] != TCP or len(payload[3]) < 20:
+        return None
+    _, source, target, tcp, length = payload
+    source_port, target_port, sequence, wanted, words, flags = _TCP(tcp)
+    header = words >> 4 << 2
+    if not 20 <= header <= length:
+        return None
+    missing = length - len(tcp) if len(tcp) > header else length - header
+    return (source, target, source_port, target_port), sequence, wanted, flags, tcp[header:], missing
+
+
+class Stream:
+    """One direction of a connection, between two ends: puts segments in order, and cuts what comes into packets.
+
+    The DTE is the end that opened the connection to the port of XOT. Where a capture begins within a connection, the first segment that begins
+    with a packet is the first that is read.
+    """
+
+    def __init__(self, ends: Ends, port: int, notes: Counter[str]) -> None:
+        source, target = ends[::2], ends[1::2]
+        self.is_of_dte = target[1] == port
+        client, server = (source, target) if self.is_of_dte else (target, source)
+        self.name = f"XOT {_end(client)} > {_end(server)}"
+        self._notes = notes
+        self._start: int | None = None
+        self._next: int | None = None
+        self._ahead: dict[int, bytes] = {}
+        self._held = b""
+        self._is_lost = self._has_packets = False
+
+    def take(self, sequence: int, flags: int, octets: bytes) -> list[bytes | None]:
+        """Takes the octets of a segment, which stand there in the stream; answers the X.25 packets that are whole now, and None where some are
+        missing, or a connection begins anew."""
+        packets: list[bytes | None] = []
+        if flags & SYN:
+            if sequence != self._start:
+                packets += [*self.end(), None]
+                self._begin(sequence)
+            sequence = (sequence + 1) % SEQUENCES
+        if octets:
+            if self._next is None:
+                self._next = sequence
+            if self._next == sequence and not self._ahead:
+                self._hold(octets)
+            else:
+                self._ahead.setdefault(sequence, octets)
+                self._in_order()
+                if len(self._ahead) > MOST_SEGMENTS:
+                    self._pass_gap()
+                    packets.append(None)
+            packets += self._packets()
+        return packets
+
+    def taken(self, wanted: int) -> list[bytes | None]:
+        """Takes the place up to which the other end has all; answers the packets that are whole now, with None where some weren't captured."""
+        packets: list[bytes | None] = []
+        # An end of the stream counts as an octet.
+        while self._next is not None and self._distance(wanted) > (0 if self._ahead else 1):
+            if self._ahead:
+                self._pass_gap()
+            else:
+                self._skip(wanted)
+            packets += [None, *self._packets()]
+        return packets
+
+    def end(self) -> list[bytes | None]:
+        """Gives up what is missing; answers the packets behind it, each behind None, and notes what was left within one."""
+        packets: list[bytes | None] = []
+        while self._ahead:
+            self._pass_gap()
+            packets += [None, *self._packets()]
+        if self._held:
+            self._notes["packet broken off at the end of its connection"] += 1
+            self._held = b""
+        return packets
+
+    def _begin(self, sequence: int) -> None:
+        """Begins a connection, whose first octet stands behind the number of its SYN."""
+        self._start = sequence
+        self._next = (sequence + 1) % SEQUENCES
+        self._is_lost = self._has_packets = False
+
+    def _distance(self, sequence: int) -> int:
+        """How far behind the octet that is wanted next a number stands; below 0, before it."""
+        assert self._next is not None
+        distance = (sequence - self._next) % SEQUENCES
+        return distance - SEQUENCES if distance >= SEQUENCES // 2 else distance
+
+    def _in_order(self) -> None:
+        """Moves each segment that has become the next one, or overlaps it, to what is held."""
+        while ready := [it for it in self._ahead if self._distance(it) <= 0]:
+            for sequence in ready:
+                self._hold(self._ahead.pop(sequence)[-self._distance(sequence) :])
+
+    def _hold(self, octets: bytes) -> None:
+        """Takes the octets that are wanted next."""
+        assert self._next is not None
+        self._held += octets
+        self._next = (self._next + len(octets)) % SEQUENCES
+
+    def _pass_gap(self) -> None:
+        """Goes on at the nearest segment."""
+        self._skip(min(self._ahead, key=self._distance))
+        self._in_order()
+
+    def _skip(self, sequence: int) -> None:
+        """Goes on there; what was held ends within a packet, and so is dropped."""
+        self._notes["gap in a connection, octets that weren't captured"] += 1
+        self._held = b""
+        self._is_lost = False
+        self._next = sequence
+
+    def _packets(self) -> list[bytes | None]:
+        """Cuts the packets that are whole off what is held."""
+        packets: list[bytes | None] = []
+        held, at = self._held, 0
+        while not self._is_lost and len(held) - at >= 4:
+            version, length = _HEADER(held, at)
+            if version != 0 or length == 0:
+                if self._start is None and not self._has_packets:
+                    self._notes[WITHIN] += 1
+                    held = b""
+                    break
+                self._notes["connection that isn't XOT, or was read out of step"] += 1
+                self._is_lost = True
+                packets.append(None)
+            elif len(held) - at < 4 + length:
+                break
+            else:
+                packets.append(held[at + 4 : at + 4 + length])
+                self._has_packets = True
+                at += 4 + length
+        self._held = b"" if self._is_lost else held[at:]
+        return packets
+
+
+def _end(end: tuple[bytes, int]) -> str:
+    """An address and a port as they are written."""
+    host = str(ipaddress.ip_address(end[0]))
+    return f"[{host}]:{end[1]}" if ":" in host else f"{host}:{end[1]}"
+
+
+def is_like_xot(octets: bytes) -> bool:
+    """True where octets are a whole packet of XOT: version 0, its length, an X.25 packet modulo 8 or 128."""
+    return len(octets) >= 7 and octets[:2] == b"\0\0" and int.from_bytes(octets[2:4], "big") == len(octets) - 4 and octets[4] & 0x30 in (0x10, 0x20)
+
+
+class Xot:
+    """All connections of a capture to and from one port, each known by its two ends.
+
+    `notes` counts what was left out, by why, and `passed` what was no part of it.
+    """
+
+    def __init__(self, port: int, notes: Counter[str], passed: Counter[str]) -> None:
+        self._port = port
+        self._streams: dict[Ends, Stream] = {}
+        self._notes = notes
+        self._passed = passed
+
+    def take(self, octets: bytes) -> list[tuple[Stream, list[bytes | None]]]:
+        """Takes a packet of IP; answers the streams that have whole X.25 packets now, each with these."""
+        found = segment(octets)
+        if found is None:
+            self._passed["packet of IP without a whole segment of TCP"] += 1
+            return []
+        ends, sequence, wanted, flags, octets, missing = found
+        if self._port not in ends[2:]:
+            port = min(ends[2:])
+            self._passed[f"segment of TCP like XOT, to or from port {port} (--port)" if is_like_xot(octets) else f"segment of TCP of other ports than {self._port}"] += 1
+            return []
+        if missing > 0:
+            self._notes["segment that was captured in part"] += 1
+        stream, closed = self._streams.get(ends), []
+        if stream is None:
+            stream = self._streams[ends] = Stream(ends, self._port, self._notes)
+            if len(self._streams) > MOST_STREAMS:
+                closed = self._close(next(iter(self._streams)))
+        # What its sender took of the other way came before this.
+        back = self._streams.get((ends[1], ends[0], ends[3], ends[2])) if flags & ACK else None
+        taken = [(back, back.taken(wanted))] if back else []
+        return [*taken, (stream, stream.take(sequence, flags, octets)), *closed]
+
+    def end(self) -> list[tuple[Stream, list[bytes | None]]]:
+        """Ends all connections; answers what they still hold."""
+        return [closed for ends in list(self._streams) for closed in self._close(ends)]
+
+    def _close(self, ends: Ends) -> list[tuple[Stream, list[bytes | None]]]:
+        stream = self._streams.pop(ends)
+        return [(stream, stream.end())]
