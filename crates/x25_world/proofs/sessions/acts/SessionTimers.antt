@@ -49,9 +49,7 @@ timer_packet c s = by (nat_lt s.tries c.retries)
 -- connect is accepted in Down alone
 was_down : (p : Phase) → connect_refusal p ≡ None → p ≡ Down
 was_down Down is = refl
-was_down Waiting is = absurd (cc)
-was_down Up is = absurd (cc)
-was_down Closed is = absurd (cc)
+was_down p is = absurd (cc)
 
 -- ---- frames of a set-up on the line
 
@@ -60,28 +58,12 @@ first_false true b e = true_false e
 first_false false b e = refl
 
 not_sabm : (read : Result PlainFrame FrameError) → is_a Sabm read ≡ false → sabm_in read ≡ 0
-not_sabm (Ok (info ns nr p x)) e = refl
-not_sabm (Ok (rr command nr pf)) e = refl
-not_sabm (Ok (rnr command nr pf)) e = refl
-not_sabm (Ok (rej command nr pf)) e = refl
 not_sabm (Ok (sabm p)) e = true_false e
-not_sabm (Ok (disc p)) e = refl
-not_sabm (Ok (ua f)) e = refl
-not_sabm (Ok (dm f)) e = refl
-not_sabm (Ok (frmr f why)) e = refl
-not_sabm (Err error) e = refl
+not_sabm read e = refl
 
 not_ua : (read : Result PlainFrame FrameError) → is_a Ua read ≡ false → ua_in read ≡ 0
-not_ua (Ok (info ns nr p x)) e = refl
-not_ua (Ok (rr command nr pf)) e = refl
-not_ua (Ok (rnr command nr pf)) e = refl
-not_ua (Ok (rej command nr pf)) e = refl
-not_ua (Ok (sabm p)) e = refl
-not_ua (Ok (disc p)) e = refl
 not_ua (Ok (ua f)) e = true_false e
-not_ua (Ok (dm f)) e = refl
-not_ua (Ok (frmr f why)) e = refl
-not_ua (Err error) e = refl
+not_ua read e = refl
 
 none_of : (frame : SetUpFrame) (count : Result PlainFrame FrameError → ℕ) → ((read : Result PlainFrame FrameError) → is_a frame read ≡ false → count read ≡ 0) → (from : Role) (es : List links.Entry)
     → carries frame from (octets_of es) ≡ false → how_many count from longest_packet es ≡ 0
