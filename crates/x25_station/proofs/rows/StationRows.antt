@@ -1,7 +1,7 @@
 -- Worked rows of a station, computed on the definition.
 use Rattle.std.proofs.Common.{◌≡◌, ℕ, List, [], ◌∷◌, Some, None, true, false, refl}
 use Rattle.x25_bits.specs.declared.role.Role.TheVariants.{Dte}
-use Rattle.x25_frame.specs.Frame.{PlainFrame, info, sabm, disc}
+use Rattle.x25_frame.specs.Frame.{PlainFrame, info, rr, sabm, disc}
 use Rattle.x25_packet.specs.Digits.{halves_of, packed}
 use Rattle.x25_packet.specs.Reading.{packet_of}
 use Rattle.x25_wide.specs.Facilities.{are_facilities}
@@ -25,8 +25,8 @@ use Rattle.x25_layer.specs.Calls.{Asks, Dials, Restarts, PullsAll}
 use Rattle.x25_layer.specs.laws.Transcript.{Asked, Told}
 use Rattle.x25_station.specs.declared.error.StationError.TheVariants as error
 use Rattle.x25_station.specs.Config.{Settings, layer_settings}
-use Rattle.x25_station.specs.Command.{Requests, Connects, Disconnects}
-use Rattle.x25_station.specs.Entry.{StationEntry, of_channel, restart_asked, connect_asked, disconnect_asked, link_up, link_down, was_restarted, came_beside, was_diagnosed}
+use Rattle.x25_station.specs.Command.{Requests, Connects, Disconnects, Probes, Relinks}
+use Rattle.x25_station.specs.Entry.{StationEntry, of_channel, restart_asked, connect_asked, disconnect_asked, relink_asked, link_up, link_down, was_restarted, came_beside, was_diagnosed}
 use Rattle.x25_station.specs.Station.{Station, new_station}
 use Rattle.x25_station.specs.Step.{Outcome, Did, Refused, follows, connects, fires, receives, commands}
 use Rattle.x25_station.specs.Station.Told.{is_idle, stretch}
@@ -171,6 +171,23 @@ row_disconnect_sends : frames_in (commands dte with_call Disconnects) ≡ disc t
 unfolding pumped
 row_disconnect_sends = refl
 
+-- an idle link is polled, and nothing is entered
+row_probe : frames_in (commands dte with_call Probes) ≡ rr true 0 true ∷ []
+unfolding pumped
+row_probe = refl
+
+row_probe_entries : entries_in (commands dte with_call Probes) ≡ []
+unfolding pumped
+row_probe_entries = refl
+
+row_relink : entries_in (commands dte with_call Relinks) ≡ relink_asked ∷ link_down Local ∷ []
+unfolding pumped
+row_relink = refl
+
+row_relink_sends : frames_in (commands dte with_call Relinks) ≡ sabm true ∷ []
+unfolding pumped
+row_relink_sends = refl
+
 -- ---- refusals
 
 row_not_up : commands dte new_station (Requests Restarts) ≡ Refused (error.Layer layer_error.NotUp)
@@ -198,6 +215,18 @@ row_not_running = refl
 row_closed : commands dte (record { link = with_nothing Closed 0; layer = layer.at_rest }) Disconnects ≡ Refused (error.Link link_error.Closed)
 unfolding pumped
 row_closed = refl
+
+row_probe_down : commands dte new_station Probes ≡ Refused (error.Link link_error.NotUp)
+unfolding pumped
+row_probe_down = refl
+
+row_relink_down : commands dte new_station Relinks ≡ Refused (error.Link link_error.NotUp)
+unfolding pumped
+row_relink_down = refl
+
+row_relink_waiting : commands dte (record { link = with_nothing Waiting 0; layer = layer.at_rest }) Relinks ≡ Refused (error.Link link_error.AlreadyWaiting)
+unfolding pumped
+row_relink_waiting = refl
 
 -- ---- a full count
 

@@ -9,7 +9,7 @@ use Rattle.x25_link.specs.Link.{alone, goes_up}
 use Rattle.x25_circuit.specs.Circuit.{begun}
 use Rattle.x25_layer.specs.Layer as layer
 use Rattle.x25_station.specs.Config.{Settings}
-use Rattle.x25_station.specs.Command.{Connects, Disconnects}
+use Rattle.x25_station.specs.Command.{Connects, Disconnects, Probes, Relinks}
 use Rattle.x25_station.specs.Station.{Station, new_station}
 use Rattle.x25_station.specs.Step.{Did, follows, commands, fires}
 use Rattle.x25_station.specs.laws.TimerLaw.{Comes, Asks, Fires, timer}
@@ -79,3 +79,12 @@ row_refused_off = refl
 row_disconnect : timer (up with_two) (Asks Disconnects) (commands dte (up with_two) Disconnects) ≡ Off
 unfolding pumped
 row_disconnect = refl
+
+row_probe : timer (up fresh) (Asks Probes) (commands dte (up fresh) Probes) ≡ Begins
+unfolding pumped
+row_probe = refl
+
+-- SABM goes, and what ran for I frames begins anew
+row_relink : timer (up with_two) (Asks Relinks) (commands dte (up with_two) Relinks) ≡ Begins
+unfolding pumped
+row_relink = refl
