@@ -5,12 +5,13 @@ ghost use Rattle.x25_circuit.specs.Message.{no_part, joining};
 ghost use Rattle.x25_circuit.specs.Params.{default_params};
 ghost use Rattle.x25_circuit.specs.Calling.{pulled, pulls_nothing};
 ghost use Rattle.x25_circuit.specs.Circuit.{Settings, begun, entered, forgotten, zeroed, is_free, is_open, waits};
-ghost use Rattle.x25_circuit.specs.Circuit.{outgoing, incoming};
+ghost use Rattle.x25_circuit.specs.Circuit.{message_room, outgoing, incoming};
 ghost use Rattle.x25_circuit.specs.Circuit.{Circuit as Channel};
 
 use crate::awaits::Awaits;
 use crate::error::CircuitError;
 use crate::params::{FlowControl, Params};
+use crate::queue::PLACES;
 use crate::state::State;
 use crate::terms::Terms;
 use crate::transfer::Transfer;
@@ -154,6 +155,17 @@ impl Circuit {
         ensures few { result ≤ 8 }
     {
         self.transfer.queue.len()
+    }
+
+    /// How many messages more it takes: 8 less those that wait, in p4 with d1, and else 0.
+    pub fn room(&self) -> usize
+        ensures value { (c : Settings) (x : Channel) → FitsCircuit c self.now x → result ≡ message_room x }
+        ensures few { result ≤ 8 }
+    {
+        if !self.is_open() {
+            return 0;
+        }
+        PLACES - self.waits()
     }
 
     /// How many octets have come of the message of which some packets came, at most 65,535; 0 where there is none.

@@ -80,11 +80,6 @@ named c v l h fits is =
     let same : is_channel c.channels h ≡ true = subst (λ (n : ℕ). is_channel n h ≡ true) fits.channels is in
     sym (ap (λ (b : Bool). if b then Some (name_of l h) else None) same)
 
-pub unnamed : (c : LayerSettings) (v : code.Layer) (l : Layer) (h : ℕ) → FitsLayer c v l → is_channel (length v.circuits.items) h ≡ false → None ≡ name_at c l h
-unnamed c v l h fits is =
-    let same : is_channel c.channels h ≡ false = subst (λ (n : ℕ). is_channel n h ≡ false) fits.channels is in
-    sym (ap (λ (b : Bool). if b then Some (name_of l h) else None) same)
-
 -- the name, as a circuit has its counts
 pub counted : (l : Layer) (h restarts clears resets : ℕ) → restarts ≡ l.restarts → clears ≡ (l.circuits h).clears → resets ≡ (l.circuits h).resets
     → Some (record { restarts = restarts; clears = clears; resets = resets }) ≡ Some (name_of l h)

@@ -59,6 +59,7 @@ impl Layer {
     ghost use Rattle.x25_layer.specs.code.FitsLayer.{awaited_up_to};
     ghost use Rattle.x25_layer.specs.code.FitsLayer.{waits_up_to, is_full, KeepsOn};
     ghost use Rattle.x25_layer.specs.Layer.InPart.{joined_at};
+    ghost use Rattle.x25_layer.specs.Layer.MessageRoom.{room_at};
 
     /// The layer of an end whose link isn't up, with so many channels, 1 to 16. With `long_data` a call has at most 128
     /// octets of user data (profile), else at most 16. It is the same at both ends.
@@ -165,6 +166,21 @@ impl Layer {
             waits += circuit.waits();
         }
         waits
+    }
+
+    /// How many messages more a channel takes: 8 less those that wait, where it is open, and 0 where it isn't or a
+    /// restart is under way.
+    pub fn room(&self, channel: u16) -> usize
+        ensures value { (c : LayerSettings) (l : State) → FitsLayer c self.now l → result ≡ room_at c l channel }
+        ensures few { result ≤ 8 }
+    {
+        if self.restarting {
+            return 0;
+        }
+        match self.circuit(channel) {
+            Some(circuit) => circuit.room(),
+            None => 0,
+        }
     }
 
     /// How many octets have come of the message of which some packets came on a channel, at most 65,535; 0 where there
