@@ -7,7 +7,8 @@ use Rattle.x25_line.specs.laws.Sessions.{Meeting, turned}
 use Rattle.x25_line.specs.laws.SessionClaims.{AllMet, SomeMet}
 use Rattle.x25_line.specs.laws.Peer.{Peer, fresh_peer, MaySay, MayMake}
 use Rattle.x25_line.proofs.Order.{Told, told, only, IsApart, only_append, only_quiet, Left, left_front, left_deeper, Hold, starts, hold_turned, handed, says, left, makes, in_order, valid_front}
-use Rattle.x25_line.proofs.sessions.SessionHeld.{View, Live, Soon, Gone, IsPaired, IsBegun}
+use Rattle.x25_line.proofs.sessions.SessionHeld.{View, Live, Soon, Gone, IsPaired}
+use Rattle.x25_line.proofs.sessions.SessionLatest.{all_meet, some_meets}
 use Rattle.x25_line.proofs.sessions.SessionRuns.{near_turned, far_turned}
 use Rattle.x25_sessions.specs.laws.PeerSessions.{Stand, Out, Asking, In, put_for}
 use Rattle.x25_sessions.specs.laws.Ends.{Stander, Letter, letter, Two, sabm_in, how_many, meets, heard, OfTells, AreOf, Moves, free, odd, asks, closes, hears, takes_ua, takes_sabm, waits_on, takes_disc, loses, damages, Ends, ends_swapped, near_now, with_near, begins, fresh_where, Does, is_handed, sends, listens, moves, begin_at, IsReached, at_start, set_up, near_does, far_does}
@@ -364,29 +365,14 @@ far_high w h = go h.held.far_view h.held.far.view
     go Gone is = (let e = is.1 in omega (arith, e))
 
 -- who meets the session in which the near end is: the far end's latest, which stands
-meets_latest : (p q b c : ℕ) → b ≡ p → c ≤ q → (ms : List Meeting) → AllMet (IsBegun b c) ms → AllMet (IsPaired p q) ms → AllMet (λ (m : Meeting). m.near ≡ b → (m.far ≡ c) × (q ≡ c)) ms
-meets_latest p q b c is high [] begun paired = tt
-meets_latest p q b c is high (m ∷ ms) begun paired = (
-  λ here. elim paired.0 [
-    | inl same ↦ (let to = same.1 in let low = begun.0.1 in (omega (arith, to, low, high), omega (arith, to, low, high)))
-    | inr less ↦ (let low = less.0 in absurd (omega (arith, low, is, here)))
-  ],
-  meets_latest p q b c is high ms begun.1 paired.1,
-)
+pub latest : (w : Ends) (h : All w) → w.two.near.stand ≡ In → AllMet (λ (m : Meeting). m.near ≡ w.two.near.begun → m.far ≡ w.two.far.begun) w.two.met
+latest w h on =
+    all_meet h.held.p h.held.q w.two.near.begun w.two.far.begun w.two.met (in_session h.held.near_view w.two.near.stand w.two.near.begun h.held.p on h.held.near.view) (far_high w h) h.held.meets.begun h.held.meets.paired
 
-pub latest_stands : (w : Ends) (h : All w) → w.two.near.stand ≡ In → AllMet (λ (m : Meeting). m.near ≡ w.two.near.begun → (m.far ≡ w.two.far.begun) × (h.held.q ≡ w.two.far.begun)) w.two.met
-latest_stands w h on =
-    meets_latest h.held.p h.held.q w.two.near.begun w.two.far.begun (in_session h.held.near_view w.two.near.stand w.two.near.begun h.held.p on h.held.near.view) (far_high w h) w.two.met
-    h.held.meets.begun h.held.meets.paired
-
--- it stands where the near end met it, or the far end is in it
-pub some_stands : (P : Type 0) (b : ℕ) (ms : List Meeting) → AllMet (λ (m : Meeting). m.near ≡ b → P) ms → SomeMet (λ (m : Meeting). m.near ≡ b) ms → P
-some_stands P b [] all some = absurd some
-some_stands P b (m ∷ ms) all some = elim some [ inl here ↦ all.0 here | inr there ↦ some_stands P b ms all.1 there ]
-
-pub all_map : (P Q : Meeting → Type 0) → ((m : Meeting) → P m → Q m) → (ms : List Meeting) → AllMet P ms → AllMet Q ms
-all_map P Q f [] h = tt
-all_map P Q f (m ∷ ms) h = (f m h.0, all_map P Q f ms h.1)
+-- and it stands where the near end met one
+pub some_stands : (w : Ends) (h : All w) → w.two.near.stand ≡ In → SomeMet (λ (m : Meeting). m.near ≡ w.two.near.begun) w.two.met → h.held.q ≡ w.two.far.begun
+some_stands w h on =
+    some_meets h.held.p h.held.q w.two.near.begun w.two.far.begun w.two.met (in_session h.held.near_view w.two.near.stand w.two.near.begun h.held.p on h.held.near.view) (far_high w h) h.held.meets.begun h.held.meets.paired
 
 -- all that an end was handed down in its session was taken, where all is acknowledged
 pub all_taken : (w : Ends) (h : All w) → w.two.near.stand ≡ In → h.held.q ≡ w.two.far.begun → (near_now w).acked ≡ length (near_now w).given → (w.far_of w.two.far.begun).taken ≡ (near_now w).given
@@ -422,6 +408,6 @@ keep_sessions w r =
       order = h.order;
       near_unmet = h.near_unmet;
       far_unmet = h.far_unmet;
-      latest = λ on. all_map _ _ (λ m k here. (k here).0) w.two.met (latest_stands w h on);
+      latest = latest w h;
       valid = λ on e rest carried nr is says. valid w h on e rest carried nr is says;
     }
