@@ -168,7 +168,7 @@ pub begun_turned : (p q : ℕ) (met : List Meeting) → AllMet (IsBegun p q) met
 begun_turned p q [] h = tt
 begun_turned p q (m ∷ ms) h = ((h.0.1, h.0.0), begun_turned p q ms h.1)
 
-paired_turned : (p q : ℕ) (met : List Meeting) → AllMet (IsPaired p q) met → AllMet (IsPaired q p) (map turned met)
+pub paired_turned : (p q : ℕ) (met : List Meeting) → AllMet (IsPaired p q) met → AllMet (IsPaired q p) (map turned met)
 paired_turned p q [] h = tt
 paired_turned p q (m ∷ ms) h = (elim h.0 [ inl same ↦ inl (same.1, same.0) | inr less ↦ inr (less.1, less.0) ], paired_turned p q ms h.1)
 

@@ -143,15 +143,8 @@ asked_same c d v x h =
     ap₂ (λ (n m : ℕ). n + m) (many_same sabm_in (other d.role) d.longest v.out x.out h.out) (many_same ua_in (other c.role) c.longest v.back x.back h.back)
 
 timely_same : (c d : LinkSettings) (act : line.Act) (v x : Sessions) → AreSame v x → IsTimely c d act v → IsTimely c d act x
-timely_same c d (line.Put packet) v x h timely = tt
-timely_same c d line.Deliver v x h timely = tt
 timely_same c d line.T1 v x h timely = λ waiting. asked_same c d v x h ∙ timely (ap (λ (s : LinkStation). s.phase) (sym h.near) ∙ waiting)
-timely_same c d line.Connect v x h timely = tt
-timely_same c d line.Disconnect v x h timely = tt
-timely_same c d line.Abandon v x h timely = tt
-timely_same c d line.Probe v x h timely = tt
-timely_same c d (line.Lose i) v x h timely = tt
-timely_same c d (line.Damage i octets) v x h timely = tt
+timely_same c d act v x h timely = tt
 
 timely_at_same : (c d : LinkSettings) (e : line.Event) (v x : Sessions) → AreSame v x → IsTimelyAt c d e v → IsTimelyAt c d e x
 timely_at_same c d (line.Near act) v x h timely = timely_same c d act v x h timely
