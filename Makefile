@@ -16,6 +16,7 @@
 # make uninstall     a second                             removes what these installed
 # make dist          a second         git                 leaves the sources of HEAD at build/x25-VERSION.tar.gz
 # make dist-binary   a second         build/x25           leaves the program, the scripts and what make lib left at build/x25-VERSION-linux-MACHINE.tar.gz
+# make deb           a minute         debhelper, git      leaves Debian packages of build/x25 and of what make lib left in build/deb
 # make clean         a second                             removes what the others made here
 #
 # PREFIX is /usr/local where it isn't given, DESTDIR stands before it, and PROGRAM is what is installed in place of build/x25. LIBDIR is
@@ -23,7 +24,7 @@
 # The times are those of four processors with nothing beside. rt, the command of the Rattle kit, wants up to 4 GB of memory for each
 # processor; cc is a C compiler. All need Python 3.9 or later. What needs build/x25 has it proved first, where it isn't there.
 
-.PHONY: help look x25 lib check-c demo test golden judge-runs check-tools refused wrong-bodies interop install install-lib uninstall dist dist-binary clean kit
+.PHONY: help look x25 lib check-c demo test golden judge-runs check-tools refused wrong-bodies interop install install-lib uninstall dist dist-binary deb clean kit
 
 SOURCES := crates.txt $(shell find crates -path '*/out' -prune -o -type f ! -name '*.md' -print)
 
@@ -97,6 +98,7 @@ judge-runs: build/x25
 	python3 tests/tap_runs.py --program build/x25
 	python3 tests/odd_runs.py --program build/x25
 	python3 tests/link_runs.py --program build/x25
+	python3 tests/again_runs.py --program build/x25
 	python3 tests/order_runs.py --program build/x25
 
 check-tools:
@@ -129,7 +131,7 @@ PACKAGE = $(INSTALLED)/lib/x25/x25
 CRATE_OF_RUST = $(INSTALLED)/share/x25/rust
 SET_PC = s|@PREFIX@|$(PREFIX)|; s|@LIBDIR@|$(LIBDIR)|; s|@VERSION@|$(VERSION)|
 # The scripts by their names in bin, of which each is a link to its script in lib/x25.
-SCRIPTS = x25dump:x25dump pcap2x25:pcap2x25 x25pcap:x25pcap x25bridge:bridge x25chart:chart
+SCRIPTS = x25dump:x25dump pcap2x25:pcap2x25 x25pcap:x25pcap x25bridge:bridge x25chart:chart x25pad:x25pad x25tools:x25tools
 
 # No dependency has the program proved: `sudo make install` is to install what is there.
 install:
@@ -198,6 +200,20 @@ dist-binary:
 	cd $(ARCHIVES)/stage/$(BINARY) && find . -type f ! -name SHA256SUMS -print0 | sort -z | xargs -0 sha256sum > SHA256SUMS
 	tar -C $(ARCHIVES)/stage --owner=0 --group=0 --sort=name -czf $(ARCHIVES)/$(BINARY).tar.gz $(BINARY)
 	rm -rf $(ARCHIVES)/stage
+
+DEBS = build/deb
+
+# In a copy, since dpkg-buildpackage leaves them beside the folder that it is run in.
+deb:
+	@command -v dh > /dev/null || { echo "There is no debhelper, by which Debian packages are built." >&2; exit 1; }
+	@for file in $(PROGRAM) $(LIBRARY)/libx25.so; do test -e $$file || { echo "There is no $$file: make x25 lib leaves it there." >&2; exit 1; }; done
+	rm -rf $(DEBS)
+	mkdir -p $(DEBS)/x25/build
+	git ls-files -z | tar -c --null --ignore-failed-read -T - | tar -x -C $(DEBS)/x25
+	cp $(PROGRAM) $(DEBS)/x25/build/x25
+	cp -P $(LIBRARY)/libx25.* $(DEBS)/x25/build
+	cd $(DEBS)/x25 && dpkg-buildpackage -us -uc -b
+	rm -r $(DEBS)/x25
 
 clean:
 	rm -rf build crates/*/out

@@ -3,8 +3,9 @@
 import ctypes
 import time
 
-import x25
 from x25tools import linked  # noqa: F401, which finds x25
+
+import x25
 
 FRAME, TIMER = 1, 2
 

@@ -18,9 +18,10 @@ from fake_library import Library
 from test_c import PROTOTYPE
 
 import tunnels
-import x25  # where linked finds it
 from x25tools import linked, piped
 from x25tools.x25lines import BadInput
+
+import x25  # where linked finds it
 
 BINDING = os.path.join(support.ROOT, "bindings", "python")
 RUST = os.path.join(support.ROOT, "bindings", "rust")

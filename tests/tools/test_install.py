@@ -18,7 +18,7 @@ import manpage
 from program import find_library
 
 PREFIX = "/usr/local"
-SCRIPTS = ("x25dump", "pcap2x25", "x25pcap", "x25bridge", "x25chart")
+SCRIPTS = ("x25dump", "pcap2x25", "x25pcap", "x25bridge", "x25chart", "x25pad", "x25tools")
 # Who runs what was installed, where the tests run as root and so may be another user.
 OTHER = {"user": pwd.getpwnam("nobody").pw_uid, "group": pwd.getpwnam("nobody").pw_gid, "extra_groups": []} if os.geteuid() == 0 else {}
 
@@ -219,6 +219,25 @@ class InstalledLibrary(ToolCase):
                 taken += inside if os.path.isdir(found[0]) and not os.path.islink(found[0]) else found
         installed = [os.path.join(folder, name) for folder, folders, files in os.walk(there) for name in files + [one for one in folders if os.path.islink(f"{folder}/{one}")]]
         self.assertEqual(sorted(taken), sorted(installed))
+
+    @unittest.skipUnless(shutil.which("dh") and shutil.which("cc"), "there is no debhelper, or no C compiler")
+    def test_the_packages_of_debian_are_built(self):
+        source = self.file("empty.c", b"int main(void) { return 0; }\n")
+        self.file("libx25.a", b"!<arch>\n")
+        for words in [source, "-o", f"{self.folder}/x25"], ["-shared", "-fPIC", source, "-Wl,-soname,libx25.so.1", "-o", f"{self.folder}/libx25.so.1"]:
+            subprocess.run(["cc", *words], check=True)
+        command = ["make", "deb", f"PROGRAM={self.folder}/x25", f"LIBRARY={self.folder}", f"DEBS={self.folder}/deb"]
+        environment = {**os.environ, "MAKEFLAGS": "", "DEB_BUILD_OPTIONS": "nocheck"}
+        done = subprocess.run(command, cwd=support.ROOT, env=environment, capture_output=True, text=True, timeout=600)
+        self.assertEqual(done.returncode, 0, done.stdout + done.stderr)
+        inside = {}
+        for path in glob(f"{self.folder}/deb/*.deb"):
+            told = subprocess.run(["dpkg-deb", "-c", path], capture_output=True, text=True, check=True).stdout
+            inside[os.path.basename(path).partition("_")[0]] = [line.split()[5] for line in told.splitlines()]
+        places = {"x25": "./usr/bin/x25dump", "libx25-dev": "./usr/include/x25.h", "python3-x25": "./usr/lib/python3/dist-packages/x25"}
+        for name, place in places.items():
+            self.assertIn(place, inside[name])
+        self.assertTrue(any(re.fullmatch(r"\./usr/lib/[^/]+/libx25\.so\.1", place) for place in inside["libx25-1"]))
 
     def test_it_says_what_is_left_to_do_on_the_system_itself(self):
         done = make("install-lib", f"PREFIX={self.folder}/here", f"LIBRARY={self.folder}")

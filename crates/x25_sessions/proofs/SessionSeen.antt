@@ -1,20 +1,19 @@
--- Each act of one of two stations over sessions is what a peer may do.
-use Rattle.std.proofs.Common.{◌≡◌, ◌≤◌, ◌<◌, ◌==◌, ℕ, suc, ◌+◌, List, [], ◌∷◌, ◌++◌, inl, inr, length, map, Bool, true, false, Option, Some, None, refl, sym, ap, ◌∙◌, subst, arith}
+-- A station over sessions, and what is known of it as an end that keeps the rules, after each of its steps.
+use Rattle.std.proofs.Common.{◌≡◌, ◌≤◌, ◌<◌, ◌==◌, ℕ, suc, ◌+◌, List, [], ◌∷◌, ◌++◌, inl, inr, length, Bool, true, false, Option, None, refl, sym, ap, ◌∙◌, subst, arith}
 use Rattle.std.specs.Prelude.{option_to_list}
-use Rattle.std.proofs.lemmas.Bool.{eq-eqb, eqb-true}
+use Rattle.std.proofs.lemmas.Bool.{eq-eqb}
 use Rattle.x25_bits.specs.declared.role.Role.{Role}
 use Rattle.x25_frame.specs.Frame.{PlainFrame}
 use Rattle.x25_frame.specs.Reading.{frame_of}
 use Rattle.x25_frame.specs.laws.ReadingLaw.{ReadsSpelled}
 use Rattle.x25_link.specs.declared.phase.Phase.{Phase}
-use Rattle.x25_link.specs.declared.phase.Phase.TheVariants.{Down, Waiting, Up}
+use Rattle.x25_link.specs.declared.phase.Phase.TheVariants.{Up}
 use Rattle.x25_link.specs.declared.phase.Notes.{Notes}
 use Rattle.x25_link.specs.Station.{Settings, LinkStation, is_up, fresh}
-use Rattle.x25_link.specs.Hearing.{Step, other}
+use Rattle.x25_link.specs.Hearing.{Step}
 use Rattle.x25_link.specs.laws.WindowMachine.{Window, Input}
 use Rattle.x25_link.specs.laws.WindowLaw.{window_of, after_input, Stays, IsSound}
-use Rattle.x25_line.specs.laws.StationClaims.{AreJoined}
-use Rattle.x25_line.specs.laws.Sessions.{Entry, Meeting, Sessions, turned, sabm_in, how_many, sent_in, begun_by, extended, after_step, heard}
+use Rattle.x25_line.specs.laws.Sessions.{Entry, Meeting, Sessions, sabm_in, how_many, sent_in, begun_by, extended, after_step}
 use Rattle.x25_line.specs.laws.Peer.{Peer, fresh_peer}
 use Rattle.x25_line.proofs.StationSays.{machine_of}
 use Rattle.x25_line.proofs.StationSends.{AllWithin}
@@ -22,27 +21,10 @@ use Rattle.x25_line.proofs.StationSteps.{not_both}
 use Rattle.x25_line.proofs.StationAway.{is_up_phase}
 use Rattle.x25_line.proofs.sessions.SessionHeld.{extended_nil, extended_same, extended_other}
 use Rattle.x25_line.proofs.sessions.SessionSteps.{stepped}
-use Rattle.x25_sessions.specs.laws.PeerSessions.{Stand, Out, Asking, In, PeerEnd, PeerSessions, is_in, put_for, AllAskedIn, IsReached}
-use Rattle.x25_sessions.specs.laws.SessionPeers.{seen}
-use Rattle.x25_sessions.proofs.PeerMoves.{put_same, put_other}
-use Rattle.x25_sessions.proofs.SessionSays.{at, runs_said}
-
-abbrev pub stand_of : Phase → Stand
-stand_of Waiting = Asking
-stand_of Up = In
-stand_of phase = Out
-
-pub up_stands : (p : Phase) → is_up p ≡ true → stand_of p ≡ In
-up_stands p up = ap stand_of (is_up_phase p up)
-
-pub stands_in : (p : Phase) → is_in (stand_of p) ≡ is_up p
-stands_in Down = refl
-stands_in p = refl
-
-pub turned_heard : (b : Bool) (m : Option PlainFrame) (pair : Meeting) (met : List Meeting) → map turned (heard b m pair met) ≡ heard b m (turned pair) (map turned met)
-turned_heard true None pair met = refl
-turned_heard true (Some f) pair met = refl
-turned_heard false m pair met = refl
+use Rattle.x25_sessions.specs.laws.PeerSessions.{put_for, AllAskedIn}
+use Rattle.x25_sessions.proofs.SessionMay.{MayDo}
+use Rattle.x25_sessions.proofs.SessionSays.{runs_said}
+use Rattle.x25_sessions.proofs.ends.Puts.{same_or_other, put_same, put_apart}
 
 asked_append : (from : Role) (n1 b : ℕ) (xs ys : List Entry) → AllAskedIn from n1 b xs → AllAskedIn from n1 b ys → AllAskedIn from n1 b (xs ++ ys)
 asked_append from n1 b [] ys f g = g
@@ -61,18 +43,12 @@ asked_never from n1 b (e ∷ es) h =
 -- what was handed down or taken, by sessions, once more of it came in this one
 pub put_packets : (b : ℕ) (r : Peer) (all : ℕ → Peer) (lists : ℕ → List (List ℕ)) (more : List (List ℕ)) (f : Peer → List (List ℕ)) → f r ≡ f (all b) ++ more → ((n : ℕ) → f (all n) ≡ lists n)
     → (n : ℕ) → f (put_for b r all n) ≡ extended lists b more n
-put_packets b r all lists more f grows same n = go (n == b) refl
-  where
-    never : (n == b) ≡ false → n ≡ b → ⊥
-    never e is = not_both (n == b) (eq-eqb n b is) e
+put_packets b r all lists more f grows same n = elim (same_or_other n b) [
+  | inl is ↦ ap f (put_same b n r all is) ∙ grows ∙ ap (λ (xs : List (List ℕ)). xs ++ more) (same b) ∙ sym (extended_same lists b more) ∙ ap (extended lists b more) (sym is)
+  | inr not ↦ ap f (put_apart b n r all not) ∙ same n ∙ sym (extended_other lists b n more (λ (is : n ≡ b). not_both (n == b) (eq-eqb n b is) not))
+]
 
-    go : (x : Bool) → (n == b) ≡ x → f (put_for b r all n) ≡ extended lists b more n
-    go true e =
-        let is : n ≡ b = eqb-true n b e in
-        ap f (put_same b n r all is) ∙ grows ∙ ap (λ (xs : List (List ℕ)). xs ++ more) (same b) ∙ sym (extended_same lists b more) ∙ ap (extended lists b more) (sym is)
-    go false e = ap f (put_other b n r all (never e)) ∙ same n ∙ sym (extended_other lists b n more (never e))
-
-module _ (c d : Settings) (joined : AreJoined c d) (reads : ReadsSpelled) where
+module _ (d : Settings) where
   -- a station that is Up, and what is known of it as a peer
   pub record UpFacts (s : LinkStation) (p : Peer) : Type 0 where
     pub same : machine_of d.window p ≡ window_of d.window s
@@ -81,31 +57,26 @@ module _ (c d : Settings) (joined : AreJoined c d) (reads : ReadsSpelled) where
     pub told : p.told ≤ length p.taken
     pub within : AllWithin d.longest p.given
 
-  abbrev pub peer_of : Sessions → (ℕ → Peer) → PeerEnd
-  peer_of w all = record { stand = stand_of w.near.station.phase; begun = w.near.begun; of_session = all }
-
-  -- the near end, with settings d, as a peer of the far end, with settings c
+module _ (d : Settings) (R : List Entry → List Meeting → Phase → ℕ → (ℕ → Peer) → List Entry → Type 0) where
+  -- the near end, with settings d
   pub record Seen (w : Sessions) : Type 0 where
     pub all : ℕ → Peer
-    pub reached : IsReached ⊥ c (seen (peer_of w all) w)
-    pub up : is_up w.near.station.phase ≡ true → UpFacts w.near.station (all w.near.begun)
+    pub reached : R w.back w.met w.near.station.phase w.near.begun all w.out
+    pub up : is_up w.near.station.phase ≡ true → UpFacts d w.near.station (all w.near.begun)
     pub given : (n : ℕ) → (all n).given ≡ w.near.down n
     pub taken : (n : ℕ) → (all n).taken ≡ w.near.up n
     pub later : (n : ℕ) → w.near.begun < n → (w.near.down n ≡ []) × (w.near.up n ≡ [])
-    pub tags : AllAskedIn (other c.role) c.longest w.near.begun w.out
+    pub tags : AllAskedIn d.role d.longest w.near.begun w.out
 
-  -- where the station's peer is, with these lines
-  abbrev pub stands_at : Sessions → List Entry → List Meeting → Stand → ℕ → (ℕ → Peer) → List Entry → PeerSessions
-  stands_at w es met stand b all back = at c d joined reads w.far es (map turned met) stand b all back
-
+module _ (d : Settings) (high : d.window ≤ 7) (reads : ReadsSpelled) (Due : List Entry → Type 0) (R : List Entry → List Meeting → Phase → ℕ → (ℕ → Peer) → List Entry → Type 0) (does : MayDo d Due R) where
   -- ---- after a step of the near end
 
-  pub build : (w : Sessions) (h : Seen w) (es : List Entry) (met : List Meeting) (down : List (List ℕ)) (step : Step) (all : ℕ → Peer) → step.notes.up ≡ false
-      → IsReached ⊥ c (stands_at w es met (stand_of step.side.near.phase) w.near.begun all (w.out ++ sent_in w.near.begun d.role step.side.out))
-      → (is_up step.side.near.phase ≡ true → UpFacts step.side.near (all w.near.begun)) → ((n : ℕ) → (all n).given ≡ extended w.near.down w.near.begun down n)
-      → ((n : ℕ) → (all n).taken ≡ extended w.near.up w.near.begun (option_to_list step.packet) n) → Seen (after_step d w es met down step)
+  pub build : (w : Sessions) (h : Seen d R w) (es : List Entry) (met : List Meeting) (down : List (List ℕ)) (step : Step) (all : ℕ → Peer) → step.notes.up ≡ false
+      → R es met step.side.near.phase w.near.begun all (w.out ++ sent_in w.near.begun d.role step.side.out)
+      → (is_up step.side.near.phase ≡ true → UpFacts d step.side.near (all w.near.begun)) → ((n : ℕ) → (all n).given ≡ extended w.near.down w.near.begun down n)
+      → ((n : ℕ) → (all n).taken ≡ extended w.near.up w.near.begun (option_to_list step.packet) n) → Seen d R (after_step d w es met down step)
   build w h es met down step all quiet reached up given taken =
-      subst (λ (n : ℕ). Seen (stepped d w es met down n step)) (sym (ap (λ (b : Bool). begun_by b w.near.begun) quiet))
+      subst (λ (n : ℕ). Seen d R (stepped d w es met down n step)) (sym (ap (λ (b : Bool). begun_by b w.near.begun) quiet))
       (record {
         all = all;
         reached = reached;
@@ -116,28 +87,28 @@ module _ (c d : Settings) (joined : AreJoined c d) (reads : ReadsSpelled) where
           extended_other w.near.down w.near.begun n down (λ (is : n ≡ w.near.begun). omega (arith, is, less)) ∙ old.0,
           extended_other w.near.up w.near.begun n (option_to_list step.packet) (λ (is : n ≡ w.near.begun). omega (arith, is, less)) ∙ old.1,
         ));
-        tags = asked_append (other c.role) c.longest w.near.begun w.out (sent_in w.near.begun d.role step.side.out) h.tags (asked_sent (other c.role) c.longest w.near.begun d.role step.side.out);
+        tags = asked_append d.role d.longest w.near.begun w.out (sent_in w.near.begun d.role step.side.out) h.tags (asked_sent d.role d.longest w.near.begun d.role step.side.out);
       })
 
   -- nothing is handed down or up
-  pub build_quiet : (w : Sessions) (h : Seen w) (es : List Entry) (met : List Meeting) (step : Step) → step.notes.up ≡ false → step.packet ≡ None → is_up step.side.near.phase ≡ false
-      → IsReached ⊥ c (stands_at w es met (stand_of step.side.near.phase) w.near.begun h.all (w.out ++ sent_in w.near.begun d.role step.side.out)) → Seen (after_step d w es met [] step)
+  pub build_quiet : (w : Sessions) (h : Seen d R w) (es : List Entry) (met : List Meeting) (step : Step) → step.notes.up ≡ false → step.packet ≡ None → is_up step.side.near.phase ≡ false
+      → R es met step.side.near.phase w.near.begun h.all (w.out ++ sent_in w.near.begun d.role step.side.out) → Seen d R (after_step d w es met [] step)
   build_quiet w h es met step quiet none off reached =
       build w h es met [] step h.all quiet reached (λ up. not_both (is_up step.side.near.phase) up off) (λ n. h.given n ∙ sym (extended_nil w.near.down w.near.begun n))
       (λ n. h.taken n ∙ sym (ap (λ (o : Option (List ℕ)). extended w.near.up w.near.begun (option_to_list o) n) none ∙ extended_nil w.near.up w.near.begun n))
 
-  fresh_facts : UpFacts fresh fresh_peer
+  fresh_facts : UpFacts d fresh fresh_peer
   fresh_facts = record { same = refl; sound = record { place_low = omega arith; place_high = omega arith; sent_high = omega arith; room = omega arith }; room = omega arith; told = omega arith; within = tt }
 
   -- LinkUp is noted
-  pub build_up : (w : Sessions) (h : Seen w) (es : List Entry) (step : Step) → step.notes.up ≡ true → step.side.near ≡ fresh → step.packet ≡ None → how_many sabm_in (other c.role) c.longest w.out ≡ 0
-      → IsReached ⊥ c (stands_at w es w.met In (suc w.near.begun) (put_for (suc w.near.begun) fresh_peer h.all) (w.out ++ sent_in (suc w.near.begun) d.role step.side.out)) → Seen (after_step d w es w.met [] step)
+  pub build_up : (w : Sessions) (h : Seen d R w) (es : List Entry) (step : Step) → step.notes.up ≡ true → step.side.near ≡ fresh → step.packet ≡ None → how_many sabm_in d.role d.longest w.out ≡ 0
+      → R es w.met Up (suc w.near.begun) (put_for (suc w.near.begun) fresh_peer h.all) (w.out ++ sent_in (suc w.near.begun) d.role step.side.out) → Seen d R (after_step d w es w.met [] step)
   build_up w h es step up near none unasked reached =
-      subst (λ (n : ℕ). Seen (stepped d w es w.met [] n step)) (sym (ap (λ (b : Bool). begun_by b w.near.begun) up))
+      subst (λ (n : ℕ). Seen d R (stepped d w es w.met [] n step)) (sym (ap (λ (b : Bool). begun_by b w.near.begun) up))
       (record {
         all = all;
-        reached = subst (λ (s : Stand). IsReached ⊥ c (stands_at w es w.met s b all (w.out ++ sent_in b d.role step.side.out))) (sym (ap (λ (s : LinkStation). stand_of s.phase) near)) reached;
-        up = λ _. subst (λ (s : LinkStation). UpFacts s (all b)) (sym near) (subst (UpFacts fresh) (sym (put_same b b fresh_peer h.all refl)) fresh_facts);
+        reached = subst (λ (p : Phase). R es w.met p b all (w.out ++ sent_in b d.role step.side.out)) (sym (ap (λ (s : LinkStation). s.phase) near)) reached;
+        up = λ _. subst (λ (s : LinkStation). UpFacts d s (all b)) (sym near) (subst (UpFacts d fresh) (sym (put_same b b fresh_peer h.all refl)) fresh_facts);
         given = λ n. put_packets b fresh_peer h.all w.near.down [] (λ (p : Peer). p.given) (sym (ap (λ (xs : List (List ℕ)). xs ++ []) (h.given b ∙ (h.later b (omega arith)).0))) h.given n;
         taken = λ n. put_packets b fresh_peer h.all w.near.up [] (λ (p : Peer). p.taken) (sym (ap (λ (xs : List (List ℕ)). xs ++ []) (h.taken b ∙ (h.later b (omega arith)).1))) h.taken n
             ∙ sym (ap (λ (o : Option (List ℕ)). extended w.near.up b (option_to_list o) n) none);
@@ -145,7 +116,7 @@ module _ (c d : Settings) (joined : AreJoined c d) (reads : ReadsSpelled) where
           extended_other w.near.down b n [] (λ (is : n ≡ b). omega (arith, is, less)) ∙ old.0,
           extended_other w.near.up b n (option_to_list step.packet) (λ (is : n ≡ b). omega (arith, is, less)) ∙ old.1,
         ));
-        tags = asked_append (other c.role) c.longest b w.out (sent_in b d.role step.side.out) (asked_never (other c.role) c.longest b w.out unasked) (asked_sent (other c.role) c.longest b d.role step.side.out);
+        tags = asked_append d.role d.longest b w.out (sent_in b d.role step.side.out) (asked_never d.role d.longest b w.out unasked) (asked_sent d.role d.longest b d.role step.side.out);
       })
     where
       b : ℕ
@@ -159,7 +130,7 @@ module _ (c d : Settings) (joined : AreJoined c d) (reads : ReadsSpelled) where
   -- the peer once what comes has come, before it sends
   pub record Ready (w : Sessions) (es : List Entry) (met : List Meeting) (down : List (List ℕ)) (packet : Option (List ℕ)) (v : Window) : Type 0 where
     pub all : ℕ → Peer
-    pub reached : IsReached ⊥ c (stands_at w es met In w.near.begun all w.out)
+    pub reached : R es met Up w.near.begun all w.out
     pub is : machine_of d.window (all w.near.begun) ≡ v
     pub room : (all w.near.begun).sent ≤ (all w.near.begun).acked + d.window
     pub told : (all w.near.begun).told ≤ length (all w.near.begun).taken
@@ -167,23 +138,23 @@ module _ (c d : Settings) (joined : AreJoined c d) (reads : ReadsSpelled) where
     pub given : (n : ℕ) → (all n).given ≡ extended w.near.down w.near.begun down n
     pub taken : (n : ℕ) → (all n).taken ≡ extended w.near.up w.near.begun (option_to_list packet) n
 
-  pub stays_seen : (w : Sessions) (h : Seen w) (es : List Entry) (met : List Meeting) (down : List (List ℕ)) (input : Input) (step : Step) → Ready w es met down step.packet (after_input input step.packet (window_of d.window w.near.station))
-      → Stays d.window input w.near.station step → Seen (after_step d w es met down step)
+  pub stays_seen : (w : Sessions) (h : Seen d R w) (es : List Entry) (met : List Meeting) (down : List (List ℕ)) (input : Input) (step : Step) → Ready w es met down step.packet (after_input input step.packet (window_of d.window w.near.station))
+      → Stays d.window input w.near.station step → Seen d R (after_step d w es met down step)
   stays_seen w h es met down input step r stays =
       let b = w.near.begun in
-      let said = runs_said c d joined reads w.far es (map turned met) b r.all w.out (after_input input step.packet (window_of d.window w.near.station)) r.reached r.is r.room r.told r.within
+      let said = runs_said d high reads Due R does es met b r.all w.out (after_input input step.packet (window_of d.window w.near.station)) r.reached r.is r.room r.told r.within
       (window_of d.window step.side.near) step.side.out stays.sends
       in
       build w h es met down step said.all (ap (λ (n : Notes). n.up) stays.quiet)
-      (subst (λ (s : Stand). IsReached ⊥ c (stands_at w es met s b said.all (w.out ++ sent_in b d.role step.side.out))) (sym (up_stands step.side.near.phase stays.up)) said.reached)
+      (subst (λ (p : Phase). R es met p b said.all (w.out ++ sent_in b d.role step.side.out)) (sym (is_up_phase step.side.near.phase stays.up)) said.reached)
       (λ _. record { same = said.is; sound = stays.sound; room = said.room; told = said.told; within = subst (AllWithin d.longest) (sym (said.packets.given b)) r.within })
       (λ n. said.packets.given n ∙ r.given n) (λ n. said.packets.taken n ∙ r.taken n)
 
   -- the peer in its session, as it is
-  pub reached_in : (w : Sessions) (h : Seen w) → is_up w.near.station.phase ≡ true → IsReached ⊥ c (stands_at w w.back w.met In w.near.begun h.all w.out)
-  reached_in w h up = subst (λ (s : Stand). IsReached ⊥ c (stands_at w w.back w.met s w.near.begun h.all w.out)) (up_stands w.near.station.phase up) h.reached
+  pub reached_in : (w : Sessions) (h : Seen d R w) → is_up w.near.station.phase ≡ true → R w.back w.met Up w.near.begun h.all w.out
+  reached_in w h up = subst (λ (p : Phase). R w.back w.met p w.near.begun h.all w.out) (is_up_phase w.near.station.phase up) h.reached
 
-  pub unchanged : (w : Sessions) (h : Seen w) → is_up w.near.station.phase ≡ true → (es : List Entry) (met : List Meeting) → IsReached ⊥ c (stands_at w es met In w.near.begun h.all w.out)
+  pub unchanged : (w : Sessions) (h : Seen d R w) → is_up w.near.station.phase ≡ true → (es : List Entry) (met : List Meeting) → R es met Up w.near.begun h.all w.out
       → (v : Window) → v ≡ window_of d.window w.near.station → (packet : Option (List ℕ)) → packet ≡ None → Ready w es met [] packet v
   unchanged w h up es met reached v is packet none =
       let f = h.up up in
@@ -199,7 +170,7 @@ module _ (c d : Settings) (joined : AreJoined c d) (reads : ReadsSpelled) where
       }
 
   -- what it is in this session is r
-  pub changed : (w : Sessions) (h : Seen w) (es : List Entry) (met : List Meeting) (down : List (List ℕ)) (packet : Option (List ℕ)) (r : Peer) → IsReached ⊥ c (stands_at w es met In w.near.begun (put_for w.near.begun r h.all) w.out)
+  pub changed : (w : Sessions) (h : Seen d R w) (es : List Entry) (met : List Meeting) (down : List (List ℕ)) (packet : Option (List ℕ)) (r : Peer) → R es met Up w.near.begun (put_for w.near.begun r h.all) w.out
       → (v : Window) → machine_of d.window r ≡ v → r.sent ≤ r.acked + d.window → r.told ≤ length r.taken → AllWithin d.longest r.given → r.given ≡ (h.all w.near.begun).given ++ down
       → r.taken ≡ (h.all w.near.begun).taken ++ option_to_list packet → Ready w es met down packet v
   changed w h es met down packet r reached v is room told within given taken =

@@ -1,56 +1,120 @@
 -- Each of two stations over sessions is a peer of the other, after each list of events.
-use Rattle.std.proofs.Common.{◌≡◌, ◌≤◌, ◌<◌, ℕ, suc, ◌+◌, List, [], ◌∷◌, ◌++◌, ◌⊎◌, inl, inr, length, map, remove, Bool, true, false, if◌then◌else◌, Option, Some, None, Ok, refl, sym, ap, ◌∙◌, subst, arith, append-nil, append_assoc}
-use Rattle.std.specs.Prelude.{nat_le, nat_lt, option_to_list}
-use Rattle.std.proofs.lemmas.Bool.{leb-true}
+use Rattle.std.proofs.Common.{◌≡◌, ◌<◌, ℕ, ◌+◌, List, [], ◌∷◌, ◌++◌, ◌⊎◌, inl, inr, length, map, Bool, true, false, if◌then◌else◌, Option, Some, None, Ok, refl, sym, ap, ◌∙◌, subst, arith, append_assoc}
+use Rattle.std.specs.Prelude.{nat_le}
 use Rattle.x25_bits.specs.declared.role.Role.{Role}
-use Rattle.x25_frame.specs.Frame.{sabm, disc, ua}
+use Rattle.x25_frame.specs.Frame.{PlainFrame, ua}
 use Rattle.x25_frame.specs.Reading.{frame_of}
 use Rattle.x25_frame.specs.laws.ReadingLaw.{ReadsSpelled}
 use Rattle.x25_link.specs.declared.error.LinkError.{LinkError}
-use Rattle.x25_link.specs.declared.error.LinkError.TheVariants as error
 use Rattle.x25_link.specs.declared.phase.Phase.{Phase}
-use Rattle.x25_link.specs.declared.phase.Phase.TheVariants.{Down, Waiting, Up, Closed}
-use Rattle.x25_link.specs.declared.phase.Notes.{Notes}
-use Rattle.x25_link.specs.declared.phase.Reason.TheVariants.{Retries}
-use Rattle.x25_link.specs.Station.{Settings, LinkStation, is_up, with_nothing}
-use Rattle.x25_link.specs.Hearing.{Step, other}
-use Rattle.x25_link.specs.Link.{put_step, put_refusal, timer_step, timer_refusal, timer_runs, connect_step, connect_refusal, disconnect_step, disconnect_refusal, abandon_step}
-use Rattle.x25_link.specs.laws.SetUp.{Is, TakesPart}
-use Rattle.x25_link.specs.laws.WindowMachine.{Window, hands_down, nothing}
-use Rattle.x25_link.specs.laws.WindowLaw.{window_of, Follows, IsOut}
-use Rattle.x25_window.specs.laws.Window.{after}
-use Rattle.x25_window.specs.laws.Window.Step.{HandDown}
-use Rattle.x25_line.specs.laws.Stations.{Act, Put, Deliver, T1, Connect, Disconnect, Abandon, Lose, Damage, Event, Near, Far, is_visible}
-use Rattle.x25_line.specs.laws.StationClaims.{AreJoined}
-use Rattle.x25_line.specs.laws.Sessions.{Entry, SessionEnd, Meeting, Sessions, turned, swapped, sabm_in, ua_in, disc_in, how_many, sent_in, after_step, unless, delivered, replaced, acts, happens, run, from_nothing, from_set_up, asked, IsTimely, IsTimelyAt, AreTimely}
+use Rattle.x25_link.specs.declared.phase.Phase.TheVariants.{Down, Waiting, Up}
+use Rattle.x25_link.specs.Station.{Settings, is_up}
+use Rattle.x25_link.specs.Hearing.{other}
+use Rattle.x25_link.specs.Link.{put_step, put_refusal, timer_refusal, connect_refusal, disconnect_refusal}
+use Rattle.x25_line.specs.laws.Stations.{Act, Put, Deliver, T1, Connect, Disconnect, Abandon, Probe, Lose, Damage, Event, Near, Far, is_visible}
+use Rattle.x25_line.specs.laws.StationClaims.{AreJoined, number_in}
+use Rattle.x25_line.specs.laws.Sessions.{Entry, SessionEnd, Meeting, Sessions, turned, swapped, sabm_in, ua_in, disc_in, how_many, after_step, unless, heard, delivered, replaced, acts, happens, run, from_nothing, from_set_up, IsTimely, IsTimelyAt, AreTimely}
 use Rattle.x25_line.specs.laws.SessionClaims.{Throughout}
 use Rattle.x25_line.specs.laws.LawsBelow.{SessionLaws}
 use Rattle.x25_line.specs.laws.Peer.{Peer, fresh_peer}
-use Rattle.x25_line.proofs.sessions.SessionTakes.{is_answer}
-use Rattle.x25_line.proofs.StationLines.{visible_reads}
-use Rattle.x25_line.proofs.StationSends.{within_push}
-use Rattle.x25_line.proofs.StationSteps.{no_packet_of}
-use Rattle.x25_line.proofs.StationAway.{connects_from, closed_takes}
+use Rattle.x25_line.specs.laws.Peer as once
 use Rattle.x25_line.proofs.StationRuns.{joined_swapped}
 use Rattle.x25_line.proofs.sessions.SessionLines.{Read}
-use Rattle.x25_line.proofs.sessions.SessionHeld.{Owes}
-use Rattle.x25_line.proofs.sessions.SessionRuns.{throughout, put_accepted}
-use Rattle.x25_sessions.specs.laws.PeerSessions.{Out, In, PeerEnd, PeerSessions, both_ends, with_peer, put_for, AllAskedIn, IsPatient, IsReached}
+use Rattle.x25_line.proofs.sessions.SessionHeld.{Owes, owes_less}
+use Rattle.x25_line.proofs.sessions.SessionRuns.{throughout}
+use Rattle.x25_sessions.specs.laws.PeerSessions.{Stand, Out, Asking, In, PeerEnd, PeerSessions, is_in, both_ends, with_peer, with_now, begins, stands, AllAskedIn, IsFree, IsReached, goes_on}
 use Rattle.x25_sessions.specs.laws.PeerSessions as sessions
-use Rattle.x25_sessions.specs.laws.SessionPeers.{seen, IsPeer, AreBothPeers}
-use Rattle.x25_sessions.proofs.PeerHeld.{twice_turned}
-use Rattle.x25_sessions.proofs.PeerLines.{Less, all, less_removes, less_replaces, gone, hurt, deeper}
-use Rattle.x25_sessions.proofs.PeerActs.{sabm_or_not, sets_none_up, down_quiet}
-use Rattle.x25_sessions.proofs.SessionSays.{leaves}
-use Rattle.x25_sessions.proofs.SessionSeen.{stand_of, UpFacts, peer_of, Seen, stands_at, build_quiet, stays_seen, reached_in, unchanged, changed}
-use Rattle.x25_sessions.proofs.SessionSeenActs.{R, put_none, put_asks, put_closes, sets_up_seen, up_seen, out_seen, answer_seen, waiting_seen}
+use Rattle.x25_sessions.specs.laws.SessionPeers.{IsPeer, AreBothPeers}
+use Rattle.x25_sessions.proofs.EntryLines.{Less, whole, gone, less_removes, less_replaces, asked_fewer}
+use Rattle.x25_sessions.proofs.SessionMay.{stand_of, sends_read, hears_read, heard_in, MayDo}
+use Rattle.x25_sessions.proofs.Letters.{twice_turned}
+use Rattle.x25_sessions.proofs.SessionSeen.{UpFacts, Seen}
+use Rattle.x25_sessions.proofs.SessionSteps as own
 
--- a SABM that is lost or damaged is none
-asked_fewer : (from : Role) (n1 b : ℕ) (es fs : List Entry) → Less es fs → AllAskedIn from n1 b es → AllAskedIn from n1 b fs
-asked_fewer from n1 b es fs (all xs) h = h
-asked_fewer from n1 b es fs (gone e xs) h = h.1
-asked_fewer from n1 b es fs (hurt e xs o visible) h = (elim (visible_reads from n1 o visible) [ inl short ↦ inl (ap sabm_in short) | inr bad ↦ inl (ap sabm_in bad) ], h.1)
-asked_fewer from n1 b es fs (deeper e xs ys l) h = (h.0, asked_fewer from n1 b xs ys l h.1)
+-- ---- a station is known as a peer
+
+stands_in : (p : Phase) → is_in (stand_of p) ≡ is_up p
+stands_in Down = refl
+stands_in p = refl
+
+turned_heard : (b : Bool) (m : Option PlainFrame) (pair : Meeting) (met : List Meeting) → map turned (heard b m pair met) ≡ heard b m (turned pair) (map turned met)
+turned_heard true None pair met = refl
+turned_heard true (Some f) pair met = refl
+turned_heard false m pair met = refl
+
+-- the near end, with settings d, as a peer of the far end, with settings c
+module _ (c d : Settings) (joined : AreJoined c d) (far : SessionEnd) where
+  abbrev at : List Entry → List Meeting → PeerEnd → List Entry → PeerSessions
+  at es met p out = record { near = far; peer = p; out = es; back = out; met = map turned met }
+
+  abbrev end : Phase → ℕ → (ℕ → Peer) → PeerEnd
+  end p b all = record { stand = stand_of p; begun = b; of_session = all }
+
+  abbrev pub IsPeerOf : List Entry → List Meeting → Phase → ℕ → (ℕ → Peer) → List Entry → Type 0
+  IsPeerOf es met p b all out = IsReached ⊥ c (at es met (end p b all) out)
+
+  there : (octets : List ℕ) → sends_read d octets ≡ frame_of (other c.role) c.longest octets
+  there octets = ap (λ (from : Role). frame_of from d.longest octets) (sym joined.far_role) ∙ ap (λ (n1 : ℕ). frame_of (other c.role) n1 octets) (sym joined.longest)
+
+  here : (octets : List ℕ) → hears_read d octets ≡ frame_of c.role c.longest octets
+  here octets = ap (λ (from : Role). frame_of from d.longest octets) joined.near_role ∙ ap (λ (n1 : ℕ). frame_of c.role n1 octets) (sym joined.longest)
+
+  sent_many : (kind : Read → ℕ) (es : List Entry) → how_many kind d.role d.longest es ≡ how_many kind (other c.role) c.longest es
+  sent_many kind es = ap (λ (r : Role). how_many kind r d.longest es) (sym joined.far_role) ∙ ap (λ (n1 : ℕ). how_many kind (other c.role) n1 es) (sym joined.longest)
+
+  heard_many : (kind : Read → ℕ) (es : List Entry) → how_many kind (other d.role) d.longest es ≡ how_many kind c.role c.longest es
+  heard_many kind es = ap (λ (r : Role). how_many kind r d.longest es) joined.near_role ∙ ap (λ (n1 : ℕ). how_many kind c.role n1 es) (sym joined.longest)
+
+  -- who meets whom, as the far end has it
+  same_met : (p : Phase) (b : ℕ) (e : Entry) (met : List Meeting) → sessions.heard_by (end p b (λ n. fresh_peer)) (frame_of c.role c.longest e.octets) e (map turned met) ≡ map turned (heard_in d p b e met)
+  same_met p b e met =
+      ap (λ (x : Bool). heard x (number_in (frame_of c.role c.longest e.octets)) (record { near = e.session; far = b }) (map turned met)) (stands_in p)
+      ∙ ap (λ (x : Read). heard (is_up p) (number_in x) (record { near = e.session; far = b }) (map turned met)) (sym (here e.octets))
+      ∙ sym (turned_heard (is_up p) (number_in (hears_read d e.octets)) (record { near = b; far = e.session }) met)
+
+  comes : (e : Entry) (es : List Entry) (met : List Meeting) (p : Phase) (b : ℕ) (all : ℕ → Peer) (out : List Entry) (q : PeerEnd) → sessions.MayHear (end p b all) (frame_of c.role c.longest e.octets) q
+      → IsPeerOf (e ∷ es) met p b all out → IsReached ⊥ c (at es (heard_in d p b e met) q out)
+  comes e es met p b all out q may h =
+      subst (λ (xs : List Meeting). IsReached ⊥ c (record { near = far; peer = q; out = es; back = out; met = xs })) (same_met p b e met) (goes_on _ _ h (sessions.Hears e es q refl may))
+
+  sends : (es : List Entry) (met : List Meeting) (p q : PeerEnd) (out : List Entry) (octets : List ℕ) → sessions.MaySend ⊥ c (at es met p out) (sends_read d octets) q → IsReached ⊥ c (at es met p out)
+      → IsReached ⊥ c (at es met q (out ++ sessions.entry q octets ∷ []))
+  sends es met p q out octets may h = goes_on _ _ h (sessions.Sends octets q (subst (λ (r : Read). sessions.MaySend ⊥ c (at es met p out) r q) (there octets) may))
+
+  answers : (e : Entry) (es : List Entry) (met : List Meeting) (p q : PeerEnd) (out : List Entry) (octets : List ℕ) (f : Bool) → sends_read d octets ≡ Ok (ua f) → sessions.MayAnswer p (hears_read d e.octets) q
+      → IsReached ⊥ c (at (e ∷ es) met p out) → IsReached ⊥ c (at es met q (out ++ sessions.entry q octets ∷ []))
+  answers e es met p q out octets f read may h =
+      goes_on _ _ h (sessions.Answers e es octets f q refl (sym (there octets) ∙ read) (subst (λ (r : Read). sessions.MayAnswer p r q) (here e.octets) may))
+
+  pub peer_may : MayDo d (λ es. Unit {0}) IsPeerOf
+  peer_may = record {
+    handed = λ es met b all out packet h. goes_on _ _ h (sessions.HandsDown packet refl);
+    tells = λ es met b all out octets f q read number may h.
+        sends es met (end Up b all) (with_now q (end Up b all)) out octets
+        (sessions.numbered f q (ap number_in read ∙ number) refl (subst (λ (r : Read). once.MaySend ⊥ (all b) r q) (sym read) may)) h;
+    declines = λ es met p b all out octets f read h. sends es met (end p b all) (end p b all) out octets (sessions.free (subst (IsFree ⊥) (sym read) tt)) h;
+    asks = λ es met p b all out octets pf read due clear h.
+        (let sabms = sent_many sabm_in out in let discs = sent_many disc_in out in let uas = heard_many ua_in es in let sabm = clear.sabm in let disc = clear.disc in let ua = clear.ua in
+        sends es met (end p b all) (stands Asking (end p b all)) out octets
+        (sessions.asks pf read (record { sabm = omega (arith, sabm, sabms); disc = omega (arith, disc, discs); ua = omega (arith, ua, uas) })) h);
+    closes = λ es met p b all out octets pf read h. sends es met (end p b all) (stands Out (end p b all)) out octets (sessions.closes pf read) h;
+    leaves = λ es met b all out h. goes_on _ _ h sessions.Leaves;
+    gives_up = λ es met b all out due clear h. goes_on _ _ h sessions.Leaves;
+    passes = λ e es met p b all out h. comes e es met p b all out (end p b all) sessions.passes_over h;
+    hears = λ e es met b all out q may h.
+        comes e es met Up b all out (with_now q (end Up b all)) (sessions.hears q refl (subst (λ (r : Read). once.MayHear (all b) r q) (here e.octets) may)) h;
+    takes_ua = λ e es met b all out read h. goes_on _ _ h (sessions.Hears e es (begins (end Waiting b all)) refl (sessions.takes_ua refl (sym (here e.octets) ∙ read)));
+    takes_sabm = λ e es met p b all out octets pf f read sent part h.
+        answers e es met (end p b all) (begins (end p b all)) out octets f sent (sessions.takes_sabm pf read) h;
+    waits_on = λ e es met b all out octets pf f read sent h. answers e es met (end Waiting b all) (end Waiting b all) out octets f sent (sessions.waits_on pf read refl) h;
+    takes_disc = λ e es met b all out octets pf f read sent h.
+        goes_on _ _ (answers e es met (end Up b all) (end Up b all) out octets f sent (sessions.takes_disc pf read) h) sessions.Leaves;
+    faults = λ e es met b all out octets f why ending read h.
+        sends es (heard_in d Up b e met) (end Down b all) (end Down b all) out octets (sessions.free (subst (IsFree ⊥) (sym read) tt))
+        (goes_on _ _ (comes e es met Up b all out (end Up b all) sessions.passes_over h) sessions.Leaves);
+    loses = λ es met p b all out i h. goes_on _ _ h (sessions.Loses i);
+    damages = λ es met p b all out i octets visible h. goes_on _ _ h (sessions.Damages i octets visible);
+  }
 
 -- ---- what the other end does
 
@@ -77,6 +141,7 @@ alike c p T1 w = alike_unless p (timer_refusal w.near.station) w _ (both_ends (w
 alike c p Connect w = alike_unless p (connect_refusal w.near.station.phase) w _ (both_ends (with_peer p w)) _ refl refl
 alike c p Disconnect w = alike_unless p (disconnect_refusal w.near.station.phase) w _ (both_ends (with_peer p w)) _ refl refl
 alike c p Abandon w = alike_if p (is_up w.near.station.phase) w _ (both_ends (with_peer p w)) _ refl refl
+alike c p Probe w = alike_if p (is_up w.near.station.phase) w _ (both_ends (with_peer p w)) _ refl refl
 alike c p (Lose i) w = refl
 alike c p (Damage i octets) w = alike_if p (is_visible octets) w _ (both_ends (with_peer p w)) _ refl refl
 
@@ -86,55 +151,59 @@ record Still (w v : Sessions) : Type 0 where
   pub less : Less w.back v.back
 
 still_unless : (o : Option LinkError) (w v : Sessions) → Still w v → Still w (unless o w v)
-still_unless (Some e) w v h = record { far = refl; less = all w.back }
+still_unless (Some e) w v h = record { far = refl; less = whole w.back }
 still_unless None w v h = h
 
 still_if : (b : Bool) (w v : Sessions) → Still w v → Still w (if b then v else w)
 still_if true w v h = h
-still_if false w v h = record { far = refl; less = all w.back }
+still_if false w v h = record { far = refl; less = whole w.back }
 
 still_delivered : (c : Settings) (w : Sessions) (es : List Entry) → w.back ≡ es → Still w (delivered c es w)
-still_delivered c w [] is = record { far = refl; less = all w.back }
+still_delivered c w [] is = record { far = refl; less = whole w.back }
 still_delivered c w (e ∷ es) is = record { far = refl; less = subst (λ (xs : List Entry). Less xs es) (sym is) (gone e es) }
 
 acts_still : (c : Settings) (a : Act) (w : Sessions) → Still w (acts c a w)
-acts_still c (Put packet) w = still_if (nat_le (length packet) c.longest) w _ (still_unless (put_refusal w.near.station) w (after_step c w w.back w.met (packet ∷ []) (put_step c packet w.near.station)) (record { far = refl; less = all w.back }))
+acts_still c (Put packet) w = still_if (nat_le (length packet) c.longest) w _ (still_unless (put_refusal w.near.station) w (after_step c w w.back w.met (packet ∷ []) (put_step c packet w.near.station)) (record { far = refl; less = whole w.back }))
 acts_still c Deliver w = still_delivered c w w.back refl
-acts_still c T1 w = still_unless (timer_refusal w.near.station) w _ (record { far = refl; less = all w.back })
-acts_still c Connect w = still_unless (connect_refusal w.near.station.phase) w _ (record { far = refl; less = all w.back })
-acts_still c Disconnect w = still_unless (disconnect_refusal w.near.station.phase) w _ (record { far = refl; less = all w.back })
-acts_still c Abandon w = still_if (is_up w.near.station.phase) w _ (record { far = refl; less = all w.back })
+acts_still c T1 w = still_unless (timer_refusal w.near.station) w _ (record { far = refl; less = whole w.back })
+acts_still c Connect w = still_unless (connect_refusal w.near.station.phase) w _ (record { far = refl; less = whole w.back })
+acts_still c Disconnect w = still_unless (disconnect_refusal w.near.station.phase) w _ (record { far = refl; less = whole w.back })
+acts_still c Abandon w = still_if (is_up w.near.station.phase) w _ (record { far = refl; less = whole w.back })
+acts_still c Probe w = still_if (is_up w.near.station.phase) w _ (record { far = refl; less = whole w.back })
 acts_still c (Lose i) w = record { far = refl; less = less_removes w.back i }
 acts_still c (Damage i octets) w = by (is_visible octets) refl
   where
     by : (b : Bool) → is_visible octets ≡ b → Still w (if b then record w { back = replaced w.back i octets } else w)
     by true visible = record { far = refl; less = less_replaces octets visible w.back i }
-    by false hidden = record { far = refl; less = all w.back }
+    by false hidden = record { far = refl; less = whole w.back }
+
+-- a station, with settings d, as a peer of the other end of these sessions
+abbrev pub SeenAt : (c d : Settings) → AreJoined c d → Sessions → Type 0
+SeenAt c d joined w = Seen d (IsPeerOf c d joined w.far) w
 
 module _ (c d : Settings) (joined : AreJoined c d) (reads : ReadsSpelled) (rests : SessionLaws) where
   abbrev S : Sessions → Type 0
-  S w = Seen c d joined reads w
+  S w = SeenAt c d joined w
 
-  -- the frames of the other end, read by either
-  same_many : (kind : Read → ℕ) (es : List Entry) → how_many kind (other d.role) d.longest es ≡ how_many kind c.role c.longest es
-  same_many kind es = ap (λ (r : Role). how_many kind r d.longest es) joined.near_role ∙ ap (λ (n1 : ℕ). how_many kind c.role n1 es) (sym joined.longest)
+  -- ---- the other end acts, which sees it as its peer
 
-  -- ---- the station that sees the peer acts
+  tags_there : (b : ℕ) (es : List Entry) → AllAskedIn d.role d.longest b es → AllAskedIn (other c.role) c.longest b es
+  tags_there b es h = subst (λ (n1 : ℕ). AllAskedIn (other c.role) n1 b es) (sym joined.longest) (subst (λ (r : Role). AllAskedIn r d.longest b es) (sym joined.far_role) h)
 
-  station_timely : (a : Act) (w : Sessions) (p : PeerEnd) → AllAskedIn (other c.role) c.longest p.begun w.back → IsTimely c d a w → sessions.IsTimely c a (with_peer p w)
+  station_timely : (a : Act) (w : Sessions) (p : PeerEnd) → AllAskedIn d.role d.longest p.begun w.back → IsTimely c d a w → sessions.IsTimely c a (with_peer p w)
   station_timely T1 w p tags timely = λ waiting.
-      (let none = timely waiting in let same = same_many sabm_in w.out in record { sabm = omega (arith, none, same); ua = omega (arith, none); crossing = tags })
+      (let none = timely waiting in let same = heard_many c d joined w.far sabm_in w.out in record { sabm = omega (arith, none, same); ua = omega (arith, none); crossing = tags_there p.begun w.back tags })
   station_timely a w p tags timely = tt
 
-  pub station_acts : (a : Act) (w : Sessions) → IsTimely c d a w → S (swapped w) → S (swapped (acts c a w))
-  station_acts a w timely h = record {
+  other_acts : (a : Act) (w : Sessions) → IsTimely c d a w → S (swapped w) → S (swapped (acts c a w))
+  other_acts a w timely h = record {
     all = h.all;
     reached = reached;
-    up = λ up. subst (λ (e : SessionEnd). UpFacts c d joined reads e.station (h.all e.begun)) (sym still.far) (h.up (subst (λ (e : SessionEnd). is_up e.station.phase ≡ true) still.far up));
+    up = λ up. subst (λ (e : SessionEnd). UpFacts d e.station (h.all e.begun)) (sym still.far) (h.up (subst (λ (e : SessionEnd). is_up e.station.phase ≡ true) still.far up));
     given = λ n. h.given n ∙ ap (λ (e : SessionEnd). e.down n) (sym still.far);
     taken = λ n. h.taken n ∙ ap (λ (e : SessionEnd). e.up n) (sym still.far);
     later = subst (λ (e : SessionEnd). (n : ℕ) → e.begun < n → (e.down n ≡ []) × (e.up n ≡ [])) (sym still.far) h.later;
-    tags = subst (λ (e : SessionEnd). AllAskedIn (other c.role) c.longest e.begun v.back) (sym still.far) (asked_fewer (other c.role) c.longest w.far.begun w.back v.back still.less h.tags);
+    tags = subst (λ (e : SessionEnd). AllAskedIn d.role d.longest e.begun v.back) (sym still.far) (asked_fewer d.role d.longest w.far.begun w.back v.back still.less h.tags);
   }
     where
       v : Sessions
@@ -144,7 +213,7 @@ module _ (c d : Settings) (joined : AreJoined c d) (reads : ReadsSpelled) (rests
       still = acts_still c a w
 
       p : PeerEnd
-      p = peer_of c d joined reads (swapped w) h.all
+      p = end c d joined w.near w.far.station.phase w.far.begun h.all
 
       met_with : Sessions → List Meeting → PeerSessions
       met_with x met = record { near = x.near; peer = p; out = x.out; back = x.back; met = met }
@@ -155,221 +224,51 @@ module _ (c d : Settings) (joined : AreJoined c d) (reads : ReadsSpelled) (rests
       acted : IsReached ⊥ c (with_peer p v)
       acted = subst (IsReached ⊥ c) (sym (alike c p a w)) (sessions.goes_on (with_peer p w) (with_peer p (acts c a (both_ends (with_peer p w)))) before (sessions.Ours a (station_timely a w p h.tags timely)))
 
-      reached : IsReached ⊥ c (seen (peer_of c d joined reads (swapped v) h.all) (swapped v))
+      reached : IsPeerOf c d joined v.near v.out (map turned v.met) v.far.station.phase v.far.begun h.all v.back
       reached =
           subst (λ (e : SessionEnd). IsReached ⊥ c (record { near = v.near; peer = record { stand = stand_of e.station.phase; begun = e.begun; of_session = h.all }; out = v.out; back = v.back; met = map turned (map turned v.met) })) (sym still.far)
           (subst (λ (met : List Meeting). IsReached ⊥ c (met_with v met)) (sym (twice_turned v.met)) acted)
 
-  -- ---- the peer acts
+  -- ---- it acts
 
-  abbrev OwesAt : Sessions → Type 0
-  OwesAt w = Owes w.near.station.phase (how_many sabm_in (other c.role) c.longest w.out + how_many ua_in (other d.role) d.longest w.back) (how_many disc_in (other c.role) c.longest w.out)
+  own_timely : (a : Act) (w : Sessions) → IsTimely d c a w → own.IsTimely d joined.far_high reads rests (λ es. Unit {0}) (IsPeerOf c d joined w.far) (peer_may c d joined w.far) a w
+  own_timely T1 w timely = λ waiting. (let none = timely waiting in let same = sent_many c d joined w.far sabm_in w.out in (omega (arith, none, same), omega (arith, none), tt))
+  own_timely a w timely = tt
 
-  owes_at : (w : Sessions) (p : Phase) → w.near.station.phase ≡ p → OwesAt w → Owes p (how_many sabm_in (other c.role) c.longest w.out + how_many ua_in (other d.role) d.longest w.back) (how_many disc_in (other c.role) c.longest w.out)
-  owes_at w p is owes = subst (λ (z : Phase). Owes z (how_many sabm_in (other c.role) c.longest w.out + how_many ua_in (other d.role) d.longest w.back) (how_many disc_in (other c.role) c.longest w.out)) is owes
-
-  seen_unless : (o : Option LinkError) (w v : Sessions) → S w → (o ≡ None → S v) → S (unless o w v)
-  seen_unless (Some e) w v h g = h
-  seen_unless None w v h g = g refl
-
-  seen_if : (b : Bool) (w v : Sessions) → S w → (b ≡ true → S v) → S (if b then v else w)
-  seen_if true w v h g = g refl
-  seen_if false w v h g = h
-
-  put_seen : (w : Sessions) (h : S w) (packet : List ℕ) → length packet ≤ d.longest → is_up w.near.station.phase ≡ true → S (after_step d w w.back w.met (packet ∷ []) (put_step d packet w.near.station))
-  put_seen w h packet short up =
-      let b = w.near.begun in
-      let f = h.up up in
-      let s = w.near.station in
-      let step = put_step d packet s in
-      let stays = rests.laws.window.put d packet s (record { up = up; sound = f.sound }) in
-      let none = no_packet_of (hands_down packet) step.packet (window_of d.window s) (λ y never. never) stays.hands_up in
-      let r : Peer = record (h.all b) { given = (h.all b).given ++ packet ∷ [] } in
-      stays_seen c d joined reads w h w.back w.met (packet ∷ []) (hands_down packet) step
-      (changed c d joined reads w h w.back w.met (packet ∷ []) step.packet r
-      (sessions.goes_on (stands_at c d joined reads w w.back w.met In b h.all w.out) (stands_at c d joined reads w w.back w.met In b (put_for b r h.all) w.out) (reached_in c d joined reads w h up) (sessions.HandsDown packet refl))
-      (after (window_of d.window s) (HandDown packet)) (ap (λ (z : Window). after z (HandDown packet)) f.same) f.room f.told (within_push d.longest (h.all b).given packet f.within short) refl
-      (sym (ap (λ (o : Option (List ℕ)). (h.all b).taken ++ option_to_list o) none ∙ append-nil (h.all b).taken))) stays
-
-  -- it isn't Up any more, with nothing taken off the line
-  away_seen : (w : Sessions) (h : S w) (step : Step) → step.notes.up ≡ false → step.packet ≡ None → (q : Phase) → step.side.near.phase ≡ q → is_up q ≡ false
-      → R c d joined reads rests w w.back w.met (stand_of q) w.near.begun h.all (w.out ++ sent_in w.near.begun d.role step.side.out) → S (after_step d w w.back w.met [] step)
-  away_seen w h step quiet none q phase off reached =
-      build_quiet c d joined reads w h w.back w.met step quiet none (ap is_up phase ∙ off)
-      (subst (λ (z : Phase). R c d joined reads rests w w.back w.met (stand_of z) w.near.begun h.all (w.out ++ sent_in w.near.begun d.role step.side.out)) (sym phase) reached)
-
-  left : (w : Sessions) (h : S w) → R c d joined reads rests w w.back w.met Out w.near.begun h.all w.out
-  left w h = leaves c d joined reads w.far w.back (map turned w.met) (stand_of w.near.station.phase) w.near.begun h.all w.out h.reached
-
-  timer_up : (w : Sessions) (h : S w) → is_up w.near.station.phase ≡ true → S (after_step d w w.back w.met [] (timer_step d w.near.station))
-  timer_up w h up = by (nat_lt w.near.station.tries d.retries) (rests.laws.window.timer d w.near.station (record { up = up; sound = (h.up up).sound }))
-    where
-      s : LinkStation
-      s = w.near.station
-
-      step : Step
-      step = timer_step d s
-
-      by : (b : Bool) → Follows (if b then None else Some Retries) d.window nothing s step → S (after_step d w w.back w.met [] step)
-      by true stays =
-          stays_seen c d joined reads w h w.back w.met [] nothing step
-          (unchanged c d joined reads w h up w.back w.met (reached_in c d joined reads w h up) (window_of d.window s) refl step.packet (no_packet_of nothing step.packet (window_of d.window s) (λ y never. never) stays.hands_up)) stays
-      by false ends =
-          away_seen w h step (down_quiet s step (rests.laws.timer_tells d s) (ap is_up ends.phase)) ends.packet Down ends.phase refl (put_none c d joined reads rests w w.back w.met Out w.near.begun h.all step.side.out ends.frames (left w h))
-
-  patient : (w : Sessions) (h : S w) → how_many sabm_in (other c.role) c.longest w.out + how_many ua_in (other d.role) d.longest w.back ≡ 0 → how_many disc_in (other c.role) c.longest w.out ≡ 0
-      → IsPatient c (seen (peer_of c d joined reads w h.all) w)
-  patient w h none no_disc = (let same = same_many ua_in w.back in record { sabm = omega (arith, none); disc = no_disc; ua = omega (arith, none, same) })
-
-  timer_waiting : (w : Sessions) (h : S w) → w.near.station.phase ≡ Waiting → asked d c w ≡ 0 → OwesAt w → S (after_step d w w.back w.met [] (timer_step d w.near.station))
-  timer_waiting w h waiting none owes = by (nat_lt w.near.station.tries d.retries) (timer_step d w.near.station) (rests.laws.set_up.timer d w.near.station waiting)
-    where
-      no_disc : how_many disc_in (other c.role) c.longest w.out ≡ 0
-      no_disc = (owes_at w Waiting waiting owes).1
-
-      by : (b : Bool) (step : Step)
-          → (let s = w.near.station in Is (if b then record s { tries = suc s.tries } else with_nothing Down s.tries) (if b then sabm true ∷ [] else []) (if b then None else Some Retries) false step)
-          → S (after_step d w w.back w.met [] step)
-      by true step i = away_seen w h step i.up i.packet Waiting (ap (λ (z : LinkStation). z.phase) i.near ∙ waiting) refl (put_asks c d joined reads rests w h true step.side.out i.out (patient w h none no_disc))
-      by false step i = away_seen w h step i.up i.packet Down (ap (λ (z : LinkStation). z.phase) i.near) refl (put_none c d joined reads rests w w.back w.met Out w.near.begun h.all step.side.out i.out (left w h))
-
-  timer_seen : (w : Sessions) (h : S w) → IsTimely d c T1 w → OwesAt w → S (unless (timer_refusal w.near.station) w (after_step d w w.back w.met [] (timer_step d w.near.station)))
-  timer_seen w h timely owes = by w.near.station.phase refl
-    where
-      done : Sessions
-      done = after_step d w w.back w.met [] (timer_step d w.near.station)
-
-      by : (p : Phase) → w.near.station.phase ≡ p → S (unless (timer_refusal w.near.station) w done)
-      by Waiting is = seen_unless (timer_refusal w.near.station) w done h (λ _. timer_waiting w h is (timely is) owes)
-      by Up is = seen_unless (timer_refusal w.near.station) w done h (λ _. timer_up w h (ap is_up is))
-      by phase is = rw (ap (λ (p : Phase). timer_runs p w.near.station) is) h
-
-  connect_seen : (w : Sessions) (h : S w) → w.near.station.phase ≡ Down → OwesAt w → S (after_step d w w.back w.met [] (connect_step d w.near.station))
-  connect_seen w h down owes =
-      let owed = owes_at w Down down owes in
-      let step = connect_step d w.near.station in
-      let i = rests.laws.set_up.connects d w.near.station down in
-      away_seen w h step i.up i.packet Waiting (ap (λ (z : LinkStation). z.phase) i.near) refl (put_asks c d joined reads rests w h true step.side.out i.out (patient w h owed.0 owed.1))
-
-  disconnect_seen : (w : Sessions) (h : S w) → disconnect_refusal w.near.station.phase ≡ None → S (after_step d w w.back w.met [] (disconnect_step d w.near.station))
-  disconnect_seen w h accepted = by w.near.station.phase refl
-    where
-      s : LinkStation
-      s = w.near.station
-
-      step : Step
-      step = disconnect_step d s
-
-      refused : Some error.Closed ≡ None → ⊥
-      refused k = cc
-
-      closes : step.notes.up ≡ false → step.packet ≡ None → step.side.near.phase ≡ Closed → step.side.out ≡ disc true ∷ [] → S (after_step d w w.back w.met [] step)
-      closes quiet none phase sent = away_seen w h step quiet none Closed phase refl (put_closes c d joined reads rests w h true step.side.out sent)
-
-      by : (p : Phase) → s.phase ≡ p → S (after_step d w w.back w.met [] step)
-      by Down is = (let out = rests.laws.window.disconnect_out d s (subst IsOut (sym is) tt) in closes (ap (λ (n : Notes). n.up) out.quiet) out.packet out.phase out.frames)
-      by Waiting is = (let i = rests.laws.set_up.disconnects d s is in closes i.up i.packet (ap (λ (z : LinkStation). z.phase) i.near) i.out)
-      by Up is =
-          let up : is_up s.phase ≡ true = ap is_up is in
-          let ends = rests.laws.window.disconnect d s (record { up = up; sound = (h.up up).sound }) in
-          closes (down_quiet s step (rests.laws.disconnect_tells d s) (ap is_up ends.phase)) ends.packet ends.phase ends.frames
-      by Closed is = absurd (refused (sym (ap disconnect_refusal is) ∙ accepted))
-
-  abandon_seen : (w : Sessions) (h : S w) → is_up w.near.station.phase ≡ true → S (after_step d w w.back w.met [] (abandon_step d w.near.station))
-  abandon_seen w h up =
-      let s = w.near.station in
-      let step = abandon_step d s in
-      let ends = rests.laws.window.abandon d s (record { up = up; sound = (h.up up).sound }) in
-      away_seen w h step (down_quiet s step (rests.laws.abandon_tells d s) (ap is_up ends.phase)) ends.packet Down ends.phase refl (put_none c d joined reads rests w w.back w.met Out w.near.begun h.all step.side.out ends.frames (left w h))
-
-  deliver_seen : (w : Sessions) (h : S w) → OwesAt w → (es : List Entry) → w.back ≡ es → S (delivered d es w)
-  deliver_seen w h owes [] is = h
-  deliver_seen w h owes (e ∷ es) is = by w.near.station.phase refl
-    where
-      r : Read
-      r = frame_of (other d.role) d.longest e.octets
-
-      sets_up : (p : Bool) → r ≡ Ok (sabm p) → TakesPart w.near.station.phase → how_many sabm_in (other c.role) c.longest w.out ≡ 0 → S (delivered d (e ∷ es) w)
-      sets_up p read part unasked = sets_up_seen c d joined reads rests w h e es is p read (rests.laws.set_up.sets_up d e.octets w.near.station part p read) unasked
-
-      -- the UA comes, so no SABM is on the line
-      answered : w.near.station.phase ≡ Waiting → r ≡ Ok (ua true) → how_many sabm_in (other c.role) c.longest w.out ≡ 0
-      answered waiting read =
-          let few = (owes_at w Waiting waiting owes).0 in
-          let here = ap (how_many ua_in (other d.role) d.longest) is in
-          let one : ua_in r ≡ 1 = ap ua_in read in
-          omega (arith, few, here, one)
-
-      by : (p : Phase) → w.near.station.phase ≡ p → S (delivered d (e ∷ es) w)
-      by Down phase = (let owed = owes_at w Down phase owes in elim (sabm_or_not r) [
-        | inl sets ↦ sets_up sets.0 sets.1 (subst TakesPart (sym phase) tt) (omega (arith, owed.0))
-        | inr no_sabm ↦ (let out = rests.laws.window.take_out d e.octets w.near.station (subst IsOut (sym phase) tt) (sets_none_up r no_sabm) in
-            out_seen c d joined reads rests w h e es is (ap is_up phase) ((rests.continues d e.octets w.near.station).phase out.quiet) out)
-      ])
-      by Waiting phase = elim (is_answer r) [
-        | inl answer ↦ answer_seen c d joined reads rests w h e es is phase answer (answered phase answer)
-        | inr no_answer ↦ waiting_seen c d joined reads rests w h e es is phase no_answer
-      ]
-      by Up phase = (let owed = owes_at w Up phase owes in elim (sabm_or_not r) [
-        | inl sets ↦ sets_up sets.0 sets.1 (subst TakesPart (sym phase) tt) (omega (arith, owed.0))
-        | inr no_sabm ↦ up_seen c d joined reads rests w h e es is (ap is_up phase) no_sabm
-      ])
-      by Closed phase = (let out = closed_takes d e.octets w.near.station phase in
-          out_seen c d joined reads rests w h e es is (ap is_up phase) ((rests.continues d e.octets w.near.station).phase out.quiet) out)
-
-  line_seen : (w : Sessions) (h : S w) (es : List Entry) → sessions.Happens ⊥ c (seen (peer_of c d joined reads w h.all) w) (stands_at c d joined reads w es w.met (stand_of w.near.station.phase) w.near.begun h.all w.out)
-      → S (record w { back = es })
-  line_seen w h es event = record {
-    all = h.all;
-    reached = sessions.goes_on (seen (peer_of c d joined reads w h.all) w) (stands_at c d joined reads w es w.met (stand_of w.near.station.phase) w.near.begun h.all w.out) h.reached event;
-    up = h.up;
-    given = h.given;
-    taken = h.taken;
-    later = h.later;
-    tags = h.tags;
-  }
-
-  pub peer_acts : (a : Act) (w : Sessions) → IsTimely d c a w → OwesAt w → S w → S (acts d a w)
-  peer_acts (Put packet) w timely owes h =
-      let done = after_step d w w.back w.met (packet ∷ []) (put_step d packet w.near.station) in
-      seen_if (nat_le (length packet) d.longest) w (unless (put_refusal w.near.station) w done) h
-      (λ short. seen_unless (put_refusal w.near.station) w done h (λ accepted. put_seen w h packet (leb-true _ _ short) (put_accepted w.near.station accepted)))
-  peer_acts Deliver w timely owes h = deliver_seen w h owes w.back refl
-  peer_acts T1 w timely owes h = timer_seen w h timely owes
-  peer_acts Connect w timely owes h =
-      seen_unless (connect_refusal w.near.station.phase) w (after_step d w w.back w.met [] (connect_step d w.near.station)) h (λ accepted. connect_seen w h (connects_from w.near.station.phase accepted) owes)
-  peer_acts Disconnect w timely owes h =
-      seen_unless (disconnect_refusal w.near.station.phase) w (after_step d w w.back w.met [] (disconnect_step d w.near.station)) h (λ accepted. disconnect_seen w h accepted)
-  peer_acts Abandon w timely owes h = seen_if (is_up w.near.station.phase) w (after_step d w w.back w.met [] (abandon_step d w.near.station)) h (λ up. abandon_seen w h up)
-  peer_acts (Lose i) w timely owes h = line_seen w h (remove w.back i) (sessions.Loses i)
-  peer_acts (Damage i octets) w timely owes h =
-      seen_if (is_visible octets) w (record w { back = replaced w.back i octets }) h (λ visible. line_seen w h (replaced w.back i octets) (sessions.Damages i octets visible))
+  own_acts : (a : Act) (w : Sessions) → IsTimely d c a w
+      → Owes w.near.station.phase (how_many sabm_in (other c.role) c.longest w.out + how_many ua_in (other d.role) d.longest w.back) (how_many disc_in (other c.role) c.longest w.out) → S w → S (acts d a w)
+  own_acts a w timely owes h =
+      let sabms = sent_many c d joined w.far sabm_in w.out in
+      let discs = sent_many c d joined w.far disc_in w.out in
+      subst (λ (far : SessionEnd). Seen d (IsPeerOf c d joined far) (acts d a w)) (sym (acts_still d a w).far)
+      (own.station_acts d joined.far_high reads rests (λ es. Unit {0}) (IsPeerOf c d joined w.far) (peer_may c d joined w.far) a w (own_timely a w timely)
+      (owes_less w.near.station.phase _ _ _ _ (omega (arith, sabms)) (omega (arith, discs)) owes) h)
 
 -- ---- both ends
 
-record Both (c d : Settings) (near_joined : AreJoined d c) (far_joined : AreJoined c d) (reads : ReadsSpelled) (w : Sessions) : Type 0 where
-  pub near : Seen d c near_joined reads w
-  pub far : Seen c d far_joined reads (swapped w)
+record Both (c d : Settings) (near_joined : AreJoined d c) (far_joined : AreJoined c d) (w : Sessions) : Type 0 where
+  pub near : SeenAt d c near_joined w
+  pub far : SeenAt c d far_joined (swapped w)
 
-seen_twice : (c d : Settings) (joined : AreJoined c d) (reads : ReadsSpelled) (w : Sessions) → Seen c d joined reads w → Seen c d joined reads (swapped (swapped w))
-seen_twice c d joined reads w h =
-    subst (λ (met : List Meeting). Seen c d joined reads (record { near = w.near; far = w.far; out = w.out; back = w.back; met = met; sent = w.sent })) (sym (twice_turned w.met)) h
+seen_twice : (c d : Settings) (joined : AreJoined c d) (w : Sessions) → SeenAt c d joined w → SeenAt c d joined (swapped (swapped w))
+seen_twice c d joined w h =
+    subst (λ (met : List Meeting). SeenAt c d joined (record { near = w.near; far = w.far; out = w.out; back = w.back; met = met; sent = w.sent })) (sym (twice_turned w.met)) h
 
 module _ (reads : ReadsSpelled) (rests : SessionLaws) where
   event_both : (c d : Settings) (joined : AreJoined c d) (e : Event) (w : Sessions) → IsTimelyAt c d e w
       → Owes w.near.station.phase (how_many sabm_in (other d.role) d.longest w.out + how_many ua_in (other c.role) c.longest w.back) (how_many disc_in (other d.role) d.longest w.out)
       → Owes w.far.station.phase (how_many sabm_in (other c.role) c.longest w.back + how_many ua_in (other d.role) d.longest w.out) (how_many disc_in (other c.role) c.longest w.back)
-      → Both c d (joined_swapped c d joined) joined reads w → Both c d (joined_swapped c d joined) joined reads (happens c d e w)
+      → Both c d (joined_swapped c d joined) joined w → Both c d (joined_swapped c d joined) joined (happens c d e w)
   event_both c d joined (Near act) w timely near_owes far_owes h = record {
-    near = peer_acts d c (joined_swapped c d joined) reads rests act w timely near_owes h.near;
-    far = station_acts c d joined reads rests act w timely h.far;
+    near = own_acts d c (joined_swapped c d joined) reads rests act w timely near_owes h.near;
+    far = other_acts c d joined reads rests act w timely h.far;
   }
   event_both c d joined (Far act) w timely near_owes far_owes h = record {
-    near = station_acts d c (joined_swapped c d joined) reads rests act (swapped w) timely (seen_twice d c (joined_swapped c d joined) reads w h.near);
-    far = seen_twice c d joined reads (acts d act (swapped w)) (peer_acts c d joined reads rests act (swapped w) timely far_owes h.far);
+    near = other_acts d c (joined_swapped c d joined) reads rests act (swapped w) timely (seen_twice d c (joined_swapped c d joined) w h.near);
+    far = seen_twice c d joined (acts d act (swapped w)) (own_acts c d joined reads rests act (swapped w) timely far_owes h.far);
   }
 
-  start_seen : (c d : Settings) (joined : AreJoined c d) → Seen c d joined reads from_nothing
+  start_seen : (c d : Settings) (joined : AreJoined c d) → SeenAt c d joined from_nothing
   start_seen c d joined = record {
     all = λ n. fresh_peer;
     reached = sessions.at_start;
@@ -383,7 +282,7 @@ module _ (reads : ReadsSpelled) (rests : SessionLaws) where
       never : false ≡ true → ⊥
       never k = cc
 
-  set_up_seen : (c d : Settings) (joined : AreJoined c d) → Seen c d joined reads from_set_up
+  set_up_seen : (c d : Settings) (joined : AreJoined c d) → SeenAt c d joined from_set_up
   set_up_seen c d joined = record {
     all = λ n. fresh_peer;
     reached = sessions.set_up;
@@ -394,10 +293,10 @@ module _ (reads : ReadsSpelled) (rests : SessionLaws) where
     tags = tt;
   }
 
-  begin_both : (c d : Settings) (joined : AreJoined c d) (begin : Sessions) → (begin ≡ from_nothing) ⊎ (begin ≡ from_set_up) → Both c d (joined_swapped c d joined) joined reads begin
+  begin_both : (c d : Settings) (joined : AreJoined c d) (begin : Sessions) → (begin ≡ from_nothing) ⊎ (begin ≡ from_set_up) → Both c d (joined_swapped c d joined) joined begin
   begin_both c d joined begin is = elim is [
-    | inl down ↦ subst (Both c d (joined_swapped c d joined) joined reads) (sym down) (record { near = start_seen d c (joined_swapped c d joined); far = start_seen c d joined })
-    | inr up ↦ subst (Both c d (joined_swapped c d joined) joined reads) (sym up) (record { near = set_up_seen d c (joined_swapped c d joined); far = set_up_seen c d joined })
+    | inl down ↦ subst (Both c d (joined_swapped c d joined) joined) (sym down) (record { near = start_seen d c (joined_swapped c d joined); far = start_seen c d joined })
+    | inr up ↦ subst (Both c d (joined_swapped c d joined) joined) (sym up) (record { near = set_up_seen d c (joined_swapped c d joined); far = set_up_seen c d joined })
   ]
 
   -- ---- runs
@@ -415,7 +314,7 @@ module _ (reads : ReadsSpelled) (rests : SessionLaws) where
   timely_then c d (e ∷ es) fs w h = timely_then c d es fs (happens c d e w) h.1
 
   both_after : (c d : Settings) (joined : AreJoined c d) (begin : Sessions) → (begin ≡ from_nothing) ⊎ (begin ≡ from_set_up) → (done es : List Event) → AreTimely c d (done ++ es) begin
-      → Both c d (joined_swapped c d joined) joined reads (run c d done begin) → Both c d (joined_swapped c d joined) joined reads (run c d es (run c d done begin))
+      → Both c d (joined_swapped c d joined) joined (run c d done begin) → Both c d (joined_swapped c d joined) joined (run c d es (run c d done begin))
   both_after c d joined begin is done [] timely h = h
   both_after c d joined begin is done (e ∷ es) timely h =
       let w = run c d done begin in
@@ -423,12 +322,12 @@ module _ (reads : ReadsSpelled) (rests : SessionLaws) where
       let now = timely_then c d done (e ∷ es) begin timely in
       let next = event_both c d joined e w now.0 held.line.near_owes held.line.far_owes h in
       let same : run c d (done ++ e ∷ []) begin ≡ happens c d e w = run_more c d done (e ∷ []) begin in
-      subst (λ (v : Sessions). Both c d (joined_swapped c d joined) joined reads (run c d es v)) same
+      subst (λ (v : Sessions). Both c d (joined_swapped c d joined) joined (run c d es v)) same
       (both_after c d joined begin is (done ++ e ∷ []) es (subst (λ (xs : List Event). AreTimely c d xs begin) (sym (append_assoc done (e ∷ []) es)) timely)
-      (subst (Both c d (joined_swapped c d joined) joined reads) (sym same) next))
+      (subst (Both c d (joined_swapped c d joined) joined) (sym same) next))
 
-  is_peer : (c d : Settings) (joined : AreJoined c d) (w : Sessions) → Seen c d joined reads w → IsPeer c w
-  is_peer c d joined w h = record { peer = peer_of c d joined reads w h.all; reached = h.reached; begun = refl; given = h.given; taken = h.taken }
+  is_peer : (c d : Settings) (joined : AreJoined c d) (w : Sessions) → SeenAt c d joined w → IsPeer c w
+  is_peer c d joined w h = record { peer = end c d joined w.far w.near.station.phase w.near.begun h.all; reached = h.reached; begun = refl; given = h.given; taken = h.taken }
 
   pub both_peers : Throughout AreBothPeers
   both_peers c d joined begin is events timely =

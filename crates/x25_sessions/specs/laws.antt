@@ -1,4 +1,6 @@
--- What the laws of this crate say (src/law.rt), and the world that they are about.
+-- What the laws of this crate say (src/law.rt), and the worlds that they are about.
 pub mod PeerSessions
 pub mod PeerSessionClaims
 pub mod SessionPeers
+pub mod Ends
+pub mod EndClaims

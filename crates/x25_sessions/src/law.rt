@@ -1,13 +1,13 @@
 ghost use Rattle.x25_frame.specs.laws.ReadingLaw.{ReadsSpelled};
 ghost use Rattle.x25_line.specs.laws.LawsBelow.{SessionLaws};
 ghost use Rattle.x25_line.specs.laws.SessionClaims.{Throughout, MeetInStep, MetAreInOrder, UnmetHandNothingUp};
+ghost use Rattle.x25_sessions.specs.laws.EndClaims.{OfAnyTwoEnds, KeepSessions};
 ghost use Rattle.x25_sessions.specs.laws.PeerSessionClaims.{WithAnyPeer, OfBothEnds, EachMeetsLatest, IdleHasArrived};
 ghost use Rattle.x25_sessions.specs.laws.PeerSessionClaims.{WithAnyLapbPeer, SendsNoFrmr};
 ghost use Rattle.x25_sessions.specs.laws.SessionPeers.{AreBothPeers};
 ghost use Rattle.x25_sessions.specs.rows.PeerSessionRows.{CrossingPeerMoves};
 
 use x25_frame::reads_what_is_spelled;
-use x25_line::any_peer_keeps_order;
 use x25_link::{follows_the_window, notes_what_changes, sets_up_by_rows};
 
 /// What the laws of frames and of one link say, which those of this crate rest on.
@@ -20,6 +20,19 @@ pub(crate) fn laws_below()
     notes_what_changes();
     reads_what_is_spelled();
 }
+
+/// Any two ends that keep the rules of docs/PEER.md, over a line that keeps order and may lose or visibly damage what
+/// is on it, from nothing or from a link just set up: what holds over set-up and re-set-up by either end at any
+/// moment, where each sends SABM only where no SABM and no DISC of its own and no UA to it is on the line, and none of
+/// the other end's SABMs there is older than its present session.
+///
+/// Sessions meet one to one, and in order at both ends. Of two that meet, what an end took in its own is a beginning of
+/// what the other was handed down in the other, and all of it where all is acknowledged; what is acknowledged was
+/// taken. In a session that meets none an end takes nothing. The session of an end that is in one meets no other than
+/// the latest of the other end, and each N(R) that comes to it is valid.
+pub fn two_ends_keep_sessions()
+    ensures { OfAnyTwoEnds KeepSessions }
+{}
 
 /// A link station, by the definition that a link meets call by call, and any peer that keeps the rules of
 /// docs/PEER.md, from nothing or from a link just set up: what holds after all that happens at either end and on the
@@ -43,7 +56,6 @@ pub fn any_peer_keeps_sessions()
     ensures idle { WithAnyPeer IdleHasArrived }
     ensures no_frmr { WithAnyLapbPeer SendsNoFrmr }
 {
-    any_peer_keeps_order();
     laws_below();
 }
 

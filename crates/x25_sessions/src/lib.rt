@@ -8,4 +8,5 @@ mod law;
 
 pub use law::{
     any_peer_keeps_sessions, peers_move_over_sessions, stations_are_peers_over_sessions,
+    two_ends_keep_sessions,
 };

@@ -4,12 +4,11 @@ use Rattle.x25_sessions.proofs.law.any_peer_keeps_sessions.Goals as goal
 pub returns : goal.returns
 returns c =
     let below = c.laws_below.ensures in
-    let once = c.any_peer_keeps_order.ensures in
     record {
-      step = meet_in_step below.reads below.link once.order once.blameless;
-      order = met_in_order below.reads below.link once.order once.blameless;
-      unmet = unmet_nothing below.reads below.link once.order once.blameless;
-      agree = meets_latest below.reads below.link once.order once.blameless;
-      idle = idle_arrived below.reads below.link once.order once.blameless;
-      no_frmr = sends_no_frmr below.reads below.link once.order once.blameless;
+      step = meet_in_step below.reads below.link;
+      order = met_in_order below.reads below.link;
+      unmet = unmet_nothing below.reads below.link;
+      agree = meets_latest below.reads below.link;
+      idle = idle_arrived below.reads below.link;
+      no_frmr = sends_no_frmr below.reads below.link;
     }
