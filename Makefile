@@ -98,6 +98,7 @@ judge-runs: build/x25
 	python3 tests/tap_runs.py --program build/x25
 	python3 tests/odd_runs.py --program build/x25
 	python3 tests/link_runs.py --program build/x25
+	python3 tests/again_runs.py --program build/x25
 	python3 tests/order_runs.py --program build/x25
 
 check-tools:
@@ -130,7 +131,7 @@ PACKAGE = $(INSTALLED)/lib/x25/x25
 CRATE_OF_RUST = $(INSTALLED)/share/x25/rust
 SET_PC = s|@PREFIX@|$(PREFIX)|; s|@LIBDIR@|$(LIBDIR)|; s|@VERSION@|$(VERSION)|
 # The scripts by their names in bin, of which each is a link to its script in lib/x25.
-SCRIPTS = x25dump:x25dump pcap2x25:pcap2x25 x25pcap:x25pcap x25bridge:bridge x25chart:chart
+SCRIPTS = x25dump:x25dump pcap2x25:pcap2x25 x25pcap:x25pcap x25bridge:bridge x25chart:chart x25pad:x25pad x25tools:x25tools
 
 # No dependency has the program proved: `sudo make install` is to install what is there.
 install:

@@ -80,7 +80,8 @@ def rows(folder):
 
     asked = ["--x25", PROGRAM]
     yield "decode, trace", f"{PROGRAM} decode < {folder}/trace"
-    yield "x25dump, trace", [*script("x25dump.py", *asked), f"{folder}/trace"]
+    for words in (), ("--messages",), ("--stats",):
+        yield " ".join(["x25dump", *words]) + ", trace", [*script("x25dump.py", *asked, *words), f"{folder}/trace"]
     yield "chart, trace", [*script("chart.py", *asked), f"{folder}/trace"]
     for capture in ("lapb", "xot"):
         if shutil.which("tshark"):

@@ -35,4 +35,4 @@ _x25_script() {
 }
 
 complete -F _x25 -o default x25
-complete -F _x25_script -o default x25dump pcap2x25 x25pcap x25bridge x25chart
+complete -F _x25_script -o default x25dump pcap2x25 x25pcap x25bridge x25chart x25pad x25tools

@@ -11,13 +11,13 @@ Exit status: 0; 1 where a run fails, with its seed; 2 for bad words, or where th
 """
 
 import random
-import subprocess
 import sys
 
 import runs
 from runs import RNR, RR
 
-from x25tools.x25lines import fcs  # where runs finds it
+from x25tools import piped  # where runs finds it
+from x25tools.x25lines import BadInput, fcs
 
 STEPS, MESSAGES = 250, 12
 REJ = 0x09
@@ -114,37 +114,33 @@ class Call:
             self.peer.given.append(bytes([0x10, 1, len(self.taken) % 8 << 5 | number % 8 << 1]) + message)
 
 
-class Station:
-    """The program, asked a line at a time, and its user, who accepts the call."""
+class Station(piped.Station):
+    """The program, and its user, who accepts the call."""
 
-    WORDS = ["station", "dte", "--n2", "255"]
+    WORDS = ["--n2", "255"]
     # whether its link may go down
     MAY_END = False
 
     def __init__(self, program, way):
-        self.run = subprocess.Popen([program, *self.WORDS], stdin=subprocess.PIPE, stdout=subprocess.PIPE, text=True)
+        super().__init__(program, "dte", self.WORDS)
         self.way = way
         self.sent, self.messages, self.asked = [], [], []
         self.open = False
-        self.answer()
+        self.begin()
+        self.heeds(self.first)
 
-    def answer(self):
-        """Takes what the station writes up to its mark; answers whether it refused the line."""
-        refused = False
-        while True:
-            line = self.run.stdout.readline().rstrip("\n")
-            words = line.split()
-            if not line or line[0] == "?" or ("linkdown" in words and not self.MAY_END):
-                raise Failed(f"the station: {line}")
-            if line[0] == ".":
-                self.timer = words[1] != "off"
-                return refused
-            if line[0] == ">":
-                self.way.append(bytes.fromhex(words[1]))
-            elif line[0] == "!":
-                refused = True
-            else:
-                self.tells(words)
+    def heeds(self, answer):
+        """Takes what the station answers."""
+        if answer.refusal == "? 60":
+            raise Failed("the station takes a line for none")
+        for notice in answer.notices:
+            words = notice.split()
+            if words[1] == "linkdown" and not self.MAY_END:
+                raise Failed(f"the station: {notice}")
+            self.tells(words)
+        for frame in answer.frames:
+            self.way.append(frame.octets)
+        self.timer = answer.t1 != "off"
 
     def tells(self, words):
         """An entry of the transcript."""
@@ -154,13 +150,13 @@ class Station:
             self.messages.append(bytes.fromhex(words[-1].removeprefix("data=")))
 
     def ask(self, line):
-        self.run.stdin.write(line + "\n")
-        self.run.stdin.flush()
-        refused = self.answer()
+        """Asks a line; answers whether it was refused."""
+        answer = super().ask(line)
+        self.heeds(answer)
         while self.asked:
             self.ask(self.asked.pop())
             self.open = True
-        return refused
+        return answer.refusal is not None
 
     def send(self):
         """One message more, where the call is up."""
@@ -283,11 +279,10 @@ def outcome(run):
     """Plays a run; answers why it fails, or None."""
     try:
         run.play()
-    except Failed as failed:
+    except (Failed, BadInput) as failed:
         return str(failed)
     finally:
-        run.station.run.kill()
-        run.station.run.communicate()
+        run.station.__exit__()
     return None
 
 

@@ -69,7 +69,7 @@ class SessionLayer(Layer):
 class SessionUser(User):
     """The station session by session, and its user."""
 
-    WORDS = ["station", "dte", "--n2", "5", "--channels", "2"]
+    WORDS = ["--n2", "5", "--channels", "2"]
     MAY_END = True
 
     def __init__(self, program, way):

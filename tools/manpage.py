@@ -36,7 +36,7 @@ HEAD = [
 SEE_ALSO = [".SH SEE ALSO", "\\fBdocs/FORMATS.md\\fR, \\fBdocs/PROOFS.md\\fR, \\fBtshark\\fR(1), \\fBtcpdump\\fR(1)"]
 RULE = re.compile(r"\|[-| :]+\|")
 # The scripts that have names of their own where they are installed.
-NAMES = {"bridge": "x25bridge", "chart": "x25chart", "pcap2x25": "pcap2x25", "x25dump": "x25dump", "x25pcap": "x25pcap"}
+NAMES = {"bridge": "x25bridge", "chart": "x25chart", "pcap2x25": "pcap2x25", "x25dump": "x25dump", "x25pad": "x25pad", "x25pcap": "x25pcap", "x25tools": "x25tools"}
 SCRIPT = re.compile(rf"(?:(?:python3 )?tools/|\b)({'|'.join(NAMES)})\.py\b")
 # What stands for the program in the repository.
 PROGRAM = re.compile(r"\bbuild/x25(?:-unproved)?(?![\w.])")

@@ -45,8 +45,8 @@ def data(number, text, more=0, channel=1, acknowledged=0):
 def joined(frames, due=None):
     """Sort and octets of what frames, each direction and text, complete."""
     line = messages.Messages(due)
-    found = [it for frame in frames for it in line.take(*frame)]
-    return [(it.sort, it.octets.decode()) for it in [*found, *line.end()]]
+    found = [it for frame in frames for _, completed in line.take([" ".join(frame)]) for it in completed]
+    return [(sort, octets.decode()) for _, _, sort, octets, _ in [*found, *line.end()]]
 
 
 def shown_messages(text):

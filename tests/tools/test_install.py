@@ -18,7 +18,7 @@ import manpage
 from program import find_library
 
 PREFIX = "/usr/local"
-SCRIPTS = ("x25dump", "pcap2x25", "x25pcap", "x25bridge", "x25chart")
+SCRIPTS = ("x25dump", "pcap2x25", "x25pcap", "x25bridge", "x25chart", "x25pad", "x25tools")
 # Who runs what was installed, where the tests run as root and so may be another user.
 OTHER = {"user": pwd.getpwnam("nobody").pw_uid, "group": pwd.getpwnam("nobody").pw_gid, "extra_groups": []} if os.geteuid() == 0 else {}
 

@@ -10,6 +10,7 @@ import unittest
 import support
 from support import PROGRAM
 
+import again_runs
 import golden
 import judge_runs
 import link_runs
@@ -17,7 +18,7 @@ import odd_runs
 import order_runs
 from x25tools.x25lines import fcs, is_sealed
 
-# In the gate; `make judge-runs` plays 10,000, 10,000, 5,000 and 3,600.
+# In the gate, RUNS also of ends that ask again; `make judge-runs` plays 10,000 of each, 10,000, 5,000 and 3,600.
 RUNS = 300
 LINK_RUNS = 200
 ODD_RUNS = 100
@@ -59,11 +60,11 @@ def remarks(mark, output):
 
 
 class Cases(unittest.TestCase):
-    """The golden cases of `judge`, and the lists of docs/FORMATS.md, of rules, of manners and of notes."""
+    """The golden cases of `judge`, and the lists of docs/JUDGE.md, of rules, of manners and of notes."""
 
     def setUp(self):
-        section = support.read("docs", "FORMATS.md").decode().split("## What `judge` writes")[1].split("\n## ")[0]
-        told = [re.findall(r"^[-|] `([^`]+)`", part, re.MULTILINE) for part in re.findall(r"(?:^[-|] `.*\n(?:  .*\n)*)+", section, re.MULTILINE)]
+        page = support.read("docs", "JUDGE.md").decode()
+        told = [re.findall(r"^- `([^`]+)`", part, re.MULTILINE) for part in re.findall(r"(?:^- `.*\n(?:  .*\n)*)+", page, re.MULTILINE)]
         self.rules, self.manners, self.notes = ([re.sub(r" \d+$", "", text) for text in texts] for texts in told)
         self.cases = {name: golden.Case(name) for name in golden.names() if name.startswith("judge/")}
 
@@ -130,6 +131,13 @@ class Link(support.ToolCase):
     def test_no_rule_of_order_is_told_of_an_end_that_keeps_them(self):
         for seed in range(LINK_RUNS):
             self.assertEqual(link_runs.told(PROGRAM, seed)[0], [], f"seed {seed}")
+
+
+@support.needs_program
+class Again(support.ToolCase):
+    def test_nothing_is_told_of_ends_that_ask_again(self):
+        for seed in range(RUNS):
+            self.assertEqual(again_runs.told(PROGRAM, seed)[0], [], f"seed {seed}")
 
 
 @support.needs_station

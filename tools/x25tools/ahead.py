@@ -1,16 +1,22 @@
 """Has a process of its own make what is taken here, so that two processors work."""
 
+from __future__ import annotations
+
 import os
 import pickle
+from typing import Any, BinaryIO, Iterable, Iterator, TypeVar
 
 from x25tools.x25lines import BadInput
+
+
+T = TypeVar("T")
 
 
 class End(Exception):
     """Stands behind the last thing that was made."""
 
 
-def ahead(things):
+def ahead(things: Iterable[T]) -> Iterator[T]:
     """Yields what an iterable makes, which a process of its own goes over. What it raises is raised here, behind what was made before."""
     reader, writer = os.pipe()
     child = os.fork()
@@ -33,14 +39,14 @@ def ahead(things):
         os.waitpid(child, 0)
 
 
-def _taken(given):
+def _taken(given: BinaryIO) -> Any:
     try:
         return pickle.load(given)
     except EOFError as error:
         raise BadInput("the process that reads the capture was stopped") from error
 
 
-def _give(things, out):
+def _give(things: Iterable[Any], out: BinaryIO) -> None:
     """Writes each thing as soon as it is made, and what ends them."""
     try:
         for thing in things:

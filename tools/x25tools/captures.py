@@ -7,10 +7,13 @@ nanoseconds, whether the host that captured sent it, how many of its octets are 
 that captured dropped just before it. None is what the capture doesn't say.
 """
 
+from __future__ import annotations
+
 import functools
 import math
 import struct
-from typing import NamedTuple, Optional
+from collections import Counter
+from typing import Any, BinaryIO, Callable, Iterator, NamedTuple, Optional
 
 from x25tools import x25lines
 from x25tools.x25lines import NANOSECONDS, BadInput
@@ -40,6 +43,8 @@ IS_OUTBOUND = {INBOUND: False, OUTBOUND: True, 0: None, 3: None}
 CRC_ERROR, TOO_SHORT = 1 << 24, 1 << 26
 
 NO_CAPTURE = "neither a pcap nor a pcapng file"
+# A record: see above.
+Record = tuple[int, int, bytes, bool, Optional[int], Optional[bool], Optional[int], int, int]
 # No capture program takes more of a packet; a longer record is a wrong length.
 MOST_CAPTURED = 262_144
 # A block that holds no packet may be longer than one that does, but not without bound.
@@ -56,18 +61,19 @@ class Interface(NamedTuple):
     fcs_octets: Optional[int]
 
 
-def blocks(file, notes=None):
+def blocks(file: x25lines.Readable, notes: Counter[str] | None = None) -> Iterator[list[Record]]:
     """Yields the records of a capture, of whichever format, in lists, each of those that are there at once.
 
     A file that isn't one, or breaks off, is bad input, told behind the records before that. `notes` counts what the capture says was dropped, of
     which no record says where.
     """
-    reader, rest = None, b""
+    reader: _Pcap | _Pcapng | None = None
+    rest = b""
     for octets in x25lines.pieces(file):
         rest += octets
         if reader is None and len(rest) >= 4:
             reader = _reader(rest[:4])
-        records = []
+        records: list[Record] = []
         try:
             rest = rest[reader.read(rest, records) :] if reader else rest
         finally:
@@ -80,7 +86,7 @@ def blocks(file, notes=None):
         raise BadInput(f"the file ends within {reader.next()}")
 
 
-def _reader(magic):
+def _reader(magic: bytes) -> _Pcap | _Pcapng:
     """What reads a file that begins so."""
     if magic in PCAP_MAGIC:
         return _Pcap(*PCAP_MAGIC[magic])
@@ -92,22 +98,23 @@ def _reader(magic):
 class _Pcap:
     """Reads a pcap file; `tick` is the nanoseconds of its unit of time."""
 
-    dropped = None
+    dropped: dict[tuple[int, bytes], int] = {}
 
-    def __init__(self, order, tick):
+    def __init__(self, order: str, tick: int) -> None:
         self._file_header, self._header = struct.Struct(order + "IHHiIII"), struct.Struct(order + "IIII")
         self._tick = tick
-        self._link_type = self._fcs_octets = None
-        self._number = 0
+        self._link_type = self._number = 0
+        self._fcs_octets: int | None = None
+        self._has_begun = False
 
-    def next(self):
+    def next(self) -> str:
         """What is read next."""
-        return "the file header" if self._link_type is None else f"record {self._number + 1}"
+        return f"record {self._number + 1}" if self._has_begun else "the file header"
 
-    def read(self, octets, records):
+    def read(self, octets: bytes, records: list[Record]) -> int:
         """Adds the records of these octets that are whole; answers how many octets these are."""
         at = 0
-        if self._link_type is None:
+        if not self._has_begun:
             if len(octets) < self._file_header.size:
                 return 0
             at = self._begin(octets)
@@ -124,15 +131,15 @@ class _Pcap:
             at = end
         return at
 
-    def _begin(self, octets):
+    def _begin(self, octets: bytes) -> int:
         """Reads the header of the file; answers its length."""
         network = self._file_header.unpack_from(octets)[6]
-        self._link_type = network & 0x03FF_FFFF
+        self._link_type, self._has_begun = network & 0x03FF_FFFF, True
         self._fcs_octets = 2 * (network >> 28) if network & 0x0400_0000 else None
         return self._file_header.size
 
 
-def _wrong_length(captured, number):
+def _wrong_length(captured: int, number: int) -> BadInput:
     """What is told of a record that says it has so many octets."""
     return BadInput(f"record {number} has a wrong length, {captured:,} octets" if captured else f"record {number} holds no octets")
 
@@ -140,18 +147,18 @@ def _wrong_length(captured, number):
 class _Pcapng:
     """Reads a pcapng file, block by block."""
 
-    def __init__(self):
+    def __init__(self) -> None:
         self._number = self._sections = 0
-        self._order = None
+        self._order = ""
         self._head = struct.Struct("<II").unpack_from
         # Of each section and interface what the last of its statistics says was dropped.
-        self.dropped = {}
+        self.dropped: dict[tuple[int, bytes], int] = {}
 
-    def next(self):
+    def next(self) -> str:
         """What is read next."""
-        return "a section header" if self._order is None else f"a block behind record {self._number}"
+        return f"a block behind record {self._number}" if self._order else "a section header"
 
-    def read(self, octets, records):
+    def read(self, octets: bytes, records: list[Record]) -> int:
         """Adds the records of these octets that are whole; answers how many octets these are."""
         at, most = 0, len(octets)
         while at + 8 <= most:
@@ -179,14 +186,14 @@ class _Pcapng:
             at = end
         return at
 
-    def _count(self, body):
+    def _count(self, body: bytes) -> None:
         """Reads the statistics of an interface."""
         options = _options(body[12:], self._order) or {}
         counts = [struct.unpack(self._order + "Q", options[code])[0] for code in DROPS if len(options.get(code, b"")) == 8]
         if sum(counts):
             self.dropped[self._sections, body[:4]] = sum(counts)
 
-    def _begin(self, magic):
+    def _begin(self, magic: bytes) -> None:
         """Begins a section, whose header shows the order of its octets."""
         if magic not in BYTE_ORDERS:
             raise BadInput("a section header has no byte order")
@@ -194,9 +201,9 @@ class _Pcapng:
         order = self._order = BYTE_ORDERS[magic]
         self._head, self._word = struct.Struct(order + "II").unpack_from, struct.Struct(order + "I").unpack_from
         self._fields = {kind: struct.Struct(order + form).unpack_from for kind, form in FIELDS.items()}
-        self._interfaces = []
+        self._interfaces: list[Interface] = []
 
-    def _packet(self, kind, octets, start, end):
+    def _packet(self, kind: int, octets: bytes, start: int, end: int) -> Record:
         """The record of a packet, whose block has its body there."""
         number, fields, head = self._number, self._fields[kind], start
         start += LENGTHS[kind]
@@ -225,7 +232,7 @@ class _Pcapng:
         return number, link_type, packet, captured < length, time if time > 0 else 0, is_outbound, fcs_octets, flags, dropped
 
 
-def _interface(body, order):
+def _interface(body: bytes, order: str) -> Interface:
     if len(body) < 8:
         raise BadInput("an interface block is too short")
     options = _options(body[8:], order)
@@ -242,7 +249,7 @@ def _interface(body, order):
 
 # The options of most packets of a file are the same.
 @functools.lru_cache(maxsize=256)
-def _flags(octets, order):
+def _flags(octets: bytes, order: str) -> tuple[int, int] | None:
     """The flags of a packet with these options, and how many packets were dropped before it, 0 where none of these has them; None where the
     options can't be read."""
     options = _options(octets, order)
@@ -252,9 +259,10 @@ def _flags(octets, order):
     return struct.unpack(order + "I", flags)[0] if len(flags) == 4 else 0, struct.unpack(order + "Q", dropped)[0] if len(dropped) == 8 else 0
 
 
-def _options(octets, order):
+def _options(octets: bytes, order: str) -> dict[int, bytes] | None:
     """The options of a block, by their code, or None where one has a wrong length; of a code that comes twice the first counts."""
-    options, at = {}, 0
+    options: dict[int, bytes] = {}
+    at = 0
     while at + 4 <= len(octets):
         code, length = struct.unpack_from(order + "HH", octets, at)
         if code == END_OF_OPTIONS:
@@ -269,25 +277,25 @@ def _options(octets, order):
 class Writer:
     """Writes a pcapng file of one section and one interface, whose clock counts nanoseconds."""
 
-    def __init__(self, file, link_type):
+    def __init__(self, file: BinaryIO, link_type: int) -> None:
         self._file = file
         self._block(SECTION, struct.pack("<IHHq", BYTE_ORDER, 1, 0, -1))
         self._block(INTERFACE, struct.pack("<HHI", link_type, 0, 0) + _option(RESOLUTION, b"\x09") + _option(END_OF_OPTIONS, b""))
 
-    def packet(self, octets, time, flags):
+    def packet(self, octets: bytes, time: int, flags: int) -> None:
         """Writes one packet, with its time in nanoseconds and its flags."""
         head = struct.pack("<IIIII", 0, time >> 32 & 0xFFFF_FFFF, time & 0xFFFF_FFFF, len(octets), len(octets))
         options = _option(FLAGS, struct.pack("<I", flags)) + _option(END_OF_OPTIONS, b"")
         self._block(PACKET, head + _padded(octets) + options)
 
-    def _block(self, kind, body):
+    def _block(self, kind: int, body: bytes) -> None:
         length = struct.pack("<I", len(body) + 12)
         self._file.write(struct.pack("<I", kind) + length + body + length)
 
 
-def _padded(octets):
+def _padded(octets: bytes) -> bytes:
     return octets + bytes(-len(octets) % 4)
 
 
-def _option(code, value):
+def _option(code: int, value: bytes) -> bytes:
     return struct.pack("<HH", code, len(value)) + _padded(value)

@@ -15,21 +15,24 @@ installed with this script, or that of `make look`, which is unproved.
 Exit status: 0, or 2 for bad words or bad input, where a chart as text has the rows before it.
 """
 
+from __future__ import annotations
+
 import argparse
 import itertools
 import sys
+from typing import Iterable, Iterator, TextIO
 
 from x25tools import decoding, drawing, simruns, x25lines
-from x25tools.drawing import Entry, Frame, Note
+from x25tools.drawing import Entry, Frame, Note, Row
 from x25tools.x25lines import BadInput
 
 LEAST_WIDTH, MOST_WIDTH = 40, 400
 
 
-def rows(decoder, blocks):
+def rows(decoder: decoding.Decoder, blocks: Iterable[tuple[int, list[bytes]]]) -> Iterator[list[Row]]:
     """Yields the rows of the lines of each block, which is given with the number of its first line. Bad input is told behind the rows before."""
     for first, lines in blocks:
-        found = []
+        found: list[Row] = []
         try:
             for number, (line, answer) in enumerate(zip(lines, decoding.answers(decoder, lines)), first):
                 if answer:
@@ -40,7 +43,7 @@ def rows(decoder, blocks):
             yield found
 
 
-def row(number, line):
+def row(number: int, line: bytes) -> Row:
     """The row that a line makes that holds no frame in digits."""
     if found := decoding.TEXT_LINE.fullmatch(line):
         text = found[2].decode()
@@ -52,29 +55,30 @@ def row(number, line):
     raise BadInput(f"line {number} is no line of decode, of a trace or of a run: {x25lines.shown(line)}")
 
 
-def rows_of_script(decoder, program, file, words):
+def rows_of_script(decoder: decoding.Decoder, program: str, file: x25lines.Readable, words: list[str]) -> list[list[Row]]:
     """The rows of the run of a script, with what became of each frame."""
     run = simruns.run(program, file, words)
     drawn, = rows(decoder, [(1, run.lines)])
     for index, fate in run.fates.items():
-        drawn[index] = drawn[index]._replace(fate=fate)
+        if isinstance(frame := drawn[index], Frame):
+            drawn[index] = frame._replace(fate=fate)
     return [drawn]
 
 
-def draw(blocks, options, out):
+def draw(blocks: Iterable[list[Row]], options: argparse.Namespace, out: TextIO) -> None:
     """Writes the chart of the rows of some blocks."""
     if options.svg:
         blocks = [list(itertools.islice(itertools.chain.from_iterable(blocks), drawing.Svg.MOST_ROWS + 1))]
         if len(blocks[0]) > drawing.Svg.MOST_ROWS:
             raise BadInput(f"a picture has at most {drawing.Svg.MOST_ROWS:,} rows: cut the trace, or draw it as text")
-        chart = drawing.Svg(options.width, len(blocks[0]))
+        chart: drawing.Svg | drawing.Text = drawing.Svg(options.width, len(blocks[0]))
     else:
         chart = drawing.Text(options.width)
     for lines in itertools.chain([chart.begin()], (map(chart.row, block) for block in blocks), [chart.end()]):
         out.write("".join([f"{line}\n" for line in lines]))
 
 
-def words():
+def words() -> argparse.Namespace:
     """The words after the script's name, and those for `x25 sim`."""
     parser = argparse.ArgumentParser(description=__doc__, formatter_class=argparse.RawDescriptionHelpFormatter)
     x25lines.add_input(parser, "what to draw")
@@ -91,11 +95,11 @@ def words():
     return options
 
 
-def main():
+def main() -> int:
     options = words()
     with x25lines.opened(options.file) as file, decoding.Decoder(options.x25) as decoder:
         if options.script:
-            drawn = rows_of_script(decoder, options.x25, file, options.sim.split())
+            drawn: Iterable[list[Row]] = rows_of_script(decoder, options.x25, file, options.sim.split())
         else:
             drawn = rows(decoder, x25lines.blocks_of_lines(file))
         draw(drawn, options, sys.stdout)

@@ -1,5 +1,7 @@
 """What the entries of a station tell of its link and its circuits, and by that what can't be told any more."""
 
+from __future__ import annotations
+
 import re
 
 CHANNEL = re.compile(r" ch=(\d+)")
@@ -24,27 +26,35 @@ OF_THE_LINK = ("linkup", "restarted", "incoming")
 class Circuits:
     """The states of the circuits by their channels, those of which the user isn't ready, what calls propose, and whether the link is up."""
 
-    def __init__(self):
-        self._states = {}
-        self.not_ready, self.proposed, self.is_up = set(), {}, False
+    def __init__(self) -> None:
+        self._states: dict[int, str] = {}
+        self.not_ready: set[int] = set()
+        self.proposed: dict[int, int] = {}
+        self.is_up = False
         # Whether this end asked for the link, whether that came to nothing, and whether it ended it; whether it has restarted.
         self._connects = self._has_failed = self._has_ended = self._restarts = False
 
-    def open(self):
+    def open(self) -> list[int]:
         """The channels that have a circuit open, in order."""
         return sorted(channel for channel, state in self._states.items() if state in ("open", "resetting"))
 
-    def heed(self, notice):
+    def heed(self, notice: str) -> tuple[str, int | None]:
         """Takes an entry; answers its event and its channel, or None."""
         event = notice.split(" ")[1]
         found = CHANNEL.search(notice)
         channel = int(found[1]) if found else None
-        if event in BECOMES and channel is not None:
+        if channel is not None:
+            self._heed_a_circuit(event, channel, notice)
+        elif event in ("connect", "disconnect") or event.startswith(("restart", "link")):
+            self._heed_the_link(event)
+        return event, channel
+
+    def _heed_a_circuit(self, event: str, channel: int, notice: str) -> None:
+        """Takes an entry on a circuit."""
+        if event in BECOMES:
             self._states[channel] = BECOMES[event]
         elif event in ENDS:
             self._states.pop(channel, None)
-        elif event in ("connect", "disconnect") or event.startswith(("restart", "link")):
-            self._heed_the_link(event)
         if event == "incoming":
             said = PROPOSED.search(notice)
             self.proposed[channel] = max(int(said[1]), int(said[2])) if said else 0
@@ -53,9 +63,8 @@ class Circuits:
         elif event in ("clear", "cleared", "cleardone", "reset", "wasreset", "resetdone"):
             # Both ends are ready behind a reset.
             self.not_ready.discard(channel)
-        return event, channel
 
-    def _heed_the_link(self, event):
+    def _heed_the_link(self, event: str) -> None:
         """Takes an entry on the link, or on all circuits."""
         if event == "connect":
             self._connects, self._has_failed, self._has_ended = True, False, False
@@ -73,7 +82,7 @@ class Circuits:
         else:
             self._connects = False
 
-    def cannot_come(self, text):
+    def cannot_come(self, text: str) -> str:
         """Why no notice that begins with a text can come any more, while this end asks for nothing; nothing where one can."""
         found = EVENT.match(text)
         if not found:
@@ -89,6 +98,6 @@ class Circuits:
         return "the link didn't come up" if event in OF_THE_LINK and self._has_failed else ""
 
 
-def _may_begin(notice, text):
+def _may_begin(notice: str, text: str) -> bool:
     """Whether a notice that goes on behind these words, or ends there, may begin with a text."""
     return f"{notice} ".startswith(text) or text.startswith(f"{notice} ")

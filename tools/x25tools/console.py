@@ -4,6 +4,9 @@ A line that is typed is one of a script without its end, with octets as hexadeci
 come, with what they say in words. Readline edits the line, in a thread of its own, and hands it to the bridge by a pipe.
 """
 
+from __future__ import annotations
+
+import argparse
 import contextlib
 import difflib
 import os
@@ -12,8 +15,9 @@ import sys
 import termios
 import textwrap
 import threading
+from typing import Callable
 
-from x25tools import tcp, x25names
+from x25tools import tcp, wires, x25names
 from x25tools.messages import dumped
 from x25tools.users import Outlet, kind
 
@@ -84,7 +88,7 @@ class Unknown(Exception):
     """What was typed is no command; the text says why."""
 
 
-def spelled(typed, end):
+def spelled(typed: str, end: str) -> str:
     """The line that something typed stands for."""
     if typed.count('"') % 2:
         raise Unknown("a quote isn't closed")
@@ -110,13 +114,13 @@ def spelled(typed, end):
     return " ".join([end, *words])
 
 
-def helped(name=""):
+def helped(name: str = "") -> str:
     """What `help` says, of one command or of all."""
     rows = [f"  {it} {COMMANDS[it][0]}".ljust(40) + f" {COMMANDS[it][1]}" for it in ([name] if name in COMMANDS else COMMANDS)]
     return "\n".join([*rows, NOTES])
 
 
-def text_of(octets):
+def text_of(octets: bytes) -> str:
     """Octets as they may be typed, with text in quotes; nothing where they are hardly any text."""
     with contextlib.suppress(UnicodeDecodeError):
         text = octets.decode()
@@ -127,7 +131,7 @@ def text_of(octets):
     return "".join(f'"{part.decode()}"' if place % 2 else part.hex() for place, part in enumerate(parts)) if is_text else ""
 
 
-def shown(notice):
+def shown(notice: str) -> list[str]:
     """The lines that a notice is shown by; none for a refusal, which the bridge's own words behind it repeat."""
     first, _, entry = notice.partition(" ")
     if first not in ENDS:
@@ -136,14 +140,14 @@ def shown(notice):
     octets = bytes.fromhex(data[1]) if data else b""
     means = REASONS.get(entry.split(" ")[-1], "") if event == "linkdown" else MEANS.get(event, "").format(channel and channel[1])
     rows = []
-    if len(octets) > A_ROW:
+    if data and len(octets) > A_ROW:
         entry = f"{entry[: data.start()]}data: {len(octets):,} octets{entry[data.end(1) :]}"
-        rows = [*dumped(octets[:MOST_SHOWN]), *([f"    and {len(octets) - MOST_SHOWN:,} more"] if len(octets) > MOST_SHOWN else [])]
+        rows = [*dumped(octets[:MOST_SHOWN]).split("\n"), *([f"    and {len(octets) - MOST_SHOWN:,} more"] if len(octets) > MOST_SHOWN else [])]
     words = "; ".join(filter(None, [x25names.words(notice), "" if rows else text_of(octets), means]))
     return [f"{entry}  ({words})" if words else entry, *rows]
 
 
-def place(options):
+def place(options: argparse.Namespace) -> str:
     """What the line is, in words."""
     if options.listen:
         return "waiting for a connection"
@@ -156,7 +160,7 @@ def place(options):
     return " and ".join([f"calling {tcp.written(options.xot)}"] * bool(options.xot) + ["waiting for connections"] * bool(options.xot_listen)) + " by XOT"
 
 
-def greeting(options):
+def greeting(options: argparse.Namespace) -> str:
     """Who is there, and what can be typed."""
     channels = f"{options.channels} channel{'s' * (options.channels != 1)}"
     return f"This is the {options.end.upper()}, {place(options)}, with {channels}.\n`help` shows what can be typed, as `connect`; `quit` ends."
@@ -165,7 +169,7 @@ def greeting(options):
 class Screen(Outlet):
     """The terminal: lines come above the one that is typed."""
 
-    def __init__(self):
+    def __init__(self) -> None:
         try:
             # A description of its own, so that it doesn't block, and what readline writes does.
             self._number = os.open(os.ttyname(1), os.O_WRONLY | os.O_NONBLOCK | os.O_NOCTTY)
@@ -175,10 +179,10 @@ class Screen(Outlet):
         super().__init__(None, kind)
 
     @property
-    def number(self):
+    def number(self) -> int:
         return self._number
 
-    def spelled(self, line):
+    def spelled(self, line: str) -> str:
         """What shows a line: makes room for each row above that of the cursor, writes it there, and goes back to the place where it was."""
         width = os.get_terminal_size(1).columns or WIDTH
         rows = [part for row in shown(line) for part in textwrap.wrap(row, width, subsequent_indent="    ")]
@@ -188,12 +192,12 @@ class Screen(Outlet):
 class Console:
     """What is typed. `commands` is the number of a file that commands come by; `leave` is called where the user wants to end."""
 
-    def __init__(self, options, leave):
+    def __init__(self, options: argparse.Namespace, leave: Callable[[], None]) -> None:
         self._options, self._end, self._leave = options, options.end, leave
         self.commands, self._writer = os.pipe()
         self._terminal = termios.tcgetattr(0)
 
-    def begin(self, wire):
+    def begin(self, wire: wires.Wire) -> None:
         """Greets the user, and has him type; of the wire it is told where a command waits for it."""
         self._wire = wire
         print(greeting(self._options))
@@ -205,21 +209,21 @@ class Console:
             readline.set_completer(self._completion)
         threading.Thread(target=self._read, daemon=True).start()
 
-    def _read(self):
+    def _read(self) -> None:
         with contextlib.suppress(EOFError, OSError):
             while (typed := self._typed()) not in ("quit", "exit"):
                 if typed:
                     self._take(typed)
         self._leave()
 
-    def _typed(self):
+    def _typed(self) -> str:
         try:
             return input(f"{self._end}> ").strip()
         except UnicodeDecodeError:
             print("that isn't UTF-8")
             return ""
 
-    def _take(self, typed):
+    def _take(self, typed: str) -> None:
         """Takes a line that was typed."""
         name, _, rest = typed.partition(" ")
         try:
@@ -232,14 +236,14 @@ class Console:
         except Unknown as error:
             print(error)
 
-    def _completion(self, text, number):
+    def _completion(self, text: str, number: int) -> str | None:
         """The completion of a word, by its number: of the first one, or behind `help`, a command; behind `wait` an event."""
         before = readline.get_line_buffer()[: readline.get_begidx()].split()
         words = {(): COMMANDS, ("help",): COMMANDS, ("?",): COMMANDS, ("wait",): sorted([*MEANS, "message", "interrupt", "linkdown"])}
         found = [f"{word} " for word in words.get(tuple(before), ()) if word.startswith(text)]
         return found[number] if number < len(found) else None
 
-    def close(self):
+    def close(self) -> None:
         """Leaves the terminal as it was."""
         termios.tcsetattr(0, termios.TCSADRAIN, self._terminal)
         print("\r\x1b[K", end="", flush=True)

@@ -1,11 +1,16 @@
 """The program's `decode` as a child process that answers what it is asked, and where the program is found."""
 
+from __future__ import annotations
+
+import argparse
+import contextlib
 import functools
 import os
 import re
 import select
 import shutil
 import subprocess
+from typing import IO, Any, Protocol, Sequence
 
 from x25tools import x25lines
 from x25tools.x25lines import BadInput
@@ -22,42 +27,58 @@ FRAMES = ("I", "RR", "RNR", "REJ", "SABM", "DISC", "UA", "DM", "FRMR", "SREJ", "
 TEXT_LINE = re.compile(rb"(?:([0-9.]{1,30})\t)?([<>] (?:%b) [ -~]*)" % "|".join(FRAMES).encode())
 
 
-def find_program():
+# A program that is asked line by line.
+Child = subprocess.Popen[bytes]
+
+
+class Asked(Protocol):
+    """What answers the frames in a text, each in a line."""
+
+    def texts(self, asked: str, connections: Sequence[Any] = ...) -> list[str]: ...
+
+
+def find_program() -> str | None:
     """The program that the variable X25 names, or `x25` of the PATH, or else the one that was built or installed with this file; None where
     there is none."""
-    return os.environ.get("X25") or shutil.which("x25") or next(filter(os.path.isfile, PLACES), None)
+    return os.environ.get("X25") or shutil.which("x25") or next((place for place in PLACES if os.path.isfile(place)), None)
 
 
 @functools.lru_cache(maxsize=None)
-def say_if_unproved(program):
+def say_if_unproved(program: str) -> None:
     """Says once on standard error that a program is unproved, where it is the one of `make look`."""
     if os.path.basename(program) == UNPROVED:
         x25lines.warn(f"{program} is unproved (make x25 proves it)")
 
 
-def add_program(parser):
+def add_program(parser: argparse.ArgumentParser) -> None:
     """Adds the word that names the program to a parser of words."""
     parser.add_argument("--x25", default=find_program(), metavar="PROGRAM", help="the program")
 
 
-def last_lines(child):
+def pipes(child: Child) -> tuple[IO[bytes], IO[bytes]]:
+    """What is written to a program, and what it writes."""
+    assert child.stdin and child.stdout
+    return child.stdin, child.stdout
+
+
+def last_lines(child: Child) -> list[str]:
     """What a program that is asked line by line writes once there is no line more."""
-    os.set_blocking(child.stdin.fileno(), True)
-    child.stdin.close()
-    return child.stdout.read().decode("ascii", "replace").splitlines()
+    given, made = pipes(child)
+    os.set_blocking(given.fileno(), True)
+    given.close()
+    return made.read().decode("ascii", "replace").splitlines()
 
 
-def let_end(child):
+def let_end(child: Child) -> None:
     """Closes the pipes of a program that is asked line by line, which ends it, and waits for its end."""
-    child.stdout.close()
-    try:
-        child.stdin.close()
-    except BrokenPipeError:
-        pass
+    given, made = pipes(child)
+    made.close()
+    with contextlib.suppress(BrokenPipeError):
+        given.close()
     child.wait()
 
 
-def answers(decoder, lines, connection=None):
+def answers(decoder: Asked, lines: list[bytes], connection: object = None) -> list[tuple[int | None, str] | None]:
     """What is answered to the frames of some lines: of each its time, in nanoseconds or None, and its text; None where a line has no frame in
     hexadecimal digits."""
     read = [x25lines.timed(line) for line in lines]
@@ -70,41 +91,42 @@ class Decoder:
     """Gives frames to a task of the program, which answers each by a line: those that are there at once together, so that what comes live is
     answered before the next is there."""
 
-    def __init__(self, program, words=("--wide",), task="decode"):
+    def __init__(self, program: str | None, words: Sequence[str] = ("--wide",), task: str = "decode") -> None:
         self._program = program
         self._words = words
         self._task = task
-        self._child = None
+        self._child: Child | None = None
 
-    def __enter__(self):
+    def __enter__(self) -> Decoder:
         return self
 
-    def __exit__(self, *_):
+    def __exit__(self, *_: object) -> None:
         if self._child is not None:
             let_end(self._child)
 
-    def texts(self, asked, connections=()):
+    def texts(self, asked: str, connections: Sequence[object] = ()) -> list[str]:
         """The answers to the lines of a trace in a text, each with its direction, whatever the connections."""
         if not asked:
             return []
         if self._child is None:
             self._child = self._begun()
         count = asked.count("\n")
-        *texts, rest = self._answers(asked.encode(), count).decode("ascii", "replace").split("\n")
+        *texts, rest = self._answers(self._child, asked.encode(), count).decode("ascii", "replace").split("\n")
         if rest or len(texts) != count or texts[0][:2] != asked[:2]:
             raise BadInput(f"{self._program} {self._task} didn't answer line by line")
         return texts
 
-    def _answers(self, asked, count):
+    @staticmethod
+    def _answers(child: Child, asked: bytes, count: int) -> bytes:
         """Writes what is asked and reads so many lines, each as there is room for it or as it is there: so neither pipe can fill."""
-        writer, reader = self._child.stdin.fileno(), self._child.stdout.fileno()
-        asked, answers = memoryview(asked), []
+        writer, reader = (pipe.fileno() for pipe in pipes(child))
+        left, answers = memoryview(asked), []
         while count > 0:
-            readable, writable, _ = select.select([reader], [writer] if asked else [], [])
+            readable, writable, _ = select.select([reader], [writer] if left else [], [])
             try:
-                asked = asked[os.write(writer, asked) :] if writable else asked
+                left = left[os.write(writer, left) :] if writable else left
             except BrokenPipeError:
-                asked = b""
+                left = left[:0]
             if readable:
                 answers.append(os.read(reader, x25lines.PIECE))
                 count -= answers[-1].count(b"\n")
@@ -112,11 +134,11 @@ class Decoder:
                     break
         return b"".join(answers)
 
-    def last_lines(self):
+    def last_lines(self) -> list[str]:
         """What the task writes once there is no line more."""
         return [] if self._child is None else last_lines(self._child)
 
-    def _begun(self):
+    def _begun(self) -> Child:
         if self._program is None:
             raise BadInput(MISSING)
         say_if_unproved(self._program)
@@ -125,5 +147,5 @@ class Decoder:
         except OSError as error:
             raise BadInput(f"{self._program}: {error.strerror}") from error
         # So that a write takes what there is room for.
-        os.set_blocking(child.stdin.fileno(), False)
+        os.set_blocking(pipes(child)[0].fileno(), False)
         return child

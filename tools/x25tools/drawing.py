@@ -3,7 +3,9 @@
 A chart is a list of rows: a frame from one end to the other, an entry of one end, or a note.
 """
 
-from typing import NamedTuple
+from __future__ import annotations
+
+from typing import NamedTuple, Optional, Union
 from xml.sax.saxutils import escape
 
 # What may have become of a frame, beside being delivered as it was sent.
@@ -17,7 +19,7 @@ class Frame(NamedTuple):
 
     direction: str
     text: str
-    fate: str = None
+    fate: Optional[str] = None
     time: str = ""
 
 
@@ -34,7 +36,10 @@ class Note(NamedTuple):
     text: str
 
 
-def elided(text, most):
+Row = Union[Frame, Entry, Note]
+
+
+def elided(text: str, most: int) -> str:
     """A text of at most so many characters; a longer one loses its end, and shows that."""
     return text if len(text) <= most else text[: most - 2] + ".."
 
@@ -42,15 +47,15 @@ def elided(text, most):
 class Text:
     """Writes a chart as lines of text, `width` characters between the two life lines."""
 
-    def __init__(self, width):
+    def __init__(self, width: int) -> None:
         self._width = width
 
-    def begin(self):
+    def begin(self) -> list[str]:
         """The lines above the rows."""
         inner = self._width - 2
         return [f"  DTE{' ' * inner}DCE", f"   |{' ' * self._width}|"]
 
-    def row(self, row):
+    def row(self, row: Row) -> str:
         """The line of a row."""
         if isinstance(row, Frame):
             line = self._arrow(row)
@@ -60,14 +65,14 @@ class Text:
             return f"   o {text.ljust(self._width - 1)}|" if row.end == "dte" else f"   |{text.rjust(self._width - 1)} o"
         return f"   |{elided(row.text, self._width - 4).center(self._width)}|"
 
-    def end(self):
+    def end(self) -> list[str]:
         """The lines below the rows."""
         return []
 
-    def _arrow(self, frame):
+    def _arrow(self, frame: Frame) -> str:
         """An arrow with its text, `width` characters; that of a lost frame doesn't arrive."""
         is_lost = frame.fate == LOST
-        stroke = STROKES.get(frame.fate, "-")
+        stroke = STROKES.get(frame.fate or "", "-")
         fate = f" {frame.fate} " if frame.fate else ""
         if frame.direction == ">":
             head = f"X{fate}" if is_lost else f"{fate}{stroke}>"
@@ -97,13 +102,13 @@ class Svg:
   path.lost { stroke-width: 1.8 } .lost, .damaged { stroke: #b00020 } .damaged, .waiting { stroke-dasharray: 5 3 }
 """
 
-    def __init__(self, width, rows):
+    def __init__(self, width: int, rows: int) -> None:
         self._left, self._right = self.MARGIN, self.MARGIN + round(width * self.CHARACTER)
         self._most = width - 4
         self._height = self.TOP + self.ROW * (rows + 1)
         self._y = self.TOP
 
-    def begin(self):
+    def begin(self) -> list[str]:
         """The lines above the rows: the size, the style, the life lines."""
         width, height = self._right + self.MARGIN, self._height
         return [
@@ -115,7 +120,7 @@ class Svg:
             *(f'<line class="life" x1="{x}" y1="30" x2="{x}" y2="{height - 8}"/>' for x in (self._left, self._right)),
         ]
 
-    def row(self, row):
+    def row(self, row: Row) -> str:
         """The line of a row."""
         self._y += self.ROW
         if isinstance(row, Frame):
@@ -124,29 +129,29 @@ class Svg:
             return self._entry(row)
         return self._text("middle note", (self._left + self._right) // 2, row.text)
 
-    def end(self):
+    def end(self) -> list[str]:
         """The lines below the rows."""
         return ["</svg>"]
 
-    def _text(self, sort, x, text):
+    def _text(self, sort: str, x: int, text: str) -> str:
         return f'<text class="{sort}" x="{x}" y="{self._y - 4}">{escape(elided(text, self._most))}</text>'
 
-    def _entry(self, entry):
+    def _entry(self, entry: Entry) -> str:
         x, step, sort = (self._left, 8, "left") if entry.end == "dte" else (self._right, -8, "right")
         return f'<circle cx="{x}" cy="{self._y - 8}" r="3"/>' + self._text(sort, x + step, entry.text)
 
-    def _arrow(self, frame):
+    def _arrow(self, frame: Frame) -> str:
         start, end = (self._left, self._right) if frame.direction == ">" else (self._right, self._left)
         if frame.fate == LOST:
             end = start + (end - start) * 3 // 4
-        sort = {LOST: "lost", DAMAGED: "damaged", WAITING: "waiting"}.get(frame.fate, "frame")
+        sort = {LOST: "lost", DAMAGED: "damaged", WAITING: "waiting"}.get(frame.fate or "", "frame")
         head = "" if frame.fate == LOST else ' marker-end="url(#head)"'
         line = f'<line class="{sort}" x1="{start}" y1="{self._y}" x2="{end}" y2="{self._y}"{head}/>'
         # The text of a lost frame ends before the cross.
         most = self._most * 3 // 4 - 2 if frame.fate == LOST else self._most
         return line + self._cross(end, frame.fate) + self._text("middle", (start + end) // 2, label(frame, most))
 
-    def _cross(self, x, fate):
+    def _cross(self, x: int, fate: str | None) -> str:
         """The cross where the arrow of a lost frame ends."""
         if fate != LOST:
             return ""
@@ -154,7 +159,7 @@ class Svg:
         return f'<path class="lost" d="M{left} {above} {right} {below}M{right} {above} {left} {below}"/>'
 
 
-def label(frame, most):
+def label(frame: Frame, most: int) -> str:
     """The text of a frame with its time before it and what became of it behind it, where there is that to say."""
     time = f"{frame.time}  " if frame.time else ""
     fate = f"  ({frame.fate})" if frame.fate else ""

@@ -1,5 +1,9 @@
 """Facilities of a packet in words (X.25 sections 6 and 7, annex G). The names are those of other decoders, as tshark's."""
 
+from __future__ import annotations
+
+from typing import Iterator
+
 CLASSES = {0: 1, 1: 2, 2: 3}
 MARKER, CHARGING, THROUGHPUT, CHARGES, SIZES, WINDOWS, DELAY, CALLED, CALLING = 0x00, 0x01, 0x02, 0x04, 0x42, 0x43, 0x49, 0xC9, 0xCB
 NAMES = {
@@ -36,7 +40,7 @@ DIVERSION = {1: "ICRD prevention requested", 2: "ICRD allowance requested", 3: "
 RATES = {3: 75, 4: 150, 5: 300, 6: 600, 7: 1200, 8: 2400, 9: 4800, 10: 9600, 11: 19200, 12: 48000, 13: 64000}
 
 
-def split(octets):
+def split(octets: bytes) -> Iterator[tuple[int, bytes | None]]:
     """Yields the code and the value of each facility; None for a value whose octets are missing."""
     at = 0
     while at < len(octets):
@@ -47,12 +51,12 @@ def split(octets):
         at += length
 
 
-def words(octets):
+def words(octets: bytes) -> str:
     """What a field of facilities says."""
     return ", ".join(_words(code, value) for code, value in split(octets))
 
 
-def _words(code, value):
+def _words(code: int, value: bytes | None) -> str:
     if code == MARKER and value:
         return MARKERS.get(value[0], f"marker {value[0]:02x}")
     if code == CHARGING and value:
@@ -61,14 +65,14 @@ def _words(code, value):
     return f"{name} cut off" if value is None else f"{name} {_value(code, value)}".rstrip()
 
 
-def _charging(octet):
+def _charging(octet: int) -> list[str]:
     """What the facility of reverse charging and fast select asks for."""
     asked = ["reverse charging"] if octet & 1 else []
     asked += [names[bits] for names, bits in ((FAST_SELECT, octet >> 6), (DIVERSION, octet >> 4 & 3)) if bits in names]
     return asked or ["no reverse charging"]
 
 
-def _value(code, value):
+def _value(code: int, value: bytes) -> str:
     """A value: what is said of the data that the called end sends, and then of that of the calling end, or as digits."""
     if code == SIZES:
         return "/".join(str(1 << size) if 4 <= size <= 12 else f"2^{size}" for size in value)

@@ -4,6 +4,11 @@ lapbether (Linux) sends a frame of LAPB, without its frame check sequence, behin
 by Ethernet type 6000 and to all stations. LLC (ISO 8802-2) carries the packets of ISO 8208 by the service access point 7e.
 """
 
+from __future__ import annotations
+
+from collections import Counter
+from typing import Iterator
+
 from x25tools.x25lines import MOST_OCTETS, fcs
 
 ETHERNET, LINUX_COOKED, LINUX_COOKED_2 = 1, 113, 276
@@ -15,9 +20,11 @@ MOST_LLC = 1500
 COOKED_LLC = 4
 X25_ACCESS_POINT = 0x7E
 NUMBERS = 128
+# What a header is followed by: the type of what is carried, the address of its sender and of its receiver, its octets.
+Carried = tuple[int, bytes, bytes, bytes]
 
 
-def _ethernet(octets):
+def _ethernet(octets: bytes) -> Carried:
     header, kind = 14, octets[12] << 8 | octets[13]
     while kind in VLAN_TAGS and len(octets) >= header + 4:
         header, kind = header + 4, octets[header + 2] << 8 | octets[header + 3]
@@ -25,11 +32,11 @@ def _ethernet(octets):
     return (COOKED_LLC, octets[6:12], octets[:6], body[:kind]) if kind <= MOST_LLC else (kind, octets[6:12], octets[:6], body)
 
 
-def _cooked(octets):
+def _cooked(octets: bytes) -> Carried:
     return int.from_bytes(octets[14:16], "big"), octets[6:12], b"", octets[16:]
 
 
-def _cooked_2(octets):
+def _cooked_2(octets: bytes) -> Carried:
     return int.from_bytes(octets[0:2], "big"), octets[12:18], b"", octets[20:]
 
 
@@ -38,12 +45,12 @@ def _cooked_2(octets):
 HEADERS = {ETHERNET: (14, _ethernet), LINUX_COOKED: (16, _cooked), LINUX_COOKED_2: (20, _cooked_2)}
 
 
-def address(octets):
+def address(octets: bytes) -> str:
     """An address as it is written, with colons."""
     return octets.hex(":")
 
 
-def is_of_dte(frame):
+def is_of_dte(frame: bytes) -> bool | None:
     """Whether a frame of LAPB, as its own address has it, is the DTE's; None for a supervisory frame, or none of LAPB.
 
     An I frame, SABM and DISC are commands, UA, DM and FRMR responses; the others are either.
@@ -63,12 +70,12 @@ class Lapbether:
     Which station is the DTE is said beforehand, or by the first frame whose own address tells.
     """
 
-    def __init__(self, dte, notes):
+    def __init__(self, dte: bytes | None, notes: Counter[str]) -> None:
         self._known = None if dte is None else (dte, True)
-        self._stations = []
+        self._stations: list[bytes] = []
         self._notes = notes
 
-    def take(self, source, octets, is_cut):
+    def take(self, source: bytes, octets: bytes, is_cut: bool) -> Iterator[tuple[bool, bytes]]:
         """Yields whether a frame is the DTE's, and its octets with their frame check sequence: none where they aren't there."""
         length = int.from_bytes(octets[:2], "little")
         frame, is_there = octets[2 : 2 + length], len(octets) >= 2 + length >= 2
@@ -89,7 +96,7 @@ class Lapbether:
         if self._known is not None:
             yield (source == self._known[0]) == self._known[1], frame + fcs(frame) if is_there else b""
 
-    def name(self):
+    def name(self) -> str:
         """The line, with its stations."""
         return " ".join(["lapbether", *map(address, self._stations[:2])])
 
@@ -97,13 +104,13 @@ class Lapbether:
 class Llc:
     """The connections of LLC's service access point 7e, each between two stations; the one that is seen first is the DTE."""
 
-    def __init__(self, dte, notes):
+    def __init__(self, dte: bytes | None, notes: Counter[str]) -> None:
         self._dte = dte
-        self._dtes = {}
-        self._next = {}
+        self._dtes: dict[frozenset[bytes], bytes] = {}
+        self._next: dict[tuple[frozenset[bytes], bytes], int] = {}
         self._notes = notes
 
-    def take(self, source, target, llc, is_cut):
+    def take(self, source: bytes, target: bytes, llc: bytes, is_cut: bool) -> Iterator[tuple[str, bool, bytes | None]]:
         """Yields the connection's name, whether the DTE sent it, and the packet, of a frame of LLC that brings one; None in its place is a gap."""
         if len(llc) < 3 or llc[0] != X25_ACCESS_POINT or llc[1] & 0xFE != X25_ACCESS_POINT:
             return
@@ -111,7 +118,7 @@ class Llc:
         pair = frozenset((source, target) if target else (b"",))
         said = self._dte if self._dte in pair or not target else None
         dte = self._dtes.setdefault(pair, said or source)
-        packets = []
+        packets: list[bytes | None] = []
         if llc[2] & 3 == 3:
             self._begin(pair, llc[2])
             packets = [llc[3:]] if llc[2] & 0xEF == 0x03 else []
@@ -126,13 +133,13 @@ class Llc:
             if packet != b"":
                 yield "LLC " + " > ".join(names), source == dte, packet
 
-    def _begin(self, pair, control):
+    def _begin(self, pair: frozenset[bytes], control: int) -> None:
         """Forgets the numbers of a connection that begins anew, by SABME."""
         if control & 0xEF == 0x6F:
             for ends in [ends for ends in self._next if ends[0] == pair]:
                 del self._next[ends]
 
-    def _ahead(self, pair, source, number):
+    def _ahead(self, pair: frozenset[bytes], source: bytes, number: int) -> int | None:
         """How many I frames of LLC are missing before this one; None where it came before, since half of the numbers are behind the next one."""
         ahead = (number - self._next.get((pair, source), number)) % NUMBERS
         if ahead >= NUMBERS // 2:

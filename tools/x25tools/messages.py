@@ -1,15 +1,24 @@
 """Messages out of the frames of a line: what each end's link took, in order and once, and its data joined by the M bit."""
 
+from __future__ import annotations
+
+import operator
 import re
-from typing import NamedTuple, Optional
+from typing import Callable, Iterable, Iterator, Optional
 
 OTHER = {">": "<", "<": ">"}
 # What `decode --wide` puts behind the text of a frame or a packet in another form than a station writes.
 WIDE = " ~ wide"
-# Of an I frame, what stands before its packet.
-I_FRAME = re.compile(r"I cmd P=[01] S=([0-7]) R=([0-7]) \| ")
-S_FRAME = re.compile(r"(?:RR|RNR|REJ) (?:cmd|rsp) [PF]=[01] R=([0-7])")
-DATA = re.compile(r"DATA ch=(\d+) S=[0-7] R=[0-7] M=([01]) Q=([01])(?: D=1)? data=(\S+)")
+# The frames of a text, a line each: the direction; of an I frame N(S), N(R), and of a DATA packet its channel, M, Q and data, of another all of
+# it; and of RR, RNR and REJ N(R). Of other frames all is empty but the direction, and what sets the link up.
+FRAMES = re.compile(
+    r"^([<>]) (?:I cmd P=[01] S=([0-7]) R=([0-7]) \| (?:DATA ch=(\d+) S=[0-7] R=[0-7] M=([01]) Q=([01])(?: D=1)? data=(\S+)(?: ~ wide)?|(.*))"
+    r"|(?:RR|RNR|REJ) (?:cmd|rsp) [PF]=[01] R=([0-7])|(SABM |UA )?.*)$",
+    re.MULTILINE,
+)
+# The parts of a frame that `FRAMES` finds; and a message: see `Messages`.
+Frame = tuple[str, ...]
+Message = tuple[str, Optional[int], str, bytes, str]
 INTERRUPT = re.compile(r"INT ch=(\d+) data=(\S+)")
 # What an end sends of these ends what it had begun; where the other end asks for it, the answer does.
 ENDED = re.compile(r"((?:RESTART|CLEAR|RESET)(?:CONF)?|CALL|ACCEPT)\b(?: ch=(\d+))?")
@@ -17,30 +26,35 @@ MODULUS = 8
 # A message is shown in parts of about this many octets where it is longer.
 MOST_MESSAGE = 1 << 20
 A_ROW = 16
+# For how many lengths of data the form of their rows is kept.
+MOST_ROWS = 1024
 # Each octet as it is shown as text.
 SHOWN = bytes(octet if 0x20 <= octet < 0x7F else ord(".") for octet in range(256))
 
 
-class Message(NamedTuple):
-    """What came on a channel (None: of the whole line), `>` or `<`: the sort, its octets, Q where there is one."""
-
-    direction: str
-    channel: Optional[int]
-    sort: str
-    octets: bytes = b""
-    q: str = ""
-
-
-def octets_of(data):
+def octets_of(data: str) -> bytes:
     """The octets of a field `data`, of which `-` has none."""
     return b"" if data == "-" else bytes.fromhex(data)
 
 
-def dumped(octets):
-    """The rows of some octets: where each stands, its octets in hexadecimal digits and as text."""
-    text = octets.translate(SHOWN).decode()
-    for at in range(0, len(octets), A_ROW):
-        yield f"    {at:04x}  {octets[at : at + A_ROW].hex(' '):{3 * A_ROW}} {text[at : at + A_ROW]}"
+# Of so many octets the rows, with places for the digits and the text of each, and what takes these out of all digits and all text behind them.
+_ROWS: dict[int, tuple[str, Callable[[str], tuple[str, ...]]]] = {}
+
+
+def _rows(count: int) -> tuple[str, Callable[[str], tuple[str, ...]]]:
+    *full, last = range(0, count, A_ROW)
+    rows = "\n".join([*(f"    {at:04x}  %s  %s" for at in full), f"    {last:04x}  %-{3 * A_ROW}s %s"])
+    parts = [part for at in (*full, last) for part in (slice(3 * at, min(3 * (at + A_ROW), 3 * count) - 1), slice(3 * count - 1 + at, 3 * count - 1 + at + A_ROW))]
+    found = rows, operator.itemgetter(*parts)
+    if len(_ROWS) < MOST_ROWS:
+        _ROWS[count] = found
+    return found
+
+
+def dumped(octets: bytes) -> str:
+    """The rows of some octets, as text: where each stands, its octets in hexadecimal digits and as text."""
+    rows, parts = _ROWS.get(len(octets)) or _rows(len(octets))
+    return rows % parts(octets.hex(" ") + octets.translate(SHOWN).decode())
 
 
 class Way:
@@ -50,113 +64,138 @@ class Way:
     that the recorder missed a frame and that end didn't. Where the first number isn't known the first N(R) of the other end tells it.
     """
 
-    def __init__(self, due=None):
-        self._due = self._acknowledged = due
-        self._held = {}
+    def __init__(self, due: int | None = None) -> None:
+        self.due = self.acknowledged = due
+        self.held: dict[int, Frame] = {}
 
-    def take(self, number, packet):
+    def take(self, number: int, packet: Frame) -> list[Frame]:
         """Takes the I frame of a number; returns its packet, in a list, where it is due."""
-        if number == self._due:
-            self._held.pop(number, None)
-            self._due = (number + 1) % MODULUS
+        if number == self.due:
+            self.held.pop(number, None)
+            self.due = (number + 1) % MODULUS
             return [packet]
-        if self._due is None:
-            self._held[number] = packet
-            return self.end() if len(self._held) == MODULUS - 1 else []
-        if self._acknowledged is None or self._after(number) > self._after(self._due):
-            self._held[number] = packet
+        if self.due is None:
+            self.held[number] = packet
+            return self.end() if len(self.held) == MODULUS - 1 else []
+        if self.acknowledged is None or self._after(number) > self._after(self.due):
+            self.held[number] = packet
         return []
 
-    def acknowledge(self, number):
+    def acknowledge(self, number: int) -> list[Frame | None]:
         """Takes an N(R); returns the packets that it shows were taken, and None for each of these that is missing."""
-        taken = []
-        if self._due is None:
-            taken = self._begin(number)
-        elif self._acknowledged is not None and self._after(number) > self._after(self._due):
-            if (number - 1) % MODULUS not in self._held:
+        taken: list[Frame | None] = []
+        if self.due is None:
+            taken += self._begin(number)
+        elif self.acknowledged is not None and self._after(number) > self._after(self.due):
+            if (number - 1) % MODULUS not in self.held:
                 # What it acknowledges wasn't seen: it tells nothing, and may be wrong.
                 return taken
-            while self._due != number:
-                taken.append(self._held.get(self._due))
-                self._due = (self._due + 1) % MODULUS
-            self._held.clear()
-        self._acknowledged = number
+            while self.due != number:
+                taken.append(self.held.get(self.due))
+                self.due = (self.due + 1) % MODULUS
+            self.held.clear()
+        self.acknowledged = number
         return taken
 
-    def end(self):
+    def end(self) -> list[Frame]:
         """Returns what is held of a way that nothing was heard of, in the order in which it came."""
-        if self._due is not None or not self._held:
+        if self.due is not None or not self.held:
             return []
-        self._due = (list(self._held)[-1] + 1) % MODULUS
-        taken = list(self._held.values())
-        self._held.clear()
+        self.due = (list(self.held)[-1] + 1) % MODULUS
+        taken = list(self.held.values())
+        self.held.clear()
         return taken
 
-    def _begin(self, number):
+    def _begin(self, number: int) -> list[Frame]:
         """Begins where the other end stands; returns what is held and lies just before that, or from there on without a gap."""
         first = number
-        while (first - 1) % MODULUS in self._held:
+        while (first - 1) % MODULUS in self.held:
             first = (first - 1) % MODULUS
-        self._due, taken = first, []
-        while self._due in self._held:
-            taken.append(self._held.pop(self._due))
-            self._due = (self._due + 1) % MODULUS
+        self.due, taken = first, []
+        while self.due in self.held:
+            taken.append(self.held.pop(self.due))
+            self.due = (self.due + 1) % MODULUS
         return taken
 
-    def _after(self, number):
-        return (number - self._acknowledged) % MODULUS
+    def _after(self, number: int) -> int:
+        assert self.acknowledged is not None
+        return (number - self.acknowledged) % MODULUS
 
 
 class Messages:
-    """Joins the messages of one line. Give it the text of each frame, as `x25 decode` has it, and the first number, if it is known."""
+    """Joins the messages of one line; `due` is the first number, if it is known.
 
-    def __init__(self, due=None):
+    A message is `>` or `<`, its channel (None: of the whole line), its sort, its octets, and Q where there is one.
+    """
+
+    def __init__(self, due: int | None = None) -> None:
         self._ways = {direction: Way(due) for direction in OTHER}
-        self._begun = {}
+        self._begun: dict[tuple[str, int], bytearray] = {}
 
-    def take(self, direction, text):
-        """Returns what a frame completes, in order."""
-        if found := I_FRAME.match(text):
-            completed = self._acknowledged(direction, int(found[2]))
-            for packet in self._ways[direction].take(int(found[1]), text[found.end() :].removesuffix(WIDE)):
-                completed += self._packet(direction, packet)
-            return completed
-        if found := S_FRAME.fullmatch(text):
-            return self._acknowledged(direction, int(found[1]))
-        if text.startswith(("SABM ", "UA ")):
-            self._ways = {way: Way(0) for way in OTHER}
-            return [message for way in OTHER for message in self._broken(way, None, "link set up")]
-        return []
+    def take(self, texts: Iterable[str]) -> Iterator[tuple[int, list[Message]]]:
+        """Takes some frames, each a text of `x25 decode` with its direction; yields the place of each that completes messages, and these, in order."""
+        for place, frame in enumerate(FRAMES.findall("\n".join(texts))):
+            direction, ns, nr, channel, m, q, data, packet, acknowledged, set_up = frame
+            if ns:
+                completed = self._acknowledged(OTHER[direction], int(nr))
+                way, number = self._ways[direction], int(ns)
+                if number != way.due or way.held:
+                    for it in way.take(number, frame):
+                        completed += self._packet(it)
+                else:
+                    way.due = (number + 1) % MODULUS
+                    if m == "0" and not self._begun:
+                        completed.append((direction, int(channel), "message", octets_of(data), q))
+                    else:
+                        completed += self._packet(frame)
+            elif acknowledged:
+                completed = self._acknowledged(OTHER[direction], int(acknowledged))
+            elif set_up:
+                self._ways = {way: Way(0) for way in OTHER}
+                completed = [message for way in OTHER for message in self._broken(way, None, "link set up")]
+            else:
+                continue
+            if completed:
+                yield place, completed
 
-    def end(self):
+    def end(self) -> Iterator[Message]:
         """Yields what is known at the end alone."""
-        for direction, way in self._ways.items():
-            for packet in way.end():
-                yield from self._packet(direction, packet)
+        for way in self._ways.values():
+            for frame in way.end():
+                yield from self._packet(frame)
 
-    def _acknowledged(self, direction, number):
-        """What an N(R) of an end completes of the other's messages."""
-        way, completed = OTHER[direction], []
-        for packet in self._ways[way].acknowledge(number):
-            completed += [Message(way, None, "packet not recorded")] if packet is None else self._packet(way, packet)
+    def _acknowledged(self, direction: str, number: int) -> list[Message]:
+        """What an N(R) of the other end completes of an end's messages."""
+        way = self._ways[direction]
+        if way.due is not None and not way.held:
+            # Nothing waits for it. Where it is past what is due, what it acknowledges wasn't seen.
+            last = number if way.acknowledged is None else way.acknowledged
+            if (number - last) % MODULUS <= (way.due - last) % MODULUS:
+                way.acknowledged = number
+            return []
+        completed: list[Message] = []
+        for frame in way.acknowledge(number):
+            completed += [(direction, None, "packet not recorded", b"", "")] if frame is None else self._packet(frame)
         return completed
 
-    def _packet(self, direction, packet):
-        """What a packet that was taken completes."""
-        if found := DATA.fullmatch(packet):
-            key = direction, int(found[1])
+    def _packet(self, frame: Frame) -> list[Message]:
+        """What the packet of an I frame that was taken completes."""
+        direction, _, _, channel, m, q, data, packet, *_ = frame
+        if channel:
+            key = direction, int(channel)
             held = self._begun.setdefault(key, bytearray())
-            held += octets_of(found[4])
-            if found[2] == "1" and len(held) < MOST_MESSAGE:
+            held += octets_of(data)
+            if m == "1" and len(held) < MOST_MESSAGE:
                 return []
-            return [Message(*key, "message" if found[2] == "0" else "message that goes on", bytes(self._begun.pop(key)), found[3])]
+            return [(*key, "message" if m == "0" else "message that goes on", bytes(self._begun.pop(key)), q)]
+        packet = packet.removesuffix(WIDE)
         if found := INTERRUPT.fullmatch(packet):
-            return [Message(direction, int(found[1]), "interrupt", octets_of(found[2]))]
+            return [(direction, int(found[1]), "interrupt", octets_of(found[2]), "")]
         if found := ENDED.match(packet):
             return self._broken(direction, int(found[2]) if found[2] else None, found[1])
         return []
 
-    def _broken(self, direction, channel, why):
+    def _broken(self, direction: str, channel: int | None, why: str) -> list[Message]:
         """Drops what an end had begun on a channel, or on all, and tells it."""
         keys = [key for key in self._begun if key[0] == direction and channel in (None, key[1])]
-        return [Message(*key, f"message broken off by {why}", bytes(self._begun.pop(key))) for key in keys]
+        return [(*key, f"message broken off by {why}", bytes(self._begun.pop(key)), "") for key in keys]

@@ -31,11 +31,14 @@ input. Traffic that is no X.25 is passed over, and told where nothing was found.
 records before it are written.
 """
 
+from __future__ import annotations
+
 import argparse
 import itertools
 import re
 import sys
 from collections import Counter
+from typing import Callable, Iterable, Iterator
 
 from x25tools import captures, lan, x25lines, xot
 from x25tools.x25lines import BadInput
@@ -48,6 +51,8 @@ OTHER = {">": "<", "<": ">"}
 # A line between those of a connection says that frames of it aren't there, any number of either end's; and these are the octets of a frame of
 # which nothing is known.
 GAP, UNREAD = "\n", b""
+# The connections, the times and the lines of some frames.
+Found = tuple[list["Connection"], list[int], list[str]]
 # A list of connections isn't kept without bound.
 MOST_CONNECTIONS = 65_536
 
@@ -55,19 +60,19 @@ MOST_CONNECTIONS = 65_536
 class Connection:
     """What two ends sent each other: its number from 1, its name, how many frames there were each way, and whether they are made up."""
 
-    def __init__(self, number, name, is_made_up):
+    def __init__(self, number: int, name: str | None, is_made_up: bool) -> None:
         self.number = number
         self.name = name
         self.is_made_up = is_made_up
         self.sent = {direction: 0 for direction in OTHER}
 
-    def __eq__(self, other):
-        return self.number == other.number
+    def __eq__(self, other: object) -> bool:
+        return isinstance(other, Connection) and self.number == other.number
 
-    def __hash__(self):
+    def __hash__(self) -> int:
         return self.number
 
-    def row(self):
+    def row(self) -> str:
         """The line of a list of connections."""
         return f"{self.number}\t{self.name}\t> {self.sent['>']}\t< {self.sent['<']}"
 
@@ -80,18 +85,18 @@ class Doubts:
 
     MOST = 1_000
 
-    def __init__(self):
-        self._frames = Counter()
+    def __init__(self) -> None:
+        self._frames: Counter[object] = Counter()
 
-    def see(self, is_of_dte, octets, has_fcs):
+    def see(self, is_of_dte: bool, octets: bytes, has_fcs: bool) -> None:
         """Takes a frame that is read as the DTE's or not, with or without its frame check sequence."""
-        if self._frames.total() >= 2 * self.MOST:
+        if sum(self._frames.values()) >= 2 * self.MOST:
             return
         by_address = lan.is_of_dte(octets)
         self._frames["silent" if by_address is None else "own" if by_address == is_of_dte else "other"] += 1
         self._frames["sealed" if x25lines.is_sealed(octets) else "unsealed", has_fcs] += 1
 
-    def said(self):
+    def said(self) -> Iterator[str]:
         """Yields what is said of them at the end."""
         if self._frames["other"] and not self._frames["own"]:
             yield "no frame has its sender's address: --swap exchanges the directions"
@@ -107,25 +112,28 @@ class Converter:
     What reads a kind of record adds each frame that it finds in it, by `_add`.
     """
 
-    def __init__(self, options):
+    def __init__(self, options: argparse.Namespace) -> None:
         self._options = options
-        self._found, self._number, self._now = ([], [], []), 0, 0
-        self._readers = {kind: self._lan for kind in lan.HEADERS}
+        self._found: Found = [], [], []
+        self._number = self._now = 0
+        self._readers: dict[int, Callable[..., None]] = {kind: self._lan for kind in lan.HEADERS}
         self._readers |= {kind: self._ip for kind in xot.IP_AT}
         self._readers |= {LAPB_WITH_DIRECTION: self._with_direction, SITA: self._sita}
         if options.lapb is not None:
             self._readers[options.lapb] = self._bare
-        self._connections = {}
-        self.notes, self.passed, self._doubts = Counter(), Counter(), Doubts()
+        self._connections: dict[str, Connection] = {}
+        self.notes: Counter[str] = Counter()
+        self.passed: Counter[str] = Counter()
+        self._doubts = Doubts()
         self._xot = xot.Xot(options.port, self.notes, self.passed)
         self._lapbether = lan.Lapbether(options.dte, self.notes)
         self._llc = lan.Llc(options.dte, self.notes)
 
-    def connections(self):
+    def connections(self) -> list[Connection]:
         """The connections up to here, in the order of their numbers."""
         return list(self._connections.values())
 
-    def blocks(self, blocks):
+    def blocks(self, blocks: Iterable[list[captures.Record]]) -> Iterator[Found]:
         """Yields, for each block of records, the connections, the times and the lines of its frames; a record without a time stands at 0. Bad input
         is told behind the frames before it."""
         for records in blocks:
@@ -146,15 +154,15 @@ class Converter:
         self._add_streams(self._xot.end())
         yield self._found
 
-    def _other(self, link_type, *_):
+    def _other(self, link_type: int, *_: object) -> None:
         """A record of another link type."""
         self.notes[f"record of the link type {link_type}, of which nothing is read (--help lists those that are)"] += 1
 
-    def _ip(self, link_type, octets, *_):
+    def _ip(self, link_type: int, octets: bytes, *_: object) -> None:
         """Packets of IP, with or without a header of their own: XOT."""
         self._add_streams(self._xot.take(octets[xot.IP_AT[link_type] :]))
 
-    def _lan(self, link_type, octets, is_cut, *_):
+    def _lan(self, link_type: int, octets: bytes, is_cut: bool, *_: object) -> None:
         """Ethernet and cooked captures: frames of lapbether, packets of LLC and of XOT."""
         least, carried = lan.HEADERS[link_type]
         if len(octets) < least:
@@ -172,11 +180,11 @@ class Converter:
         else:
             self.passed["frame of LLC with another access point" if kind == lan.COOKED_LLC else f"frame of the type {kind:04x}"] += 1
 
-    def _with_direction(self, _, octets, is_cut, is_outbound, has_fcs, *__):
+    def _with_direction(self, _: int, octets: bytes, is_cut: bool, is_outbound: bool | None, has_fcs: bool, *__: object) -> None:
         """LAPB_WITH_DIR: an octet that is 0 where the frame was received, then the frame."""
         self._add_frame(octets[0] != 0, octets[1:], is_cut, has_fcs)
 
-    def _sita(self, _, octets, is_cut, is_sent, has_fcs, flags):
+    def _sita(self, _: int, octets: bytes, is_cut: bool, is_sent: bool | None, has_fcs: bool, flags: int) -> None:
         """SITA: five octets, the last of them the protocol, then the frame."""
         if len(octets) < SITA_HEADER:
             raise BadInput(f"record {self._number} is shorter than its header")
@@ -191,7 +199,7 @@ class Converter:
         else:
             self.notes[f"SITA record of protocol {protocol}"] += 1
 
-    def _bare(self, _, octets, is_cut, is_sent, has_fcs, *__):
+    def _bare(self, _: int, octets: bytes, is_cut: bool, is_sent: bool | None, has_fcs: bool, *__: object) -> None:
         """A frame with no header of the capture's own before it."""
         if is_sent is None:
             if self._options.sent_by is None:
@@ -199,7 +207,7 @@ class Converter:
             is_sent = self._options.sent_by == "dte"
         self._add_frame(is_sent, octets, is_cut, has_fcs)
 
-    def _add_frame(self, is_of_dte, octets, is_cut, has_fcs, has_error=False):
+    def _add_frame(self, is_of_dte: bool, octets: bytes, is_cut: bool, has_fcs: bool, has_error: bool = False) -> None:
         """Adds a frame of LAPB, with a frame check sequence where the capture lacks it."""
         has_fcs = has_fcs or self._options.fcs
         if is_cut:
@@ -214,26 +222,26 @@ class Converter:
             octets = UNREAD
         self._add("LAPB", "LAPB", is_of_dte, octets)
 
-    def _add_streams(self, streams):
+    def _add_streams(self, streams: Iterable[tuple[xot.Stream, list[bytes | None]]]) -> None:
         """Adds the packets that came by streams of XOT."""
         for stream, packets in streams:
             for packet in packets:
                 self._add_packet(stream.name, stream.is_of_dte, packet)
 
-    def _add_gaps(self, dropped):
+    def _add_gaps(self, dropped: int) -> None:
         """Frames aren't there that the program which captured has dropped, of whichever connections."""
         self.notes["frame that the program which captured dropped"] += dropped
         for key, connection in self._connections.items():
-            self._add(key, connection.name, True, None)
+            self._add(key, key, True, None)
 
-    def _add_packet(self, name, is_of_dte, packet):
+    def _add_packet(self, name: str, is_of_dte: bool, packet: bytes | None) -> None:
         """Adds the packet of a connection without frames of LAPB; None is a gap."""
         if packet is not None and len(packet) > x25lines.MOST_INFORMATION:
             self.notes["packet that is longer than a frame may be"] += 1
             packet = None
         self._add(name, name, is_of_dte, packet, True)
 
-    def _add(self, key, name, is_of_dte, octets, is_made_up=False):
+    def _add(self, key: str, name: str, is_of_dte: bool, octets: bytes | None, is_made_up: bool = False) -> None:
         """Adds a frame of the connection with a key, or a packet, which is put into the next I frame of its direction; None is a gap, where there
         is such a connection."""
         direction = "<>"[is_of_dte != self._options.swap]
@@ -250,13 +258,15 @@ class Converter:
             sent[direction] += 1
             self._add_line(connection, f"{direction} {octets.hex()}\n")
 
-    def _add_line(self, connection, line):
+    def _add_line(self, connection: Connection | None, line: str) -> None:
         """Adds a line of a connection."""
         if connection is not None:
-            for column, it in zip(self._found, (connection, self._now, line)):
-                column.append(it)
+            connections, times, lines = self._found
+            connections.append(connection)
+            times.append(self._now)
+            lines.append(line)
 
-    def _begun(self, key, name, is_made_up):
+    def _begun(self, key: str, name: str, is_made_up: bool) -> Connection | None:
         """A new connection, or None where there are too many."""
         if len(self._connections) == MOST_CONNECTIONS:
             self.notes[f"frame of a connection behind the first {MOST_CONNECTIONS:,}"] += 1
@@ -264,7 +274,7 @@ class Converter:
         self._connections[key] = Connection(len(self._connections) + 1, name, is_made_up)
         return self._connections[key]
 
-    def tell(self):
+    def tell(self) -> int:
         """Says on standard error what was left out and why; answers the status."""
         for note, count in self.notes.items():
             x25lines.warn(f"left out: {note} ({count})")
@@ -277,21 +287,21 @@ class Converter:
         return 1 if self.notes or not self._connections else 0
 
 
-def station(text):
+def station(text: str) -> bytes:
     """A word that is the address of a station."""
     if not re.fullmatch("[0-9a-fA-F]{2}(:[0-9a-fA-F]{2}){5}", text):
         raise argparse.ArgumentTypeError(f"{text!r} is no address like 02:00:00:00:00:01")
     return bytes.fromhex(text.replace(":", ""))
 
 
-def connection_number(text):
+def connection_number(text: str) -> int:
     """A word that is the number of a connection."""
     if not re.fullmatch("[1-9][0-9]{0,4}", text):
         raise argparse.ArgumentTypeError(f"{text!r} is no number of a connection, from 1")
     return int(text)
 
 
-def add_capture_words(parser):
+def add_capture_words(parser: argparse.ArgumentParser) -> None:
     """Adds the words that say how a capture is read."""
     parser.add_argument("--swap", action="store_true", help="exchange the directions")
     parser.add_argument("--fcs", action="store_true", help="the frames have their frame check sequence: add none")
@@ -302,7 +312,7 @@ def add_capture_words(parser):
     parser.add_argument("--connection", type=connection_number, metavar="N", help="the connection to write, by its number in --list")
 
 
-def words():
+def words() -> argparse.Namespace:
     """The words after the script's name."""
     parser = argparse.ArgumentParser(description=__doc__, formatter_class=argparse.RawDescriptionHelpFormatter)
     x25lines.add_input(parser, "the capture")
@@ -312,15 +322,19 @@ def words():
     return parser.parse_args()
 
 
-def without_gaps(connections, times, lines):
+def without_gaps(connections: list[Connection], times: list[int], lines: list[str]) -> Found:
     """The connections, the times and the lines of a block, without those that say that frames aren't there."""
     if GAP not in lines:
         return connections, times, lines
     are_frames = [line != GAP for line in lines]
-    return [list(itertools.compress(column, are_frames)) for column in (connections, times, lines)]
+    return (
+        list(itertools.compress(connections, are_frames)),
+        list(itertools.compress(times, are_frames)),
+        list(itertools.compress(lines, are_frames)),
+    )
 
 
-def write_list(converter, blocks):
+def write_list(converter: Converter, blocks: Iterable[list[captures.Record]]) -> int:
     """Writes the connections of a capture."""
     for _ in converter.blocks(blocks):
         pass
@@ -329,7 +343,7 @@ def write_list(converter, blocks):
     return converter.tell()
 
 
-def write_lines(converter, blocks, options):
+def write_lines(converter: Converter, blocks: Iterable[list[captures.Record]], options: argparse.Namespace) -> int:
     """Writes the lines of a connection, those of each block at once."""
     wanted = options.connection or 1
     for block in converter.blocks(blocks):
@@ -338,17 +352,17 @@ def write_lines(converter, blocks, options):
         if options.time:
             lines = [f"{x25lines.seconds(time)}\t{line}" for time, line in zip(times, lines)]
         sys.stdout.write("".join(itertools.compress(lines, are_wanted)))
-    connections = len(converter.connections())
-    if 0 < connections < wanted:
-        raise BadInput(f"there are {connections} connections, and no number {wanted}")
+    count = len(converter.connections())
+    if 0 < count < wanted:
+        raise BadInput(f"there are {count} connections, and no number {wanted}")
     status = converter.tell()
-    if connections > 1 and options.connection is None:
-        x25lines.warn(f"left out: {connections - 1} more connections (--list names them, --connection N takes one)")
+    if count > 1 and options.connection is None:
+        x25lines.warn(f"left out: {count - 1} more connections (--list names them, --connection N takes one)")
         return 1
     return status
 
 
-def main():
+def main() -> int:
     options = words()
     converter = Converter(options)
     with x25lines.opened(options.file) as file:

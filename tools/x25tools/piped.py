@@ -5,15 +5,17 @@ asks for nothing), and then by a mark, `. T1 WORK`; the first mark comes before 
 before the next event, so that neither pipe can fill.
 """
 
+from __future__ import annotations
+
 import subprocess
-from typing import List, NamedTuple, Optional
+from typing import List, NamedTuple, Optional, Sequence
 
 from x25tools import x25lines
-from x25tools.decoding import MISSING_STATION, let_end, say_if_unproved
+from x25tools.decoding import MISSING_STATION, Child, let_end, pipes, say_if_unproved
 from x25tools.x25lines import BadInput, FrameLine
 
 T1 = {b"off", b"on", b"start"}
-WORK = {b"idle": True, b"busy": False}
+WORK = {b"idle": True, b"due": True, b"busy": False}
 
 
 class Answer(NamedTuple):
@@ -29,23 +31,23 @@ class Answer(NamedTuple):
 class Station:
     """The station of an end. `first` is what it says before anything is asked."""
 
-    def __init__(self, program, end, words=()):
+    def __init__(self, program: str | None, end: str, words: Sequence[str] = ()) -> None:
         if program is None:
             raise BadInput(MISSING_STATION)
         say_if_unproved(program)
         self._name = f"{program} station {end}"
         self._command = [program, "station", end, *words]
-        self._child = self.first = None
+        self._child: Child | None = None
 
-    def __enter__(self):
+    def __enter__(self) -> Station:
         self.begin()
         return self
 
-    def __exit__(self, *_):
+    def __exit__(self, *_: object) -> None:
         if self._child is not None:
             let_end(self._child)
 
-    def begin(self):
+    def begin(self) -> None:
         """Begins the station, in place of one that ran."""
         self.__exit__()
         try:
@@ -53,21 +55,24 @@ class Station:
             self._child = subprocess.Popen(self._command, start_new_session=True, stdin=subprocess.PIPE, stdout=subprocess.PIPE)
         except OSError as error:
             raise BadInput(f"{self._command[0]}: {error.strerror}") from error
+        self._given, self._made = pipes(self._child)
         self.first = self._answer(b"")
 
-    def ask(self, event):
+    def ask(self, event: str) -> Answer:
         """The answer to an event, a line without its line feed."""
         octets = event.encode("latin-1")
         try:
-            self._child.stdin.write(octets + b"\n")
-            self._child.stdin.flush()
+            self._given.write(octets + b"\n")
+            self._given.flush()
         except BrokenPipeError as error:
             raise BadInput(f"{self._name} has ended") from error
         return self._answer(octets)
 
-    def _answer(self, event):
-        notices, frames, refusal = [], [], None
-        for line in self._child.stdout:
+    def _answer(self, event: bytes) -> Answer:
+        notices: list[str] = []
+        frames: list[FrameLine] = []
+        refusal = None
+        for line in self._made:
             line = line.rstrip(b"\n")
             if line.startswith(b". "):
                 return Answer(notices, frames, refusal, *self._mark(line))
@@ -81,7 +86,7 @@ class Station:
                 raise BadInput(f"{self._name} wrote {x25lines.shown(line)}, which is no part of an answer")
         raise BadInput(f"{self._name} ended without a mark" + (f" behind {x25lines.shown(event)}" if event else ": is it a program with that word?"))
 
-    def _mark(self, line):
+    def _mark(self, line: bytes) -> tuple[str, bool]:
         words = line.split(b" ")
         if len(words) != 3 or words[1] not in T1 or words[2] not in WORK:
             raise BadInput(f"{self._name} wrote {x25lines.shown(line)}, which is no mark")

@@ -5,9 +5,11 @@ script; the program answers it by `? 60` and does nothing, and that parts what t
 events the program itself says on standard error.
 """
 
+from __future__ import annotations
+
 import re
 import subprocess
-from typing import NamedTuple
+from typing import Iterable, NamedTuple, Sequence
 
 from x25tools import decoding, x25lines
 from x25tools.drawing import DAMAGED, LOST, WAITING
@@ -26,11 +28,11 @@ MOST_EVENTS = 200_000
 class Run(NamedTuple):
     """The lines of a run, and by the place of a line what became of its frame."""
 
-    lines: list
-    fates: dict
+    lines: list[bytes]
+    fates: dict[int, str]
 
 
-def answer(program, words, given):
+def answer(program: str, words: Sequence[str], given: bytes) -> tuple[str, str]:
     """What a program writes for some words and some input, and what it says on standard error; bad input where it can't be run, or refuses."""
     decoding.say_if_unproved(program)
     try:
@@ -45,7 +47,7 @@ def answer(program, words, given):
     return done.stdout.decode("ascii", "replace"), done.stderr.decode(errors="replace")
 
 
-def events_of(file):
+def events_of(file: x25lines.Readable) -> list[tuple[int, str]]:
     """The events of a script, each with the number of its line; `drain N` is N of `drain 1`, so that each delivery is seen by itself."""
     events = []
     for number, line in x25lines.lines_of(file):
@@ -59,21 +61,21 @@ def events_of(file):
     return events
 
 
-def run(program, file, words):
+def run(program: str, file: x25lines.Readable, words: Sequence[str]) -> Run:
     """Runs a script."""
     line = Line()
     follow(line, *parts(program, file, words))
     return line.run()
 
 
-def parts(program, file, words):
+def parts(program: str, file: x25lines.Readable, words: Sequence[str]) -> tuple[list[str], Iterable[tuple[str, list[str]]]]:
     """The lines that the set-up of a script made, and its events, each with the lines that it made."""
     events = events_of(file)
     given = f"{MARK}\n" + "".join(f"{event}\n{MARK}\n" for _, event in events)
     text, said = answer(program, ["sim", "--tap", *words], given.encode())
     if found := NO_EVENT.search(said):
         raise BadInput(f"line {events[int(found[1]) // 2 - 1][0]} of the script: {found[2]}")
-    made = [[]]
+    made: list[list[str]] = [[]]
     for line in text.splitlines():
         if line == ANSWERED:
             made.append([])
@@ -84,7 +86,7 @@ def parts(program, file, words):
     return made[0], zip((event for _, event in events), made[1:])
 
 
-def follow(line, begun, steps):
+def follow(line: Line, begun: Iterable[str], steps: Iterable[tuple[str, list[str]]]) -> None:
     """Follows a line over a run whose set-up made some lines, and whose events each made some."""
     # The set-up has delivered SABM and the answer to it, the first frames.
     waiting = list(DIRECTIONS)
@@ -102,7 +104,7 @@ def follow(line, begun, steps):
             line.deliver_all()
 
 
-def is_refused(made):
+def is_refused(made: list[str]) -> bool:
     """True where an event was refused, by the lines that it made."""
     return len(made) == 1 and made[0].startswith("! ")
 
@@ -110,29 +112,29 @@ def is_refused(made):
 class Line:
     """The line between the stations while a run is followed: for each direction the places of the frames that are on it."""
 
-    def __init__(self):
-        self.lines = []
-        self._waiting = {direction: [] for direction in DIRECTIONS}
-        self._fates = {}
+    def __init__(self) -> None:
+        self.lines: list[str] = []
+        self._waiting: dict[str, list[int]] = {direction: [] for direction in DIRECTIONS}
+        self._fates: dict[int, str] = {}
 
-    def put(self, made):
+    def put(self, made: Iterable[str]) -> None:
         """Takes lines of the run, and puts their frames on the line."""
         for text in made:
             if text[:1] in self._waiting:
                 self._waiting[text[0]].append(len(self.lines))
             self.lines.append(text)
 
-    def deliver(self, direction):
+    def deliver(self, direction: str) -> None:
         """Takes the first frame off the line, where there is one."""
         if self._waiting[direction]:
             self._waiting[direction].pop(0)
 
-    def deliver_all(self):
+    def deliver_all(self) -> None:
         """Takes all frames off the line."""
         for waiting in self._waiting.values():
             waiting.clear()
 
-    def step(self, event, made):
+    def step(self, event: str, made: list[str]) -> None:
         """What an event does to the frames on the line, where it was accepted."""
         kind, *fields = event.split(" ")
         if is_refused(made):
@@ -149,7 +151,7 @@ class Line:
             if kind == "lose":
                 places.pop(place)
 
-    def run(self):
+    def run(self) -> Run:
         """The run up to here; what is on the line still waits there."""
         left = [place for places in self._waiting.values() for place in places]
         fates = {place: WAITING for place in left if place not in self._fates} | self._fates

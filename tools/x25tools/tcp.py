@@ -1,17 +1,22 @@
 """Connections over TCP in a loop around `select`: the ends of one that are names and ports, those that listen, what goes and comes."""
 
+from __future__ import annotations
+
 import contextlib
 import errno
 import os
 import socket
+from typing import Any, Container
 
 from x25tools import x25lines
 from x25tools.x25lines import BadInput
 
 MOST_READ = 65_536
+# An address of TCP: a host and a port, and of IPv6 two numbers more.
+Address = Any
 
 
-def addresses(host, port, kind=socket.SOCK_STREAM):
+def addresses(host: str, port: int, kind: socket.SocketKind = socket.SOCK_STREAM) -> list[tuple[socket.AddressFamily, Address]]:
     """The addresses of a host's port, each with its family."""
     try:
         return [(row[0], row[4]) for row in socket.getaddrinfo(host, port, type=kind)]
@@ -19,12 +24,12 @@ def addresses(host, port, kind=socket.SOCK_STREAM):
         raise BadInput(f"{host}: {error.strerror}") from error
 
 
-def written(address):
+def written(address: Address) -> str:
     """An address and its port as they are written."""
     return f"[{address[0]}]:{address[1]}" if ":" in address[0] else f"{address[0]}:{address[1]}"
 
 
-def server(host, port):
+def server(host: str, port: int) -> socket.socket:
     """Listens at a port of a host, for connections over TCP, and says so."""
     family, address = addresses(host, port)[0]
     try:
@@ -36,7 +41,7 @@ def server(host, port):
     return opened
 
 
-def accepted(opened):
+def accepted(opened: socket.socket) -> socket.socket | None:
     """The connection that comes next to a server, or None where it has gone already."""
     try:
         return opened.accept()[0]
@@ -50,7 +55,7 @@ class Connection:
     Where nothing comes for `t3` seconds, the system asks whether the other end is still there; if not, the connection ends.
     """
 
-    def __init__(self, opened, t3, address=None):
+    def __init__(self, opened: socket.socket, t3: float, address: Address | None = None) -> None:
         self._socket, self._left = opened, bytearray()
         self.is_open, self.why = address is None, ""
         opened.setblocking(False)
@@ -59,7 +64,7 @@ class Connection:
             self._keep_alive(max(1, round(t3)))
         self._error = opened.connect_ex(address) if address else 0
 
-    def _keep_alive(self, seconds):
+    def _keep_alive(self, seconds: int) -> None:
         self._socket.setsockopt(socket.SOL_SOCKET, socket.SO_KEEPALIVE, 1)
         values = {"TCP_KEEPIDLE": seconds, "TCP_KEEPINTVL": max(1, seconds // 3), "TCP_KEEPCNT": 3, "TCP_USER_TIMEOUT": 2000 * seconds}
         for name, value in values.items():
@@ -67,28 +72,28 @@ class Connection:
                 self._socket.setsockopt(socket.IPPROTO_TCP, getattr(socket, name), value)
 
     @property
-    def number(self):
+    def number(self) -> int:
         """The number of its file."""
         return self._socket.fileno()
 
     @property
-    def waits(self):
+    def waits(self) -> int:
         """How many octets wait to be written."""
         return len(self._left)
 
-    def wants_room(self):
+    def wants_room(self) -> bool:
         """Whether it has something to do once there is room."""
         return bool(self._left) or not self.is_open
 
-    def left(self):
+    def left(self) -> bytes:
         """The octets that wait to be written."""
         return bytes(self._left)
 
-    def send(self, octets):
+    def send(self, octets: bytes) -> None:
         """Has octets written, by and by."""
         self._left += octets
 
-    def turn(self, ready):
+    def turn(self, ready: Container[int]) -> bytes | None:
         """Where its file is ready: writes, and answers the octets that came; None where the connection has ended, or wasn't made."""
         if self.number not in ready:
             return b""
@@ -106,7 +111,7 @@ class Connection:
             return None
         return octets or None
 
-    def _be_made(self):
+    def _be_made(self) -> None:
         error = self._socket.getsockopt(socket.SOL_SOCKET, socket.SO_ERROR)
         if self._error not in (0, errno.EINPROGRESS):
             error = self._error
@@ -114,19 +119,19 @@ class Connection:
             raise OSError(error, os.strerror(error))
         self.is_open = True
 
-    def other(self):
+    def other(self) -> str:
         """The address of the other end, as it is written."""
         try:
             return written(self._socket.getpeername())
         except OSError:
             return "one who has gone"
 
-    def part(self, text):
+    def part(self, text: str) -> None:
         """Tells the other end why it is closed, as a comment of a trace, where there is room."""
         with contextlib.suppress(OSError):
             self._socket.send(f"# {text}\n".encode())
             self._socket.shutdown(socket.SHUT_WR)
 
-    def close(self):
+    def close(self) -> None:
         """Closes it; what waits is lost."""
         self._socket.close()

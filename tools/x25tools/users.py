@@ -1,5 +1,7 @@
 """The user of a bridge: commands that come and are held, notices that are told, signals; and files whose readers may be slow."""
 
+from __future__ import annotations
+
 import contextlib
 import os
 import re
@@ -8,9 +10,11 @@ import signal
 import socket
 import time
 from collections import Counter, deque
+from typing import Callable, Container, Iterable, Protocol
 
 from x25tools import x25lines
-from x25tools.wires import MOST_READ, ROOM
+from x25tools.tcp import MOST_READ
+from x25tools.wires import ROOM
 
 # How many notices a `wait` may find that came before it, and how much of each.
 MOST_NOTICES, MOST_OF_A_NOTICE = 10_000, 200
@@ -24,27 +28,35 @@ LATER = re.compile(rb"d(?:te|ce) (?:(?:clear|reset) (\d+)$|restart$|disconnect$)
 MOST_ASIDE = 1 << 22
 
 
+class Written(Protocol):
+    """A file that is written by its number."""
+
+    def fileno(self) -> int: ...
+
+
 class Outlet:
     """Lines that a file is given, as there is room. Those for which a slow reader leaves none are left out, and told by their kinds."""
 
-    def __init__(self, file, kind_of=lambda line: "line"):
+    def __init__(self, file: Written | None, kind_of: Callable[[str], str] = lambda line: "line") -> None:
         self._file, self._kind_of = file, kind_of
-        self._left, self._left_out = bytearray(), Counter()
+        self._left = bytearray()
+        self._left_out: Counter[str] = Counter()
 
-    def __len__(self):
+    def __len__(self) -> int:
         """How many octets wait."""
         return len(self._left)
 
     @property
-    def number(self):
+    def number(self) -> int:
         """The number of the file."""
+        assert self._file
         return self._file.fileno()
 
-    def is_slow(self):
+    def is_slow(self) -> bool:
         """Whether the reader is far behind."""
         return len(self._left) >= SLOW
 
-    def put(self, line):
+    def put(self, line: str) -> None:
         """Has a line written, by and by, or left out."""
         if len(self._left) > FULL or (self._left_out and self.is_slow()):
             self._left_out[self._kind_of(line)] += 1
@@ -55,23 +67,23 @@ class Outlet:
             self._left_out.clear()
         self._left += self.spelled(line).encode()
 
-    def spelled(self, line):
+    def spelled(self, line: str) -> str:
         """What is written for a line."""
         return f"{line}\n"
 
-    def flush(self):
+    def flush(self) -> None:
         """Writes what there is room for, without waiting."""
         while self._left and select.select([], [self.number], [], 0)[1]:
             with contextlib.suppress(BlockingIOError):
                 del self._left[: os.write(self.number, self._left[:ROOM])]
 
-    def end(self):
+    def end(self) -> None:
         """Writes what is left, as long as the reader goes on."""
         while self._left and select.select([], [self.number], [], PATIENCE)[1]:
             self.flush()
 
 
-def kind(notice):
+def kind(notice: str) -> str:
     """What a notice is about: the word behind the end; of others the sign that they begin with."""
     first, _, rest = notice.partition(" ")
     return rest.split(" ")[0] if first in ("dte", "dce") else first
@@ -83,37 +95,38 @@ class Signals:
     `at_first` is called when the first one comes, before a second one can.
     """
 
-    def __init__(self):
-        self.number, self.at_first = None, None
+    def __init__(self) -> None:
+        self.number: int | None = None
+        self.at_first: Callable[[], None] | None = None
         self._reader, self._writer = socket.socketpair()
 
-    def __enter__(self):
+    def __enter__(self) -> Signals:
         self._writer.setblocking(False)
         signal.set_wakeup_fd(self._writer.fileno())
         for number in (signal.SIGINT, signal.SIGTERM):
             signal.signal(number, self._come)
         return self
 
-    def __exit__(self, *_):
+    def __exit__(self, *_: object) -> None:
         signal.set_wakeup_fd(-1)
 
-    def _come(self, *_):
+    def _come(self, *_: object) -> None:
         if self.at_first:
             self.at_first()
         for each in (signal.SIGINT, signal.SIGTERM):
             signal.signal(each, signal.SIG_DFL)
 
-    def leave(self):
+    def leave(self) -> None:
         """The user wants to end."""
         self._writer.send(b"\0")
 
-    def readers(self):
+    def readers(self) -> list[int]:
         """The file that has something to read once one came, until it is read."""
-        return [self._reader] if self.number is None else []
+        return [self._reader.fileno()] if self.number is None else []
 
-    def read(self, ready):
+    def read(self, ready: Container[int]) -> None:
         """Reads the first that came: what `_come` itself set could be missed by a wait that begins just then."""
-        if self._reader in ready:
+        if self._reader.fileno() in ready:
             self.number = self._reader.recv(1)[0]
 
 
@@ -124,40 +137,44 @@ class Commands:
     `clear`, `reset`, `restart` and `disconnect` let the messages go first, as long as one of the circuit is taken within `patience` seconds.
     """
 
-    def __init__(self, patience):
+    def __init__(self, patience: float) -> None:
         self._patience = patience
         # Those that wait in order, and how many octets these are.
-        self._lines, self.octets = deque(), 0
+        self._lines: deque[bytes] = deque()
+        self.octets = 0
         # By channels: the messages that stand aside, and when one was taken last; the channels whose circuit has no room. The octets of these.
-        self._aside, self._last, self._full, self._beside = {}, {}, set(), 0
+        self._aside: dict[bytes, deque[bytes]] = {}
+        self._last: dict[bytes, float] = {}
+        self._full: set[bytes] = set()
+        self._beside = 0
         # The channel whose message `next` answered.
-        self._at = None
+        self._at: bytes | None = None
 
-    def __len__(self):
+    def __len__(self) -> int:
         """How many lines wait in order."""
         return len(self._lines)
 
-    def add(self, lines):
+    def add(self, lines: Iterable[bytes]) -> None:
         """Lines came."""
         for line in lines:
             self._lines.append(line)
             self.octets += len(line) + 1
 
-    def are_done(self):
+    def are_done(self) -> bool:
         """Whether none waits."""
         return not self._lines and not self._aside
 
-    def first(self):
+    def first(self) -> bytes:
         """The first of those that wait in order, or nothing."""
         return self._lines[0] if self._lines else b""
 
-    def drop_first(self):
+    def drop_first(self) -> bytes:
         """The first of those that wait in order is done with; answers it."""
         line = self._lines.popleft()
         self.octets -= len(line) + 1
         return line
 
-    def next(self):
+    def next(self) -> bytes | None:
         """The command whose time has come, or None; a `wait` holds those behind it."""
         self._at = next((channel for channel in self._aside if channel not in self._full), None)
         if self._at is not None:
@@ -173,12 +190,12 @@ class Commands:
                 return self._lines[0] if due is None or time.monotonic() >= due else None
         return None
 
-    def due(self):
+    def due(self) -> float | None:
         """When the first line goes before messages that stand aside; None where it lets none go first."""
         found = LATER.match(self.first())
         return max((last + self._patience for at, last in self._last.items() if found[1] in (at, None)), default=None) if found else None
 
-    def take(self):
+    def take(self) -> None:
         """The line that `next` answered was asked."""
         if self._at is None:
             self.drop_first()
@@ -188,21 +205,23 @@ class Commands:
         if not self._aside[self._at]:
             del self._aside[self._at], self._last[self._at]
 
-    def have_no_room(self):
+    def have_no_room(self) -> None:
         """The message that `next` answered was refused, as its circuit has no room before `make_room`."""
         channel = self._at
         if channel is None:
-            channel = MESSAGE.match(self._lines[0])[1]
+            found = MESSAGE.match(self._lines[0])
+            assert found
+            channel = found[1]
             self._last[channel] = time.monotonic()
             self._put_aside(channel)
         self._full.add(channel)
 
-    def _put_aside(self, channel):
+    def _put_aside(self, channel: bytes) -> None:
         line = self.drop_first()
         self._beside += len(line)
         self._aside.setdefault(channel, deque()).append(line)
 
-    def make_room(self):
+    def make_room(self) -> None:
         """Something happened by which there may be room in any circuit."""
         self._full.clear()
 
@@ -210,21 +229,23 @@ class Commands:
 class User:
     """The user of an end. `commands` is the number of the file that they come by, or None; `notices` is an outlet; `patience` is theirs."""
 
-    def __init__(self, commands, notices, patience, is_at_terminal=False):
+    def __init__(self, commands: int | None, notices: Outlet, patience: float, is_at_terminal: bool = False) -> None:
         self._file, self.notices, self._is_at_terminal = commands, notices, is_at_terminal
         self.commands = Commands(patience)
-        self._open, self._heard = b"", deque(maxlen=MOST_NOTICES)
+        self._open = b""
+        self._heard: deque[str] = deque(maxlen=MOST_NOTICES)
         self._is_ended = commands is None
         # Since when the `wait` waits that is first, and whether that was told.
-        self._since, self._is_told = None, False
+        self._since: float | None = None
+        self._is_told = False
 
-    def readers(self):
+    def readers(self) -> list[int]:
         """The file to read from, where more commands may come and few wait in order."""
-        return [] if self._is_ended or self.commands.octets >= MOST_READ else [self._file]
+        return [] if self._file is None or self._is_ended or self.commands.octets >= MOST_READ else [self._file]
 
-    def read(self, ready):
+    def read(self, ready: Container[int]) -> None:
         """Reads what has come. Of a line that is far too long a beginning is kept, which is too long for a command, too."""
-        if self._is_ended or self._file not in ready:
+        if self._file is None or self._is_ended or self._file not in ready:
             return
         octets = os.read(self._file, MOST_READ)
         *whole, rest = (self._open + octets).split(b"\n")
@@ -234,13 +255,13 @@ class User:
             whole = [self._open] if self._open else []
         self.commands.add(line.removesuffix(b"\r") for line in whole)
 
-    def command(self):
+    def command(self) -> str | None:
         """The command that is next, or None where there is none or its time hasn't come."""
         self.awaits()
         line = self.commands.next()
         return None if line is None else line.decode("latin-1")
 
-    def awaits(self):
+    def awaits(self) -> tuple[str, float] | None:
         """What the first line waits for by `wait`, and since when; None where that has come, or it waits for nothing."""
         while (line := self.commands.first()).startswith(b"wait "):
             self._since = self._since or time.monotonic()
@@ -250,52 +271,52 @@ class User:
             self.end_wait()
         return None
 
-    def _has_come(self, text):
+    def _has_come(self, text: str) -> bool:
         """Whether a notice that begins so has come, behind the one that was waited for before; those up to it are forgotten."""
         while self._heard:
             if self._heard.popleft().startswith(text):
                 return True
         return False
 
-    def end_wait(self):
+    def end_wait(self) -> None:
         """The `wait` is over."""
         self.commands.drop_first()
         self._since, self._is_told = None, False
 
-    def silence(self):
+    def silence(self) -> float | None:
         """When it is told that a `wait` holds commands; None where that was told, or none are held."""
         return self._since + SILENCE if self._since is not None and not self._is_told and len(self.commands) > 1 else None
 
-    def tell_silence(self):
+    def tell_silence(self) -> None:
         """Tells that a `wait` holds commands."""
         self.note(f"{x25lines.shown(self.commands.first())} holds {self.held()}")
         self._is_told = True
 
-    def held(self):
+    def held(self) -> str:
         """How many commands stand behind the first one, in words."""
         count = len(self.commands) - 1
         return f"{count:,} command{'s' * (count != 1)} behind it" if count else ""
 
-    def tell(self, notice):
+    def tell(self, notice: str) -> None:
         """Tells a notice."""
         self._heard.append(notice[:MOST_OF_A_NOTICE])
         self.notices.put(notice)
 
-    def note(self, text):
+    def note(self, text: str) -> None:
         """Tells something in the bridge's own words, as a comment."""
         self.tell(f"# {text}")
 
-    def warn(self, text):
+    def warn(self, text: str) -> None:
         """Says what went wrong on standard error, or at a terminal as a notice."""
         if self._is_at_terminal:
             self.note(text)
         else:
             x25lines.warn(text)
 
-    def has_done(self):
+    def has_done(self) -> bool:
         """Whether no command is left, and none will come."""
         return self._is_ended and self.commands.are_done()
 
-    def has_asked(self):
+    def has_asked(self) -> bool:
         """Whether no command is left, and none will come but for those that a user at a terminal may think of."""
         return self.commands.are_done() and (self._is_ended or self._is_at_terminal)

@@ -37,6 +37,7 @@ words or bad input, behind what stands before it.
 
 import argparse
 import itertools
+import operator
 import os
 import re
 import sys
@@ -44,7 +45,7 @@ from collections import Counter, defaultdict
 
 from x25tools import captures, decoding, judging, pcap2x25, x25lines, x25names
 from x25tools.ahead import ahead
-from x25tools.messages import I_FRAME, WIDE, Messages, dumped
+from x25tools.messages import Messages, dumped
 from x25tools.x25lines import BadInput
 
 # What a capture of either format begins with; no line does.
@@ -53,6 +54,7 @@ RED, BLUE, GREEN, GREY, PLAIN = "\x1b[31m", "\x1b[34m", "\x1b[32m", "\x1b[90m", 
 COLOURS = {">": BLUE, "<": GREEN}
 CHANNEL = re.compile(r" ch=(\d+)")
 OF_NO_CHANNEL = re.compile(r"\| (?:RESTART|DIAG|REG)|^(?:dte|dce) restart")
+CONNECTION = operator.itemgetter(1)
 # Data of more than 32 octets, and how many of its digits are shown where it is folded.
 LONG_DATA, FOLDED = re.compile("(?<==)[0-9a-f]{66,}"), 48
 # Where the packet begins in the text of a frame that was made up.
@@ -228,29 +230,34 @@ class Joined:
     def take(self, block):
         """Answers the lines of the messages that the frames of a block complete."""
         lines = []
-        for time, connection, text in block:
-            if text[:1] in pcap2x25.OTHER:
-                if connection not in self._lines:
-                    # Frames that were made up count from 0.
-                    self._lines[connection] = Messages(0 if connection.is_made_up else None)
-                self._last[connection] = time
-                if completed := self._lines[connection].take(text[0], text[2:]):
-                    lines += self._rows(time, connection, completed)
+        for connection, things in itertools.groupby(block, key=CONNECTION):
+            frames = [it for it in things if it[2][:1] in pcap2x25.OTHER]
+            if not frames:
+                continue
+            if connection not in self._lines:
+                # Frames that were made up count from 0.
+                self._lines[connection] = Messages(0 if connection.is_made_up else None)
+            self._last[connection] = frames[-1][0]
+            for place, completed in self._lines[connection].take([text for _, _, text in frames]):
+                lines += self._rows(frames[place][0], connection, completed)
         return lines
 
     def _rows(self, time, connection, messages):
-        for message in messages:
-            if self._channel is None or message.channel in (None, self._channel):
-                day, clock = self._days.part(time)
-                yield from day
-                yield from self._row(lead(clock, connection), message)
-
-    def _row(self, before, message):
-        where = "" if message.channel is None else f" ch={message.channel}" + (f" Q={message.q}" if message.q else "")
-        count = "" if message.channel is None else f", {len(message.octets):,} octet{'s' if len(message.octets) != 1 else ''}"
-        colour = COLOURS[message.direction] if where else RED
-        yield before + self._paint(colour, f"{message.direction}{where} {message.sort}{count}")
-        yield from dumped(message.octets)
+        """The lines of messages that are completed at a time."""
+        lines, before = [], None
+        for direction, channel, sort, octets, q in messages:
+            if self._channel is not None and channel not in (None, self._channel):
+                continue
+            if before is None:
+                lines, clock = self._days.part(time)
+                before = lead(clock, connection)
+            if channel is None:
+                lines.append(before + self._paint(RED, f"{direction} {sort}"))
+                continue
+            count = f"{len(octets):,} octet{'s' if len(octets) != 1 else ''}"
+            shown = self._paint(COLOURS[direction], f"{direction} ch={channel}{f' Q={q}' if q else ''} {sort}, {count}")
+            lines.append(f"{before}{shown}\n{dumped(octets)}" if octets else before + shown)
+        return lines
 
     def end(self):
         """Yields the lines of what is known at the end alone; messages that are begun there aren't shown."""
@@ -259,6 +266,13 @@ class Joined:
 
 
 AGAIN, OCTETS = "I frames out of order, or again", "octets of data"
+# The frames of a text, a line each: the direction; of an I frame N(S) and whether it has DATA, its data, or another kind of packet; or the kind.
+COUNTED = re.compile(
+    r"^([<>]) (?:I cmd P=[01] S=([0-7]) R=[0-7] \| (?:(DATA) ch=\d+ S=[0-7] R=[0-7] M=[01] Q=[01](?: D=1)? data=([0-9a-f]*)|(\S+)).*|(\S+).*)$",
+    re.MULTILINE,
+)
+KIND = operator.itemgetter(0, 2, 4, 5)
+SET_UP, IN_ORDER = ("SABM", "UA"), "01234567"
 
 
 class Statistic:
@@ -272,37 +286,54 @@ class Statistic:
 
     def take(self, block):
         """Counts the frames of a block; shows nothing."""
-        for it in block:
-            self._count(*it)
+        for connection, things in itertools.groupby(block, key=CONNECTION):
+            if frames := [it for it in things if it[2][:1] in pcap2x25.OTHER]:
+                self._names[connection.number] = connection.name
+                self._times = [*(self._times[:1] or [frames[0][0]]), frames[-1][0]]
+                self._count(connection, COUNTED.findall("\n".join([text for _, _, text in frames])))
         return []
 
-    def _count(self, time, connection, text):
-        direction = text[:1]
-        if direction in pcap2x25.OTHER:
-            self._names[connection.number] = connection.name
-            self._times = [*self._times[:1], time]
-            frame, _, packet = text[2:].partition(" | ")
-            counts = self._counts[connection.number]
-            for kind in self._kinds(connection, direction, frame, packet):
-                counts[kind, direction] += 1
-            if packet.startswith("DATA "):
-                data = packet.rpartition("data=")[2].removesuffix(WIDE)
-                counts[OCTETS, direction] += len(data) // 2
+    def _count(self, connection, found):
+        counts = self._counts[connection.number]
+        for (direction, data, packet, frame), count in Counter(map(KIND, found)).items():
+            if frame:
+                counts[frame, direction] += count
+                continue
+            if not connection.is_made_up:
+                counts["I", direction] += count
+            counts[f"| {data or packet}", direction] += count
+            if data:
+                counts[OCTETS, direction] += sum([len(it[3]) for it in found if it[0] == direction]) // 2
+        if not connection.is_made_up:
+            for direction, again in self._out_of_order(connection.number, found):
+                counts[AGAIN, direction] += again
 
-    def _kinds(self, connection, direction, frame, packet):
-        """The rows in which a frame counts once."""
-        kinds = [] if connection.is_made_up else [frame.partition(" ")[0]]
-        if packet:
-            kinds.append(f"| {packet.partition(' ')[0]}")
-            if found := I_FRAME.match(f"{frame} | "):
-                way, number = (connection.number, direction), int(found[1])
-                if self._due.get(way, number) == number or connection.is_made_up:
-                    self._due[way] = (number + 1) % 8
-                else:
-                    kinds.append(AGAIN)
-        elif frame.startswith(("SABM ", "UA ")):
-            self._due = {key: due for key, due in self._due.items() if key[0] != connection.number}
-        return kinds
+    def _out_of_order(self, number, found):
+        """Yields how many I frames of an end come out of order, or again, where there are some; a set-up begins the numbers anew."""
+        begin = 0
+        for end in [*(place for place, it in enumerate(found) if it[5] in SET_UP), len(found)]:
+            for direction in pcap2x25.OTHER:
+                numbers = "".join([it[1] for it in found[begin:end] if it[0] == direction])
+                if again := numbers and self._again((number, direction), numbers):
+                    yield direction, again
+            if end < len(found):
+                self._due = {key: due for key, due in self._due.items() if key[0] != number}
+            begin = end
+
+    def _again(self, way, numbers):
+        """How many of these numbers, each of one digit, aren't the one that is due."""
+        due = self._due.get(way, int(numbers[0]))
+        if (IN_ORDER * (len(numbers) // 8 + 2))[due : due + len(numbers)] == numbers:
+            self._due[way] = (due + len(numbers)) % 8
+            return 0
+        again = 0
+        for number in map(int, numbers):
+            if number == due:
+                due = (number + 1) % 8
+            else:
+                again += 1
+        self._due[way] = due
+        return again
 
     def end(self):
         """Yields the lines of the statistic."""

@@ -5,15 +5,20 @@ sequence, perhaps with the time in seconds and a tab before that; or it is empty
 with a carriage return. docs/FORMATS.md describes all these.
 """
 
+from __future__ import annotations
+
+import argparse
 import binascii
+import contextlib
 import functools
 import gzip
+import io
 import os
 import re
 import sys
 import zlib
 from time import localtime, strftime
-from typing import NamedTuple, Optional
+from typing import Any, Callable, Iterator, NamedTuple, NoReturn, Optional, Protocol
 
 # Of a frame: 4,099 octets of information between address and control and the frame check sequence.
 MOST_OCTETS = 4103
@@ -39,6 +44,15 @@ ENTRY_LINE = re.compile(rb"(dte|dce) ([a-z][ -~]*)")
 REFUSAL_LINE = re.compile(rb"! [0-9]+|\? 60")
 
 
+class Readable(Protocol):
+    """A file of octets: what is there of it is read at once."""
+
+    def read1(self, size: int = ..., /) -> bytes: ...
+    def peek(self, size: int = ..., /) -> bytes: ...
+    def __enter__(self) -> Readable: ...
+    def __exit__(self, *_: object) -> object: ...
+
+
 class BadInput(Exception):
     """What was read isn't what the script reads; the text says where and why."""
 
@@ -47,7 +61,7 @@ class BadInput(Exception):
 _REVERSED = bytes(int(f"{octet:08b}"[::-1], 2) for octet in range(256))
 
 
-def fcs(octets):
+def fcs(octets: bytes) -> bytes:
     """The frame check sequence of some octets (X.25 section 2.2.7), two octets, the low one first.
 
     The division by x^16 + x^12 + x^5 + 1 is `crc_hqx`'s; that takes the high bit of an octet first, and a line the low one.
@@ -56,7 +70,7 @@ def fcs(octets):
     return remainder.to_bytes(2, "big").translate(_REVERSED)
 
 
-def is_sealed(octets):
+def is_sealed(octets: bytes) -> bool:
     """True where there are four octets or more and the last two are the frame check sequence of the rest."""
     return len(octets) >= 4 and fcs(octets[:-2]) == octets[-2:]
 
@@ -68,13 +82,13 @@ class FrameLine(NamedTuple):
     octets: bytes
     time: Optional[int] = None
 
-    def text(self, timed=False):
+    def text(self, timed: bool = False) -> str:
         """The line, without its line feed; with the time before it where that is wanted."""
         line = f"{self.direction} {self.octets.hex()}"
         return f"{seconds(self.time or 0)}\t{line}" if timed else line
 
 
-def seconds(nanoseconds):
+def seconds(nanoseconds: int | None) -> str:
     """A time as a decimal number of seconds with nine places; None is written as nothing."""
     if nanoseconds is None:
         return ""
@@ -83,12 +97,12 @@ def seconds(nanoseconds):
 
 
 @functools.lru_cache(maxsize=1)
-def _second(seconds_of):
+def _second(seconds_of: int) -> str:
     """The date and the time of the day of a second, as the time zone of this machine has it."""
     return strftime("%Y-%m-%d %H:%M:%S", localtime(seconds_of))
 
 
-def moment(nanoseconds):
+def moment(nanoseconds: int | None) -> str:
     """A time as a date and the time of the day, in milliseconds; as seconds where it is no date; None is written as nothing."""
     if nanoseconds is None or nanoseconds < FIRST_DATE:
         return seconds(nanoseconds)
@@ -96,12 +110,12 @@ def moment(nanoseconds):
     return f"{_second(whole)}.{part // 1_000_000:03}"
 
 
-def is_passed_over(line):
+def is_passed_over(line: bytes) -> bool:
     """True for an empty line and for a comment."""
     return not line or line[:1] == b"#"
 
 
-def timed(line):
+def timed(line: bytes) -> tuple[int | None, str] | None:
     """Reads a line of a trace, given as octets without its line feed; answers its time in nanoseconds, None where it has none, and the line
     without it; or None where it is none."""
     found = FRAME_LINE.fullmatch(line)
@@ -114,19 +128,19 @@ def timed(line):
     return time, frame.decode()
 
 
-def frame_line(line):
+def frame_line(line: bytes) -> FrameLine | None:
     """The frame of a line of a trace, given as octets without its line feed; None where it is none."""
     found = timed(line)
     return found and FrameLine(found[1][0], bytes.fromhex(found[1][2:]), found[0])
 
 
-def pieces(file):
+def pieces(file: Readable) -> Iterator[bytes]:
     """Yields the octets of a binary file piece by piece: what is there, and no more than a pipe holds. So a file comes in large pieces, and
     what comes live as it comes."""
     return iter(lambda: file.read1(PIECE), b"")
 
 
-def blocks_of_lines(file):
+def blocks_of_lines(file: Readable) -> Iterator[tuple[int, list[bytes]]]:
     """Yields the lines of a binary file, each its octets without the line feed, and the carriage return before it, in blocks: the number of the
     first, and those that are there at once."""
     number, rest = 1, b""
@@ -143,50 +157,51 @@ def blocks_of_lines(file):
         yield number, [rest.removesuffix(b"\r")]
 
 
-def lines_of(file):
+def lines_of(file: Readable) -> Iterator[tuple[int, bytes]]:
     """Yields number and octets of each line of a binary file, without its line feed."""
     for number, lines in blocks_of_lines(file):
         yield from enumerate(lines, number)
 
 
-def shown(line):
+def shown(line: bytes) -> str:
     """The beginning of a line, for a message: as UTF-8, or where it is none with what isn't ASCII as hexadecimal digits."""
-    try:
-        line = line.decode()
-    except UnicodeDecodeError:
-        pass
-    return repr(line[:60]).removeprefix("b") + (".." if len(line) > 60 else "")
+    text: str | bytes = line
+    with contextlib.suppress(UnicodeDecodeError):
+        text = line.decode()
+    return repr(text[:60]).removeprefix("b") + (".." if len(text) > 60 else "")
 
 
-def opened(path):
+def opened(path: str) -> Readable:
     """Opens a file to read its octets, unpacked where gzip packed it; `-` is standard input."""
     if path == "-":
-        file = sys.stdin.buffer
+        file: Any = sys.stdin.buffer
     else:
         try:
             file = open(path, "rb")
         except OSError as error:
             raise BadInput(f"{path}: {error.strerror}") from error
     # No line and no capture begins with the first octet of a packed file.
-    return gzip.GzipFile(fileobj=file) if file.peek(1)[:1] == GZIP else file
+    given: Readable = gzip.GzipFile(fileobj=file) if file.peek(1)[:1] == GZIP else file
+    return given
 
 
-def add_input(parser, what):
+def add_input(parser: argparse.ArgumentParser, what: str) -> None:
     """Adds the argument FILE, `-` for standard input, to a parser of words."""
     parser.add_argument("file", nargs="?", default="-", metavar="FILE", help=f"{what}; standard input where it is missing or `-`")
 
 
-def warn(text):
+def warn(text: object) -> None:
     """Says something on standard error, after the script's name."""
     print(f"{os.path.basename(sys.argv[0])}: {text}", file=sys.stderr)
 
 
-def run(main):
+def run(main: Callable[[], int]) -> NoReturn:
     """Runs a script's `main` and ends with the status that it answers; bad input is told in a line and ends with 2.
 
     Each line is written as soon as it is known, also on a pipe.
     """
-    sys.stdout.reconfigure(line_buffering=True)
+    if isinstance(sys.stdout, io.TextIOWrapper):
+        sys.stdout.reconfigure(line_buffering=True)
     try:
         status = main()
         sys.stdout.flush()

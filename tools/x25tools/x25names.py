@@ -1,5 +1,7 @@
 """Names of causes, diagnostics, facilities, refusals and of what a FRMR says. docs/FORMATS.md has the refusals, and says of the others whose they are."""
 
+from __future__ import annotations
+
 import re
 
 from x25tools import facilities
@@ -109,26 +111,26 @@ FRAME_REFUSED = re.compile(r"(?:[<>] )?FRMR .*why=([0-9a-f]{6})$")
 CAUSES = {"CLEAR": CLEARING, "cleared": CLEARING, "RESET": RESETTING, "wasreset": RESETTING, "RESTART": RESTARTING, "restarted": RESTARTING}
 
 
-def _cause(names, cause):
+def _cause(names: dict[int, str], cause: int) -> str:
     return ORIGINATED if cause == 0 or cause >= 128 else names.get(cause, f"cause {cause}")
 
 
-def _diagnostic(diagnostic):
+def _diagnostic(diagnostic: int) -> str:
     return DIAGNOSTICS.get(diagnostic, f"diagnostic {diagnostic}")
 
 
-def _grounds(octets):
+def _grounds(octets: bytes) -> str:
     """What a FRMR says: the numbers of the end that refuses, and why."""
     said = [ground for bit, ground in enumerate(GROUNDS) if octets[2] & 1 << bit]
     return ", ".join([f"control {octets[0]:02x}", f"V(S)={octets[1] >> 1 & 7} V(R)={octets[1] >> 5}", *said])
 
 
-def _typed(end, kind, plan):
+def _typed(end: str, kind: int, plan: int) -> str:
     """What an address says of itself."""
     return f"{end}: {NUMBER_TYPES.get(kind, f'type {kind}')}, {PLANS.get(plan, f'plan {plan}')}"
 
 
-def words(text):
+def words(text: str) -> str:
     """What the numbers of a text of `x25 decode`, or of an entry, say in words; nothing where it has no such numbers."""
     said = []
     if "cause=" in text and (found := CAUSED.search(text)):
@@ -149,6 +151,6 @@ def words(text):
     return "; ".join(said)
 
 
-def refusal(line):
+def refusal(line: str) -> str:
     """What `! 30`, or its kin, says in words."""
     return REFUSALS.get(int(line.split(" ")[1]), "")

@@ -14,8 +14,11 @@ flags.
 Exit status: 0, or 2 for bad words or bad input.
 """
 
+from __future__ import annotations
+
 import argparse
 import sys
+from typing import BinaryIO
 
 from x25tools import captures, x25lines
 from x25tools.x25lines import BadInput
@@ -28,7 +31,7 @@ NO_PROTOCOL, LAPB = 0, 1
 MILLISECOND = 10**6
 
 
-def packet(frame):
+def packet(frame: x25lines.FrameLine) -> tuple[bytes, int]:
     """The octets of a packet for a frame, and its flags."""
     flags = captures.OUTBOUND if frame.direction == ">" else captures.INBOUND
     first = 0 if frame.direction == ">" else RECEIVED
@@ -38,7 +41,7 @@ def packet(frame):
     return bytes([first, 0, 0, 0, NO_PROTOCOL]) + frame.octets, flags | error
 
 
-def convert(file, out):
+def convert(file: x25lines.Readable, out: BinaryIO) -> None:
     """Writes a packet for each frame line of a file, those of a block of lines at once."""
     writer = captures.Writer(out, SITA)
     for first, lines in x25lines.blocks_of_lines(file):
@@ -52,7 +55,7 @@ def convert(file, out):
         out.flush()
 
 
-def main():
+def main() -> int:
     parser = argparse.ArgumentParser(description=__doc__, formatter_class=argparse.RawDescriptionHelpFormatter)
     x25lines.add_input(parser, "the trace")
     parser.add_argument("-o", "--output", metavar="CAPTURE", help="the file to write; else standard output")

@@ -3,10 +3,17 @@
 TCP's segments are put in order here. What the capture lacks is told by `Xot.notes`, and reading goes on behind it.
 """
 
+from __future__ import annotations
+
 import ipaddress
 import struct
+from collections import Counter
+from typing import Optional
 
 XOT_PORT = 1998
+# What a packet of IP carries; and the ends of a segment: addresses, and ports.
+Carried = tuple[int, bytes, bytes, bytes, int]
+Ends = tuple[bytes, bytes, int, int]
 
 RAW_IP, OLD_RAW_IP, OTHER_RAW_IP, IPV4, IPV6 = 101, 12, 14, 228, 229
 NULL, LOOP = 0, 108
@@ -29,7 +36,7 @@ IP_AT = {NULL: 4, LOOP: 4, **dict.fromkeys((RAW_IP, OLD_RAW_IP, OTHER_RAW_IP, IP
 _IPV4, _TCP, _HEADER = (struct.Struct(form).unpack_from for form in (">BxHxxHxB2x4s4s", ">HHIIBB", ">HH"))
 
 
-def _of_ipv4(octets):
+def _of_ipv4(octets: bytes) -> Carried | None:
     """What a packet of IPv4 carries: protocol, source, target, octets, and their length, of which some may not be captured; None where it is
     none, or a fragment."""
     if len(octets) < 20:
@@ -41,7 +48,7 @@ def _of_ipv4(octets):
     return protocol, source, target, octets[header:total], total - header
 
 
-def _of_ipv6(octets):
+def _of_ipv6(octets: bytes) -> Carried | None:
     """The same of a packet of IPv6, behind its extension headers."""
     if len(octets) < 40:
         return None
@@ -58,10 +65,10 @@ def _of_ipv6(octets):
 _READERS = {4: _of_ipv4, 6: _of_ipv6}
 
 
-def segment(octets):
+def segment(octets: bytes) -> tuple[Ends, int, int, int, bytes, int] | None:
     """The segment of TCP in a packet of IP: its ends (addresses and ports, source and target), where its octets stand in the stream, where those
     stand that its sender wants next, its flags, its octets, and how many of these weren't captured; None where it holds none."""
-    read = _READERS.get(octets[0] >> 4 if octets else None)
+    read = _READERS.get(octets[0] >> 4 if octets else 0)
     payload = read(octets) if read else None
     if payload is None or payload[0] != TCP or len(payload[3]) < 20:
         return None
@@ -81,22 +88,22 @@ class Stream:
     with a packet is the first that is read.
     """
 
-    def __init__(self, ends, port, notes):
+    def __init__(self, ends: Ends, port: int, notes: Counter[str]) -> None:
         source, target = ends[::2], ends[1::2]
         self.is_of_dte = target[1] == port
         client, server = (source, target) if self.is_of_dte else (target, source)
         self.name = f"XOT {_end(client)} > {_end(server)}"
         self._notes = notes
-        self._start = None
-        self._next = None
-        self._ahead = {}
+        self._start: int | None = None
+        self._next: int | None = None
+        self._ahead: dict[int, bytes] = {}
         self._held = b""
         self._is_lost = self._has_packets = False
 
-    def take(self, sequence, flags, octets):
+    def take(self, sequence: int, flags: int, octets: bytes) -> list[bytes | None]:
         """Takes the octets of a segment, which stand there in the stream; answers the X.25 packets that are whole now, and None where some are
         missing, or a connection begins anew."""
-        packets = []
+        packets: list[bytes | None] = []
         if flags & SYN:
             if sequence != self._start:
                 packets += [*self.end(), None]
@@ -116,9 +123,9 @@ class Stream:
             packets += self._packets()
         return packets
 
-    def taken(self, wanted):
+    def taken(self, wanted: int) -> list[bytes | None]:
         """Takes the place up to which the other end has all; answers the packets that are whole now, with None where some weren't captured."""
-        packets = []
+        packets: list[bytes | None] = []
         # An end of the stream counts as an octet.
         while self._next is not None and self._distance(wanted) > (0 if self._ahead else 1):
             if self._ahead:
@@ -128,9 +135,9 @@ class Stream:
             packets += [None, *self._packets()]
         return packets
 
-    def end(self):
+    def end(self) -> list[bytes | None]:
         """Gives up what is missing; answers the packets behind it, each behind None, and notes what was left within one."""
-        packets = []
+        packets: list[bytes | None] = []
         while self._ahead:
             self._pass_gap()
             packets += [None, *self._packets()]
@@ -139,43 +146,46 @@ class Stream:
             self._held = b""
         return packets
 
-    def _begin(self, sequence):
+    def _begin(self, sequence: int) -> None:
         """Begins a connection, whose first octet stands behind the number of its SYN."""
         self._start = sequence
         self._next = (sequence + 1) % SEQUENCES
         self._is_lost = self._has_packets = False
 
-    def _distance(self, sequence):
+    def _distance(self, sequence: int) -> int:
         """How far behind the octet that is wanted next a number stands; below 0, before it."""
+        assert self._next is not None
         distance = (sequence - self._next) % SEQUENCES
         return distance - SEQUENCES if distance >= SEQUENCES // 2 else distance
 
-    def _in_order(self):
+    def _in_order(self) -> None:
         """Moves each segment that has become the next one, or overlaps it, to what is held."""
         while ready := [it for it in self._ahead if self._distance(it) <= 0]:
             for sequence in ready:
                 self._hold(self._ahead.pop(sequence)[-self._distance(sequence) :])
 
-    def _hold(self, octets):
+    def _hold(self, octets: bytes) -> None:
         """Takes the octets that are wanted next."""
+        assert self._next is not None
         self._held += octets
         self._next = (self._next + len(octets)) % SEQUENCES
 
-    def _pass_gap(self):
+    def _pass_gap(self) -> None:
         """Goes on at the nearest segment."""
         self._skip(min(self._ahead, key=self._distance))
         self._in_order()
 
-    def _skip(self, sequence):
+    def _skip(self, sequence: int) -> None:
         """Goes on there; what was held ends within a packet, and so is dropped."""
         self._notes["gap in a connection, octets that weren't captured"] += 1
         self._held = b""
         self._is_lost = False
         self._next = sequence
 
-    def _packets(self):
+    def _packets(self) -> list[bytes | None]:
         """Cuts the packets that are whole off what is held."""
-        packets, held, at = [], self._held, 0
+        packets: list[bytes | None] = []
+        held, at = self._held, 0
         while not self._is_lost and len(held) - at >= 4:
             version, length = _HEADER(held, at)
             if version != 0 or length == 0:
@@ -196,13 +206,13 @@ class Stream:
         return packets
 
 
-def _end(end):
+def _end(end: tuple[bytes, int]) -> str:
     """An address and a port as they are written."""
     host = str(ipaddress.ip_address(end[0]))
     return f"[{host}]:{end[1]}" if ":" in host else f"{host}:{end[1]}"
 
 
-def is_like_xot(octets):
+def is_like_xot(octets: bytes) -> bool:
     """True where octets are a whole packet of XOT: version 0, its length, an X.25 packet modulo 8 or 128."""
     return len(octets) >= 7 and octets[:2] == b"\0\0" and int.from_bytes(octets[2:4], "big") == len(octets) - 4 and octets[4] & 0x30 in (0x10, 0x20)
 
@@ -213,13 +223,13 @@ class Xot:
     `notes` counts what was left out, by why, and `passed` what was no part of it.
     """
 
-    def __init__(self, port, notes, passed):
+    def __init__(self, port: int, notes: Counter[str], passed: Counter[str]) -> None:
         self._port = port
-        self._streams = {}
+        self._streams: dict[Ends, Stream] = {}
         self._notes = notes
         self._passed = passed
 
-    def take(self, octets):
+    def take(self, octets: bytes) -> list[tuple[Stream, list[bytes | None]]]:
         """Takes a packet of IP; answers the streams that have whole X.25 packets now, each with these."""
         found = segment(octets)
         if found is None:
@@ -242,10 +252,10 @@ class Xot:
         taken = [(back, back.taken(wanted))] if back else []
         return [*taken, (stream, stream.take(sequence, flags, octets)), *closed]
 
-    def end(self):
+    def end(self) -> list[tuple[Stream, list[bytes | None]]]:
         """Ends all connections; answers what they still hold."""
         return [closed for ends in list(self._streams) for closed in self._close(ends)]
 
-    def _close(self, ends):
+    def _close(self, ends: Ends) -> list[tuple[Stream, list[bytes | None]]]:
         stream = self._streams.pop(ends)
         return [(stream, stream.end())]

@@ -7,12 +7,17 @@ another makes brings a CALL, which gets a channel that is free. A CALL and its a
 for which the station has `--say-sizes`. Where a connection ends its circuit is cleared, and where the station restarts all of them end.
 """
 
+from __future__ import annotations
+
 import socket
 import time
 from collections import deque
+from typing import Container, Iterable, Iterator
 
 from x25tools import tcp, wires, x25lines
 
+# An address to which a connection is made, and its family.
+Target = tuple[socket.AddressFamily, tcp.Address]
 UA, RR, RNR, SABM, DISC, DM, FRMR, POLL = 0x63, 0x01, 0x05, 0x2F, 0x43, 0x0F, 0x87, 0x10
 CALL, CLEAR, CLEAR_CONFIRMATION, RESTART, RESTART_CONFIRMATION, DIAGNOSTIC = 0x0B, 0x13, 0x17, 0xFB, 0xFF, 0xF1
 # What no connection carries, as it isn't of one circuit: registration and its confirmation, set-up of permanent circuits, restarts.
@@ -27,7 +32,7 @@ MOST_COMING = 16
 class Link:
     """The other end of the station's link, which loses nothing: `frames` are those that wait for the station."""
 
-    def __init__(self, end):
+    def __init__(self, end: str) -> None:
         self._command, self._response = (3, 1) if end == "dte" else (1, 3)
         self._ns = self._nr = 0
         self._owes = False
@@ -35,10 +40,10 @@ class Link:
         self.frames = deque([self._sealed(self._command, SABM | POLL)])
 
     @staticmethod
-    def _sealed(*octets):
+    def _sealed(*octets: int) -> bytes:
         return bytes(octets) + x25lines.fcs(bytes(octets))
 
-    def take(self, octets):
+    def take(self, octets: bytes) -> bytes | int | None:
         """Takes a frame of the station; answers the packet that it brings, SABM or DISC where the link begins or ends, or None."""
         control = octets[1]
         kind, poll = control & ~POLL, control & POLL
@@ -60,20 +65,20 @@ class Link:
             return DISC
         return None
 
-    def packed(self, packet):
+    def packed(self, packet: bytes) -> bytes:
         """A packet in an I frame, which acknowledges all that came."""
         octets = bytes([self._command, self._nr << 5 | self._ns << 1]) + packet
         self._ns, self._owes = (self._ns + 1) % 8, False
         return octets + x25lines.fcs(octets)
 
-    def acknowledgement(self):
+    def acknowledgement(self) -> bytes | None:
         """The frame that acknowledges what came, or None where that is done."""
         if not self._owes:
             return None
         self._owes = False
         return self._sealed(self._response, RR | self._nr << 5)
 
-    def owes(self):
+    def owes(self) -> bool:
         """Whether a frame waits for the station."""
         return self._owes or bool(self.frames)
 
@@ -81,16 +86,16 @@ class Link:
 class Circuit:
     """A connection and its channel, which is 0 before its CALL has come."""
 
-    def __init__(self, connection, channel=0, untried=()):
+    def __init__(self, connection: tcp.Connection, channel: int = 0, untried: Iterable[Target] = ()) -> None:
         self.connection, self.channel, self.untried = connection, channel, list(untried)
         self.is_clearing, self._open = False, b""
         self.last = time.monotonic() + wires.PATIENCE
 
-    def send(self, packet):
+    def send(self, packet: bytes) -> None:
         """Sends a packet."""
         self.connection.send(b"\0\0" + len(packet).to_bytes(2, "big") + packet)
 
-    def packets(self, octets):
+    def packets(self, octets: bytes) -> Iterator[bytes | None]:
         """Yields the packets that are whole now, and None behind the last one where the connection isn't XOT."""
         self._open += octets
         while len(self._open) >= HEADER:
@@ -107,44 +112,47 @@ class Circuit:
 class Xot(wires.Wire):
     """The circuits of a station: those that it makes, to `target`, and those that come, at `place`; each may be None."""
 
-    def __init__(self, end, note, target, place, channels, t3):
+    def __init__(self, end: str, note: wires.Note, target: tuple[str, int] | None, place: tuple[str, int] | None, channels: int, t3: float) -> None:
         self._note, self._channels, self._t3 = note, channels, t3
         self._target = tcp.addresses(*target) if target else []
         self._server = tcp.server(*place) if place else None
         self._link, self._has_restarted = Link(end), False
         # Circuits by their channels, channels whose connection has ended and whose clear isn't confirmed, connections that have
         # brought no CALL, and those that end once all is written.
-        self._circuits, self._gone, self._coming, self._ending = {}, set(), [], []
+        self._circuits: dict[int, Circuit] = {}
+        self._gone: set[int] = set()
+        self._coming: list[Circuit] = []
+        self._ending: list[Circuit] = []
         # Packets for the station.
-        self._packets = deque()
+        self._packets: deque[bytes] = deque()
 
     @property
-    def waits(self):
+    def waits(self) -> int:  # type: ignore[override]
         return sum(it.connection.waits for it in self._all())
 
     @property
-    def due(self):
+    def due(self) -> float | None:  # type: ignore[override]
         if self._link.owes() or (self._packets and self._link.is_up and not self._link.is_busy):
             return 0
         return min((it.last for it in self._circuits.values() if not it.connection.is_open), default=None)
 
-    def _all(self):
+    def _all(self) -> list[Circuit]:
         return [*self._circuits.values(), *self._coming, *self._ending]
 
-    def readers(self):
+    def readers(self) -> list[int]:
         servers = [self._server.fileno()] if self._server else []
         return servers + [it.connection.number for it in self._all() if it.connection.is_open]
 
-    def writers(self):
+    def writers(self) -> list[int]:
         return [it.connection.number for it in self._all() if it.connection.wants_room()]
 
-    def close(self):
+    def close(self) -> None:
         for it in self._all():
             it.connection.close()
         if self._server:
             self._server.close()
 
-    def frames(self, ready):
+    def frames(self, ready: Container[int]) -> Iterator[bytes]:
         if self._server and self._server.fileno() in ready and (came := tcp.accepted(self._server)):
             self._coming.append(Circuit(tcp.Connection(came, self._t3)))
             if len(self._coming) > MOST_COMING:
@@ -153,7 +161,7 @@ class Xot(wires.Wire):
             self._read(it, ready)
         yield from self._for_the_station()
 
-    def _for_the_station(self):
+    def _for_the_station(self) -> Iterator[bytes]:
         """Yields the frames of the link that is played; each may be answered before the next."""
         link = self._link
         while True:
@@ -168,7 +176,7 @@ class Xot(wires.Wire):
 
     # ---- what comes by connections
 
-    def _read(self, it, ready):
+    def _read(self, it: Circuit, ready: Container[int]) -> None:
         connection = it.connection
         was_open = connection.is_open
         octets = connection.turn(ready)
@@ -184,7 +192,7 @@ class Xot(wires.Wire):
                 if not self._take(it, packet):
                     break
 
-    def _take(self, it, packet):
+    def _take(self, it: Circuit, packet: bytes | None) -> bool:
         """Takes a packet of a connection; answers False where that has to end."""
         kind = packet[2] if packet else None
         if packet is None or kind in FOREIGN or (not it.channel and kind != CALL):
@@ -204,7 +212,7 @@ class Xot(wires.Wire):
             return False
         return True
 
-    def _is_given_a_channel(self, it, packet):
+    def _is_given_a_channel(self, it: Circuit, packet: bytes) -> bool:
         """Finds a channel for a CALL that came; without one it is cleared."""
         self._coming.remove(it)
         free = set(range(1, self._channels + 1)) - set(self._circuits) - self._gone
@@ -218,11 +226,11 @@ class Xot(wires.Wire):
         self._note(f"a connection has come from {it.connection.other()}, with a call on channel {it.channel}")
         return True
 
-    def _hand_in(self, channel, packet):
+    def _hand_in(self, channel: int, packet: bytes) -> None:
         """Has the station take a packet, on its channel."""
         self._packets.append(bytes([packet[0] & 0xF0 | channel >> 8, channel & 0xFF]) + packet[2:])
 
-    def _lose(self, it, why):
+    def _lose(self, it: Circuit, why: str) -> None:
         """A connection has ended, or has to: its circuit is cleared. Of one that isn't made yet the next address is tried."""
         if it.untried and not it.connection.is_open:
             self._call(it)
@@ -235,7 +243,7 @@ class Xot(wires.Wire):
             self._hand_in(it.channel, bytes([0x10, 0, *kind]))
         self._drop(it)
 
-    def _end(self, it):
+    def _end(self, it: Circuit) -> None:
         """A circuit has come to its end: its connection closes once all is written."""
         if it.connection.waits:
             del self._circuits[it.channel]
@@ -243,7 +251,7 @@ class Xot(wires.Wire):
         else:
             self._drop(it)
 
-    def _drop(self, it):
+    def _drop(self, it: Circuit) -> None:
         """Closes a connection."""
         it.connection.close()
         if self._circuits.get(it.channel) is it:
@@ -252,7 +260,7 @@ class Xot(wires.Wire):
             if it in held:
                 held.remove(it)
 
-    def _drop_all(self):
+    def _drop_all(self) -> None:
         """Nothing stands any more, nor comes."""
         for it in list(self._circuits.values()):
             self._drop(it)
@@ -261,15 +269,15 @@ class Xot(wires.Wire):
 
     # ---- what the station sends
 
-    def send(self, octets):
+    def send(self, octets: bytes) -> None:
         it = self._link.take(octets)
         if it in (SABM, DISC):
             self._drop_all()
             self._has_restarted = False
-        elif it is not None:
+        elif isinstance(it, bytes):
             self._send_packet(it)
 
-    def _send_packet(self, packet):
+    def _send_packet(self, packet: bytes) -> None:
         channel, kind = (packet[0] & 15) << 8 | packet[1], packet[2]
         circuit = self._circuits.get(channel)
         if kind == RESTART:
@@ -288,23 +296,23 @@ class Xot(wires.Wire):
             if kind == CLEAR_CONFIRMATION:
                 self._end(circuit)
 
-    def _begin(self, channel, packet):
+    def _begin(self, channel: int, packet: bytes) -> None:
         """The station calls: a connection is made, and the CALL waits for it."""
         if not self._target:
             self._note("a call needs a host to go to: --xot names it")
             self._gone.add(channel)
             self._hand_in(channel, bytes([0x10, 0, CLEAR, NOT_OBTAINABLE, 0]))
             return
-        circuit = Circuit(None, channel, self._target)
-        self._call(circuit)
-        self._circuits[channel] = circuit
+        circuit = self._circuits[channel] = Circuit(self._made(self._target[0]), channel, self._target[1:])
         circuit.send(packet)
 
-    def _call(self, it):
+    def _call(self, it: Circuit) -> None:
         """Has a circuit's connection made to the next address; what waits goes over that."""
-        family, address = it.untried.pop(0)
-        made = tcp.Connection(socket.socket(family, socket.SOCK_STREAM), self._t3, address)
-        if it.connection is not None:
-            made.send(it.connection.left())
-            it.connection.close()
+        made = self._made(it.untried.pop(0))
+        made.send(it.connection.left())
+        it.connection.close()
         it.connection, it.last = made, time.monotonic() + wires.PATIENCE
+
+    def _made(self, target: Target) -> tcp.Connection:
+        """A connection that is being made."""
+        return tcp.Connection(socket.socket(target[0], socket.SOCK_STREAM), self._t3, target[1])

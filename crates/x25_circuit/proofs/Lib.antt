@@ -1,5 +1,3 @@
-mod RowStates
-pub mod rows
 pub mod TableLemmas
 pub mod ParamsLemmas
 pub mod MessageLemmas

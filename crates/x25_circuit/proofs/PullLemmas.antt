@@ -18,15 +18,6 @@ use Rattle.x25_circuit.specs.code.FitsCircuit.{FitsCircuit}
 use Rattle.x25_circuit.specs.Pulling.{packet_with}
 use Rattle.x25_circuit.proofs.TalkLemmas.{with_transfer}
 
-pub pulls_closed : (c : Settings) (x : Circuit) (s : State) → s ≢ Open → pull_in c x s ≡ pulls_nothing x
-pulls_closed c x Free h = refl
-pulls_closed c x Calling h = refl
-pulls_closed c x Arriving h = refl
-pulls_closed c x Collision h = refl
-pulls_closed c x Open h = absurd (h refl)
-pulls_closed c x Resetting h = refl
-pulls_closed c x Clearing h = refl
-
 -- where no message waits
 pulls_none : (c : Settings) (x : Circuit) (s : State) → x.talk.rest ≡ [] → pull_in c x s ≡ pulls_nothing x
 pulls_none c x Free e = refl
@@ -116,6 +107,3 @@ pub advances_packet : (c : Settings) (v : code.Circuit) (x : Circuit) (terms : T
     → packet_with r u.queue.cutter.lent ≡ (pulled c x).packet
 advances_packet c v x terms u None fits e f g some held = sym (holds_packet c x (sym fits.state ∙ e) (subst (λ (n : ℕ). IsHeld n x.talk) f held))
 advances_packet c v x terms u (Some h) fits e f g some held = pulls_packet c x u h (sym fits.state ∙ e) (sent_by_terms x terms u h f g some)
-
-pub closed_at : (c : Settings) (v : code.Circuit) (x : Circuit) → FitsCircuit c v x → v.state ≢ Open → pulled c x ≡ pulls_nothing x
-closed_at c v x fits h = pulls_closed c x x.state (λ e. h (fits.state ∙ e))

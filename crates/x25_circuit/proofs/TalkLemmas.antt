@@ -13,7 +13,7 @@ use Rattle.x25_circuit.specs.Queue.{waiting}
 use Rattle.x25_circuit.specs.Hearing.{data_ground, number_ground}
 use Rattle.x25_circuit.proofs.MessageLemmas.{wholes_all}
 use Rattle.x25_circuit.specs.Circuit.{Settings, Talk, Circuit, outgoing}
-use Rattle.x25_circuit.specs.code.Changes.{with_rest, with_interrupt, with_peer, with_own}
+use Rattle.x25_circuit.specs.code.Changes.{with_rest, with_peer, with_own}
 use Rattle.x25_circuit.specs.code.Fits.{FitsTalk, first_ground}
 use Rattle.x25_circuit.specs.code.FitsCircuit.{FitsCircuit}
 
@@ -39,9 +39,6 @@ own_fits size v t b fits = record { numbers = fits.numbers; taken = fits.taken; 
 
 pub peer_fits : (size : ℕ) (v : Transfer) (t : Talk) (b : Bool) → FitsTalk size v t → FitsTalk size (record v { peer_ready = b }) (with_peer b t)
 peer_fits size v t b fits = record { numbers = fits.numbers; taken = fits.taken; rest = fits.rest; part = fits.part; short = fits.short; int_out = fits.int_out; peer_ready = refl; own_ready = fits.own_ready }
-
-pub interrupt_fits : (size : ℕ) (v : Transfer) (t : Talk) (b : Bool) → FitsTalk size v t → FitsTalk size (record v { interrupt_out = b }) (with_interrupt b t)
-interrupt_fits size v t b fits = record { numbers = fits.numbers; taken = fits.taken; rest = fits.rest; part = fits.part; short = fits.short; int_out = refl; peer_ready = fits.peer_ready; own_ready = fits.own_ready }
 
 pub taken_more : (r : Receiver) (b : Bool) (n m : ℕ) → IsTrue b → FitsTaken r (if b then n + 1 else n) → m ≡ n + 1 → FitsTaken r m
 taken_more r true n m h fits e = rw e fits

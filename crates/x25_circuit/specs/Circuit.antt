@@ -1,5 +1,5 @@
 -- The state of one logical channel at one end. ITU-T X.25 (10/96), sections 4.1, 4.3.1 and 4.4.
-use Rattle.std.specs.Prelude.{ℕ, List, [], Bool, true, false, if◌then◌else◌}
+use Rattle.std.specs.Prelude.{ℕ, ◌-◌, List, [], Bool, true, false, if◌then◌else◌}
 use Rattle.x25_bits.specs.declared.role.Role.{Role}
 use Rattle.x25_circuit.specs.declared.state.State.{State}
 use Rattle.x25_circuit.specs.declared.state.State.TheVariants.{Free, Open}
@@ -105,3 +105,7 @@ is_open x = is_open_in x.state
 -- how many messages wait: each until its last packet was sent
 abbrev pub waits : Circuit → ℕ
 waits x = wholes x.talk.rest
+
+-- how many messages more may wait, of eight at most (profile)
+abbrev pub message_room : Circuit → ℕ
+message_room x = if is_open x then 8 - waits x else 0

@@ -1,14 +1,17 @@
 ghost use Rattle.std.specs.Prelude.{◌≡◌, ℕ, ◌+◌, ◌<◌, ◌≤◌, false, length, min, max, IfOk, IfErr, OnOk, OnErr};
 ghost use Rattle.x25_circuit.specs.declared.state.State.{State};
+ghost use Rattle.x25_circuit.specs.Awaits.{awaited_in};
 ghost use Rattle.x25_circuit.specs.Message.{no_part, joining};
 ghost use Rattle.x25_circuit.specs.Params.{default_params};
 ghost use Rattle.x25_circuit.specs.Calling.{pulled, pulls_nothing};
 ghost use Rattle.x25_circuit.specs.Circuit.{Settings, begun, entered, forgotten, zeroed, is_free, is_open, waits};
-ghost use Rattle.x25_circuit.specs.Circuit.{outgoing, incoming};
+ghost use Rattle.x25_circuit.specs.Circuit.{message_room, outgoing, incoming};
 ghost use Rattle.x25_circuit.specs.Circuit.{Circuit as Channel};
 
+use crate::awaits::Awaits;
 use crate::error::CircuitError;
 use crate::params::{FlowControl, Params};
+use crate::queue::PLACES;
 use crate::state::State;
 use crate::terms::Terms;
 use crate::transfer::Transfer;
@@ -131,6 +134,18 @@ impl Circuit {
         self.state == State::Open
     }
 
+    /// The answer that this end awaits.
+    pub fn awaits(&self) -> Awaits
+        ensures { (c : Settings) (x : Channel) → FitsCircuit c self.now x → result ≡ awaited_in x.state }
+    {
+        match self.state {
+            State::Free | State::Arriving | State::Open => Awaits::Nothing,
+            State::Calling | State::Collision => Awaits::Acceptance,
+            State::Resetting => Awaits::ResetConfirmation,
+            State::Clearing => Awaits::ClearConfirmation,
+        }
+    }
+
     /// How many messages wait, at most 8. Each has at most 65,535 octets.
     pub fn waits(&self) -> usize
         ensures value { (c : Settings) (x : Channel) → FitsCircuit c self.now x → result ≡ waits x }
@@ -140,6 +155,17 @@ impl Circuit {
         ensures few { result ≤ 8 }
     {
         self.transfer.queue.len()
+    }
+
+    /// How many messages more it takes: 8 less those that wait, in p4 with d1, and else 0.
+    pub fn room(&self) -> usize
+        ensures value { (c : Settings) (x : Channel) → FitsCircuit c self.now x → result ≡ message_room x }
+        ensures few { result ≤ 8 }
+    {
+        if !self.is_open() {
+            return 0;
+        }
+        PLACES - self.waits()
     }
 
     /// How many octets have come of the message of which some packets came, at most 65,535; 0 where there is none.

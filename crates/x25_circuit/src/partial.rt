@@ -3,7 +3,7 @@ ghost use Rattle.std.specs.Prelude.{vec_capacity, IfNone, IfSome, Option, IfOk, 
 
 use crate::codes::{MIXED_QUALIFIERS, PACKET_TOO_LONG};
 use crate::message::Message;
-use crate::octets::{LONGEST_MESSAGE, Octets};
+use crate::octets::{LONGEST_MESSAGE, Octets, with_octets};
 use std::alloc::{AllocError, Global};
 use std::marker::Model;
 use std::mem;
@@ -197,17 +197,15 @@ impl PartialMessage {
         ensures same { self.new ≡ self.old }
         ensures octets { IfSome result (λ octets. octets.items ≡ self.old.part.user) }
         ensures short { IfSome result (λ octets. vec_len octets ≤ 65535) }
+        ensures memory { IfSome result (λ octets. vec_capacity octets ≤ 4096) }
     {
         if self.places.len() > LONGEST_DATA {
             return None;
         }
-        let Ok(mut octets) = self.memory(self.filled) else {
+        let Ok(memory) = self.memory(self.filled) else {
             return None;
         };
-        octets
-            .extend_from_slice(&self.places[..self.filled])
-            .unwrap();
-        Some(octets)
+        Some(with_octets(memory, &self.places[..self.filled]))
     }
 
     /// Keeps memory of a message that was read, for a later one. It is let go of where it is for more than 4,096

@@ -12,7 +12,7 @@ ghost use Rattle.x25_circuit.specs.code.Changes.{with_own, with_sent};
 use crate::codes::INVALID_PS;
 use crate::error::CircuitError;
 use crate::message::Message;
-use crate::octets::Octets;
+use crate::octets::{Octets, with_octets};
 use crate::partial::PartialMessage;
 use crate::queue::Queue;
 use crate::terms::Terms;
@@ -149,9 +149,8 @@ impl Transfer {
         ensures room { self.old.partial.room ≤ self.new.partial.room }
         ensures unchanged { OnErr result (self.new ≡ self.old) }
     {
-        let mut copy = self.memory(user.len())?;
-        copy.extend_from_slice(user).unwrap();
-        let user = Octets::of(copy);
+        let memory = self.memory(user.len())?;
+        let user = Octets::of(with_octets(memory, user));
         self.queue.push(Message { q, user });
         Ok(())
     }

@@ -29,24 +29,24 @@ enum Act {
 /// octets it has; and the third octet of a packet, and how many octets of user data it has.
 type Answer = (u8, Option<(bool, usize)>, Option<(u8, usize)>);
 
-/// What a circuit says: how often it was cleared and reset, whether it is free and is open, how many messages wait, and
-/// how many octets came of one in part.
-type Says = (u64, u64, bool, bool, usize, usize);
+/// What a circuit says: how often it was cleared and reset, whether it is free and is open, how many messages wait, how
+/// many more it takes, and how many octets came of one in part.
+type Says = (u64, u64, bool, bool, usize, usize, usize);
 
 type Row = (Act, Answer, Says);
 
-const FREE: Says = (0, 0, true, false, 0, 0);
+const FREE: Says = (0, 0, true, false, 0, 0, 0);
 
-const OPEN: Says = (0, 0, false, true, 0, 0);
+const OPEN: Says = (0, 0, false, true, 0, 8, 0);
 
-const HAS_128_OCTETS: Says = (0, 0, false, true, 0, 128);
+const HAS_128_OCTETS: Says = (0, 0, false, true, 0, 8, 128);
 
-const ONE_WAITS: Says = (0, 0, false, true, 1, 0);
+const ONE_WAITS: Says = (0, 0, false, true, 1, 7, 0);
 
-const TWO_WAIT: Says = (0, 0, false, true, 2, 0);
+const TWO_WAIT: Says = (0, 0, false, true, 2, 6, 0);
 
 /// In no state of these.
-const BETWEEN: Says = (0, 0, false, false, 0, 0);
+const BETWEEN: Says = (0, 0, false, false, 0, 0, 0);
 
 const CALL: Answer = (0, None, Some((0x0B, 0)));
 
@@ -111,17 +111,17 @@ static REPEATED: [Row; 4] = [
 
 static BETWEEN_CALLS: [Row; 8] = [
     (Act::TooFewOctets, (38, None, Some((0x13, 0))), BETWEEN),
-    (Act::Clear, NOTHING, (1, 0, true, false, 0, 0)),
+    (Act::Clear, NOTHING, (1, 0, true, false, 0, 0, 0)),
     (Act::Zero, NOTHING, FREE),
     (Act::Ask(CLEARS), (30, None, None), FREE),
     (
         Act::Clear,
         (0, None, Some((0x17, 0))),
-        (1, 0, true, false, 0, 0),
+        (1, 0, true, false, 0, 0, 0),
     ),
-    (Act::Ask(CALLS), CALL, (1, 0, false, false, 0, 0)),
-    (Act::CallAccepted, NOTHING, (1, 0, false, true, 0, 0)),
-    (Act::Forget, NOTHING, (1, 0, true, false, 0, 0)),
+    (Act::Ask(CALLS), CALL, (1, 0, false, false, 0, 0, 0)),
+    (Act::CallAccepted, NOTHING, (1, 0, false, true, 0, 8, 0)),
+    (Act::Forget, NOTHING, (1, 0, true, false, 0, 0, 0)),
 ];
 
 static JOINED: [Row; 4] = [
@@ -274,6 +274,7 @@ fn says(circuit: &Circuit) -> Says {
         circuit.is_free(),
         circuit.is_open(),
         circuit.waits(),
+        circuit.room(),
         circuit.octets_joined(),
     )
 }

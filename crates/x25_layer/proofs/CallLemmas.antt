@@ -138,15 +138,6 @@ declined_link (Ok y) fits after x c view v l h e o a is = absurd is
 declined_link (Err f) fits after x c view v l h e (Done next p) a is = tt
 declined_link (Err f) fits after x c view v l h e (Refused d) a is = cc
 
--- where memory is missing
-pub refused_short : (o : Outcome) (e : LayerError) → Some e ≡ refusal_on o → e ≡ error_without_memory o
-refused_short (Done next p) e is = cc
-refused_short (Refused f) e is = cc
-
-pub accepted_short : (o : Outcome) → None ≡ refusal_on o → error.NoMemory ≡ error_without_memory o
-accepted_short (Done next p) is = refl
-accepted_short (Refused f) is = cc
-
 -- a refusal of the circuit, as one of the layer
 pub refused_on : (o : Outcome) (e : CircuitError) → Some e ≡ refusal_of o → Some (error.Circuit e) ≡ refusal_on o
 refused_on (Done next p) e is = cc
@@ -160,10 +151,6 @@ accepted_on (Refused f) is = cc
 pub refusal_goes : (view : LinkView) (c : LayerSettings) (restarts : ℕ) (circuits : ℕ → Circuit) (h : ℕ) (o : Outcome) → refusal_on o ≡ answered_refusal (went view c (outcome_on restarts circuits h o))
 refusal_goes view c restarts circuits h (Done next p) = refl
 refusal_goes view c restarts circuits h (Refused e) = refl
-
--- a refusal that is known, as what is answered
-pub refused_as : (a : Answered) (e : LayerError) → a ≡ Refuses e → Some e ≡ answered_refusal a
-refused_as a e is = sym (ap answered_refusal is)
 
 pub short_layer : (T : Type 0) (c : LayerSettings) (view : LinkView) (v : code.Layer) (l : Layer) (h : ℕ) (e : LayerError) (o : Outcome) → e ≡ error_without_memory o → LayerGives {T = T} c v (Err e) (went view c (outcome_on l.restarts l.circuits h o))
 short_layer t c view v l h e (Done next p) is = is

@@ -20,7 +20,6 @@ pub mod RoundLemmas
 pub mod SettleLemmas
 pub mod PullLemmas
 pub mod FreeLemmas
-pub mod rows
 pub mod ClearLemmas
 pub mod NameLemmas
 pub mod CountLemmas

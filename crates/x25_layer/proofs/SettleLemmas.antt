@@ -198,15 +198,6 @@ restart_in link c l restarting full up at_l is_full =
     ∙ ap (λ (b : Bool). went link c (outcome_in c b l.restarting l.restarts l.circuits Restarts)) is_full
     ∙ ap (λ (b : Bool). went link c (outcome_in c full b l.restarts l.circuits Restarts)) at_l
 
-pub restart_not_up : (link : LinkView) (c : LayerSettings) (l : Layer) → link.is_up ≡ false → calls link c l Restarts ≡ Refuses error.NotUp
-restart_not_up link c l down = ap (λ (b : Bool). if b then went link c (layer_outcome c (link.waits [] == 256) l Restarts) else Refuses error.NotUp) down
-
-pub restart_restarting : (link : LinkView) (c : LayerSettings) (l : Layer) → link.is_up ≡ true → l.restarting ≡ true → calls link c l Restarts ≡ Refuses error.Restarting
-restart_restarting link c l up at_l = restart_in link c l true (link.waits [] == 256) up at_l refl
-
-pub restart_full : (link : LinkView) (c : LayerSettings) (l : Layer) → link.is_up ≡ true → l.restarting ≡ false → link.waits [] ≡ 256 → calls link c l Restarts ≡ Refuses error.QueueFull
-restart_full link c l up at_l full = restart_in link c l false true up at_l (eq-eqb (link.waits []) 256 full)
-
 pub restart_goes : (link : LinkView) (c : LayerSettings) (l : Layer) → link.is_up ≡ true → l.restarting ≡ false → (link.waits [] ≡ 256 → ⊥) → calls link c l Restarts ≡ Went (begin (restarting_from l.restarts l.circuits) (Some (restart 0 0)))
 restart_goes link c l up at_l free =
     restart_in link c l false false up at_l (not_same (link.waits []) 256 free) ∙ ap (λ (s : Putting). Went s) (restart_alone link c l.restarts l.circuits)
@@ -218,12 +209,6 @@ pulls_in : (link : LinkView) (c : LayerSettings) (l : Layer) (restarting : Bool)
 pulls_in link c l restarting up at_l =
     ap (λ (b : Bool). if b then went link c (layer_outcome c (link.waits [] == 256) l PullsAll) else Refuses error.NotUp) up
     ∙ ap (λ (b : Bool). went link c (outcome_in c (link.waits [] == 256) b l.restarts l.circuits PullsAll)) at_l
-
-pub pulls_not_up : (link : LinkView) (c : LayerSettings) (l : Layer) → link.is_up ≡ false → calls link c l PullsAll ≡ Refuses error.NotUp
-pulls_not_up link c l down = ap (λ (b : Bool). if b then went link c (layer_outcome c (link.waits [] == 256) l PullsAll) else Refuses error.NotUp) down
-
-pub pulls_restarting : (link : LinkView) (c : LayerSettings) (l : Layer) → link.is_up ≡ true → l.restarting ≡ true → calls link c l PullsAll ≡ Refuses error.Restarting
-pulls_restarting link c l up at_l = pulls_in link c l true up at_l
 
 pub pulls_go : (link : LinkView) (c : LayerSettings) (l : Layer) → link.is_up ≡ true → l.restarting ≡ false → calls link c l PullsAll ≡ Went (rounds link c (begin l None))
 pulls_go link c l up at_l =

@@ -11,6 +11,7 @@ use Rattle.x25_circuit.specs.Circuit.{Settings, Circuit, begun, forgotten}
 use Rattle.x25_circuit.specs.Notice.{PlainNotice}
 use Rattle.x25_circuit.specs.Hearing.{Answer, answers, undecoded, cause_at, by_role}
 pub mod InPart
+pub mod MessageRoom
 
 -- channels 1 to the first number are configured
 pub record LayerSettings : Type 0 where

@@ -1,5 +1,5 @@
 //! All circuits of a layer at once.
-ghost use Rattle.std.specs.Prelude.{◌≡◌, ℕ, length, IfOk, IfErr};
+ghost use Rattle.std.specs.Prelude.{◌≡◌, ℕ, length, vec_capacity, IfOk, IfErr};
 ghost use Rattle.x25_circuit.specs.Circuit.{forgotten};
 ghost use Rattle.x25_circuit.specs.Circuit.{Circuit as Channel};
 ghost use Rattle.x25_layer.specs.Layer.{LayerSettings, at_rest};
@@ -27,6 +27,7 @@ pub(crate) fn begun_circuits(
           };
         }) v.items at_rest.circuits) }
     ensures count { IfOk result (λ v. length v.items ≡ channels) }
+    ensures places { IfOk result (λ v. vec_capacity v ≡ channels) }
     ensures err { IfErr result (λ e. e ≡ LayerError.NoMemory) }
 {
     let Ok(mut circuits) = Vec::with_capacity(alloc, channels) else {

@@ -34,9 +34,9 @@ type Answer = (u8, Option<usize>);
 /// it has. None where they stay.
 type Puts = Option<&'static [(u8, u8, usize)]>;
 
-/// What a layer says: the name of channel 1 and whether it is open, how many messages wait, and how many octets came of
-/// one in part on channel 1.
-type Says = (Option<Stretch>, bool, usize, usize);
+/// What a layer says: the name of channel 1 and whether it is open, how many messages wait, how many more channel 1
+/// takes, and how many octets came of one in part there.
+type Says = (Option<Stretch>, bool, usize, usize, usize);
 
 type Row = (Act, Answer, Puts, Says);
 
@@ -60,17 +60,17 @@ const RESTARTED: Option<Stretch> = Some(Stretch {
     resets: 0,
 });
 
-const CLOSED: Says = (FIRST, false, 0, 0);
+const CLOSED: Says = (FIRST, false, 0, 0, 0);
 
-const CLOSED_BEHIND_A_RESTART: Says = (RESTARTED, false, 0, 0);
+const CLOSED_BEHIND_A_RESTART: Says = (RESTARTED, false, 0, 0, 0);
 
-const OPEN: Says = (FIRST, true, 0, 0);
+const OPEN: Says = (FIRST, true, 0, 8, 0);
 
-const ONE_WAITS: Says = (FIRST, true, 1, 0);
+const ONE_WAITS: Says = (FIRST, true, 1, 7, 0);
 
-const TWO_WAIT: Says = (FIRST, true, 2, 0);
+const TWO_WAIT: Says = (FIRST, true, 2, 7, 0);
 
-const HAS_TWO_OCTETS: Says = (FIRST, true, 0, 2);
+const HAS_TWO_OCTETS: Says = (FIRST, true, 0, 8, 2);
 
 // `down` leaves the counts, and `up` sets them to 0.
 static COUNTS_STAND: [Row; 7] = [
@@ -235,13 +235,13 @@ static TRANSFERS: [Row; 8] = [
         Act::Take(&[0x10, 0x01, 0x10, 0xAA]),
         OK,
         Some(&[(1, 0x21, 3)]),
-        (FIRST, true, 0, 1),
+        (FIRST, true, 0, 8, 1),
     ),
     (
         Act::Take(&[0x10, 0x02, 0x02, 0xBB]),
         (20, None),
         Some(&[(2, 0x13, 5)]),
-        (FIRST, true, 0, 1),
+        (FIRST, true, 0, 8, 1),
     ),
     (
         Act::Take(&[0x10, 0x01, 0x02, 0xBB]),
@@ -280,13 +280,13 @@ static IN_ALL_FORMS: [Row; 6] = [
         Act::Ask(1, 0),
         OK,
         Some(&[(1, 0x0F, 3)]),
-        (RESTARTED, true, 0, 0),
+        (RESTARTED, true, 0, 8, 0),
     ),
     (
         Act::TakeWide(&[0x50, 0x01, 0x00, 0x68]),
         (0, Some(1)),
         Some(&[(1, 0x21, 3)]),
-        (RESTARTED, true, 0, 0),
+        (RESTARTED, true, 0, 8, 0),
     ),
     (
         Act::Take(&[0x10, 0x01, 0x1B, 0x05]),
@@ -400,6 +400,7 @@ fn says(layer: &Layer) -> Says {
         layer.name(1),
         layer.is_open(1),
         layer.waits(),
+        layer.room(1),
         layer.octets_joined(1),
     )
 }

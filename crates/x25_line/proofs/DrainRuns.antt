@@ -17,7 +17,7 @@ use Rattle.x25_link.specs.Station.{Settings, LinkStation, Side, is_up, is_busy, 
 use Rattle.x25_link.specs.Hearing.{Step, quiet, leaves, other}
 use Rattle.x25_link.specs.Link.{alone, puts, fires, asks_again, connects, disconnects, take_step, put_step, timer_step, connect_step, disconnect_step, abandon_step, put_refusal, timer_refusal, connect_refusal, disconnect_refusal}
 use Rattle.x25_link.specs.laws.LinkLaws.{ended_lists}
-use Rattle.x25_line.specs.laws.Stations.{StationEnd, Stations, Act, Put, Deliver, T1, Connect, Disconnect, Abandon, Lose, Damage, Event, Near, Far, after_step, unless, delivered, is_visible, replaced, acts, swapped, happens, run}
+use Rattle.x25_line.specs.laws.Stations.{StationEnd, Stations, Act, Put, Deliver, T1, Connect, Disconnect, Abandon, Probe, Lose, Damage, Event, Near, Far, after_step, unless, delivered, is_visible, replaced, acts, swapped, happens, run}
 use Rattle.x25_line.specs.laws.StationClaims.{AreJoined}
 use Rattle.x25_line.specs.Healing.{IsDeliver, AreDeliveries}
 use Rattle.x25_line.specs.laws.LawsBelow.{HealingLaws}
@@ -341,6 +341,9 @@ module _ (c d : Settings) (joined : AreJoined c d) where
   within_act Abandon w place h =
       let s = w.near.station in
       holds_if d.longest (is_up s.phase) w (after_step c w w.back [] (abandon_step c s)) h (λ _. ended_within d.longest c.window _ tt)
+  within_act Probe w place h =
+      let s = w.near.station in
+      holds_if d.longest (is_up s.phase) w (after_step c w w.back [] (timer_step c s)) h (λ _. ended_within d.longest c.window (fires c (alone s)).side (fires_within d.longest (nat_lt s.tries c.retries) s h))
   within_act (Lose i) w place h = h
   within_act (Damage i octets) w place h = holds_if d.longest (is_visible octets) w (record w { back = replaced w.back i octets }) h (λ _. h)
 

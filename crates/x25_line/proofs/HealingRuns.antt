@@ -14,7 +14,7 @@ use Rattle.x25_link.specs.Link.{timer_step, timer_runs, timer_refusal, put_refus
 use Rattle.x25_link.specs.laws.WindowMachine.{nothing}
 use Rattle.x25_link.specs.laws.RestLaw.{HasSaidAll, IsAtRest}
 use Rattle.x25_link.specs.laws.AnswerLaw.{says, Asks}
-use Rattle.x25_line.specs.laws.Stations.{StationEnd, Stations, Act, Put, Deliver, T1, Connect, Disconnect, Abandon, Lose, Damage, Event, Near, Far, after_step, unless, delivered, is_visible, acts, swapped, happens, run}
+use Rattle.x25_line.specs.laws.Stations.{StationEnd, Stations, Act, Put, Deliver, T1, Connect, Disconnect, Abandon, Probe, Lose, Damage, Event, Near, Far, after_step, unless, delivered, is_visible, acts, swapped, happens, run}
 use Rattle.x25_line.specs.laws.StationClaims.{AreJoined, AreWhole}
 use Rattle.x25_line.specs.laws.WholeNumbers.{machine_acts}
 use Rattle.x25_line.specs.Healing.{IsDeliver, IsDelivery, AreDeliveries}
@@ -59,6 +59,7 @@ module _ (laws : HealingLaws) where
   said_act c small Disconnect w h =
       said_unless c.window (disconnect_refusal w.near.station.phase) w (after_step c w w.back [] (disconnect_step c w.near.station)) h (laws.rest.disconnect c w.near.station)
   said_act c small Abandon w h = said_if c.window (is_up w.near.station.phase) w (after_step c w w.back [] (abandon_step c w.near.station)) h (laws.rest.abandon c w.near.station)
+  said_act c small Probe w h = said_if c.window (is_up w.near.station.phase) w (after_step c w w.back [] (timer_step c w.near.station)) h (laws.rest.timer c w.near.station small h.low)
   said_act c small (Lose i) w h = h
   said_act c small (Damage i octets) w h = said_damaged (is_visible octets) w _ h h
     where

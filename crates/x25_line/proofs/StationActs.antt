@@ -18,7 +18,7 @@ use Rattle.x25_link.specs.laws.NoteLaw.{IsQuiet}
 use Rattle.x25_link.specs.laws.WindowMachine.{Window, nothing}
 use Rattle.x25_link.specs.laws.SetUp.{Is, TakesPart}
 use Rattle.x25_link.specs.laws.WindowLaw.{Stays, Ends, Follows, IsOut, sets_up, StaysOut}
-use Rattle.x25_line.specs.laws.Stations.{Stations, Act, Put, Deliver, T1, Connect, Disconnect, Abandon, Lose, Damage, after_step, unless, delivered, replaced, is_visible, acts}
+use Rattle.x25_line.specs.laws.Stations.{Stations, Act, Put, Deliver, T1, Connect, Disconnect, Abandon, Probe, Lose, Damage, after_step, unless, delivered, replaced, is_visible, acts}
 use Rattle.x25_line.specs.laws.LawsBelow.{Laws}
 use Rattle.x25_line.specs.laws.PeerClaims.{IsNoFrmr}
 use Rattle.x25_line.proofs.StationLines.{AreParting}
@@ -231,6 +231,16 @@ module _ (c : Settings) (P : Stations → Type 0) (laws : Laws) (keeps : Lasts c
       go (inl u) = keeps.parts w h (abandon_step c w.near.station) (ends_parts Counts (abandon_step c w.near.station) tt (laws.window.abandon c w.near.station (record { up = u.up; sound = u.sound })))
       go (inr away) = not_both (is_up w.near.station.phase) up (away_is_not_up MayAsk w.near.station.phase away.away)
 
+  probe_lasts : (w : Stations) → P w → is_up w.near.station.phase ≡ true → P (after_step c w w.back [] (timer_step c w.near.station))
+  probe_lasts w h up = go (keeps.fits w h)
+    where
+      s : LinkStation
+      s = w.near.station
+
+      go : FitsEnd MayAsk c s (keeps.machine w h) → P (after_step c w w.back [] (timer_step c s))
+      go (inl u) = timer_by w h u (nat_lt s.tries c.retries) (timer_step c s) (laws.window.timer c s (record { up = u.up; sound = u.sound }))
+      go (inr away) = not_both (is_up s.phase) up (away_is_not_up MayAsk s.phase away.away)
+
   pub acts_last : (a : Act) (w : Stations) → P w → (acts c a w).near.came_up ≡ false → P (acts c a w)
   acts_last (Put packet) w h once =
       if_lasts (nat_le (length packet) c.longest) w (unless (put_refusal w.near.station) w (after_step c w w.back (packet ∷ []) (put_step c packet w.near.station))) h (λ short. put_lasts w packet h (leb-true _ _ short))
@@ -239,5 +249,6 @@ module _ (c : Settings) (P : Stations → Type 0) (laws : Laws) (keeps : Lasts c
   acts_last Connect w h once = connect_lasts w h
   acts_last Disconnect w h once = disconnect_lasts w h
   acts_last Abandon w h once = if_lasts (is_up w.near.station.phase) w (after_step c w w.back [] (abandon_step c w.near.station)) h (λ up. abandon_lasts w h up)
+  acts_last Probe w h once = if_lasts (is_up w.near.station.phase) w (after_step c w w.back [] (timer_step c w.near.station)) h (λ up. probe_lasts w h up)
   acts_last (Lose i) w h once = keeps.loses w h i
   acts_last (Damage i octets) w h once = if_lasts (is_visible octets) w (record w { back = replaced w.back i octets }) h (λ visible. keeps.damages w h i octets visible)

@@ -5,7 +5,7 @@ use Rattle.x25_link.specs.declared.error.LinkError.{LinkError}
 use Rattle.x25_link.specs.Station.{Settings, LinkStation, is_up}
 use Rattle.x25_link.specs.Hearing.{Step}
 use Rattle.x25_link.specs.Link.{put_step, put_refusal, timer_step, timer_refusal, connect_step, connect_refusal, disconnect_step, disconnect_refusal, abandon_step}
-use Rattle.x25_line.specs.laws.Stations.{Stations, Act, Put, Deliver, T1, Connect, Disconnect, Abandon, Lose, Damage, Near, Far, after_step, unless, delivered, replaced, is_visible, acts, swapped}
+use Rattle.x25_line.specs.laws.Stations.{Stations, Act, Put, Deliver, T1, Connect, Disconnect, Abandon, Probe, Lose, Damage, Near, Far, after_step, unless, delivered, replaced, is_visible, acts, swapped}
 use Rattle.x25_line.specs.laws.StationClaims.{HandsOne, EachEventHandsOne}
 
 -- a step that hands nothing up, to which nothing was handed down, and that doesn't note LinkUp
@@ -73,6 +73,9 @@ acts_hands c Connect w =
     record { up = h.up; down = h.down; came_up = h.came_up; far = h.far }
 acts_hands c Disconnect w =
     let h = nothing_unless (disconnect_refusal w.near.station.phase) w _ (step_hands_nothing c w w.back (disconnect_step c w.near.station) refl refl) in
+    record { up = h.up; down = h.down; came_up = h.came_up; far = h.far }
+acts_hands c Probe w =
+    let h = nothing_if (is_up w.near.station.phase) w _ (step_hands_nothing c w w.back (timer_step c w.near.station) (timer_packet c w.near.station) (timer_up c w.near.station)) in
     record { up = h.up; down = h.down; came_up = h.came_up; far = h.far }
 acts_hands c Abandon w =
     let h = nothing_if (is_up w.near.station.phase) w _ (step_hands_nothing c w w.back (abandon_step c w.near.station) refl refl) in

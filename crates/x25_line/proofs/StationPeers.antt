@@ -1,5 +1,5 @@
 -- Each act of one of two stations is what a peer may do, so each of them is a peer of the other.
-use Rattle.std.proofs.Common.{◌≡◌, ℕ, ◌+◌, ◌%◌, ◌≤◌, List, [], ◌∷◌, ◌++◌, inl, inr, length, take, remove, Bool, true, false, if◌then◌else◌, Option, Some, None, Result, Ok, Err, refl, sym, ap, ◌∙◌, subst, arith, append-nil}
+use Rattle.std.proofs.Common.{◌≡◌, ℕ, ◌+◌, ◌%◌, ◌≤◌, List, [], ◌∷◌, ◌++◌, inl, inr, length, remove, Bool, true, false, if◌then◌else◌, Option, Some, None, Result, Ok, Err, refl, sym, ap, ◌∙◌, subst, arith, append-nil}
 use Rattle.std.specs.Prelude.{nat_le, option_to_list}
 use Rattle.std.proofs.lemmas.List.{length_push}
 use Rattle.x25_bits.specs.declared.role.Role.{Role}
@@ -19,33 +19,39 @@ use Rattle.x25_link.specs.Hearing.{Step, other}
 use Rattle.x25_link.specs.Link.{take_step, put_step, put_refusal, timer_refusal, connect_refusal, disconnect_refusal}
 use Rattle.x25_link.specs.laws.WindowMachine.{Window, Input, hands_down, receives, nothing}
 use Rattle.x25_link.specs.laws.WindowLaw.{window_of, after_input, MayHandUp, ending_of, brought_by, Stays, Ends, Follows}
-use Rattle.x25_line.specs.laws.InWindow.{IsPrefix}
-use Rattle.x25_line.specs.laws.Stations.{StationEnd, Stations, Act, Put, Deliver, T1, Connect, Disconnect, Abandon, Lose, Damage, Event, Near, Far, after_step, unless, delivered, replaced, is_visible, acts, swapped, happens, run, start}
-use Rattle.x25_line.specs.laws.StationClaims.{AreJoined, IsSetUpOnce, Always, BothInOrder, InOrder, HandsOne}
+use Rattle.x25_line.specs.laws.Stations.{StationEnd, Stations, Act, Put, Deliver, T1, Connect, Disconnect, Abandon, Probe, Lose, Damage, Event, Near, Far, after_step, unless, delivered, replaced, is_visible, acts, swapped, happens, run, start}
+use Rattle.x25_line.specs.laws.StationClaims.{AreJoined, IsSetUpOnce, Always, HandsOne}
 use Rattle.x25_line.specs.laws.LawsBelow.{Laws}
 use Rattle.x25_line.specs.laws.Said.{Said, Tells, said}
-use Rattle.x25_line.specs.laws.Peer.{Peer, fresh_peer, hearing, IsWanted, taking, MayMake, MayHear}
-use Rattle.x25_line.specs.laws.PeerJoined.{our_end, with_peer, Ours, HandsDown, Hears, Loses, Damages, IsReached, at_start, goes_on}
+use Rattle.x25_line.specs.laws.Peer.{Peer, fresh_peer, hearing, IsWanted, taking, MayMake, MaySend, MayHear}
+use Rattle.x25_line.specs.laws.PeerClaims.{NoneIsFrmr}
+use Rattle.x25_link.specs.declared.phase.Notes.{Notes}
+use Rattle.x25_line.specs.laws.PeerJoined.{our_end, with_peer, Ours, HandsDown, Sends, Hears, Loses, Damages, IsReached, at_start, goes_on}
 use Rattle.x25_line.specs.laws.StationPeers.{seen, IsPeer, AreBothPeers}
 use Rattle.x25_line.proofs.StationSends.{AllWithin, within_push}
 use Rattle.x25_line.proofs.StationSteps.{MayBeAway, AsUp, IsAway, FitsEnd, no_packet_of, Leaves, empty_lists}
 use Rattle.x25_line.proofs.StationAway.{is_up_phase, frmr_three}
 use Rattle.x25_line.proofs.StationEvents.{each_hands_one}
 use Rattle.x25_line.proofs.StationRuns.{joined_swapped, once_before}
-use Rattle.x25_line.proofs.StationSays.{machine_of, AllFree, parting_free, frmr_free, free_all, runs_said}
-use Rattle.x25_line.proofs.StationActs.{MayAsk, NoSabm, Parts, ends_parts, Lasts, acts_last}
-use Rattle.x25_line.proofs.PeerRuns.{reached_order}
+use Rattle.x25_line.proofs.StationSays.{machine_of, MayDo, AllFree, parting_free, frmr_free, free_all, runs_said}
+use Rattle.x25_line.proofs.StationActs.{MayAsk, NotesNoFrmr, NoSabm, Parts, ends_parts, Lasts, acts_last}
 
--- the near end of w, with settings d, as a peer of the far end, with settings c
-pub record Seen (c d : Settings) (w : Stations) : Type 0 where
+-- the near end of w, with settings d, as a peer of which R is known
+pub record Seen (d : Settings) (Fine : Type 0) (R : List (List ℕ) → Peer → List (List ℕ) → Type 0) (w : Stations) : Type 0 where
   pub peer : Peer
-  pub reached : IsReached ⊥ c (seen peer w)
+  pub reached : R w.back peer w.out
   pub fits : FitsEnd MayAsk d w.near.station (machine_of d.window peer)
   pub room : peer.sent ≤ peer.acked + d.window
   pub told : peer.told ≤ length peer.taken
   pub within : AllWithin d.longest peer.given
   pub down : peer.given ≡ w.near.down
   pub up : peer.taken ≡ w.near.up
+  pub fine : Fine → NoneIsFrmr w.near.reasons
+
+noted_more : (reasons : List Reason) (noted : Option Reason) → NoneIsFrmr reasons → NotesNoFrmr noted → NoneIsFrmr (reasons ++ option_to_list noted)
+noted_more [] None h n = tt
+noted_more [] (Some reason) h n = (n, tt)
+noted_more (r ∷ rs) noted h n = (h.0, noted_more rs noted h.1 n)
 
 -- anything may be passed over
 pub passes : (p : Peer) (s : Said) → MayMake p s p
@@ -56,11 +62,14 @@ passes p s = refl
 pub low_resolved : (a x : ℕ) → a ≤ resolved a x
 low_resolved a x = omega arith
 
-module _ (c d : Settings) (joined : AreJoined c d) (reads : ReadsSpelled) (laws : Laws) where
+module _ (d : Settings) (high : d.window ≤ 7) (reads : ReadsSpelled) (laws : Laws) (Fine : Type 0) (R : List (List ℕ) → Peer → List (List ℕ) → Type 0) (does : MayDo d Fine R) where
+  abbrev S : Stations → Type 0
+  S w = Seen d Fine R w
+
   -- the peer once what comes has come, before it sends
   record Ready (w : Stations) (os down : List (List ℕ)) (packet : Option (List ℕ)) (v : Window) : Type 0 where
     pub peer : Peer
-    pub reached : IsReached ⊥ c (record { near = w.far; peer = peer; out = os; back = w.out })
+    pub reached : R os peer w.out
     pub is : machine_of d.window peer ≡ v
     pub room : peer.sent ≤ peer.acked + d.window
     pub told : peer.told ≤ length peer.taken
@@ -69,10 +78,10 @@ module _ (c d : Settings) (joined : AreJoined c d) (reads : ReadsSpelled) (laws 
     pub up_is : peer.taken ≡ w.near.up ++ option_to_list packet
 
   -- the station stays Up, and sends
-  stays_seen : (w : Stations) (os down : List (List ℕ)) (input : Input) (step : Step) → Ready w os down step.packet (after_input input step.packet (window_of d.window w.near.station))
-      → Stays d.window input w.near.station step → Seen c d (after_step d w os down step)
-  stays_seen w os down input step r stays =
-      let said = runs_said c d joined reads w.far os w.out r.peer (after_input input step.packet (window_of d.window w.near.station)) r.reached r.is r.room r.told r.within
+  stays_seen : (w : Stations) (h : S w) (os down : List (List ℕ)) (input : Input) (step : Step) → Ready w os down step.packet (after_input input step.packet (window_of d.window w.near.station))
+      → Stays d.window input w.near.station step → S (after_step d w os down step)
+  stays_seen w h os down input step r stays =
+      let said = runs_said d high reads Fine R does os w.out r.peer (after_input input step.packet (window_of d.window w.near.station)) r.reached r.is r.room r.told r.within
       (window_of d.window step.side.near) step.side.out stays.sends
       in
       record {
@@ -84,40 +93,35 @@ module _ (c d : Settings) (joined : AreJoined c d) (reads : ReadsSpelled) (laws 
         within = subst (AllWithin d.longest) (sym said.given) r.within;
         down = said.given ∙ r.down_is;
         up = said.taken ∙ r.up_is;
+        fine = λ f. noted_more w.near.reasons step.notes.down (h.fine f) (subst (λ (n : Notes). NotesNoFrmr n.down) (sym stays.quiet) tt);
       }
 
   -- it leaves Up or is out, and sends nothing that has a number
   parts_seen : (w : Stations) (os : List (List ℕ)) (step : Step) (v : Window) → Ready w os [] None v → AllFree d.role d.longest step.side.out → IsAway MayAsk step.side.near → step.packet ≡ None
-      → Seen c d (after_step d w os [] step)
-  parts_seen w os step v r free away none =
+      → (Fine → NoneIsFrmr (w.near.reasons ++ option_to_list step.notes.down)) → S (after_step d w os [] step)
+  parts_seen w os step v r free away none fine =
       record {
         peer = r.peer;
-        reached = free_all c d joined reads w.far os w.out r.peer step.side.out free r.reached;
+        reached = free_all d high reads Fine R does os w.out r.peer step.side.out free r.reached;
         fits = inr away;
         room = r.room;
         told = r.told;
         within = r.within;
         down = r.down_is;
         up = r.up_is ∙ ap (λ (o : Option (List ℕ)). w.near.up ++ option_to_list o) (sym none);
+        fine = fine;
       }
 
-  parting_seen : (w : Stations) (os : List (List ℕ)) (step : Step) (v : Window) → Ready w os [] None v → Parts step → Seen c d (after_step d w os [] step)
-  parting_seen w os step v r parts = parts_seen w os step v r (parting_free reads d.role d.longest MayAsk step.side.out parts.frames) parts.away parts.packet
+  parting_seen : (w : Stations) (h : S w) (os : List (List ℕ)) (step : Step) (v : Window) → Ready w os [] None v → Parts step → S (after_step d w os [] step)
+  parting_seen w h os step v r parts =
+      parts_seen w os step v r (parting_free reads d.role d.longest MayAsk step.side.out parts.frames) parts.away parts.packet (λ f. noted_more w.near.reasons step.notes.down (h.fine f) parts.noted)
 
-  ends_seen : (w : Stations) (os : List (List ℕ)) (step : Step) (v : Window) (reason : Reason) → Leaves reason → Ready w os [] None v → Ends reason step → Seen c d (after_step d w os [] step)
-  ends_seen w os step v reason leaves r ends = parting_seen w os step v r (ends_parts reason step leaves ends)
-
-  frmr_seen : (w : Stations) (os : List (List ℕ)) (step : Step) (v : Window) → Ready w os [] None v → ((f : Bool) (why : List ℕ) → step.side.out ≡ frmr f why ∷ [] → length why ≡ 3) → Ends FrmrSent step
-      → Seen c d (after_step d w os [] step)
-  frmr_seen w os step v r three ends =
-      let f = ends.frames.0 in
-      let why = ends.frames.1 in
-      parts_seen w os step v r (subst (AllFree d.role d.longest) (sym ends.frames.2) (frmr_free reads d.role d.longest f why (three f why ends.frames.2)))
-      (record { away = subst (MayBeAway MayAsk) (sym ends.phase) tt; empty = empty_lists step.side.near.outgoing step.side.near.taken ends.outgoing ends.taken }) ends.packet
+  ends_seen : (w : Stations) (h : S w) (os : List (List ℕ)) (step : Step) (v : Window) (reason : Reason) → Leaves reason → Ready w os [] None v → Ends reason step → S (after_step d w os [] step)
+  ends_seen w h os step v reason leaves r ends = parting_seen w h os step v r (ends_parts reason step leaves ends)
 
   -- ---- what it is before it sends
 
-  unchanged : (w : Stations) (h : Seen c d w) → Ready w w.back [] None (machine_of d.window h.peer)
+  unchanged : (w : Stations) (h : S w) → Ready w w.back [] None (machine_of d.window h.peer)
   unchanged w h =
       record {
         peer = h.peer;
@@ -134,15 +138,13 @@ module _ (c d : Settings) (joined : AreJoined c d) (reads : ReadsSpelled) (laws 
   as_window : (w : Stations) (os down : List (List ℕ)) (v u : Window) (packet : Option (List ℕ)) → v ≡ u → packet ≡ None → Ready w os down None v → Ready w os down packet u
   as_window w os down v u packet same none r = rw none (subst (λ (z : Window). Ready w os down None z) same r)
 
-  module _ (w : Stations) (h : Seen c d w) (o : List ℕ) (os : List (List ℕ)) (is : w.back ≡ o ∷ os) where
-    -- the front octets come to the peer
-    comes : (q : Peer) → MayHear h.peer (frame_of (other d.role) d.longest o) q → IsReached ⊥ c (record { near = w.far; peer = q; out = os; back = w.out })
-    comes q may =
-        goes_on (seen h.peer w) (record { near = w.far; peer = q; out = os; back = w.out }) h.reached
-        (Hears o os q is (subst (λ (r : Result PlainFrame FrameError). MayHear h.peer r q) there may))
-      where
-        there : frame_of (other d.role) d.longest o ≡ frame_of c.role c.longest o
-        there = ap (λ (r : Role). frame_of r d.longest o) joined.near_role ∙ ap (λ (n1 : ℕ). frame_of c.role n1 o) (sym joined.longest)
+  module _ (w : Stations) (h : S w) (o : List ℕ) (os : List (List ℕ)) (is : w.back ≡ o ∷ os) where
+    -- the front octets come to it
+    came : R (o ∷ os) h.peer w.out
+    came = subst (λ (xs : List (List ℕ)). R xs h.peer w.out) is h.reached
+
+    comes : (q : Peer) → MayHear h.peer (frame_of (other d.role) d.longest o) q → R os q w.out
+    comes q may = does.hears o os h.peer q w.out may came
 
     -- and are passed over
     passed : Ready w os [] None (machine_of d.window h.peer)
@@ -206,35 +208,43 @@ module _ (c d : Settings) (joined : AreJoined c d) (reads : ReadsSpelled) (laws 
       step = take_step d o s
 
       quiet_seen : (input : Input) → after_input input step.packet (window_of k s) ≡ window_of k s → ((y : List ℕ) → MayHandUp input (Some y) (window_of k s) → ⊥) → Stays k input s step
-          → Seen c d (after_step d w os [] step)
+          → S (after_step d w os [] step)
       quiet_seen input same never stays =
-          stays_seen w os [] input step
+          stays_seen w h os [] input step
           (as_window w os [] (machine_of k h.peer) (after_input input step.packet (window_of k s)) step.packet (sym u.same ∙ sym same) (no_packet_of input step.packet (window_of k s) never stays.hands_up) passed) stays
 
-      three : (r : Result PlainFrame FrameError) → r ≡ frame_of (other d.role) d.longest o → ending_of r (window_of k s) ≡ Some FrmrSent → (f : Bool) (why : List ℕ) → step.side.out ≡ frmr f why ∷ [] → length why ≡ 3
-      three r read ending f why out = frmr_three d o s (is_up_phase s.phase u.up) r read f why ending out
+      -- it finds a fault
+      fault_seen : (r : Result PlainFrame FrameError) → r ≡ frame_of (other d.role) d.longest o → ending_of r (window_of k s) ≡ Some FrmrSent → Ends FrmrSent step → S (after_step d w os [] step)
+      fault_seen r read ending ends =
+          let f = ends.frames.0 in
+          let why = ends.frames.1 in
+          let three = frmr_three d o s (is_up_phase s.phase u.up) r read f why ending ends.frames.2 in
+          let found = subst (λ (x : Result PlainFrame FrameError). ending_of x (machine_of k h.peer) ≡ Some FrmrSent) read (ap (ending_of r) (sym u.same) ∙ ending) in
+          parts_seen w os step (machine_of k h.peer) passed (subst (AllFree d.role d.longest) (sym ends.frames.2) (frmr_free reads d.role d.longest f why three))
+          (record { away = subst (MayBeAway MayAsk) (sym ends.phase) tt; empty = empty_lists step.side.near.outgoing step.side.near.taken ends.outgoing ends.taken }) ends.packet
+          (λ fine. absurd (does.faultless o os h.peer w.out found came fine))
 
       -- a frame with an N(R), which may be invalid
       numbered_seen : (f : PlainFrame) (nr : ℕ) → Ok f ≡ frame_of (other d.role) d.longest o → (b : Bool) → nat_le (resolved s.outgoing.acked nr) s.outgoing.sent ≡ b
-          → ((if b then None else Some FrmrSent) ≡ Some FrmrSent → ending_of (Ok f) (window_of k s) ≡ Some FrmrSent) → (Stays k (receives f) s step → Seen c d (after_step d w os [] step))
-          → Follows (if b then None else Some FrmrSent) k (receives f) s step → Seen c d (after_step d w os [] step)
+          → ((if b then None else Some FrmrSent) ≡ Some FrmrSent → ending_of (Ok f) (window_of k s) ≡ Some FrmrSent) → (Stays k (receives f) s step → S (after_step d w os [] step))
+          → Follows (if b then None else Some FrmrSent) k (receives f) s step → S (after_step d w os [] step)
       numbered_seen f nr read true test ending stays follows = stays follows
-      numbered_seen f nr read false test ending stays follows = frmr_seen w os step (machine_of k h.peer) passed (three (Ok f) read (ending refl)) follows
+      numbered_seen f nr read false test ending stays follows = fault_seen (Ok f) read (ending refl) follows
 
       told_seen : (f : PlainFrame) (nr : ℕ) → ((packet : Option (List ℕ)) → after_input (receives f) packet (window_of k s) ≡ after (window_of k s) (Hear nr))
           → ((y : List ℕ) → MayHandUp (receives f) (Some y) (window_of k s) → ⊥) → MayHear h.peer (frame_of (other d.role) d.longest o) (hearing true nr h.peer) → Stays k (receives f) s step
-          → Seen c d (after_step d w os [] step)
+          → S (after_step d w os [] step)
       told_seen f nr same never may stays =
-          stays_seen w os [] (receives f) step
+          stays_seen w h os [] (receives f) step
           (as_window w os [] (after (machine_of k h.peer) (Hear nr)) (after_input (receives f) step.packet (window_of k s)) step.packet
           (ap (λ (z : Window). after z (Hear nr)) (sym u.same) ∙ sym (same step.packet)) (no_packet_of (receives f) step.packet (window_of k s) never stays.hands_up) (heard nr may)) stays
 
-      info_seen : (ns nr : ℕ) (pf : Bool) (x : List ℕ) → Ok (info ns nr pf x) ≡ frame_of (other d.role) d.longest o → Stays k (receives (info ns nr pf x)) s step → Seen c d (after_step d w os [] step)
+      info_seen : (ns nr : ℕ) (pf : Bool) (x : List ℕ) → Ok (info ns nr pf x) ≡ frame_of (other d.role) d.longest o → Stays k (receives (info ns nr pf x)) s step → S (after_step d w os [] step)
       info_seen ns nr pf x read stays = go step.packet refl stays.hands_up
         where
-          go : (packet : Option (List ℕ)) → step.packet ≡ packet → MayHandUp (receives (info ns nr pf x)) packet (window_of k s) → Seen c d (after_step d w os [] step)
+          go : (packet : Option (List ℕ)) → step.packet ≡ packet → MayHandUp (receives (info ns nr pf x)) packet (window_of k s) → S (after_step d w os [] step)
           go None none may =
-              stays_seen w os [] (receives (info ns nr pf x)) step
+              stays_seen w h os [] (receives (info ns nr pf x)) step
               (as_window w os [] (after (machine_of k h.peer) (Hear nr)) (after_input (receives (info ns nr pf x)) step.packet (window_of k s)) step.packet
               (ap (λ (z : Window). after z (Hear nr)) (sym u.same) ∙ sym (ap (λ (p : Option (List ℕ)). after_input (receives (info ns nr pf x)) p (window_of k s)) none)) none
               (heard nr (subst (λ (r : Result PlainFrame FrameError). MayHear h.peer r (hearing true nr h.peer)) read (true, false, tt, refl)))) stays
@@ -246,9 +256,9 @@ module _ (c d : Settings) (joined : AreJoined c d) (reads : ReadsSpelled) (laws 
               ap (λ (z : Window). after (after z (Hear nr)) (Take 0 x)) (sym u.same) ∙ ap (λ (z : List ℕ). after (after (window_of k s) (Hear nr)) (Take 0 z)) may.1 in
               let packet : Ready w os [] (Some y) (after_input (receives (info ns nr pf x)) (Some y) (window_of k s)) =
               subst (λ (z : List ℕ). Ready w os [] (Some z) (after_input (receives (info ns nr pf x)) (Some y) (window_of k s))) may.1 (subst (λ (z : Window). Ready w os [] (Some x) z) same ready) in
-              stays_seen w os [] (receives (info ns nr pf x)) step (subst (λ (p : Option (List ℕ)). Ready w os [] p (after_input (receives (info ns nr pf x)) p (window_of k s))) (sym some) packet) stays
+              stays_seen w h os [] (receives (info ns nr pf x)) step (subst (λ (p : Option (List ℕ)). Ready w os [] p (after_input (receives (info ns nr pf x)) p (window_of k s))) (sym some) packet) stays
 
-      read_seen : (r : Result PlainFrame FrameError) → r ≡ frame_of (other d.role) d.longest o → NoSabm r → Follows (ending_of r (window_of k s)) k (brought_by r) s step → Seen c d (after_step d w os [] step)
+      read_seen : (r : Result PlainFrame FrameError) → r ≡ frame_of (other d.role) d.longest o → NoSabm r → Follows (ending_of r (window_of k s)) k (brought_by r) s step → S (after_step d w os [] step)
       read_seen (Ok (info ns nr pf x)) read no_sabm follows = numbered_seen (info ns nr pf x) nr read (nat_le (resolved s.outgoing.acked nr) s.outgoing.sent) refl (λ e. e) (info_seen ns nr pf x read) follows
       read_seen (Ok (rr command nr pf)) read no_sabm follows =
           numbered_seen (rr command nr pf) nr read (nat_le (resolved s.outgoing.acked nr) s.outgoing.sent) refl (λ e. e)
@@ -260,28 +270,28 @@ module _ (c d : Settings) (joined : AreJoined c d) (reads : ReadsSpelled) (laws 
           numbered_seen (rej command nr pf) nr read (nat_le (resolved s.outgoing.acked nr) s.outgoing.sent) refl (λ e. e)
           (told_seen (rej command nr pf) nr (λ packet. refl) (λ y never. never) (subst (λ (r : Result PlainFrame FrameError). MayHear h.peer r (hearing true nr h.peer)) read (true, refl))) follows
       read_seen (Ok (sabm p)) read no_sabm follows = absurd (no_sabm p refl)
-      read_seen (Ok (disc p)) read no_sabm follows = ends_seen w os step (machine_of k h.peer) Disc tt passed follows
+      read_seen (Ok (disc p)) read no_sabm follows = ends_seen w h os step (machine_of k h.peer) Disc tt passed follows
       read_seen (Ok (ua p)) read no_sabm follows = quiet_seen (receives (ua p)) refl (λ y never. never) follows
-      read_seen (Ok (dm p)) read no_sabm follows = ends_seen w os step (machine_of k h.peer) Dm tt passed follows
-      read_seen (Ok (frmr p why)) read no_sabm follows = ends_seen w os step (machine_of k h.peer) FrmrGot tt passed follows
-      read_seen (Err (Undefined control)) read no_sabm follows = frmr_seen w os step (machine_of k h.peer) passed (three (Err (Undefined control)) read refl) follows
-      read_seen (Err (NoInfoAllowed control)) read no_sabm follows = frmr_seen w os step (machine_of k h.peer) passed (three (Err (NoInfoAllowed control)) read refl) follows
-      read_seen (Err TooLong) read no_sabm follows = frmr_seen w os step (machine_of k h.peer) passed (three (Err TooLong) read refl) follows
+      read_seen (Ok (dm p)) read no_sabm follows = ends_seen w h os step (machine_of k h.peer) Dm tt passed follows
+      read_seen (Ok (frmr p why)) read no_sabm follows = ends_seen w h os step (machine_of k h.peer) FrmrGot tt passed follows
+      read_seen (Err (Undefined control)) read no_sabm follows = fault_seen (Err (Undefined control)) read refl follows
+      read_seen (Err (NoInfoAllowed control)) read no_sabm follows = fault_seen (Err (NoInfoAllowed control)) read refl follows
+      read_seen (Err TooLong) read no_sabm follows = fault_seen (Err TooLong) read refl follows
       read_seen (Err error) read no_sabm follows = quiet_seen nothing refl (λ y never. never) follows
 
   -- ---- each act
 
   -- a packet is handed down
-  put_up : (w : Stations) (h : Seen c d w) (packet : List ℕ) → AsUp d w.near.station (machine_of d.window h.peer) → length packet ≤ d.longest → Seen c d (after_step d w w.back (packet ∷ []) (put_step d packet w.near.station))
+  put_up : (w : Stations) (h : S w) (packet : List ℕ) → AsUp d w.near.station (machine_of d.window h.peer) → length packet ≤ d.longest → S (after_step d w w.back (packet ∷ []) (put_step d packet w.near.station))
   put_up w h packet u short =
       let stays = laws.window.put d packet w.near.station (record { up = u.up; sound = u.sound }) in
       let step = put_step d packet w.near.station in
       let p : Peer = record h.peer { given = h.peer.given ++ packet ∷ [] } in
-      stays_seen w w.back (packet ∷ []) (hands_down packet) step
+      stays_seen w h w.back (packet ∷ []) (hands_down packet) step
       (rw (no_packet_of (hands_down packet) step.packet (window_of d.window w.near.station) (λ y never. never) stays.hands_up)
       (record {
         peer = p;
-        reached = goes_on (seen h.peer w) (seen p w) h.reached (HandsDown packet);
+        reached = does.handed w.back h.peer w.out packet h.reached;
         is = ap (λ (z : Window). after z (HandDown packet)) (sym u.same);
         room = h.room;
         told = h.told;
@@ -292,16 +302,16 @@ module _ (c d : Settings) (joined : AreJoined c d) (reads : ReadsSpelled) (laws 
       stays
 
   -- nothing is brought
-  rests_seen : (w : Stations) (h : Seen c d w) (step : Step) → AsUp d w.near.station (machine_of d.window h.peer) → Stays d.window nothing w.near.station step → Seen c d (after_step d w w.back [] step)
+  rests_seen : (w : Stations) (h : S w) (step : Step) → AsUp d w.near.station (machine_of d.window h.peer) → Stays d.window nothing w.near.station step → S (after_step d w w.back [] step)
   rests_seen w h step u stays =
-      stays_seen w w.back [] nothing step
+      stays_seen w h w.back [] nothing step
       (as_window w w.back [] (machine_of d.window h.peer) (window_of d.window w.near.station) step.packet (sym u.same) (no_packet_of nothing step.packet (window_of d.window w.near.station) (λ y never. never) stays.hands_up) (unchanged w h)) stays
 
-  -- the line to the peer
-  line_seen : (w : Stations) (os : List (List ℕ)) (h : Seen c d w) → IsReached ⊥ c (record { near = w.far; peer = h.peer; out = os; back = w.out }) → Seen c d (record w { back = os })
-  line_seen w os h reached = record { peer = h.peer; reached = reached; fits = h.fits; room = h.room; told = h.told; within = h.within; down = h.down; up = h.up }
+  -- the line to it
+  line_seen : (w : Stations) (os : List (List ℕ)) (h : S w) → R os h.peer w.out → S (record w { back = os })
+  line_seen w os h reached = record { peer = h.peer; reached = reached; fits = h.fits; room = h.room; told = h.told; within = h.within; down = h.down; up = h.up; fine = h.fine }
 
-  lasts : Lasts d (Seen c d)
+  lasts : Lasts d S
   lasts =
       record {
         machine = λ w h. machine_of d.window h.peer;
@@ -311,16 +321,16 @@ module _ (c d : Settings) (joined : AreJoined c d) (reads : ReadsSpelled) (laws 
             (laws.window.take d o w.near.station (record { up = u.up; sound = u.sound }) (frame_of (other d.role) d.longest o) refl);
         puts = put_up;
         rests = rests_seen;
-        parts = λ w h step parts. parting_seen w w.back step (machine_of d.window h.peer) (unchanged w h) parts;
-        passes = λ w h o os is step parts. parting_seen w os step (machine_of d.window h.peer) (passed w h o os is) parts;
-        loses = λ w h i. line_seen w (remove w.back i) h (goes_on (seen h.peer w) (record { near = w.far; peer = h.peer; out = remove w.back i; back = w.out }) h.reached (Loses i));
+        parts = λ w h step parts. parting_seen w h w.back step (machine_of d.window h.peer) (unchanged w h) parts;
+        passes = λ w h o os is step parts. parting_seen w h os step (machine_of d.window h.peer) (passed w h o os is) parts;
+        loses = λ w h i. line_seen w (remove w.back i) h (does.loses w.back h.peer w.out i h.reached);
         damages = λ w h i octets visible.
-            line_seen w (replaced w.back i octets) h (goes_on (seen h.peer w) (record { near = w.far; peer = h.peer; out = replaced w.back i octets; back = w.out }) h.reached (Damages i octets visible));
+            line_seen w (replaced w.back i octets) h (does.damages w.back h.peer w.out i octets visible h.reached);
       }
 
   -- what the near end does, it may do as a peer
-  peer_acts : (a : Act) (w : Stations) → Seen c d w → (acts d a w).near.came_up ≡ false → Seen c d (acts d a w)
-  peer_acts a w h once = acts_last d (Seen c d) laws lasts a w h once
+  pub peer_acts : (a : Act) (w : Stations) → S w → (acts d a w).near.came_up ≡ false → S (acts d a w)
+  peer_acts a w h once = acts_last d S laws lasts a w h once
 
 -- ---- what the station does that sees the peer
 
@@ -347,11 +357,43 @@ alike c p T1 w = alike_unless p (timer_refusal w.near.station) w _ (our_end (wit
 alike c p Connect w = alike_unless p (connect_refusal w.near.station.phase) w _ (our_end (with_peer p w)) _ refl refl
 alike c p Disconnect w = alike_unless p (disconnect_refusal w.near.station.phase) w _ (our_end (with_peer p w)) _ refl refl
 alike c p Abandon w = alike_if p (is_up w.near.station.phase) w _ (our_end (with_peer p w)) _ refl refl
+alike c p Probe w = alike_if p (is_up w.near.station.phase) w _ (our_end (with_peer p w)) _ refl refl
 alike c p (Lose i) w = refl
 alike c p (Damage i octets) w = alike_if p (is_visible octets) w _ (our_end (with_peer p w)) _ refl refl
 
--- the near end of w sees the far end as a peer, and acts
-station_acts : (c d : Settings) (a : Act) (w : Stations) → Seen c d (swapped w) → Seen c d (swapped (acts c a w))
+-- ---- one station sees the other as a peer
+
+abbrev pub IsPeerOf : Settings → StationEnd → List (List ℕ) → Peer → List (List ℕ) → Type 0
+IsPeerOf c near os p out = IsReached ⊥ c (record { near = near; peer = p; out = os; back = out })
+
+peer_may : (c d : Settings) → AreJoined c d → (near : StationEnd) → MayDo d ⊥ (IsPeerOf c near)
+peer_may c d joined near = record {
+  handed = λ os p out packet h. goes_on _ _ h (HandsDown packet);
+  sends = λ os p q out octets may h. goes_on _ _ h (Sends octets q (subst (λ (r : Result PlainFrame FrameError). MaySend ⊥ p r q) (there octets) may));
+  hears = λ o os p q out may h. goes_on _ _ h (Hears o os q refl (subst (λ (r : Result PlainFrame FrameError). MayHear p r q) (here o) may));
+  loses = λ os p out i h. goes_on _ _ h (Loses i);
+  damages = λ os p out i octets visible h. goes_on _ _ h (Damages i octets visible);
+  faultless = λ o os p out ending h never. never;
+}
+  where
+    there : (octets : List ℕ) → frame_of d.role d.longest octets ≡ frame_of (other c.role) c.longest octets
+    there octets = ap (λ (r : Role). frame_of r d.longest octets) (sym joined.far_role) ∙ ap (λ (n1 : ℕ). frame_of (other c.role) n1 octets) (sym joined.longest)
+
+    here : (o : List ℕ) → frame_of (other d.role) d.longest o ≡ frame_of c.role c.longest o
+    here o = ap (λ (r : Role). frame_of r d.longest o) joined.near_role ∙ ap (λ (n1 : ℕ). frame_of c.role n1 o) (sym joined.longest)
+
+abbrev SeenBy : Settings → Settings → Stations → Type 0
+SeenBy c d w = Seen d ⊥ (IsPeerOf c w.far) w
+
+-- the end that is seen acts
+own_acts : (c d : Settings) → AreJoined c d → ReadsSpelled → Laws → (a : Act) (w : Stations) → SeenBy c d w → (acts d a w).near.came_up ≡ false → SeenBy c d (acts d a w)
+own_acts c d joined reads laws a w h once =
+    let hands : HandsOne a w (acts d a w) = each_hands_one d c (Near a) w in
+    subst (λ (far : StationEnd). Seen d ⊥ (IsPeerOf c far) (acts d a w)) (sym hands.far)
+    (peer_acts d joined.far_high reads laws ⊥ (IsPeerOf c w.far) (peer_may c d joined w.far) a w h once)
+
+-- the end that sees it acts
+station_acts : (c d : Settings) (a : Act) (w : Stations) → SeenBy c d (swapped w) → SeenBy c d (swapped (acts c a w))
 station_acts c d a w h =
     let hands : HandsOne a w (acts c a w) = each_hands_one c d (Near a) w in
     let same : w.far ≡ (acts c a w).far = sym hands.far in
@@ -364,26 +406,27 @@ station_acts c d a w h =
       within = h.within;
       down = h.down ∙ ap (λ (e : StationEnd). e.down) same;
       up = h.up ∙ ap (λ (e : StationEnd). e.up) same;
+      fine = λ never. absurd never;
     }
 
 -- ---- runs
 
 record Both (c d : Settings) (w : Stations) : Type 0 where
-  pub near : Seen d c w
-  pub far : Seen c d (swapped w)
+  pub near : SeenBy d c w
+  pub far : SeenBy c d (swapped w)
 
 happens_both : (c d : Settings) → AreJoined c d → ReadsSpelled → Laws → (e : Event) (w : Stations) → IsSetUpOnce (happens c d e w) → Both c d w → Both c d (happens c d e w)
 happens_both c d joined reads laws (Near act) w once h =
-    record { near = peer_acts d c (joined_swapped c d joined) reads laws act w h.near once.near; far = station_acts c d act w h.far }
+    record { near = own_acts d c (joined_swapped c d joined) reads laws act w h.near once.near; far = station_acts c d act w h.far }
 happens_both c d joined reads laws (Far act) w once h =
-    record { near = station_acts d c act (swapped w) h.near; far = peer_acts c d joined reads laws act (swapped w) h.far once.far }
+    record { near = station_acts d c act (swapped w) h.near; far = own_acts c d joined reads laws act (swapped w) h.far once.far }
 
 run_both : (c d : Settings) → AreJoined c d → ReadsSpelled → Laws → (es : List Event) (w : Stations) → Both c d w → IsSetUpOnce (run c d es w) → Both c d (run c d es w)
 run_both c d joined reads laws [] w h once = h
 run_both c d joined reads laws (e ∷ es) w h once =
     run_both c d joined reads laws es (happens c d e w) (happens_both c d joined reads laws e w (once_before c d es (happens c d e w) once) h) once
 
-start_seen : (c d : Settings) → Seen c d start
+start_seen : (c d : Settings) → SeenBy c d start
 start_seen c d =
     record {
       peer = fresh_peer;
@@ -394,31 +437,16 @@ start_seen c d =
       within = tt;
       down = refl;
       up = refl;
+      fine = λ never. absurd never;
     }
 
 -- ---- the claims
 
-is_peer : (c d : Settings) (w : Stations) → Seen c d w → IsPeer c w
+is_peer : (c d : Settings) (w : Stations) → SeenBy c d w → IsPeer c w
 is_peer c d w h = record { peer = h.peer; reached = h.reached; given = h.down; taken = h.up }
-
--- what the far end was handed down is what its peer took
-peer_in_order : (c : Settings) → ReadsSpelled → Laws → c.window ≤ 7 → (w : Stations) → IsPeer c w → w.far.came_up ≡ false → InOrder w.far w.near
-peer_in_order c reads laws high w is once =
-    let order = reached_order ⊥ c reads laws high (seen is.peer w) is.reached once in
-    record {
-      begins = subst (λ (xs : List (List ℕ)). IsPrefix xs w.far.down) is.taken order.there;
-      acked = subst (λ (xs : List (List ℕ)). IsPrefix (take w.far.station.outgoing.acked w.far.down) xs) is.taken order.acked;
-      idle = λ idle. sym is.taken ∙ order.idle idle;
-    }
 
 module _ (reads : ReadsSpelled) (laws : Laws) where
   pub both_peers : Always AreBothPeers
   both_peers c d joined events once =
       let both = run_both c d joined reads laws events start (record { near = start_seen d c; far = start_seen c d }) once in
       (is_peer d c (run c d events start) both.near, is_peer c d (swapped (run c d events start)) both.far)
-
-  pub keeps_order : Always BothInOrder
-  keeps_order c d joined events once =
-      let w = run c d events start in
-      let both = both_peers c d joined events once in
-      (peer_in_order c reads laws joined.near_high (swapped w) both.1 once.near, peer_in_order d reads laws joined.far_high w both.0 once.far)

@@ -21,7 +21,7 @@ use Rattle.x25_link.specs.laws.SetUp.{Is, TakesPart}
 use Rattle.x25_link.specs.laws.WindowLaw.{Follows, IsOut, sets_up, StaysOut}
 use Rattle.x25_line.specs.laws.Line.{Line, moved, swapped as line_swapped}
 use Rattle.x25_line.specs.laws.Line.Move.{HandsDown, Loses}
-use Rattle.x25_line.specs.laws.Stations.{StationEnd, Stations, Act, Put, Deliver, T1, Connect, Disconnect, Abandon, Lose, Damage, Event, Near, Far, after_step, unless, delivered, replaced, is_visible, acts, swapped, happens, run, fresh_station, start}
+use Rattle.x25_line.specs.laws.Stations.{StationEnd, Stations, Act, Put, Deliver, T1, Connect, Disconnect, Abandon, Probe, Lose, Damage, Event, Near, Far, after_step, unless, delivered, replaced, is_visible, acts, swapped, happens, run, fresh_station, start}
 use Rattle.x25_line.specs.laws.WholeNumbers.{first_of, place_of, taken_out, left_at, place_taken, machine_acts, machine_happens, machine_run, machine_at_start}
 use Rattle.x25_line.specs.laws.LawsBelow.{Laws}
 use Rattle.x25_line.specs.laws.StationClaims.{AreJoined, IsSetUpOnce, AcceptsNoConnect, AcceptsNoConnectAt, NoneConnects, number_in, numbered_on, IsReached, at_start, near_moves, far_moves, AreWhole, NotesUp, HandsOne}
@@ -230,6 +230,16 @@ module _ (MayAsk : Type 0) (c d : Settings) (joined : AreJoined c d) (reads : Re
       go (inl u) = ends_joint MayAsk c d joined reads w l h u.up w.back (disconnect_step c s) Local tt h.back h.back_orderly (laws.disconnect_tells c s) (laws.window.disconnect c s (record { up = u.up; sound = u.sound }))
       go (inr away) = by_phase s.phase refl away away.away
 
+  probe_joint : (w : Stations) (l : Line (List ℕ)) → Joint MayAsk c d w l → is_up w.near.station.phase ≡ true → Leads MayAsk c d w l l.back (after_step c w w.back [] (timer_step c w.near.station))
+  probe_joint w l h up = go h.near
+    where
+      s : LinkStation
+      s = w.near.station
+
+      go : FitsEnd MayAsk c s l.near → Leads MayAsk c d w l l.back (after_step c w w.back [] (timer_step c s))
+      go (inl u) = timer_by w l h u (nat_lt s.tries c.retries) (timer_step c s) (laws.timer_tells c s) (laws.window.timer c s (record { up = u.up; sound = u.sound }))
+      go (inr away) = not_both (is_up s.phase) up (away_is_not_up MayAsk s.phase away.away)
+
   abandon_joint : (w : Stations) (l : Line (List ℕ)) → Joint MayAsk c d w l → is_up w.near.station.phase ≡ true → Leads MayAsk c d w l l.back (after_step c w w.back [] (abandon_step c w.near.station))
   abandon_joint w l h up = go h.near
     where
@@ -299,6 +309,7 @@ module _ (MayAsk : Type 0) (c d : Settings) (joined : AreJoined c d) (reads : Re
   acts_joint Connect w l once may h = connect_joint w l h may
   acts_joint Disconnect w l once may h = disconnect_joint w l h
   acts_joint Abandon w l once may h = leads_if MayAsk c d (is_up w.near.station.phase) w (after_step c w w.back [] (abandon_step c w.near.station)) l h (λ up. abandon_joint w l h up)
+  acts_joint Probe w l once may h = leads_if MayAsk c d (is_up w.near.station.phase) w (after_step c w w.back [] (timer_step c w.near.station)) l h (λ up. probe_joint w l h up)
   acts_joint (Lose i) w l once may h =
       taken_off w l (place_of (other c.role) c.longest w.back i) (remove w.back i) h (shows_lost (other c.role) c.longest w.back i l.back h.back)
       (orderly_lost MayAsk (other c.role) c.longest w.back i h.back_orderly)

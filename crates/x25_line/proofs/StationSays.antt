@@ -1,5 +1,5 @@
--- What a station sends, a peer may send.
-use Rattle.std.proofs.Common.{◌≡◌, ℕ, ◌+◌, ◌≤◌, List, [], ◌∷◌, ◌++◌, length, map, Bool, Option, Some, None, Result, Ok, refl, sym, ap, ◌∙◌, subst, arith, append_assoc, append-nil}
+-- What an end may do that keeps the rules of a peer; and what a station sends, which is that.
+use Rattle.std.proofs.Common.{◌≡◌, ℕ, ◌+◌, ◌≤◌, List, [], ◌∷◌, ◌++◌, length, map, remove, Bool, true, Option, Some, None, Result, Ok, refl, sym, ap, ◌∙◌, subst, arith, append_assoc, append-nil}
 use Rattle.std.specs.List.{slice_get}
 use Rattle.std.proofs.lemmas.List.{map-append}
 use Rattle.x25_bits.specs.declared.role.Role.{Role}
@@ -12,11 +12,12 @@ use Rattle.x25_window.specs.laws.Window.{Step, Frame, Allows, after, frame_of as
 use Rattle.x25_window.specs.laws.Window.Step.{Send, Tell}
 use Rattle.x25_link.specs.Station.{Settings}
 use Rattle.x25_link.specs.Hearing.{other}
+use Rattle.x25_link.specs.declared.phase.Reason.TheVariants.{FrmrSent}
+use Rattle.x25_link.specs.laws.WindowLaw.{ending_of}
 use Rattle.x25_link.specs.laws.WindowMachine.{Window, ShowsItem, Shows, ShowAll, IsSent, Runs, rests, goes_on}
-use Rattle.x25_line.specs.laws.Stations.{StationEnd}
-use Rattle.x25_line.specs.laws.StationClaims.{AreJoined, number_in}
-use Rattle.x25_line.specs.laws.Peer.{Peer, MaySend, numbered_to, told_to}
-use Rattle.x25_line.specs.laws.PeerJoined.{Sends, IsReached, goes_on as reaches}
+use Rattle.x25_line.specs.laws.Stations.{replaced, is_visible}
+use Rattle.x25_line.specs.laws.StationClaims.{number_in}
+use Rattle.x25_line.specs.laws.Peer.{Peer, MaySend, MayHear, numbered_to, told_to}
 use Rattle.x25_line.proofs.StationLines.{AreParting, good_reads}
 use Rattle.x25_line.proofs.StationSends.{AllWithin, Item, item_at, tell_good, send_good, not_none}
 
@@ -94,73 +95,76 @@ parting_free reads from n1 MayAsk (frame ∷ fs) h = absurd h
 pub frmr_free : ReadsSpelled → (from : Role) (n1 : ℕ) (f : Bool) (why : List ℕ) → length why ≡ 3 → AllFree from n1 (frmr f why ∷ [])
 frmr_free reads from n1 f why three = (record { reads = reads from n1 (frmr f why) _ (record { in_range = tt; carries = three; within = tt; spelling = refl }); none = refl }, tt)
 
--- ---- all that is sent in a step, by the end d, which `near` with settings c sees as its peer
+-- ---- what an end may do, as what is known of it goes on
 
-module _ (c d : Settings) (joined : AreJoined c d) (reads : ReadsSpelled) (near : StationEnd) (out : List (List ℕ)) where
+-- What is known of it: the line to it, the peer that it is, and the line from it. `Fine` holds where no fault is to be found.
+pub record MayDo (d : Settings) (Fine : Type 0) (R : List (List ℕ) → Peer → List (List ℕ) → Type 0) : Type 0 where
+  pub handed : (os : List (List ℕ)) (p : Peer) (out : List (List ℕ)) (packet : List ℕ) → R os p out → R os (record p { given = p.given ++ packet ∷ [] }) out
+  pub sends : (os : List (List ℕ)) (p q : Peer) (out : List (List ℕ)) (octets : List ℕ) → MaySend ⊥ p (frame_of d.role d.longest octets) q → R os p out → R os q (out ++ octets ∷ [])
+  pub hears : (o : List ℕ) (os : List (List ℕ)) (p q : Peer) (out : List (List ℕ)) → MayHear p (frame_of (other d.role) d.longest o) q → R (o ∷ os) p out → R os q out
+  pub loses : (os : List (List ℕ)) (p : Peer) (out : List (List ℕ)) (place : ℕ) → R os p out → R (remove os place) p out
+  pub damages : (os : List (List ℕ)) (p : Peer) (out : List (List ℕ)) (place : ℕ) (octets : List ℕ) → is_visible octets ≡ true → R os p out → R (replaced os place octets) p out
+  pub faultless : (o : List ℕ) (os : List (List ℕ)) (p : Peer) (out : List (List ℕ)) → ending_of (frame_of (other d.role) d.longest o) (machine_of d.window p) ≡ Some FrmrSent → R (o ∷ os) p out → Fine → ⊥
+
+-- ---- all that is sent in a step
+
+module _ (d : Settings) (high : d.window ≤ 7) (reads : ReadsSpelled) (Fine : Type 0) (R : List (List ℕ) → Peer → List (List ℕ) → Type 0) (does : MayDo d Fine R) (os : List (List ℕ)) where
   -- one frame more
-  sent : (back : List (List ℕ)) (p q : Peer) (f : PlainFrame) → frame_of d.role d.longest (spelling_of d.role f) ≡ Ok f → MaySend ⊥ p (Ok f) q
-      → IsReached ⊥ c (record { near = near; peer = p; out = out; back = back }) → IsReached ⊥ c (record { near = near; peer = q; out = out; back = back ++ spelling_of d.role f ∷ [] })
-  sent back p q f read may reached =
-      reaches (record { near = near; peer = p; out = out; back = back }) (record { near = near; peer = q; out = out; back = back ++ spelling_of d.role f ∷ [] }) reached
-      (Sends (spelling_of d.role f) q (subst (λ (r : Result PlainFrame FrameError). MaySend ⊥ p r q) (sym there) may))
-    where
-      there : frame_of (other c.role) c.longest (spelling_of d.role f) ≡ Ok f
-      there =
-          ap (λ (r : Role). frame_of r c.longest (spelling_of d.role f)) joined.far_role ∙ ap (λ (n1 : ℕ). frame_of d.role n1 (spelling_of d.role f)) joined.longest ∙ read
+  sent : (out : List (List ℕ)) (p q : Peer) (f : PlainFrame) → frame_of d.role d.longest (spelling_of d.role f) ≡ Ok f → MaySend ⊥ p (Ok f) q → R os p out → R os q (out ++ spelling_of d.role f ∷ [])
+  sent out p q f read may reached = does.sends os p q out (spelling_of d.role f) (subst (λ (r : Result PlainFrame FrameError). MaySend ⊥ p r q) (sym read) may) reached
 
-  pub free_all : (back : List (List ℕ)) (p : Peer) (fs : List PlainFrame) → AllFree d.role d.longest fs → IsReached ⊥ c (record { near = near; peer = p; out = out; back = back })
-      → IsReached ⊥ c (record { near = near; peer = p; out = out; back = back ++ map (spelling_of d.role) fs })
-  free_all back p [] free reached = subst (λ (os : List (List ℕ)). IsReached ⊥ c (record { near = near; peer = p; out = out; back = os })) (sym (append-nil back)) reached
-  free_all back p (f ∷ fs) free reached =
-      subst (λ (os : List (List ℕ)). IsReached ⊥ c (record { near = near; peer = p; out = out; back = os })) (append_assoc back (spelling_of d.role f ∷ []) (map (spelling_of d.role) fs))
-      (free_all (back ++ spelling_of d.role f ∷ []) p fs free.1 (sent back p p f free.0.reads (free_sent p f free.0.none) reached))
+  pub free_all : (out : List (List ℕ)) (p : Peer) (fs : List PlainFrame) → AllFree d.role d.longest fs → R os p out
+      → R os p (out ++ map (spelling_of d.role) fs)
+  free_all out p [] free reached = subst (λ (xs : List (List ℕ)). R os p xs) (sym (append-nil out)) reached
+  free_all out p (f ∷ fs) free reached =
+      subst (λ (xs : List (List ℕ)). R os p xs) (append_assoc out (spelling_of d.role f ∷ []) (map (spelling_of d.role) fs))
+      (free_all (out ++ spelling_of d.role f ∷ []) p fs free.1 (sent out p p f free.0.reads (free_sent p f free.0.none) reached))
 
   -- the peer once it said all frames of a run, by which the station's end of the window machine became v
-  pub record Said (back : List (List ℕ)) (p : Peer) (v : Window) (frames : List PlainFrame) : Type 0 where
+  pub record Said (out : List (List ℕ)) (p : Peer) (v : Window) (frames : List PlainFrame) : Type 0 where
     pub peer : Peer
-    pub reached : IsReached ⊥ c (record { near = near; peer = peer; out = out; back = back ++ map (spelling_of d.role) frames })
+    pub reached : R os peer (out ++ map (spelling_of d.role) frames)
     pub is : machine_of d.window peer ≡ v
     pub room : peer.sent ≤ peer.acked + d.window
     pub told : peer.told ≤ length peer.taken
     pub given : peer.given ≡ p.given
     pub taken : peer.taken ≡ p.taken
 
-  push : (back : List (List ℕ)) (q : Peer) (before : List PlainFrame) (f : PlainFrame) → IsReached ⊥ c (record { near = near; peer = q; out = out; back = (back ++ map (spelling_of d.role) before) ++ spelling_of d.role f ∷ [] })
-      → IsReached ⊥ c (record { near = near; peer = q; out = out; back = back ++ map (spelling_of d.role) (before ++ f ∷ []) })
-  push back q before f h =
-      subst (λ (os : List (List ℕ)). IsReached ⊥ c (record { near = near; peer = q; out = out; back = os }))
-      (append_assoc back (map (spelling_of d.role) before) (spelling_of d.role f ∷ []) ∙ ap (λ (os : List (List ℕ)). back ++ os) (sym (map-append (spelling_of d.role) before (f ∷ [])))) h
+  push : (out : List (List ℕ)) (q : Peer) (before : List PlainFrame) (f : PlainFrame) → R os q ((out ++ map (spelling_of d.role) before) ++ spelling_of d.role f ∷ [])
+      → R os q (out ++ map (spelling_of d.role) (before ++ f ∷ []))
+  push out q before f h =
+      subst (λ (xs : List (List ℕ)). R os q xs)
+      (append_assoc out (map (spelling_of d.role) before) (spelling_of d.role f ∷ []) ∙ ap (λ (xs : List (List ℕ)). out ++ xs) (sym (map-append (spelling_of d.role) before (f ∷ [])))) h
 
-  one : (back : List (List ℕ)) (p : Peer) (before : List PlainFrame) → AllWithin d.longest p.given → (q : Peer) → IsReached ⊥ c (record { near = near; peer = q; out = out; back = back ++ map (spelling_of d.role) before })
+  one : (out : List (List ℕ)) (p : Peer) (before : List PlainFrame) → AllWithin d.longest p.given → (q : Peer) → R os q (out ++ map (spelling_of d.role) before)
       → q.sent ≤ q.acked + d.window → q.told ≤ length q.taken → q.given ≡ p.given → q.taken ≡ p.taken → (s : Step (List ℕ)) (fs : List PlainFrame)
-      → IsSent s → Allows (machine_of d.window q) s → ShowAll fs (frames_of (machine_of d.window q) s) → Said back p (after (machine_of d.window q) s) (before ++ fs)
-  one back p before within q reached room told given taken Tell fs sends may shows =
+      → IsSent s → Allows (machine_of d.window q) s → ShowAll fs (frames_of (machine_of d.window q) s) → Said out p (after (machine_of d.window q) s) (before ++ fs)
+  one out p before within q reached room told given taken Tell fs sends may shows =
       let w = machine_of d.window q in
       let single = single_of fs (machine_frame w None) shows in
       let f = single.frame in
       let v : Peer = told_to (length q.taken) q in
       record {
         peer = v;
-        reached = subst (λ (es : List PlainFrame). IsReached ⊥ c (record { near = near; peer = v; out = out; back = back ++ map (spelling_of d.role) (before ++ es) })) (sym single.is)
-            (push back v before f (sent (back ++ map (spelling_of d.role) before) q v f (good_reads reads d.role d.longest f (tell_good d.longest w f single.shows)) (tell_sent d.window q told f single.shows) reached));
+        reached = subst (λ (es : List PlainFrame). R os v (out ++ map (spelling_of d.role) (before ++ es))) (sym single.is)
+            (push out v before f (sent (out ++ map (spelling_of d.role) before) q v f (good_reads reads d.role d.longest f (tell_good d.longest w f single.shows)) (tell_sent d.window q told f single.shows) reached));
         is = refl;
         room = room;
         told = omega arith;
         given = given;
         taken = taken;
       }
-  one back p before within q reached room told given taken (Send n) fs sends may shows =
+  one out p before within q reached room told given taken (Send n) fs sends may shows =
       let w = machine_of d.window q in
       let single = single_of fs (machine_frame (after w (Send n)) (numbered n (slice_get q.given n))) shows in
       let f = single.frame in
       let v : Peer = told_to (length q.taken) (numbered_to n q) in
       let item = item_at d.longest q.given n may.3 (subst (AllWithin d.longest) (sym given) within) in
       let inside = may.2 in
-      let high = joined.far_high in
       record {
         peer = v;
-        reached = subst (λ (es : List PlainFrame). IsReached ⊥ c (record { near = near; peer = v; out = out; back = back ++ map (spelling_of d.role) (before ++ es) })) (sym single.is)
-            (push back v before f (sent (back ++ map (spelling_of d.role) before) q v f (good_reads reads d.role d.longest f (send_good d.longest n w item f single.shows))
+        reached = subst (λ (es : List PlainFrame). R os v (out ++ map (spelling_of d.role) (before ++ es))) (sym single.is)
+            (push out v before f (sent (out ++ map (spelling_of d.role) before) q v f (good_reads reads d.role d.longest f (send_good d.longest n w item f single.shows))
             (item_sent d.window n q high room told may d.longest item f single.shows) reached));
         is = refl;
         room = omega arith;
@@ -168,25 +172,25 @@ module _ (c d : Settings) (joined : AreJoined c d) (reads : ReadsSpelled) (near 
         given = given;
         taken = taken;
       }
-  one back p before within q reached room told given taken s fs sends may shows = absurd sends
+  one out p before within q reached room told given taken s fs sends may shows = absurd sends
 
-  said_more : (back : List (List ℕ)) (p : Peer) (before : List PlainFrame) → AllWithin d.longest p.given → (w : Window) → Said back p w before → (s : Step (List ℕ)) (fs : List PlainFrame)
-      → IsSent s → Allows w s → ShowAll fs (frames_of w s) → Said back p (after w s) (before ++ fs)
-  said_more back p before within w h s fs sends may shows =
-      subst (λ (z : Window). Said back p (after z s) (before ++ fs)) h.is
-      (one back p before within h.peer h.reached h.room h.told h.given h.taken s fs sends (subst (λ (z : Window). Allows z s) (sym h.is) may) (subst (λ (z : Window). ShowAll fs (frames_of z s)) (sym h.is) shows))
+  said_more : (out : List (List ℕ)) (p : Peer) (before : List PlainFrame) → AllWithin d.longest p.given → (w : Window) → Said out p w before → (s : Step (List ℕ)) (fs : List PlainFrame)
+      → IsSent s → Allows w s → ShowAll fs (frames_of w s) → Said out p (after w s) (before ++ fs)
+  said_more out p before within w h s fs sends may shows =
+      subst (λ (z : Window). Said out p (after z s) (before ++ fs)) h.is
+      (one out p before within h.peer h.reached h.room h.told h.given h.taken s fs sends (subst (λ (z : Window). Allows z s) (sym h.is) may) (subst (λ (z : Window). ShowAll fs (frames_of z s)) (sym h.is) shows))
 
-  pub runs_said : (back : List (List ℕ)) (p : Peer) (from : Window) → IsReached ⊥ c (record { near = near; peer = p; out = out; back = back }) → machine_of d.window p ≡ from → p.sent ≤ p.acked + d.window
-      → p.told ≤ length p.taken → AllWithin d.longest p.given → (w : Window) (frames : List PlainFrame) → Runs from w frames → Said back p w frames
-  runs_said back p from reached is room told within w frames rests =
+  pub runs_said : (out : List (List ℕ)) (p : Peer) (from : Window) → R os p out → machine_of d.window p ≡ from → p.sent ≤ p.acked + d.window
+      → p.told ≤ length p.taken → AllWithin d.longest p.given → (w : Window) (frames : List PlainFrame) → Runs from w frames → Said out p w frames
+  runs_said out p from reached is room told within w frames rests =
       record {
         peer = p;
-        reached = subst (λ (os : List (List ℕ)). IsReached ⊥ c (record { near = near; peer = p; out = out; back = os })) (sym (append-nil back)) reached;
+        reached = subst (λ (xs : List (List ℕ)). R os p xs) (sym (append-nil out)) reached;
         is = is;
         room = room;
         told = told;
         given = refl;
         taken = refl;
       }
-  runs_said back p from reached is room told within w frames (goes_on v fs s gs run sends may shows) =
-      said_more back p fs within v (runs_said back p from reached is room told within v fs run) s gs sends may shows
+  runs_said out p from reached is room told within w frames (goes_on v fs s gs run sends may shows) =
+      said_more out p fs within v (runs_said out p from reached is room told within v fs run) s gs sends may shows

@@ -2,12 +2,12 @@
 use Rattle.std.proofs.Common.{ℕ, zero, suc, ◌+◌, ◌*◌, ◌/◌, ◌%◌, ◌<◌, ◌≤◌, ◌≡◌, ◌∙◌, true, List, [], ◌∷◌, ◌++◌, length, get_or, take, drop, refl, ap, sym, arith, nat_eq, length-drop, length-append}
 use Rattle.std.specs.Prelude.{◌&&◌}
 use Rattle.std.specs.List.{list_all}
-use Rattle.std.proofs.lemmas.List.{length-take-le, append_assoc, take_more}
+use Rattle.std.proofs.lemmas.List.{length-take-le, append_assoc, take_more, drop-drop, drop-append-le, take-append-drop, take-append-le}
 use Rattle.x25_packet.specs.Spelling.{addresses, call_body}
 use Rattle.std.proofs.lemmas.List.Folds.{list_all-append}
 use Rattle.std.proofs.lemmas.Bool.{and_parts, leb-true, and_from, eqb-true}
 use Rattle.x25_packet.specs.Digits.{halves_of, halves_at, packed, is_digit, hold_digits, IsAddress}
-use Rattle.x25_packet.proofs.DigitLemmas.{length-halves_of, list_all-take, list_all-drop}
+use Rattle.x25_packet.proofs.DigitLemmas.{length-halves_of, list_all-take, list_all-drop, list_all-get}
 
 -- 0 in the half octet that is left over, where the number is odd
 filler : List ℕ → List ℕ
@@ -144,6 +144,67 @@ calling_again called calling a b =
     assoc : (x y z : List ℕ) → (x ++ y) ++ z ≡ x ++ (y ++ z)
     assoc [] y z = refl
     assoc (a ∷ x) y z = ap (λ (zs : List ℕ). a ∷ zs) (assoc x y z)
+
+-- ---- half octets that were copied
+
+halves_of-append : (xs ys : List ℕ) → halves_of (xs ++ ys) ≡ halves_of xs ++ halves_of ys
+unfolding halves_of
+halves_of-append [] ys = refl
+halves_of-append (b ∷ xs) ys = ap (λ (hs : List ℕ). b / 16 ∷ b % 16 ∷ hs) (halves_of-append xs ys)
+
+halves_of-drop : (n : ℕ) (octets : List ℕ) → halves_of (drop n octets) ≡ drop (2 * n) (halves_of octets)
+unfolding halves_of
+halves_of-drop zero octets = refl
+halves_of-drop (suc n) [] = let at : 2 * suc n ≡ suc (suc (2 * n)) = omega arith in rw at refl
+halves_of-drop (suc n) (b ∷ octets) = let at : 2 * suc n ≡ suc (suc (2 * n)) = omega arith in rw at (halves_of-drop n octets)
+
+-- those of the octets at the front
+pub halves_front : (octets kept : List ℕ) (start count : ℕ) → take (length octets) kept ≡ octets → start + count ≤ 2 * length octets
+    → halves_at kept start count ≡ halves_at octets start count
+halves_front octets kept start count front few =
+    let size = length-halves_of octets in
+    let whole : octets ++ drop (length octets) kept ≡ kept = ap (λ (xs : List ℕ). xs ++ drop (length octets) kept) (sym front) ∙ take-append-drop (length octets) kept in
+    let halves : halves_of kept ≡ halves_of octets ++ halves_of (drop (length octets) kept) = ap halves_of (sym whole) ∙ halves_of-append octets (drop (length octets) kept) in
+    ap (λ (hs : List ℕ). take count (drop start hs)) halves
+    ∙ ap (take count) (drop-append-le start (halves_of octets) (halves_of (drop (length octets) kept)) (omega (arith, size, few)))
+    ∙ take-append-le count (drop start (halves_of octets)) (halves_of (drop (length octets) kept)) (rw (length-drop, length-halves_of) (omega (arith, few)))
+
+-- those of octets from the one on in which they begin
+pub halves_kept : (octets part kept : List ℕ) (start count : ℕ) → start + count ≤ 2 * length octets
+    → part ≡ take ((start % 2 + count + 1) / 2) (drop (start / 2) octets) → take (length part) kept ≡ part
+    → halves_at kept (start % 2) count ≡ halves_at octets start count
+halves_kept octets part kept start count few is front =
+    let size : length part ≡ (start % 2 + count + 1) / 2 = ap length is ∙ length-take-le ((start % 2 + count + 1) / 2) (drop (start / 2) octets) (rw length-drop (omega (arith, few))) in
+    let behind : take (length part) (drop (start / 2) octets) ≡ part = ap (λ n. take n (drop (start / 2) octets)) size ∙ sym is in
+    let at : 2 * (start / 2) + start % 2 ≡ start = omega arith in
+    halves_front part kept (start % 2) count front (omega (arith, size))
+    ∙ sym (halves_front part (drop (start / 2) octets) (start % 2) count behind (omega (arith, size)))
+    ∙ ap (λ (hs : List ℕ). take count (drop (start % 2) hs)) (halves_of-drop (start / 2) octets)
+    ∙ ap (take count) (drop-drop (start % 2) (2 * (start / 2)) (halves_of octets))
+    ∙ ap (λ n. halves_at octets n count) at
+
+pub halves_are_address : (octets : List ℕ) (start count : ℕ) → length octets ≡ 8 → start ≤ 1 → count ≤ 15
+    → list_all is_digit (halves_at octets start count) ≡ true → IsAddress (halves_at octets start count)
+halves_are_address octets start count long low few all = record {
+  short = let size = length-halves_at octets start count (omega (arith, long, low, few)) in omega (arith, size, few);
+  decimal = all;
+}
+
+-- one of them is a digit
+pub half_small : (octets : List ℕ) (start count i : ℕ) → list_all is_digit (halves_at octets start count) ≡ true → i < count
+    → start + count ≤ 2 * length octets → get_or (halves_at octets start count) i 0 ≤ 9
+half_small octets start count i all low few =
+    let size = length-halves_at octets start count few in
+    leb-true _ _ (list_all-get is_digit (halves_at octets start count) i all (omega (arith, size, low)))
+
+-- digits that were packed, in octets that may be more
+pub packed_again : (digits octets : List ℕ) → list_all is_digit digits ≡ true → take ((length digits + 1) / 2) octets ≡ packed digits
+    → halves_at octets 0 (length digits) ≡ digits
+packed_again digits octets h front =
+    let size = length-packed digits in
+    let same : take (length (packed digits)) octets ≡ packed digits = rw size front in
+    halves_front (packed digits) octets 0 (length digits) same (omega (arith, size))
+    ∙ ap (take (length digits)) (halves_of-packed digits h) ∙ take_first digits (filler digits)
 
 -- ---- digits written two at a time
 

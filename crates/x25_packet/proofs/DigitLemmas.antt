@@ -1,11 +1,11 @@
 -- Half octets by their place, and digits packed into octets.
-use Rattle.std.proofs.Common.{ℕ, zero, suc, ◌+◌, ◌-◌, ◌*◌, ◌/◌, ◌%◌, ◌<◌, ◌≤◌, ◌≡◌, ◌≢◌, ◌∙◌, Bool, true, false, List, [], ◌∷◌, ◌++◌, length, get_or, take, drop, refl, ap, sym, subst, arith, nat_eq, length-drop}
+use Rattle.std.proofs.Common.{ℕ, zero, suc, ◌+◌, ◌-◌, ◌*◌, ◌/◌, ◌%◌, ◌<◌, ◌≤◌, ◌≡◌, ◌≢◌, ◌∙◌, Bool, true, false, List, [], ◌∷◌, ◌++◌, length, get_or, take, drop, refl, ap, sym, arith, nat_eq}
 use Rattle.std.specs.Prelude.{◌&&◌, nat_le}
 use Rattle.std.specs.List.{list_all}
-use Rattle.std.proofs.lemmas.List.{get_or-drop, get_or-take, length-take-le, drop_all, drop_more, take-append-drop, take_more}
+use Rattle.std.proofs.lemmas.List.{drop_all, drop_more, take-append-drop}
 use Rattle.std.proofs.lemmas.List.Folds.{list_all-append}
 use Rattle.std.proofs.lemmas.Bool.{and_parts, leb-true, le-leb, and_from}
-use Rattle.x25_packet.specs.Digits.{halves_of, halves_at, digits_of_text, is_digit, is_pair, is_figure, hold_digits, IsAddress}
+use Rattle.x25_packet.specs.Digits.{halves_of, digits_of_text, is_digit, is_pair, is_figure, hold_digits}
 
 pub length-halves_of : (octets : List ℕ) → length (halves_of octets) ≡ 2 * length octets
 unfolding halves_of
@@ -41,38 +41,12 @@ list_all-get p [] i h small = absurd (omega arith)
 list_all-get p (x ∷ xs) zero h small = (and_parts _ _ h).0
 list_all-get p (x ∷ xs) (suc i) h small = list_all-get p xs i (and_parts _ _ h).1 (omega arith)
 
--- ---- the first of fifteen places
-
-pub length-first : (count : ℕ) (digits : List ℕ) → length digits ≡ 15 → count ≤ 15 → length (take count digits) ≡ count
-length-first count digits long few = length-take-le count digits (omega (arith, long, few))
-
-pub first_are_address : (count : ℕ) (digits : List ℕ) → length digits ≡ 15 → count ≤ 15 → list_all is_digit (take count digits) ≡ true → IsAddress (take count digits)
-first_are_address count digits long few all = record {
-  short = let size = length-first count digits long few in omega (arith, size, few);
-  decimal = all;
-}
-
 pub figures_are_digits : (text : List ℕ) → list_all is_figure text ≡ true → list_all is_digit (digits_of_text text) ≡ true
 figures_are_digits [] h = refl
 figures_are_digits (c ∷ text) h =
     let parts = and_parts (is_figure c) (list_all is_figure text) h in
     let low : c ≤ 57 = leb-true c 57 (and_parts (nat_le 48 c) (nat_le c 57) parts.0).1 in
     and_from (is_digit (c - 48)) (list_all is_digit (digits_of_text text)) (le-leb (c - 48) 9 (omega (arith, low))) (figures_are_digits text parts.1)
-
--- one of the first is a digit
-pub first_small : (count : ℕ) (digits : List ℕ) (i : ℕ) → list_all is_digit (take count digits) ≡ true → i < count → count ≤ length digits → get_or digits i 0 ≤ 9
-first_small count digits i all low few =
-    let size = length-take-le count digits few in
-    let small : get_or (take count digits) i 0 ≤ 9 = leb-true _ _ (list_all-get is_digit (take count digits) i all (omega (arith, size, low))) in
-    subst (λ (n : ℕ). n ≤ 9) (get_or-take count digits i 0 low) small
-
--- one half octet more
-pub halves_more : (octets : List ℕ) (start place half : ℕ) → start + place < 2 * length octets → half ≡ get_or (halves_of octets) (start + place) 0
-    → halves_at octets start place ++ half ∷ [] ≡ halves_at octets start (place + 1)
-halves_more octets start place half there is =
-    let room : place < length (drop start (halves_of octets)) = rw (length-drop, length-halves_of) (omega (arith, there)) in
-    ap (λ n. halves_at octets start place ++ n ∷ []) (is ∙ sym (get_or-drop start (halves_of octets) place 0))
-    ∙ sym (take_more (drop start (halves_of octets)) place 0 room)
 
 pub half_even : (octets : List ℕ) (place : ℕ) → place % 2 ≡ 0 → get_or octets (place / 2) 0 / 16 ≡ get_or (halves_of octets) place 0
 half_even octets place even =

@@ -10,6 +10,9 @@ use std::marker::Model;
 /// The most digits that an address has.
 const MOST: usize = 15;
 
+/// The octets in which so many digits lie, wherever in the first they begin.
+const PLACES: usize = 8;
+
 fn are_figures(text: &[u8]) -> bool
     ensures { result ≡ list_all is_figure text.now }
 {
@@ -20,21 +23,24 @@ fn are_figures(text: &[u8]) -> bool
 /// The digits of an address, at most 15. Contracts see the list of them.
 #[derive(Debug, Drop)]
 pub struct Digits {
-    digits: [u8; MOST],
+    /// The octets as they stand in a packet, two digits to each, and then 0s.
+    octets: [u8; PLACES],
+    /// The half octet of the first digit, 0 or 1.
+    start: u8,
     count: u8,
 }
 
 impl Model for Digits {
-    ghost use Rattle.std.specs.Prelude.{◌≡◌, ◌≤◌, ℕ, List, length, take, true};
+    ghost use Rattle.std.specs.Prelude.{◌≡◌, ◌≤◌, ℕ, List, length, true};
     ghost use Rattle.std.specs.List.{list_all};
-    ghost use Rattle.x25_packet.specs.Digits.{is_digit};
+    ghost use Rattle.x25_packet.specs.Digits.{halves_at, is_digit};
 
     ghost Value = { List ℕ };
 
-    ghost view = { λ d. take d.count d.digits };
+    ghost view = { λ d. halves_at d.octets d.start d.count };
 
-    ghost invariant = { λ d. (length d.digits ≡ 15) × (d.count ≤ 15)
-        × (list_all is_digit (take d.count d.digits) ≡ true) };
+    ghost invariant = { λ d. (length d.octets ≡ 8) × (d.start ≤ 1) × (d.count ≤ 15)
+        × (list_all is_digit (halves_at d.octets d.start d.count) ≡ true) };
 }
 
 fn are_digit_pairs(octets: &[u8]) -> bool
@@ -73,33 +79,43 @@ fn half(octets: &[u8], place: usize) -> u8
     }
 }
 
-/// The digits that figures show, and then 0s.
-fn shown(figures: &[u8]) -> [u8; MOST]
-    requires short { length figures.now ≤ 15 }
-    requires figures { list_all is_figure figures.now ≡ true }
-    ensures long { length result ≡ 15 }
-    ensures digits { take (length figures.now) result ≡ digits_of_text figures.now }
+/// The digit that a figure at a place shows, 0 behind them.
+fn shown(figures: &[u8], place: usize) -> u8
+    requires { list_all is_figure figures.now ≡ true }
+    ensures value { result ≡ slice_index (digits_of_text figures.now) place }
+    ensures digit { result ≤ 9 }
 {
-    let mut digits = [0u8; MOST];
-    for place in 0..figures.len() {
-        digits[place] = figures[place] - 48;
+    if place < figures.len() {
+        return figures[place] - 48;
     }
-    digits
+    0
 }
 
-/// `count` half octets, from the half octet `start` on, and then 0s.
-fn halves(octets: &[u8], start: usize, count: usize) -> [u8; MOST]
-    requires short { count ≤ 15 }
-    requires near { start ≤ 15 }
-    requires there { start + count ≤ 2 * length octets.now }
-    ensures long { length result ≡ 15 }
-    ensures digits { take count result ≡ halves_at octets.now start count }
+/// The digits that figures show, two to an octet, and then 0s.
+fn packed(figures: &[u8]) -> [u8; PLACES]
+    requires short { length figures.now ≤ 15 }
+    requires figures { list_all is_figure figures.now ≡ true }
+    ensures long { length result ≡ 8 }
+    ensures digits { halves_at result 0 (length figures.now) ≡ digits_of_text figures.now }
 {
-    let mut digits = [0u8; MOST];
-    for place in 0..count {
-        digits[place] = half(octets, start + place);
+    let mut octets = [0u8; PLACES];
+    for pair in 0..(figures.len() + 1) / 2 {
+        let high = shown(figures, 2 * pair);
+        let low = shown(figures, 2 * pair + 1);
+        octets[pair] = 16 * high + low;
     }
-    digits
+    octets
+}
+
+/// Octets, and then 0s.
+fn at_front(octets: &[u8]) -> [u8; PLACES]
+    requires { length octets.now ≤ 8 }
+    ensures long { length result ≡ 8 }
+    ensures front { take (length octets.now) result ≡ octets.now }
+{
+    let mut places = [0u8; PLACES];
+    places[..octets.len()].copy_from_slice(octets);
+    places
 }
 
 impl Digits {
@@ -111,8 +127,11 @@ impl Digits {
         requires digits { list_all is_digit (halves_of octets.now) ≡ true }
         ensures { result ≡ halves_at octets.now start count }
     {
+        let first = start / 2;
+        let len = (start % 2 + count + 1) / 2;
         Digits {
-            digits: halves(octets, start, count),
+            octets: at_front(&octets[first..first + len]),
+            start: (start % 2) as u8,
             count: count as u8,
         }
     }
@@ -128,7 +147,8 @@ impl Digits {
             return None;
         }
         Some(Digits {
-            digits: shown(figures),
+            octets: packed(figures),
+            start: 0,
             count: figures.len() as u8,
         })
     }
@@ -138,7 +158,8 @@ impl Digits {
         ensures { result ≡ self.now }
     {
         Digits {
-            digits: self.digits,
+            octets: self.octets,
+            start: self.start,
             count: self.count,
         }
     }
@@ -164,6 +185,6 @@ impl Digits {
         ensures value { result ≡ slice_index self.now place }
         ensures digit { result ≤ 9 }
     {
-        self.digits[place]
+        half(&self.octets, usize::from(self.start) + place)
     }
 }

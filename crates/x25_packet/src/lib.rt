@@ -18,8 +18,6 @@ pub use error::PacketError;
 pub use facilities::{Directions, Facilities, FacilityField};
 pub use law::reading_is_the_grammar;
 pub use packet::Packet;
-pub use reading::{
-    CALL_OCTETS, LONG_CALL_OCTETS, channel, decode, decode_long, decode_within, longest_user,
-};
+pub use reading::{CALL_OCTETS, LONG_CALL_OCTETS, channel, decode_within, longest_user};
 pub use spelling::encode;
 pub use x25_bits::{NoMemory, Seq};

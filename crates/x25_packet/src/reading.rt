@@ -202,26 +202,3 @@ pub fn decode_within<'a>(most: usize, octets: &'a [u8]) -> Result<Packet<'a>, Pa
 {
     read(most, octets)
 }
-
-/// The packet that the octets spell, with at most 16 octets of user data in a CALL. Errors are as in `decode_within`.
-pub fn decode<'a>(octets: &'a [u8]) -> Result<Packet<'a>, PacketError>
-    ensures exact { Gives result (packet_of 16 octets.now) }
-    ensures fault { IfErr result (IsFirstError 16 octets.now) }
-    ensures found { IfOk result (λ v. Spells 16 (plain v) octets.now) }
-    ensures only { (v : PlainPacket) → Spells 16 v octets.now → IsOkAnd result (λ w. plain w ≡ v) }
-{
-    decode_within(CALL_OCTETS, octets)
-}
-
-/// The packet that the octets spell, with at most 128 octets of user data in a CALL. Errors are as in `decode_within`.
-///
-/// 128 is what a CALL has with the facility fast select (ITU-T X.25 (10/96), section 6.16); here it has them without
-/// (profile).
-pub fn decode_long<'a>(octets: &'a [u8]) -> Result<Packet<'a>, PacketError>
-    ensures exact { Gives result (packet_of 128 octets.now) }
-    ensures fault { IfErr result (IsFirstError 128 octets.now) }
-    ensures found { IfOk result (λ v. Spells 128 (plain v) octets.now) }
-    ensures only { (v : PlainPacket) → Spells 128 v octets.now → IsOkAnd result (λ w. plain w ≡ v) }
-{
-    decode_within(LONG_CALL_OCTETS, octets)
-}

@@ -1,6 +1,7 @@
 -- The packet layers of both ends and all their channels, and what a frame changes and breaks. ITU-T X.25 (10/96),
 -- sections 3 and 4.
-use Rattle.std.specs.Prelude.{ℕ, ◌%◌, ◌==◌, Bool, true, false, not, ◌&&◌, ◌||◌, if◌then◌else◌, is_some, List}
+use Rattle.std.specs.Prelude.{ℕ, ◌/◌, ◌%◌, ◌==◌, Bool, true, false, not, ◌&&◌, ◌||◌, if◌then◌else◌, is_some, List}
+use Rattle.std.specs.Prelude.{[], ◌∷◌}
 use Rattle.std.specs.Prelude.{slice_index_or, slice_set, Option, Some, None, Result, Ok, Err}
 use Rattle.x25_bits.specs.declared.role.Role.{Role}
 use Rattle.x25_bits.specs.declared.role.Role.TheVariants.{Dte, Dce}
@@ -12,13 +13,14 @@ use Rattle.x25_packet.specs.declared.error.PacketError.{PacketError}
 use Rattle.x25_decode.specs.declared.answer.Reading.{Reading}
 use Rattle.x25_packet_judge.specs.Layer.{unseen}
 use Rattle.x25_packet_judge.specs.Layers as layers
-use Rattle.x25_packet_judge.specs.Packets.{sends}
+use Rattle.x25_packet_judge.specs.Packets.{follows}
 use Rattle.x25_packet_judge.specs.Pair.{is_known, noted, unread}
 use Rattle.x25_packet_judge.specs.Port.{all_alike, blank, fresh}
 use Rattle.x25_packet_judge.specs.declared.book.Book.{Book}
 use Rattle.x25_packet_judge.specs.declared.book.Verdict.{Verdict}
 use Rattle.x25_packet_judge.specs.declared.layers.Layers.{Layers}
 use Rattle.x25_packet_judge.specs.declared.packet_rule.PacketRule.{PacketRule}
+use Rattle.x25_packet_judge.specs.declared.packet_rule.PacketRule.TheVariants.{NoPacket}
 use Rattle.x25_packet_judge.specs.declared.pair.Pair.{Pair}
 use Rattle.x25_packet_judge.specs.declared.port.Port.{Port}
 use Rattle.x25_wide.specs.Packet as wide_packet
@@ -121,7 +123,7 @@ takes_on from t channel packet b =
     if is_some t.rule then told (keeps from t b) t.rule
     else if not (layers.are_sure t)
     then blind from channel (pair_of from (layers.are_level t) channel b) (keeps from t b)
-    else took from t channel (sends packet (pair_of from (layers.are_level t) channel b)) b
+    else took from t channel (follows packet (pair_of from (layers.are_level t) channel b)) b
 
 -- before the confirmation of its RESTART nothing is known of the end's channels
 unfoldable pub runs : Role → ℕ → PlainPacket → Book → Seen
@@ -140,7 +142,7 @@ refinds from t b = told (keeps from (layers.refinds t) (fills_both fresh b)) Non
 
 -- a confirmation of a RESTART behind a fault of restarts
 abbrev pub confirms_lost : Role → Layers → Book → Seen
-confirms_lost from t b = if layers.is_sure_answer t then refinds from t b
+confirms_lost from t b = if layers.is_last_answer t then refinds from t b
     else quiet (keeps from (layers.confirms_lost t) b)
 
 -- a confirmation of a RESTART that was seen
@@ -193,14 +195,31 @@ takes_read from channel (Err e) b = misses_on from channel b
 abbrev pub reads_written : Role → ℕ → ℕ → List ℕ → Book → Seen
 reads_written from channel most octets b = takes_read from channel (packet_of most octets) b
 
+-- by the general format identifier; packets modulo 128 aren't read
+abbrev pub is_modulo_8 : List ℕ → Bool
+is_modulo_8 [] = false
+is_modulo_8 (first ∷ octets) = first / 16 % 4 == 1
+
+-- octets of that format that are no packet in any form
+abbrev pub is_no_packet : List ℕ → Result PlainWide PacketError → Bool
+is_no_packet octets (Ok w) = false
+is_no_packet octets (Err e) = is_modulo_8 octets
+
+abbrev pub tells_no_packet : Role → ℕ → Book → Seen
+tells_no_packet from channel b = told (misses_on from channel b).book (Some NoPacket)
+
 -- in any form: as the packet that a station takes it for
-abbrev pub takes_any : Role → ℕ → Bool → Result PlainPacket PacketError → Book → Seen
-takes_any from channel diagnoses (Ok packet) b = takes from channel packet b
-takes_any from channel diagnoses (Err e) b = if diagnoses then quiet b else misses_on from channel b
+abbrev pub takes_any : Role → ℕ → Bool → Bool → Result PlainPacket PacketError → Book → Seen
+takes_any from channel diagnoses is_none (Ok packet) b = takes from channel packet b
+takes_any from channel diagnoses is_none (Err e) b =
+    if diagnoses then quiet b
+    else if is_none then tells_no_packet from channel b
+    else misses_on from channel b
 
 abbrev pub reads_any : Role → ℕ → ℕ → List ℕ → Book → Seen
 reads_any from channel most octets b =
-    takes_any from channel (is_diagnostic (wide_of most octets)) (taken_in most octets) b
+    takes_any from channel (is_diagnostic (wide_of most octets)) (is_no_packet octets (wide_of most octets))
+    (taken_in most octets) b
 
 abbrev pub reads_on : Role → Reading → List ℕ → Option ℕ → Book → Seen
 reads_on from reading octets None b = quiet b

@@ -129,6 +129,10 @@ is_confirmed Ready = false
 abbrev pub with_restart : Restart → Layer → Layer
 with_restart restart l = record l { restart = restart }
 
+-- behind a confirmation too, where it was so before
+abbrev pub as_confirmed : Layer → Layer → Layer
+as_confirmed before l = if is_confirmed before.restart then with_restart Confirmed l else l
+
 -- behind a RESTART of this end, or its confirmation of the other's
 abbrev pub restarted : Restart → Layer → Layer
 restarted restart l = record l { restart = restart; owed = l.owed - 1 }
@@ -150,14 +154,14 @@ asked_again l = record l { again = min (l.again + 1) 255 }
 abbrev pub confirmed_again : Layer → Layer
 confirmed_again l = record l { again = less l.again }
 
-abbrev pub found : Restart → Layer → Layer
-found restart l = record l {
+abbrev pub found : Restart → Bool → Layer → Layer
+found restart is_stray l = record l {
   restart = restart;
   owed = 0;
   is_sure = true;
   is_counted = true;
   is_lost = false;
-  is_stray = false;
+  is_stray = is_stray;
 }
 
 -- Behind a fault nothing is known, but how many RESTARTs of the other end it may still confirm, and whether an answer

@@ -1,11 +1,11 @@
 -- The packet layers of both ends, as the frames of the link and their RESTARTs show them, and the rules on these.
 -- ITU-T X.25 (10/96), section 3.3. When packets are judged, and what is said behind a fault, is profile.
-use Rattle.std.specs.Prelude.{ℕ, ◌+◌, ◌==◌, nat_lt, Bool, true, not, ◌&&◌, ◌||◌, if◌then◌else◌, min, Some}
+use Rattle.std.specs.Prelude.{ℕ, ◌+◌, ◌==◌, nat_lt, Bool, true, false, not, ◌&&◌, ◌||◌, if◌then◌else◌, min, Some}
 use Rattle.x25_packet_judge.specs.Layer.{is_unseen, is_dropped, is_followed, begun, found_at, lost}
 use Rattle.x25_packet_judge.specs.Layer.{set_up_again, worn, late, with_asked, with_acked, moved, is_asking, is_begun}
 use Rattle.x25_packet_judge.specs.Layer.{is_confirmed}
 use Rattle.x25_packet_judge.specs.Layer.{with_restart, restarted, owing, unsure, uncounted, asked_again, met, faultless}
-use Rattle.x25_packet_judge.specs.Layer.{confirmed_again, found, given_up, owing_less, strayed}
+use Rattle.x25_packet_judge.specs.Layer.{confirmed_again, found, given_up, owing_less, strayed, as_confirmed}
 use Rattle.x25_packet_judge.specs.PacketRule.{first}
 use Rattle.x25_packet_judge.specs.Numbers.{apart, less}
 use Rattle.x25_packet_judge.specs.declared.layer.Restart.{Restart}
@@ -139,6 +139,11 @@ is_sure_answer t = (is_asking t.other.restart && t.own.owed == 1) && (t.other.ow
 abbrev pub owes_more : Layers → Layers
 owes_more t = with_other (owing true t.other) t
 
+-- So it does behind one that may be on its way, where its end sent nothing between the two.
+abbrev pub is_last_answer : Layers → Bool
+is_last_answer t = (is_asking t.other.restart && t.own.owed == 1)
+    && (t.other.owed == 0 && (not t.other.is_stray || is_confirmed t.own.restart))
+
 -- One more may be confirmed, and nothing is said of channels until it is.
 abbrev pub restarts_lost : Layers → Layers
 restarts_lost t = goes_to Asking (owes_more (give_up t))
@@ -158,6 +163,11 @@ meet t = with_other (met t.other) (with_own (met t.own) t)
 abbrev pub restarts_uncounted : Layers → Layers
 restarts_uncounted t = if meets t then meet t else if are_lost t then restarts_lost t else restarts_unseen t
 
+-- Right behind its confirmation one may be sent again before that comes (T20), so that the end goes on by the first one
+-- or by the second. That the other end sent nothing between the two is kept.
+abbrev pub restarts_again : Layers → Layers
+restarts_again t = with_other (as_confirmed t.other (restarts_lost t).other) (restarts_lost t)
+
 -- One that was sent again may still be confirmed, or be taken for the answer; or so may a second confirmation.
 abbrev pub is_unclear : Layers → Bool
 is_unclear t = nat_lt 0 t.own.again || (nat_lt 0 t.other.again || t.own.is_stray)
@@ -170,6 +180,7 @@ abbrev pub restarts : Layers → Layers
 restarts t =
     if is_repeat t then asks_again t
     else if not (are_counted t) then restarts_uncounted t
+    else if is_asking t.own.restart then restarts_again t
     else if is_unclear t then restarts_lost t
     else marks Asking t
 
@@ -187,8 +198,8 @@ abbrev pub misses_one : Layers → Bool
 misses_one t = not (are_sure t || are_lost t)
 
 abbrev pub refinds : Layers → Layers
-refinds t = with_other (found Asking t.other)
-    (with_own (found Confirmed (if misses_one t then asked_again t.own else t.own)) t)
+refinds t = with_other (found Asking t.other.is_stray t.other)
+    (with_own (found Confirmed false (if misses_one t then asked_again t.own else t.own)) t)
 
 abbrev pub answers_restart : Layers → Layers
 answers_restart t = marks Confirmed t

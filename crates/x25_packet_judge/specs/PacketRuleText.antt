@@ -7,9 +7,10 @@ use Rattle.x25_packet_judge.specs.declared.packet_rule.PacketRule.TheVariants.{A
 use Rattle.x25_packet_judge.specs.declared.packet_rule.PacketRule.TheVariants.{ResetUnasked, PacketUnsent, PacketFalls}
 use Rattle.x25_packet_judge.specs.declared.packet_rule.PacketRule.TheVariants.{PacketSkips, OverPackets, InterruptAgain}
 use Rattle.x25_packet_judge.specs.declared.packet_rule.PacketRule.TheVariants.{InterruptUnasked, TooManyOctets, NotFull}
-use Rattle.x25_packet_judge.specs.declared.packet_rule.PacketRule.TheVariants.{QualifierChanges}
+use Rattle.x25_packet_judge.specs.declared.packet_rule.PacketRule.TheVariants.{QualifierChanges, NoPacket}
 
 abbrev pub words_of : PacketRule → List ℕ
+words_of NoPacket = codes "no packet of X.25 has these octets (5)"
 words_of RestartAwaited = codes "nothing but RESTART goes before its confirmation (3.3.1)"
 words_of RestartUnasked = codes "RESTART CONFIRMATION of no RESTART (3.3.1)"
 words_of ClearAwaited = codes "nothing but CLEAR goes before its confirmation (4.1.7)"

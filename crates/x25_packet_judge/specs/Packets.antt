@@ -4,10 +4,10 @@ use Rattle.x25_packet.specs.Packet.{PlainPacket, call, accept, clear, clear_conf
 use Rattle.x25_packet.specs.Packet.{interrupt_conf, reset, reset_conf, restart, restart_conf}
 use Rattle.x25_packet_judge.specs.Pair.{with_own, breaks, is_known, clears, confirms_clear, starts, starts_early}
 use Rattle.x25_packet_judge.specs.Pair.{is_awaiting, settles, finds, finds_call, hastens, clears_unknown, calls_unknown}
-use Rattle.x25_packet_judge.specs.Pair.{calls, accepts, may_talk}
+use Rattle.x25_packet_judge.specs.Pair.{calls, accepts, may_talk, doubts, is_cleared_again}
 use Rattle.x25_packet_judge.specs.Port as port
 use Rattle.x25_packet_judge.specs.Talking.{resets, confirms_reset, goes_on, hears, sends_data, interrupts}
-use Rattle.x25_packet_judge.specs.Talking.{confirms_interrupt}
+use Rattle.x25_packet_judge.specs.Talking.{confirms_interrupt, is_reset_again}
 use Rattle.x25_packet_judge.specs.Terms.{said, usual}
 use Rattle.x25_packet_judge.specs.declared.packet_rule.PacketRule.TheVariants.{NoCall}
 use Rattle.x25_packet_judge.specs.declared.pair.Pair.{Pair}
@@ -61,3 +61,13 @@ sends packet t =
     if not (is_known t) then sends_unknown packet t
     else if is_awaiting t && not (is_clearing packet) then sends_unknown packet (starts_early t)
     else sends_known packet t
+
+-- One of the requests that an end may send again before the answer comes (T22, T23).
+unfoldable pub is_again : PlainPacket → Pair → Bool
+is_again (clear channel cause diagnostic) t = is_cleared_again t
+is_again (reset channel cause diagnostic) t = is_reset_again t
+is_again packet t = false
+
+-- Right behind the answer it leaves open whether that has come.
+abbrev pub follows : PlainPacket → Pair → Pair
+follows packet t = if t.reaches && (is_known t && is_again packet t) then doubts t else sends packet t

@@ -71,6 +71,10 @@ marks is_clearing t = keeps_former (is_clearing && is_together t) t.own.talk
 abbrev pub is_awaiting : Pair → Bool
 is_awaiting t = t.own.is_clearing && nat_lt 0 t.other.owed
 
+-- CLEAR was sent, and answered, and nothing behind it
+abbrev pub is_cleared_again : Pair → Bool
+is_cleared_again t = t.own.is_clearing && t.other.owed == 0
+
 -- A confirmation of none may be taken for the answer to a CLEAR that the other end sends later.
 abbrev pub strays : Bool → Pair → Pair
 strays is_stray t = with_other (port.strayed is_stray t.other) t

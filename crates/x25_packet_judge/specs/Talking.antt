@@ -30,6 +30,10 @@ marks_reset is_resetting t = keeps_former (is_resetting && is_together t) t.own.
 abbrev pub resets : Pair → Pair
 resets t = if t.own.talk.is_resetting && nat_lt 0 t.other.talk.owed then unknown t else marks_reset true t
 
+-- RESET was sent, and answered, and nothing behind it
+abbrev pub is_reset_again : Pair → Bool
+is_reset_again t = is_matched t && (t.own.talk.is_resetting && t.other.talk.owed == 0)
+
 abbrev pub confirms_reset : Pair → Pair
 confirms_reset t = if nat_lt 0 t.own.talk.owed then marks_reset false t else breaks ResetUnasked t
 

@@ -66,6 +66,26 @@ fn is_diagnostic(most: usize, octets: &[u8]) -> bool
     }
 }
 
+/// Whether the format is that of packets modulo 8; those modulo 128 aren't read.
+fn is_modulo_8(octets: &[u8]) -> bool
+    ensures { result ≡ definition.is_modulo_8 octets.now }
+{
+    match octets {
+        [first, ..] => *first / 16 % 4 == 1,
+        [] => false,
+    }
+}
+
+/// Whether octets of that format are no packet in any form.
+fn is_no_packet(most: usize, octets: &[u8]) -> bool
+    ensures { result ≡ definition.is_no_packet octets.now (wide_of most octets.now) }
+{
+    match decode(most, octets) {
+        Ok(_) => false,
+        Err(_) => is_modulo_8(octets),
+    }
+}
+
 fn other(role: Role) -> Role
     ensures { result ≡ definition.other role }
 {
@@ -216,7 +236,7 @@ impl Book {
         }
         let pair = self.pair(from, layers.are_level(), channel);
         if layers.are_sure() {
-            let next = pair.sends(packet);
+            let next = pair.follows(packet);
             self.put_by(from, channel, next, next.rule)
         } else {
             self.blind(from, channel, pair)
@@ -262,7 +282,7 @@ impl Book {
         ensures book { self.new ≡ (definition.confirms_lost from layers self.old).book }
         ensures verdict { result ≡ (definition.confirms_lost from layers self.old).verdict }
     {
-        if layers.is_sure_answer() {
+        if layers.is_last_answer() {
             self.refinds(from, layers);
             told(None)
         } else {
@@ -361,6 +381,15 @@ impl Book {
         }
     }
 
+    /// Octets that are no packet in any form.
+    fn tells_no_packet(&mut self, from: Role, channel: u16) -> Verdict
+        ensures book { self.new ≡ (definition.tells_no_packet from channel self.old).book }
+        ensures verdict { result ≡ (definition.tells_no_packet from channel self.old).verdict }
+    {
+        self.misses_on(from, channel);
+        told(Some(PacketRule::NoPacket))
+    }
+
     /// A packet in the form that a station writes.
     fn reads_written(&mut self, from: Role, channel: u16, most: usize, octets: &[u8]) -> Verdict
         ensures book { self.new ≡ (definition.reads_written from channel most octets.now self.old).book }
@@ -381,6 +410,7 @@ impl Book {
         match take(most, octets) {
             Ok(taken) => self.takes(from, channel, &taken),
             Err(_) if is_diagnostic(most, octets) => passed(None),
+            Err(_) if is_no_packet(most, octets) => self.tells_no_packet(from, channel),
             Err(_) => self.misses_on(from, channel),
         }
     }

@@ -248,6 +248,17 @@ impl Layer {
         Layer { restart, ..self }
     }
 
+    /// Behind a confirmation too, where it was so before.
+    pub(crate) fn as_confirmed(self, before: Layer) -> Layer
+        ensures { result ≡ definition.as_confirmed before self }
+    {
+        if before.is_confirmed() {
+            self.with_restart(Restart::Confirmed)
+        } else {
+            self
+        }
+    }
+
     /// Behind a RESTART or its confirmation of this end.
     pub(crate) fn restarted(self, restart: Restart) -> Layer
         ensures { result ≡ definition.restarted restart self }
@@ -311,9 +322,9 @@ impl Layer {
         }
     }
 
-    /// A confirmation of a RESTART makes both ends sure.
-    pub(crate) fn found(self, restart: Restart) -> Layer
-        ensures { result ≡ definition.found restart self }
+    /// A confirmation of a RESTART makes both ends sure; one more may be on its way where `is_stray`.
+    pub(crate) fn found(self, restart: Restart, is_stray: bool) -> Layer
+        ensures { result ≡ definition.found restart is_stray self }
     {
         Layer {
             restart,
@@ -321,7 +332,7 @@ impl Layer {
             is_sure: true,
             is_counted: true,
             is_lost: false,
-            is_stray: false,
+            is_stray,
             ..self
         }
     }

@@ -273,6 +273,14 @@ impl Layers {
             && (self.other.owed == 0 && !self.other.is_stray)
     }
 
+    /// Or nothing was sent between it and what else can be.
+    pub(crate) fn is_last_answer(self) -> bool
+        ensures { result ≡ definition.is_last_answer self }
+    {
+        (self.other.is_asking() && self.own.owed == 1)
+            && (self.other.owed == 0 && (!self.other.is_stray || self.own.is_confirmed()))
+    }
+
     fn owes_more(self) -> Layers
         ensures { result ≡ definition.owes_more self }
     {
@@ -284,6 +292,14 @@ impl Layers {
         ensures { result ≡ definition.restarts_lost self }
     {
         self.give_up().owes_more().goes_to(Restart::Asking)
+    }
+
+    /// RESTART right behind its confirmation, which the end may not have taken yet.
+    fn restarts_again(self) -> Layers
+        ensures { result ≡ definition.restarts_again self }
+    {
+        let next = self.restarts_lost();
+        next.with_other(next.other.as_confirmed(self.other))
     }
 
     /// RESTART where packets may have gone unseen.
@@ -342,6 +358,8 @@ impl Layers {
             self.asks_again()
         } else if !self.are_counted() {
             self.restarts_uncounted()
+        } else if self.own.is_asking() {
+            self.restarts_again()
         } else if self.is_unclear() {
             self.restarts_lost()
         } else {
@@ -389,8 +407,8 @@ impl Layers {
         } else {
             self.own
         };
-        self.with_own(own.found(Restart::Confirmed))
-            .with_other(self.other.found(Restart::Asking))
+        self.with_own(own.found(Restart::Confirmed, false))
+            .with_other(self.other.found(Restart::Asking, self.other.is_stray))
     }
 
     /// A confirmation behind a fault that leaves open where the ends are.

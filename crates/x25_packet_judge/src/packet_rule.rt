@@ -9,6 +9,7 @@ ghost use Rattle.x25_packet_judge.specs.laws.Order.{is_of_order};
 /// Numbers are P(S) and P(R), data packets that are unacknowledged, and octets of user data.
 #[derive(Clone, Copy)]
 pub enum PacketRule {
+    NoPacket,
     RestartAwaited,
     RestartUnasked,
     ClearAwaited,
@@ -38,7 +39,8 @@ impl PacketRule {
         match self {
             PacketRule::OverPackets { window } => window < 7,
             PacketRule::NotFull { .. } => true,
-            PacketRule::RestartAwaited
+            PacketRule::NoPacket
+            | PacketRule::RestartAwaited
             | PacketRule::RestartUnasked
             | PacketRule::ClearAwaited
             | PacketRule::ClearUnasked

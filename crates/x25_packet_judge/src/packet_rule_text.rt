@@ -14,6 +14,7 @@ fn words(rule: PacketRule) -> &'static [u8]
     ensures few { length result.now ≤ 90 }
 {
     match rule {
+        PacketRule::NoPacket => b"no packet of X.25 has these octets (5)",
         PacketRule::RestartAwaited => b"nothing but RESTART goes before its confirmation (3.3.1)",
         PacketRule::RestartUnasked => b"RESTART CONFIRMATION of no RESTART (3.3.1)",
         PacketRule::ClearAwaited => b"nothing but CLEAR goes before its confirmation (4.1.7)",
@@ -49,7 +50,8 @@ fn number(rule: PacketRule) -> Option<u16>
         PacketRule::OverPackets { window } => Some(u16::from(window)),
         PacketRule::TooManyOctets { most } => Some(most),
         PacketRule::NotFull { size } => Some(size),
-        PacketRule::RestartAwaited
+        PacketRule::NoPacket
+        | PacketRule::RestartAwaited
         | PacketRule::RestartUnasked
         | PacketRule::ClearAwaited
         | PacketRule::ClearUnasked

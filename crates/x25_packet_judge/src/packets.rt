@@ -105,7 +105,7 @@ impl Pair {
 
     /// The first end sends a packet of the channel.
     #[tactic(auto, unfolding(crate::specs::Packets::sends))]
-    pub(crate) fn sends(self, packet: &Packet) -> Pair
+    fn sends(self, packet: &Packet) -> Pair
         ensures { result ≡ definition.sends (plain packet.now) self }
     {
         if !self.is_known() {
@@ -114,6 +114,38 @@ impl Pair {
             self.starts_early().sends_unknown(packet)
         } else {
             self.sends_known(packet)
+        }
+    }
+    /// Whether CLEAR or RESET is sent right behind the answer to the last one: the end may not have taken that yet.
+    #[tactic(auto, unfolding(crate::specs::Packets::is_again))]
+    fn is_again(self, packet: &Packet) -> bool
+        ensures { result ≡ definition.is_again (plain packet.now) self }
+    {
+        match packet {
+            Packet::Clear { .. } => self.is_cleared_again(),
+            Packet::Reset { .. } => self.is_reset_again(),
+            Packet::Call { .. }
+            | Packet::Accept { .. }
+            | Packet::ClearConf { .. }
+            | Packet::Restart { .. }
+            | Packet::RestartConf
+            | Packet::Data { .. }
+            | Packet::Rr { .. }
+            | Packet::Rnr { .. }
+            | Packet::Interrupt { .. }
+            | Packet::InterruptConf { .. }
+            | Packet::ResetConf { .. } => false,
+        }
+    }
+
+    /// The same, but nothing is told of a request that is sent again, nor of what follows.
+    pub(crate) fn follows(self, packet: &Packet) -> Pair
+        ensures { result ≡ definition.follows (plain packet.now) self }
+    {
+        if self.reaches && (self.is_known() && self.is_again(packet)) {
+            self.doubts()
+        } else {
+            self.sends(packet)
         }
     }
 }

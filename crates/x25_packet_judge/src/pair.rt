@@ -65,8 +65,8 @@ impl Pair {
             .with_other(self.other.unknown())
     }
 
-    /// Nothing may be said of the channel behind a fault.
-    fn doubts(self) -> Pair
+    /// Nothing may be said of the channel behind a fault, or a request that is sent again.
+    pub(crate) fn doubts(self) -> Pair
         ensures { result ≡ definition.doubts self }
     {
         self.with_own(self.own.doubtful(self.other.owed == 0))
@@ -134,6 +134,13 @@ impl Pair {
         ensures { result ≡ definition.is_awaiting self }
     {
         self.own.is_clearing && 0 < self.other.owed
+    }
+
+    /// Whether CLEAR was sent, and answered, and nothing behind it.
+    pub(crate) fn is_cleared_again(self) -> bool
+        ensures { result ≡ definition.is_cleared_again self }
+    {
+        self.own.is_clearing && self.other.owed == 0
     }
 
     pub(crate) fn clears(self) -> Pair

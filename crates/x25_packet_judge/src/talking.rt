@@ -46,6 +46,13 @@ impl Pair {
         }
     }
 
+    /// Whether RESET was sent, and answered, and nothing behind it.
+    pub(crate) fn is_reset_again(self) -> bool
+        ensures { result ≡ definition.is_reset_again self }
+    {
+        self.is_matched() && (self.own.talk.is_resetting && self.other.talk.owed == 0)
+    }
+
     pub(crate) fn confirms_reset(self) -> Pair
         ensures { result ≡ definition.confirms_reset self }
     {

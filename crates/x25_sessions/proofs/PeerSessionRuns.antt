@@ -28,7 +28,7 @@ use Rattle.x25_sessions.proofs.SessionSteps.{IsTimely, station_acts}
 use Rattle.x25_sessions.proofs.SessionWith.{outs, backs, at, IsWith, station_may}
 use Rattle.x25_sessions.proofs.PeerMoves.{peer_held}
 use Rattle.x25_sessions.proofs.ends.Held.{ViewIs, NotIn}
-use Rattle.x25_sessions.proofs.ends.Sessions.{All, all_turned, reached_all, keep_sessions, latest_stands, some_stands, all_map, all_taken}
+use Rattle.x25_sessions.proofs.ends.Sessions.{All, all_turned, reached_all, keep_sessions, latest, some_stands, all_taken}
 
 idle_counts : (s : LinkStation) → is_idle s ≡ true → s.outgoing.sent ≤ length s.outgoing.given → s.outgoing.acked ≡ length s.outgoing.given
 idle_counts s idle high =
@@ -124,11 +124,11 @@ module _ (reads : ReadsSpelled) (rests : SessionLaws) where
     idle_is : IdleHasArrived c w
     idle_is idle which =
         let on = up_in (and_parts _ _ idle).0 in
-        let latest : all_of.held.q ≡ w.peer.begun = elim which [
+        let stands : all_of.held.q ≡ w.peer.begun = elim which [
           | inl is ↦ sym (in_now all_of.held.far_view is all_of.held.far.view)
-          | inr some ↦ some_stands (all_of.held.q ≡ w.peer.begun) w.near.begun w.met (all_map _ _ (λ m k here. (k here).1) w.met (latest_stands two all_of on)) some
+          | inr some ↦ some_stands two all_of on some
         ] in
-        all_taken two all_of on latest (idle_acked idle) ∙ h.given w.near.begun
+        all_taken two all_of on stands (idle_acked idle) ∙ h.given w.near.begun
       where
         in_now : (v : View) → w.peer.stand ≡ In → ViewIs v w.peer.stand w.peer.begun all_of.held.q → w.peer.begun ≡ all_of.held.q
         in_now Live is k = k.1
@@ -142,7 +142,7 @@ module _ (reads : ReadsSpelled) (rests : SessionLaws) where
     latest_is : EachMeetsLatest c w
     latest_is = record {
       near = λ up. keeps.latest (up_in up);
-      peer = λ is. peer_latest w.met (all_map _ _ (λ m k here. (k here).0) (map turned w.met) (latest_stands (ends_swapped two) (all_turned two all_of) is));
+      peer = λ is. peer_latest w.met (latest (ends_swapped two) (all_turned two all_of) is);
     }
 
   pub meet_in_step : WithAnyPeer (OfBothEnds MeetInStep)

@@ -11,7 +11,7 @@ use Rattle.x25_link.specs.declared.phase.Phase.TheVariants.{Down, Waiting, Up}
 use Rattle.x25_link.specs.Station.{Settings, is_up}
 use Rattle.x25_link.specs.Hearing.{other}
 use Rattle.x25_link.specs.Link.{put_step, put_refusal, timer_refusal, connect_refusal, disconnect_refusal}
-use Rattle.x25_line.specs.laws.Stations.{Act, Put, Deliver, T1, Connect, Disconnect, Abandon, Lose, Damage, Event, Near, Far, is_visible}
+use Rattle.x25_line.specs.laws.Stations.{Act, Put, Deliver, T1, Connect, Disconnect, Abandon, Probe, Lose, Damage, Event, Near, Far, is_visible}
 use Rattle.x25_line.specs.laws.StationClaims.{AreJoined, number_in}
 use Rattle.x25_line.specs.laws.Sessions.{Entry, SessionEnd, Meeting, Sessions, turned, swapped, sabm_in, ua_in, disc_in, how_many, after_step, unless, heard, delivered, replaced, acts, happens, run, from_nothing, from_set_up, IsTimely, IsTimelyAt, AreTimely}
 use Rattle.x25_line.specs.laws.SessionClaims.{Throughout}
@@ -141,6 +141,7 @@ alike c p T1 w = alike_unless p (timer_refusal w.near.station) w _ (both_ends (w
 alike c p Connect w = alike_unless p (connect_refusal w.near.station.phase) w _ (both_ends (with_peer p w)) _ refl refl
 alike c p Disconnect w = alike_unless p (disconnect_refusal w.near.station.phase) w _ (both_ends (with_peer p w)) _ refl refl
 alike c p Abandon w = alike_if p (is_up w.near.station.phase) w _ (both_ends (with_peer p w)) _ refl refl
+alike c p Probe w = alike_if p (is_up w.near.station.phase) w _ (both_ends (with_peer p w)) _ refl refl
 alike c p (Lose i) w = refl
 alike c p (Damage i octets) w = alike_if p (is_visible octets) w _ (both_ends (with_peer p w)) _ refl refl
 
@@ -168,6 +169,7 @@ acts_still c T1 w = still_unless (timer_refusal w.near.station) w _ (record { fa
 acts_still c Connect w = still_unless (connect_refusal w.near.station.phase) w _ (record { far = refl; less = whole w.back })
 acts_still c Disconnect w = still_unless (disconnect_refusal w.near.station.phase) w _ (record { far = refl; less = whole w.back })
 acts_still c Abandon w = still_if (is_up w.near.station.phase) w _ (record { far = refl; less = whole w.back })
+acts_still c Probe w = still_if (is_up w.near.station.phase) w _ (record { far = refl; less = whole w.back })
 acts_still c (Lose i) w = record { far = refl; less = less_removes w.back i }
 acts_still c (Damage i octets) w = by (is_visible octets) refl
   where

@@ -18,7 +18,7 @@ use Rattle.x25_link.specs.laws.WindowMachine.{Window, hands_down, nothing}
 use Rattle.x25_link.specs.laws.WindowLaw.{window_of, Follows, IsOut, sets_up}
 use Rattle.x25_window.specs.laws.Window.{after}
 use Rattle.x25_window.specs.laws.Window.Step.{HandDown}
-use Rattle.x25_line.specs.laws.Stations.{Act, Put, Deliver, T1, Connect, Disconnect, Abandon, Lose, Damage, is_visible}
+use Rattle.x25_line.specs.laws.Stations.{Act, Put, Deliver, T1, Connect, Disconnect, Abandon, Probe, Lose, Damage, is_visible}
 use Rattle.x25_line.specs.laws.Sessions.{Entry, Meeting, Sessions, sabm_in, ua_in, disc_in, how_many, sent_in, after_step, unless, delivered, replaced, acts}
 use Rattle.x25_line.specs.laws.LawsBelow.{SessionLaws}
 use Rattle.x25_line.specs.laws.Peer.{Peer}
@@ -227,6 +227,7 @@ module _ (d : Settings) (high : d.window ≤ 7) (reads : ReadsSpelled) (rests : 
   station_acts Disconnect w timely owes h =
       seen_unless (disconnect_refusal w.near.station.phase) w (after_step d w w.back w.met [] (disconnect_step d w.near.station)) h (λ accepted. disconnect_seen w h accepted)
   station_acts Abandon w timely owes h = seen_if (is_up w.near.station.phase) w (after_step d w w.back w.met [] (abandon_step d w.near.station)) h (λ up. abandon_seen w h up)
+  station_acts Probe w timely owes h = seen_if (is_up w.near.station.phase) w (after_step d w w.back w.met [] (timer_step d w.near.station)) h (λ up. timer_up w h up)
   station_acts (Lose i) w timely owes h = line_seen w h (remove w.back i) (does.loses w.back w.met w.near.station.phase w.near.begun h.all w.out i h.reached)
   station_acts (Damage i octets) w timely owes h =
       seen_if (is_visible octets) w (record w { back = replaced w.back i octets }) h (λ visible. line_seen w h (replaced w.back i octets)

@@ -1,25 +1,18 @@
 -- A station over sessions and a peer are two ends that keep the rules, whatever the station does.
-use Rattle.std.proofs.Common.{◌≡◌, ◌≤◌, ℕ, suc, ◌+◌, List, [], ◌∷◌, ◌++◌, inl, inr, remove, Bool, true, false, if◌then◌else◌, Option, Some, None, Ok, Err, refl, sym, ap, ◌∙◌, subst, arith}
-use Rattle.std.specs.Prelude.{nat_le}
-use Rattle.std.proofs.lemmas.Bool.{le-leb}
+use Rattle.std.proofs.Common.{◌≡◌, ℕ, suc, ◌+◌, List, [], ◌∷◌, ◌++◌, inl, inr, remove, Bool, true, Some, None, Ok, refl, sym, ap, ◌∙◌, subst, arith}
 use Rattle.x25_bits.specs.declared.role.Role.{Role}
 use Rattle.x25_frame.specs.Frame.{PlainFrame, info, rr, rnr, rej, sabm, disc, ua, dm, frmr}
 use Rattle.x25_frame.specs.Reading.{frame_of}
-use Rattle.x25_frame.specs.declared.error.FrameError.TheVariants.{Short, BadFcs, BadAddress}
-use Rattle.x25_window.specs.code.Modulo.{resolved}
 use Rattle.x25_link.specs.declared.phase.Phase.{Phase}
 use Rattle.x25_link.specs.declared.phase.Phase.TheVariants.{Down, Waiting, Up}
-use Rattle.x25_link.specs.declared.phase.Reason.{Reason}
-use Rattle.x25_link.specs.declared.phase.Reason.TheVariants.{FrmrSent}
 use Rattle.x25_link.specs.Station.{Settings}
 use Rattle.x25_link.specs.Hearing.{other}
 use Rattle.x25_link.specs.laws.SetUp.{TakesPart}
-use Rattle.x25_link.specs.laws.WindowMachine.{Window}
-use Rattle.x25_link.specs.laws.WindowLaw.{ending_of}
 use Rattle.x25_line.specs.laws.StationClaims.{number_in}
-use Rattle.x25_line.specs.laws.Said.{Carried, Tells, Else, Odd as OddSaid, said}
+use Rattle.x25_line.specs.laws.Said.{Else, Odd as OddSaid, said}
 use Rattle.x25_line.specs.laws.Sessions.{Entry, Meeting, sabm_in, ua_in, disc_in, how_many, replaced}
 use Rattle.x25_line.specs.laws.Peer.{Peer, MaySay}
+use Rattle.x25_line.proofs.Order.{by_frmr, no_fault}
 use Rattle.x25_line.proofs.StationLines.{visible_reads}
 use Rattle.x25_line.proofs.StationSays.{machine_of}
 use Rattle.x25_line.proofs.sessions.SessionLines.{Read, none_is_some, of_sabm, of_disc, number_kind, many_append}
@@ -31,27 +24,6 @@ use Rattle.x25_sessions.proofs.EntryLines.{Less, whole, gone, hurt, deeper, less
 use Rattle.x25_sessions.proofs.Letters.{heard_said, letters, letters_push, letters_removed, letters_replaced, sabms, uas, discs, asked_letters, letters_asked}
 use Rattle.x25_sessions.proofs.SessionMay.{stand_of, sends_read, hears_read, entry, heard_in, MayAsk, MayDo}
 use Rattle.x25_sessions.proofs.ends.Sessions.{reached_all, ua_present, valid}
-
--- ---- no fault is found where an N(R) is valid, and where nothing comes that is answered by FRMR
-
-abbrev by_frmr : Option Reason → ℕ
-by_frmr (Some FrmrSent) = 1
-by_frmr reason = 0
-
-valid_none : (b : Bool) → b ≡ true → by_frmr (if b then None else Some FrmrSent) ≡ 0
-valid_none true is = refl
-valid_none false is = cc
-
-no_fault : (r : Read) (v : Window) → (said r ≡ OddSaid → ⊥) → ((carried : Option Carried) (nr : ℕ) → said r ≡ Tells carried nr → resolved v.acked nr ≤ v.sent) → by_frmr (ending_of r v) ≡ 0
-no_fault (Ok (info ns nr p x)) v never valid = valid_none (nat_le (resolved v.acked nr) v.sent) (le-leb _ _ (valid _ nr refl))
-no_fault (Ok (rr command nr pf)) v never valid = valid_none (nat_le (resolved v.acked nr) v.sent) (le-leb _ _ (valid None nr refl))
-no_fault (Ok (rnr command nr pf)) v never valid = valid_none (nat_le (resolved v.acked nr) v.sent) (le-leb _ _ (valid None nr refl))
-no_fault (Ok (rej command nr pf)) v never valid = valid_none (nat_le (resolved v.acked nr) v.sent) (le-leb _ _ (valid None nr refl))
-no_fault (Ok f) v never valid = refl
-no_fault (Err Short) v never valid = refl
-no_fault (Err BadFcs) v never valid = refl
-no_fault (Err BadAddress) v never valid = refl
-no_fault (Err e) v never valid = absurd (never refl)
 
 number_frmr : (r : Read) (f : PlainFrame) → number_in r ≡ Some f → frmr_in r ≡ 0
 number_frmr (Ok (frmr g why)) f is = none_is_some f is

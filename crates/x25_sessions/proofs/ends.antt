@@ -3,5 +3,4 @@ pub mod Puts
 pub mod Lines
 pub mod Held
 pub mod Moves
-pub mod Order
 pub mod Sessions

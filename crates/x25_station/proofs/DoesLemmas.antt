@@ -65,9 +65,6 @@ wants_memory : (o : Outcome) → (let r : Result Unit StationError = Err error.N
 wants_memory (Did step) = refl
 wants_memory (Refused e) = inr refl
 
-pub lacks_memory : (v : code.Station) (out : code_step.Step) (said : Settings → Station → Outcome) → IsEmpty out → Does v v out (Err error.NoMemory) said
-lacks_memory v out said empty = declines v v out error.NoMemory said (λ c s fits. wants_memory (said c s)) (λ c s fits. fits) empty
-
 -- the same, where the station has other memory
 pub wants_copy : (old new : code.Station) (out : code_step.Step) (said : Settings → Station → Outcome) → IsEmpty out → ((c : Settings) (s : Station) → FitsStation c old s → FitsStation c new s) → Does old new out (Err error.NoMemory) said
 wants_copy old new out said empty same = declines old new out error.NoMemory said (λ c s fits. wants_memory (said c s)) same empty

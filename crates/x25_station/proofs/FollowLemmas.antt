@@ -10,9 +10,6 @@ use Rattle.x25_station.specs.Beside.{PlainBeside, beside_in}
 use Rattle.x25_station.specs.Entry.{StationEntry, bringing, entries_beside, entries_noted}
 use Rattle.x25_station.specs.Step.{rests, layer_at, layer_down, layer_answer, entries_of_answer, entries_heard}
 
-some_none : {T : Type 0} (x : T) → Some x ≡ None → ⊥
-some_none x is = cc
-
 true_false : true ≡ false → ⊥
 true_false is = cc
 

@@ -23,10 +23,11 @@ pub mod FollowLemmas
 pub mod HoldLemmas
 pub mod OctetLemmas
 pub mod ToldLemmas
+pub mod RoomLemmas
 pub mod ResultLemmas
 pub mod OutcomeLemmas
-pub mod rows
 pub mod TimerLemmas
+pub mod WayOutLemmas
 pub mod DoesLemmas
 pub mod PullLemmas
 pub mod ClockLemmas

@@ -17,10 +17,6 @@ use Rattle.x25_station.proofs.LinkLemmas.{near_alone}
 
 -- ---- put after put
 
-pub all_append : (c : LinkSettings) (a b : List PlainPacket) (t : Side) → all_put c (a ++ b) t ≡ all_put c b (all_put c a t)
-all_append c [] b t = refl
-all_append c (p ∷ a) b t = all_append c a b (put_on c p t)
-
 pub accepted_append : (c : LinkSettings) (a b : List PlainPacket) (t : Side) → AreAccepted c a t → AreAccepted c b (all_put c a t) → AreAccepted c (a ++ b) t
 accepted_append c [] b t first second = second
 accepted_append c (p ∷ a) b t first second = (first.0, accepted_append c a b (put_on c p t) first.1 second)

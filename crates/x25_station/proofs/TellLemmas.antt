@@ -9,7 +9,7 @@ use Rattle.x25_layer.specs.declared.report.Report.{Report}
 use Rattle.x25_layer.specs.Report.{plain_report}
 use Rattle.x25_layer.specs.laws.Transcript.{Told, name_of}
 use Rattle.x25_layer.specs.Layer.{LayerSettings, Layer, LayerNotice, on_channel, restarted, restart_done, layer_fault, notices_on}
-use Rattle.x25_station.specs.Entry.{StationEntry, of_channel, was_restarted, restart_confirmed, at_fault, bringing, entry_told, may_bring, station_told}
+use Rattle.x25_station.specs.Entry.{StationEntry, of_channel, was_restarted, restart_confirmed, at_fault, entry_told, station_told}
 use Rattle.x25_station.specs.Receiving.{IsTellable, AreTellable}
 
 abbrev pub told_first : ℕ → Layer → Bool → List StationEntry
@@ -46,13 +46,3 @@ same_told l m (layer_fault diagnostic ∷ notices) same = ap (λ (es : List Stat
 
 pub told_is : {E : Type 0} (r : Result Report E) (told : Report) (notices : List LayerNotice) → r ≡ Ok told → IfOk r (λ t. plain_report t ≡ notices) → plain_report told ≡ notices
 told_is {E = E} r told notices is h = subst (λ (x : Result Report E). IfOk x (λ t. plain_report t ≡ notices)) is h
-
--- ---- what may bring more
-
-pub noticed_bringing : (h : ℕ) (b : Bool) (n : Notice) → bringing (notices_on h (notices_of b (Some n))) ≡ (if may_bring (plain_notice n) then Some h else None)
-noticed_bringing h true n = refl
-noticed_bringing h false n = refl
-
-pub collided_alone : (h : ℕ) (b : Bool) → bringing (notices_on h (notices_of b None)) ≡ None
-collided_alone h true = refl
-collided_alone h false = refl

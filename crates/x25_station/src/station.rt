@@ -8,8 +8,8 @@ use crate::error::StationError;
 use std::alloc::Global;
 use x25_bits::{Pool, Promise, Role};
 use x25_frame::N1;
-use x25_layer::{Layer, LayerError, Stretch};
-use x25_link::{Link, LinkError};
+use x25_layer::{Awaits, Layer, LayerError, Stretch};
+use x25_link::{Link, LinkError, OrderedLink};
 
 /// A station of X.25, DTE or DCE: its link and its packet layer.
 ///
@@ -28,12 +28,15 @@ pub struct Station {
 }
 
 impl Station {
-    ghost use Rattle.std.specs.Prelude.{◌≡◌, ◌+◌, ◌≤◌, vec_capacity, IfOk};
+    ghost use Rattle.std.specs.Prelude.{◌≡◌, ◌==◌, ℕ, ◌+◌, ◌≤◌, Bool, List, length, vec_capacity, IfOk};
     ghost use Rattle.x25_station.specs.code.FitsStation.{FitsStation, FitsStill, RefusesWith};
     ghost use Rattle.x25_station.specs.Config.{Settings, layer_settings, settings_from, config_refusal};
     ghost use Rattle.x25_station.specs.Station.{Station as State, new_station};
-    ghost use Rattle.x25_station.specs.Station.Told.{is_idle, is_at_rest, stretch};
-    ghost use Rattle.x25_layer.specs.code.FitsLayer.{KeepsOn, plain_stretch};
+    ghost use Rattle.x25_station.specs.Station.Told.{awaits_answers, is_idle, is_at_rest, is_refused, room, stretch};
+    ghost use Rattle.x25_station.specs.Step.{requests};
+    ghost use Rattle.x25_layer.specs.Calls.{Asks};
+    ghost use Rattle.x25_circuit.specs.Calling.{Sends};
+    ghost use Rattle.x25_layer.specs.code.FitsLayer.{KeepsOn, plain_stretch, awaited_at};
     ghost use Rattle.x25_link.specs.code.Outbox.{KeepsOne};
     ghost use Rattle.x25_layer.specs.Layer.InPart.{joined_at};
     ghost use Rattle.x25_link.specs.Station.{awaits_ua};
@@ -78,6 +81,13 @@ impl Station {
         self.link.idle() && self.layer.waits() == 0
     }
 
+    /// Whether an answer is awaited: that a restart be confirmed, or what `awaits` says of a channel.
+    pub fn awaits_answers(&self) -> bool
+        ensures { (c : Settings) (s : State) → FitsStation c self.now s → result ≡ awaits_answers c s }
+    {
+        self.layer.is_restarting() || self.layer.awaited() > 0
+    }
+
     /// Whether the link is at rest: it is up, no packet waits in it, all that was sent is acknowledged, and timer T1
     /// doesn't run. Messages may wait in circuits.
     pub fn is_at_rest(&self) -> bool
@@ -93,11 +103,41 @@ impl Station {
         self.link.awaits_ua()
     }
 
+    /// The answer that this end awaits on a channel; none where it isn't configured, while a restart is under way, and
+    /// where the link isn't up.
+    pub fn awaits(&self, channel: u16) -> Awaits
+        ensures { (c : Settings) (s : State) → FitsStation c self.now s
+            → result ≡ awaited_at (layer_settings c) s.layer channel }
+    {
+        self.layer.awaits(channel)
+    }
+
+    /// Whether a restart is under way: this end awaits that its RESTART be confirmed.
+    pub fn is_restarting(&self) -> bool
+        ensures { (c : Settings) (s : State) → FitsStation c self.now s → result ≡ s.layer.restarting }
+    {
+        self.layer.is_restarting()
+    }
+
     /// Whether timer T1 runs: exactly where `t1` isn't refused with 11.
     pub fn timer_runs(&self) -> bool
         ensures { (c : Settings) (s : State) → FitsStation c self.now s → result ≡ timer_runs s.link.phase s.link }
     {
         self.link.timer_runs()
+    }
+
+    /// How many messages more a channel takes: 8 less those that wait, where it is open and the link is up, and else 0.
+    /// A message of at most 65,535 octets is refused, but for want of memory, exactly where it is 0.
+    pub fn room(&self, channel: u16) -> usize
+        ensures value { (c : Settings) (s : State) → FitsStation c self.now s → result ≡ room c s channel }
+        ensures takes { (c : Settings) (s : State) (q : Bool) (user : List ℕ) → FitsStation c self.now s
+            → length user ≤ 65535 → (result == 0) ≡ is_refused (requests c s (Asks channel (Sends q user))) }
+        ensures few { result ≤ 8 }
+    {
+        if !self.link.is_up() {
+            return 0;
+        }
+        self.layer.room(channel)
     }
 
     /// How many octets have come of the message of which some packets came on a channel, at most 65,535; 0 where there

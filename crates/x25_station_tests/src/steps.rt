@@ -32,9 +32,9 @@ enum Act {
 /// What a step brings: the number of a refusal or 0, how many frames and entries are in it, and what becomes of T1.
 type Brings = (u8, usize, usize, Timer);
 
-/// What a station says: whether it is idle, is at rest, awaits UA, and T1 runs, how many octets came of a message in
-/// part, and the name of the stretch that is open.
-type Says = (bool, bool, bool, bool, usize, Option<Stretch>);
+/// What a station says: whether it is idle, is at rest, awaits UA, and T1 runs, how many messages more channel 1 takes,
+/// how many octets came of one in part, and the name of the stretch that is open.
+type Says = (bool, bool, bool, bool, usize, usize, Option<Stretch>);
 
 /// What happens so many times, what it brings the last time, and what the station says then.
 type Row = (u16, Act, Brings, Says);
@@ -57,25 +57,30 @@ const WAS_RESET: Option<Stretch> = Some(Stretch {
     resets: 1,
 });
 
-const DOWN: Says = (false, false, false, false, 0, None);
+const DOWN: Says = (false, false, false, false, 0, 0, None);
 
-const AWAITS_UA: Says = (false, false, true, true, 0, None);
+const AWAITS_UA: Says = (false, false, true, true, 0, 0, None);
 
 /// Not all that was sent is acknowledged, or the link is being disconnected.
-const BUSY: Says = (false, false, false, true, 0, None);
+const BUSY: Says = (false, false, false, true, 0, 0, None);
 
-const IDLE: Says = (true, true, false, false, 0, None);
+const IDLE: Says = (true, true, false, false, 0, 0, None);
 
-const BUSY_IN_A_CALL: Says = (false, false, false, true, 0, OPEN);
+/// It is polled.
+const IDLE_RUNS: Says = (true, false, false, true, 0, 0, None);
 
-const IDLE_IN_A_CALL: Says = (true, true, false, false, 0, OPEN);
+const BUSY_IN_A_CALL: Says = (false, false, false, true, 8, 0, OPEN);
+
+const IDLE_IN_A_CALL: Says = (true, true, false, false, 8, 0, OPEN);
+
+const ONE_WAITS: Says = (false, false, false, true, 7, 0, OPEN);
 
 /// A message waits in its circuit.
-const AT_REST_IN_A_CALL: Says = (false, true, false, false, 0, OPEN);
+const AT_REST_IN_A_CALL: Says = (false, true, false, false, 7, 0, OPEN);
 
-const HAS_TWO_OCTETS: Says = (false, false, false, true, 2, OPEN);
+const HAS_TWO_OCTETS: Says = (false, false, false, true, 8, 2, OPEN);
 
-const BUSY_BEHIND_A_RESET: Says = (false, false, false, true, 0, WAS_RESET);
+const BUSY_BEHIND_A_RESET: Says = (false, false, false, true, 8, 0, WAS_RESET);
 
 /// An address that isn't one.
 const BAD_CALL: Cmd<'static> = Cmd::Call {
@@ -139,11 +144,11 @@ static DTE: [Row; 30] = [
     (1, Act::Ask(CALL), (0, 1, 1, BEGINS), BUSY),
     (1, Act::Take(ACCEPTED), (0, 1, 1, OFF), IDLE_IN_A_CALL),
     (15, Act::Ask(READY), (0, 0, 1, GOES_ON), BUSY_IN_A_CALL),
-    (1, Act::Ask(SEND), (0, 0, 1, GOES_ON), BUSY_IN_A_CALL),
-    (1, Act::Pull, (0, 0, 1, GOES_ON), BUSY_IN_A_CALL),
-    (1, Act::Take(RR_1), (0, 7, 0, BEGINS), BUSY_IN_A_CALL),
-    (1, Act::Take(RR_0), (0, 1, 0, BEGINS), BUSY_IN_A_CALL),
-    (1, Act::Take(RR_0), (0, 0, 0, GOES_ON), BUSY_IN_A_CALL),
+    (1, Act::Ask(SEND), (0, 0, 1, GOES_ON), ONE_WAITS),
+    (1, Act::Pull, (0, 0, 1, GOES_ON), ONE_WAITS),
+    (1, Act::Take(RR_1), (0, 7, 0, BEGINS), ONE_WAITS),
+    (1, Act::Take(RR_0), (0, 1, 0, BEGINS), ONE_WAITS),
+    (1, Act::Take(RR_0), (0, 0, 0, GOES_ON), ONE_WAITS),
     (1, Act::Take(RR_1), (0, 0, 0, OFF), AT_REST_IN_A_CALL),
     (1, Act::Pull, (0, 1, 0, BEGINS), BUSY_IN_A_CALL),
     (1, Act::Take(RR_2), (0, 0, 0, OFF), IDLE_IN_A_CALL),
@@ -215,6 +220,7 @@ fn says(station: &Station) -> Says {
         station.is_at_rest(),
         station.awaits_ua(),
         station.timer_runs(),
+        station.room(1),
         station.octets_joined(1),
         station.stretch(1),
     )

@@ -1,6 +1,6 @@
 use std::alloc::Global;
 use x25_packet::{
-    NoMemory, Packet, PacketError, channel, decode, decode_long, decode_within, encode,
+    CALL_OCTETS, LONG_CALL_OCTETS, NoMemory, Packet, PacketError, channel, decode_within, encode,
     longest_user,
 };
 
@@ -48,7 +48,7 @@ fn number_in(read: Result<Packet, PacketError>) -> u8 {
 // The number of the error that the octets have, 0 where they spell a packet and are what it is spelled as, and none
 // where it is spelled otherwise or there is no memory.
 fn error_number(alloc: Global, octets: &[u8]) -> Option<u8> {
-    let packet = match decode(octets) {
+    let packet = match decode_within(CALL_OCTETS, octets) {
         Ok(packet) => packet,
         Err(error) => return Some(error.number()),
     };
@@ -59,11 +59,12 @@ fn error_number(alloc: Global, octets: &[u8]) -> Option<u8> {
     Some(0)
 }
 
-// The errors that `decode` and `decode_long` tell of these octets.
+// The errors of these octets, where a CALL has at most 16 octets of user data and where it has 128.
 fn errors_of(alloc: Global, text: &str) -> Option<(u8, u8)> {
     let octets = hex::decode(alloc, text).ok()?;
     let number = error_number(alloc, octets.as_slice())?;
-    Some((number, number_in(decode_long(octets.as_slice()))))
+    let long = decode_within(LONG_CALL_OCTETS, octets.as_slice());
+    Some((number, number_in(long)))
 }
 
 #[test]
@@ -109,7 +110,7 @@ fn longest_bodies(rt: HostRuntime) {
     }
 }
 
-/// How many octets of user data a CALL has, and the errors that `decode` and `decode_long` tell of it.
+/// How many octets of user data a CALL has, and its errors where it may have 16 and where it may have 128.
 static USER_DATA: [(usize, u8, u8); 5] = [
     (0, 0, 0),
     (16, 0, 0),
@@ -118,16 +119,16 @@ static USER_DATA: [(usize, u8, u8); 5] = [
     (129, 23, 23),
 ];
 
-// The errors that are told of a CALL by `decode` and by `decode_long`, and where it may have its octets of user data
-// and where one fewer; and whether it has the octets behind the first five as its user data.
+// The errors of a CALL where it may have 16 octets of user data, 128, those that it has, and one fewer; and whether it
+// has the octets behind the first five as its user data.
 fn errors_of_call(octets: &[u8], count: usize) -> (u8, u8, u8, u8, bool) {
     let fewer = match count.checked_sub(1) {
         Some(fewer) => number_in(decode_within(fewer, octets)),
         None => 23,
     };
     (
-        number_in(decode(octets)),
-        number_in(decode_long(octets)),
+        number_in(decode_within(CALL_OCTETS, octets)),
+        number_in(decode_within(LONG_CALL_OCTETS, octets)),
         number_in(decode_within(count, octets)),
         fewer,
         has_user_data(octets),
@@ -136,7 +137,7 @@ fn errors_of_call(octets: &[u8], count: usize) -> (u8, u8, u8, u8, bool) {
 
 // Where it is read at all.
 fn has_user_data(octets: &[u8]) -> bool {
-    match decode_long(octets) {
+    match decode_within(LONG_CALL_OCTETS, octets) {
         Ok(Packet::Call { user, .. }) => octets.len() >= 5 && user == &octets[5..],
         _ => true,
     }

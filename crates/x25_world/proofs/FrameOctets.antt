@@ -93,14 +93,8 @@ address_below Dce false = omega arith
 
 information_short : (v : PlainFrame) → MayCarry v (information_of v) → IsWithin longest_packet v (information_of v) → length (information_of v) ≤ 4099
 information_short (info ns nr p x) carries within = within
-information_short (rr command nr pf) carries within = omega arith
-information_short (rnr command nr pf) carries within = omega arith
-information_short (rej command nr pf) carries within = omega arith
-information_short (sabm p) carries within = omega arith
-information_short (disc p) carries within = omega arith
-information_short (ua f) carries within = omega arith
-information_short (dm f) carries within = omega arith
 information_short (frmr f why) carries within = omega (arith, carries)
+information_short v carries within = omega arith
 
 abbrev IsOctet : ℕ → Type 0
 IsOctet octet = octet < 256

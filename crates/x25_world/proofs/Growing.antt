@@ -74,5 +74,4 @@ pub on_tap : (from : Role) (tap : List OnTap) (sent frames : List PlainFrame) �
 on_tap from [] [] [] h = tt
 on_tap from [] [] (f ∷ frames) h = (refl, on_tap from [] [] frames tt)
 on_tap from (t ∷ tap) (s ∷ sent) frames h = (h.0, on_tap from tap sent frames h.1)
-on_tap from [] (s ∷ sent) frames h = absurd h
-on_tap from (t ∷ tap) [] frames h = absurd h
+on_tap from tap sent frames h = absurd h

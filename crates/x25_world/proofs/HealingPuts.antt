@@ -108,11 +108,7 @@ module _ (laws : SessionLaws) (cfg : Cfg) (fine : IsConfigured cfg) (end : Role)
   near_asked : (act : Act) → IsReceiptOrRequest act → ActsInOctets act → ActsFreely c w.near w.far.link w.back act → Asked cfg end w (after w (acts c w act)) v
   near_asked Receives are octets free = came_asked free
   near_asked (Commands (command.Requests request)) are octets free = request_asked (command.said_by cfg.say_sizes w.near.layer request) (said_octets cfg.say_sizes w.near.layer request octets)
-  near_asked (Commands command.Connects) are octets free = absurd are
-  near_asked (Commands command.Disconnects) are octets free = absurd are
-  near_asked Fires are octets free = absurd are
-  near_asked (Loses place) are octets free = absurd are
-  near_asked (Damages place others) are octets free = absurd are
+  near_asked act are octets free = absurd are
 
 -- ---- at either end
 
@@ -211,20 +207,13 @@ all_asked laws cfg fine (e ∷ events) w h v like are octets free =
 -- ---- the law
 
 up_off : (p : Phase) → is_up p ≡ true → awaits_ua p ≡ false
-up_off Down up = refl
 up_off Waiting up = true_false (sym up)
-up_off Up up = refl
-up_off Closed up = refl
+up_off p up = refl
 
 timely_act : (c d : LinkSettings) (act : line.Act) (v : Sessions) → IsDeliverOrPut act → IsTimely c d act v
 timely_act c d line.Deliver v is = tt
 timely_act c d (line.Put packet) v is = tt
-timely_act c d line.T1 v is = absurd is
-timely_act c d line.Connect v is = absurd is
-timely_act c d line.Disconnect v is = absurd is
-timely_act c d line.Abandon v is = absurd is
-timely_act c d (line.Lose place) v is = absurd is
-timely_act c d (line.Damage place octets) v is = absurd is
+timely_act c d act v is = absurd is
 
 asked_timely : (c d : LinkSettings) (es : List line.Event) (v : Sessions) → AreDeliveriesAndPuts es → AreTimely c d es v
 asked_timely c d [] v are = tt

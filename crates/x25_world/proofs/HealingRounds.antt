@@ -33,10 +33,9 @@ left_behind cfg most n w = unless_empty (pull_rounds cfg most n) w (next_end w.o
 
 -- whether there is none, by whether there is some
 pub none_by_some : {A B : Type 0} (f : A → B) (o : Option A) (b : Bool) → is_some o ≡ not b → b ≡ is_none (option_map f o)
-none_by_some f None true e = refl
 none_by_some f None false e = absurd (cc)
 none_by_some f (Some x) true e = absurd (cc)
-none_by_some f (Some x) false e = refl
+none_by_some f o b e = refl
 
 pub is_none_true : {A : Type 0} (o : Option A) → is_none o ≡ true → o ≡ None
 is_none_true None e = refl

@@ -106,6 +106,9 @@ module _ (c : LinkSettings) (v : Sessions) (s : line.Stations) (h : AreAlike v s
   acts_alike line.Abandon =
       subst (λ (x : LinkStation). AreAlike (links.acts c line.Abandon v) (if is_up x.phase then line.after_step c s s.back [] (abandon_step c x) else s)) (sym h.near.station)
       (if_alike (is_up v.near.station.phase) _ v _ s (step_alike v.back s.back v.met [] (abandon_step c v.near.station) h.back) h)
+  acts_alike line.Probe =
+      subst (λ (x : LinkStation). AreAlike (links.acts c line.Probe v) (if is_up x.phase then line.after_step c s s.back [] (timer_step c x) else s)) (sym h.near.station)
+      (if_alike (is_up v.near.station.phase) _ v _ s (step_alike v.back s.back v.met [] (timer_step c v.near.station) h.back) h)
   acts_alike (line.Lose i) = record { near = h.near; far = h.far; out = h.out; back = ap (λ (os : List (List ℕ)). remove os i) h.back ∙ sym (octets_removed v.back i) }
   acts_alike (line.Damage i octets) =
       if_alike (is_visible octets) _ v _ s (record { near = h.near; far = h.far; out = h.out; back = ap (λ (os : List (List ℕ)). line.replaced os i octets) h.back ∙ sym (octets_replaced v.back i octets) }) h

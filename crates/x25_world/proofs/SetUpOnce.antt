@@ -36,17 +36,9 @@ use Rattle.x25_world.proofs.sessions.claims.SessionArrives.{all_arrive, open_str
 
 begun_more : (p : Progress) (es : List StationEntry) → (after_entries p es).begun ≡ p.begun + ups_in es
 begun_more p [] = omega arith
-begun_more p (of_channel e ∷ es) = begun_more p es
-begun_more p (restart_asked ∷ es) = begun_more p es
-begun_more p (connect_asked ∷ es) = begun_more p es
-begun_more p (disconnect_asked ∷ es) = begun_more p es
 begun_more p (link_up ∷ es) = let rest = begun_more (after_entry p link_up) es in omega (arith, rest)
 begun_more p (link_down reason ∷ es) = begun_more (after_entry p (link_down reason)) es
-begun_more p (was_restarted cause diagnostic ∷ es) = begun_more p es
-begun_more p (restart_confirmed ∷ es) = begun_more p es
-begun_more p (at_fault diagnostic ∷ es) = begun_more p es
-begun_more p (came_beside channel facilities user ∷ es) = begun_more p es
-begun_more p (was_diagnosed diagnostic ∷ es) = begun_more p es
+begun_more p (other ∷ es) = begun_more p es
 
 pub ups_are_begun : {cfg : Cfg} {end : Role} {s : Station} {k : SessionEnd} {trace : List Done} {es : List StationEntry} → IsEnd cfg end s k trace es → ups_in es ≡ k.begun
 ups_are_begun {es = es} h =

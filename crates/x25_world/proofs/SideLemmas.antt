@@ -97,9 +97,7 @@ no_memory e is = ap error_of is
 
 its_own : (e d : StationError) → e ≡ d → (Some (error.Station d) ≡ Some (error_of e)) ⊎ (error_of e ≡ error.NoMemory)
 its_own station.NoMemory d is = inr refl
-its_own station.BadConfig d is = inl (rw (sym is) refl)
-its_own (station.Link x) d is = inl (rw (sym is) refl)
-its_own (station.Layer x) d is = inl (rw (sym is) refl)
+its_own e d is = inl (rw (sym is) refl)
 
 pub is_refusal : (cfg : Cfg) (at : Role) (w : World) (outcome : Outcome) (e : StationError) → Refuses (let r : Result (Unit {0}) StationError = Err e in r) outcome
     → (refusal_of (of_station (settings_from at cfg) w outcome) ≡ Some (error_of e)) ⊎ (error_of e ≡ error.NoMemory)

@@ -1,5 +1,5 @@
 -- What the fields of a cutter stand for.
-use Rattle.std.specs.Prelude.{◌-◌, ◌≤◌, if◌then◌else◌, [], ◌∷◌, length, take, drop}
+use Rattle.std.specs.Prelude.{◌-◌, ◌≤◌, if◌then◌else◌, [], ◌∷◌, length, take, drop, vec_capacity}
 use Rattle.x25_circuit.specs.declared.cutter.Cutter.TheInside.{Inside}
 use Rattle.x25_circuit.specs.code.Cutter.{ShownCutter}
 
@@ -12,3 +12,4 @@ shown c = record {
 pub record IsSound (c : Inside) : Type 0 where
   pub lent : c.lent ≤ c.start
   pub start : c.start ≤ length c.user.items
+  pub memory : vec_capacity c.user ≤ 69631

@@ -13,7 +13,7 @@ use Rattle.x25_link.specs.Hearing.{Step, other}
 use Rattle.x25_link.specs.Link.{take_step, put_step, put_refusal, timer_step, timer_refusal, connect_step, connect_refusal, disconnect_step, disconnect_refusal, abandon_step}
 use Rattle.x25_link.specs.laws.WindowMachine.{Window, Input}
 use Rattle.x25_link.specs.laws.WindowLaw.{window_of, brought_by, ending_of, Follows}
-use Rattle.x25_line.specs.laws.Stations.{Act, Put, Deliver, T1, Connect, Disconnect, Abandon, Lose, Damage, Near, Far, is_visible}
+use Rattle.x25_line.specs.laws.Stations.{Act, Put, Deliver, T1, Connect, Disconnect, Abandon, Probe, Lose, Damage, Near, Far, is_visible}
 use Rattle.x25_line.specs.laws.StationClaims.{AreJoined, number_in}
 use Rattle.x25_line.specs.laws.Sessions.{Entry, SessionEnd, Meeting, Sessions, turned, swapped, begun_by, after_step, unless, heard, delivered, replaced, acts, run}
 use Rattle.x25_line.specs.laws.SessionNumbers.{Standing}
@@ -127,6 +127,9 @@ acts_hands hands_up c Connect w =
 acts_hands hands_up c Disconnect w =
     let step = disconnect_step c w.near.station in
     nothing_unless (disconnect_refusal w.near.station.phase) w (after_step c w w.back w.met [] step) (quiet_goes w.near step refl refl, refl)
+acts_hands hands_up c Probe w =
+    let step = timer_step c w.near.station in
+    nothing_if (is_up w.near.station.phase) w (after_step c w w.back w.met [] step) (quiet_goes w.near step (timer_packet c w.near.station) (timer_up c w.near.station), refl)
 acts_hands hands_up c Abandon w =
     let step = abandon_step c w.near.station in
     nothing_if (is_up w.near.station.phase) w (after_step c w w.back w.met [] step) (quiet_goes w.near step refl refl, refl)
@@ -234,6 +237,7 @@ module _ (rests : SessionLaws) (hands_up : TakeHandsUp) where
   acts_meet {stand} c d Connect w h = met_unless (connect_refusal w.near.station.phase) w (after_step c w w.back w.met [] (connect_step c w.near.station)) refl
   acts_meet {stand} c d Disconnect w h = met_unless (disconnect_refusal w.near.station.phase) w (after_step c w w.back w.met [] (disconnect_step c w.near.station)) refl
   acts_meet {stand} c d Abandon w h = met_if (is_up w.near.station.phase) w (after_step c w w.back w.met [] (abandon_step c w.near.station)) refl
+  acts_meet {stand} c d Probe w h = met_if (is_up w.near.station.phase) w (after_step c w w.back w.met [] (timer_step c w.near.station)) refl
   acts_meet {stand} c d (Lose i) w h = refl
   acts_meet {stand} c d (Damage i octets) w h = met_if (is_visible octets) w (record w { back = replaced w.back i octets }) refl
 

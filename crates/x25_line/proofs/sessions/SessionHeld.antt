@@ -151,11 +151,11 @@ pub record Meetings (near far : SessionEnd) (p q : ℕ) (met : List Meeting) : T
   pub near_unmet : (n : ℕ) → (near.up n ≡ []) ⊎ SomeMet (λ (m : Meeting). m.near ≡ n) met
   pub far_unmet : (n : ℕ) → (far.up n ≡ []) ⊎ SomeMet (λ (m : Meeting). m.far ≡ n) met
 
-begun_later : (near far p q : ℕ) (met : List Meeting) → near ≤ p → far ≤ q → AllMet (IsBegun near far) met → AllMet (IsBegun p q) met
+pub begun_later : (near far p q : ℕ) (met : List Meeting) → near ≤ p → far ≤ q → AllMet (IsBegun near far) met → AllMet (IsBegun p q) met
 begun_later near far p q [] f g h = tt
 begun_later near far p q (m ∷ ms) f g h = ((omega (arith, h.0.0, f), omega (arith, h.0.1, g)), begun_later near far p q ms f g h.1)
 
-paired_anew : (near far p q : ℕ) (met : List Meeting) → near < p → far < q → AllMet (IsBegun near far) met → AllMet (IsPaired p q) met
+pub paired_anew : (near far p q : ℕ) (met : List Meeting) → near < p → far < q → AllMet (IsBegun near far) met → AllMet (IsPaired p q) met
 paired_anew near far p q [] f g h = tt
 paired_anew near far p q (m ∷ ms) f g h = (inr (omega (arith, h.0.0, f), omega (arith, h.0.1, g)), paired_anew near far p q ms f g h.1)
 
@@ -219,7 +219,7 @@ orders e f far p q grows now (m ∷ ms) paired h = (
           back = subst (λ (n : ℕ). IsPrefix (f.up n) (far.down m.far)) (sym a) (subst (λ (n : ℕ). IsPrefix (f.up p) (far.down n)) (sym b) now.back);
         }
 
-above_paired : (p q : ℕ) (met : List Meeting) → AllMet (IsPaired p q) met → IsAbove (record { near = p; far = q }) met
+pub above_paired : (p q : ℕ) (met : List Meeting) → AllMet (IsPaired p q) met → IsAbove (record { near = p; far = q }) met
 above_paired p q [] h = tt
 above_paired p q (m ∷ ms) h = h.0
 

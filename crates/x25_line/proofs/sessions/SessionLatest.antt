@@ -37,15 +37,15 @@ up_session Soon e s session view up = not_both (is_up e.station.phase) up (ap is
 up_session Gone e s session view up = not_both (is_up e.station.phase) up view.0
 
 -- who meets the near end's session that stands is the latest
-meets : (p q near far : ℕ) (m : Meeting) → near ≡ p → far ≤ q → IsBegun near far m → IsPaired p q m → m.near ≡ near → (m.far ≡ far) × (q ≡ far)
+pub meets : (p q near far : ℕ) (m : Meeting) → near ≡ p → far ≤ q → IsBegun near far m → IsPaired p q m → m.near ≡ near → (m.far ≡ far) × (q ≡ far)
 meets p q near far m is high begun (inl same) here = (omega (arith, same.1, begun.1, high), omega (arith, same.1, begun.1, high))
 meets p q near far m is high begun (inr less) here = absurd (omega (arith, less.0, is, here))
 
-all_meet : (p q near far : ℕ) (met : List Meeting) → near ≡ p → far ≤ q → AllMet (IsBegun near far) met → AllMet (IsPaired p q) met → AllMet (λ (m : Meeting). m.near ≡ near → m.far ≡ far) met
+pub all_meet : (p q near far : ℕ) (met : List Meeting) → near ≡ p → far ≤ q → AllMet (IsBegun near far) met → AllMet (IsPaired p q) met → AllMet (λ (m : Meeting). m.near ≡ near → m.far ≡ far) met
 all_meet p q near far [] is high begun paired = tt
 all_meet p q near far (m ∷ ms) is high begun paired = (λ here. (meets p q near far m is high begun.0 paired.0 here).0, all_meet p q near far ms is high begun.1 paired.1)
 
-some_meets : (p q near far : ℕ) (met : List Meeting) → near ≡ p → far ≤ q → AllMet (IsBegun near far) met → AllMet (IsPaired p q) met → SomeMet (λ (m : Meeting). m.near ≡ near) met → q ≡ far
+pub some_meets : (p q near far : ℕ) (met : List Meeting) → near ≡ p → far ≤ q → AllMet (IsBegun near far) met → AllMet (IsPaired p q) met → SomeMet (λ (m : Meeting). m.near ≡ near) met → q ≡ far
 some_meets p q near far [] is high begun paired some = absurd some
 some_meets p q near far (m ∷ ms) is high begun paired some =
     elim some [ inl here ↦ (meets p q near far m is high begun.0 paired.0 here).1 | inr there ↦ some_meets p q near far ms is high begun.1 paired.1 there ]

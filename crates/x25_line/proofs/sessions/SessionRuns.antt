@@ -13,7 +13,7 @@ use Rattle.x25_link.specs.declared.phase.Phase.TheVariants.{Down, Waiting, Up}
 use Rattle.x25_link.specs.Station.{Settings, LinkStation, is_up}
 use Rattle.x25_link.specs.Hearing.{Step, other}
 use Rattle.x25_link.specs.Link.{take_step, put_step, put_refusal, timer_step, timer_refusal, timer_runs, connect_step, connect_refusal, disconnect_step, disconnect_refusal, abandon_step}
-use Rattle.x25_line.specs.laws.Stations.{Stations, Act, Put, Deliver, T1, Connect, Disconnect, Abandon, Lose, Damage, Event, Near, Far, is_visible, start}
+use Rattle.x25_line.specs.laws.Stations.{Stations, Act, Put, Deliver, T1, Connect, Disconnect, Abandon, Probe, Lose, Damage, Event, Near, Far, is_visible, start}
 use Rattle.x25_line.specs.laws.Stations as one
 use Rattle.x25_line.specs.laws.StationClaims.{AreJoined, AreWhole, number_in}
 use Rattle.x25_line.specs.laws.Sessions.{Entry, SessionEnd, Meeting, Sessions, turned, swapped, begun_by, sent_in, after_step, unless, heard, delivered, replaced, acts, happens, run, from_nothing, from_set_up, IsTimely, IsTimelyAt, AreTimely}
@@ -141,6 +141,10 @@ module _ (c d : Settings) (joined : AreJoined c d) (reads : ReadsSpelled) (rests
       let step = abandon_step c w.near.station in
       now_if c d (is_up w.near.station.phase) w (after_step c w w.back w.met [] step) h
       (λ up. step_now stand c d w w.back w.met [] step None (abandon_held c d joined reads rests_on.laws w h up))
+  acts_held {stand} Probe w timely h =
+      let step = timer_step c w.near.station in
+      now_if c d (is_up w.near.station.phase) w (after_step c w w.back w.met [] step) h
+      (λ up. step_now stand c d w w.back w.met [] step None (timer_up_held c d joined reads rests_on.laws w h up))
   acts_held {stand} (Lose i) w timely h =
       let v : Sessions = record w { back = remove w.back i } in
       still_now stand c d w v (gone_at c w (Some i)) refl
@@ -164,7 +168,7 @@ pub begun_turned : (p q : ℕ) (met : List Meeting) → AllMet (IsBegun p q) met
 begun_turned p q [] h = tt
 begun_turned p q (m ∷ ms) h = ((h.0.1, h.0.0), begun_turned p q ms h.1)
 
-paired_turned : (p q : ℕ) (met : List Meeting) → AllMet (IsPaired p q) met → AllMet (IsPaired q p) (map turned met)
+pub paired_turned : (p q : ℕ) (met : List Meeting) → AllMet (IsPaired p q) met → AllMet (IsPaired q p) (map turned met)
 paired_turned p q [] h = tt
 paired_turned p q (m ∷ ms) h = (elim h.0 [ inl same ↦ inl (same.1, same.0) | inr less ↦ inr (less.1, less.0) ], paired_turned p q ms h.1)
 

@@ -6,7 +6,7 @@ use Rattle.x25_link.specs.declared.error.LinkError.{LinkError}
 use Rattle.x25_link.specs.Station.{Settings, LinkStation, is_up}
 use Rattle.x25_link.specs.Hearing.{Step}
 use Rattle.x25_link.specs.Link.{take_step, put_step, put_refusal, timer_step, timer_refusal, connect_step, connect_refusal, disconnect_step, disconnect_refusal, abandon_step}
-use Rattle.x25_line.specs.laws.Stations.{StationEnd, Stations, Act, Put, Deliver, T1, Connect, Disconnect, Abandon, Lose, Damage, Event, Near, Far, is_visible, start}
+use Rattle.x25_line.specs.laws.Stations.{StationEnd, Stations, Act, Put, Deliver, T1, Connect, Disconnect, Abandon, Probe, Lose, Damage, Event, Near, Far, is_visible, start}
 use Rattle.x25_line.specs.laws.Stations as one
 use Rattle.x25_line.specs.laws.Sessions.{Entry, SessionEnd, Meeting, Sessions, extended, begun_by, after_step, unless, delivered, replaced, acts, swapped, happens, from_set_up}
 use Rattle.x25_line.specs.laws.SessionClaims.{octets_of, all_of, IsEndOf, AreStationsOf, SessionsAreStations, SetUpIsTheStart}
@@ -131,6 +131,10 @@ acts_alike c Abandon w v h =
     subst (λ (s : LinkStation). AreStationsOf (if is_up w.near.station.phase then after_step c w w.back w.met [] (abandon_step c w.near.station) else w)
     (if is_up s.phase then one.after_step c v v.back [] (abandon_step c s) else v)) (sym h.near.station)
     (if_alike (is_up w.near.station.phase) _ w _ v (steps_alike c w v h [] (abandon_step c w.near.station)) h)
+acts_alike c Probe w v h =
+    subst (λ (s : LinkStation). AreStationsOf (if is_up w.near.station.phase then after_step c w w.back w.met [] (timer_step c w.near.station) else w)
+    (if is_up s.phase then one.after_step c v v.back [] (timer_step c s) else v)) (sym h.near.station)
+    (if_alike (is_up w.near.station.phase) _ w _ v (steps_alike c w v h [] (timer_step c w.near.station)) h)
 acts_alike c (Lose i) w v h = left_alike w v h (remove w.back i) (remove v.back i) (ap (λ (os : List (List ℕ)). remove os i) h.back ∙ octets_removed w.back i)
 acts_alike c (Damage i octets) w v h =
     if_alike (is_visible octets) (record w { back = replaced w.back i octets }) w (record v { back = one.replaced v.back i octets }) v

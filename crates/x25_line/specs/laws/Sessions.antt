@@ -15,7 +15,7 @@ use Rattle.x25_link.specs.Station.{Settings, LinkStation, is_up, with_nothing}
 use Rattle.x25_link.specs.Hearing.{Step, other}
 use Rattle.x25_link.specs.Link.{take_step, put_step, put_refusal, timer_step, timer_refusal, connect_step}
 use Rattle.x25_link.specs.Link.{connect_refusal, disconnect_step, disconnect_refusal, abandon_step}
-use Rattle.x25_line.specs.laws.Stations.{Act, Put, Deliver, T1, Connect, Disconnect, Abandon, Lose, Damage, Event, Near}
+use Rattle.x25_line.specs.laws.Stations.{Act, Put, Deliver, T1, Connect, Disconnect, Abandon, Probe, Lose, Damage, Event, Near}
 use Rattle.x25_line.specs.laws.Stations.{Far, is_visible}
 use Rattle.x25_line.specs.laws.StationClaims.{number_in}
 
@@ -126,6 +126,8 @@ acts c Connect w = unless (connect_refusal w.near.station.phase) w
 acts c Disconnect w = unless (disconnect_refusal w.near.station.phase) w
     (after_step c w w.back w.met [] (disconnect_step c w.near.station))
 acts c Abandon w = if is_up w.near.station.phase then after_step c w w.back w.met [] (abandon_step c w.near.station)
+    else w
+acts c Probe w = if is_up w.near.station.phase then after_step c w w.back w.met [] (timer_step c w.near.station)
     else w
 acts c (Lose i) w = record w { back = remove w.back i }
 acts c (Damage i octets) w = if is_visible octets then record w { back = replaced w.back i octets } else w

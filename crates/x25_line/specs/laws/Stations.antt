@@ -86,6 +86,8 @@ pub data Act : Type 0 where
   Disconnect : Act
   -- the link is left without a frame
   Abandon : Act
+  -- an idle link is asked: as T1, whether that runs or not
+  Probe : Act
   -- the octets at this place of the line are lost, or others come in their place
   Lose : (place : ℕ) → Act
   Damage : (place : ℕ) → (octets : List ℕ) → Act
@@ -99,6 +101,7 @@ acts c Connect w = unless (connect_refusal w.near.station.phase) w
 acts c Disconnect w = unless (disconnect_refusal w.near.station.phase) w
     (after_step c w w.back [] (disconnect_step c w.near.station))
 acts c Abandon w = if is_up w.near.station.phase then after_step c w w.back [] (abandon_step c w.near.station) else w
+acts c Probe w = if is_up w.near.station.phase then after_step c w w.back [] (timer_step c w.near.station) else w
 acts c (Lose i) w = record w { back = remove w.back i }
 acts c (Damage i octets) w = if is_visible octets then record w { back = replaced w.back i octets } else w
 

@@ -9,7 +9,7 @@ use Rattle.x25_packet_judge.specs.Book as book
 use Rattle.x25_packet_judge.specs.Book.{other, layers_of, keeps, fills}
 use Rattle.x25_packet_judge.specs.Layers as layers
 use Rattle.x25_packet_judge.specs.Layer as layer
-use Rattle.x25_packet_judge.specs.Packets.{sends}
+use Rattle.x25_packet_judge.specs.Packets.{sends, follows}
 use Rattle.x25_packet_judge.specs.Port as port
 use Rattle.x25_packet_judge.specs.declared.book.Book.{Book}
 use Rattle.x25_packet_judge.specs.declared.layer.Layer.{Layer}
@@ -29,7 +29,7 @@ use Rattle.x25_packet_judge.proofs.verdicts.Saying.{le_both}
 use Rattle.x25_packet_judge.proofs.verdicts.Parts.{layer_at, port_at, Left, takes_on_parts, takes_on_apart, kept_fills}
 use Rattle.x25_packet_judge.proofs.verdicts.Noting.{noted_dark}
 use Rattle.x25_packet_judge.proofs.verdicts.Ways.{has_restart, was_restarted, comes_due, count, number, ends_so, is_conf, has_conf, ends_tail, none_behind, less_none, less_one, comes_number, comes_still_due}
-use Rattle.x25_packet_judge.proofs.verdicts.KnownRestarts.{at_once, pair_at, On, and_turned, are_sure, are_counted, are_lost, Calm, Sealed, Fits, not_both, lost_fits, or_turned, at_ready, theirs, At, runs_calm}
+use Rattle.x25_packet_judge.proofs.verdicts.KnownRestarts.{at_once, pair_at, On, and_turned, are_sure, are_counted, are_lost, Calm, Sealed, Fits, not_both, lost_fits, or_turned, at_ready, theirs, At, runs_calm, follows_far}
 
 -- ---- any run
 
@@ -365,6 +365,9 @@ module _ (from : Role) (P O : Layer) (p o : Port) (u : Unanswered P O p o) where
       go (inl (s, sure)) = kept sure s (kept_sent packet (pair_at (other from) O P o p) far s (owes_nothing packet (pair_at (other from) O P o p) sure))
       go (inr k) = inr (shown_dark true packet (pair_at (other from) O P o p) k)
 
+  un_follows : (packet : PlainPacket) → Unanswered P (at_ready O) (follows packet (pair_at (other from) O P o p)).other (follows packet (pair_at (other from) O P o p)).own
+  un_follows packet = subst (λ (q : Pair). Unanswered P (at_ready O) q.other q.own) (sym (follows_far packet (pair_at (other from) O P o p) (and_left (O.owed == 0) _ (ap (λ n. n == 0) u.one)))) (un_sent packet)
+
   un_apart : Unanswered P (at_ready O) p o
   un_apart = record { sure = u.sure; found = u.found; counted = u.counted; begun = refl; known = u.known; none = u.none; one = u.one; clean = u.clean }
 
@@ -373,9 +376,13 @@ module _ (from : Role) (P O : Layer) (p o : Port) (u : Unanswered P O p o) where
       (λ again. absurd (both_ways (layers.is_repeat (theirs P O)) (and_right (layer.is_asking O.restart) _ (ap (λ n. nat_lt 0 n) u.none)) again))
       (λ _. cond_both (not (layers.are_counted (theirs P O))) _ _ Either
       (λ un. absurd (both_ways (not (layers.are_counted (theirs P O))) (ap not (and_turned O.is_counted P.is_counted ∙ u.counted)) un))
+      (λ _. cond_both (layer.is_asking O.restart) _ _ Either
+      (λ _. cond_both (layer.is_confirmed P.restart) _ _ (λ (l : Layer). Either (layers.with_other l (layers.restarts_lost (theirs P O))))
+      (λ _. inl (lost_fits from HasRestarted way _ _ p port.fresh (λ e. absurd (both_ways false refl e), refl) refl refl refl))
+      (λ _. inl (lost_fits from HasRestarted way _ _ p port.fresh (λ e. absurd (both_ways false refl e), refl) refl refl refl)))
       (λ _. cond_both (layers.is_unclear (theirs P O)) _ _ Either
       (λ _. inl (lost_fits from HasRestarted way _ _ p port.fresh (λ e. absurd (both_ways false refl e), refl) refl refl refl))
-      (λ _. inr (answered_fits from (layer.owing (O.owed == 0) P) (layer.restarted Asking O) p port.fresh u.sure u.found u.counted u.known refl not_more (ap (λ n. n - 1) u.one) (clean_of p o u.clean) still_fresh))))
+      (λ _. inr (answered_fits from (layer.owing (O.owed == 0) P) (layer.restarted Asking O) p port.fresh u.sure u.found u.counted u.known refl not_more (ap (λ n. n - 1) u.one) (clean_of p o u.clean) still_fresh)))))
     where
       Either : Layers → Type 0
       Either T = Fits from HasRestarted way T.other T.own p port.fresh ⊎ Fits from Idles [] T.other T.own p port.fresh
@@ -417,8 +424,8 @@ module _ (channel : ℕ) (b : Book) where
       there = subst (λ (z : book.Seen). Left Dce channel TheirUn z.book) (sym (runs_calm Dce channel packet b is u.begun (un_calm Dte b.dte b.dce (port_at Dte channel b) (port_at Dce channel b) u)))
           (takes_on_parts Dce channel (layers.goes_to Ready (layers_of Dce b)) packet b TheirUn x.book refl
           (λ e. absurd (both_ways (are_sure b.dte b.dce) (and_turned b.dte.is_sure b.dce.is_sure ∙ e) u.sure))
-          (λ _. un_sent Dte b.dte b.dce (port_at Dte channel b) (port_at Dce channel b) u packet)
-          (λ _. un_noted b.dte (at_ready b.dce) _ _ (un_sent Dte b.dte b.dce (port_at Dte channel b) (port_at Dce channel b) u packet)))
+          (λ _. un_follows Dte b.dte b.dce (port_at Dte channel b) (port_at Dce channel b) u packet)
+          (λ _. un_noted b.dte (at_ready b.dce) _ _ (un_follows Dte b.dte b.dce (port_at Dte channel b) (port_at Dce channel b) u packet)))
 
   un_apart_dte : (two : ℕ) (packet : PlainPacket) → IsOfChannel packet → AreApart channel two → Left Dte channel Unanswered b → Left Dte channel Unanswered (book.takes Dce two packet b).book
   un_apart_dte two packet is far x = let y = there in record { book = y.book; parts = y.parts }
@@ -454,8 +461,8 @@ module _ (channel : ℕ) (b : Book) where
       there = subst (λ (z : book.Seen). Left Dte channel TheirUn z.book) (sym (runs_calm Dte channel packet b is u.begun (un_calm Dce b.dce b.dte (port_at Dce channel b) (port_at Dte channel b) u)))
           (takes_on_parts Dte channel (layers.goes_to Ready (layers_of Dte b)) packet b TheirUn x.book refl
           (λ e. absurd (both_ways (are_sure b.dce b.dte) (and_turned b.dce.is_sure b.dte.is_sure ∙ e) u.sure))
-          (λ _. un_sent Dce b.dce b.dte (port_at Dce channel b) (port_at Dte channel b) u packet)
-          (λ _. un_noted b.dce (at_ready b.dte) _ _ (un_sent Dce b.dce b.dte (port_at Dce channel b) (port_at Dte channel b) u packet)))
+          (λ _. un_follows Dce b.dce b.dte (port_at Dce channel b) (port_at Dte channel b) u packet)
+          (λ _. un_noted b.dce (at_ready b.dte) _ _ (un_follows Dce b.dce b.dte (port_at Dce channel b) (port_at Dte channel b) u packet)))
 
   un_apart_dce : (two : ℕ) (packet : PlainPacket) → IsOfChannel packet → AreApart channel two → Left Dce channel Unanswered b → Left Dce channel Unanswered (book.takes Dte two packet b).book
   un_apart_dce two packet is far x = let y = there in record { book = y.book; parts = y.parts }
@@ -555,8 +562,8 @@ module _ (from : Role) (s : Phase) (way : List PlainPacket) (P O : Layer) (p o :
   ask_calm : (layer.is_asking P.restart && nat_lt 0 O.owed) ≡ false
   ask_calm = and_right (layer.is_asking P.restart) _ (ap (λ n. nat_lt 0 n) (h.owed ask_sure))
 
-pub restarts_so : (t : Layers) → layers.is_repeat t ≡ false → layers.are_counted t ≡ true → layers.is_unclear t ≡ false → layers.restarts t ≡ layers.marks Asking t
-restarts_so t calm counted none = cond-false (layers.is_repeat t) (layers.asks_again t) _ calm ∙ cond-false (not (layers.are_counted t)) (layers.restarts_uncounted t) _ (ap not counted) ∙ cond-false (layers.is_unclear t) (layers.restarts_lost t) (layers.marks Asking t) none
+pub restarts_so : (t : Layers) → layers.is_repeat t ≡ false → layers.are_counted t ≡ true → layer.is_asking t.own.restart ≡ false → layers.is_unclear t ≡ false → layers.restarts t ≡ layers.marks Asking t
+restarts_so t calm counted first none = cond-false (layers.is_repeat t) (layers.asks_again t) _ calm ∙ cond-false (not (layers.are_counted t)) (layers.restarts_uncounted t) _ (ap not counted) ∙ cond-false (layer.is_asking t.own.restart) (layers.restarts_again t) _ first ∙ cond-false (layers.is_unclear t) (layers.restarts_lost t) (layers.marks Asking t) none
 
 pub asks_book : (from : Role) (b : Book) (cause diagnostic : ℕ) → layers.restarts (layers_of from b) ≡ layers.marks Asking (layers_of from b) → book.takes from 0 (restart cause diagnostic) b ≡ book.told (keeps from (layers.marks Asking (layers_of from b)) (fills from port.fresh b)) (layers.marks Asking (layers_of from b)).rule
 unfolding book.takes book.restarts
@@ -567,8 +574,8 @@ unclear_not t once others none = rw (once, others, none) refl
 
 pub asks_at : (from : Role) (channel : ℕ) (b : Book) (s : Phase) (way : List PlainPacket) (cause diagnostic : ℕ) → MayAsk s → AreClear (layers_of from b) (view from channel b) → At from channel s way b → Left from channel (Scan from way) (book.takes from 0 (restart cause diagnostic) b).book
 asks_at Dte channel b s way cause diagnostic may c x = subst (λ (z : book.Seen). Left Dte channel (Scan Dte way) z.book)
-    (sym (asks_book Dte b cause diagnostic (restarts_so (layers_of Dte b) (ask_calm Dte s way b.dte b.dce (port_at Dte channel b) (port_at Dce channel b) x.parts may c.counted.counted c.counted.once c.sure) c.counted.counted (unclear_not (layers_of Dte b) c.counted.once c.others_once c.none))))
+    (sym (asks_book Dte b cause diagnostic (restarts_so (layers_of Dte b) (ask_calm Dte s way b.dte b.dce (port_at Dte channel b) (port_at Dce channel b) x.parts may c.counted.counted c.counted.once c.sure) c.counted.counted c.first (unclear_not (layers_of Dte b) c.counted.once c.others_once c.none))))
     (kept_fills Dte channel (layers.marks Asking (layers_of Dte b)) port.fresh b (Scan Dte way) x.book (asks_fits Dte s way b.dte b.dce (port_at Dte channel b) (port_at Dce channel b) x.parts may c.counted.counted c.counted.once c.sure))
 asks_at Dce channel b s way cause diagnostic may c x = subst (λ (z : book.Seen). Left Dce channel (Scan Dce way) z.book)
-    (sym (asks_book Dce b cause diagnostic (restarts_so (layers_of Dce b) (ask_calm Dce s way b.dce b.dte (port_at Dce channel b) (port_at Dte channel b) x.parts may c.counted.counted c.counted.once c.sure) c.counted.counted (unclear_not (layers_of Dce b) c.counted.once c.others_once c.none))))
+    (sym (asks_book Dce b cause diagnostic (restarts_so (layers_of Dce b) (ask_calm Dce s way b.dce b.dte (port_at Dce channel b) (port_at Dte channel b) x.parts may c.counted.counted c.counted.once c.sure) c.counted.counted c.first (unclear_not (layers_of Dce b) c.counted.once c.others_once c.none))))
     (kept_fills Dce channel (layers.marks Asking (layers_of Dce b)) port.fresh b (Scan Dce way) x.book (asks_fits Dce s way b.dce b.dte (port_at Dce channel b) (port_at Dte channel b) x.parts may c.counted.counted c.counted.once c.sure))

@@ -8,7 +8,7 @@ use Rattle.x25_packet.specs.Packet.{PlainPacket, call, accept, clear, clear_conf
 use Rattle.x25_packet_judge.specs.Book as book
 use Rattle.x25_packet_judge.specs.Layers as layers
 use Rattle.x25_packet_judge.specs.Layer as layer
-use Rattle.x25_packet_judge.specs.Packets.{sends}
+use Rattle.x25_packet_judge.specs.Packets.{follows}
 use Rattle.x25_packet_judge.specs.Pair as pair
 use Rattle.x25_packet_judge.specs.declared.book.Book.{Book}
 use Rattle.x25_packet_judge.specs.declared.layer.Restart.TheVariants.{Ready}
@@ -43,14 +43,14 @@ none_yet Dte b = refl
 none_yet Dce b = refl
 
 module _ (from : Role) (channel : ℕ) (b : Book) (begun : layer.is_begun (book.layers_of from b).own.restart ≡ false) (early : layers.runs_early (book.layers_of from b) ≡ false) (sure : layers.are_sure (book.layers_of from b) ≡ true) where
-  on : (packet : PlainPacket) → (book.takes_on from (layers.goes_to Ready (book.layers_of from b)) channel packet b).verdict.rule ≡ (sends packet (book.pair_of from (layers.are_level (book.layers_of from b)) channel b)).rule
+  on : (packet : PlainPacket) → (book.takes_on from (layers.goes_to Ready (book.layers_of from b)) channel packet b).verdict.rule ≡ (follows packet (book.pair_of from (layers.are_level (book.layers_of from b)) channel b)).rule
   unfolding book.takes_on
   on packet = ap (λ (s : book.Seen). s.verdict.rule)
       (cond-false (is_some (book.layers_of from b).rule) _ _ (ap (λ (r : Option PacketRule). is_some r) (none_yet from b))
       ∙ cond-false (not (layers.are_sure (book.layers_of from b))) _ _ (ap not sure))
-      ∙ put from channel (sends packet (book.pair_of from (layers.are_level (book.layers_of from b)) channel b)) (book.keeps from (layers.goes_to Ready (book.layers_of from b)) b)
+      ∙ put from channel (follows packet (book.pair_of from (layers.are_level (book.layers_of from b)) channel b)) (book.keeps from (layers.goes_to Ready (book.layers_of from b)) b)
 
-  tells : (packet : PlainPacket) → (book.runs from channel packet b).verdict.rule ≡ (sends packet (book.pair_of from (layers.are_level (book.layers_of from b)) channel b)).rule
+  tells : (packet : PlainPacket) → (book.runs from channel packet b).verdict.rule ≡ (follows packet (book.pair_of from (layers.are_level (book.layers_of from b)) channel b)).rule
   unfolding book.runs
   tells packet = ap (λ (s : book.Seen). s.verdict.rule)
       (cond-false (layers.runs_early (book.layers_of from b)) _ (book.takes_on from (layers.runs (book.layers_of from b)) channel packet b) early
@@ -61,7 +61,7 @@ pub books_tell_of_channels : BooksTellOfChannels
 unfolding book.takes
 books_tell_of_channels from channel packet b is begun early sure = go packet is
   where
-    go : (packet : PlainPacket) → IsOfChannel packet → (book.takes from channel packet b).verdict.rule ≡ (sends packet (book.pair_of from (layers.are_level (book.layers_of from b)) channel b)).rule
+    go : (packet : PlainPacket) → IsOfChannel packet → (book.takes from channel packet b).verdict.rule ≡ (follows packet (book.pair_of from (layers.are_level (book.layers_of from b)) channel b)).rule
     go (user_data c q m ps pr user) is = tells from channel b begun early sure (user_data c q m ps pr user)
     go (rr c pr) is = tells from channel b begun early sure (rr c pr)
     go (rnr c pr) is = tells from channel b begun early sure (rnr c pr)

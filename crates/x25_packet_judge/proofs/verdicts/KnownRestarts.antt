@@ -1,15 +1,16 @@
 -- What is known of restarts in the run of a book.
-use Rattle.std.proofs.Common.{◌≡◌, ◌==◌, ℕ, ◌+◌, ◌-◌, ◌<◌, ◌≤◌, arith, min, Bool, true, false, if◌then◌else◌, List, [], ◌∷◌, ◌++◌, Option, None, refl, sym, ap, ◌∙◌, subst}
+use Rattle.std.proofs.Common.{◌≡◌, ◌==◌, inr, ℕ, ◌+◌, ◌-◌, ◌<◌, ◌≤◌, arith, min, Bool, true, false, if◌then◌else◌, List, [], ◌∷◌, ◌++◌, Option, None, refl, sym, ap, ◌∙◌, subst}
 use Rattle.std.specs.Prelude.{◌&&◌, ◌||◌, not, is_some, nat_lt}
 use Rattle.std.proofs.lemmas.Bool.{eqb-true, lt-ltb, ltb-true, and_parts, and_left, and_right, both_ways, cond_both, cond-true, cond-false, ltb-false, or_left, false_from_ne_true}
 use Rattle.x25_bits.specs.declared.role.Role.{Role}
 use Rattle.x25_bits.specs.declared.role.Role.TheVariants.{Dte, Dce}
 use Rattle.x25_packet.specs.Packet.{PlainPacket, call, accept, clear, clear_conf, user_data, rr, rnr, interrupt, interrupt_conf, reset, reset_conf, restart, restart_conf}
 use Rattle.x25_packet_judge.specs.Book as book
-use Rattle.x25_packet_judge.specs.Book.{other, layers_of, fills}
+use Rattle.x25_packet_judge.specs.Book.{other, layers_of, fills, pair_of}
 use Rattle.x25_packet_judge.specs.Layers as layers
 use Rattle.x25_packet_judge.specs.Layer as layer
-use Rattle.x25_packet_judge.specs.Packets.{sends}
+use Rattle.x25_packet_judge.specs.Pair as pair
+use Rattle.x25_packet_judge.specs.Packets.{sends, is_again, follows}
 use Rattle.x25_packet_judge.specs.Port as port
 use Rattle.x25_packet_judge.specs.declared.book.Book.{Book}
 use Rattle.x25_packet_judge.specs.declared.layer.Layer.{Layer}
@@ -20,7 +21,8 @@ use Rattle.x25_packet_judge.specs.declared.pair.Pair.{Pair}
 use Rattle.x25_packet_judge.specs.declared.port.Port.{Port}
 use Rattle.x25_packet_judge.specs.laws.Keeping.{Phase, Idles, Calls, WasCalled, Talks, Resets, WasReset, Clears, WasCleared, HasRestarted, WasRestarted, MayDo, MayEnd, IsOfChannel, IsFollowed, turned}
 use Rattle.x25_packet_judge.specs.laws.Tape.{AreApart, view}
-use Rattle.x25_packet_judge.proofs.verdicts.Standing.{bit}
+use Rattle.x25_packet_judge.proofs.verdicts.Standing.{bit, Dark, as_gone}
+use Rattle.x25_packet_judge.proofs.verdicts.Showing.{dark_broken}
 use Rattle.x25_packet_judge.proofs.verdicts.Restartings.{Still, still_fresh, still_noted, still_sent}
 use Rattle.x25_packet_judge.proofs.verdicts.OwnEnd.{Standing, sound_does, does_owed}
 use Rattle.x25_packet_judge.proofs.verdicts.Innocents.{does_quiet, sound_ends}
@@ -46,6 +48,30 @@ On from s way P O p o = Standing from (pair_at from P O p o) s way
 on_noted : (from : Role) (s : Phase) (way : List PlainPacket) (P O : Layer) (p o : Port) → On from s way P O p o → On from s way P O (port.noted p) (port.noted o)
 on_noted from s way P O p o h = noted_standing (pair_at from P O p o) from s way h
 
+-- ---- CLEAR or RESET is sent again
+
+pub follows_far : (packet : PlainPacket) (t : Pair) → t.reaches ≡ false → follows packet t ≡ sends packet t
+follows_far packet t far = cond-false (t.reaches && (pair.is_known t && is_again packet t)) (pair.doubts t) (sends packet t) (and_left t.reaches _ far)
+
+follows_quiet : (packet : PlainPacket) (t : Pair) → t.rule ≡ None → (sends packet t).rule ≡ None → (follows packet t).rule ≡ None
+follows_quiet packet t none quiet = cond_both (t.reaches && (pair.is_known t && is_again packet t)) (pair.doubts t) (sends packet t) (λ (v : Pair). v.rule ≡ None) (λ _. none) (λ _. quiet)
+
+dark_doubted : (shut : Bool) (v : Pair) → Dark shut (pair.doubts v).own
+dark_doubted shut v = record { known = refl; clearing = refl; call = and_right (shut || false) _ refl }
+
+-- where nothing is known an end stands in any phase
+dark_stands : (from : Role) (t u : Pair) (s : Phase) (way : List PlainPacket) → Standing from u s way → Dark true t.own → Standing from t s way
+dark_stands from t u Idles way h k = inr k
+dark_stands from t u (Calls terms) way h k = inr k
+dark_stands from t u (WasCalled terms) way h k = inr k
+dark_stands from t u (Talks window most g c) way h k = inr (inr (as_gone t.own k))
+dark_stands from t u (Resets window most) way h k = inr (as_gone t.own k)
+dark_stands from t u (WasReset window most) way h k = inr (as_gone t.own k)
+dark_stands from t u Clears way h k = inr k
+dark_stands from t u WasCleared way h k = inr (as_gone t.own k)
+dark_stands from t u HasRestarted way h k = h
+dark_stands from t u WasRestarted way h k = tt
+
 -- the end sends
 pub record Sent (from : Role) (s : Phase) (way : List PlainPacket) (P O : Layer) (q : Pair) : Type 0 where
   pub quiet : q.rule ≡ None
@@ -59,6 +85,16 @@ on_does from s r way P O p o packet may followed h =
       on = subst (λ b. Standing from (record { from = from; reaches = b; own = (sends packet (pair_at from P O p o)).own; other = (sends packet (pair_at from P O p o)).other; rule = None }) r way) (sends_reaches packet (pair_at from P O p o))
           (standing_of from None (sends packet (pair_at from P O p o)) from r way k.stands);
     }
+
+on_follows : (from : Role) (s r : Phase) (way : List PlainPacket) (P O : Layer) (p o : Port) (packet : PlainPacket) → MayDo s packet r → IsFollowed (pair_at from P O p o) packet → On from s way P O p o → Sent from r way P O (follows packet (pair_at from P O p o))
+on_follows from s r way P O p o packet may followed h =
+    let k = on_does from s r way P O p o packet may followed h in
+    cond_both (at_once P O && (pair.is_known (pair_at from P O p o) && is_again packet (pair_at from P O p o))) (pair.doubts (pair_at from P O p o)) (sends packet (pair_at from P O p o)) (Sent from r way P O)
+    (λ _. record {
+      quiet = refl;
+      on = dark_stands from (pair_at from P O (pair.doubts (pair_at from P O p o)).own (pair.doubts (pair_at from P O p o)).other) (pair_at from P O (sends packet (pair_at from P O p o)).own (sends packet (pair_at from P O p o)).other) r way k.on (dark_doubted true (pair_at from P O p o));
+    })
+    (λ _. k)
 
 on_quiet : (from : Role) (s r : Phase) (way : List PlainPacket) (P O : Layer) (p o : Port) (packet : PlainPacket) → MayDo s packet r → On from s way P O p o → (sends packet (pair_at from P O p o)).rule ≡ None
 on_quiet from s r way P O p o packet may h = does_quiet (pair_at from P O p o) s r way packet may (record { quiet = refl; stands = h })
@@ -77,6 +113,14 @@ on_shown from s way P O p o packet is h =
     (standing_of from None (turned (sends packet (pair_at (other from) O P o p))) from s (way ++ packet ∷ [])
     (subst (λ b. Standing from (turned (sends packet (record { from = other from; reaches = b; own = o; other = p; rule = None }))) s (way ++ packet ∷ [])) (and_turned (P.owed == 0) (O.owed == 0))
     (standing_shown (pair_at from P O p o) packet is s way h)))
+
+on_shown_follows : (from : Role) (s : Phase) (way : List PlainPacket) (P O : Layer) (p o : Port) (packet : PlainPacket) → IsOfChannel packet → On from s way P O p o
+    → On from s (way ++ packet ∷ []) P O (follows packet (pair_at (other from) O P o p)).other (follows packet (pair_at (other from) O P o p)).own
+on_shown_follows from s way P O p o packet is h =
+    let k = on_shown from s way P O p o packet is h in
+    cond_both (at_once O P && (pair.is_known (pair_at (other from) O P o p) && is_again packet (pair_at (other from) O P o p))) (pair.doubts (pair_at (other from) O P o p)) (sends packet (pair_at (other from) O P o p)) (λ (q : Pair). On from s (way ++ packet ∷ []) P O q.other q.own)
+    (λ _. dark_stands from (pair_at from P O (pair.doubts (pair_at (other from) O P o p)).other (pair.doubts (pair_at (other from) O P o p)).own) (pair_at from P O (sends packet (pair_at (other from) O P o p)).other (sends packet (pair_at (other from) O P o p)).own) s (way ++ packet ∷ []) k (dark_broken true (pair_at (other from) O P o p)))
+    (λ _. k)
 
 -- the other end restarts
 on_restarted : (from : Role) (s : Phase) (way : List PlainPacket) (P O P2 O2 : Layer) (p o : Port) (cause diagnostic : ℕ) → at_once P2 O2 ≡ false → On from s way P O p o → On from s (way ++ restart cause diagnostic ∷ []) P2 O2 p port.fresh
@@ -207,26 +251,26 @@ module _ (from : Role) (s : Phase) (way : List PlainPacket) (P O : Layer) (p o :
           none : (n : ℕ) → 0 < n → n ≡ 0 → ⊥
           none n due e = omega arith
 
-  does_still : (r : Phase) (packet : PlainPacket) → MayDo s packet r → are_sure P O ≡ true → nat_lt 0 P.owed ≡ true → Still (sends packet (pair_at from P O p o)).other
-  does_still r packet may k e = still_sent packet (pair_at from P O p o) (apart_so e) (h.sealed k e).still (does_owed (pair_at from P O p o) s r way packet may (h.on k)) (on_quiet from s r way P O p o packet may (h.on k))
+  does_still : (r : Phase) (packet : PlainPacket) → MayDo s packet r → are_sure P O ≡ true → nat_lt 0 P.owed ≡ true → Still (follows packet (pair_at from P O p o)).other
+  does_still r packet may k e = subst (λ (q : Pair). Still q.other) (sym (follows_far packet (pair_at from P O p o) (apart_so e))) (still_sent packet (pair_at from P O p o) (apart_so e) (h.sealed k e).still (does_owed (pair_at from P O p o) s r way packet may (h.on k)) (on_quiet from s r way P O p o packet may (h.on k)))
 
-  does_fits : (r : Phase) (packet : PlainPacket) → MayDo s packet r → IsFollowed (pair_at from P O p o) packet → Fits from r way (at_ready P) O (sends packet (pair_at from P O p o)).own (sends packet (pair_at from P O p o)).other
-  does_fits r packet may followed = fits_on r (sends packet (pair_at from P O p o)).own (sends packet (pair_at from P O p o)).other (does_due s r way packet may) (does_still_due s r way packet may) (does_number r packet may) (λ k. (on_does from s r way P O p o packet may followed (h.on k)).on) (does_still r packet may)
+  does_fits : (r : Phase) (packet : PlainPacket) → MayDo s packet r → IsFollowed (pair_at from P O p o) packet → Fits from r way (at_ready P) O (follows packet (pair_at from P O p o)).own (follows packet (pair_at from P O p o)).other
+  does_fits r packet may followed = fits_on r (follows packet (pair_at from P O p o)).own (follows packet (pair_at from P O p o)).other (does_due s r way packet may) (does_still_due s r way packet may) (does_number r packet may) (λ k. (on_follows from s r way P O p o packet may followed (h.on k)).on) (does_still r packet may)
 
-  does_noted : (r : Phase) (packet : PlainPacket) → MayDo s packet r → IsFollowed (pair_at from P O p o) packet → Fits from r way (at_ready P) O (port.noted (sends packet (pair_at from P O p o)).own) (port.noted (sends packet (pair_at from P O p o)).other)
-  does_noted r packet may followed = fits_on r (port.noted (sends packet (pair_at from P O p o)).own) (port.noted (sends packet (pair_at from P O p o)).other) (does_due s r way packet may) (does_still_due s r way packet may) (does_number r packet may)
-      (λ k. on_noted from r way P O (sends packet (pair_at from P O p o)).own (sends packet (pair_at from P O p o)).other (on_does from s r way P O p o packet may followed (h.on k)).on)
-      (λ k e. still_noted (sends packet (pair_at from P O p o)).other (does_still r packet may k e))
+  does_noted : (r : Phase) (packet : PlainPacket) → MayDo s packet r → IsFollowed (pair_at from P O p o) packet → Fits from r way (at_ready P) O (port.noted (follows packet (pair_at from P O p o)).own) (port.noted (follows packet (pair_at from P O p o)).other)
+  does_noted r packet may followed = fits_on r (port.noted (follows packet (pair_at from P O p o)).own) (port.noted (follows packet (pair_at from P O p o)).other) (does_due s r way packet may) (does_still_due s r way packet may) (does_number r packet may)
+      (λ k. on_noted from r way P O (follows packet (pair_at from P O p o)).own (follows packet (pair_at from P O p o)).other (on_follows from s r way P O p o packet may followed (h.on k)).on)
+      (λ k e. still_noted (follows packet (pair_at from P O p o)).other (does_still r packet may k e))
 
   does_lost : (r : Phase) (p2 o2 : Port) → are_sure P O ≡ false → Fits from r way (at_ready P) O p2 o2
   does_lost r p2 o2 e = lost_fits from r way (at_ready P) O p2 o2 (λ e. absurd (both_ways false refl e), refl) h.begun e (h.uncounted e)
 
-  shown_fits : layers.runs_early (theirs P O) ≡ false → (packet : PlainPacket) → IsOfChannel packet → Fits from s (way ++ packet ∷ []) P (at_ready O) (sends packet (pair_at (other from) O P o p)).other (sends packet (pair_at (other from) O P o p)).own
-  shown_fits early packet is = fits_theirs (way ++ packet ∷ []) (sends packet (pair_at (other from) O P o p)).other (sends packet (pair_at (other from) O P o p)).own early (conf_more way packet (channel_conf packet is)) (shown_due s way packet is) (shown_number packet is) (λ k. on_shown from s way P O p o packet is (h.on k))
+  shown_fits : layers.runs_early (theirs P O) ≡ false → (packet : PlainPacket) → IsOfChannel packet → Fits from s (way ++ packet ∷ []) P (at_ready O) (follows packet (pair_at (other from) O P o p)).other (follows packet (pair_at (other from) O P o p)).own
+  shown_fits early packet is = fits_theirs (way ++ packet ∷ []) (follows packet (pair_at (other from) O P o p)).other (follows packet (pair_at (other from) O P o p)).own early (conf_more way packet (channel_conf packet is)) (shown_due s way packet is) (shown_number packet is) (λ k. on_shown_follows from s way P O p o packet is (h.on k))
 
-  shown_noted : layers.runs_early (theirs P O) ≡ false → (packet : PlainPacket) → IsOfChannel packet → Fits from s (way ++ packet ∷ []) P (at_ready O) (port.noted (sends packet (pair_at (other from) O P o p)).other) (port.noted (sends packet (pair_at (other from) O P o p)).own)
-  shown_noted early packet is = fits_theirs (way ++ packet ∷ []) (port.noted (sends packet (pair_at (other from) O P o p)).other) (port.noted (sends packet (pair_at (other from) O P o p)).own) early (conf_more way packet (channel_conf packet is)) (shown_due s way packet is) (shown_number packet is)
-      (λ k. on_noted from s (way ++ packet ∷ []) P O (sends packet (pair_at (other from) O P o p)).other (sends packet (pair_at (other from) O P o p)).own (on_shown from s way P O p o packet is (h.on k)))
+  shown_noted : layers.runs_early (theirs P O) ≡ false → (packet : PlainPacket) → IsOfChannel packet → Fits from s (way ++ packet ∷ []) P (at_ready O) (port.noted (follows packet (pair_at (other from) O P o p)).other) (port.noted (follows packet (pair_at (other from) O P o p)).own)
+  shown_noted early packet is = fits_theirs (way ++ packet ∷ []) (port.noted (follows packet (pair_at (other from) O P o p)).other) (port.noted (follows packet (pair_at (other from) O P o p)).own) early (conf_more way packet (channel_conf packet is)) (shown_due s way packet is) (shown_number packet is)
+      (λ k. on_noted from s (way ++ packet ∷ []) P O (follows packet (pair_at (other from) O P o p)).other (follows packet (pair_at (other from) O P o p)).own (on_shown_follows from s way P O p o packet is (h.on k)))
 
   shown_lost : (way2 : List PlainPacket) (p2 o2 : Port) → are_sure P O ≡ false → Fits from s way2 P (at_ready O) p2 o2
   shown_lost way2 p2 o2 e = lost_fits from s way2 P (at_ready O) p2 o2 h.ready refl e (h.uncounted e)
@@ -248,12 +292,18 @@ module _ (from : Role) (s : Phase) (way : List PlainPacket) (P O : Layer) (p o :
       neither : (a b : Bool) → a ≡ false → b ≡ false → (a || b) ≡ false
       neither a b x y = rw (x, y) refl
 
-  sure_answer_not : layers.is_sure_answer (theirs P O) ≡ false
-  sure_answer_not = and_left (layer.is_asking P.restart && O.owed == 1) _ (go (layer.is_asking P.restart) refl)
+  asks_none : (layer.is_asking P.restart && O.owed == 1) ≡ false
+  asks_none = go (layer.is_asking P.restart) refl
     where
       go : (b : Bool) → layer.is_asking P.restart ≡ b → (layer.is_asking P.restart && O.owed == 1) ≡ false
       go false e = and_left (layer.is_asking P.restart) _ e
       go true e = and_right (layer.is_asking P.restart) _ (ap (λ n. n == 1) (h.owed (h.ready.0 e).0))
+
+  sure_answer_not : layers.is_sure_answer (theirs P O) ≡ false
+  sure_answer_not = and_left (layer.is_asking P.restart && O.owed == 1) _ asks_none
+
+  last_answer_not : layers.is_last_answer (theirs P O) ≡ false
+  last_answer_not = and_left (layer.is_asking P.restart && O.owed == 1) _ asks_none
 
   -- RESTART
   abbrev pub Restarted : ℕ → ℕ → Layers → Type 0
@@ -280,7 +330,11 @@ module _ (from : Role) (s : Phase) (way : List PlainPacket) (P O : Layer) (p o :
       (λ _. cond_both (layers.are_lost (theirs P O)) _ _ (Restarted cause diagnostic)
       (λ _. lost_fits from s (way ++ restart cause diagnostic ∷ []) _ _ p port.fresh (λ e. absurd (both_ways false refl e), refl) refl refl refl)
       (λ _. lost_fits from s (way ++ restart cause diagnostic ∷ []) _ _ p port.fresh (λ e. absurd (both_ways false refl e), refl) refl refl refl)))
-      (λ counted. cond_both (layers.is_unclear (theirs P O)) _ _ (Restarted cause diagnostic)
+      (λ counted. cond_both (layer.is_asking O.restart) _ _ (Restarted cause diagnostic)
+      (λ _. cond_both (layer.is_confirmed P.restart) _ _ (λ (l : Layer). Restarted cause diagnostic (layers.with_other l (layers.restarts_lost (theirs P O))))
+      (λ _. lost_fits from s (way ++ restart cause diagnostic ∷ []) _ _ p port.fresh (λ e. absurd (both_ways false refl e), refl) refl refl refl)
+      (λ _. lost_fits from s (way ++ restart cause diagnostic ∷ []) _ _ p port.fresh (λ e. absurd (both_ways false refl e), refl) refl refl refl))
+      (λ _. cond_both (layers.is_unclear (theirs P O)) _ _ (Restarted cause diagnostic)
       (λ _. lost_fits from s (way ++ restart cause diagnostic ∷ []) _ _ p port.fresh (λ e. absurd (both_ways false refl e), refl) refl refl refl)
       (λ _. record {
         ready = h.ready;
@@ -295,7 +349,7 @@ module _ (from : Role) (s : Phase) (way : List PlainPacket) (P O : Layer) (p o :
             (subst (λ n. bit (was_restarted s) + n ≤ 1) (sym (count_more way (restart cause diagnostic))) (one_more (bit (was_restarted s)) (count way) P.owed (none_yet_owed k repeat) (h.few k e)));
         sealed = λ k e. record { due = or_later (was_restarted s) _ (restart_due way cause diagnostic); asking = refl; counted = counted_so counted; still = still_fresh; ends = ends_more way cause diagnostic };
         plain = λ k. conf_more way (restart cause diagnostic) refl (h.plain k);
-      })))
+      }))))
     where
       again_some : (n : ℕ) → min (n + 1) 255 ≡ 0 → ⊥
       again_some n e = omega arith
@@ -435,13 +489,17 @@ may_of WasCleared r restart_conf may = absurd may
 may_of HasRestarted r restart_conf may = absurd may
 may_of WasRestarted r restart_conf may = absurd may
 
+view_quiet : (from : Role) (channel : ℕ) (b : Book) → (view from channel b).rule ≡ None
+view_quiet Dte channel b = refl
+view_quiet Dce channel b = refl
+
 untold : (from : Role) (channel : ℕ) (b : Book) (packet : PlainPacket) → IsOfChannel packet → layer.is_begun (layers_of from b).own.restart ≡ false → layers.runs_early (layers_of from b) ≡ false
     → (layers.are_sure (layers_of from b) ≡ true → (sends packet (view from channel b)).rule ≡ None) → (book.takes from channel packet b).verdict.rule ≡ None
 unfolding book.takes_on
 untold from channel b packet is begun early quiet = ap (λ (z : book.Seen). z.verdict.rule) (runs_calm from channel packet b is begun early ∙ cond-false (is_some (layers_of from b).rule) _ _ (ap (λ (r : Option PacketRule). is_some r) (none_yet from b)))
     ∙ cond_both (not (layers.are_sure (layers_of from b))) _ _ (λ (z : book.Seen). z.verdict.rule ≡ None)
     (λ _. refl)
-    (λ e. put from channel (sends packet (view from channel b)) _ ∙ quiet (back (layers.are_sure (layers_of from b)) e))
+    (λ e. put from channel (follows packet (view from channel b)) _ ∙ follows_quiet packet (view from channel b) (view_quiet from channel b) (quiet (back (layers.are_sure (layers_of from b)) e)))
   where
     back : (x : Bool) → not x ≡ false → x ≡ true
     back true e = refl
@@ -549,12 +607,12 @@ module _ (channel : ℕ) (b : Book) (s : Phase) (way : List PlainPacket) where
 
   pub confirms_at : (from : Role) → At from channel s way b → At from channel s way (book.takes (other from) 0 restart_conf b).book
   unfolding book.takes
-  confirms_at Dte x = as_dte way _ (confirms_parts Dce channel (layers_of Dce b) b (Theirs Dte way) x.book (sure_answer_not Dte s way b.dte b.dce (port_at Dte channel b) (port_at Dce channel b) x.parts) (λ _. answer_not Dte s way b.dte b.dce (port_at Dte channel b) (port_at Dce channel b) x.parts)
+  confirms_at Dte x = as_dte way _ (confirms_parts Dce channel (layers_of Dce b) b (Theirs Dte way) x.book (last_answer_not Dte s way b.dte b.dce (port_at Dte channel b) (port_at Dce channel b) x.parts) (λ _. answer_not Dte s way b.dte b.dce (port_at Dte channel b) (port_at Dce channel b) x.parts)
       (λ lost. confirms_lost_fits Dte s way b.dte b.dce (port_at Dte channel b) (port_at Dce channel b) x.parts lost)
       (λ found counted. again_fits Dte s way b.dte b.dce (port_at Dte channel b) (port_at Dce channel b) x.parts found counted)
       (λ found counted. unseen_counted Dte s way b.dte b.dce (port_at Dte channel b) (port_at Dce channel b) x.parts found counted)
       (λ found uncounted. unseen_uncounted Dte s way b.dte b.dce (port_at Dte channel b) (port_at Dce channel b) x.parts uncounted))
-  confirms_at Dce x = as_dce way _ (confirms_parts Dte channel (layers_of Dte b) b (Theirs Dce way) x.book (sure_answer_not Dce s way b.dce b.dte (port_at Dce channel b) (port_at Dte channel b) x.parts) (λ _. answer_not Dce s way b.dce b.dte (port_at Dce channel b) (port_at Dte channel b) x.parts)
+  confirms_at Dce x = as_dce way _ (confirms_parts Dte channel (layers_of Dte b) b (Theirs Dce way) x.book (last_answer_not Dce s way b.dce b.dte (port_at Dce channel b) (port_at Dte channel b) x.parts) (λ _. answer_not Dce s way b.dce b.dte (port_at Dce channel b) (port_at Dte channel b) x.parts)
       (λ lost. confirms_lost_fits Dce s way b.dce b.dte (port_at Dce channel b) (port_at Dte channel b) x.parts lost)
       (λ found counted. again_fits Dce s way b.dce b.dte (port_at Dce channel b) (port_at Dte channel b) x.parts found counted)
       (λ found counted. unseen_counted Dce s way b.dce b.dte (port_at Dce channel b) (port_at Dte channel b) x.parts found counted)

@@ -9,7 +9,7 @@ use Rattle.x25_packet.specs.Packet.{PlainPacket, call, accept, clear, clear_conf
 use Rattle.x25_packet_judge.specs.Book as book
 use Rattle.x25_packet_judge.specs.Book.{other, layers_of, pair_of, keeps, fills, puts, port_of}
 use Rattle.x25_packet_judge.specs.Layers as layers
-use Rattle.x25_packet_judge.specs.Packets.{sends}
+use Rattle.x25_packet_judge.specs.Packets.{follows}
 use Rattle.x25_packet_judge.specs.Pair as pair
 use Rattle.x25_packet_judge.specs.Port as port
 use Rattle.x25_packet_judge.specs.declared.book.Book.{Book}
@@ -135,8 +135,8 @@ noted_too F t q = F t.own t.other (port.noted q.own) (port.noted q.other)
 -- where restarts aren't told of
 pub takes_on_parts : (from : Role) (channel : ℕ) (t : Layers) (packet : PlainPacket) (b : Book) (F : Parts) → IsBook b → t.rule ≡ None
     → (layers.are_sure t ≡ false → noted_too F t (pair_of from (layers.are_level t) channel b))
-    → (layers.are_sure t ≡ true → F t.own t.other (sends packet (pair_of from (layers.are_level t) channel b)).own (sends packet (pair_of from (layers.are_level t) channel b)).other)
-    → (layers.are_sure t ≡ true → noted_too F t (sends packet (pair_of from (layers.are_level t) channel b)))
+    → (layers.are_sure t ≡ true → F t.own t.other (follows packet (pair_of from (layers.are_level t) channel b)).own (follows packet (pair_of from (layers.are_level t) channel b)).other)
+    → (layers.are_sure t ≡ true → noted_too F t (follows packet (pair_of from (layers.are_level t) channel b)))
     → Left from channel F (book.takes_on from t channel packet b).book
 unfolding book.takes_on
 takes_on_parts from channel t packet b F full none unsure sure noted =
@@ -148,7 +148,7 @@ takes_on_parts from channel t packet b F full none unsure sure noted =
     (λ _. kept_puts from channel t (pair.noted q) b F full (noted (back (layers.are_sure t) test)))))
   where
     q : Pair
-    q = sends packet (pair_of from (layers.are_level t) channel b)
+    q = follows packet (pair_of from (layers.are_level t) channel b)
 
     turn : (x : Bool) → not x ≡ true → x ≡ false
     turn true e = absurd (both_ways false refl e)
@@ -172,7 +172,7 @@ takes_on_apart from channel two t packet b F far full f =
     (λ _. kept_apart from channel two t (pair.noted q) b F far full f)))
   where
     q : Pair
-    q = sends packet (pair_of from (layers.are_level t) two b)
+    q = follows packet (pair_of from (layers.are_level t) two b)
 
 -- whatever is put
 pub takes_on_any : (from : Role) (channel two : ℕ) (t : Layers) (packet : PlainPacket) (b : Book) (F : Parts) → IsBook b → ((p o : Port) → F t.own t.other p o) → Left from channel F (book.takes_on from t two packet b).book
@@ -187,7 +187,7 @@ takes_on_any from channel two t packet b F full f =
     (λ _. any from (pair.noted q))))
   where
     q : Pair
-    q = sends packet (pair_of from (layers.are_level t) two b)
+    q = follows packet (pair_of from (layers.are_level t) two b)
 
     any : (from : Role) (x : Pair) → Left from channel F (puts from two x (keeps from t b))
     any Dte x = record { book = record { dte = put_full b.dte_ports two x.own full.dte; dce = put_full b.dce_ports two x.other full.dce }; parts = f _ _ }
@@ -204,7 +204,7 @@ fills_book Dte p b full = record { dte = filled_full p; dce = full.dce }
 fills_book Dce p b full = record { dte = full.dte; dce = filled_full p }
 
 -- a confirmation that answers no RESTART of the other end
-pub confirms_parts : (from : Role) (channel : ℕ) (t : Layers) (b : Book) (F : Parts) → IsBook b → layers.is_sure_answer t ≡ false → (layers.are_lost t ≡ false → layers.is_answer t ≡ false)
+pub confirms_parts : (from : Role) (channel : ℕ) (t : Layers) (b : Book) (F : Parts) → IsBook b → layers.is_last_answer t ≡ false → (layers.are_lost t ≡ false → layers.is_answer t ≡ false)
     → (layers.are_lost t ≡ true → F (layers.confirms_lost t).own (layers.confirms_lost t).other (port_at from channel b) (port_at (other from) channel b))
     → (layers.are_lost t ≡ false → layers.are_counted t ≡ true → F (layers.confirms_again t).own (layers.confirms_again t).other (port_at from channel b) (port_at (other from) channel b))
     → (layers.are_lost t ≡ false → layers.are_counted t ≡ true → F (layers.confirms_unseen t).own (layers.confirms_unseen t).other port.blank (port_at (other from) channel b))
@@ -213,7 +213,7 @@ pub confirms_parts : (from : Role) (channel : ℕ) (t : Layers) (b : Book) (F : 
 unfolding book.confirms
 confirms_parts from channel t b F full none none_too lost second counted unseen =
     cond_both (layers.are_lost t) _ _ (λ (s : book.Seen). Left from channel F s.book)
-    (λ is. subst (λ (s : book.Seen). Left from channel F s.book) (sym (cond-false (layers.is_sure_answer t) _ _ none)) (keeps_parts from channel (layers.confirms_lost t) b F full (lost is)))
+    (λ is. subst (λ (s : book.Seen). Left from channel F s.book) (sym (cond-false (layers.is_last_answer t) _ _ none)) (keeps_parts from channel (layers.confirms_lost t) b F full (lost is)))
     (λ not_lost. subst (λ (s : book.Seen). Left from channel F s.book) (sym (cond-false (layers.is_answer t) _ _ (none_too not_lost)))
     (cond_both (layers.is_second_answer t) _ _ (λ (s : book.Seen). Left from channel F s.book)
     (λ is. keeps_parts from channel (layers.confirms_again t) b F full (second not_lost (and_parts (layers.are_counted t) _ is).0))

@@ -205,12 +205,13 @@ restarts_untold t quiet = cond_both (layers.is_repeat t) _ _ (λ (x : Layers). x
     (λ _. cond_both (not (layers.are_counted t)) _ _ (λ (x : Layers). x.rule ≡ None)
     (λ _. cond_both (layers.meets t) _ _ (λ (x : Layers). x.rule ≡ None) (λ _. quiet)
     (λ _. cond_both (layers.are_lost t) _ _ (λ (x : Layers). x.rule ≡ None) (λ _. quiet) (λ _. quiet)))
-    (λ _. cond_both (layers.is_unclear t) _ _ (λ (x : Layers). x.rule ≡ None) (λ _. quiet) (λ _. quiet)))
+    (λ _. cond_both (layer.is_asking t.own.restart) _ _ (λ (x : Layers). x.rule ≡ None) (λ _. quiet)
+    (λ _. cond_both (layers.is_unclear t) _ _ (λ (x : Layers). x.rule ≡ None) (λ _. quiet) (λ _. quiet))))
 
 confirms_untold : (from : Role) (t : Layers) (b : Book) → t.rule ≡ None → (layers.are_counted t ≡ true → nat_lt 0 t.own.owed ≡ true) → (book.confirms from t b).verdict.rule ≡ None
 unfolding book.confirms book.restarts
 confirms_untold from t b quiet due = cond_both (layers.are_lost t) _ _ Untold
-    (λ _. cond_both (layers.is_sure_answer t) _ _ Untold (λ _. refl) (λ _. refl))
+    (λ _. cond_both (layers.is_last_answer t) _ _ Untold (λ _. refl) (λ _. refl))
     (λ _. cond_both (layers.is_answer t) _ _ Untold
     (λ _. cond_both (layers.are_counted t) _ _ Untold (λ _. quiet) (λ _. refl))
     (λ none. cond_both (layers.is_second_answer t) _ _ Untold (λ _. refl)
@@ -272,7 +273,7 @@ module _ (P O : Layer) (p : IsJustUp P) (o : IsJustUp O) where
   up_first = layers.marks Asking (record { own = P; other = O; rule = None })
 
   up_restarts : layers.restarts (record { own = P; other = O; rule = None }) ≡ layers.marks Asking (record { own = P; other = O; rule = None })
-  up_restarts = restarts_so (record { own = P; other = O; rule = None }) (and_left (layer.is_asking P.restart) _ (ap layer.is_asking p.restart)) (rw (p.counted, o.counted) refl) (unclear_not (record { own = P; other = O; rule = None }) p.again o.again p.none)
+  up_restarts = restarts_so (record { own = P; other = O; rule = None }) (and_left (layer.is_asking P.restart) _ (ap layer.is_asking p.restart)) (rw (p.counted, o.counted) refl) (ap layer.is_asking p.restart) (unclear_not (record { own = P; other = O; rule = None }) p.again o.again p.none)
 
   abbrev FirstOwn : Layer
   FirstOwn = layer.restarted Asking P

@@ -7,9 +7,10 @@ use Rattle.x25_packet_judge.specs.declared.packet_rule.PacketRule.TheVariants.{A
 use Rattle.x25_packet_judge.specs.declared.packet_rule.PacketRule.TheVariants.{ResetUnasked, PacketUnsent, PacketFalls}
 use Rattle.x25_packet_judge.specs.declared.packet_rule.PacketRule.TheVariants.{PacketSkips, OverPackets, InterruptAgain}
 use Rattle.x25_packet_judge.specs.declared.packet_rule.PacketRule.TheVariants.{InterruptUnasked, TooManyOctets, NotFull}
-use Rattle.x25_packet_judge.specs.declared.packet_rule.PacketRule.TheVariants.{QualifierChanges}
+use Rattle.x25_packet_judge.specs.declared.packet_rule.PacketRule.TheVariants.{QualifierChanges, NoPacket}
 
 abbrev pub is_of_order : PacketRule → Bool
+is_of_order NoPacket = true
 is_of_order RestartAwaited = true
 is_of_order RestartUnasked = true
 is_of_order ClearAwaited = true

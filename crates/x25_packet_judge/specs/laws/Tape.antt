@@ -4,7 +4,7 @@ use Rattle.std.specs.Prelude.{◌≡◌, ℕ, ◌%◌, Bool, false, true, if◌t
 use Rattle.x25_bits.specs.declared.role.Role.{Role}
 use Rattle.x25_packet.specs.Packet.{PlainPacket, restart, restart_conf}
 use Rattle.x25_packet_judge.specs.Book.{other, layers_of, pair_of, takes}
-use Rattle.x25_packet_judge.specs.Layer.{is_begun, begun, with_restart}
+use Rattle.x25_packet_judge.specs.Layer.{is_asking, is_begun, begun, with_restart}
 use Rattle.x25_packet_judge.specs.Layers.{are_sure, are_counted, are_lost, are_level, runs_early}
 use Rattle.x25_packet_judge.specs.Port.{all_alike}
 use Rattle.x25_packet_judge.specs.declared.book.Book.{Book}
@@ -53,9 +53,10 @@ pub record AreCounted (t : Layers) : Type 0 where
   pub counted : are_counted t ≡ true
   pub once : t.own.again ≡ 0
 
--- nor is a confirmation of none on the way to the end, and nothing is left open of the channel
+-- nor did the end send one last; no confirmation of none is on the way to it, and nothing is left open of the channel
 pub record AreClear (t : Layers) (p : Pair) : Type 0 where
   pub counted : AreCounted t
+  pub first : is_asking t.own.restart ≡ false
   pub others_once : t.other.again ≡ 0
   pub none : t.own.is_stray ≡ false
   pub sure : p.other.is_known ≡ true → p.other.is_doubtful ≡ false

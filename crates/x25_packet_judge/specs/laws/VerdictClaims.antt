@@ -6,7 +6,7 @@ use Rattle.x25_packet_judge.specs.Book.{other, layers_of, pair_of, takes}
 use Rattle.x25_packet_judge.specs.Layer.{is_begun}
 use Rattle.x25_packet_judge.specs.Layers.{runs_early, are_sure, are_level}
 use Rattle.x25_packet_judge.specs.Message.{octets_of}
-use Rattle.x25_packet_judge.specs.Packets.{sends}
+use Rattle.x25_packet_judge.specs.Packets.{sends, follows}
 use Rattle.x25_packet_judge.specs.Pair.{may_talk_in}
 use Rattle.x25_packet_judge.specs.Port as port
 use Rattle.x25_packet_judge.specs.Terms.{said, usual}
@@ -99,7 +99,7 @@ BooksTellOfChannels =
     → is_begun (layers_of from b).own.restart ≡ false → runs_early (layers_of from b) ≡ false
     → are_sure (layers_of from b) ≡ true
     → (takes from channel packet b).verdict.rule
-    ≡ (sends packet (pair_of from (are_level (layers_of from b)) channel b)).rule
+    ≡ (follows packet (pair_of from (are_level (layers_of from b)) channel b)).rule
 
 -- of an end, whatever the other end sends on any channel, in as many stretches of its call as there are
 abbrev pub NoInnocentTapeIsTold : Type 0

@@ -73,10 +73,6 @@ pub told_map : (P Q : ℕ → Type 0) → ((n : ℕ) → P n → Q n) → (es : 
 told_map P Q f [] h = tt
 told_map P Q f (e ∷ es) h = (of_tells e.said (P e.session) (Q e.session) (f e.session) h.0, told_map P Q f es h.1)
 
-pub told_and_tags : (b q : ℕ) (es : List Letter) → AllTags b es → AllTold (λ (n : ℕ). n ≡ q) es → AllTold (λ (n : ℕ). (n ≡ q) × (n ≤ b)) es
-told_and_tags b q [] t h = tt
-told_and_tags b q (e ∷ es) t h = (of_tells e.said _ _ (λ is. (is, t.0)) h.0, told_and_tags b q es t.1 h.1)
-
 abbrev pub Never : ℕ → Type 0
 Never n = ⊥
 

@@ -1,10 +1,10 @@
 -- Whatever an end does keeps what holds of two ends over sessions.
-use Rattle.std.proofs.Common.{◌≡◌, ◌≤◌, ◌+◌, ◌⊎◌, inl, inr, ℕ, suc, List, [], ◌∷◌, ◌++◌, map, remove, Option, refl, sym, ◌∙◌, subst, arith}
+use Rattle.std.proofs.Common.{◌≡◌, ◌≤◌, ◌+◌, ◌⊎◌, inl, inr, ℕ, suc, List, [], ◌∷◌, ◌++◌, map, remove, Option, refl, sym, subst, arith}
 use Rattle.x25_line.specs.laws.Said.{Said, Carried, Tells, Sabm, Disc, Ua, Else, Odd}
 use Rattle.x25_line.specs.laws.Sessions.{Meeting, turned}
 use Rattle.x25_line.specs.laws.SessionClaims.{AllMet, IsAbove, InStep}
-use Rattle.x25_line.proofs.sessions.SessionHeld.{View, Live, Soon, Gone, IsPaired, IsBegun}
-use Rattle.x25_line.proofs.sessions.SessionRuns.{begun_turned, in_step_turned}
+use Rattle.x25_line.proofs.sessions.SessionHeld.{View, Live, Soon, Gone, IsPaired, IsBegun, begun_later, paired_anew, above_paired}
+use Rattle.x25_line.proofs.sessions.SessionRuns.{begun_turned, paired_turned, in_step_turned}
 use Rattle.x25_sessions.specs.laws.PeerSessions.{Stand, Out, Asking, In}
 use Rattle.x25_sessions.specs.laws.Ends.{Letter, letter, Two, swapped, sabm_in, ua_in, disc_in, how_many, OfTells, IsPatient, heard, spoilt, Moves, free, odd, asks, closes, leaves, hears, takes_ua, takes_sabm, waits_on, takes_disc, loses, damages, begin_at}
 use Rattle.x25_sessions.proofs.ends.Lines.{count_push, Less, gone, less_removes, less_spoils, AllTold, told_map, Never, Of, are_none, after_clean, asked_none, asked_now, asked_never, asked_begins}
@@ -17,42 +17,25 @@ pub record Meets (b c p q : ℕ) (met : List Meeting) : Type 0 where
   pub paired : AllMet (IsPaired p q) met
   pub step : InStep met
 
-pub met_map : (P Q : Meeting → Type 0) → ((m : Meeting) → P m → Q m) → (ms : List Meeting) → AllMet P ms → AllMet Q ms
-met_map P Q f [] h = tt
-met_map P Q f (m ∷ ms) h = (f m h.0, met_map P Q f ms h.1)
-
-paired_turned : (p q : ℕ) (ms : List Meeting) → AllMet (IsPaired p q) ms → AllMet (IsPaired q p) (map turned ms)
-paired_turned p q [] h = tt
-paired_turned p q (m ∷ ms) h = (elim h.0 [ inl same ↦ inl (same.1, same.0) | inr less ↦ inr (less.1, less.0) ], paired_turned p q ms h.1)
-
 pub meets_turned : (b c p q : ℕ) (ms : List Meeting) → Meets b c p q ms → Meets c b q p (map turned ms)
 meets_turned b c p q ms h = record { begun = begun_turned b c ms h.begun; paired = paired_turned p q ms h.paired; step = in_step_turned ms h.step }
 
 -- the same pair, and one session more
 meets_more : (b c p q : ℕ) (ms : List Meeting) → Meets b c p q ms → Meets (suc b) c p q ms
-meets_more b c p q ms h =
-    record { begun = met_map (IsBegun b c) (IsBegun (suc b) c) (λ m k. (let low = k.0 in (omega (arith, low), k.1))) ms h.begun; paired = h.paired; step = h.step }
+meets_more b c p q ms h = record { begun = begun_later b c (suc b) c ms (omega arith) (omega arith) h.begun; paired = h.paired; step = h.step }
 
 -- a new pair
 meets_new : (b c p q : ℕ) (ms : List Meeting) → Meets b c p q ms → Meets b c (suc b) (suc c) ms
-meets_new b c p q ms h =
-    record {
-      begun = h.begun;
-      paired = met_map (IsBegun b c) (IsPaired (suc b) (suc c)) (λ m k. (let low = k.0 in let high = k.1 in inr (omega (arith, low), omega (arith, high)))) ms h.begun;
-      step = h.step;
-    }
+meets_new b c p q ms h = record { begun = h.begun; paired = paired_anew b c (suc b) (suc c) ms (omega arith) (omega arith) h.begun; step = h.step }
 
 -- the two that stand meet
-front_above : (b s p q : ℕ) (ms : List Meeting) → b ≡ p → s ≡ q → AllMet (IsPaired p q) ms → IsAbove (record { near = b; far = s }) ms
-front_above b s p q [] is that h = tt
-front_above b s p q (n ∷ ms) is that h = elim h.0 [
-  | inl same ↦ inl (same.0 ∙ sym is, same.1 ∙ sym that)
-  | inr less ↦ (let low = less.0 in let high = less.1 in inr (omega (arith, low, is), omega (arith, high, that)))
-]
-
 meets_here : (b c p q s : ℕ) (ms : List Meeting) → b ≡ p → s ≡ q → s ≤ c → Meets b c p q ms → Meets b c p q (record { near = b; far = s } ∷ ms)
 meets_here b c p q s ms is that low h =
-    record { begun = ((omega arith, low), h.begun); paired = (inl (is, that), h.paired); step = (front_above b s p q ms is that h.paired, h.step) }
+    record {
+      begun = ((omega arith, low), h.begun);
+      paired = (inl (is, that), h.paired);
+      step = (subst (λ (x : ℕ). IsAbove (record { near = x; far = s }) ms) (sym is) (subst (λ (y : ℕ). IsAbove (record { near = p; far = y }) ms) (sym that) (above_paired p q ms h.paired)), h.step);
+    }
 
 -- ---- what holds
 
@@ -75,9 +58,8 @@ held_turned w h =
     record { near_view = h.far_view; far_view = h.near_view; p = h.q; q = h.p; near = h.far; far = h.near; meets = meets_turned w.near.begun w.far.begun h.p h.q w.met h.meets }
 
 pub in_session : (v : View) (s : Stand) (b p : ℕ) → s ≡ In → ViewIs v s b p → b ≡ p
-in_session Live s b p is h = h.1
 in_session Soon s b p is h = absurd (subst NotIn is h.0)
-in_session Gone s b p is h = h.1
+in_session v s b p is h = h.1
 
 pub any_asking : (s : Stand) (P : Type 0) → P → WhenAsking s P
 any_asking Asking P h = h
@@ -95,13 +77,8 @@ live_heard : (v : View) (s : Said) (t b p sy q : ℕ) (st : Stand) (out rest : L
 live_heard Live (Tells c n) t b p sy q st out rest In h ms m = meets_here b sy p q t ms h.view.1 h.live.0 h.tags.0 m
 live_heard Soon (Tells c n) t b p sy q st out rest In h ms m = absurd h.view.0
 live_heard Gone (Tells c n) t b p sy q st out rest In h ms m = absurd h.view.0
-live_heard v Sabm t b p sy q st out rest In h ms m = m
-live_heard v Disc t b p sy q st out rest In h ms m = m
-live_heard v Ua t b p sy q st out rest In h ms m = m
-live_heard v Else t b p sy q st out rest In h ms m = m
-live_heard v Odd t b p sy q st out rest In h ms m = m
-live_heard v s t b p sy q st out rest Out h ms m = m
-live_heard v s t b p sy q st out rest Asking h ms m = m
+live_heard v s t b p sy q st out rest In h ms m = m
+live_heard v s t b p sy q st out rest stand h ms m = m
 
 module _ (w : Two) where
   abbrev bx : ℕ
@@ -227,8 +204,6 @@ module _ (w : Two) where
 
       same_pair : (v : View) → Side v w.near.stand bx p sy b q w.out (letter s Sabm ∷ rest) → OlderOk v w.out sy → AllTold (Of q) rest
           → Onward w (record w { near = record { stand = In; begun = suc bx }; out = w.out ++ letter (suc bx) Ua ∷ []; back = rest }) p q
-      same_pair Live near ok told = absurd ok.0
-      same_pair Gone near ok told = absurd ok.0
       same_pair Soon near ok told =
           record {
             pair = inl (refl, refl);
@@ -243,6 +218,7 @@ module _ (w : Two) where
               meets = meets_more bx b p q w.met meets;
             };
           }
+      same_pair v near ok told = absurd ok.0
 
   -- a SABM that crossed that of the near end, which waits on
   waits_held : (s : ℕ) (rest : List Letter) (v u : View) (p q : ℕ) → Side v Asking bx p sy b q w.out (letter s Sabm ∷ rest) → Side u sy b q Asking bx p (letter s Sabm ∷ rest) w.out → Meets bx b p q w.met

@@ -1,11 +1,14 @@
 -- The session that stands has a line of its own: what of the line has its number. So what holds of a link set up once holds of it.
 use Rattle.std.proofs.Common.{◌≡◌, ◌≤◌, ◌<◌, ◌==◌, ◌⊎◌, inl, inr, ℕ, suc, List, [], ◌∷◌, ◌++◌, map, Bool, true, false, Option, Some, None, refl, sym, ap, ◌∙◌, subst, arith, append-nil, length}
 use Rattle.x25_window.specs.code.Modulo.{resolved}
+use Rattle.x25_line.specs.laws.InWindow.{IsPrefix}
 use Rattle.x25_line.specs.laws.Said.{Said, Carried, Tells, Sabm, Disc, Ua, Else, Odd}
 use Rattle.x25_line.specs.laws.Sessions.{Meeting, turned}
 use Rattle.x25_line.specs.laws.SessionClaims.{AllMet, SomeMet}
 use Rattle.x25_line.specs.laws.Peer.{Peer, fresh_peer, MaySay, MayMake}
-use Rattle.x25_line.proofs.sessions.SessionHeld.{View, Live, Soon, Gone, IsPaired, IsBegun}
+use Rattle.x25_line.proofs.Order.{Told, told, only, IsApart, only_append, only_quiet, Left, left_front, left_deeper, Hold, starts, hold_turned, handed, says, left, makes, in_order, valid_front}
+use Rattle.x25_line.proofs.sessions.SessionHeld.{View, Live, Soon, Gone, IsPaired}
+use Rattle.x25_line.proofs.sessions.SessionLatest.{all_meet, some_meets}
 use Rattle.x25_line.proofs.sessions.SessionRuns.{near_turned, far_turned}
 use Rattle.x25_sessions.specs.laws.PeerSessions.{Stand, Out, Asking, In, put_for}
 use Rattle.x25_sessions.specs.laws.Ends.{Stander, Letter, letter, Two, sabm_in, how_many, meets, heard, OfTells, AreOf, Moves, free, odd, asks, closes, hears, takes_ua, takes_sabm, waits_on, takes_disc, loses, damages, Ends, ends_swapped, near_now, with_near, begins, fresh_where, Does, is_handed, sends, listens, moves, begin_at, IsReached, at_start, set_up, near_does, far_does}
@@ -13,17 +16,9 @@ use Rattle.x25_sessions.specs.laws.EndClaims.{InOrder, MetInOrder, KeepSessions,
 use Rattle.x25_sessions.proofs.ends.Lines.{Less, whole, gone, hurt, deeper, less_removes, less_spoils, AllTags, tags_less}
 use Rattle.x25_sessions.proofs.ends.Held.{Side, NotIn, ViewIs}
 use Rattle.x25_sessions.proofs.ends.Moves.{Held, held_turned, in_session, nothing_held, set_up_held, moves_held, told_held, come_held, popped}
-use Rattle.x25_sessions.proofs.ends.Order.{Told, without, Hold, starts, hold_turned, handed, sent, heard as heard_one, fewer, in_order, valid_front}
 use Rattle.x25_sessions.proofs.ends.Puts.{same_or_other, put_same, put_other, put_apart, put_alike}
 
 -- ---- the line of one session
-
-abbrev told : Option Carried → ℕ → Told
-told carried nr = record { carried = carried; nr = nr }
-
-abbrev only : Said → List Told → List Told
-only (Tells c n) rest = told c n ∷ rest
-only s rest = rest
 
 abbrev keep : Bool → Said → List Told → List Told
 keep true s rest = only s rest
@@ -33,15 +28,6 @@ abbrev of : ℕ → List Letter → List Told
 of q [] = []
 of q (e ∷ es) = keep (e.session == q) e.said (of q es)
 
--- no N(R)
-abbrev IsApart : Said → Type 0
-IsApart (Tells carried nr) = ⊥
-IsApart s = Unit {0}
-
-only_append : (s : Said) (xs ys : List Told) → only s xs ++ ys ≡ only s (xs ++ ys)
-only_append (Tells c n) xs ys = refl
-only_append s xs ys = refl
-
 keep_append : (b : Bool) (s : Said) (xs ys : List Told) → keep b s xs ++ ys ≡ keep b s (xs ++ ys)
 keep_append true s xs ys = only_append s xs ys
 keep_append false s xs ys = refl
@@ -49,10 +35,6 @@ keep_append false s xs ys = refl
 of_append : (q : ℕ) (xs ys : List Letter) → of q (xs ++ ys) ≡ of q xs ++ of q ys
 of_append q [] ys = refl
 of_append q (e ∷ xs) ys = ap (keep (e.session == q) e.said) (of_append q xs ys) ∙ sym (keep_append (e.session == q) e.said (of q xs) (of q ys))
-
-only_quiet : (s : Said) (xs : List Told) → IsApart s → only s xs ≡ xs
-only_quiet (Tells c n) xs off = absurd off
-only_quiet s xs off = refl
 
 keep_quiet : (b : Bool) (s : Said) (xs : List Told) → IsApart s → keep b s xs ≡ xs
 keep_quiet true s xs off = only_quiet s xs off
@@ -72,29 +54,20 @@ of_none b q [] less h = refl
 of_none b q (e ∷ es) less h =
     (let low = h.0 in ap (λ (x : Bool). keep x e.said (of q es)) (below e.session q (omega (arith, low, less)))) ∙ of_none b q es less h.1
 
+kept_front : (b : Bool) (s : Said) (xs : List Told) → Left (keep b s xs) xs
+kept_front false s xs = (None, refl)
+kept_front true s xs = left_front s xs
+
+kept_deeper : (b : Bool) (s : Said) (xs ys : List Told) → Left xs ys → Left (keep b s xs) (keep b s ys)
+kept_deeper false s xs ys h = h
+kept_deeper true s xs ys h = left_deeper s xs ys h
+
 -- it loses one at most where the line does
-abbrev Left : List Told → List Told → Type 0
-Left xs ys = (o : Option ℕ) × (ys ≡ without o xs)
-
-left_front : (b : Bool) (s : Said) (xs : List Told) → Left (keep b s xs) xs
-left_front false s xs = (None, refl)
-left_front true (Tells c n) xs = (Some 0, refl)
-left_front true s xs = (None, refl)
-
-left_deeper : (b : Bool) (s : Said) (xs ys : List Told) → Left xs ys → Left (keep b s xs) (keep b s ys)
-left_deeper false s xs ys h = h
-left_deeper true (Tells c n) xs ys h = go h.0 h.1
-  where
-    go : (o : Option ℕ) → ys ≡ without o xs → Left (told c n ∷ xs) (told c n ∷ ys)
-    go None is = (None, ap (λ (zs : List Told). told c n ∷ zs) is)
-    go (Some i) is = (Some (suc i), ap (λ (zs : List Told). told c n ∷ zs) is)
-left_deeper true s xs ys h = h
-
 of_less : (q : ℕ) (es fs : List Letter) → Less es fs → Left (of q es) (of q fs)
 of_less q es fs (whole xs) = (None, refl)
-of_less q es fs (gone e xs) = left_front (e.session == q) e.said (of q xs)
-of_less q es fs (hurt e xs) = subst (λ (ys : List Told). Left (of q (e ∷ xs)) ys) (sym (keep_quiet (e.session == q) Else (of q xs) tt)) (left_front (e.session == q) e.said (of q xs))
-of_less q es fs (deeper e xs ys l) = left_deeper (e.session == q) e.said (of q xs) (of q ys) (of_less q xs ys l)
+of_less q es fs (gone e xs) = kept_front (e.session == q) e.said (of q xs)
+of_less q es fs (hurt e xs) = subst (λ (ys : List Told). Left (of q (e ∷ xs)) ys) (sym (keep_quiet (e.session == q) Else (of q xs) tt)) (kept_front (e.session == q) e.said (of q xs))
+of_less q es fs (deeper e xs ys l) = kept_deeper (e.session == q) e.said (of q xs) (of q ys) (of_less q xs ys l)
 
 -- ---- what a move does to the lines, and to who met whom
 
@@ -151,7 +124,10 @@ pub record All (w : Ends) : Type 0 where
   pub far_unmet : (n : ℕ) → ((w.far_of n).taken ≡ []) ⊎ SomeMet (λ (m : Meeting). m.far ≡ n) w.two.met
 
 pub both_orders : (p q : Peer) (out back : List Told) → Hold p q out back → InOrder p q × InOrder q p
-both_orders p q out back h = (in_order p q h.there h.here h.ways.from_near, in_order q p h.here h.there h.ways.from_far)
+both_orders p q out back h = (ordered (in_order p q h.there h.here h.ways.from_near), ordered (in_order q p h.here h.there h.ways.from_far))
+  where
+    ordered : {p q : Peer} → IsPrefix q.taken p.given × (p.acked ≤ length q.taken) × (p.acked ≡ length p.given → q.taken ≡ p.given) → InOrder p q
+    ordered h = record { begins = h.0; acked = h.1; all = h.2 }
 
 order_turned : (near_of far_of : ℕ → Peer) (ms : List Meeting) → AllMet (MetInOrder near_of far_of) ms → AllMet (MetInOrder far_of near_of) (map turned ms)
 order_turned near_of far_of [] h = tt
@@ -214,9 +190,8 @@ moves_all w v m h =
 
     same : Hold (w.near_of p) (w.far_of q) (of p v.out) (of q v.back)
     same =
-        let left = of_less q w.two.back v.back (back_less w.two v m) in
         subst (λ (xs : List Told). Hold (w.near_of p) (w.far_of q) xs (of q v.back)) (sym (out_same w.two v m p))
-        (subst (λ (ys : List Told). Hold (w.near_of p) (w.far_of q) (of p w.two.out) ys) (sym left.1) (fewer (w.near_of p) (w.far_of q) (of p w.two.out) (of q w.two.back) left.0 h.line))
+        (left (w.near_of p) (w.far_of q) (of p w.two.out) (of q w.two.back) (of q v.back) (of_less q w.two.back v.back (back_less w.two v m)) h.line)
 
     anew : Hold (w.near_of b) (w.far_of c) (of b v.out) (of c v.back)
     anew =
@@ -318,7 +293,7 @@ sent_all w carried nr r is may h =
     ap (λ (x : ℕ). keep (b == x) (Tells carried nr) []) (sym at) ∙ ap (λ (x : Bool). keep x (Tells carried nr) []) (equal b) in
     let lines = of_append h.held.p w.two.out (letter b (Tells carried nr) ∷ []) ∙ ap (λ (ys : List Told). of h.held.p w.two.out ++ ys) one in
     let hold = subst (λ (xs : List Told). Hold r (w.far_of h.held.q) xs (of h.held.q w.two.back)) (sym lines)
-    (sent (near_now w) (w.far_of h.held.q) (of h.held.p w.two.out) (of h.held.q w.two.back) (at_now w h is) carried nr r may) in
+    (says (near_now w) (w.far_of h.held.q) (of h.held.p w.two.out) (of h.held.q w.two.back) ⊥ (Tells carried nr) r may (at_now w h is)) in
     updated w (record w.two { out = w.two.out ++ letter b (Tells carried nr) ∷ [] }) h (told_held w.two carried nr is h.held) r is refl refl refl refl hold
     h.order h.held.meets.paired (still_unmet w h r (says_same (near_now w) r carried nr may)) h.far_unmet
 
@@ -332,8 +307,8 @@ in_front : (q t : ℕ) (c : Option Carried) (n : ℕ) (rest : List Letter) → t
 in_front q t c n rest is = ap (λ (z : ℕ). keep (z == q) (Tells c n) (of q rest)) is ∙ ap (λ (z : Bool). keep z (Tells c n) (of q rest)) (equal q)
 
 came : (x y r : Peer) (out : List Told) (q t : ℕ) (s : Said) (rest : List Letter) → OfTells s (t ≡ q) → Hold x y out (of q (letter t s ∷ rest)) → MayMake x s r → Hold r y out (of q rest)
-came x y r out q t (Tells c n) rest to hold may = heard_one x y out c n (of q rest) r (subst (λ (ys : List Told). Hold x y out ys) (in_front q t c n rest to) hold) may
-came x y r out q t s rest to hold may = subst (λ (z : Peer). Hold z y out (of q rest)) (sym may) (subst (λ (ys : List Told). Hold x y out ys) (keep_quiet (t == q) s (of q rest) tt) hold)
+came x y r out q t (Tells c n) rest to hold may = makes x y out (Tells c n) (of q rest) r may (subst (λ (ys : List Told). Hold x y out ys) (in_front q t c n rest to) hold)
+came x y r out q t s rest to hold may = makes x y out s (of q rest) r may (subst (λ (ys : List Told). Hold x y out ys) (keep_quiet (t == q) s (of q rest) tt) hold)
 
 -- a session that takes a packet meets one
 heard_unmet : (b t : ℕ) (f : ℕ → Peer) (r : Peer) (s : Said) (ms : List Meeting) → MayMake (f b) s r → (n : ℕ) → ((f n).taken ≡ []) ⊎ SomeMet (λ (m : Meeting). m.near ≡ n) ms
@@ -390,29 +365,14 @@ far_high w h = go h.held.far_view h.held.far.view
     go Gone is = (let e = is.1 in omega (arith, e))
 
 -- who meets the session in which the near end is: the far end's latest, which stands
-meets_latest : (p q b c : ℕ) → b ≡ p → c ≤ q → (ms : List Meeting) → AllMet (IsBegun b c) ms → AllMet (IsPaired p q) ms → AllMet (λ (m : Meeting). m.near ≡ b → (m.far ≡ c) × (q ≡ c)) ms
-meets_latest p q b c is high [] begun paired = tt
-meets_latest p q b c is high (m ∷ ms) begun paired = (
-  λ here. elim paired.0 [
-    | inl same ↦ (let to = same.1 in let low = begun.0.1 in (omega (arith, to, low, high), omega (arith, to, low, high)))
-    | inr less ↦ (let low = less.0 in absurd (omega (arith, low, is, here)))
-  ],
-  meets_latest p q b c is high ms begun.1 paired.1,
-)
+pub latest : (w : Ends) (h : All w) → w.two.near.stand ≡ In → AllMet (λ (m : Meeting). m.near ≡ w.two.near.begun → m.far ≡ w.two.far.begun) w.two.met
+latest w h on =
+    all_meet h.held.p h.held.q w.two.near.begun w.two.far.begun w.two.met (in_session h.held.near_view w.two.near.stand w.two.near.begun h.held.p on h.held.near.view) (far_high w h) h.held.meets.begun h.held.meets.paired
 
-pub latest_stands : (w : Ends) (h : All w) → w.two.near.stand ≡ In → AllMet (λ (m : Meeting). m.near ≡ w.two.near.begun → (m.far ≡ w.two.far.begun) × (h.held.q ≡ w.two.far.begun)) w.two.met
-latest_stands w h on =
-    meets_latest h.held.p h.held.q w.two.near.begun w.two.far.begun (in_session h.held.near_view w.two.near.stand w.two.near.begun h.held.p on h.held.near.view) (far_high w h) w.two.met
-    h.held.meets.begun h.held.meets.paired
-
--- it stands where the near end met it, or the far end is in it
-pub some_stands : (P : Type 0) (b : ℕ) (ms : List Meeting) → AllMet (λ (m : Meeting). m.near ≡ b → P) ms → SomeMet (λ (m : Meeting). m.near ≡ b) ms → P
-some_stands P b [] all some = absurd some
-some_stands P b (m ∷ ms) all some = elim some [ inl here ↦ all.0 here | inr there ↦ some_stands P b ms all.1 there ]
-
-pub all_map : (P Q : Meeting → Type 0) → ((m : Meeting) → P m → Q m) → (ms : List Meeting) → AllMet P ms → AllMet Q ms
-all_map P Q f [] h = tt
-all_map P Q f (m ∷ ms) h = (f m h.0, all_map P Q f ms h.1)
+-- and it stands where the near end met one
+pub some_stands : (w : Ends) (h : All w) → w.two.near.stand ≡ In → SomeMet (λ (m : Meeting). m.near ≡ w.two.near.begun) w.two.met → h.held.q ≡ w.two.far.begun
+some_stands w h on =
+    some_meets h.held.p h.held.q w.two.near.begun w.two.far.begun w.two.met (in_session h.held.near_view w.two.near.stand w.two.near.begun h.held.p on h.held.near.view) (far_high w h) h.held.meets.begun h.held.meets.paired
 
 -- all that an end was handed down in its session was taken, where all is acknowledged
 pub all_taken : (w : Ends) (h : All w) → w.two.near.stand ≡ In → h.held.q ≡ w.two.far.begun → (near_now w).acked ≡ length (near_now w).given → (w.far_of w.two.far.begun).taken ≡ (near_now w).given
@@ -448,6 +408,6 @@ keep_sessions w r =
       order = h.order;
       near_unmet = h.near_unmet;
       far_unmet = h.far_unmet;
-      latest = λ on. all_map _ _ (λ m k here. (k here).0) w.two.met (latest_stands w h on);
+      latest = latest w h;
       valid = λ on e rest carried nr is says. valid w h on e rest carried nr is says;
     }

@@ -230,10 +230,8 @@ nothing_append [] ys f g = g
 nothing_append (x ∷ xs) ys f g = (f.0, nothing_append xs ys f.1 g)
 
 next_of_none : (taker giver : layer.End) (what : OwnMove) → TakesNone what → IsNext taker giver what
-next_of_none taker giver (Requests is_full request) h = tt
-next_of_none taker giver (Pulls channel) h = tt
 next_of_none taker giver (Takes packet) h = absurd h
-next_of_none taker giver GoesDown h = tt
+next_of_none taker giver what h = tt
 
 -- where neither end takes anything, all is in order
 pub order_of_nothing : (long_data : Bool) (channels : ℕ) (es : List ApartEvent) (ends : Ends) → TakeNothing (near_moves es) → TakeNothing (far_moves es) → AreInOrder long_data channels es ends

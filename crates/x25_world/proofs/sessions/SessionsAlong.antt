@@ -107,6 +107,9 @@ module _ (c : LinkSettings) (v x : Sessions) (h : AreSame v x) where
   acts_same line.Abandon =
       subst (λ (s : LinkStation). AreSame (links.acts c line.Abandon v) (if is_up s.phase then links.after_step c x x.back x.met [] (abandon_step c s) else x)) (sym h.near)
       (if_same (is_up v.near.station.phase) _ v _ x (step_same v.back x.back v.met x.met [] (abandon_step c v.near.station) h.back) h)
+  acts_same line.Probe =
+      subst (λ (s : LinkStation). AreSame (links.acts c line.Probe v) (if is_up s.phase then links.after_step c x x.back x.met [] (timer_step c s) else x)) (sym h.near)
+      (if_same (is_up v.near.station.phase) _ v _ x (step_same v.back x.back v.met x.met [] (timer_step c v.near.station) h.back) h)
   acts_same (line.Lose i) = record { near = h.near; far = h.far; out = h.out; back = octets_removed x.back i ∙ ap (λ (os : List (List ℕ)). remove os i) h.back ∙ sym (octets_removed v.back i) }
   acts_same (line.Damage i octets) =
       if_same (is_visible octets) _ v _ x
@@ -140,14 +143,8 @@ asked_same c d v x h =
     ap₂ (λ (n m : ℕ). n + m) (many_same sabm_in (other d.role) d.longest v.out x.out h.out) (many_same ua_in (other c.role) c.longest v.back x.back h.back)
 
 timely_same : (c d : LinkSettings) (act : line.Act) (v x : Sessions) → AreSame v x → IsTimely c d act v → IsTimely c d act x
-timely_same c d (line.Put packet) v x h timely = tt
-timely_same c d line.Deliver v x h timely = tt
 timely_same c d line.T1 v x h timely = λ waiting. asked_same c d v x h ∙ timely (ap (λ (s : LinkStation). s.phase) (sym h.near) ∙ waiting)
-timely_same c d line.Connect v x h timely = tt
-timely_same c d line.Disconnect v x h timely = tt
-timely_same c d line.Abandon v x h timely = tt
-timely_same c d (line.Lose i) v x h timely = tt
-timely_same c d (line.Damage i octets) v x h timely = tt
+timely_same c d act v x h timely = tt
 
 timely_at_same : (c d : LinkSettings) (e : line.Event) (v x : Sessions) → AreSame v x → IsTimelyAt c d e v → IsTimelyAt c d e x
 timely_at_same c d (line.Near act) v x h timely = timely_same c d act v x h timely

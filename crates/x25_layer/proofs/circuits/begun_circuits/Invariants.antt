@@ -6,4 +6,4 @@ use Rattle.x25_layer.proofs.circuits.begun_circuits.Given as goal
 abbrev pub invariant-loop : goal.invariant-loop
 invariant-loop l = FitsCircuits (record { channels = l.channels; circuit = record { role = l.role; long_data = l.long_data } }) l.circuits.items at_rest.circuits
     × (vec_len l.circuits ≡ l.counter)
-    × (l.channels ≤ vec_capacity l.circuits)
+    × (vec_capacity l.circuits ≡ l.channels)

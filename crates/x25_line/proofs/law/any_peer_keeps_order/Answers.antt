@@ -1,4 +1,4 @@
-use Rattle.x25_line.proofs.PeerRuns.{keeps_order, is_blameless}
+use Rattle.x25_line.proofs.PeerOrder.{keeps_order, is_blameless}
 use Rattle.x25_line.proofs.law.any_peer_keeps_order.Goals as goal
 
 pub returns : goal.returns

@@ -58,16 +58,7 @@ refused_did e step is = absurd (subst (λ (o : Outcome). elim o as (λ _. Type 0
 -- what calls and acceptances say changes no octet of the user
 pub said_octets : (says : Bool) (l : Layer) (request : LayerRequest) → RequestsOctets request → RequestsOctets (command.said_by says l request)
 said_octets says l (asked.Asks h (circuit.Calls called calling user proposal)) octets = octets
-said_octets says l (asked.Asks h (circuit.Accepts answer)) octets = octets
-said_octets says l (asked.Asks h circuit.Clears) octets = octets
-said_octets says l (asked.Asks h (circuit.Sends q user)) octets = octets
-said_octets says l (asked.Asks h (circuit.Interrupts user)) octets = octets
-said_octets says l (asked.Asks h circuit.Resets) octets = octets
-said_octets says l (asked.Asks h circuit.SaysReady) octets = octets
-said_octets says l (asked.Asks h circuit.SaysNotReady) octets = octets
-said_octets says l (asked.Dials called calling user proposal) octets = octets
-said_octets says l asked.Restarts octets = octets
-said_octets says l asked.PullsAll octets = octets
+said_octets says l request octets = octets
 
 -- the entries of a command that is accepted
 did_entries : (c : Settings) (t : Side) (entries : List StationEntry) (a : Answered) (step : Step) → did c t entries a ≡ Did step → step.entries ≡ entries

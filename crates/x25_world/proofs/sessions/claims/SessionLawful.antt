@@ -51,17 +51,9 @@ abbrev BeginsWhereStands : Progress → Type 0
 BeginsWhereStands p = p.stands ≡ true → 1 ≤ p.begun
 
 begins_after : (p : Progress) (e : StationEntry) → BeginsWhereStands p → BeginsWhereStands (after_entry p e)
-begins_after p (of_channel e) first = first
-begins_after p restart_asked first = first
-begins_after p connect_asked first = first
-begins_after p disconnect_asked first = first
 begins_after p link_up first = λ stands. omega arith
 begins_after p (link_down reason) first = λ stands. absurd (cc)
-begins_after p (was_restarted cause diagnostic) first = first
-begins_after p restart_confirmed first = first
-begins_after p (at_fault diagnostic) first = first
-begins_after p (came_beside channel facilities user) first = first
-begins_after p (was_diagnosed diagnostic) first = first
+begins_after p e first = first
 
 before_first : (p : Progress) (entries : List StationEntry) → BeginsWhereStands p → session_from 0 p entries ≡ []
 before_first p [] first = refl

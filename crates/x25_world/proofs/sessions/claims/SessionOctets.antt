@@ -30,14 +30,8 @@ packet_octets long_data channels (p ∷ ps) quiet readable octets (suc k, low, i
 frame_octets : (given : List (List ℕ)) → ((octets : List ℕ) → Contains given octets → AreOctets octets) → (f : PlainFrame) (fs : List PlainFrame) → IsWhole longest_packet given f → NoFrmr (f ∷ fs)
     → AreOctets (information_of f) × NoFrmr fs
 frame_octets given holds (info ns nr p x) fs whole none = (holds x whole.packet, none)
-frame_octets given holds (rr command nr pf) fs whole none = (All-nil (λ octet. octet < 256), none)
-frame_octets given holds (rnr command nr pf) fs whole none = (All-nil (λ octet. octet < 256), none)
-frame_octets given holds (rej command nr pf) fs whole none = (All-nil (λ octet. octet < 256), none)
-frame_octets given holds (sabm p) fs whole none = (All-nil (λ octet. octet < 256), none)
-frame_octets given holds (disc p) fs whole none = (All-nil (λ octet. octet < 256), none)
-frame_octets given holds (ua f) fs whole none = (All-nil (λ octet. octet < 256), none)
-frame_octets given holds (dm f) fs whole none = (All-nil (λ octet. octet < 256), none)
 frame_octets given holds (frmr f why) fs whole none = absurd none
+frame_octets given holds f fs whole none = (All-nil (λ octet. octet < 256), none)
 
 tap_octets : (given : List (List ℕ)) → ((octets : List ℕ) → Contains given octets → AreOctets octets) → (tap : List OnTap) (fs : List PlainFrame) → AreOnTap tap fs → AreWhole longest_packet given fs → NoFrmr fs → AreOfFrames tap
 tap_octets given holds [] [] on whole none = tt
@@ -46,8 +40,7 @@ tap_octets given holds (t ∷ tap) (f ∷ fs) on whole none =
       subst AreOfFrame (sym on.0) (spelled_of_frame t.from f whole.0.in_range whole.0.carries whole.0.within here.0),
       tap_octets given holds tap fs on.1 whole.1 here.1,
     )
-tap_octets given holds [] (f ∷ fs) on whole none = absurd on
-tap_octets given holds (t ∷ tap) [] on whole none = absurd on
+tap_octets given holds tap fs on whole none = absurd on
 
 pub is_of_octets : (laws : SessionLaws) (cfg : Cfg) (fine : IsConfigured cfg) {since : Beginning} (w : World) → SessionsJoined since cfg Dte w → IsTapOfOctets cfg w
 is_of_octets laws cfg fine w h =

@@ -50,14 +50,8 @@ quiet_octets long_data channels (p ∷ ps) quiet readable octets (suc k, low, is
 quiet_frame : (long_data : Bool) (channels : ℕ) (given : List (List ℕ)) → ((octets : List ℕ) → Contains given octets → IsQuietOctets long_data channels octets) → (f : PlainFrame) (fs : List PlainFrame) → IsWhole longest_packet given f
     → NoFrmr (f ∷ fs) → IsQuietFrame long_data channels (Ok f) × NoFrmr fs
 quiet_frame long_data channels given quiet (info ns nr p x) fs whole none = (quiet x whole.packet, none)
-quiet_frame long_data channels given quiet (rr command nr pf) fs whole none = (tt, none)
-quiet_frame long_data channels given quiet (rnr command nr pf) fs whole none = (tt, none)
-quiet_frame long_data channels given quiet (rej command nr pf) fs whole none = (tt, none)
-quiet_frame long_data channels given quiet (sabm p) fs whole none = (tt, none)
-quiet_frame long_data channels given quiet (disc p) fs whole none = (tt, none)
-quiet_frame long_data channels given quiet (ua f) fs whole none = (tt, none)
-quiet_frame long_data channels given quiet (dm f) fs whole none = (tt, none)
 quiet_frame long_data channels given quiet (frmr f why) fs whole none = absurd none
+quiet_frame long_data channels given quiet f fs whole none = (tt, none)
 
 -- octets that spell a frame read as it
 quiet_read : ReadsSpelled → (long_data : Bool) (channels : ℕ) (from : Role) (given : List (List ℕ)) (f : PlainFrame) (octets : List ℕ) → IsWhole longest_packet given f → octets ≡ spelling_of from f → IsQuietFrame long_data channels (Ok f)
@@ -72,8 +66,7 @@ quiet_tap reads long_data channels given quiet [] [] on whole none = tt
 quiet_tap reads long_data channels given quiet (t ∷ tap) (f ∷ fs) on whole none =
     let here = quiet_frame long_data channels given quiet f fs whole.0 none in
     (quiet_read reads long_data channels t.from given f t.octets whole.0 on.0 here.0, quiet_tap reads long_data channels given quiet tap fs on.1 whole.1 here.1)
-quiet_tap reads long_data channels given quiet [] (f ∷ fs) on whole none = absurd on
-quiet_tap reads long_data channels given quiet (t ∷ tap) [] on whole none = absurd on
+quiet_tap reads long_data channels given quiet tap fs on whole none = absurd on
 
 -- ---- of a world
 

@@ -15,7 +15,7 @@ returns-clause-fits c = λ size t fits.
     let message : Message = record { q = c.args.q; user = c.of-user.result } in
     let rest : List Piece = t.rest ++ cut size c.args.q c.of-user.result in
     subst (λ (us : List ℕ). FitsTalk size (record c.memory.new.self { queue = c.push.new.self }) (with_rest (t.rest ++ cut size c.args.q us) t)) same
-    (subst (λ (v : Transfer). FitsTalk size (record v { queue = c.push.new.self }) (with_rest rest t)) (sym c.in_ok-copy.ensures.others)
+    (subst (λ (v : Transfer). FitsTalk size (record v { queue = c.push.new.self }) (with_rest rest t)) (sym c.in_ok-memory.ensures.others)
     (queue_fits size c.args.self.now t c.push.new.self rest fits
     (ap (λ (ps : List Piece). ps ++ cut size message.q message.user) fits.rest
-    ∙ sym (ap (cut_all size) (c.push.ensures ∙ ap (λ (ms : List Message). ms ++ message ∷ []) c.in_ok-copy.ensures.waiting) ∙ cut_all_push size (waiting c.args.self.now.queue) message))))
+    ∙ sym (ap (cut_all size) (c.push.ensures ∙ ap (λ (ms : List Message). ms ++ message ∷ []) c.in_ok-memory.ensures.waiting) ∙ cut_all_push size (waiting c.args.self.now.queue) message))))

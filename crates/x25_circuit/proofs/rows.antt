@@ -1,5 +1,0 @@
--- Worked rows, by computing.
-mod DteRows
-mod DceRows
-mod CallRows
-mod ParamsRows

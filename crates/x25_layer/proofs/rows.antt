@@ -1,3 +1,0 @@
--- Worked rows, by computing.
-pub mod LayerRows
-pub mod ApartRows

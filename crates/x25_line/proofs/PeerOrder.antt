@@ -1,0 +1,247 @@
+-- A station and any peer keep the way in both directions, whatever happens, and that says the claims.
+use Rattle.std.proofs.Common.{◌≡◌, ℕ, zero, suc, ◌≤◌, List, [], ◌∷◌, ◌++◌, inl, inr, length, take, remove, true, false, Option, None, refl, sym, ap, ◌∙◌, subst, arith}
+use Rattle.x25_bits.specs.declared.role.Role.{Role}
+use Rattle.x25_frame.specs.Reading.{frame_of}
+use Rattle.x25_frame.specs.laws.ReadingLaw.{ReadsSpelled}
+use Rattle.x25_window.specs.code.Modulo.{resolved}
+use Rattle.x25_link.specs.Station.{Settings, fresh}
+use Rattle.x25_link.specs.Hearing.{other}
+use Rattle.x25_line.specs.laws.InWindow.{IsPrefix}
+use Rattle.x25_line.specs.laws.Stations.{StationEnd, Stations, Act, Near, replaced, is_visible, acts, swapped, run, start}
+use Rattle.x25_line.specs.laws.StationClaims.{Always, BothInOrder, InOrder, HandsOne}
+use Rattle.x25_line.specs.laws.LawsBelow.{Laws}
+use Rattle.x25_line.specs.laws.Said.{Said, Carried, Tells, Else, Odd as OddSaid, said}
+use Rattle.x25_line.specs.laws.Peer.{Peer, fresh_peer, MaySay}
+use Rattle.x25_line.specs.laws.PeerJoined.{Joined, our_end, with_peer, Happens, Ours, HandsDown, Sends, Hears, Loses, Damages, IsReached, at_start, goes_on}
+use Rattle.x25_line.specs.laws.PeerJoined as joined
+use Rattle.x25_line.specs.laws.PeerClaims.{WithAnyPeer, WithAnyLapbPeer, KeepsOrder, FindsNoFault}
+use Rattle.x25_line.specs.laws.StationPeers.{seen, IsPeer}
+use Rattle.x25_line.proofs.Kept.{Way}
+use Rattle.x25_line.proofs.Order.{Told, only, only_append, Left, left_front, left_deeper, Hold, starts, hold_turned, handed, says, left, makes, in_order as peers_in_order, valid_front, by_frmr, no_fault}
+use Rattle.x25_line.proofs.StationLines.{visible_reads}
+use Rattle.x25_line.proofs.StationRuns.{noted_before}
+use Rattle.x25_line.proofs.StationEvents.{each_hands_one}
+use Rattle.x25_line.proofs.StationClaimLemmas.{in_order}
+use Rattle.x25_line.proofs.StationActs.{MayAsk}
+use Rattle.x25_line.proofs.StationSays.{machine_of, MayDo}
+use Rattle.x25_line.proofs.StationPeers.{Seen, peer_acts, both_peers}
+
+-- ---- what is told on a line of octets
+
+-- nothing there is answered by FRMR
+abbrev pub NoneOdd : Role → ℕ → List (List ℕ) → Type 0
+NoneOdd from n1 [] = Unit {0}
+NoneOdd from n1 (o ∷ os) = (said (frame_of from n1 o) ≡ OddSaid → ⊥) × NoneOdd from n1 os
+
+module _ (from : Role) (n1 : ℕ) where
+  abbrev tolds : List (List ℕ) → List Told
+  tolds [] = []
+  tolds (o ∷ os) = only (said (frame_of from n1 o)) (tolds os)
+
+  tolds_push : (os : List (List ℕ)) (o : List ℕ) → tolds (os ++ o ∷ []) ≡ tolds os ++ only (said (frame_of from n1 o)) []
+  tolds_push [] o = refl
+  tolds_push (x ∷ os) o = ap (only (said (frame_of from n1 x))) (tolds_push os o) ∙ sym (only_append (said (frame_of from n1 x)) (tolds os) (only (said (frame_of from n1 o)) []))
+
+  tolds_removed : (os : List (List ℕ)) (i : ℕ) → Left (tolds os) (tolds (remove os i))
+  tolds_removed [] zero = (None, refl)
+  tolds_removed [] (suc i) = (None, refl)
+  tolds_removed (o ∷ os) zero = left_front (said (frame_of from n1 o)) (tolds os)
+  tolds_removed (o ∷ os) (suc i) = left_deeper (said (frame_of from n1 o)) (tolds os) (tolds (remove os i)) (tolds_removed os i)
+
+  visible_said : (o : List ℕ) → is_visible o ≡ true → said (frame_of from n1 o) ≡ Else
+  visible_said o visible = elim (visible_reads from n1 o visible) [ inl short ↦ ap said short | inr bad ↦ ap said bad ]
+
+  tolds_replaced : (o : List ℕ) → is_visible o ≡ true → (os : List (List ℕ)) (i : ℕ) → Left (tolds os) (tolds (replaced os i o))
+  tolds_replaced o visible [] i = (None, refl)
+  tolds_replaced o visible (x ∷ os) zero = subst (λ (s : Said). Left (tolds (x ∷ os)) (only s (tolds os))) (sym (visible_said o visible)) (left_front (said (frame_of from n1 x)) (tolds os))
+  tolds_replaced o visible (x ∷ os) (suc i) = left_deeper (said (frame_of from n1 x)) (tolds os) (tolds (replaced os i o)) (tolds_replaced o visible os i)
+
+  odd_push : (os : List (List ℕ)) (o : List ℕ) → NoneOdd from n1 os → (said (frame_of from n1 o) ≡ OddSaid → ⊥) → NoneOdd from n1 (os ++ o ∷ [])
+  odd_push [] o h never = (never, tt)
+  odd_push (x ∷ os) o h never = (h.0, odd_push os o h.1 never)
+
+  odd_removed : (os : List (List ℕ)) (i : ℕ) → NoneOdd from n1 os → NoneOdd from n1 (remove os i)
+  odd_removed [] zero h = tt
+  odd_removed [] (suc i) h = tt
+  odd_removed (o ∷ os) zero h = h.1
+  odd_removed (o ∷ os) (suc i) h = (h.0, odd_removed os i h.1)
+
+  odd_replaced : (o : List ℕ) → is_visible o ≡ true → (os : List (List ℕ)) (i : ℕ) → NoneOdd from n1 os → NoneOdd from n1 (replaced os i o)
+  odd_replaced o visible [] i h = tt
+  odd_replaced o visible (x ∷ os) zero h = (λ is. never (sym (visible_said o visible) ∙ is), h.1)
+    where
+      never : Else ≡ OddSaid → ⊥
+      never k = cc
+  odd_replaced o visible (x ∷ os) (suc i) h = (h.0, odd_replaced o visible os i h.1)
+
+-- ---- a station and a peer q
+
+module _ (Odd : Type 0) (c : Settings) (q : Peer) where
+  -- the station is the peer p
+  record IsWith (os : List (List ℕ)) (p : Peer) (out : List (List ℕ)) : Type 0 where
+    pub hold : Hold p q (tolds c.role c.longest out) (tolds (other c.role) c.longest os)
+    pub lapb : (Odd → ⊥) → NoneOdd (other c.role) c.longest os
+
+  station_may : MayDo c (Odd → ⊥) IsWith
+  station_may = record {
+    handed = λ os p out packet h. record { hold = handed p q (tolds c.role c.longest out) (tolds (other c.role) c.longest os) packet h.hold; lapb = h.lapb };
+    sends = λ os p r out octets may h. record {
+      hold = subst (λ (xs : List Told). Hold r q xs (tolds (other c.role) c.longest os)) (sym (tolds_push c.role c.longest out octets))
+          (says p q (tolds c.role c.longest out) (tolds (other c.role) c.longest os) ⊥ (said (frame_of c.role c.longest octets)) r may h.hold);
+      lapb = h.lapb;
+    };
+    hears = λ o os p r out may h. record {
+      hold = makes p q (tolds c.role c.longest out) (said (frame_of (other c.role) c.longest o)) (tolds (other c.role) c.longest os) r may h.hold;
+      lapb = λ lapb. (h.lapb lapb).1;
+    };
+    loses = λ os p out i h. record {
+      hold = left p q (tolds c.role c.longest out) (tolds (other c.role) c.longest os) (tolds (other c.role) c.longest (remove os i)) (tolds_removed (other c.role) c.longest os i) h.hold;
+      lapb = λ lapb. odd_removed (other c.role) c.longest os i (h.lapb lapb);
+    };
+    damages = λ os p out i octets visible h. record {
+      hold = left p q (tolds c.role c.longest out) (tolds (other c.role) c.longest os) (tolds (other c.role) c.longest (replaced os i octets)) (tolds_replaced (other c.role) c.longest octets visible os i) h.hold;
+      lapb = λ lapb. odd_replaced (other c.role) c.longest octets visible os i (h.lapb lapb);
+    };
+    faultless = λ o os p out ending h lapb.
+        (let none = no_fault (frame_of (other c.role) c.longest o) (machine_of c.window p) (h.lapb lapb).0 (λ carried nr is. valid o os p out h carried nr is) in
+        let one = ap by_frmr ending in omega (arith, none, one));
+  }
+    where
+      valid : (o : List ℕ) (os : List (List ℕ)) (p : Peer) (out : List (List ℕ)) → IsWith (o ∷ os) p out → (carried : Option Carried) (nr : ℕ) → said (frame_of (other c.role) c.longest o) ≡ Tells carried nr
+          → resolved p.acked nr ≤ p.sent
+      valid o os p out h carried nr is =
+          valid_front p q (tolds c.role c.longest out) (tolds (other c.role) c.longest os) (record { carried = carried; nr = nr })
+          (subst (λ (s : Said). Hold p q (tolds c.role c.longest out) (only s (tolds (other c.role) c.longest os))) is h.hold)
+
+-- ---- whatever happens
+
+abbrev JoinedHolds : Type 0 → Settings → Joined → Type 0
+JoinedHolds Odd c w = Seen c (Odd → ⊥) (IsWith Odd c w.peer) (our_end w)
+
+-- once the peer is q, with these lines
+after : (Odd : Type 0) (c : Settings) (w : Joined) (h : JoinedHolds Odd c w) (q : Peer) (out back : List (List ℕ)) → Hold q h.peer (tolds (other c.role) c.longest back) (tolds c.role c.longest out)
+    → ((Odd → ⊥) → NoneOdd (other c.role) c.longest back) → JoinedHolds Odd c (record { near = w.near; peer = q; out = out; back = back })
+after Odd c w h q out back hold lapb =
+    record {
+      peer = h.peer;
+      reached = record { hold = hold_turned q h.peer (tolds (other c.role) c.longest back) (tolds c.role c.longest out) hold; lapb = lapb };
+      fits = h.fits;
+      room = h.room;
+      told = h.told;
+      within = h.within;
+      down = h.down;
+      up = h.up;
+      fine = h.fine;
+    }
+
+-- what is answered by FRMR is sent where it may be
+sends_odd : (Odd : Type 0) (p q : Peer) (s : Said) → MaySay Odd p s q → (Odd → ⊥) → s ≡ OddSaid → ⊥
+sends_odd Odd p q s may never is = (let odd = subst (λ (x : Said). MaySay Odd p x q) is may in never odd.0)
+
+once_before : (Odd : Type 0) (c : Settings) (w v : Joined) → Happens Odd c w v → v.near.came_up ≡ false → w.near.came_up ≡ false
+once_before Odd c w v (Ours act) once =
+    let hands : HandsOne act (our_end w) (acts c act (our_end w)) = each_hands_one c c (Near act) (our_end w) in
+    noted_before act w.near.came_up (acts c act (our_end w)).near.came_up hands.came_up once
+once_before Odd c w v other once = once
+
+module _ (Odd : Type 0) (c : Settings) (w : Joined) (h : JoinedHolds Odd c w) where
+  abbrev backs : List Told
+  backs = tolds (other c.role) c.longest w.back
+
+  abbrev outs : List Told
+  outs = tolds c.role c.longest w.out
+
+  turned : Hold w.peer h.peer backs outs
+  turned = hold_turned h.peer w.peer outs backs h.reached.hold
+
+  theirs : (v : Joined) → Happens Odd c w v → v.near.came_up ≡ false → ((act : Act) → (acts c act (our_end w)).near.came_up ≡ false → JoinedHolds Odd c (with_peer w.peer (acts c act (our_end w)))) → JoinedHolds Odd c v
+  theirs v (Ours act) once ours = ours act once
+  theirs v (HandsDown packet) once ours =
+      after Odd c w h (record w.peer { given = w.peer.given ++ packet ∷ [] }) w.out w.back (handed w.peer h.peer backs outs packet turned) h.reached.lapb
+  theirs v (Sends octets q may) once ours =
+      after Odd c w h q w.out (w.back ++ octets ∷ [])
+      (subst (λ (xs : List Told). Hold q h.peer xs outs) (sym (tolds_push (other c.role) c.longest w.back octets)) (says w.peer h.peer backs outs Odd (said (frame_of (other c.role) c.longest octets)) q may turned))
+      (λ lapb. odd_push (other c.role) c.longest w.back octets (h.reached.lapb lapb) (sends_odd Odd w.peer q (said (frame_of (other c.role) c.longest octets)) may lapb))
+  theirs v (Hears octets rest q is may) once ours =
+      after Odd c w h q rest w.back
+      (makes w.peer h.peer backs (said (frame_of c.role c.longest octets)) (tolds c.role c.longest rest) q may (subst (λ (os : List (List ℕ)). Hold w.peer h.peer backs (tolds c.role c.longest os)) is turned)) h.reached.lapb
+  theirs v (Loses i) once ours =
+      after Odd c w h w.peer (remove w.out i) w.back (left w.peer h.peer backs outs (tolds c.role c.longest (remove w.out i)) (tolds_removed c.role c.longest w.out i) turned) h.reached.lapb
+  theirs v (Damages i octets visible) once ours =
+      after Odd c w h w.peer (replaced w.out i octets) w.back
+      (left w.peer h.peer backs outs (tolds c.role c.longest (replaced w.out i octets)) (tolds_replaced c.role c.longest octets visible w.out i) turned) h.reached.lapb
+
+-- the peer in the place of an end that takes
+abbrev taker : Peer → StationEnd
+taker p = record { station = fresh; down = []; up = p.taken; reasons = []; came_up = false }
+
+start_holds : (Odd : Type 0) (c : Settings) → JoinedHolds Odd c joined.start
+start_holds Odd c = record {
+  peer = fresh_peer;
+  reached = record { hold = starts; lapb = λ lapb. tt };
+  fits = inl (record { up = refl; sound = record { place_low = omega arith; place_high = omega arith; sent_high = omega arith; room = omega arith }; same = refl });
+  room = omega arith;
+  told = omega arith;
+  within = tt;
+  down = refl;
+  up = refl;
+  fine = λ lapb. tt;
+}
+
+module _ (reads : ReadsSpelled) (laws : Laws) where
+  ours : (Odd : Type 0) (c : Settings) → c.window ≤ 7 → (w : Joined) → JoinedHolds Odd c w → (act : Act) → (acts c act (our_end w)).near.came_up ≡ false → JoinedHolds Odd c (with_peer w.peer (acts c act (our_end w)))
+  ours Odd c high w h act once =
+      let k = peer_acts c high reads laws (Odd → ⊥) (IsWith Odd c w.peer) (station_may Odd c w.peer) act (our_end w) h once in
+      record { peer = k.peer; reached = k.reached; fits = k.fits; room = k.room; told = k.told; within = k.within; down = k.down; up = k.up; fine = k.fine }
+
+  reached_holds : (Odd : Type 0) (c : Settings) → c.window ≤ 7 → (w : Joined) → IsReached Odd c w → w.near.came_up ≡ false → JoinedHolds Odd c w
+  reached_holds Odd c high w at_start once = start_holds Odd c
+  reached_holds Odd c high w (goes_on v u r event) once =
+      let h = reached_holds Odd c high v r (once_before Odd c v w event once) in
+      theirs Odd c v h w event once (ours Odd c high v h)
+
+  -- ---- the claims
+
+  holds_claims : (Odd : Type 0) (c : Settings) → c.window ≤ 7 → (w : Joined) → JoinedHolds Odd c w → KeepsOrder w
+  holds_claims Odd c high w h =
+      let p = h.peer in
+      let q = w.peer in
+      let hold = h.reached.hold in
+      let k = hold.ways.from_near in
+      let way : Way (machine_of c.window p) q.taken q.told hold.there hold.here = record { high = high; room = h.room; held = k.held; acks = k.acks; late = k.late; tops = k.tops; begins = k.begins } in
+      let own : InOrder w.near (taker q) = in_order MayAsk c w.near (taker q) (machine_of c.window p) q.taken q.told hold.there hold.here h.fits way (sym h.down) refl in
+      let other_way = peers_in_order q p hold.here hold.there hold.ways.from_far in
+      let few = other_way.1 in
+      let count = ap length h.up in
+      record {
+        up = subst (λ (xs : List (List ℕ)). IsPrefix xs q.given) h.up other_way.0;
+        there = own.begins;
+        acked = own.acked;
+        idle = own.idle;
+        theirs = omega (arith, few, count);
+        all = λ all. sym h.up ∙ other_way.2 all;
+      }
+
+  pub keeps_order : WithAnyPeer KeepsOrder
+  keeps_order c low high w reached once = holds_claims (Unit {0}) c high w (reached_holds (Unit {0}) c high w reached once)
+
+  pub is_blameless : WithAnyLapbPeer FindsNoFault
+  is_blameless c low high w reached once = (reached_holds ⊥ c high w reached once).fine (λ never. never)
+
+  -- ---- two stations, each of which is a peer of the other
+
+  -- what the far end was handed down is what its peer took
+  peer_in_order : (c : Settings) → c.window ≤ 7 → (w : Stations) → IsPeer c w → w.far.came_up ≡ false → InOrder w.far w.near
+  peer_in_order c high w is once =
+      let order = holds_claims ⊥ c high (seen is.peer w) (reached_holds ⊥ c high (seen is.peer w) is.reached once) in
+      record {
+        begins = subst (λ (xs : List (List ℕ)). IsPrefix xs w.far.down) is.taken order.there;
+        acked = subst (λ (xs : List (List ℕ)). IsPrefix (take w.far.station.outgoing.acked w.far.down) xs) is.taken order.acked;
+        idle = λ idle. sym is.taken ∙ order.idle idle;
+      }
+
+  pub stations_keep_order : Always BothInOrder
+  stations_keep_order c d joined events once =
+      let w = run c d events start in
+      let both = both_peers reads laws c d joined events once in
+      (peer_in_order c joined.near_high (swapped w) both.1 once.near, peer_in_order d joined.far_high w both.0 once.far)

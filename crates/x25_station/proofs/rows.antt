@@ -1,3 +1,0 @@
--- Worked rows, by computing.
-pub mod StationRows
-pub mod TimerRows

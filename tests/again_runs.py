@@ -1,0 +1,204 @@
+"""Random traces of two ends that keep the rules of the packet layer and ask again before an answer comes, judged: none is told of.
+
+    again_runs.py [--program PROGRAM] [--from SEED] [RUNS]
+
+Both ends keep the rules of docs/PEER.md on two channels, over a link that is set up once and loses nothing, but that they send RESTART,
+CLEAR and RESET again at any moment while the answer is due, as timers T20, T22 and T23 have it. Packets wait on their way as long as chance
+has it, so one that is sent again often crosses the answer. `make judge-runs` plays 10,000.
+
+Exit status: 0; 1 where a rule or manners were told, with the seed of that run; 2 for bad words, or where there is no program.
+"""
+
+import subprocess
+import sys
+
+import runs
+from runs import ACCEPTED, CALL, CLEAR, CLEAR_CONFIRMATION, INTERRUPT, INTERRUPT_CONFIRMATION
+from runs import RESET, RESET_CONFIRMATION, RESTART, RESTART_CONFIRMATION, RR
+
+from x25tools import losses  # where runs finds it
+from x25tools.x25lines import fcs
+
+CHANNELS = (1, 2)
+STEPS = 120
+OTHERS = {">": "<", "<": ">"}
+# Where an end stands on a channel, or with a restart.
+IDLE, CALLS, WAS_CALLED, TALKS, ASKS, WAS_ASKED = "idle", "calls", "was called", "talks", "asks", "was asked"
+CONFIRMATIONS = {RESTART: RESTART_CONFIRMATION, CLEAR: CLEAR_CONFIRMATION, RESET: RESET_CONFIRMATION}
+
+
+class Channel:
+    """An end of a channel: where it stands with CLEAR, with its call and with RESET, and what it counts in the stretch."""
+
+    def __init__(self):
+        self.clear = self.reset = IDLE
+        self.call = IDLE
+        self.begin()
+
+    def begin(self):
+        self.sent = self.acked = self.taken = self.told = self.interrupts = 0
+        self.is_out = False
+
+
+class End:
+    def __init__(self, is_dce):
+        self.is_dce, self.restart = is_dce, IDLE
+        self.channels = {number: Channel() for number in CHANNELS}
+        self.way = []
+
+    # ---- what comes
+
+    def take(self):
+        """Takes the front packet that came, where it need not answer first; that is looked at channel by channel."""
+        if not self.way or self.restart == WAS_ASKED:
+            return
+        number, kind, ps, pr = self.way[0]
+        channel = self.channels.get(number)
+        if channel is not None and kind != RESTART and WAS_ASKED in (channel.clear, channel.reset):
+            return
+        self.way.pop(0)
+        if self.restart == ASKS:
+            if kind in (RESTART, RESTART_CONFIRMATION):
+                self.begin(IDLE)
+        elif kind == RESTART:
+            self.begin(WAS_ASKED)
+        elif channel is not None:
+            self.take_on(channel, kind, ps, pr)
+
+    def begin(self, restart):
+        self.restart = restart
+        self.channels = {number: Channel() for number in CHANNELS}
+
+    def take_on(self, channel, kind, ps, pr):
+        if channel.clear == ASKS:
+            if kind in (CLEAR, CLEAR_CONFIRMATION):
+                channel.__init__()
+        elif kind == CLEAR:
+            channel.__init__()
+            channel.clear = WAS_ASKED
+        elif kind == CALL and (channel.call == IDLE or (channel.call == CALLS and self.is_dce)):
+            channel.call = WAS_CALLED
+        elif kind == ACCEPTED and channel.call == CALLS:
+            channel.call = TALKS
+        elif channel.call == TALKS:
+            self.take_in(channel, kind, ps, pr)
+
+    def take_in(self, channel, kind, ps, pr):
+        if channel.reset == ASKS:
+            if kind in (RESET, RESET_CONFIRMATION):
+                channel.reset = IDLE
+                channel.begin()
+        elif kind == RESET:
+            channel.reset = WAS_ASKED
+            channel.begin()
+        elif kind == INTERRUPT:
+            channel.interrupts += 1
+        elif kind == INTERRUPT_CONFIRMATION:
+            channel.is_out = False
+        elif pr is not None:
+            channel.acked += (pr - channel.acked) % 8
+            channel.taken += ps == channel.taken % 8
+
+    # ---- what it sends: a channel, a kind, and where it has them P(S) and P(R)
+
+    def send(self, dice):
+        if self.restart == WAS_ASKED:
+            self.begin(IDLE)
+            return 0, RESTART_CONFIRMATION, None, None
+        if self.restart == ASKS or dice.chance(0.05):
+            return self.ask(dice, self, 0, RESTART)
+        number = dice.one_of(CHANNELS)
+        return self.send_on(dice, number, self.channels[number])
+
+    def ask(self, dice, stands, number, kind):
+        """The request, which goes again at times while its answer is due."""
+        name = {RESTART: "restart", CLEAR: "clear", RESET: "reset"}[kind]
+        if getattr(stands, name) == ASKS and dice.chance(0.6):
+            return None
+        setattr(stands, name, ASKS)
+        return number, kind, None, None
+
+    def send_on(self, dice, number, channel):
+        if channel.clear == WAS_ASKED:
+            channel.clear = IDLE
+            return number, CLEAR_CONFIRMATION, None, None
+        if channel.clear == ASKS or dice.chance(0.12):
+            return self.ask(dice, channel, number, CLEAR)
+        if channel.call == IDLE:
+            channel.call = CALLS
+            return number, CALL, None, None
+        if channel.call == WAS_CALLED:
+            channel.call = TALKS
+            return number, ACCEPTED, None, None
+        return self.send_in(dice, number, channel) if channel.call == TALKS else None
+
+    def send_in(self, dice, number, channel):
+        if channel.reset == WAS_ASKED:
+            channel.reset = IDLE
+            return number, RESET_CONFIRMATION, None, None
+        if channel.reset == ASKS or dice.chance(0.15):
+            return self.ask(dice, channel, number, RESET)
+        if channel.interrupts and dice.chance(0.5):
+            channel.interrupts -= 1
+            return number, INTERRUPT_CONFIRMATION, None, None
+        if not channel.is_out and dice.chance(0.2):
+            channel.is_out = True
+            return number, INTERRUPT, None, None
+        channel.told += dice.below(channel.taken - channel.told + 1)
+        if channel.sent < channel.acked + 2 and dice.chance(0.7):
+            channel.sent += 1
+            return number, 0, (channel.sent - 1) % 8, channel.told % 8
+        return number, RR, None, channel.told % 8
+
+
+def octets(number, kind, ps, pr):
+    """A packet as it is spelled."""
+    third = kind | (ps or 0) << 1 | (pr or 0) << 5
+    more = {CALL: b"\0\0", RESTART: b"\0\0", CLEAR: b"\0\0", RESET: b"\0\0", INTERRUPT: b"\1", 0: b"a"}
+    return bytes([0x10, number, third]) + more.get(kind, b"")
+
+
+def line(mark, is_command, control, information=b""):
+    frame = bytes([1 if is_command == (mark == ">") else 3, control]) + information
+    return f"{mark} {(frame + fcs(frame)).hex()}\n"
+
+
+def trace(seed):
+    """The lines of a run: SABM and UA, and each packet in an I frame that is acknowledged at once."""
+    dice = losses.Dice(seed)
+    ends = {">": End(False), "<": End(True)}
+    counts = {">": 0, "<": 0}
+    eager = dice.one_of((0.3, 0.5, 0.7))
+    yield line(">", True, 0x3F)
+    yield line("<", False, 0x73)
+    packets = [(">", (0, RESTART, None, None)), ("<", (0, RESTART_CONFIRMATION, None, None))]
+    for _ in range(STEPS):
+        mark = dice.one_of("<>")
+        if dice.chance(eager):
+            ends[mark].take()
+            continue
+        packet = ends[mark].send(dice)
+        if packet is not None:
+            ends[OTHERS[mark]].way.append(packet)
+            packets.append((mark, packet))
+    for mark, packet in packets:
+        other = OTHERS[mark]
+        yield line(mark, True, counts[other] % 8 << 5 | counts[mark] % 8 << 1, octets(*packet))
+        counts[mark] += 1
+        yield line(other, False, counts[mark] % 8 << 5 | RR)
+
+
+def told(program, seed):
+    """The lines that tell a rule, and how many frames the run has."""
+    lines = list(trace(seed))
+    done = subprocess.run([program, "judge"], input="".join(lines), stdout=subprocess.PIPE, text=True)
+    return [text for text in done.stdout.splitlines() if runs.TOLD.search(text)], len(lines)
+
+
+def main():
+    options = runs.options_of(runs.words(__doc__, 10_000))
+    return runs.tell(options, lambda seed: told(options.program, seed))
+
+
+if __name__ == "__main__":
+    sys.exit(main())

@@ -1,0 +1,4 @@
+#!/usr/bin/env python3
+from x25tools import command
+
+command.script()
