@@ -4,7 +4,7 @@
 #include "two.h"
 #include <sys/mman.h>
 
-enum { AREA = 1 << 18, AREAS = 5, KINDS = 31, ALL = 200000 /* in so many calls each kind comes */ };
+enum { AREA = 1 << 18, AREAS = 5, KINDS = 32, ALL = 200000 /* in so many calls each kind comes */ };
 
 static uint64_t state;
 static uint8_t *ends[AREAS]; /* of memory behind which none may be touched */
@@ -148,7 +148,7 @@ static uint32_t call(end_t *end, end_t *other)
     case 15:
         return draw(64) ? x25_pull(station) : x25_restart(station);
     case 16:
-        return x25_pull(station);
+        return draw(64) ? x25_probe(station) : x25_relink(station);
     case 17:
         return draw(1000) ? x25_pull(station) : x25_disconnect(station);
     default:
@@ -218,7 +218,7 @@ static void write_event(end_t *end, size_t i, const x25_event *event, const uint
     static const char *const names[KINDS] = {
         "", "", "", "linkup", "linkdown ", "restarted", "restartdone", "fault", "beside", "diagnostic", "incoming", "connected", "collided",
         "cleared", "cleardone", "wasreset", "resetdone", "message", "interrupt", "intdone", "connect", "disconnect", "restart", "call", "accept",
-        "clear", "send", "int", "reset", "ready", "notready"};
+        "clear", "send", "int", "reset", "ready", "notready", "relink"};
     static const char *const reasons[] = {"", "retries", "disc", "dm", "frmr-sent", "frmr-got", "reset", "local", "counts"};
     unsigned kind = event->kind;
     length = 0;
@@ -227,7 +227,7 @@ static void write_event(end_t *end, size_t i, const x25_event *event, const uint
     if (kind == X25_EVENT_LINK_DOWN)
         put(reasons[event->reason], 0);
     if (kind == X25_EVENT_FAULT || kind == X25_EVENT_BESIDE || (kind >= X25_EVENT_INCOMING && kind < X25_EVENT_CONNECT_ASKED)
-        || kind >= X25_EVENT_CALL_ASKED)
+        || (kind >= X25_EVENT_CALL_ASKED && kind < X25_EVENT_RELINK_ASKED))
         put(" ch=%llu", event->channel);
     if (kind == X25_EVENT_INCOMING || kind == X25_EVENT_CALL_ASKED || kind == X25_EVENT_MESSAGE || kind == X25_EVENT_SEND_ASKED
         || kind == X25_EVENT_INTERRUPT || kind == X25_EVENT_INTERRUPT_ASKED)

@@ -156,13 +156,13 @@ impl Station {
 
     /// Polls the other end of a link that is up, whether timer T1 runs or not.
     pub fn probe(&mut self) -> Result<Answer, Refused> {
-        let number = unsafe { raw::x25_probe(&mut self.slot) };
+        let number = unsafe { raw::x25_probe(self.slot.get()) };
         self.answer(number)
     }
 
     /// Sets a link that is up up anew.
     pub fn relink(&mut self) -> Result<Answer, Refused> {
-        let number = unsafe { raw::x25_relink(&mut self.slot) };
+        let number = unsafe { raw::x25_relink(self.slot.get()) };
         self.answer(number)
     }
 
