@@ -127,7 +127,8 @@ enum {
     X25_EVENT_INTERRUPT_ASKED = 27,/* stretch, user data too */
     X25_EVENT_RESET_ASKED = 28,
     X25_EVENT_READY_ASKED = 29,
-    X25_EVENT_NOT_READY_ASKED = 30
+    X25_EVENT_NOT_READY_ASKED = 30,
+    X25_EVENT_RELINK_ASKED = 31    /* no channel */
 };
 
 /* Why the link went down. */
@@ -138,7 +139,7 @@ enum {
     X25_DOWN_FRMR_SENT = 4, /* FRMR was sent */
     X25_DOWN_FRMR_GOT = 5,  /* FRMR came */
     X25_DOWN_RESET = 6,     /* the other end set it up anew */
-    X25_DOWN_LOCAL = 7,     /* this end disconnected */
+    X25_DOWN_LOCAL = 7,     /* this end disconnected, or sets it up anew */
     X25_DOWN_COUNTS = 8     /* a count of restarts, clears or resets is at its most */
 };
 
@@ -176,6 +177,11 @@ void x25_free(x25_station *station);
 uint32_t x25_connect(x25_station *station);
 /* Disconnects the link, for good. 13. */
 uint32_t x25_disconnect(x25_station *station);
+/* Polls the other end of a link that is up, whether timer T1 runs or not: T1 runs then, and the link ends where no poll is
+   answered. 9, 13. */
+uint32_t x25_probe(x25_station *station);
+/* Sets a link that is up up anew: the way out where the other end doesn't confirm a restart. 9, 12, 13. */
+uint32_t x25_relink(x25_station *station);
 /* Restarts the packet layer: each call ends. 9, 40, 10. */
 uint32_t x25_restart(x25_station *station);
 /* Calls the other end on a free channel, which is written to channel, with two addresses of at most 15 digits, as "123", and

@@ -15,7 +15,7 @@ from x25tools.decoding import MISSING_STATION, Child, let_end, pipes, say_if_unp
 from x25tools.x25lines import BadInput, FrameLine
 
 T1 = {b"off", b"on", b"start"}
-WORK = {b"idle": True, b"busy": False}
+WORK = {b"idle": True, b"due": True, b"busy": False}
 
 
 class Answer(NamedTuple):

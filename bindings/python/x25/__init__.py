@@ -80,6 +80,7 @@ class Kind(enum.IntEnum):
     RESET_ASKED = 28
     READY_ASKED = 29
     NOT_READY_ASKED = 30
+    RELINK_ASKED = 31
 
 
 class Down(enum.IntEnum):
@@ -200,6 +201,8 @@ _FUNCTIONS: dict[str, tuple[list[Any], Any]] = {
     "free": ([_STATION], None),
     "connect": ([_STATION], ctypes.c_uint32),
     "disconnect": ([_STATION], ctypes.c_uint32),
+    "probe": ([_STATION], ctypes.c_uint32),
+    "relink": ([_STATION], ctypes.c_uint32),
     "restart": ([_STATION], ctypes.c_uint32),
     "call": ([_STATION, *_OCTETS * 3, _Sizes, ctypes.POINTER(ctypes.c_uint16)], ctypes.c_uint32),
     "accept": ([_STATION, ctypes.c_uint16, _Sizes], ctypes.c_uint32),
@@ -305,6 +308,14 @@ class Station:
     def disconnect(self) -> Answer:
         """Disconnects the link, for good."""
         return self._call(self._library.x25_disconnect)
+
+    def probe(self) -> Answer:
+        """Polls the other end of a link that is up, whether timer T1 runs or not. 9, 13."""
+        return self._call(self._library.x25_probe)
+
+    def relink(self) -> Answer:
+        """Sets a link that is up up anew. 9, 12, 13."""
+        return self._call(self._library.x25_relink)
 
     def restart(self) -> Answer:
         """Restarts the packet layer: each call ends."""

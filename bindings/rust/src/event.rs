@@ -186,6 +186,7 @@ pub enum Event {
     NotReadyAsked {
         channel: u16,
     },
+    RelinkAsked,
 }
 
 impl Event {
@@ -282,7 +283,8 @@ impl Event {
             },
             28 => Event::ResetAsked { channel },
             29 => Event::ReadyAsked { channel },
-            _ => Event::NotReadyAsked { channel },
+            30 => Event::NotReadyAsked { channel },
+            _ => Event::RelinkAsked,
         }
     }
 }

@@ -153,6 +153,18 @@ impl Station {
         self.answer(number)
     }
 
+    /// Polls the other end of a link that is up, whether timer T1 runs or not.
+    pub fn probe(&mut self) -> Result<Answer, Refused> {
+        let number = unsafe { raw::x25_probe(&mut self.slot) };
+        self.answer(number)
+    }
+
+    /// Sets a link that is up up anew.
+    pub fn relink(&mut self) -> Result<Answer, Refused> {
+        let number = unsafe { raw::x25_relink(&mut self.slot) };
+        self.answer(number)
+    }
+
     /// Restarts the packet layer: each call ends.
     pub fn restart(&mut self) -> Result<Answer, Refused> {
         let number = unsafe { raw::x25_restart(&mut self.slot) };

@@ -62,6 +62,8 @@ extern "C" {
     pub fn x25_free(slot: *mut Slot);
     pub fn x25_connect(slot: *mut Slot) -> u32;
     pub fn x25_disconnect(slot: *mut Slot) -> u32;
+    pub fn x25_probe(slot: *mut Slot) -> u32;
+    pub fn x25_relink(slot: *mut Slot) -> u32;
     pub fn x25_restart(slot: *mut Slot) -> u32;
     pub fn x25_call(
         slot: *mut Slot,

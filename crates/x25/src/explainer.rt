@@ -11,7 +11,7 @@ struct Form {
 }
 
 /// The lines of a user, whose second word says what he asks for.
-static OF_A_USER: [Form; 12] = [
+static OF_A_USER: [Form; 14] = [
     Form {
         word: "call",
         form: "END call CALLED CALLING HEX [SIZE SIZE WINDOW WINDOW]",
@@ -59,6 +59,14 @@ static OF_A_USER: [Form; 12] = [
     Form {
         word: "disconnect",
         form: "END disconnect",
+    },
+    Form {
+        word: "probe",
+        form: "END probe",
+    },
+    Form {
+        word: "relink",
+        form: "END relink",
     },
 ];
 

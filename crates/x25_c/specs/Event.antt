@@ -8,7 +8,8 @@ use Rattle.x25_circuit.specs.Calling.{Request, Calls, Accepts, Clears, Sends, In
 use Rattle.x25_circuit.specs.Calling.{SaysNotReady}
 use Rattle.x25_handshakes.specs.laws.Names.{Name}
 use Rattle.x25_layer.specs.laws.Transcript.{Said, Asked, Told}
-use Rattle.x25_station.specs.Entry.{StationEntry, of_channel, restart_asked, connect_asked, disconnect_asked, link_up}
+use Rattle.x25_station.specs.Entry.{StationEntry, of_channel, restart_asked, connect_asked, disconnect_asked}
+use Rattle.x25_station.specs.Entry.{relink_asked, link_up}
 use Rattle.x25_station.specs.Entry.{link_down, was_restarted, restart_confirmed, at_fault, came_beside, was_diagnosed}
 use Rattle.x25_c.specs.declared.event.Event.{Event}
 use Rattle.x25_c.specs.Sizes.{no_sizes, sizes_told}
@@ -90,6 +91,7 @@ entry_event (of_channel e) = said_event e.channel e.name e.said
 entry_event restart_asked = kind_alone 22
 entry_event connect_asked = kind_alone 20
 entry_event disconnect_asked = kind_alone 21
+entry_event relink_asked = kind_alone 31
 entry_event link_up = kind_alone 3
 entry_event (link_down reason) = record (kind_alone 4) { reason = reason_number reason }
 entry_event (was_restarted cause diagnostic) = for_reason cause diagnostic (kind_alone 5)

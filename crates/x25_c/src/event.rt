@@ -71,6 +71,8 @@ const READY_ASKED: u16 = 29;
 
 const NOT_READY_ASKED: u16 = 30;
 
+const RELINK_ASKED: u16 = 31;
+
 /// An event: its kind, and what that has; `count` is how many octets of a frame or of user data there are.
 #[repr(C)]
 #[derive(Clone, Copy)]
@@ -215,6 +217,7 @@ impl Event {
             Entry::RestartAsked => Event::alone(RESTART_ASKED),
             Entry::ConnectAsked => Event::alone(CONNECT_ASKED),
             Entry::DisconnectAsked => Event::alone(DISCONNECT_ASKED),
+            Entry::RelinkAsked => Event::alone(RELINK_ASKED),
             Entry::LinkUp => Event::alone(LINK_UP),
             Entry::LinkDown(reason) => Event {
                 reason: number_of_reason(*reason),

@@ -24,7 +24,8 @@ ghost use Rattle.x25_circuit.specs.Calling.{Accepts, Clears, Interrupts, Resets,
 ghost use Rattle.x25_circuit.specs.Params.{default_params, in_brief};
 ghost use Rattle.x25_layer.specs.Calls.{Asks as OnChannel, Dials, PullsAll, Restarts};
 ghost use Rattle.x25_script.specs.Reading.{command_in};
-ghost use Rattle.x25_station.specs.Command.{Connects, Disconnects, Requests, answer_in_brief, command_of};
+ghost use Rattle.x25_station.specs.Command.{Connects, Disconnects, Probes, Relinks, Requests, answer_in_brief};
+ghost use Rattle.x25_station.specs.Command.{command_of};
 ghost use Rattle.x25_station.specs.Config.{Settings as StationSettings};
 ghost use Rattle.x25_station.specs.Station.{Station as State};
 ghost use Rattle.x25_station.specs.Station.Told.{is_idle, stretch};
@@ -146,6 +147,26 @@ pub extern "C" fn x25_disconnect(alloc: Global, slot: &mut Slot) -> u32
     ensures { Answers slot.old.handle.held slot.new.handle.held result (Asks Disconnects) }
 {
     ask(alloc, slot, Cmd::Disconnect)
+}
+
+/// Polls the other end, whether timer T1 runs or not.
+///
+/// 16 where the slot holds no station, else as `Station::command` of `Cmd::Probe`. The station is as before then.
+#[unsafe(no_mangle)]
+pub extern "C" fn x25_probe(alloc: Global, slot: &mut Slot) -> u32
+    ensures { Answers slot.old.handle.held slot.new.handle.held result (Asks Probes) }
+{
+    ask(alloc, slot, Cmd::Probe)
+}
+
+/// Sets a link that is up up anew.
+///
+/// 16 where the slot holds no station, else as `Station::command` of `Cmd::Relink`. The station is as before then.
+#[unsafe(no_mangle)]
+pub extern "C" fn x25_relink(alloc: Global, slot: &mut Slot) -> u32
+    ensures { Answers slot.old.handle.held slot.new.handle.held result (Asks Relinks) }
+{
+    ask(alloc, slot, Cmd::Relink)
 }
 
 /// Restarts the packet layer: all calls are cleared.

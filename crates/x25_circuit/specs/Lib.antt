@@ -2,6 +2,7 @@ pub mod Error
 pub mod Params
 pub mod Message
 pub mod Circuit
+pub mod Awaits
 pub mod Notice
 pub mod Hearing
 pub mod Calling

@@ -1,5 +1,6 @@
 ghost use Rattle.std.specs.Prelude.{◌≡◌, ℕ, ◌+◌, ◌<◌, ◌≤◌, false, length, min, max, IfOk, IfErr, OnOk, OnErr};
 ghost use Rattle.x25_circuit.specs.declared.state.State.{State};
+ghost use Rattle.x25_circuit.specs.Awaits.{awaited_in};
 ghost use Rattle.x25_circuit.specs.Message.{no_part, joining};
 ghost use Rattle.x25_circuit.specs.Params.{default_params};
 ghost use Rattle.x25_circuit.specs.Calling.{pulled, pulls_nothing};
@@ -7,6 +8,7 @@ ghost use Rattle.x25_circuit.specs.Circuit.{Settings, begun, entered, forgotten,
 ghost use Rattle.x25_circuit.specs.Circuit.{message_room, outgoing, incoming};
 ghost use Rattle.x25_circuit.specs.Circuit.{Circuit as Channel};
 
+use crate::awaits::Awaits;
 use crate::error::CircuitError;
 use crate::params::{FlowControl, Params};
 use crate::queue::PLACES;
@@ -130,6 +132,18 @@ impl Circuit {
         ensures { (c : Settings) (x : Channel) → FitsCircuit c self.now x → result ≡ is_open x }
     {
         self.state == State::Open
+    }
+
+    /// The answer that this end awaits.
+    pub fn awaits(&self) -> Awaits
+        ensures { (c : Settings) (x : Channel) → FitsCircuit c self.now x → result ≡ awaited_in x.state }
+    {
+        match self.state {
+            State::Free | State::Arriving | State::Open => Awaits::Nothing,
+            State::Calling | State::Collision => Awaits::Acceptance,
+            State::Resetting => Awaits::ResetConfirmation,
+            State::Clearing => Awaits::ClearConfirmation,
+        }
     }
 
     /// How many messages wait, at most 8. Each has at most 65,535 octets.

@@ -1,6 +1,7 @@
 //! One logical channel of X.25 at one end. ITU-T X.25 (10/96), sections 4 and Annex C.
 #![tactic(auto)]
 
+mod awaits;
 mod calling;
 mod circuit;
 mod clearing;
@@ -25,6 +26,7 @@ mod talking;
 mod terms;
 mod transfer;
 
+pub use awaits::Awaits;
 pub use circuit::Circuit;
 pub use error::CircuitError;
 pub use law::{messages_are_carried, values_are_agreed, what_waits_is_pulled};

@@ -3,9 +3,9 @@ use Rattle.std.specs.Prelude.{ℕ, List, [], unwrap_or}
 use Rattle.x25_circuit.specs.Params.{in_brief, default_params}
 use Rattle.x25_circuit.specs.Calling.{Accepts, Clears, Sends, Interrupts, Resets, SaysReady, SaysNotReady}
 use Rattle.x25_layer.specs.Calls.{Asks, Dials, Restarts, PullsAll}
-use Rattle.x25_station.specs.Command.{Command, Requests, Connects, Disconnects, answer_in_brief}
+use Rattle.x25_station.specs.Command.{Command, Requests, Connects, Disconnects, Probes, Relinks, answer_in_brief}
 use Rattle.x25_script.specs.ScriptLine.{PlainCommand, call, accept, clear, send, interrupt, reset, ready, not_ready}
-use Rattle.x25_script.specs.ScriptLine.{restart, pull, connect, disconnect}
+use Rattle.x25_script.specs.ScriptLine.{restart, pull, connect, disconnect, probe, relink}
 
 -- A call without packet sizes and windows proposes the default, and an acceptance without them accepts what was
 -- proposed.
@@ -23,6 +23,8 @@ command_asked restart = Requests Restarts
 command_asked pull = Requests PullsAll
 command_asked connect = Connects
 command_asked disconnect = Disconnects
+command_asked probe = Probes
+command_asked relink = Relinks
 
 -- the user data of a command, none where it has no such field
 abbrev pub user_in : PlainCommand → List ℕ

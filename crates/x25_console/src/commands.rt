@@ -100,5 +100,7 @@ pub fn station_command<'a>(command: &Command<'a>, user: &'a [u8]) -> Cmd<'a>
         Command::Pull => Cmd::Pull,
         Command::Connect => Cmd::Connect,
         Command::Disconnect => Cmd::Disconnect,
+        Command::Probe => Cmd::Probe,
+        Command::Relink => Cmd::Relink,
     }
 }

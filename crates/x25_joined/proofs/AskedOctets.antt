@@ -3,7 +3,7 @@ use Rattle.std.proofs.Common.{◌≡◌, ℕ, nat_le, Bool, true, false, cond, L
 use Rattle.x25_bits.specs.declared.role.Role.{Role}
 use Rattle.x25_bits.specs.declared.role.Role.TheVariants.{Dte, Dce}
 use Rattle.x25_station.specs.laws.TimerLaw.{Event, Asks, Fires}
-use Rattle.x25_script.specs.ScriptLine.{PlainCommand, call, accept, clear, send, interrupt, reset, ready, not_ready, restart, pull, connect, disconnect, PlainLine, command, t1, deliver, lose, damage, drain, heal}
+use Rattle.x25_script.specs.ScriptLine.{PlainCommand, call, accept, clear, send, interrupt, reset, ready, not_ready, restart, pull, connect, disconnect, probe, relink, PlainLine, command, t1, deliver, lose, damage, drain, heal}
 use Rattle.x25_script.specs.Reading.{line_in}
 use Rattle.x25_script.specs.laws.ReadingLaw.{AsksInOctets, IsInOctets, ReadsOctets}
 use Rattle.x25_decode.specs.Decoding.{sent_in}
@@ -32,6 +32,8 @@ handed restart h = tt
 handed pull h = tt
 handed connect h = tt
 handed disconnect h = tt
+handed probe h = tt
+handed relink h = tt
 
 only_octets : (b : Bool) (event : Event) → AsksOctets (Some event) → AsksOctets (cond b (Some event) None)
 only_octets true event h = h

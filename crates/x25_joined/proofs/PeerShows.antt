@@ -8,7 +8,7 @@ use Rattle.x25_frame.specs.Spelling.{spelling_of}
 use Rattle.x25_link.specs.declared.error.LinkError.{LinkError}
 use Rattle.x25_link.specs.Station.{is_up}
 use Rattle.x25_link.specs.Hearing.{Step as LinkStep}
-use Rattle.x25_link.specs.Link.{take_step, timer_refusal, timer_step, connect_refusal, connect_step, disconnect_refusal, disconnect_step, abandon_step}
+use Rattle.x25_link.specs.Link.{take_step, timer_refusal, timer_step, connect_refusal, connect_step, disconnect_refusal, disconnect_step, abandon_step, probe_refusal, relink_refusal, relink_step}
 use Rattle.x25_line.specs.laws.Sessions.{Entry, Meeting, sent_in, begun_by}
 use Rattle.x25_layer.specs.Calls.{PullsAll}
 use Rattle.x25_script.specs.laws.ReadingLaw.{ReadsOctets}
@@ -16,8 +16,8 @@ use Rattle.x25_io.specs.Lines.{IsOpen}
 use Rattle.x25_station.specs.declared.config.Cfg.{Cfg}
 use Rattle.x25_station.specs.declared.error.StationError.TheVariants as error
 use Rattle.x25_station.specs.Command as command
-use Rattle.x25_station.specs.Command.{Command, Requests, Connects, Disconnects}
-use Rattle.x25_station.specs.Entry.{StationEntry, connect_asked, disconnect_asked}
+use Rattle.x25_station.specs.Command.{Command, Requests, Connects, Disconnects, Probes, Relinks}
+use Rattle.x25_station.specs.Entry.{StationEntry, connect_asked, disconnect_asked, relink_asked}
 use Rattle.x25_station.specs.Config.{Settings, settings_from, config_refusal, link_settings}
 use Rattle.x25_station.specs.Station.{Station, new_station}
 use Rattle.x25_station.specs.Step.{Step, Outcome, Did, Refused, unless, led_by, follows, abandons, commands, fires}
@@ -227,6 +227,16 @@ module _ (c : Settings) (p : Program) (k : Kept c p) where
       let did = unless_did (disconnect_refusal s.link.phase) whole step is in
       link_happens line none (Asks Disconnects) asks (disconnect_asked ∷ []) refl p.back p.met l (ap (with_pulls c) (is ∙ ap (λ (x : Step). Did x) (sym did.1))) (beside.Disconnects did.0)
 
+  commanded line Probes (Did step) none asks octets is =
+      let l : LinkStep = timer_step (link_settings c) s.link in
+      let did = unless_did (probe_refusal s.link.phase) (follows c s.layer l) step is in
+      link_happens line none (Asks Probes) asks [] refl p.back p.met l (ap (with_pulls c) (is ∙ ap (λ (x : Step). Did x) (sym did.1))) (beside.Probes did.0)
+  commanded line Relinks (Did step) none asks octets is =
+      let l : LinkStep = relink_step (link_settings c) s.link in
+      let whole : Step = led_by (relink_asked ∷ []) (follows c s.layer l) in
+      let did = unless_did (relink_refusal s.link.phase) whole step is in
+      link_happens line none (Asks Relinks) asks (relink_asked ∷ []) refl p.back p.met l (ap (with_pulls c) (is ∙ ap (λ (x : Step). Did x) (sym did.1))) (beside.Relinks did.0)
+
   fired : (line : List ℕ) (o : Outcome) → IsOpen line → event_in c.role line ≡ Some Fires → IsInTime c p (Some Fires) → fires c s ≡ o → Kept c (reads c p (line ++ 10 ∷ []) p.back p.met)
   fired line (Refused e) none asks due is = nothing_happens line none (line_refused c s line Fires e asks is)
   fired line (Did step) none asks due is =
@@ -276,6 +286,8 @@ module _ (c : Settings) (p : Program) (k : Kept c p) where
   elsewhere v (beside.Asks request step octets is) there = absurd there
   elsewhere v (beside.Connects none) there = absurd there
   elsewhere v (beside.Disconnects none) there = absurd there
+  elsewhere v (beside.Probes none) there = absurd there
+  elsewhere v (beside.Relinks none) there = absurd there
   elsewhere v (beside.Fires none due) there = absurd there
   elsewhere v (beside.Receives e rest front free) there = absurd there
   elsewhere v (beside.Abandons e rest front full) there = absurd there

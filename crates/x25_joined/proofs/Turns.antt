@@ -19,7 +19,7 @@ entries-append (enters e ∷ xs) ys = ap (λ (es : List StationEntry). e ∷ es)
 entries-append (sends octets ∷ xs) ys = entries-append xs ys
 entries-append (reads_nothing ∷ xs) ys = entries-append xs ys
 entries-append (refuses error ∷ xs) ys = entries-append xs ys
-entries-append (marks t is_idle ∷ xs) ys = entries-append xs ys
+entries-append (marks t is_idle is_due ∷ xs) ys = entries-append xs ys
 
 pub frames-append : (xs ys : List Saying) → frames_in (xs ++ ys) ≡ frames_in xs ++ frames_in ys
 frames-append [] ys = refl
@@ -27,7 +27,7 @@ frames-append (enters e ∷ xs) ys = frames-append xs ys
 frames-append (sends octets ∷ xs) ys = ap (λ (fs : List (List ℕ)). octets ∷ fs) (frames-append xs ys)
 frames-append (reads_nothing ∷ xs) ys = frames-append xs ys
 frames-append (refuses error ∷ xs) ys = frames-append xs ys
-frames-append (marks t is_idle ∷ xs) ys = frames-append xs ys
+frames-append (marks t is_idle is_due ∷ xs) ys = frames-append xs ys
 
 entries_entered : (es : List StationEntry) → entries_in (map enters es) ≡ es
 entries_entered [] = refl

@@ -14,7 +14,9 @@ use Rattle.x25_layer.specs.declared.layer.Layer as code
 use Rattle.x25_layer.specs.Layer.{LayerSettings, Layer, is_channel}
 use Rattle.x25_handshakes.specs.laws.Names.{Name}
 use Rattle.x25_layer.specs.laws.Transcript.{name_of}
-use Rattle.x25_layer.specs.code.FitsLayer.{FitsCircuits, FitsLayer, name_at, params_at, is_open_at, waits_up_to, is_most, full_up_to}
+use Rattle.x25_layer.specs.code.FitsLayer.{FitsCircuits, FitsLayer, name_at, params_at, is_open_at, awaited_at, awaited_up_to, waits_up_to, is_most, full_up_to}
+use Rattle.x25_circuit.specs.Awaits.{awaited_in, is_any}
+use Rattle.x25_circuit.specs.declared.awaits.Awaits.TheVariants.{Nothing}
 use Rattle.x25_layer.proofs.SettleLemmas.{not_same}
 
 not_false : true ≡ false → ⊥
@@ -96,6 +98,11 @@ opened c v l h b fits is =
     let same : is_channel c.channels h ≡ b = subst (λ (n : ℕ). is_channel n h ≡ b) fits.channels is in
     sym (ap (λ (a : Bool). if a then is_open (l.circuits h) else false) same)
 
+pub awaited : (c : LayerSettings) (v : code.Layer) (l : Layer) (h : ℕ) (b : Bool) → FitsLayer c v l → is_channel (length v.circuits.items) h ≡ b → (if b then awaited_in (l.circuits h).state else Nothing) ≡ awaited_at c l h
+awaited c v l h b fits is =
+    let same : is_channel c.channels h ≡ b = subst (λ (n : ℕ). is_channel n h ≡ b) fits.channels is in
+    sym (ap (λ (a : Bool). if a then awaited_in (l.circuits h).state else Nothing) same)
+
 -- The circuits below a place have changed, and the others are as they were.
 pub record ChangedBelow (c : LayerSettings) (n : ℕ) (vs : List circuit_code.Circuit) (f g : ℕ → Circuit) : Type 0 where
   pub below : (k : ℕ) (v : circuit_code.Circuit) → k < n → slice_get vs k ≡ Some v → FitsCircuit c.circuit v (g (suc k))
@@ -127,6 +134,12 @@ pub waits_more : (c : LayerSettings) (f : ℕ → Circuit) (n count more : ℕ) 
 waits_more c f n count more e₁ e₂ =
     let step : waits_up_to f (suc n) ≡ waits_up_to f (n + 1) = ap (λ (m : ℕ). waits_up_to f m) (let e : suc n ≡ n + 1 = omega arith in e) in
     ap (λ (a : ℕ). a + more) e₁ ∙ ap (λ (a : ℕ). waits_up_to f n + a) e₂ ∙ step
+
+-- on how many channels an answer is awaited, with one more
+pub awaited_more : (f : ℕ → Circuit) (n count more : ℕ) → count ≡ awaited_up_to f n → more ≡ (if is_any (awaited_in (f (suc n)).state) then 1 else 0) → count + more ≡ awaited_up_to f (n + 1)
+awaited_more f n count more e₁ e₂ =
+    let step : awaited_up_to f (suc n) ≡ awaited_up_to f (n + 1) = ap (λ (m : ℕ). awaited_up_to f m) (let e : suc n ≡ n + 1 = omega arith in e) in
+    ap (λ (a : ℕ). a + more) e₁ ∙ ap (λ (a : ℕ). awaited_up_to f n + a) e₂ ∙ step
 
 -- what is found at the place of a channel
 pub fits_found : (c : LayerSettings) (v : code.Layer) (l : Layer) (h : ℕ) (x : circuit_code.Circuit) → FitsLayer c v l → 1 ≤ h → slice_get v.circuits.items (h - 1) ≡ Some x → FitsCircuit c.circuit x (l.circuits h)

@@ -1,5 +1,6 @@
-ghost use Rattle.std.specs.Prelude.{◌≡◌, ℕ, ◌-◌, ◌^◌, ◌<◌, ◌≤◌, ◌↔◌, length, true, false, Some, IfOk, IfErr, IfSome};
-ghost use Rattle.std.specs.Prelude.{IfNone, IsErrOf, slice_get};
+ghost use Rattle.std.specs.Prelude.{◌≡◌, ℕ, ◌-◌, ◌^◌, ◌<◌, ◌≤◌, ◌↔◌, length, if◌then◌else◌, true, false, Some, IfOk};
+ghost use Rattle.std.specs.Prelude.{IfErr};
+ghost use Rattle.std.specs.Prelude.{IfSome, IfNone, IsErrOf, slice_get};
 ghost use Rattle.x25_layer.specs.code.Counts.{HaveCountsLeft};
 ghost use Rattle.x25_layer.specs.code.Waiting.{NoneWaits};
 
@@ -9,10 +10,18 @@ use crate::putting::PacketMemory;
 use crate::stretch::Stretch;
 use std::alloc::Global;
 use x25_bits::{Promise, Role};
-use x25_circuit::{Circuit, Params};
+use x25_circuit::{Awaits, Circuit, Params};
 
 /// The most channels of a layer (profile).
 pub const CHANNELS: usize = 16;
+
+// 1 where it is so.
+fn one_if(is_so: bool) -> usize
+    ensures value { result ≡ (if is_so then 1 else 0) }
+    ensures few { result ≤ 1 }
+{
+    if is_so { 1 } else { 0 }
+}
 
 /// The packet layer of one end, DTE or DCE: its logical channels, numbered from 1, over a link that keeps order.
 ///
@@ -46,6 +55,8 @@ impl Layer {
     ghost use Rattle.x25_layer.specs.Layer.{Layer as State};
     ghost use Rattle.x25_layer.specs.Room.{HasRoom};
     ghost use Rattle.x25_layer.specs.code.FitsLayer.{FitsLayer, plain_stretch, name_at, params_at, is_open_at};
+    ghost use Rattle.x25_layer.specs.code.FitsLayer.{awaited_at};
+    ghost use Rattle.x25_layer.specs.code.FitsLayer.{awaited_up_to};
     ghost use Rattle.x25_layer.specs.code.FitsLayer.{waits_up_to, is_full, KeepsOn};
     ghost use Rattle.x25_layer.specs.Layer.InPart.{joined_at};
     ghost use Rattle.x25_layer.specs.Layer.MessageRoom.{room_at};
@@ -113,6 +124,36 @@ impl Layer {
             Some(circuit) => circuit.is_open(),
             None => false,
         }
+    }
+
+    /// The answer that this end awaits on a channel; none where it isn't configured, while a restart is under way, and
+    /// where the link isn't up.
+    pub fn awaits(&self, channel: u16) -> Awaits
+        ensures { (c : LayerSettings) (l : State) → FitsLayer c self.now l → result ≡ awaited_at c l channel }
+    {
+        match self.circuit(channel) {
+            Some(circuit) => circuit.awaits(),
+            None => Awaits::Nothing,
+        }
+    }
+
+    /// On how many channels an answer is awaited.
+    pub fn awaited(&self) -> usize
+        ensures { (c : LayerSettings) (l : State) → FitsLayer c self.now l
+            → result ≡ awaited_up_to l.circuits c.channels }
+    {
+        let mut awaited = 0;
+        for circuit in self.circuits.iter() {
+            awaited += one_if(circuit.awaits().is_any());
+        }
+        awaited
+    }
+
+    /// Whether a restart is under way: this end awaits that its RESTART be confirmed.
+    pub fn is_restarting(&self) -> bool
+        ensures { (c : LayerSettings) (l : State) → FitsLayer c self.now l → result ≡ l.restarting }
+    {
+        self.restarting
     }
 
     /// How many messages wait in all circuits.

@@ -27,4 +27,4 @@ pub use layer::Layer;
 pub use report::Report;
 pub use stretch::Stretch;
 pub use x25_bits::Role;
-pub use x25_circuit::{Params, Proposal};
+pub use x25_circuit::{Awaits, Params, Proposal};

@@ -11,7 +11,7 @@ use Rattle.x25_link.specs.declared.phase.Reason.TheVariants.{Retries, Counts}
 use Rattle.x25_frame.specs.Spelling.{spelling_of}
 use Rattle.x25_link.specs.Station.{Settings, LinkStation, Side, with_near, is_busy, wanted, next_frame, sends, ready, send_next, may_send, pumped, owes_ready, ended}
 use Rattle.x25_link.specs.Hearing.{Step, quiet, leaves, other, is_valid, acknowledged, is_taken, takes, answers, passes_over, hears_info, peer_is, goes_back, polls, numbered, rejects, reject_of, row_of_frame, row_of}
-use Rattle.x25_link.specs.Link.{alone, hears, when_down, when_waiting, asks_again, fires, timer_step, connects, connect_step, disconnects, disconnect_step, abandon_step}
+use Rattle.x25_link.specs.Link.{alone, hears, when_down, when_waiting, asks_again, fires, timer_step, connects, connect_step, disconnects, disconnect_step, abandon_step, relinks, relink_step}
 use Rattle.x25_link.specs.code.Fits.{Made}
 use Rattle.x25_link.specs.code.Bounds.{TakeSendsFew, PutSendsOne}
 use Rattle.x25_link.proofs.OutgoingLemmas.{sent_length}
@@ -171,6 +171,9 @@ disconnect_sends_few c s = let step : Step = disconnects (alone s) in closed_few
 
 pub abandon_sends_few : (c : Settings) (s : LinkStation) → length (abandon_step c s).side.out ≤ 9
 abandon_sends_few c s = let step : Step = leaves Counts (alone s) in closed_few c.window step.side (nothing step.side refl)
+
+pub relink_sends_few : (c : Settings) (s : LinkStation) → length (relink_step c s).side.out ≤ 9
+relink_sends_few c s = let step : Step = relinks (alone s) in closed_few c.window step.side (first (sabm true) [] refl)
 
 -- ---- timer T1
 

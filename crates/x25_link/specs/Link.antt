@@ -143,10 +143,36 @@ fires c t =
 abbrev pub timer_step : Settings → LinkStation → Step
 timer_step c s = closed_by c.window (fires c (alone s))
 
+-- ---- probe: a link that is up is polled, as by timer T1 whether that runs or not (profile)
+
+abbrev pub probe_refusal : Phase → Option LinkError
+probe_refusal Down = Some error.NotUp
+probe_refusal Waiting = Some error.NotUp
+probe_refusal Up = None
+probe_refusal Closed = Some error.Closed
+
 -- ---- abandon: Up is left without a frame (profile)
 
 abbrev pub abandon_step : Settings → LinkStation → Step
 abandon_step c s = closed_by c.window (leaves Counts (alone s))
+
+-- ---- relink: Up is left without a frame, and the link is set up anew (profile)
+
+abbrev pub relink_refusal : Phase → Option LinkError
+relink_refusal Down = Some error.NotUp
+relink_refusal Waiting = Some error.AlreadyWaiting
+relink_refusal Up = None
+relink_refusal Closed = Some error.Closed
+
+abbrev pub relinks : Side → Step
+relinks t = record {
+  side = (connects (leaves Local t).side).side;
+  packet = None;
+  notes = record { down = Some Local; up = false };
+}
+
+abbrev pub relink_step : Settings → LinkStation → Step
+relink_step c s = closed_by c.window (relinks (alone s))
 
 -- ---- what is told
 

@@ -4,7 +4,7 @@ ghost use Rattle.x25_link.specs.Station.{Settings, LinkStation as StationState, 
 ghost use Rattle.x25_link.specs.code.Fits.{FitsStation, FitsSide, Leads, Hears};
 ghost use Rattle.x25_link.specs.Hearing.{quiet};
 ghost use Rattle.x25_link.specs.Link.{alone, puts, connects, disconnects, fires, timer_runs, is_idle, asks_again};
-ghost use Rattle.x25_link.specs.Link.{closed_by};
+ghost use Rattle.x25_link.specs.Link.{closed_by, relinks};
 
 use crate::heard::Heard;
 use crate::octets::Octets;
@@ -66,6 +66,18 @@ impl LinkStation {
         self.clear(Phase::Closed);
         self.send(&Frame::Disc { p: true }, out);
         Heard::noted(down, false)
+    }
+
+    /// Leaves Up without a frame, and begins to set the link up anew.
+    pub fn relink<'a>(&mut self, out: &mut Outbox) -> Heard<'a>
+        requires { 0 < out.old.short }
+        ensures step { Hears self.old self.new out.old out.new result (λ c t. relinks t) }
+        ensures long { out.new.long ≡ out.old.long }
+        ensures places { out.new.places ≡ out.old.places }
+    {
+        let heard = self.leave(Reason::Local);
+        self.connect(out);
+        heard
     }
 
     /// Whether timer T1 runs.

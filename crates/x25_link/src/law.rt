@@ -1,12 +1,13 @@
 ghost use Rattle.x25_link.specs.code.Bounds.{FewWait, FewStand, WindowIsSmall, TakeSendsFew, PutSendsOne};
 ghost use Rattle.x25_link.specs.laws.NoteLaw.{TakeTells, TakeContinues, TakeHandsUp, TimerTells, TimerContinues};
-ghost use Rattle.x25_link.specs.laws.NoteLaw.{PutTells, ConnectTells, DisconnectTells, AbandonTells};
+ghost use Rattle.x25_link.specs.laws.NoteLaw.{PutTells, ConnectTells, DisconnectTells, AbandonTells, RelinkTells};
 ghost use Rattle.x25_link.specs.laws.RestLaw.{TakeSaysAll, PutSaysAll, TimerSaysAll, ConnectSaysAll, DisconnectSaysAll};
 ghost use Rattle.x25_link.specs.laws.RestLaw.{AbandonSaysAll, NoTimerIsIdle, AllHeardIsRest, RestIsAllHeard};
 ghost use Rattle.x25_link.specs.laws.AnswerLaw.{TimerAsks, PollIsAnswered, FinalEndsRecovery, ReadyIsHeard};
 ghost use Rattle.x25_link.specs.laws.AnswerLaw.{RejGoesBack, WantedIsTaken, OtherIsPassedOver, OutDeclines, DmLeavesUp};
 ghost use Rattle.x25_link.specs.laws.BusyLaw.{TakeSaysBusy, PutSaysBusy, TimerSaysBusy};
 ghost use Rattle.x25_link.specs.laws.SetUp.{TakeWaits, TakeSetsUp, ConnectWaits, TimerWaits, DisconnectWaits};
+ghost use Rattle.x25_link.specs.laws.SetUp.{RelinkIsTwoSteps};
 ghost use Rattle.x25_link.specs.laws.WindowLaw.{TakeFollows, PutFollows, TimerFollows, DisconnectFollows};
 ghost use Rattle.x25_link.specs.laws.WindowLaw.{AbandonFollows, TakeStaysOut, DisconnectStaysOut};
 
@@ -23,12 +24,14 @@ pub fn follows_the_window()
 {}
 
 /// What a station does in set-up: at connect, at a SABM in Down and in Up, and at all that comes while UA is awaited.
+/// Relink is abandon, and then connect.
 pub fn sets_up_by_rows()
     ensures waits { TakeWaits }
     ensures sets_up { TakeSetsUp }
     ensures connects { ConnectWaits }
     ensures timer { TimerWaits }
     ensures disconnects { DisconnectWaits }
+    ensures relinks { RelinkIsTwoSteps }
 {}
 
 /// What the notes of a step say of the station after it: after LinkUp it begins afresh, after LinkDown alone it isn't
@@ -44,6 +47,7 @@ pub fn notes_what_changes()
     ensures connect { ConnectTells }
     ensures disconnect { DisconnectTells }
     ensures abandon { AbandonTells }
+    ensures relink { RelinkTells }
 {}
 
 /// What a link holds at most: 256 packets that wait, and k, at most 7, that were sent and aren't acknowledged. Octets

@@ -5,7 +5,7 @@ ghost use Rattle.x25_frame.specs.Spelling.{spelling_of};
 ghost use Rattle.x25_link.specs.Station.{Settings, LinkStation as StationState, awaits_ua, with_nothing};
 ghost use Rattle.x25_link.specs.Link.{Refuses, config_refusal, take_step, put_refusal, put_step, connect_refusal};
 ghost use Rattle.x25_link.specs.Link.{connect_step, disconnect_refusal, disconnect_step, timer_refusal, timer_runs};
-ghost use Rattle.x25_link.specs.Link.{timer_step, abandon_step, is_idle};
+ghost use Rattle.x25_link.specs.Link.{timer_step, abandon_step, is_idle, probe_refusal, relink_refusal, relink_step};
 ghost use Rattle.x25_link.specs.Error.{RefusesPut};
 ghost use Rattle.x25_link.specs.code.FitsLink.{FitsLink, Does, limit_of, up_of, waiting_of};
 ghost use Rattle.x25_link.specs.code.Outbox.{IsEmpty, KeepsOne};
@@ -142,6 +142,39 @@ impl Link {
         }
         self.outbox.reserve(0, SHORT_FRAMES)?;
         Ok(self.station.fire(&mut self.outbox))
+    }
+
+    /// Polls the other end, whether timer T1 runs or not: RR with P=1, or RNR where this end is busy. It counts as a
+    /// firing of T1 does, so after `n2` of these without an answer it notes LinkDown(retries).
+    ///
+    /// 9 where the link isn't up, 13 where it is closed, then 70.
+    pub fn probe(&mut self) -> Result<Heard<'static>, LinkError>
+        ensures { Does self.old self.new result (λ s. probe_refusal s.phase) timer_step }
+    {
+        match self.station.phase {
+            Phase::Up => {}
+            Phase::Down | Phase::Waiting => return Err(LinkError::NotUp),
+            Phase::Closed => return Err(LinkError::Closed),
+        }
+        self.outbox.reserve(0, SHORT_FRAMES)?;
+        let heard = self.station.fire(&mut self.outbox);
+        Ok(heard)
+    }
+
+    /// Sets a link that is up up anew: it notes LinkDown(local), and sends SABM with P=1.
+    ///
+    /// 9 where the link is down, 12 where it is being set up, 13 where it is closed, then 70.
+    pub fn relink(&mut self) -> Result<Heard<'static>, LinkError>
+        ensures { Does self.old self.new result (λ s. relink_refusal s.phase) relink_step }
+    {
+        match self.station.phase {
+            Phase::Up => {}
+            Phase::Down => return Err(LinkError::NotUp),
+            Phase::Waiting => return Err(LinkError::AlreadyWaiting),
+            Phase::Closed => return Err(LinkError::Closed),
+        }
+        self.outbox.reserve(0, SHORT_FRAMES)?;
+        Ok(self.station.relink(&mut self.outbox))
     }
 
     /// Leaves Up without a frame, and notes LinkDown(counts) (profile). It takes no memory.

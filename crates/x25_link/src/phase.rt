@@ -45,7 +45,7 @@ pub enum Reason {
     FrmrGot,
     /// The other end set the link up anew by SABM.
     Reset,
-    /// This end sent DISC.
+    /// This end sent DISC, or sets the link up anew.
     Local,
     /// A count of the packet layer is at its greatest value.
     Counts,

@@ -46,6 +46,14 @@ pub fn disconnect(link: &mut Link) -> Result<Heard<'static>, LinkError> {
     link.disconnect()
 }
 
+pub fn probe(link: &mut Link) -> Result<Heard<'static>, LinkError> {
+    link.probe()
+}
+
+pub fn relink(link: &mut Link) -> Result<Heard<'static>, LinkError> {
+    link.relink()
+}
+
 /// Leaves Up, where the link is up.
 pub fn abandon(link: &mut Link) -> Result<Heard<'static>, LinkError> {
     if !link.is_up() {

@@ -1,6 +1,6 @@
 //! What a link answers, and what it says of itself then; `tests/golden` has the frames of whole sessions.
 
-use crate::calls::{abandon, connect, disconnect, fire, link, link_for, put, sent, take};
+use crate::calls::{abandon, connect, disconnect, fire, link, link_for, probe, put, relink, sent, take};
 use std::alloc::Global;
 use x25_bits::{Role, Seq};
 use x25_frame::{Frame, encode};
@@ -11,6 +11,8 @@ use x25_link::{Heard, Link, LinkError, OrderedLink, Reason};
 enum Act {
     Connect,
     Disconnect,
+    Probe,
+    Relink,
     /// Leaves Up, where the link is up.
     Abandon,
     /// Timer T1 fires.
@@ -51,6 +53,8 @@ const AWAITS_UA: Says = (false, true, true, 0, 0, 0);
 
 const IDLE: Says = (true, false, false, 0, 0, 0);
 
+const IDLE_RUNS: Says = (true, false, true, 0, 0, 0);
+
 const BUSY: Says = (false, false, true, 0, 0, 0);
 
 /// SABM with P=1 of the DTE.
@@ -61,9 +65,11 @@ const UA: &[u8] = &[0x01, 0x73, 0x83, 0x57];
 
 // A set-up that ends without an answer, one that is answered, packets whose memory can be taken once they are
 // acknowledged, and the end of the link.
-static DTE: [Row; 22] = [
+static DTE: [Row; 26] = [
     (Act::T1, (11, None, false), NONE, DOWN),
     (Act::Put(1), (9, None, false), NONE, DOWN),
+    (Act::Probe, (9, None, false), NONE, DOWN),
+    (Act::Relink, (9, None, false), NONE, DOWN),
     (Act::Connect, OK, (1, SABM), AWAITS_UA),
     (Act::Connect, (12, None, false), NONE, AWAITS_UA),
     (Act::T1, OK, (1, SABM), AWAITS_UA),
@@ -108,6 +114,8 @@ static DTE: [Row; 22] = [
         DOWN,
     ),
     (Act::Disconnect, (13, None, false), NONE, DOWN),
+    (Act::Probe, (13, None, false), NONE, DOWN),
+    (Act::Relink, (13, None, false), NONE, DOWN),
     (Act::Connect, (13, None, false), NONE, DOWN),
 ];
 
@@ -128,6 +136,25 @@ static DCE: [Row; 5] = [
 static MEMORY: [Row; 2] = [
     (Act::Keep(1, 4104), OK, NONE, DOWN),
     (Act::Keep(40, 7), OK, NONE, (false, false, false, 0, 0, 32)),
+];
+
+/// RR with P=1 of the DTE, and with F=1 of the DCE: it goes under one address, as a command and as its response.
+const POLL: &[u8] = &[0x01, 0x11, 0x97, 0x17];
+
+// An idle link is polled, and answers; then it doesn't. It is set up anew, while it is polled too.
+static ASKED: [Row; 12] = [
+    (Act::Connect, OK, (1, SABM), AWAITS_UA),
+    (Act::Probe, (9, None, false), NONE, AWAITS_UA),
+    (Act::Relink, (12, None, false), NONE, AWAITS_UA),
+    (Act::Take(UA), UP, NONE, IDLE),
+    (Act::Probe, OK, (1, POLL), IDLE_RUNS),
+    (Act::Take(POLL), OK, NONE, IDLE),
+    (Act::Probe, OK, (1, POLL), IDLE_RUNS),
+    (Act::Relink, (0, Some(Reason::Local), false), (1, SABM), AWAITS_UA),
+    (Act::Take(UA), UP, NONE, IDLE),
+    (Act::Probe, OK, (1, POLL), IDLE_RUNS),
+    (Act::Probe, (0, Some(Reason::Retries), false), NONE, DOWN),
+    (Act::Probe, (9, None, false), NONE, DOWN),
 ];
 
 fn put_many(link: &mut Link, alloc: Global, count: u16) -> Result<(), LinkError> {
@@ -193,6 +220,8 @@ fn happens(link: &mut Link, alloc: Global, act: Act) -> Answer {
     match act {
         Act::Connect => heard(connect(link)),
         Act::Disconnect => heard(disconnect(link)),
+        Act::Probe => heard(probe(link)),
+        Act::Relink => heard(relink(link)),
         Act::Abandon => heard(abandon(link)),
         Act::T1 => heard(fire(link)),
         Act::Put(count) => number(put_many(link, alloc, count)),
@@ -248,6 +277,14 @@ fn odd_row_of(alloc: Global, role: Role, n2: u8, rows: &[Row]) -> Result<Option<
 fn steps_of_a_dte(rt: HostRuntime) {
     assert_eq!(rt;
         odd_row_of(rt.alloc(), Role::Dte, 1, DTE.as_slice()),
+        Ok(None)
+    );
+}
+
+#[test]
+fn an_idle_link_is_asked_and_set_up_anew(rt: HostRuntime) {
+    assert_eq!(rt;
+        odd_row_of(rt.alloc(), Role::Dte, 1, ASKED.as_slice()),
         Ok(None)
     );
 }

@@ -25,7 +25,7 @@ use Rattle.x25_layer.specs.Calls.{PullsAll}
 use Rattle.x25_station.specs.Entry.{StationEntry}
 use Rattle.x25_station.specs.Station.{Station, new_station}
 use Rattle.x25_station.specs.Step.{Step, Outcome, Did, Refused, commands}
-use Rattle.x25_station.specs.Station.Told.{is_idle}
+use Rattle.x25_station.specs.Station.Told.{awaits_answers, is_idle}
 use Rattle.x25_station.specs.laws.TimerLaw as timer
 use Rattle.x25_station.specs.laws.TimerLaw.{Event, Comes, Asks, Fires}
 use Rattle.x25_station.specs.Timer.{standing, timer_pulled}
@@ -94,16 +94,18 @@ pub data Saying : Type 0 where
   sends : (octets : List ℕ) → Saying
   reads_nothing : Saying
   refuses : (error : StationError) → Saying
-  marks : (timer : Timer) → (is_idle : Bool) → Saying
+  marks : (timer : Timer) → (is_idle : Bool) → (is_due : Bool) → Saying
 
 abbrev pub mark_text : Timer → List ℕ
 mark_text Off = codes "off"
 mark_text GoesOn = codes "on"
 mark_text Begins = codes "start"
 
-abbrev pub work_text : Bool → List ℕ
-work_text true = codes "idle"
-work_text false = codes "busy"
+-- whether the station is idle, and whether an answer of the other end is due
+abbrev pub work_text : Bool → Bool → List ℕ
+work_text true false = codes "idle"
+work_text true true = codes "due"
+work_text false due = codes "busy"
 
 -- a frame is marked by this end, so that the other end takes the line as it is
 unfoldable pub saying_line : Role → Saying → List ℕ
@@ -111,7 +113,8 @@ saying_line end (enters e) = entry_line end e
 saying_line end (sends octets) = frame_line end octets
 saying_line end reads_nothing = nothing_line
 saying_line end (refuses error) = refusal_line (number_of error)
-saying_line end (marks timer is_idle) = codes ". " ++ mark_text timer ++ codes " " ++ work_text is_idle ++ codes "\n"
+saying_line end (marks timer is_idle is_due) =
+    codes ". " ++ mark_text timer ++ codes " " ++ work_text is_idle is_due ++ codes "\n"
 
 abbrev pub sayings_text : Role → List Saying → List ℕ
 sayings_text end sayings = flat_map (saying_line end) sayings
@@ -121,7 +124,7 @@ is_refusal (enters e) = false
 is_refusal (sends octets) = false
 is_refusal reads_nothing = true
 is_refusal (refuses error) = true
-is_refusal (marks timer is_idle) = false
+is_refusal (marks timer is_idle is_due) = false
 
 abbrev pub has_refusal : List Saying → Bool
 has_refusal sayings = list_any is_refusal sayings
@@ -145,7 +148,7 @@ and_then rest t = record { next = (rest t.next).next; sayings = t.sayings ++ (re
 
 -- one mark, and whether the station has work
 abbrev pub mark_turn : Settings → Timer → Station → Turn
-mark_turn c timer s = said s (marks timer (is_idle c s) ∷ [])
+mark_turn c timer s = said s (marks timer (is_idle c s) (awaits_answers c s) ∷ [])
 
 abbrev pub marked : Settings → Timer → Station → List Saying → Turn
 marked c timer s sayings = and_then (mark_turn c timer) (said s sayings)

@@ -108,7 +108,8 @@ impl Pipe {
         ensures faults { MarksFaults W.Sink writer.old writer.new result }
     {
         let is_idle = self.station.idle();
-        tell_mark(self.step.timer, is_idle, &mut self.output, writer)?;
+        let is_due = self.station.awaits_answers();
+        tell_mark(self.step.timer, is_idle, is_due, &mut self.output, writer)?;
         self.flush(writer)
     }
 

@@ -56,18 +56,21 @@ pub(crate) fn tell_refusal<W: Sink>(
     x25_console::tell_refusal(error.number(), output, writer)
 }
 
-/// The line of a mark: what T1 does, and whether the station is idle.
+/// The line of a mark: what T1 does, and whether the station is idle, or an answer is due of the other end then.
 #[tactic(auto, unfolding(crate::specs::Pipe::saying_line))]
-fn mark_line(timer: Timer, is_idle: bool) -> &'static [u8]
-    ensures { (end : Role) → result.now ≡ saying_line end (marks timer is_idle) }
+fn mark_line(timer: Timer, is_idle: bool, is_due: bool) -> &'static [u8]
+    ensures { (end : Role) → result.now ≡ saying_line end (marks timer is_idle is_due) }
 {
-    match (timer, is_idle) {
-        (Timer::Off, true) => b". off idle\n",
-        (Timer::Off, false) => b". off busy\n",
-        (Timer::GoesOn, true) => b". on idle\n",
-        (Timer::GoesOn, false) => b". on busy\n",
-        (Timer::Begins, true) => b". start idle\n",
-        (Timer::Begins, false) => b". start busy\n",
+    match (timer, is_idle, is_due) {
+        (Timer::Off, true, false) => b". off idle\n",
+        (Timer::Off, true, true) => b". off due\n",
+        (Timer::Off, false, _) => b". off busy\n",
+        (Timer::GoesOn, true, false) => b". on idle\n",
+        (Timer::GoesOn, true, true) => b". on due\n",
+        (Timer::GoesOn, false, _) => b". on busy\n",
+        (Timer::Begins, true, false) => b". start idle\n",
+        (Timer::Begins, true, true) => b". start due\n",
+        (Timer::Begins, false, _) => b". start busy\n",
     }
 }
 
@@ -75,13 +78,14 @@ fn mark_line(timer: Timer, is_idle: bool) -> &'static [u8]
 pub(crate) fn tell_mark<W: Sink>(
     timer: Timer,
     is_idle: bool,
+    is_due: bool,
     output: &mut Output,
     writer: &mut W,
 ) -> Result<(), Fault>
     ensures tells { (end : Role)
         → TellsMore result (W.contents writer.old) (W.contents writer.new) output.old output.new
-        (saying_line end (marks timer is_idle)) }
+        (saying_line end (marks timer is_idle is_due)) }
     ensures faults { MarksFaults W.Sink writer.old writer.new result }
 {
-    tell(mark_line(timer, is_idle), output, writer)
+    tell(mark_line(timer, is_idle, is_due), output, writer)
 }

@@ -5,7 +5,7 @@ use x25_station::Cmd;
 use x25_world::Event;
 
 /// How many kinds of call there are.
-const KINDS: usize = 21;
+const KINDS: usize = 23;
 
 /// A kind of call: two ends are made, an event happens, or the line is good for a moment.
 #[derive(Clone, Copy)]
@@ -26,6 +26,8 @@ pub(crate) enum Kind {
     Pull,
     Connect,
     Disconnect,
+    Probe,
+    Relink,
     Deliver,
     Lose,
     Damage,
@@ -61,6 +63,8 @@ impl Kind {
             Cmd::Pull => Kind::Pull,
             Cmd::Connect => Kind::Connect,
             Cmd::Disconnect => Kind::Disconnect,
+            Cmd::Probe => Kind::Probe,
+            Cmd::Relink => Kind::Relink,
         }
     }
 }

@@ -34,6 +34,8 @@ fn call<'a>(link: &mut Link, what: Happens<'a>) -> Result<Result<Heard<'a>, Link
     match what {
         Happens::Asked(Cmd::Connect) => Ok(link.connect()),
         Happens::Asked(Cmd::Disconnect) => Ok(link.disconnect()),
+        Happens::Asked(Cmd::Probe) => Ok(link.probe()),
+        Happens::Asked(Cmd::Relink) => Ok(link.relink()),
         Happens::Asked(_) => Err(Trouble::NoSuchCall),
         Happens::Fired => Ok(link.t1()),
         Happens::Frame(octets) => Ok(link.take(octets)),

@@ -32,18 +32,20 @@ use two::{Party, Two};
 use worlds::Worlds;
 
 /// The calls of a link.
-static CALLS_OF_LINKS: [(Kind, &str); 7] = [
+static CALLS_OF_LINKS: [(Kind, &str); 9] = [
     (Kind::New, "Link::new"),
     (Kind::Send, "Link::reserve and put"),
     (Kind::Connect, "Link::connect"),
     (Kind::Disconnect, "Link::disconnect"),
+    (Kind::Probe, "Link::probe"),
+    (Kind::Relink, "Link::relink"),
     (Kind::Deliver, "Link::take"),
     (Kind::Lose, "the loss of a frame to a link"),
     (Kind::T1, "Link::t1"),
 ];
 
 /// The calls of a station.
-static CALLS_OF_STATIONS: [(Kind, &str); 18] = [
+static CALLS_OF_STATIONS: [(Kind, &str); 20] = [
     (Kind::New, "Station::new"),
     (Kind::Call, "Station::command(Call)"),
     (Kind::CallWith, "Station::command(Call) with sizes"),
@@ -59,13 +61,15 @@ static CALLS_OF_STATIONS: [(Kind, &str); 18] = [
     (Kind::Pull, "Station::command(Pull)"),
     (Kind::Connect, "Station::connect"),
     (Kind::Disconnect, "Station::command(Disconnect)"),
+    (Kind::Probe, "Station::command(Probe)"),
+    (Kind::Relink, "Station::command(Relink)"),
     (Kind::Deliver, "Station::receive"),
     (Kind::Lose, "the loss of a frame to a station"),
     (Kind::T1, "Station::t1"),
 ];
 
 /// The calls of a world.
-static CALLS_OF_WORLDS: [(Kind, &str); 21] = [
+static CALLS_OF_WORLDS: [(Kind, &str); 23] = [
     (Kind::New, "World::start"),
     (Kind::Establish, "World::establish"),
     (Kind::Call, "World::step(Call)"),
@@ -82,6 +86,8 @@ static CALLS_OF_WORLDS: [(Kind, &str); 21] = [
     (Kind::Pull, "World::step(Pull)"),
     (Kind::Connect, "World::step(Connect)"),
     (Kind::Disconnect, "World::step(Disconnect)"),
+    (Kind::Probe, "World::step(Probe)"),
+    (Kind::Relink, "World::step(Relink)"),
     (Kind::Deliver, "World::step(Deliver)"),
     (Kind::Lose, "World::step(Lose)"),
     (Kind::Damage, "World::step(Damage)"),

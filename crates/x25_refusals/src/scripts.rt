@@ -58,6 +58,10 @@ const CONNECTS: Act = Do(Command(Dte, Cmd::Connect));
 
 const DISCONNECTS: Act = Do(Command(Dte, Cmd::Disconnect));
 
+const PROBES: Act = Do(Command(Dte, Cmd::Probe));
+
+const RELINKS: Act = Do(Command(Dte, Cmd::Relink));
+
 const CALLS: Act = Do(Command(
     Dte,
     Cmd::Call {
@@ -157,7 +161,7 @@ const COMES: Act = Do(Deliver(ToDce));
 const COMES_BACK: Act = Do(Deliver(ToDte));
 
 /// Played at two stations, and at a world.
-pub(crate) static SCRIPTS: [Script; 10] = [
+pub(crate) static SCRIPTS: [Script; 11] = [
     Script {
         name: "a call, and two messages",
         cfg: USUAL,
@@ -284,6 +288,11 @@ pub(crate) static SCRIPTS: [Script; 10] = [
         ],
     },
     Script {
+        name: "an idle link that is polled, and set up anew",
+        cfg: USUAL,
+        acts: &[CONNECTS, Drain, PROBES, Drain, RELINKS, Drain],
+    },
+    Script {
         name: "a restart, and the end of the link",
         cfg: USUAL,
         acts: &[
@@ -331,7 +340,7 @@ pub(crate) static OF_WORLDS_UP: [Script; 2] = [
 ];
 
 /// Played at two links.
-pub(crate) static OF_LINKS: [Script; 4] = [
+pub(crate) static OF_LINKS: [Script; 5] = [
     Script {
         name: "the first I frame is lost, and comes again behind polls",
         cfg: USUAL,
@@ -382,6 +391,11 @@ pub(crate) static OF_LINKS: [Script; 4] = [
         acts: &[
             CONNECTS, LOSES, T1_FIRES, LOSES, T1_FIRES, T1_FIRES, CONNECTS, Drain,
         ],
+    },
+    Script {
+        name: "an idle link that is polled, and set up anew",
+        cfg: USUAL,
+        acts: &[CONNECTS, Drain, PROBES, Drain, RELINKS, Drain],
     },
     Script {
         name: "a packet under way as the link ends",

@@ -3,7 +3,7 @@ use Rattle.std.proofs.Common.{ℕ, ◌<◌, List, [], ◌∷◌}
 use Rattle.std.proofs.lemmas.List.Elements.{All-nil, All-from_get_or}
 use Rattle.hex.proofs.HexLemmas.{decode_of-ok}
 use Rattle.x25_script.specs.HexDigits.{AreOctets}
-use Rattle.x25_script.specs.ScriptLine.{PlainCommand, call, accept, clear, send, interrupt, reset, ready, not_ready, restart, pull, connect, disconnect, PlainLine, command, t1, deliver, lose, damage, drain, heal}
+use Rattle.x25_script.specs.ScriptLine.{PlainCommand, call, accept, clear, send, interrupt, reset, ready, not_ready, restart, pull, connect, disconnect, probe, relink, PlainLine, command, t1, deliver, lose, damage, drain, heal}
 use Rattle.x25_script.specs.laws.ReadingLaw.{AsksInOctets, IsInOctets}
 use Rattle.x25_script.specs.Reading.Spelling.{Writes, SpellsCommand, Spells}
 
@@ -24,6 +24,8 @@ asked restart text h = tt
 asked pull text h = tt
 asked connect text h = tt
 asked disconnect text h = tt
+asked probe text h = tt
+asked relink text h = tt
 
 pub spelled_octets : (v : PlainLine) (text : List ℕ) → Spells v text → IsInOctets v
 spelled_octets (command end a) text h = asked a h.0 h.2

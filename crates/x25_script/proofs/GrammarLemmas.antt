@@ -5,7 +5,7 @@ use Rattle.std.proofs.lemmas.Bool.{eqb-false, ltb-true}
 use Rattle.std.proofs.lemmas.Option.{same_Some, none-some, cond_some}
 use Rattle.x25_bits.specs.declared.role.Role.{Role}
 use Rattle.x25_circuit.specs.declared.params.Params.{Params}
-use Rattle.x25_script.specs.ScriptLine.{PlainCommand, clear, reset, ready, not_ready, restart, pull, connect, disconnect, PlainLine, heal}
+use Rattle.x25_script.specs.ScriptLine.{PlainCommand, clear, reset, ready, not_ready, restart, pull, connect, disconnect, probe, relink, PlainLine, heal}
 use Rattle.x25_script.specs.Reading.Spelling.{end_text, direction_text, q_text, address_text, IsNumber, AreParams, params_text, SpellsCommand, Spells}
 use Rattle.x25_script.specs.Reading.{Keyword, End, T1, Deliver, Lose, Damage, Drain, Verb, Call, Accept, Clear, Send, Interrupt, Reset, Ready, NotReady}
 use Rattle.x25_script.specs.Reading.{parts_of, end_in, from_in, q_in, number_in, address_in, octets_in, verb_in, keyword_in, small_number_in, params_in, with_params_of, with_params_in, call_in, accept_in, send_in, interrupt_in, on_channel, with_fields, bare_command_in, command_of, command_in, lose_in, damage_in, drain_in, after, bare_line_in, line_of, line_in}
@@ -188,7 +188,9 @@ bare_found text v e =
     word_step SpellsCommand text (codes "restart") restart v _ refl e (λ e.
     word_step SpellsCommand text (codes "pull") pull v _ refl e (λ e.
     word_step SpellsCommand text (codes "connect") connect v _ refl e (λ e.
-    word_step SpellsCommand text (codes "disconnect") disconnect v _ refl e (λ e. absurd (none-some _ e)))))
+    word_step SpellsCommand text (codes "disconnect") disconnect v _ refl e (λ e.
+    word_step SpellsCommand text (codes "probe") probe v _ refl e (λ e.
+    word_step SpellsCommand text (codes "relink") relink v _ refl e (λ e. absurd (none-some _ e)))))))
 
 command_parts : (text : List ℕ) (parts : Option (List ℕ × List ℕ)) (v : PlainCommand) → parts_of text ≡ parts → command_of text parts ≡ Some v → SpellsCommand v text
 command_parts text None v same e = bare_found text v e

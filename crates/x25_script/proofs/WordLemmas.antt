@@ -6,7 +6,7 @@ use Rattle.std.proofs.lemmas.Slice.Eq.{bytes_eq-Decides}
 use Rattle.std.proofs.lemmas.List.{take-append-drop}
 use Rattle.std.proofs.Math.Seq.{take_at}
 use Rattle.x25_bits.specs.declared.role.Role.TheVariants.{Dte, Dce}
-use Rattle.x25_script.specs.ScriptLine.{PlainCommand, call, accept, clear, send, interrupt, reset, ready, not_ready, restart, pull, connect, disconnect, PlainLine, command, t1, deliver, lose, damage, drain, heal}
+use Rattle.x25_script.specs.ScriptLine.{PlainCommand, call, accept, clear, send, interrupt, reset, ready, not_ready, restart, pull, connect, disconnect, probe, relink, PlainLine, command, t1, deliver, lose, damage, drain, heal}
 use Rattle.x25_script.specs.Reading.Spelling.{Spells, SpellsCommand}
 use Rattle.x25_script.specs.Reading.{parts_of, Keyword, End, T1, Deliver, Lose, Damage, Drain, Verb, Call, Accept, Clear, Send, Interrupt, Reset, Ready, NotReady, with_fields, bare_command_in, command_in, after, line_in, IsNotBehind}
 use Rattle.x25_script.proofs.AgainLemmas.{command_again}
@@ -89,6 +89,8 @@ bare_alone text no_send no_accept no_call no_int no_reset no_clear no_ready no_n
     spelled pull s e = e ∙ sym (ap bare_command_in s)
     spelled connect s e = e ∙ sym (ap bare_command_in s)
     spelled disconnect s e = e ∙ sym (ap bare_command_in s)
+    spelled probe s e = e ∙ sym (ap bare_command_in s)
+    spelled relink s e = e ∙ sym (ap bare_command_in s)
 
     bare : (read : Option PlainCommand) → bare_command_in text ≡ read → command_in text ≡ None → command_in text ≡ bare_command_in text
     bare None is e = e ∙ sym is

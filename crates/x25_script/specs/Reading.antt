@@ -13,7 +13,8 @@ use Rattle.x25_circuit.specs.declared.params.Params.{Params}
 use Rattle.x25_script.specs.declared.script_line.Command.{Command}
 use Rattle.x25_script.specs.HexDigits.{octets_of}
 use Rattle.x25_script.specs.ScriptLine.{PlainCommand, call, accept, clear, send, interrupt, reset, ready, not_ready}
-use Rattle.x25_script.specs.ScriptLine.{restart, pull, connect, disconnect, PlainLine, command, t1, deliver, lose}
+use Rattle.x25_script.specs.ScriptLine.{restart, pull, connect, disconnect, probe, relink, PlainLine, command, t1}
+use Rattle.x25_script.specs.ScriptLine.{deliver, lose}
 use Rattle.x25_script.specs.ScriptLine.{damage, drain, heal, plain_command}
 pub mod Spelling
 
@@ -185,7 +186,9 @@ abbrev pub bare_command_in : List ℕ → Option PlainCommand
 bare_command_in text = if bytes_eq text (codes "restart") then Some restart
     else if bytes_eq text (codes "pull") then Some pull
     else if bytes_eq text (codes "connect") then Some connect
-    else if bytes_eq text (codes "disconnect") then Some disconnect else None
+    else if bytes_eq text (codes "disconnect") then Some disconnect
+    else if bytes_eq text (codes "probe") then Some probe
+    else if bytes_eq text (codes "relink") then Some relink else None
 
 -- of a text and its parts at the first blank
 abbrev pub command_of : List ℕ → Option (List ℕ × List ℕ) → Option PlainCommand

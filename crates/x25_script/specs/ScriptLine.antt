@@ -20,6 +20,8 @@ pub data PlainCommand : Type 0 where
   pull : PlainCommand
   connect : PlainCommand
   disconnect : PlainCommand
+  probe : PlainCommand
+  relink : PlainCommand
 
 -- An end; or the end that a direction leads away from, a place and octets; or a count.
 pub data PlainLine : Type 0 where
@@ -44,3 +46,5 @@ plain_command command_code.Restart = restart
 plain_command command_code.Pull = pull
 plain_command command_code.Connect = connect
 plain_command command_code.Disconnect = disconnect
+plain_command command_code.Probe = probe
+plain_command command_code.Relink = relink

@@ -104,6 +104,10 @@ fn bare_command(text: &[u8]) -> Option<Command<'_>>
         Some(Command::Connect)
     } else if is(text, "disconnect") {
         Some(Command::Disconnect)
+    } else if is(text, "probe") {
+        Some(Command::Probe)
+    } else if is(text, "relink") {
+        Some(Command::Relink)
     } else {
         None
     }

@@ -51,6 +51,8 @@ pub enum Command<'a> {
     Pull,
     Connect,
     Disconnect,
+    Probe,
+    Relink,
 }
 
 /// What takes lines of a script: each kind comes to a method of its own, so that no value of a line is made. `with` is

@@ -10,7 +10,7 @@ use Rattle.x25_line.specs.laws.Stations.{is_visible, replaced}
 use Rattle.x25_station.specs.declared.config.Cfg.{Cfg}
 use Rattle.x25_station.specs.Config.{Settings, settings_from}
 use Rattle.x25_station.specs.Step.{Outcome, Did, Refused, fires, commands}
-use Rattle.x25_script.specs.ScriptLine.{PlainCommand, call, accept, clear, send, interrupt, reset, ready, not_ready, restart, pull, connect, disconnect, PlainLine, command, t1, deliver, lose, damage, drain, heal}
+use Rattle.x25_script.specs.ScriptLine.{PlainCommand, call, accept, clear, send, interrupt, reset, ready, not_ready, restart, pull, connect, disconnect, probe, relink, PlainLine, command, t1, deliver, lose, damage, drain, heal}
 use Rattle.x25_script.specs.Reading.{line_in}
 use Rattle.x25_script.specs.laws.ReadingLaw.{AsksInOctets, IsInOctets, ReadsOctets}
 use Rattle.x25_io.specs.Lines.{lines_of}
@@ -125,6 +125,8 @@ handed restart h = tt
 handed pull h = tt
 handed connect h = tt
 handed disconnect h = tt
+handed probe h = tt
+handed relink h = tt
 
 abbrev AskedInOctets : Option PlainLine → Type 0
 AskedInOctets None = Unit {0}
@@ -161,6 +163,8 @@ other_asked end restart refusal h = tt
 other_asked end pull refusal h = tt
 other_asked end connect refusal h = absurd h
 other_asked end disconnect refusal h = tt
+other_asked end probe refusal h = tt
+other_asked end relink refusal h = absurd h
 
 -- ---- turns are runs
 

@@ -15,32 +15,32 @@ use Rattle.x25_station.specs.declared.error.StationError.{StationError}
 use Rattle.x25_station.specs.declared.station.Station as code
 use Rattle.x25_station.specs.declared.step.Step as code_step
 use Rattle.x25_station.specs.declared.timer.Timer.{Timer}
-use Rattle.x25_station.specs.Timer.{is_link_up, is_acknowledged, tells_up, runs, standing, timer_of, timer_at}
+use Rattle.x25_station.specs.Timer.{is_of_link, is_acknowledged, tells_link, runs, standing, timer_of, timer_at}
 
--- among some entries the link came up
+-- among some entries the link came up or went down
 abbrev pub up : List Entry → Bool
-up entries = tells_up (map plain_entry entries)
+up entries = tells_link (map plain_entry entries)
 
 module _ (entries : List Entry) (i : ℕ) (entry : Entry) (inside : i < length entries) (is : entry ≡ get_or entries i entry) (same : up (drop i entries) ≡ up entries) where
-  next : (b : Bool) → is_link_up (plain_entry entry) ≡ b → (b || up (drop (i + 1) entries)) ≡ up entries
-  next b e = ap (λ b. b || up (drop (i + 1) entries)) (sym e ∙ ap (λ x. is_link_up (plain_entry x)) is) ∙ sym (at_drop_more up entries i entry inside) ∙ same
+  next : (b : Bool) → is_of_link (plain_entry entry) ≡ b → (b || up (drop (i + 1) entries)) ≡ up entries
+  next b e = ap (λ b. b || up (drop (i + 1) entries)) (sym e ∙ ap (λ x. is_of_link (plain_entry x)) is) ∙ sym (at_drop_more up entries i entry inside) ∙ same
 
-  pub up_here : is_link_up (plain_entry entry) ≡ true → true ≡ up entries
-  up_here e = next true e
+  pub link_here : is_of_link (plain_entry entry) ≡ true → true ≡ up entries
+  link_here e = next true e
 
-  pub up_behind : is_link_up (plain_entry entry) ≡ false → up (drop (i + 1) entries) ≡ up entries
-  up_behind e = next false e
+  pub link_behind : is_of_link (plain_entry entry) ≡ false → up (drop (i + 1) entries) ≡ up entries
+  link_behind e = next false e
 
-pub up_nowhere : (entries : List Entry) (i : ℕ) → length entries ≤ i → up (drop i entries) ≡ up entries → false ≡ up entries
-up_nowhere entries i all same = sym (ap up (drop_all i entries all)) ∙ same
+pub link_nowhere : (entries : List Entry) (i : ℕ) → length entries ≤ i → up (drop i entries) ≡ up entries → false ≡ up entries
+link_nowhere entries i all same = sym (ap up (drop_all i entries all)) ∙ same
 
-pub timer_is : (s : Station) (step : Step) (before behind fired up another : Bool) → before ≡ runs s → behind ≡ runs step.near → up ≡ tells_up step.entries
+pub timer_is : (s : Station) (step : Step) (before behind fired up another : Bool) → before ≡ runs s → behind ≡ runs step.near → up ≡ tells_link step.entries
     → another ≡ is_acknowledged s.link step.near.link → timer_of behind (not before || (fired || (up || another))) ≡ timer_at s fired (Did step)
 timer_is s step before behind fired up another e f h k =
     ap (λ b. timer_of b (not before || (fired || (up || another)))) f
     ∙ ap (λ b. timer_of (runs step.near) (not b || (fired || (up || another)))) e
     ∙ ap (λ b. timer_of (runs step.near) (not (runs s) || (fired || (b || another)))) h
-    ∙ ap (λ b. timer_of (runs step.near) (not (runs s) || (fired || (tells_up step.entries || b)))) k
+    ∙ ap (λ b. timer_of (runs step.near) (not (runs s) || (fired || (tells_link step.entries || b)))) k
 
 -- ---- what a call answers
 

@@ -5,7 +5,7 @@ use Rattle.x25_link.specs.declared.error.LinkError.{LinkError}
 use Rattle.x25_link.specs.declared.phase.Reason.{Reason}
 use Rattle.x25_link.specs.Station.{Settings as LinkSettings, LinkStation, Side, with_near}
 use Rattle.x25_link.specs.Hearing.{Step as LinkStep, quiet, leaves}
-use Rattle.x25_link.specs.Link.{alone, asks_again, timer_step, disconnect_step}
+use Rattle.x25_link.specs.Link.{alone, asks_again, timer_step, disconnect_step, relink_step}
 use Rattle.x25_link.specs.declared.phase.Reason.TheVariants.{Retries}
 use Rattle.x25_link.specs.code.FitsLink.{ShownLink, FitsLink}
 use Rattle.x25_layer.specs.Layer.{Layer}
@@ -36,7 +36,7 @@ follows_down c l k none not_up =
     ∙ ap (λ (b : Bool). follows c l (record { side = k.side; packet = None; notes = record { down = k.notes.down; up = b } })) not_up
     ∙ noted_down c l k.side k.notes.down
 
--- ---- timer T1, and disconnect
+-- ---- timer T1, disconnect, and relink
 
 pub timer_stays : (c : LinkSettings) (s : LinkStation) → (timer_step c s).notes.up ≡ false
 timer_stays c s = test (nat_lt s.tries c.retries)
@@ -50,6 +50,9 @@ timer_down c l s = follows_down c l (timer_step (link_settings c) s) (timer_none
 
 pub disconnect_down : (c : Settings) (l : Layer) (s : LinkStation) → (let k : LinkStep = disconnect_step (link_settings c) s in follows c l k ≡ downs l k.side k.notes.down)
 disconnect_down c l s = follows_down c l (disconnect_step (link_settings c) s) refl refl
+
+pub relink_down : (c : Settings) (l : Layer) (s : LinkStation) → (let k : LinkStep = relink_step (link_settings c) s in follows c l k ≡ downs l k.side k.notes.down)
+relink_down c l s = follows_down c l (relink_step (link_settings c) s) refl refl
 
 -- ---- the station after it
 

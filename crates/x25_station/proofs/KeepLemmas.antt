@@ -14,15 +14,15 @@ use Rattle.x25_link.specs.OrderedLink.{Lists}
 use Rattle.x25_link.specs.Outgoing.{Outgoing, waits, moved_on, added}
 use Rattle.x25_link.specs.Station.{Settings as LinkSettings, LinkStation, Side, is_up, fresh, with_nothing, with_near, is_busy, ready, may_send, send_next, pumped, owes_ready, ended}
 use Rattle.x25_link.specs.Hearing.{Step as LinkStep, quiet, leaves}
-use Rattle.x25_link.specs.Link.{alone, put_refusal, put_step, take_step, timer_refusal, asks_again, timer_step, connect_refusal, connects as link_connects, connect_step, disconnect_refusal, disconnects as link_disconnects, disconnect_step, abandon_step}
-use Rattle.x25_link.specs.laws.NoteLaw.{IsQuiet, Tells, HandsUp, TakeTells, TakeContinues, TakeHandsUp, TimerTells, TimerContinues, PutTells, ConnectTells, DisconnectTells, AbandonTells}
+use Rattle.x25_link.specs.Link.{alone, put_refusal, put_step, take_step, timer_refusal, asks_again, timer_step, connect_refusal, connects as link_connects, connect_step, disconnect_refusal, disconnects as link_disconnects, disconnect_step, abandon_step, probe_refusal, relink_refusal, relinks as link_relinks, relink_step}
+use Rattle.x25_link.specs.laws.NoteLaw.{IsQuiet, Tells, HandsUp, TakeTells, TakeContinues, TakeHandsUp, TimerTells, TimerContinues, PutTells, ConnectTells, DisconnectTells, AbandonTells, RelinkTells}
 use Rattle.x25_layer.specs.declared.error.LayerError.TheVariants as layer_error
 use Rattle.x25_layer.specs.Layer.{LayerSettings, Layer, goes_up}
 use Rattle.x25_layer.specs.Calls.{LayerOutcome, Accepted, Declined, layer_outcome}
 use Rattle.x25_layer.specs.Rounds.{LinkView, Putting, begin, rounds, Refuses, went}
 use Rattle.x25_station.specs.Config.{Settings, link_settings, layer_settings}
-use Rattle.x25_station.specs.Command.{Requests, Connects, Disconnects, said_by}
-use Rattle.x25_station.specs.Entry.{StationEntry, connect_asked, disconnect_asked}
+use Rattle.x25_station.specs.Command.{Requests, Connects, Disconnects, Probes, Relinks, said_by}
+use Rattle.x25_station.specs.Entry.{StationEntry, connect_asked, disconnect_asked, relink_asked}
 use Rattle.x25_station.specs.Station.{Station, put_on, all_put, view_of}
 use Rattle.x25_station.specs.Step.{Step, with_puts, layer_at, layer_answer, follows, led_by, unless, abandons, entries_of_outcome, did}
 use Rattle.x25_station.specs.laws.JoinLaw.{AreAccepted}
@@ -160,6 +160,7 @@ pub record LinkLaws : Type 0 where
   pub connect : ConnectTells
   pub disconnect : DisconnectTells
   pub abandon : AbandonTells
+  pub relink : RelinkTells
 
 take_keeps : LinkLaws → (c : LinkSettings) (octets : List ℕ) (s : LinkStation) → waits s.outgoing ≤ 256 → LinkKeeps s (take_step c octets s)
 take_keeps laws c octets s few =
@@ -192,6 +193,9 @@ disconnect_keeps laws c s =
 
 abandon_keeps : LinkLaws → (c : LinkSettings) (s : LinkStation) → LinkKeeps s (abandon_step c s)
 abandon_keeps laws c s = hands_nothing s (abandon_step c s) refl (laws.abandon c s) (λ quiet. le_trans (ended_lower c.window (with_near (alone s) (with_nothing Down s.tries))) (omega arith))
+
+relink_keeps : LinkLaws → (c : LinkSettings) (s : LinkStation) → LinkKeeps s (relink_step c s)
+relink_keeps laws c s = hands_nothing s (relink_step c s) refl (laws.relink c s) (λ quiet. le_trans (ended_lower c.window (link_relinks (alone s)).side) (omega arith))
 
 -- ---- the calls
 
@@ -257,3 +261,7 @@ command_kept laws c s (Requests request) kept = request_kept laws.put c s (said_
 command_kept laws c s Connects kept = kept_led (connect_asked ∷ []) (connect_refusal s.link.phase) (follows c s.layer (connect_step (link_settings c) s.link)) (connect_kept laws c s kept)
 command_kept laws c s Disconnects kept = unless_kept (disconnect_refusal s.link.phase) (led_by (disconnect_asked ∷ []) (follows c s.layer (disconnect_step (link_settings c) s.link)))
     (λ none. follows_kept laws.put c s (disconnect_step (link_settings c) s.link) kept (disconnect_keeps laws (link_settings c) s.link))
+command_kept laws c s Probes kept = unless_kept (probe_refusal s.link.phase) (follows c s.layer (timer_step (link_settings c) s.link))
+    (λ none. follows_kept laws.put c s (timer_step (link_settings c) s.link) kept (timer_keeps laws (link_settings c) s.link kept.few))
+command_kept laws c s Relinks kept = unless_kept (relink_refusal s.link.phase) (led_by (relink_asked ∷ []) (follows c s.layer (relink_step (link_settings c) s.link)))
+    (λ none. follows_kept laws.put c s (relink_step (link_settings c) s.link) kept (relink_keeps laws (link_settings c) s.link))

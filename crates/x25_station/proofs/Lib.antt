@@ -27,6 +27,7 @@ pub mod RoomLemmas
 pub mod ResultLemmas
 pub mod OutcomeLemmas
 pub mod TimerLemmas
+pub mod WayOutLemmas
 pub mod DoesLemmas
 pub mod PullLemmas
 pub mod ClockLemmas

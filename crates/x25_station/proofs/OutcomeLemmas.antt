@@ -117,3 +117,15 @@ disconnect_named Down = tt
 disconnect_named Waiting = tt
 disconnect_named Up = tt
 disconnect_named Closed = refl
+
+pub probe_named : (p : Phase) → IsNamed (link.probe_refusal p)
+probe_named Down = refl
+probe_named Waiting = refl
+probe_named Up = tt
+probe_named Closed = refl
+
+pub relink_named : (p : Phase) → IsNamed (link.relink_refusal p)
+relink_named Down = refl
+relink_named Waiting = refl
+relink_named Up = tt
+relink_named Closed = refl

@@ -18,17 +18,17 @@ use Rattle.x25_link.specs.declared.phase.Reason.TheVariants.{Retries, Counts}
 use Rattle.x25_link.specs.Station.{Settings as LinkSettings, Side, is_busy, with_near, ready, may_send, pumped, owes_ready, ended}
 use Rattle.x25_link.specs.Hearing.{Step as LinkStep, other, quiet, leaves, rejects, is_valid, acknowledged, is_taken, takes, answers, passes_over, hears_info, peer_is, goes_back, polls, numbered, row_of_frame, row_of}
 use Rattle.x25_link.specs.Link as link
-use Rattle.x25_link.specs.Link.{closed_by, alone, declines, when_down, when_waiting, if_read, puts, take_step, connect_refusal, disconnect_refusal, asks_again, timer_refusal, timer_step, abandon_step}
+use Rattle.x25_link.specs.Link.{closed_by, alone, declines, when_down, when_waiting, if_read, puts, take_step, connect_refusal, disconnect_refusal, asks_again, timer_refusal, timer_step, abandon_step, probe_refusal, relink_refusal}
 use Rattle.x25_layer.specs.Rounds.{Answered, Went, Refuses, calls}
 use Rattle.x25_station.specs.declared.error.StationError.TheVariants as error
-use Rattle.x25_station.specs.Command.{Requests, Connects, Disconnects, said_by}
+use Rattle.x25_station.specs.Command.{Requests, Connects, Disconnects, Probes, Relinks, said_by}
 use Rattle.x25_station.specs.Config.{Settings, link_settings, layer_settings, longest_packet}
-use Rattle.x25_station.specs.Entry.{StationEntry, of_channel, restart_asked, connect_asked, disconnect_asked, link_up, link_down, was_restarted, restart_confirmed, at_fault, came_beside, was_diagnosed}
+use Rattle.x25_station.specs.Entry.{StationEntry, of_channel, restart_asked, connect_asked, disconnect_asked, relink_asked, link_up, link_down, was_restarted, restart_confirmed, at_fault, came_beside, was_diagnosed}
 use Rattle.x25_station.specs.Station.{Station, put_on, all_put, view_of}
 use Rattle.x25_station.specs.Step.{Step, Outcome, Did, Refused, layer_at, follows, unless, abandons, did}
 use Rattle.x25_station.specs.laws.TimerLaw as law
-use Rattle.x25_station.specs.laws.TimerLaw.{Event, Comes, Asks, Fires, Watched, heeds, after, watched_by, watched_from, IsFiring, TellsLinkUp, IsDue}
-use Rattle.x25_station.specs.Timer.{runs, tells_up, is_acknowledged, timer_of, pulled_timer}
+use Rattle.x25_station.specs.laws.TimerLaw.{Event, Comes, Asks, Fires, Watched, heeds, after, watched_by, watched_from, IsFiring, TellsLink, IsDue}
+use Rattle.x25_station.specs.Timer.{runs, tells_link, is_acknowledged, timer_of, pulled_timer}
 use Rattle.x25_station.specs.Pulling.{pulled}
 use Rattle.x25_station.specs.declared.timer.Timer.{Timer}
 use Rattle.x25_station.specs.declared.timer.Timer.TheVariants.{Begins}
@@ -243,6 +243,8 @@ few_acked c s (Comes octets) = received_few c octets s (abandons c s)
 few_acked c s (Asks (Requests request)) = did_few c s _ (calls (view_of (link_settings c) s.link) (layer_settings c) s.layer (said_by c.say_sizes s.layer request))
 few_acked c s (Asks Connects) = unless_few s (connect_refusal s.link.phase) _ (follows_few c s (link.connects (alone s.link)) (omega arith))
 few_acked c s (Asks Disconnects) = unless_few s (disconnect_refusal s.link.phase) _ (follows_few c s (link.disconnects (alone s.link)) (omega arith))
+few_acked c s (Asks Probes) = unless_few s (probe_refusal s.link.phase) _ (follows_few c s (link.fires (link_settings c) (alone s.link)) (fired_few (link_settings c) (alone s.link)))
+few_acked c s (Asks Relinks) = unless_few s (relink_refusal s.link.phase) _ (follows_few c s (link.relinks (alone s.link)) (omega arith))
 few_acked c s Fires = unless_few s (timer_refusal s.link) _ (follows_few c s (link.fires (link_settings c) (alone s.link)) (fired_few (link_settings c) (alone s.link)))
 
 few_in : (s : Station) (o : Outcome) (step : Step) → o ≡ Did step → FewBy s o → step.near.link.outgoing.acked ≤ s.link.outgoing.acked + 7
@@ -250,19 +252,20 @@ few_in s o step is few = subst (FewBy s) is few
 
 -- ---- where T1 is due to begin anew
 
-told_up : (entries : List StationEntry) → TellsLinkUp entries → tells_up entries ≡ true
-told_up [] told = absurd told
-told_up (link_up ∷ entries) told = refl
-told_up (of_channel entry ∷ entries) told = told_up entries told
-told_up (restart_asked ∷ entries) told = told_up entries told
-told_up (connect_asked ∷ entries) told = told_up entries told
-told_up (disconnect_asked ∷ entries) told = told_up entries told
-told_up (link_down reason ∷ entries) told = told_up entries told
-told_up (was_restarted cause diagnostic ∷ entries) told = told_up entries told
-told_up (restart_confirmed ∷ entries) told = told_up entries told
-told_up (at_fault diagnostic ∷ entries) told = told_up entries told
-told_up (came_beside channel facilities user ∷ entries) told = told_up entries told
-told_up (was_diagnosed diagnostic ∷ entries) told = told_up entries told
+told_link : (entries : List StationEntry) → TellsLink entries → tells_link entries ≡ true
+told_link [] told = absurd told
+told_link (link_up ∷ entries) told = refl
+told_link (of_channel entry ∷ entries) told = told_link entries told
+told_link (restart_asked ∷ entries) told = told_link entries told
+told_link (connect_asked ∷ entries) told = told_link entries told
+told_link (disconnect_asked ∷ entries) told = told_link entries told
+told_link (relink_asked ∷ entries) told = told_link entries told
+told_link (link_down reason ∷ entries) told = refl
+told_link (was_restarted cause diagnostic ∷ entries) told = told_link entries told
+told_link (restart_confirmed ∷ entries) told = told_link entries told
+told_link (at_fault diagnostic ∷ entries) told = told_link entries told
+told_link (came_beside channel facilities user ∷ entries) told = told_link entries told
+told_link (was_diagnosed diagnostic ∷ entries) told = told_link entries told
 
 -- seven numbers more at most are another number modulo 8
 other_number : (a b : ℕ) → a < b → b ≤ a + 7 → not (a % 8 == b % 8) ≡ true
@@ -278,14 +281,14 @@ fires_due (Comes octets) is = absurd is
 fires_due (Asks command) is = absurd is
 
 is_due : (c : Settings) (s : Station) (event : Event) (step : Step) → law.outcome c s event ≡ Did step → IsDue s event step
-    → (law.is_firing event || (tells_up step.entries || is_acknowledged s.link step.near.link)) ≡ true
-is_due c s event step is (inl firing) = ap (λ (b : Bool). b || (tells_up step.entries || is_acknowledged s.link step.near.link)) (fires_due event firing)
+    → (law.is_firing event || (tells_link step.entries || is_acknowledged s.link step.near.link)) ≡ true
+is_due c s event step is (inl firing) = ap (λ (b : Bool). b || (tells_link step.entries || is_acknowledged s.link step.near.link)) (fires_due event firing)
 is_due c s event step is (inr (inl up)) =
-    ap (λ (b : Bool). law.is_firing event || (b || is_acknowledged s.link step.near.link)) (told_up step.entries up) ∙ or-true (law.is_firing event)
+    ap (λ (b : Bool). law.is_firing event || (b || is_acknowledged s.link step.near.link)) (told_link step.entries up) ∙ or-true (law.is_firing event)
 is_due c s event step is (inr (inr rises)) =
     let few = few_in s (law.outcome c s event) step is (few_acked c s event) in
-    ap (λ (b : Bool). law.is_firing event || (tells_up step.entries || b)) (other_number s.link.outgoing.acked step.near.link.outgoing.acked rises few)
-    ∙ ap (λ (b : Bool). law.is_firing event || b) (or-true (tells_up step.entries)) ∙ or-true (law.is_firing event)
+    ap (λ (b : Bool). law.is_firing event || (tells_link step.entries || b)) (other_number s.link.outgoing.acked step.near.link.outgoing.acked rises few)
+    ∙ ap (λ (b : Bool). law.is_firing event || b) (or-true (tells_link step.entries)) ∙ or-true (law.is_firing event)
 
 due : (ran runs_on other : Bool) → runs_on ≡ true → other ≡ true → timer_of runs_on (not ran || other) ≡ Begins
 due ran false other on is = absurd (true≢false (sym on))

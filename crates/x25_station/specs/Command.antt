@@ -9,11 +9,13 @@ use Rattle.x25_layer.specs.Calls.{LayerRequest, Asks, Dials, Restarts, PullsAll}
 use Rattle.x25_station.specs.declared.command.Cmd.{Cmd}
 use Rattle.x25_station.specs.declared.command.Cmd.TheVariants as code
 
--- something of the packet layer, or that the link be set up or disconnected
+-- something of the packet layer, or that the link be set up, disconnected, polled, or set up anew
 pub data Command : Type 0 where
   Requests : (request : LayerRequest) → Command
   Connects : Command
   Disconnects : Command
+  Probes : Command
+  Relinks : Command
 
 -- an acceptance with these packet sizes and windows, or with those proposed
 abbrev pub answer_in_brief : Option Params → Option Proposal
@@ -36,6 +38,8 @@ command_of code.Restart = Requests Restarts
 command_of code.Pull = Requests PullsAll
 command_of code.Connect = Connects
 command_of code.Disconnect = Disconnects
+command_of code.Probe = Probes
+command_of code.Relink = Relinks
 
 -- ---- with the setting, calls and acceptances say all packet sizes and windows
 

@@ -16,6 +16,7 @@ pub data StationEntry : Type 0 where
   restart_asked : StationEntry
   connect_asked : StationEntry
   disconnect_asked : StationEntry
+  relink_asked : StationEntry
   link_up : StationEntry
   link_down : (reason : Reason) → StationEntry
   was_restarted : (cause : ℕ) → (diagnostic : ℕ) → StationEntry

@@ -11,7 +11,8 @@ use Rattle.x25_link.specs.declared.phase.Reason.{Reason}
 use Rattle.x25_link.specs.Station.{LinkStation, Side, is_up}
 use Rattle.x25_link.specs.Hearing.{Step as LinkStep}
 use Rattle.x25_link.specs.Link.{alone, take_step, timer_refusal, timer_step, connect_refusal, connect_step}
-use Rattle.x25_link.specs.Link.{disconnect_refusal, disconnect_step, abandon_step}
+use Rattle.x25_link.specs.Link.{disconnect_refusal, disconnect_step, abandon_step, probe_refusal, relink_refusal}
+use Rattle.x25_link.specs.Link.{relink_step}
 use Rattle.x25_layer.specs.Layer.{LayerSettings, Layer, LayerAnswer, rested}
 use Rattle.x25_layer.specs.Calls.{LayerRequest, LayerOutcome, Accepted, Declined, layer_outcome}
 use Rattle.x25_layer.specs.code.FitsLayer.{is_full}
@@ -19,9 +20,9 @@ use Rattle.x25_layer.specs.Rounds.{LinkView, Putting, Answered, Went, Refuses, c
 use Rattle.x25_station.specs.declared.error.StationError.{StationError}
 use Rattle.x25_station.specs.declared.error.StationError.TheVariants as error
 use Rattle.x25_station.specs.Config.{Settings, link_settings, layer_settings}
-use Rattle.x25_station.specs.Command.{Command, Requests, Connects, Disconnects, said_by}
-use Rattle.x25_station.specs.Entry.{StationEntry, connect_asked, disconnect_asked, entries_noted, station_told}
-use Rattle.x25_station.specs.Entry.{station_asked, bringing, entries_beside}
+use Rattle.x25_station.specs.Command.{Command, Requests, Connects, Disconnects, Probes, Relinks, said_by}
+use Rattle.x25_station.specs.Entry.{StationEntry, connect_asked, disconnect_asked, relink_asked, entries_noted}
+use Rattle.x25_station.specs.Entry.{station_told, station_asked, bringing, entries_beside}
 use Rattle.x25_station.specs.Station.{Station, all_put, view_of}
 
 -- the station after a step, the frames to send, in order, and the entries of the transcript
@@ -109,6 +110,15 @@ abbrev pub disconnects : Settings → Station → Outcome
 disconnects c s = unless (disconnect_refusal s.link.phase)
     (led_by (disconnect_asked ∷ []) (follows c s.layer (disconnect_step (link_settings c) s.link)))
 
+-- ---- probe, which has no entry, and relink
+
+abbrev pub probes : Settings → Station → Outcome
+probes c s = unless (probe_refusal s.link.phase) (follows c s.layer (timer_step (link_settings c) s.link))
+
+abbrev pub relinks : Settings → Station → Outcome
+relinks c s = unless (relink_refusal s.link.phase)
+    (led_by (relink_asked ∷ []) (follows c s.layer (relink_step (link_settings c) s.link)))
+
 -- ---- octets that come
 
 -- where the link is up and a count of restarts, clears or resets is at its most, before the octets are looked at
@@ -145,3 +155,5 @@ abbrev pub commands : Settings → Station → Command → Outcome
 commands c s (Requests request) = requests c s (said_by c.say_sizes s.layer request)
 commands c s Connects = connects_asked c s
 commands c s Disconnects = disconnects c s
+commands c s Probes = probes c s
+commands c s Relinks = relinks c s

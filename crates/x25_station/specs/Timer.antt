@@ -5,29 +5,31 @@ use Rattle.x25_link.specs.Station.{LinkStation}
 use Rattle.x25_link.specs.Link.{timer_runs}
 use Rattle.x25_station.specs.declared.timer.Timer.{Timer}
 use Rattle.x25_station.specs.declared.timer.Timer.TheVariants.{Off, Begins, GoesOn}
-use Rattle.x25_station.specs.Entry.{StationEntry, link_up}
+use Rattle.x25_station.specs.Entry.{StationEntry, link_up, link_down}
 use Rattle.x25_station.specs.Station.{Station}
 use Rattle.x25_station.specs.Step.{Step, Outcome, Did, Refused}
 
 abbrev pub runs : Station → Bool
 runs s = timer_runs s.link.phase s.link
 
-abbrev pub is_link_up : StationEntry → Bool
-is_link_up link_up = true
-is_link_up entry = false
+-- the link came up, or went down
+abbrev pub is_of_link : StationEntry → Bool
+is_of_link link_up = true
+is_of_link (link_down reason) = true
+is_of_link entry = false
 
-abbrev pub tells_up : List StationEntry → Bool
-tells_up [] = false
-tells_up (entry ∷ entries) = is_link_up entry || tells_up entries
+abbrev pub tells_link : List StationEntry → Bool
+tells_link [] = false
+tells_link (entry ∷ entries) = is_of_link entry || tells_link entries
 
 -- the first frame that isn't acknowledged has another number
 abbrev pub is_acknowledged : LinkStation → LinkStation → Bool
 is_acknowledged before behind = not (before.outgoing.acked % 8 == behind.outgoing.acked % 8)
 
--- T1 didn't run before, this was its firing, the link came up, or a frame was acknowledged
+-- T1 didn't run before, this was its firing, the link came up or went down, or a frame was acknowledged
 abbrev pub is_anew : Station → Bool → Step → Bool
 is_anew s has_fired step =
-    not (runs s) || (has_fired || (tells_up step.entries || is_acknowledged s.link step.near.link))
+    not (runs s) || (has_fired || (tells_link step.entries || is_acknowledged s.link step.near.link))
 
 abbrev pub timer_of : Bool → Bool → Timer
 timer_of false anew = Off

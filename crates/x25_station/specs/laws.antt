@@ -5,3 +5,4 @@ pub mod KeepLaw
 pub mod HoldLaw
 pub mod OctetLaw
 pub mod TimerLaw
+pub mod WayOutLaw

@@ -182,12 +182,12 @@ impl Station {
     /// Does what the user asks.
     ///
     /// `Connect` is refused with 12 where the link is being set up, 13 where it is closed and 15 where it is up, and
-    /// `Disconnect` with
-    /// 13 where it is closed. The others are refused with 9 where the link isn't up, then with
-    /// 40 while a restart is under way; one with a channel then with 42 where it isn't configured and a call with 41
-    /// where no channel is free; then, but for a message, with 10 where 256 packets wait; and then as the circuit
-    /// refuses it, with 30 to 34. Else 70 alone, and 70 may come in place of each of these but those of `Pull`. The
-    /// station is as before then.
+    /// `Disconnect` with 13 where it is closed. `Probe` and `Relink` are refused with 9 where the link isn't up, but
+    /// with 13 where it is closed, and `Relink` with 12 where it is being set up. The others are refused with 9 where
+    /// the link isn't up, then with 40 while a restart is under way; one with a channel then with 42 where it isn't
+    /// configured and a call with 41 where no channel is free; then, but for a message, with 10 where 256 packets wait;
+    /// and then as the circuit refuses it, with 30 to 34. Else 70 alone, and 70 may come in place of each of these but
+    /// those of `Pull`. The station is as before then.
     #[inline(always)]
     pub fn command(&mut self, command: Cmd<'_>, out: &mut Step) -> Result<(), StationError>
         ensures does { Does self.old self.new out.new result (λ c s. commands c s (command_of command.entry)) }
@@ -240,6 +240,8 @@ impl Station {
             Cmd::Pull => self.pull_asked(out),
             Cmd::Connect => self.connect_asked(out),
             Cmd::Disconnect => self.disconnect(out),
+            Cmd::Probe => self.probe(out),
+            Cmd::Relink => self.relink(out),
         }
     }
 

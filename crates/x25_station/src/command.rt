@@ -54,4 +54,9 @@ pub enum Cmd<'a> {
     Connect,
     /// Disconnects the link, for good.
     Disconnect,
+    /// Polls the other end over a link that is up, whether timer T1 runs or not: it has to answer while T1 runs, N2
+    /// polls in all. It has no entry.
+    Probe,
+    /// Sets a link that is up up anew: the link goes down, as the entry behind its own tells, and SABM goes.
+    Relink,
 }

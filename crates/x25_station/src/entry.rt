@@ -19,6 +19,8 @@ pub enum Entry {
     ConnectAsked,
     /// The user asked that the link be disconnected.
     DisconnectAsked,
+    /// The user asked that the link be set up anew.
+    RelinkAsked,
     /// The link came up.
     LinkUp,
     /// The link went down.

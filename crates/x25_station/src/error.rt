@@ -11,7 +11,7 @@ pub enum StationError {
     /// 14: a setting is out of its range.
     #[error("a parameter is out of range")]
     BadConfig,
-    /// The link refuses `connect`, `disconnect` or timer T1: 11, 12, 13 or 15.
+    /// The link refuses `connect`, `disconnect`, `probe`, `relink` or timer T1: 9, 11, 12, 13 or 15.
     #[error("{0}")]
     Link(LinkError),
     /// The packet layer refuses a command: 9, 10, 30 to 34, or 40 to 42.

@@ -8,10 +8,11 @@ ghost use Rattle.x25_station.specs.laws.HoldLaw.{FewWait, FewStand, FewMessages,
 ghost use Rattle.x25_station.specs.laws.OctetLaw.{FewOctets, FewOctetsInAll};
 ghost use Rattle.x25_station.specs.laws.TimerLaw.{BeginsWhereDue, BeginsBehindPull, DeadlineIsTrue, FiringIsTaken};
 ghost use Rattle.x25_station.specs.laws.TimerLaw.{OffIsRefused, PullIsHeeded};
+ghost use Rattle.x25_station.specs.laws.WayOutLaw.{FiringLeadsOn, RelinkLeadsOn};
 
 use x25_circuit::values_are_agreed;
 use x25_layer::calls_are_runs;
-use x25_link::{holds_few, notes_what_changes};
+use x25_link::{holds_few, notes_what_changes, sets_up_by_rows};
 use x25_packet::reading_is_the_grammar;
 use x25_wide::taking_keeps_octets;
 
@@ -82,7 +83,7 @@ pub fn stations_hold_few()
 /// is off, sets it at one that begins T1 anew, and leaves it at any other and at a refusal: then it stands exactly
 /// while T1 runs, so that a firing when it passes is never refused with 11. So it does for one who sets it once, by
 /// what became of T1 at a step and a pull behind it. T1 begins anew, where it runs behind the step, or behind the pull
-/// too, at each that was its firing, told LinkUp, or behind which more frames are acknowledged.
+/// too, at each that was its firing, told LinkUp or LinkDown, or behind which more frames are acknowledged.
 pub fn deadlines_are_true()
     ensures deadline { DeadlineIsTrue }
     ensures taken { FiringIsTaken }
@@ -91,3 +92,13 @@ pub fn deadlines_are_true()
     ensures due { BeginsWhereDue }
     ensures due_pulled { BeginsBehindPull }
 {}
+
+/// Where the other end doesn't answer, two steps lead on, whatever it does. A link that is up may be set up anew by
+/// `Relink`, whatever is awaited and whatever waits: LinkDown is told, and UA is awaited, with all tries left. Where UA
+/// is awaited, N2 firings of T1 and one more at most lead to Down, and LinkDown is told.
+pub fn ways_out_lead_on()
+    ensures relink { RelinkLeadsOn }
+    ensures firing { FiringLeadsOn }
+{
+    sets_up_by_rows();
+}

@@ -10,7 +10,7 @@ ghost use Rattle.x25_station.specs.code.FitsStation.{FitsStation, Does, IsEmpty,
 ghost use Rattle.x25_station.specs.code.PlainEntry.{plain_entry};
 ghost use Rattle.x25_station.specs.Config.{Settings};
 ghost use Rattle.x25_station.specs.Station.{Station as State};
-ghost use Rattle.x25_station.specs.Step.{connects, connects_asked, disconnects, fires, layer_down};
+ghost use Rattle.x25_station.specs.Step.{connects, connects_asked, disconnects, fires, layer_down, probes, relinks};
 
 use crate::entry::Entry;
 use crate::error::StationError;
@@ -90,6 +90,43 @@ impl Station {
         out.reserve()?;
         match self.link.t1() {
             Ok(heard) => {
+                self.link.swap_frames(&mut out.frames);
+                note_down(&mut self.layer, heard.notes.down, &mut out.entries);
+                Ok(())
+            }
+            Err(error) => Err(StationError::of_link(error)),
+        }
+    }
+
+    /// Polls the other end, as T1 does at its firing.
+    pub(crate) fn probe(&mut self, out: &mut Step) -> Result<(), StationError>
+        requires { IsEmpty out.old }
+        ensures { Does self.old self.new out.new result probes }
+    {
+        steps_keep_bounds();
+        out.reserve()?;
+        match self.link.probe() {
+            Ok(heard) => {
+                self.link.swap_frames(&mut out.frames);
+                note_down(&mut self.layer, heard.notes.down, &mut out.entries);
+                Ok(())
+            }
+            Err(error) => Err(StationError::of_link(error)),
+        }
+    }
+
+    /// Sets the link up anew.
+    pub(crate) fn relink(&mut self, out: &mut Step) -> Result<(), StationError>
+        requires { IsEmpty out.old }
+        ensures { Does self.old self.new out.new result relinks }
+    {
+        steps_keep_bounds();
+        if out.entries.reserve(2).is_err() {
+            return Err(StationError::NoMemory);
+        }
+        match self.link.relink() {
+            Ok(heard) => {
+                out.entries.push_reserved(Entry::RelinkAsked);
                 self.link.swap_frames(&mut out.frames);
                 note_down(&mut self.layer, heard.notes.down, &mut out.entries);
                 Ok(())

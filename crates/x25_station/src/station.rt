@@ -8,7 +8,7 @@ use crate::error::StationError;
 use std::alloc::Global;
 use x25_bits::{Pool, Promise, Role};
 use x25_frame::N1;
-use x25_layer::{Layer, LayerError, Stretch};
+use x25_layer::{Awaits, Layer, LayerError, Stretch};
 use x25_link::{Link, LinkError, OrderedLink};
 
 /// A station of X.25, DTE or DCE: its link and its packet layer.
@@ -32,11 +32,11 @@ impl Station {
     ghost use Rattle.x25_station.specs.code.FitsStation.{FitsStation, FitsStill, RefusesWith};
     ghost use Rattle.x25_station.specs.Config.{Settings, layer_settings, settings_from, config_refusal};
     ghost use Rattle.x25_station.specs.Station.{Station as State, new_station};
-    ghost use Rattle.x25_station.specs.Station.Told.{is_idle, is_at_rest, is_refused, room, stretch};
+    ghost use Rattle.x25_station.specs.Station.Told.{awaits_answers, is_idle, is_at_rest, is_refused, room, stretch};
     ghost use Rattle.x25_station.specs.Step.{requests};
     ghost use Rattle.x25_layer.specs.Calls.{Asks};
     ghost use Rattle.x25_circuit.specs.Calling.{Sends};
-    ghost use Rattle.x25_layer.specs.code.FitsLayer.{KeepsOn, plain_stretch};
+    ghost use Rattle.x25_layer.specs.code.FitsLayer.{KeepsOn, plain_stretch, awaited_at};
     ghost use Rattle.x25_link.specs.code.Outbox.{KeepsOne};
     ghost use Rattle.x25_layer.specs.Layer.InPart.{joined_at};
     ghost use Rattle.x25_link.specs.Station.{awaits_ua};
@@ -81,6 +81,13 @@ impl Station {
         self.link.idle() && self.layer.waits() == 0
     }
 
+    /// Whether an answer is awaited: that a restart be confirmed, or what `awaits` says of a channel.
+    pub fn awaits_answers(&self) -> bool
+        ensures { (c : Settings) (s : State) → FitsStation c self.now s → result ≡ awaits_answers c s }
+    {
+        self.layer.is_restarting() || self.layer.awaited() > 0
+    }
+
     /// Whether the link is at rest: it is up, no packet waits in it, all that was sent is acknowledged, and timer T1
     /// doesn't run. Messages may wait in circuits.
     pub fn is_at_rest(&self) -> bool
@@ -94,6 +101,22 @@ impl Station {
         ensures { (c : Settings) (s : State) → FitsStation c self.now s → result ≡ awaits_ua s.link.phase }
     {
         self.link.awaits_ua()
+    }
+
+    /// The answer that this end awaits on a channel; none where it isn't configured, while a restart is under way, and
+    /// where the link isn't up.
+    pub fn awaits(&self, channel: u16) -> Awaits
+        ensures { (c : Settings) (s : State) → FitsStation c self.now s
+            → result ≡ awaited_at (layer_settings c) s.layer channel }
+    {
+        self.layer.awaits(channel)
+    }
+
+    /// Whether a restart is under way: this end awaits that its RESTART be confirmed.
+    pub fn is_restarting(&self) -> bool
+        ensures { (c : Settings) (s : State) → FitsStation c self.now s → result ≡ s.layer.restarting }
+    {
+        self.layer.is_restarting()
     }
 
     /// Whether timer T1 runs: exactly where `t1` isn't refused with 11.

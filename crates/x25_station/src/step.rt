@@ -1,10 +1,12 @@
-ghost use Rattle.std.specs.Prelude.{◌≡◌, ◌≤◌, max, vec_capacity, OnOk};
+ghost use Rattle.std.specs.Prelude.{◌≡◌, ◌≤◌, map, max, vec_capacity, OnOk};
 ghost use Rattle.x25_station.specs.code.Aside.{HasPlaces};
 ghost use Rattle.x25_station.specs.code.FitsStation.{IsEmpty, RefusesForMemory};
+ghost use Rattle.x25_station.specs.code.PlainEntry.{plain_entry};
+ghost use Rattle.x25_station.specs.Timer.{tells_link as tell_link};
 
 use crate::entry::Entry;
 use crate::error::StationError;
-use crate::timer::Timer;
+use crate::timer::{Timer, tells_link};
 use std::alloc::Global;
 
 /// The most frames that a call of a station answers: nine in the link's step, seven I frames of the layer's packets,
@@ -34,6 +36,13 @@ impl Step {
             entries: Vec::new(alloc),
             timer: Timer::Off,
         }
+    }
+
+    /// Whether the link came up or went down.
+    pub fn tells_link(&self) -> bool
+        ensures { result ≡ tell_link (map plain_entry self.now.entries.items) }
+    {
+        tells_link(self.entries.as_slice())
     }
 
     /// Room for the entries of a call, and no more, or what there was. The list of its frames comes from the link.

@@ -8,7 +8,8 @@ ghost use Rattle.x25_station.specs.Config.{Settings};
 ghost use Rattle.x25_station.specs.Station.{Station as State};
 ghost use Rattle.x25_station.specs.Step.{Did, Step as PlainStep};
 ghost use Rattle.x25_station.specs.Timer as definition;
-ghost use Rattle.x25_station.specs.Timer.{is_link_up, pulled_timer, standing as standing_timer, tells_up as tell_up};
+ghost use Rattle.x25_station.specs.Timer.{is_of_link, pulled_timer, standing as standing_timer};
+ghost use Rattle.x25_station.specs.Timer.{tells_link as tell_link};
 ghost use Rattle.x25_station.specs.Timer.{timer_at};
 
 use crate::entry::Entry;
@@ -48,11 +49,12 @@ fn timer_of(runs: bool, is_anew: bool) -> Timer
     }
 }
 
-// Whether T1 begins anew where it runs: it didn't run before, fired, the link came up, or a frame was acknowledged.
-fn begins_anew(runs: bool, has_fired: bool, is_up: bool, is_acknowledged: bool) -> bool
-    ensures { result ≡ (not runs || (has_fired || (is_up || is_acknowledged))) }
+// Whether T1 begins anew where it runs: it didn't run before, fired, the link came up or went down, or a frame was
+// acknowledged.
+fn begins_anew(runs: bool, has_fired: bool, is_noted: bool, is_acknowledged: bool) -> bool
+    ensures { result ≡ (not runs || (has_fired || (is_noted || is_acknowledged))) }
 {
-    !runs || (has_fired || (is_up || is_acknowledged))
+    !runs || (has_fired || (is_noted || is_acknowledged))
 }
 
 fn is_another(before: Seq, behind: Seq) -> bool
@@ -61,18 +63,18 @@ fn is_another(before: Seq, behind: Seq) -> bool
     before.get() != behind.get()
 }
 
-fn is_up(entry: &Entry) -> bool
-    ensures { result ≡ is_link_up (plain_entry entry.now) }
+fn is_note(entry: &Entry) -> bool
+    ensures { result ≡ is_of_link (plain_entry entry.now) }
 {
-    matches!(entry, Entry::LinkUp)
+    matches!(entry, Entry::LinkUp | Entry::LinkDown(_))
 }
 
-// Whether the link came up.
-fn tells_up(entries: &[Entry]) -> bool
-    ensures { result ≡ tell_up (map plain_entry entries.now) }
+/// Whether the link came up or went down.
+pub(crate) fn tells_link(entries: &[Entry]) -> bool
+    ensures { result ≡ tell_link (map plain_entry entries.now) }
 {
     for entry in entries {
-        if is_up(entry) {
+        if is_note(entry) {
             return true;
         }
     }
@@ -88,13 +90,13 @@ impl Clock {
     }
 
     // What becomes of T1 at a step that left `next`.
-    fn behind(self, next: Clock, has_fired: bool, is_up: bool) -> Timer
+    fn behind(self, next: Clock, has_fired: bool, is_noted: bool) -> Timer
         ensures { (s : State) (step : PlainStep) → Watches self s → Watches next step.near
-            → is_up ≡ tell_up step.entries →
+            → is_noted ≡ tell_link step.entries →
             result ≡ timer_at s has_fired (Did step) }
     {
         let is_acknowledged = is_another(self.acknowledged, next.acknowledged);
-        let is_anew = begins_anew(self.runs, has_fired, is_up, is_acknowledged);
+        let is_anew = begins_anew(self.runs, has_fired, is_noted, is_acknowledged);
         timer_of(next.runs, is_anew)
     }
 
@@ -129,6 +131,6 @@ impl Station {
         ensures { (c : Settings) (s : State) (step : PlainStep) → Watches before s → FitsStation c self.now step.near →
             map plain_entry entries.now ≡ step.entries → result ≡ timer_at s has_fired (Did step) }
     {
-        before.behind(self.clock(), has_fired, tells_up(entries))
+        before.behind(self.clock(), has_fired, tells_link(entries))
     }
 }

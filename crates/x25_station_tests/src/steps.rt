@@ -66,6 +66,9 @@ const BUSY: Says = (false, false, false, true, 0, 0, None);
 
 const IDLE: Says = (true, true, false, false, 0, 0, None);
 
+/// It is polled.
+const IDLE_RUNS: Says = (true, false, false, true, 0, 0, None);
+
 const BUSY_IN_A_CALL: Says = (false, false, false, true, 8, 0, OPEN);
 
 const IDLE_IN_A_CALL: Says = (true, true, false, false, 8, 0, OPEN);

@@ -15,7 +15,8 @@ use Rattle.x25_circuit.specs.Calling.{Request, Calls, Accepts, Clears, Sends, In
 use Rattle.x25_circuit.specs.Calling.{SaysNotReady}
 use Rattle.x25_handshakes.specs.laws.Names.{Name}
 use Rattle.x25_layer.specs.laws.Transcript.{Said, Asked, Told}
-use Rattle.x25_station.specs.Entry.{StationEntry, of_channel, restart_asked, connect_asked, disconnect_asked, link_up}
+use Rattle.x25_station.specs.Entry.{StationEntry, of_channel, restart_asked, connect_asked, disconnect_asked}
+use Rattle.x25_station.specs.Entry.{relink_asked, link_up}
 use Rattle.x25_station.specs.Entry.{link_down, was_restarted, restart_confirmed, at_fault, came_beside, was_diagnosed}
 use Rattle.x25_text.specs.Text.{octets_text}
 use Rattle.x25_text.specs.PacketText.{reason_text}
@@ -121,6 +122,7 @@ entry_text (of_channel e) = said_text e.channel e.name e.said
 entry_text restart_asked = codes "restart"
 entry_text connect_asked = codes "connect"
 entry_text disconnect_asked = codes "disconnect"
+entry_text relink_asked = codes "relink"
 entry_text link_up = codes "linkup"
 entry_text (link_down reason) = codes "linkdown " ++ down_text reason
 entry_text (was_restarted cause diagnostic) = codes "restarted" ++ reason_text cause diagnostic

@@ -270,6 +270,7 @@ fn push_entry_text(entry: &Entry, text: &mut Text) -> Result<(), AllocError>
         Entry::RestartAsked => text.try_push(b"restart"),
         Entry::ConnectAsked => text.try_push(b"connect"),
         Entry::DisconnectAsked => text.try_push(b"disconnect"),
+        Entry::RelinkAsked => text.try_push(b"relink"),
         Entry::LinkUp => text.try_push(b"linkup"),
         Entry::LinkDown(reason) => {
             text.try_push(b"linkdown ")?;

@@ -68,6 +68,8 @@ fn command_shown(alloc: Global, command: &Command<'_>) -> Result<String, AllocEr
         Command::Pull => String::from_str(alloc, "pulls"),
         Command::Connect => String::from_str(alloc, "connects"),
         Command::Disconnect => String::from_str(alloc, "disconnects"),
+        Command::Probe => String::from_str(alloc, "probes"),
+        Command::Relink => String::from_str(alloc, "relinks"),
     }
 }
 

@@ -95,6 +95,8 @@ abbrev pub IsElsewhere : {c : Settings} {w v : BesideSessions} → beside.Happen
 IsElsewhere (beside.Asks request step octets is) = ⊥
 IsElsewhere (beside.Connects none) = ⊥
 IsElsewhere (beside.Disconnects none) = ⊥
+IsElsewhere (beside.Probes none) = ⊥
+IsElsewhere (beside.Relinks none) = ⊥
 IsElsewhere (beside.Fires none due) = ⊥
 IsElsewhere (beside.Receives e rest front free) = ⊥
 IsElsewhere (beside.Abandons e rest front full) = ⊥

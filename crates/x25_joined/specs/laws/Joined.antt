@@ -40,7 +40,7 @@ entries_in (enters entry ∷ sayings) = entry ∷ entries_in sayings
 entries_in (sends octets ∷ sayings) = entries_in sayings
 entries_in (reads_nothing ∷ sayings) = entries_in sayings
 entries_in (refuses error ∷ sayings) = entries_in sayings
-entries_in (marks mark is_idle ∷ sayings) = entries_in sayings
+entries_in (marks mark is_idle is_due ∷ sayings) = entries_in sayings
 
 -- the octets of the frames among it
 abbrev pub frames_in : List Saying → List (List ℕ)
@@ -49,7 +49,7 @@ frames_in (enters entry ∷ sayings) = frames_in sayings
 frames_in (sends octets ∷ sayings) = octets ∷ frames_in sayings
 frames_in (reads_nothing ∷ sayings) = frames_in sayings
 frames_in (refuses error ∷ sayings) = frames_in sayings
-frames_in (marks mark is_idle ∷ sayings) = frames_in sayings
+frames_in (marks mark is_idle is_due ∷ sayings) = frames_in sayings
 
 -- ---- two of them, and the line
 

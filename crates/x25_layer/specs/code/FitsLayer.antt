@@ -1,6 +1,9 @@
 -- Which states of the definition a layer stands for, and what it tells of them.
 use Rattle.std.specs.Prelude.{◌≡◌, ℕ, zero, suc, ◌+◌, ◌^◌, ◌-◌, ◌==◌, ◌||◌, List, length, Option, Some, None, Bool}
 use Rattle.std.specs.Prelude.{true, false, slice_get, if◌then◌else◌}
+use Rattle.x25_circuit.specs.declared.awaits.Awaits.{Awaits}
+use Rattle.x25_circuit.specs.declared.awaits.Awaits.TheVariants.{Nothing}
+use Rattle.x25_circuit.specs.Awaits.{awaited_in, is_any}
 use Rattle.x25_circuit.specs.declared.circuit.Circuit as circuit_code
 use Rattle.x25_circuit.specs.declared.params.Params.{Params}
 use Rattle.x25_circuit.specs.Circuit.{Circuit, is_open, waits}
@@ -45,6 +48,16 @@ params_at c l h = if is_channel c.channels h then Some (l.circuits h).params els
 -- a configured channel is in p4 with d1
 abbrev pub is_open_at : LayerSettings → Layer → ℕ → Bool
 is_open_at c l h = if is_channel c.channels h then is_open (l.circuits h) else false
+
+-- the answer that this end awaits on a channel, none where it isn't configured
+abbrev pub awaited_at : LayerSettings → Layer → ℕ → Awaits
+awaited_at c l h = if is_channel c.channels h then awaited_in (l.circuits h).state else Nothing
+
+-- on how many of the channels up to a number an answer is awaited
+abbrev pub awaited_up_to : (ℕ → Circuit) → ℕ → ℕ
+awaited_up_to circuits zero = 0
+awaited_up_to circuits (suc n) = awaited_up_to circuits n
+    + (if is_any (awaited_in (circuits (suc n)).state) then 1 else 0)
 
 -- for so many octets of the message in part memory is kept on a channel, and for none where it isn't configured
 pub record KeepsOn (v : code.Layer) (h count : ℕ) : Type 0 where

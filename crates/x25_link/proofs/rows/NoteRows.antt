@@ -11,15 +11,15 @@ use Rattle.x25_frame.specs.declared.error.FrameError.TheVariants.{Short, BadFcs,
 use Rattle.x25_link.specs.declared.phase.Phase.{Phase}
 use Rattle.x25_link.specs.declared.phase.Phase.TheVariants.{Down, Waiting, Up, Closed}
 use Rattle.x25_link.specs.declared.phase.Reason.{Reason}
-use Rattle.x25_link.specs.declared.phase.Reason.TheVariants.{Disc, Dm, FrmrSent, FrmrGot, Retries, Counts, Reset}
+use Rattle.x25_link.specs.declared.phase.Reason.TheVariants.{Disc, Dm, FrmrSent, FrmrGot, Retries, Counts, Local, Reset}
 use Rattle.x25_link.specs.declared.phase.Notes.{Notes}
 use Rattle.x25_link.specs.OrderedLink.{no_packets}
 use Rattle.x25_link.specs.Outgoing.{no_packet, waits}
 use Rattle.x25_link.specs.Station.{Settings, LinkStation, Side, lists_of, fresh, is_up, is_busy, with_near, sends, ready, send_next, may_send, pumped, owes_ready, ended}
 use Rattle.x25_link.specs.Hearing.{Step, quiet, leaves, other, rejects, is_valid, acknowledged, is_taken, takes, answers, passes_over, reject_of, hears_info, peer_is, goes_back, polls, numbered, row_of_frame, row_of}
-use Rattle.x25_link.specs.Link.{alone, closed_by, hears, puts, connects, asks_again, fires, disconnects, when_down, when_waiting}
+use Rattle.x25_link.specs.Link.{alone, closed_by, hears, puts, connects, asks_again, fires, disconnects, when_down, when_waiting, relinks}
 use Rattle.x25_link.specs.laws.SetUp.{reset_from}
-use Rattle.x25_link.specs.laws.NoteLaw.{Tells, Continues, HandsUp, TakeTells, TakeContinues, TakeHandsUp, TimerTells, TimerContinues, PutTells, ConnectTells, DisconnectTells, AbandonTells}
+use Rattle.x25_link.specs.laws.NoteLaw.{Tells, Continues, HandsUp, TakeTells, TakeContinues, TakeHandsUp, TimerTells, TimerContinues, PutTells, ConnectTells, DisconnectTells, AbandonTells, RelinkTells}
 use Rattle.x25_link.specs.laws.LinkLaws.{ended_lists, ended_phase}
 use Rattle.x25_link.proofs.EndLemmas.{true_false, none_open, ended_stays}
 
@@ -394,3 +394,13 @@ disconnect_tells c s = tells_from c.window s (disconnects (alone s)) (disconnect
 
 pub abandon_tells : AbandonTells
 abandon_tells c s = tells_from c.window s (leaves Counts (alone s)) (leaves_tells s Counts (alone s))
+
+pub relink_tells : RelinkTells
+relink_tells c s = tells_from c.window s (relinks (alone s)) (record {
+  fresh_up = λ e. true_false (sym e);
+  after_down = λ e. true_false (sym e);
+  left = λ _ _ _. refl;
+  dropped = λ _ _ _. refl;
+  stays = λ e. noted_quiet Local false e;
+  empty = λ e _ _. noted_quiet Local false e;
+})

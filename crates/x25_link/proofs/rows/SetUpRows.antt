@@ -6,13 +6,13 @@ use Rattle.x25_frame.specs.declared.error.FrameError.{FrameError}
 use Rattle.x25_link.specs.declared.phase.Phase.{Phase}
 use Rattle.x25_link.specs.declared.phase.Phase.TheVariants.{Down, Waiting, Up, Closed}
 use Rattle.x25_link.specs.declared.phase.Reason.{Reason}
-use Rattle.x25_link.specs.declared.phase.Reason.TheVariants.{Retries}
+use Rattle.x25_link.specs.declared.phase.Reason.TheVariants.{Retries, Counts}
 use Rattle.x25_link.specs.Outgoing.{no_packet}
 use Rattle.x25_link.specs.Station.{Settings, LinkStation, is_up, may_send, owes_ready, fresh, with_nothing}
 use Rattle.x25_link.specs.Hearing.{Step, quiet, leaves, row_of}
 use Rattle.x25_link.specs.Link.{alone, closed_by, hears, goes_up, connects, fires, disconnects, asks_again, when_waiting, when_down}
-use Rattle.x25_link.specs.laws.SetUp.{Is, waiting_after, waiting_sends, waiting_up, TakesPart, reset_from, TakeWaits, TakeSetsUp, ConnectWaits, TimerWaits, DisconnectWaits}
-use Rattle.x25_link.proofs.EndLemmas.{none_open}
+use Rattle.x25_link.specs.laws.SetUp.{Is, waiting_after, waiting_sends, waiting_up, TakesPart, reset_from, TakeWaits, TakeSetsUp, ConnectWaits, TimerWaits, DisconnectWaits, IsTwoSteps, RelinkIsTwoSteps}
+use Rattle.x25_link.proofs.EndLemmas.{none_open, ended_stays}
 use Rattle.x25_link.proofs.rows.WindowRows.{closed_stays}
 
 is_from : (k : ℕ) (near : LinkStation) (out : List PlainFrame) (down : Option Reason) (up : Bool) (step : Step) → may_send k step.side.near ≡ false → owes_ready step.side.near ≡ false
@@ -85,3 +85,6 @@ timer_waits c s e = timer_by _ c s e refl
 pub disconnect_waits : DisconnectWaits
 disconnect_waits c s e =
     idle_from c.window _ _ _ _ (disconnects (alone s)) refl (record { near = refl; out = refl; packet = refl; down = rw e refl; up = refl })
+
+pub relink_is_two_steps : RelinkIsTwoSteps
+relink_is_two_steps c s = record { abandoned = ended_stays c.window (leaves Counts (alone s)).side refl refl; connected = refl }

@@ -7,6 +7,7 @@ use Rattle.x25_link.specs.Outgoing.{waits}
 use Rattle.x25_link.specs.Station.{Settings, LinkStation, lists_of, fresh, is_up}
 use Rattle.x25_link.specs.Hearing.{Step}
 use Rattle.x25_link.specs.Link.{take_step, put_step, timer_step, connect_step, disconnect_step, abandon_step}
+use Rattle.x25_link.specs.Link.{relink_step}
 use Rattle.x25_link.specs.laws.SetUp.{reset_from}
 
 -- nothing is noted
@@ -67,3 +68,6 @@ DisconnectTells = (c : Settings) (s : LinkStation) → Tells s (disconnect_step 
 
 abbrev pub AbandonTells : Type 0
 AbandonTells = (c : Settings) (s : LinkStation) → Tells s (abandon_step c s)
+
+abbrev pub RelinkTells : Type 0
+RelinkTells = (c : Settings) (s : LinkStation) → Tells s (relink_step c s)

@@ -8,9 +8,9 @@ use Rattle.x25_link.specs.declared.phase.Phase.{Phase}
 use Rattle.x25_link.specs.declared.phase.Phase.TheVariants.{Down, Waiting, Up, Closed}
 use Rattle.x25_link.specs.declared.phase.Reason.{Reason}
 use Rattle.x25_link.specs.declared.phase.Reason.TheVariants.{Retries, Reset}
-use Rattle.x25_link.specs.Station.{Settings, LinkStation, fresh, with_nothing}
+use Rattle.x25_link.specs.Station.{Settings, LinkStation, Side, fresh, with_nothing}
 use Rattle.x25_link.specs.Hearing.{Step, other}
-use Rattle.x25_link.specs.Link.{take_step, timer_step, connect_step, disconnect_step}
+use Rattle.x25_link.specs.Link.{take_step, timer_step, connect_step, disconnect_step, abandon_step, relink_step}
 
 -- the station after a step, what was sent, and whether the link went down and up; nothing is handed up
 pub record Is (station : LinkStation) (frames : List PlainFrame) (ends : Option Reason) (begins : Bool)
@@ -77,6 +77,14 @@ TimerWaits = (c : Settings) (s : LinkStation) → s.phase ≡ Waiting →
 abbrev pub DisconnectWaits : Type 0
 DisconnectWaits = (c : Settings) (s : LinkStation) → s.phase ≡ Waiting
     → Is (with_nothing Closed s.tries) (disc true ∷ []) None false (disconnect_step c s)
+
+-- relink is abandon, and then connect
+pub record IsTwoSteps (c : Settings) (s : LinkStation) : Type 0 where
+  pub abandoned : (abandon_step c s).side ≡ record { near = with_nothing Down s.tries; out = [] }
+  pub connected : (relink_step c s).side ≡ (connect_step c (with_nothing Down s.tries)).side
+
+abbrev pub RelinkIsTwoSteps : Type 0
+RelinkIsTwoSteps = (c : Settings) (s : LinkStation) → IsTwoSteps c s
 
 -- the laws together
 pub record SetUpLaws : Type 0 where

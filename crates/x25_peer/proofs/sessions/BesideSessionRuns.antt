@@ -19,14 +19,14 @@ use Rattle.x25_station.specs.Config.{Settings, link_settings, layer_settings}
 use Rattle.x25_station.specs.Entry.{layer_entries}
 use Rattle.x25_station.specs.laws.ReadLaw.{IsReachedByOctets}
 use Rattle.x25_station.specs.laws.ReadLaw as reached
-use Rattle.x25_peer.specs.laws.BesideSessions.{Own, Theirs, BesideSessions, their_now, their_layer, start, Happens, Asks, Connects, Disconnects, Fires, Receives, Abandons, Loses, Damages, LosesThere, DamagesThere, Leaves, Sends, Hears, AnswersByUa, LayerDoes, LayerHears, LayerHearsChannel, IsReached}
+use Rattle.x25_peer.specs.laws.BesideSessions.{Own, Theirs, BesideSessions, their_now, their_layer, start, Happens, Asks, Connects, Disconnects, Probes, Relinks, Fires, Receives, Abandons, Loses, Damages, LosesThere, DamagesThere, Leaves, Sends, Hears, AnswersByUa, LayerDoes, LayerHears, LayerHearsChannel, IsReached}
 use Rattle.x25_peer.specs.laws.BesideSessions as beside
 use Rattle.x25_peer.specs.laws.BesideSessionClaims.{WithAnyPeer, MeetInStep, IsInOrder, MetAreInOrder, UnmetAreToldNothing, EachMeetsLatest, UpIsLatest, IdleHasArrived, FindsNoError}
 use Rattle.x25_peer.proofs.ReadLemmas.{spelled, none_left}
 use Rattle.x25_peer.proofs.sessions.Meetings.{CanMeet, all_map, all_some, all_both, met_can_meet, could_meet_some}
 use Rattle.x25_peer.proofs.sessions.SessionLinks.{links_with}
 use Rattle.x25_peer.proofs.sessions.Standing.{Below, Known, Stands}
-use Rattle.x25_peer.proofs.sessions.StationActs.{asks, connects, disconnects, fires, abandons_it, comes}
+use Rattle.x25_peer.proofs.sessions.StationActs.{asks, connects, disconnects, probes, relinks, fires, abandons_it, comes}
 use Rattle.x25_peer.proofs.sessions.PeerActs.{loses, damages, loses_there, damages_there, leaves, sends, hears_it, answers, layer_does, layer_hears, layer_hears_channel}
 
 forget : (c : Settings) (w : layer_peer.Joined) → IsReachedByOctets c.role c.long_data c.channels w → layer_peer.IsReached c.role c.long_data c.channels w
@@ -49,6 +49,8 @@ module _ (below : Below) (c : Settings) (low : 1 ≤ c.window) (high : c.window 
   step_on w v h (Asks request step octets is) = asks below c low high few w h request step octets is
   step_on w v h (Connects none) = connects below c low high few w h none
   step_on w v h (Disconnects none) = disconnects below c low high few w h none
+  step_on w v h (Probes none) = probes below c low high few w h none
+  step_on w v h (Relinks none) = relinks below c low high few w h none
   step_on w v h (Fires none due) = fires below c low high few w h none due
   step_on w v h (Receives e rest front not_full) = comes below c low high few w h e rest front not_full
   step_on w v h (Abandons e rest front full) = abandons_it below c low high few w h e rest front full

@@ -1,5 +1,5 @@
 -- The link's half of a station beside a peer over sessions: a step of the link, and the packets that are put behind it.
-use Rattle.std.proofs.Common.{◌≡◌, ℕ, ◌==◌, ◌≤◌, List, [], ◌∷◌, ◌++◌, length, Bool, true, false, if◌then◌else◌, None, option_to_list, refl, sym, ap, subst, ◌∙◌, append_assoc, append-nil}
+use Rattle.std.proofs.Common.{◌≡◌, ◌⊎◌, inl, inr, ℕ, ◌==◌, ◌≤◌, List, [], ◌∷◌, ◌++◌, length, Bool, true, false, if◌then◌else◌, Option, None, option_to_list, refl, sym, ap, subst, ◌∙◌, append_assoc, append-nil}
 use Rattle.std.proofs.lemmas.Bool.{le-leb}
 use Rattle.x25_bits.specs.declared.role.Role.{Role}
 use Rattle.x25_frame.specs.Frame.{PlainFrame}
@@ -7,7 +7,8 @@ use Rattle.x25_frame.specs.Spelling.{spelling_of}
 use Rattle.x25_packet.specs.Packet.{PlainPacket}
 use Rattle.x25_packet.specs.Spelling as packet
 use Rattle.x25_link.specs.Station.{Settings as LinkSettings, LinkStation, Side, is_up}
-use Rattle.x25_link.specs.Hearing.{Step as LinkStep}
+use Rattle.x25_link.specs.declared.phase.Reason.{Reason}
+use Rattle.x25_link.specs.Hearing.{Step as LinkStep, quiet}
 use Rattle.x25_link.specs.Link.{put_refusal, put_step}
 use Rattle.x25_link.specs.laws.NoteLaw.{PutTells}
 use Rattle.x25_line.specs.laws.Stations as line
@@ -29,6 +30,9 @@ pub record LinkReached (c : LinkSettings) (link : LinkStation) (begun : ℕ) (do
   pub reached : IsReached (Unit {0}) c (links_with link begun downs ups peer out back met)
   pub is_down : (n : ℕ) → downs n ≡ down n
   pub is_up : (n : ℕ) → ups n ≡ up n
+
+abbrev pub left_at : LinkStation → Option Reason → LinkStep
+left_at near why = record { side = record { near = near; out = [] }; packet = None; notes = record { down = why; up = false } }
 
 -- ---- lists
 
@@ -83,6 +87,19 @@ module _ (c : LinkSettings) (peer : PeerEnd) where
         is_down = λ n. extended_none h.downs session n ∙ h.is_down n;
         is_up = λ n. extended_as h.ups up session (option_to_list k.packet) n (h.is_up n);
       }
+
+  -- two acts that are such steps, of which the first leaves the link so, sends nothing, and hands nothing up
+  pub two_link_steps : (link near : LinkStation) (begun : ℕ) (down up : ℕ → List (List ℕ)) (out back : List Entry) (met : List Meeting) (first second : line.Act) (why : Option Reason) (t : Side)
+      → ((downs ups : ℕ → List (List ℕ)) (o : List Entry) (at : LinkStation) (act : line.Act) → (act ≡ first) ⊎ (act ≡ second) → IsTimely c act (links_with at begun downs ups peer o back met))
+      → ((downs ups : ℕ → List (List ℕ)) → (let w = both_ends (links_with link begun downs ups peer out back met) in acts c first w ≡ after_step c w back met [] (left_at near why)))
+      → ((downs ups : ℕ → List (List ℕ)) → (let w = both_ends (links_with near begun downs ups peer (out ++ []) back met) in acts c second w ≡ after_step c w back met [] (quiet t)))
+      → LinkReached c link begun down up peer out back met
+      → LinkReached c t.near begun down (extended up begun []) peer (out ++ sent_in begun c.role t.out) back met
+  two_link_steps link near begun down up out back met first second why t timely one two h =
+      subst (λ (o : List Entry). LinkReached c t.near begun down (extended up begun []) peer (o ++ sent_in begun c.role t.out) back met) (append-nil out)
+      (by_lists down (extended (extended up begun []) begun []) down (extended up begun []) (λ n. refl) (λ n. extended_again up begun [] [] n)
+      (link_steps near begun down (extended up begun []) (out ++ []) back back met met second (quiet t) (λ downs ups. timely downs ups (out ++ []) near second (inr refl)) two
+      (link_steps link begun down up out back back met met first (left_at near why) (λ downs ups. timely downs ups out link first (inl refl)) one h)))
 
   -- a packet is put
   put_link : (link : LinkStation) (begun : ℕ) (o : List ℕ) (down up : ℕ → List (List ℕ)) (out back : List Entry) (met : List Meeting) → length o ≤ c.longest → put_refusal link ≡ None

@@ -6,7 +6,8 @@ use Rattle.std.proofs.lemmas.List.{length-append, length-map, drop-append-le}
 use Rattle.x25_packet.specs.Packet.{PlainPacket}
 use Rattle.x25_packet.specs.Spelling.{spelling_of}
 use Rattle.x25_link.specs.Station.{Settings as LinkSettings, LinkStation, is_up}
-use Rattle.x25_link.specs.laws.NoteLaw.{TakeTells, TakeHandsUp, TimerTells, PutTells, ConnectTells, DisconnectTells, AbandonTells}
+use Rattle.x25_link.specs.laws.NoteLaw.{TakeTells, TakeHandsUp, TimerTells, PutTells, ConnectTells, DisconnectTells, AbandonTells, RelinkTells}
+use Rattle.x25_link.specs.laws.SetUp.{RelinkIsTwoSteps}
 use Rattle.x25_line.specs.laws.InWindow.{IsPrefix}
 use Rattle.x25_line.specs.laws.Peer.{Peer}
 use Rattle.x25_line.specs.laws.Sessions.{Entry, Meeting, extended}
@@ -49,6 +50,8 @@ pub record Below : Type 0 where
   pub connect_tells : ConnectTells
   pub disconnect_tells : DisconnectTells
   pub abandon_tells : AbandonTells
+  pub relink_tells : RelinkTells
+  pub relinks : RelinkIsTwoSteps
 
 -- ---- a session among all
 

@@ -8,10 +8,11 @@ use Rattle.x25_link.specs.declared.error.LinkError.{LinkError}
 use Rattle.x25_link.specs.declared.phase.Phase.{Phase}
 use Rattle.x25_link.specs.declared.phase.Phase.TheVariants.{Down, Up, Waiting, Closed}
 use Rattle.x25_link.specs.declared.phase.Notes.{Notes}
+use Rattle.x25_link.specs.declared.phase.Reason.TheVariants.{Counts}
 use Rattle.x25_link.specs.Outgoing.{waits}
-use Rattle.x25_link.specs.Station.{LinkStation, is_up}
+use Rattle.x25_link.specs.Station.{LinkStation, Side, is_up, with_nothing}
 use Rattle.x25_link.specs.Hearing.{Step as LinkStep, other}
-use Rattle.x25_link.specs.Link.{alone, take_step, timer_refusal, timer_step, connect_refusal, connect_step, disconnect_refusal, disconnect_step, abandon_step}
+use Rattle.x25_link.specs.Link.{alone, take_step, timer_refusal, timer_step, connect_refusal, connect_step, disconnect_refusal, disconnect_step, abandon_step, probe_refusal, relink_refusal, relink_step}
 use Rattle.x25_line.specs.laws.Stations as line
 use Rattle.x25_line.specs.laws.StationClaims.{number_in}
 use Rattle.x25_line.specs.laws.Sessions as links
@@ -29,8 +30,8 @@ use Rattle.x25_layer.specs.laws.RoundLaw.{moves_all, pulls_of}
 use Rattle.x25_station.specs.Config.{Settings, link_settings, layer_settings, longest_packet}
 use Rattle.x25_station.specs.declared.error.StationError.{StationError}
 use Rattle.x25_station.specs.declared.error.StationError.TheVariants as error
-use Rattle.x25_station.specs.Command.{Connects as ConnectsCommand, Disconnects as DisconnectsCommand}
-use Rattle.x25_station.specs.Entry.{connect_asked, disconnect_asked}
+use Rattle.x25_station.specs.Command.{Connects as ConnectsCommand, Disconnects as DisconnectsCommand, Probes as ProbesCommand, Relinks as RelinksCommand}
+use Rattle.x25_station.specs.Entry.{connect_asked, disconnect_asked, relink_asked}
 use Rattle.x25_station.specs.Station.{Station, view_of}
 use Rattle.x25_station.specs.Step.{Step, Outcome, Did, Refused, unless, led_by, did, entries_of_outcome, follows, abandons, receives, requests}
 use Rattle.x25_station.specs.laws.JoinLaw.{station_with, IsJoined}
@@ -41,7 +42,7 @@ use Rattle.x25_peer.specs.laws.BesideSessions.{Theirs, BesideSessions, stepped, 
 use Rattle.x25_peer.proofs.LayerPart.{AllStay, pulls_stay, moves_reached}
 use Rattle.x25_peer.proofs.ReadLemmas.{Next, next_read, timer_packet}
 use Rattle.x25_peer.proofs.sessions.Meetings.{CanMeet, could_meet, all_some, all_both, met_can_meet, could_meet_some}
-use Rattle.x25_peer.proofs.sessions.SessionLinks.{links_with, LinkReached, extended_none, by_lists, link_steps}
+use Rattle.x25_peer.proofs.sessions.SessionLinks.{links_with, LinkReached, extended_none, by_lists, left_at, link_steps, two_link_steps}
 use Rattle.x25_peer.proofs.sessions.SessionLayers.{alone_at, AreAsked, pulls_asked, asked_reached, asked_tells}
 use Rattle.x25_peer.proofs.sessions.Standing.{Below, Known, PairReached, downs_of, ups_of, Stands, both_begin, heard_few, way, way_more}
 use Rattle.x25_peer.proofs.sessions.StationSteps.{AreSilent, goes, follows_on}
@@ -66,6 +67,14 @@ did_up c s request step is = by (is_up s.link.phase) refl
 may_connect : (p : Phase) → connect_refusal p ≡ None → p ≡ Down
 may_connect Down is = refl
 may_connect p is = absurd (cc)
+
+may_relink : (p : Phase) → relink_refusal p ≡ None → is_up p ≡ true
+may_relink Up is = refl
+may_relink p is = absurd (cc)
+
+may_probe : (p : Phase) → probe_refusal p ≡ None → is_up p ≡ true
+may_probe Up is = refl
+may_probe p is = absurd (cc)
 
 silent : AreSilent []
 silent = record { entries = refl; told = refl }
@@ -146,6 +155,36 @@ module _ (below : Below) (c : Settings) (low : 1 ≤ c.window) (high : c.window 
       follows_on below c few w h (disconnect_asked ∷ []) (record { entries = refl; told = refl }) w.back w.met k (below.disconnect_tells (link_settings c) w.near.link) refl
       (acted line.Disconnect k (λ downs ups. tt)
       (λ downs ups. ap (λ (r : Option LinkError). links.unless r (both_ends (links_with w.near.link b downs ups w.peer w.out w.back w.met)) (after_step (link_settings c) (both_ends (links_with w.near.link b downs ups w.peer w.out w.back w.met)) w.back w.met [] k)) none)) as_it_met kept
+
+  pub probes : probe_refusal w.near.link.phase ≡ None → Stands c (followed c w [] w.back w.met (timer_step (link_settings c) w.near.link))
+  probes none =
+      let k : LinkStep = timer_step (link_settings c) w.near.link in
+      let kept : IsKept (follows c w.near.layer k).near = subst KeptBy (ap (λ (r : Option LinkError). unless r (follows c w.near.layer k)) none) (below.command c w.near ProbesCommand h.kept) in
+      follows_on below c few w h [] silent w.back w.met k (below.timer_tells (link_settings c) w.near.link) (timer_packet (link_settings c) w.near.link)
+      (acted line.Probe k (λ downs ups. tt)
+      (λ downs ups. ap (λ (x : Bool). let v = both_ends (links_with w.near.link b downs ups w.peer w.out w.back w.met) in if x then after_step (link_settings c) v w.back w.met [] k else v) (may_probe w.near.link.phase none))) as_it_met kept
+
+  -- the link is abandoned, and then connected
+  pub relinks : relink_refusal w.near.link.phase ≡ None → Stands c (followed c w (relink_asked ∷ []) w.back w.met (relink_step (link_settings c) w.near.link))
+  relinks none =
+      let lc = link_settings c in
+      let s = w.near.link in
+      let k : LinkStep = relink_step lc s in
+      let two = below.relinks lc s in
+      let x : LinkStation = with_nothing Down s.tries in
+      let again : Side = (connect_step lc x).side in
+      let kept : IsKept (follows c w.near.layer k).near = subst KeptBy (ap (λ (r : Option LinkError). unless r (led_by (relink_asked ∷ []) (follows c w.near.layer k))) none) (below.command c w.near RelinksCommand h.kept) in
+      follows_on below c few w h (relink_asked ∷ []) (record { entries = refl; told = refl }) w.back w.met k (below.relink_tells lc s) refl
+      (subst (λ (t : Side). Link t.near b (extended (ups_of h.known) b []) (sent b t.out) w.back w.met) (sym two.connected)
+      (two_link_steps lc w.peer s x b (downs_of h.known) (ups_of h.known) w.out w.back w.met line.Abandon line.Connect (Some Counts) again
+      (λ downs ups o at act which. elim which [
+        | inl is ↦ subst (λ (a : line.Act). IsTimely lc a (links_with at b downs ups w.peer o w.back w.met)) (sym is) tt
+        | inr is ↦ subst (λ (a : line.Act). IsTimely lc a (links_with at b downs ups w.peer o w.back w.met)) (sym is) tt
+      ])
+      (λ downs ups. (let v = both_ends (links_with s b downs ups w.peer w.out w.back w.met) in
+      ap (λ (up : Bool). if up then after_step lc v w.back w.met [] (abandon_step lc s) else v) (may_relink s.phase none)
+      ∙ ap (λ (t : Side). let y : LinkStep = record { side = t; packet = None; notes = record { down = Some Counts; up = false } } in after_step lc v w.back w.met [] y) two.abandoned))
+      (λ downs ups. refl) h.link)) as_it_met kept
 
   pub fires : timer_refusal w.near.link ≡ None → (w.near.link.phase ≡ Waiting → IsDue (link_settings c) (links_of w)) → Stands c (followed c w [] w.back w.met (timer_step (link_settings c) w.near.link))
   fires none due =

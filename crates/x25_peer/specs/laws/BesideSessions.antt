@@ -15,6 +15,7 @@ use Rattle.x25_link.specs.Station.{is_up}
 use Rattle.x25_link.specs.Hearing.{Step as LinkStep, other}
 use Rattle.x25_link.specs.Link.{take_step, timer_refusal, timer_step, connect_refusal, connect_step}
 use Rattle.x25_link.specs.Link.{disconnect_refusal, disconnect_step, abandon_step}
+use Rattle.x25_link.specs.Link.{probe_refusal, relink_refusal, relink_step}
 use Rattle.x25_line.specs.laws.Stations.{is_visible}
 use Rattle.x25_line.specs.laws.StationClaims.{number_in}
 use Rattle.x25_line.specs.laws.Sessions.{Entry, Meeting, heard, replaced, sent_in, begun_by, no_lists}
@@ -31,7 +32,7 @@ use Rattle.x25_layer.specs.Calls.{LayerRequest}
 use Rattle.x25_layer.specs.laws.Bare.{bare, bare_layer, bare_layers}
 use Rattle.x25_layer.specs.laws.PeerJoined.{IsConfigured, Answers}
 use Rattle.x25_station.specs.Config.{Settings, longest_packet, link_settings, layer_settings}
-use Rattle.x25_station.specs.Entry.{StationEntry, connect_asked, disconnect_asked}
+use Rattle.x25_station.specs.Entry.{StationEntry, connect_asked, disconnect_asked, relink_asked}
 use Rattle.x25_station.specs.Station.{Station, new_station}
 use Rattle.x25_station.specs.Step.{Step, Did, follows, led_by, abandons, requests}
 use Rattle.x25_station.specs.laws.ReadLaw.{RequestsOctets}
@@ -163,14 +164,18 @@ layer_heard w layer passed all =
 
 pub data Happens (c : Settings) (w : BesideSessions) : BesideSessions → Type 0 where
   -- The station acts, by the definition that it meets call by call: a call of the user, pulls among them; that the
-  -- link be set up, or disconnected; timer T1 runs out, while UA is awaited where it is due; the front octets come, and
-  -- where a count of the layer is full the link is left and they are lost.
+  -- link be set up, disconnected, polled, or set up anew; timer T1 runs out, while UA is awaited where it is due; the
+  -- front octets come, and where a count of the layer is full the link is left and they are lost.
   Asks : (request : LayerRequest) (step : Step) → RequestsOctets request → requests c w.near request ≡ Did step
       → Happens c w (stepped c w w.begun w.back w.met step)
   Connects : connect_refusal w.near.link.phase ≡ None
       → Happens c w (followed c w (connect_asked ∷ []) w.back w.met (connect_step (link_settings c) w.near.link))
   Disconnects : disconnect_refusal w.near.link.phase ≡ None
       → Happens c w (followed c w (disconnect_asked ∷ []) w.back w.met (disconnect_step (link_settings c) w.near.link))
+  Probes : probe_refusal w.near.link.phase ≡ None → Happens c w
+      (followed c w [] w.back w.met (timer_step (link_settings c) w.near.link))
+  Relinks : relink_refusal w.near.link.phase ≡ None
+      → Happens c w (followed c w (relink_asked ∷ []) w.back w.met (relink_step (link_settings c) w.near.link))
   Fires : timer_refusal w.near.link ≡ None → (w.near.link.phase ≡ Waiting → IsDue (link_settings c) (links_of w))
       → Happens c w (followed c w [] w.back w.met (timer_step (link_settings c) w.near.link))
   Receives : (e : Entry) (rest : List Entry) → w.back ≡ e ∷ rest → abandons c w.near ≡ false

@@ -8,7 +8,8 @@ use Rattle.x25_bits.specs.declared.role.Role.{Role}
 use Rattle.x25_bits.specs.declared.role.Role.TheVariants.{Dte, Dce}
 use Rattle.x25_circuit.specs.declared.params.Params.{Params}
 use Rattle.x25_script.specs.ScriptLine.{PlainCommand, call, accept, clear, send, interrupt, reset, ready, not_ready}
-use Rattle.x25_script.specs.ScriptLine.{restart, pull, connect, disconnect, PlainLine, command, t1, deliver, lose}
+use Rattle.x25_script.specs.ScriptLine.{restart, pull, connect, disconnect, probe, relink, PlainLine, command, t1}
+use Rattle.x25_script.specs.ScriptLine.{deliver, lose}
 use Rattle.x25_script.specs.ScriptLine.{damage, drain, heal}
 
 -- an end
@@ -76,6 +77,8 @@ SpellsCommand restart text = text ≡ codes "restart"
 SpellsCommand pull text = text ≡ codes "pull"
 SpellsCommand connect text = text ≡ codes "connect"
 SpellsCommand disconnect text = text ≡ codes "disconnect"
+SpellsCommand probe text = text ≡ codes "probe"
+SpellsCommand relink text = text ≡ codes "relink"
 
 -- the characters spell the line
 abbrev pub Spells : PlainLine → List ℕ → Type 0

@@ -16,7 +16,8 @@ use Rattle.x25_station.specs.declared.entry.Asked.{Asked}
 use Rattle.x25_station.specs.declared.entry.Asked.TheVariants as asked
 use Rattle.x25_station.specs.declared.entry.Told.{Told}
 use Rattle.x25_station.specs.declared.entry.Told.TheVariants as told
-use Rattle.x25_station.specs.Entry.{StationEntry, of_channel, restart_asked, connect_asked, disconnect_asked, link_up}
+use Rattle.x25_station.specs.Entry.{StationEntry, of_channel, restart_asked, connect_asked, disconnect_asked}
+use Rattle.x25_station.specs.Entry.{relink_asked, link_up}
 use Rattle.x25_station.specs.Entry.{link_down, was_restarted, restart_confirmed, at_fault, came_beside, was_diagnosed}
 
 abbrev pub plain_name : Stretch → Name
@@ -57,6 +58,7 @@ plain_entry (code.OnChannel channel name what) = of_channel
 plain_entry code.RestartAsked = restart_asked
 plain_entry code.ConnectAsked = connect_asked
 plain_entry code.DisconnectAsked = disconnect_asked
+plain_entry code.RelinkAsked = relink_asked
 plain_entry code.LinkUp = link_up
 plain_entry (code.LinkDown reason) = link_down reason
 plain_entry (code.WasRestarted cause diagnostic) = was_restarted cause diagnostic

@@ -7,7 +7,7 @@ use Rattle.x25_station.specs.declared.timer.Timer.{Timer}
 use Rattle.x25_station.specs.declared.timer.Timer.TheVariants.{Off, Begins, GoesOn}
 use Rattle.x25_station.specs.Config.{Settings}
 use Rattle.x25_station.specs.Command.{Command}
-use Rattle.x25_station.specs.Entry.{StationEntry, link_up}
+use Rattle.x25_station.specs.Entry.{StationEntry, link_up, link_down}
 use Rattle.x25_station.specs.Pulling.{pulled}
 use Rattle.x25_station.specs.Station.{Station, new_station}
 use Rattle.x25_station.specs.Step.{Step, Outcome, Did, Refused, receives, commands, fires}
@@ -84,16 +84,17 @@ abbrev pub IsFiring : Event → Type 0
 IsFiring Fires = Unit {0}
 IsFiring event = ⊥
 
--- LinkUp is among the entries
-abbrev pub TellsLinkUp : List StationEntry → Type 0
-TellsLinkUp [] = ⊥
-TellsLinkUp (link_up ∷ entries) = Unit {0}
-TellsLinkUp (entry ∷ entries) = TellsLinkUp entries
+-- LinkUp or LinkDown is among the entries
+abbrev pub TellsLink : List StationEntry → Type 0
+TellsLink [] = ⊥
+TellsLink (link_up ∷ entries) = Unit {0}
+TellsLink (link_down reason ∷ entries) = Unit {0}
+TellsLink (entry ∷ entries) = TellsLink entries
 
--- the step was a firing, told LinkUp, or more of the frames sent are acknowledged behind it
+-- the step was a firing, told LinkUp or LinkDown, or more of the frames sent are acknowledged behind it
 abbrev pub IsDue : Station → Event → Step → Type 0
 IsDue s event step = IsFiring event
-    ⊎ (TellsLinkUp step.entries ⊎ (s.link.outgoing.acked < step.near.link.outgoing.acked))
+    ⊎ (TellsLink step.entries ⊎ (s.link.outgoing.acked < step.near.link.outgoing.acked))
 
 -- T1 begins anew, where it runs, at an accepted event at which it is due to,
 abbrev pub BeginsWhereDue : Type 0

@@ -13,7 +13,7 @@ use Rattle.x25_layer.specs.laws.TwoLayers.{entries_asked}
 use Rattle.x25_layer.specs.laws.ApartLaw.{BeginsRestarted}
 use Rattle.x25_station.specs.Beside.{PlainBeside, nothing, fields, diagnosed, beside_in}
 use Rattle.x25_station.specs.Config.{Settings, layer_settings}
-use Rattle.x25_station.specs.Entry.{StationEntry, of_channel, restart_asked, connect_asked, disconnect_asked, link_up, link_down, was_restarted, restart_confirmed, at_fault, came_beside, was_diagnosed, bringing, entries_beside, of_channels, station_told, entries_noted, notice_of, layer_notices}
+use Rattle.x25_station.specs.Entry.{StationEntry, of_channel, restart_asked, connect_asked, disconnect_asked, relink_asked, link_up, link_down, was_restarted, restart_confirmed, at_fault, came_beside, was_diagnosed, bringing, entries_beside, of_channels, station_told, entries_noted, notice_of, layer_notices}
 use Rattle.x25_station.specs.Step.{entries_of_outcome, layer_answer, entries_heard, follows}
 use Rattle.x25_world.specs.World.{AtEnd, entered}
 use Rattle.x25_world.specs.laws.Claims.{entry_of_end, entries_at}
@@ -97,6 +97,7 @@ none_met n here there (of_channel e ∷ entries) none = none_met n here there en
 none_met n here there (restart_asked ∷ entries) none = none_met n here there entries none
 none_met n here there (connect_asked ∷ entries) none = none_met n here there entries none
 none_met n here there (disconnect_asked ∷ entries) none = none_met n here there entries none
+none_met n here there (relink_asked ∷ entries) none = none_met n here there entries none
 none_met n here there (link_up ∷ entries) none = none_met n (after_entry here link_up) there entries none
 none_met n here there (link_down reason ∷ entries) none = none_met n (after_entry here (link_down reason)) there entries none
 none_met n here there (was_restarted cause diagnostic ∷ entries) none = something (restarted cause diagnostic) (layer_notices entries) none
@@ -121,6 +122,7 @@ plain_after p (of_channel e) h = refl
 plain_after p restart_asked h = refl
 plain_after p connect_asked h = refl
 plain_after p disconnect_asked h = refl
+plain_after p relink_asked h = refl
 plain_after p link_up h = absurd h
 plain_after p (link_down reason) h = absurd h
 plain_after p (was_restarted cause diagnostic) h = refl
@@ -155,6 +157,7 @@ restart_met n here there (of_channel e ∷ entries) plain is begins = restart_me
 restart_met n here there (restart_asked ∷ entries) plain is begins = restart_met n here there entries plain.1 is begins
 restart_met n here there (connect_asked ∷ entries) plain is begins = restart_met n here there entries plain.1 is begins
 restart_met n here there (disconnect_asked ∷ entries) plain is begins = restart_met n here there entries plain.1 is begins
+restart_met n here there (relink_asked ∷ entries) plain is begins = restart_met n here there entries plain.1 is begins
 restart_met n here there (link_up ∷ entries) plain is begins = absurd plain.0
 restart_met n here there (link_down reason ∷ entries) plain is begins = absurd plain.0
 restart_met n here there (was_restarted cause diagnostic ∷ entries) plain is begins =
@@ -175,6 +178,7 @@ elsewhere_met n here there (e ∷ entries) plain out =
     at_one restart_asked h = refl
     at_one connect_asked h = refl
     at_one disconnect_asked h = refl
+    at_one relink_asked h = refl
     at_one link_up h = refl
     at_one (link_down reason) h = refl
     at_one (was_restarted cause diagnostic) h = ap (λ (b : Bool). if b then Some there.begun else None) out

@@ -19,7 +19,7 @@ use Rattle.x25_layer.specs.laws.TwoLayers.{started}
 use Rattle.x25_layer.specs.laws.Apart.{OwnMove, own_run}
 use Rattle.x25_station.specs.declared.config.Cfg.{Cfg}
 use Rattle.x25_station.specs.Config.{settings_from, link_settings, layer_settings}
-use Rattle.x25_station.specs.Entry.{StationEntry, connect_asked, disconnect_asked, link_up, link_down, entries_noted, layer_entries, layer_notices}
+use Rattle.x25_station.specs.Entry.{StationEntry, connect_asked, disconnect_asked, relink_asked, link_up, link_down, entries_noted, layer_entries, layer_notices}
 use Rattle.x25_station.specs.Station.{all_put, view_of}
 use Rattle.x25_station.specs.Step.{Step, layer_at, follows, led_by}
 use Rattle.x25_station.specs.laws.KeepLaw.{IsKept}
@@ -42,12 +42,14 @@ pub data Lead : Type 0 where
   no_command : Lead
   connect : Lead
   disconnect : Lead
+  relink : Lead
 
 -- its entry comes first
 abbrev pub lead_of : Lead → List StationEntry
 lead_of no_command = []
 lead_of connect = connect_asked ∷ []
 lead_of disconnect = disconnect_asked ∷ []
+lead_of relink = relink_asked ∷ []
 
 -- ---- entries that aren't the layer's
 
@@ -81,6 +83,14 @@ quiet_silent disconnect p still same = record {
   all_told = refl;
   later = λ n differs. asked_elsewhere n p disconnect_asked differs;
 }
+quiet_silent relink p still same = record {
+  progress = ap (λ (b : Bool). record { begun = p.begun; stands = b }) same;
+  entries = λ n. asked_entries (is_in n p) relink_asked refl;
+  told = λ n. asked_told (is_in n p) relink_asked refl;
+  all_entries = refl;
+  all_told = refl;
+  later = λ n differs. asked_elsewhere n p relink_asked differs;
+}
 
 -- LinkDown alone
 down_silent : (lead : Lead) (p : Progress) (reason : Reason) → IsSilent p false (lead_of lead ++ link_down reason ∷ [])
@@ -100,6 +110,14 @@ down_silent disconnect p reason = record {
   all_entries = refl;
   all_told = refl;
   later = λ n differs. asked_elsewhere n p disconnect_asked differs;
+}
+down_silent relink p reason = record {
+  progress = refl;
+  entries = λ n. asked_entries (is_in n p) relink_asked refl;
+  told = λ n. asked_told (is_in n p) relink_asked refl;
+  all_entries = refl;
+  all_told = refl;
+  later = λ n differs. asked_elsewhere n p relink_asked differs;
 }
 
 -- LinkUp, after LinkDown or alone

@@ -1,5 +1,5 @@
 -- Of two links with their sessions: a step of the near end, and the packets that are handed down to it behind that.
-use Rattle.std.proofs.Common.{◌≡◌, ℕ, ◌==◌, ◌≤◌, List, [], ◌∷◌, ◌++◌, length, map, Bool, true, false, if◌then◌else◌, None, option_to_list, refl, sym, ap, ap₂, ◌∙◌, subst, append_assoc, append-nil}
+use Rattle.std.proofs.Common.{◌≡◌, ℕ, ◌==◌, ◌≤◌, List, [], ◌∷◌, ◌++◌, length, map, Bool, true, false, if◌then◌else◌, Option, None, option_to_list, refl, sym, ap, ap₂, ◌∙◌, subst, append_assoc, append-nil}
 use Rattle.std.proofs.lemmas.Bool.{le-leb}
 use Rattle.std.proofs.lemmas.List.{map-append}
 use Rattle.x25_bits.specs.declared.role.Role.{Role}
@@ -7,7 +7,8 @@ use Rattle.x25_frame.specs.Frame.{PlainFrame}
 use Rattle.x25_frame.specs.Spelling.{spelling_of}
 use Rattle.x25_packet.specs.Packet.{PlainPacket}
 use Rattle.x25_packet.specs.Spelling as packet
-use Rattle.x25_link.specs.Hearing.{Step as LinkStep}
+use Rattle.x25_link.specs.declared.phase.Reason.{Reason}
+use Rattle.x25_link.specs.Hearing.{Step as LinkStep, quiet}
 use Rattle.x25_link.specs.Station.{Settings as LinkSettings, LinkStation, Side, is_up}
 use Rattle.x25_link.specs.Link.{put_refusal, put_step, take_step}
 use Rattle.x25_line.specs.laws.Stations as line
@@ -151,6 +152,29 @@ put_goes c v v₁ session t down up back met p short none g =
       sent = ap₂ (λ (l fs : List PlainFrame). l ++ fs) g.sent frames ∙ append_assoc v.sent t.out (put_step c o t.near).side.out;
       met = g.met;
     })
+
+-- ---- two steps of the link, of which the first leaves it so and sends nothing
+
+abbrev pub left_at : LinkStation → Option Reason → LinkStep
+left_at near down = record { side = record { near = near; out = [] }; packet = None; notes = record { down = down; up = false } }
+
+pub two_steps_go : (c : LinkSettings) (v : Sessions) (near : LinkStation) (down : Option Reason) (t : Side)
+    → (let v₁ = links.after_step c v v.back v.met [] (left_at near down) in
+    SessionGoes c v (links.after_step c v₁ v.back v.met [] (quiet t)) v.near.begun t.near t.out [] [] (octets_of v.back) v.met)
+two_steps_go c v near down t =
+    let n = v.near.begun in
+    record {
+      station = refl;
+      begun = refl;
+      down = extended_again v.near.down (extended v.near.down n []) n [] [] (λ i. refl);
+      up = extended_again v.near.up (extended v.near.up n []) n [] [] (λ i. refl);
+      far = refl;
+      out = octets_append (v.out ++ []) (sent_in n c.role t.out)
+          ∙ ap₂ (λ (es : List links.Entry) (os : List (List ℕ)). octets_of es ++ os) (append-nil v.out) (octets_sent n c.role t.out);
+      back = refl;
+      sent = ap (λ (fs : List PlainFrame). fs ++ t.out) (append-nil v.sent);
+      met = refl;
+    }
 
 -- ---- packets one after another
 

@@ -6,7 +6,7 @@ use Rattle.x25_line.specs.laws.Sessions.{Sessions, from_nothing}
 use Rattle.x25_station.specs.declared.config.Cfg.{Cfg}
 use Rattle.x25_station.specs.Config.{settings_from, config_refusal}
 use Rattle.x25_station.specs.Entry.{link_up}
-use Rattle.x25_station.specs.Command.{Requests, Connects, Disconnects, said_by}
+use Rattle.x25_station.specs.Command.{Requests, Connects, Disconnects, Probes, Relinks, said_by}
 use Rattle.x25_station.specs.Station.{new_station}
 use Rattle.x25_station.specs.laws.KeepLaw.{ConnectKeeps}
 use Rattle.x25_world.specs.World.{AtEnd, World, swapped, WorldOutcome, Happened, Declined, swapped_back, Act, Commands, Receives, Fires, Loses, Damages, acts, Event, happens, refusal_of, after, run, start, connected, established}
@@ -22,7 +22,7 @@ use Rattle.x25_world.proofs.sessions.SessionReaches.{Beginning, both_down, set_u
 use Rattle.x25_world.proofs.sessions.SessionJoined.{IsEnd, SessionsJoined, sessions_swapped}
 use Rattle.x25_world.specs.laws.LawsBelow.{SessionLaws}
 use Rattle.x25_world.proofs.sessions.acts.SessionLines.{lost_joined, damaged_joined}
-use Rattle.x25_world.proofs.sessions.acts.SessionTimers.{fired_joined, connects_joined, connects_alone_joined, disconnects_joined}
+use Rattle.x25_world.proofs.sessions.acts.SessionTimers.{fired_joined, connects_joined, connects_alone_joined, disconnects_joined, probes_joined, relinks_joined}
 use Rattle.x25_world.proofs.sessions.acts.SessionRequests.{requests_joined, said_octets}
 use Rattle.x25_world.proofs.sessions.acts.SessionReceives.{receives_joined}
 
@@ -59,6 +59,8 @@ module _ (laws : SessionLaws) (cfg : Cfg) (fine : IsConfigured cfg) where
   acts_joined end w h (Commands (Requests request)) is_at octets none = requests_joined laws cfg fine end w h request (said_by cfg.say_sizes w.near.layer request) is_at (said_octets cfg.say_sizes w.near.layer request octets)
   acts_joined end w h (Commands Connects) is_at octets none = connects_joined laws cfg fine end w h is_at none
   acts_joined end w h (Commands Disconnects) is_at octets none = disconnects_joined laws cfg fine end w h is_at
+  acts_joined end w h (Commands Probes) is_at octets none = probes_joined laws cfg fine end w h is_at
+  acts_joined end w h (Commands Relinks) is_at octets none = relinks_joined laws cfg fine end w h is_at none
   acts_joined end w h Receives is_at octets none = receives_joined laws cfg fine end w h is_at
   acts_joined end w h Fires is_at octets none = fired_joined laws cfg fine end w h is_at
   acts_joined end w h (Loses place) is_at octets none = lost_joined cfg end w h place is_at

@@ -20,7 +20,7 @@ use Rattle.x25_layer.specs.laws.Quiet.{IsQuietAt, AreNoFaults}
 use Rattle.x25_layer.specs.laws.Law.{HandsUpLawfully, HasAllOf}
 use Rattle.x25_station.specs.declared.config.Cfg.{Cfg}
 use Rattle.x25_station.specs.Config.{settings_from, config_refusal, longest_packet, link_settings}
-use Rattle.x25_station.specs.Command.{Command, Requests, Connects, Disconnects}
+use Rattle.x25_station.specs.Command.{Command, Requests, Connects, Disconnects, Probes, Relinks}
 use Rattle.x25_station.specs.Entry.{StationEntry, link_up, layer_entries, layer_notices}
 use Rattle.x25_station.specs.laws.ReadLaw.{RequestsOctets}
 use Rattle.x25_station.specs.Station.{Station}
@@ -66,6 +66,8 @@ abbrev pub CommandsOctets : Command → Type 0
 CommandsOctets (Requests request) = RequestsOctets request
 CommandsOctets Connects = Unit {0}
 CommandsOctets Disconnects = Unit {0}
+CommandsOctets Probes = Unit {0}
+CommandsOctets Relinks = Unit {0}
 
 abbrev pub ActsInOctets : Act → Type 0
 ActsInOctets (Commands command) = CommandsOctets command
@@ -96,12 +98,13 @@ UntilSecondUp Holds = (cfg : Cfg) → config_refusal cfg ≡ None → (begin : W
     → (events : List Event) → AreInOctets events → IsUpAtMostOnce cfg (run cfg events begin)
     → Holds cfg (run cfg events begin)
 
--- not a `connect` that is accepted
+-- not a `connect` or `relink` that is accepted
 abbrev pub IsNoConnect : Act → Option WorldError → Type 0
 IsNoConnect (Commands Connects) None = ⊥
+IsNoConnect (Commands Relinks) None = ⊥
 IsNoConnect act refusal = Unit {0}
 
--- no `connect` of the events is accepted
+-- no such command of the events is accepted
 abbrev pub NoneConnects : Cfg → List Event → World → Type 0
 NoneConnects cfg [] w = Unit {0}
 NoneConnects cfg (e ∷ events) w = IsNoConnect e.act (refusal_of (happens cfg w e))

@@ -2,8 +2,8 @@
 use Rattle.std.specs.Prelude.{ℕ, Bool}
 use Rattle.x25_frame.specs.laws.ReadingLaw.{ReadsSpelled}
 use Rattle.x25_link.specs.laws.NoteLaw.{TakeTells, TakeHandsUp, TimerTells, PutTells, ConnectTells, DisconnectTells}
-use Rattle.x25_link.specs.laws.NoteLaw.{AbandonTells}
-use Rattle.x25_link.specs.laws.SetUp.{TakeWaits, TakeSetsUp}
+use Rattle.x25_link.specs.laws.NoteLaw.{AbandonTells, RelinkTells}
+use Rattle.x25_link.specs.laws.SetUp.{TakeWaits, TakeSetsUp, RelinkIsTwoSteps}
 use Rattle.x25_line.specs.laws.SessionClaims as line
 use Rattle.x25_line.specs.laws.SessionClaims.{MetAreInOrder, UnmetHandNothingUp, OnlyBegunHaveLists, EachMeetsLatest}
 use Rattle.x25_line.specs.laws.SessionClaims.{IdleHasArrived, NoSessionSendsFrmr, AllSessionsSendWhole}
@@ -37,6 +37,8 @@ pub record Laws : Type 0 where
   pub connect_tells : ConnectTells
   pub disconnect_tells : DisconnectTells
   pub abandon_tells : AbandonTells
+  pub relink_tells : RelinkTells
+  pub relinks : RelinkIsTwoSteps
   pub take_waits : TakeWaits
   pub take_sets_up : TakeSetsUp
   pub reads : ReadsSpelled

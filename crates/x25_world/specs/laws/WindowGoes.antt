@@ -10,7 +10,7 @@ use Rattle.x25_line.specs.laws.StationClaims.{IsBehind}
 use Rattle.x25_line.specs.laws.WholeNumbers.{machine_run, machine_at_start}
 use Rattle.x25_layer.specs.Layer.{restart_cause}
 use Rattle.x25_station.specs.declared.config.Cfg.{Cfg}
-use Rattle.x25_station.specs.Command.{Requests, Connects, Disconnects}
+use Rattle.x25_station.specs.Command.{Requests, Connects, Disconnects, Probes, Relinks}
 use Rattle.x25_world.specs.World.{World, Act, Commands, Receives, Fires, Loses, Damages, Event, happens, after, run}
 use Rattle.x25_world.specs.World.{established}
 use Rattle.x25_world.specs.laws.Claims.{link_of}
@@ -19,7 +19,7 @@ use Rattle.x25_world.specs.laws.Claims.{link_of}
 
 -- What the links may be asked for in an act of their end: what comes is taken off the line, and packets are put as the
 -- layer answers; where a count of the layer is full, the link is abandoned, and what comes is lost. A request may put
--- packets. All else is asked for as it is.
+-- packets. To relink is to abandon and then to connect. All else is asked for as it is.
 abbrev pub Asks : Act → line.Act → Type 0
 Asks Receives line.Deliver = Unit {0}
 Asks Receives (line.Put octets) = Unit {0}
@@ -28,6 +28,9 @@ Asks Receives (line.Lose place) = place ≡ 0
 Asks (Commands (Requests request)) (line.Put octets) = Unit {0}
 Asks (Commands Connects) line.Connect = Unit {0}
 Asks (Commands Disconnects) line.Disconnect = Unit {0}
+Asks (Commands Probes) line.Probe = Unit {0}
+Asks (Commands Relinks) line.Abandon = Unit {0}
+Asks (Commands Relinks) line.Connect = Unit {0}
 Asks Fires line.T1 = Unit {0}
 Asks (Loses place) (line.Lose same) = same ≡ place
 Asks (Damages place octets) (line.Damage same others) = (same ≡ place) × (others ≡ octets)

@@ -26,6 +26,8 @@ known c = record {
   connect_tells = c.notes_what_changes.ensures.connect;
   disconnect_tells = c.notes_what_changes.ensures.disconnect;
   abandon_tells = c.notes_what_changes.ensures.abandon;
+  relink_tells = c.notes_what_changes.ensures.relink;
+  relinks = c.sets_up_by_rows.ensures.relinks;
 }
 
 pub returns : goal.returns

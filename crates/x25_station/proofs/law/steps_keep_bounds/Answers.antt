@@ -12,6 +12,7 @@ known c = record {
   connect = c.notes_what_changes.ensures.connect;
   disconnect = c.notes_what_changes.ensures.disconnect;
   abandon = c.notes_what_changes.ensures.abandon;
+  relink = c.notes_what_changes.ensures.relink;
 }
 
 pub returns : goal.returns

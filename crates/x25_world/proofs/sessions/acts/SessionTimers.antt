@@ -1,4 +1,4 @@
--- Timer T1 runs out, and the link is connected and disconnected, over set-up and re-set-up.
+-- Timer T1 runs out, and the link is polled, connected, disconnected and set up anew, over set-up and re-set-up.
 use Rattle.std.proofs.Common.{◌≡◌, ℕ, ◌+◌, List, [], ◌∷◌, Bool, true, false, ◌&&◌, ◌||◌, if◌then◌else◌, Option, Some, None, Result, Ok, Err, option_to_list, refl, sym, ap, ◌∙◌, subst, arith, nat_lt}
 use Rattle.std.specs.List.{list_any}
 use Rattle.x25_bits.specs.Role as bits
@@ -10,19 +10,19 @@ use Rattle.x25_frame.specs.declared.error.FrameError.{FrameError}
 use Rattle.x25_link.specs.declared.error.LinkError.{LinkError}
 use Rattle.x25_link.specs.declared.phase.Phase.{Phase}
 use Rattle.x25_link.specs.declared.phase.Phase.TheVariants.{Waiting, Down, Up, Closed}
-use Rattle.x25_link.specs.Station.{LinkStation, awaits_ua, Settings as LinkSettings, with_near}
+use Rattle.x25_link.specs.Station.{LinkStation, Side, is_up, with_nothing, awaits_ua, Settings as LinkSettings, with_near}
 use Rattle.x25_link.specs.Hearing.{other, Step as LinkStep, quiet, leaves}
 use Rattle.x25_link.specs.laws.NoteLaw.{Tells}
-use Rattle.x25_link.specs.Link.{timer_refusal, timer_step, connect_refusal, connect_step, disconnect_refusal, disconnect_step, alone, closed_by, asks_again}
+use Rattle.x25_link.specs.Link.{timer_refusal, timer_step, connect_refusal, connect_step, disconnect_refusal, disconnect_step, alone, closed_by, asks_again, probe_refusal, abandon_step, relink_refusal, relink_step}
 use Rattle.x25_line.specs.laws.Stations as line
 use Rattle.x25_line.specs.laws.Sessions as links
-use Rattle.x25_line.specs.laws.Sessions.{Sessions, begun_by, sabm_in, ua_in, how_many, IsTimely}
+use Rattle.x25_line.specs.laws.Sessions.{Meeting, Sessions, begun_by, sabm_in, ua_in, how_many, IsTimely}
 use Rattle.x25_line.specs.laws.SessionClaims.{octets_of}
 use Rattle.x25_station.specs.declared.config.Cfg.{Cfg}
 use Rattle.x25_station.specs.Config.{settings_from, longest_packet}
-use Rattle.x25_station.specs.Command.{Connects, Disconnects}
-use Rattle.x25_station.specs.Entry.{connect_asked, disconnect_asked}
-use Rattle.x25_station.specs.Step.{Step, follows, led_by, fires, connects, connects_asked, disconnects, unless}
+use Rattle.x25_station.specs.Command.{Connects, Disconnects, Probes, Relinks}
+use Rattle.x25_station.specs.Entry.{connect_asked, disconnect_asked, relink_asked}
+use Rattle.x25_station.specs.Step.{Step, follows, led_by, fires, connects, connects_asked, disconnects, probes, relinks, unless}
 use Rattle.x25_station.specs.laws.KeepLaw.{IsKept, KeptBy, ConnectKeeps}
 use Rattle.x25_world.specs.SetUp.{is_a, reads_as, carries}
 use Rattle.x25_world.specs.declared.set_up.SetUpFrame.{SetUpFrame}
@@ -32,11 +32,11 @@ use Rattle.x25_world.specs.World.{World, Declined, Commands, Fires, of_station, 
 use Rattle.x25_world.specs.laws.Claims.{link_of, IsNoConnect}
 use Rattle.x25_world.proofs.Known.{IsConfigured, true_false, second_false}
 use Rattle.x25_world.proofs.sessions.SessionReaches.{Beginning, set_up, MayAct, MayAsk, IsAt, may_ask, SessionsReach, sessions_act}
-use Rattle.x25_world.proofs.sessions.SessionJoined.{SessionsJoined}
+use Rattle.x25_world.proofs.sessions.SessionJoined.{HasMet, PairsAreInOrder, SessionsJoined}
 use Rattle.x25_world.specs.laws.LawsBelow.{SessionLaws}
-use Rattle.x25_world.proofs.sessions.SessionLinks.{SessionGoes, own_step}
-use Rattle.x25_world.proofs.sessions.SessionFollows.{Lead, no_command, connect, disconnect, lead_of, follows_silent}
-use Rattle.x25_link.specs.declared.phase.Reason.TheVariants.{Retries}
+use Rattle.x25_world.proofs.sessions.SessionLinks.{SessionGoes, own_step, left_at, two_steps_go}
+use Rattle.x25_world.proofs.sessions.SessionFollows.{Lead, no_command, connect, disconnect, relink, lead_of, follows_silent}
+use Rattle.x25_link.specs.declared.phase.Reason.TheVariants.{Retries, Counts}
 
 timer_packet : (c : LinkSettings) (s : LinkStation) → (timer_step c s).packet ≡ None
 timer_packet c s = by (nat_lt s.tries c.retries)
@@ -50,6 +50,24 @@ timer_packet c s = by (nat_lt s.tries c.retries)
 was_down : (p : Phase) → connect_refusal p ≡ None → p ≡ Down
 was_down Down is = refl
 was_down p is = absurd (cc)
+
+-- a probe is refused where the link isn't up
+probe_acts : (c : LinkSettings) (v : Sessions)
+    → links.acts c line.Probe v ≡ links.unless (probe_refusal v.near.station.phase) v (links.after_step c v v.back v.met [] (timer_step c v.near.station))
+probe_acts c v = by v.near.station.phase
+  where
+    by : (p : Phase) → (let done = links.after_step c v v.back v.met [] (timer_step c v.near.station) in (if is_up p then done else v) ≡ links.unless (probe_refusal p) v done)
+    by Down = refl
+    by Waiting = refl
+    by Up = refl
+    by Closed = refl
+
+-- relink is accepted in Up alone
+was_up : (p : Phase) → relink_refusal p ≡ None → is_up p ≡ true
+was_up Down is = absurd (cc)
+was_up Waiting is = absurd (cc)
+was_up Up is = refl
+was_up Closed is = absurd (cc)
 
 -- ---- frames of a set-up on the line
 
@@ -176,3 +194,64 @@ module _ {since : Beginning} (laws : SessionLaws) (cfg : Cfg) (fine : IsConfigur
           act_follows disconnect line.Disconnect (λ (s : LinkStation). disconnect_refusal s.phase) (disconnect_step (link_of cfg end)) refl
           (laws.hands (link_of cfg end) (link_of cfg end) (line.Near line.Disconnect) h.links).0.begun tt (λ off s same. tt) (may_ask end (Commands Disconnects) line.Disconnect is_at tt) is refl (laws.stations.disconnect_tells (link_of cfg end) w.near.link)
           (subst (λ (o : Option LinkError). KeptBy (unless o step)) is (laws.stations.command_keeps (settings_from end cfg) w.near Disconnects h.near.kept))
+
+  pub probes_joined : IsAt since end (Commands Probes) → SessionsJoined since cfg end (after w (of_station (settings_from end cfg) w (probes (settings_from end cfg) w.near)))
+  probes_joined is_at = by (probe_refusal w.near.link.phase) refl
+    where
+      step : Step
+      step = follows (settings_from end cfg) w.near.layer (timer_step (link_of cfg end) w.near.link)
+
+      by : (o : Option LinkError) → probe_refusal w.near.link.phase ≡ o → SessionsJoined since cfg end (after w (of_station (settings_from end cfg) w (unless o step)))
+      by (Some e) is = h
+      by None is =
+          act_follows no_command line.Probe (λ (s : LinkStation). probe_refusal s.phase) (timer_step (link_of cfg end)) (probe_acts (link_of cfg end) h.links)
+          (laws.hands (link_of cfg end) (link_of cfg end) (line.Near line.Probe) h.links).0.begun tt (λ off s same. tt) (may_ask end (Commands Probes) line.Probe is_at tt) is
+          (timer_packet (link_of cfg end) w.near.link) (laws.stations.timer_tells (link_of cfg end) w.near.link)
+          (subst (λ (o : Option LinkError). KeptBy (unless o step)) is (laws.stations.command_keeps (settings_from end cfg) w.near Probes h.near.kept))
+
+  -- the link is abandoned, and then connected
+  pub relinks_joined : IsAt since end (Commands Relinks) → (since ≡ set_up false → IsNoConnect (Commands Relinks) (refusal_of (of_station (settings_from end cfg) w (relinks (settings_from end cfg) w.near))))
+      → SessionsJoined since cfg end (after w (of_station (settings_from end cfg) w (relinks (settings_from end cfg) w.near)))
+  relinks_joined is_at none = by (relink_refusal w.near.link.phase) refl none
+    where
+      c : LinkSettings
+      c = link_of cfg end
+
+      s : LinkStation
+      s = w.near.link
+
+      k : LinkStep
+      k = relink_step c s
+
+      step : Step
+      step = led_by (relink_asked ∷ []) (follows (settings_from end cfg) w.near.layer k)
+
+      again : Side
+      again = (connect_step c (with_nothing Down s.tries)).side
+
+      left : LinkStep → Sessions
+      left x = links.after_step c h.links h.links.back h.links.met [] x
+
+      v : Sessions
+      v = links.acts c line.Connect (links.acts c line.Abandon h.links)
+
+      by : (o : Option LinkError) → relink_refusal s.phase ≡ o → (since ≡ set_up false → IsNoConnect (Commands Relinks) (refusal_of (of_station (settings_from end cfg) w (unless o step))))
+          → SessionsJoined since cfg end (after w (of_station (settings_from end cfg) w (unless o step)))
+      by (Some e) is none = h
+      by None is none =
+          let two = laws.stations.relinks c s in
+          let was : links.acts c line.Abandon h.links ≡ left (left_at (with_nothing Down s.tries) (Some Counts)) =
+          ap (λ (x : LinkStation). if is_up x.phase then left (abandon_step c x) else h.links) h.near.link
+          ∙ ap (λ (b : Bool). if b then left (abandon_step c s) else h.links) (was_up s.phase is)
+          ∙ ap (λ (t : Side). let x : LinkStep = record { side = t; packet = None; notes = record { down = Some Counts; up = false } } in left x) two.abandoned in
+          let same : v ≡ links.after_step c (left (left_at (with_nothing Down s.tries) (Some Counts))) h.links.back h.links.met [] (quiet again) = ap (links.acts c line.Connect) was in
+          let met : v.met ≡ h.links.met = ap (λ (x : Sessions). x.met) same in
+          follows_silent laws cfg fine end w h relink w.back k v
+          (sessions_act cfg end line.Connect (links.acts c line.Abandon h.links) tt (λ free x same. absurd (none free)) (may_ask end (Commands Relinks) line.Connect is_at tt)
+          (sessions_act cfg end line.Abandon h.links tt (λ off x same. tt) (may_ask end (Commands Relinks) line.Abandon is_at tt) h.reach))
+          (subst (λ (x : List Meeting). PairsAreInOrder cfg end h.trace x) (sym met) h.pairs) (λ n m has. subst (λ (x : List Meeting). HasMet n m x) (sym met) has) (laws.stations.relink_tells c s) refl
+          (subst (λ (x : Sessions). SessionGoes c h.links x h.links.near.begun k.side.near k.side.out [] [] w.back x.met) (sym same)
+          (subst (λ (t : Side). SessionGoes c h.links (links.after_step c (left (left_at (with_nothing Down s.tries) (Some Counts))) h.links.back h.links.met [] (quiet again)) h.links.near.begun t.near t.out [] [] w.back h.links.met) (sym two.connected)
+          (subst (λ (os : List (List ℕ)). SessionGoes c h.links (links.after_step c (left (left_at (with_nothing Down s.tries) (Some Counts))) h.links.back h.links.met [] (quiet again)) h.links.near.begun again.near again.out [] [] os h.links.met) h.back
+          (two_steps_go c h.links (with_nothing Down s.tries) (Some Counts) again)))) refl
+          (subst (λ (o : Option LinkError). KeptBy (unless o step)) is (laws.stations.command_keeps (settings_from end cfg) w.near Relinks h.near.kept))

@@ -1,0 +1,84 @@
+-- What leads on where the other end doesn't answer.
+use Rattle.std.proofs.Common.{◌≡◌, ℕ, zero, suc, ◌+◌, List, [], ◌∷◌, ◌++◌, Bool, true, false, if◌then◌else◌, nat_lt, Option, Some, None, refl, sym, ap, subst, ◌∙◌, arith}
+use Rattle.std.proofs.lemmas.Bool.{true≢false, lt-ltb, le-ltb}
+use Rattle.x25_frame.specs.Frame.{PlainFrame, sabm}
+use Rattle.x25_link.specs.declared.error.LinkError.{LinkError}
+use Rattle.x25_link.specs.declared.error.LinkError.TheVariants as error
+use Rattle.x25_link.specs.declared.phase.Phase.{Phase}
+use Rattle.x25_link.specs.declared.phase.Phase.TheVariants.{Down, Waiting, Up, Closed}
+use Rattle.x25_link.specs.declared.phase.Reason.{Reason}
+use Rattle.x25_link.specs.declared.phase.Reason.TheVariants.{Local, Retries}
+use Rattle.x25_link.specs.Station.{LinkStation, Side, is_up, with_nothing}
+use Rattle.x25_link.specs.Hearing.{Step as LinkStep}
+use Rattle.x25_link.specs.Link.{timer_runs, timer_step, relink_refusal, relink_step, connect_step}
+use Rattle.x25_link.specs.laws.SetUp.{Is, ConnectWaits, TimerWaits, RelinkIsTwoSteps}
+use Rattle.x25_station.specs.Config.{Settings, link_settings}
+use Rattle.x25_station.specs.Entry.{StationEntry, relink_asked, entries_down}
+use Rattle.x25_station.specs.Station.{Station}
+use Rattle.x25_station.specs.Step.{Step, Outcome, Did, layer_down, unless, follows, led_by, fires}
+use Rattle.x25_station.specs.laws.WayOutLaw.{IsLeftBehind, RelinkLeadsOn, Fired, once, again, GivesUp, FiringLeadsOn}
+use Rattle.x25_station.proofs.DownLemmas.{downs, relink_down, timer_down}
+
+refused_none : (p : Phase) → is_up p ≡ true → relink_refusal p ≡ None
+refused_none Down e = absurd (true≢false (sym e))
+refused_none Waiting e = absurd (true≢false (sym e))
+refused_none Up e = refl
+refused_none Closed e = absurd (true≢false (sym e))
+
+pub relink_leads_on : ConnectWaits → RelinkIsTwoSteps → RelinkLeadsOn
+relink_leads_on connects two c s up =
+    let lc = link_settings c in
+    let k : LinkStep = relink_step lc s.link in
+    let step : Step = led_by (relink_asked ∷ []) (follows c s.layer k) in
+    let down = relink_down c s.layer s.link in
+    let waits = connects lc (with_nothing Down s.link.tries) refl in
+    let near : step.near.link ≡ record (with_nothing Down s.link.tries) { phase = Waiting; tries = 0 } =
+    ap (λ (x : Step). x.near.link) down ∙ ap (λ (t : Side). t.near) (two lc s.link).connected ∙ waits.near in
+    (step, ap (λ (r : Option LinkError). unless r step) (refused_none s.link.phase up), record {
+      phase = ap (λ (x : LinkStation). x.phase) near;
+      tries = ap (λ (x : LinkStation). x.tries) near;
+      layer = ap (λ (x : Step). x.near.layer) down;
+      entries = ap (λ (x : Step). relink_asked ∷ x.entries) down;
+    })
+
+-- ---- while UA is awaited
+
+-- the step of a firing
+module _ (timer : TimerWaits) (c : Settings) (s : Station) (waits : s.link.phase ≡ Waiting) where
+  abbrev k : LinkStep
+  k = timer_step (link_settings c) s.link
+
+  abbrev fired_step : Step
+  fired_step = follows c s.layer k
+
+  accepted : fires c s ≡ Did fired_step
+  accepted = ap (λ (p : Phase). let r : Bool = timer_runs p s.link in unless (if r then None else Some error.NotRunning) fired_step) waits
+
+  near_is : fired_step.near.link ≡ (if nat_lt s.link.tries c.retries then record s.link { tries = suc s.link.tries } else with_nothing Down s.link.tries)
+  near_is = ap (λ (x : Step). x.near.link) (timer_down c s.layer s.link) ∙ (timer (link_settings c) s.link waits).near
+
+  entries_are : fired_step.entries ≡ entries_down (if nat_lt s.link.tries c.retries then None else Some Retries)
+  entries_are = ap (λ (x : Step). x.entries) (timer_down c s.layer s.link) ∙ ap entries_down (timer (link_settings c) s.link waits).down
+
+pub firing_leads_on : TimerWaits → FiringLeadsOn
+firing_leads_on timer c zero s waits all =
+    let last : nat_lt s.link.tries c.retries ≡ false = le-ltb _ _ (omega (arith, all)) in
+    record {
+      last = fired_step timer c s waits;
+      fired = once s (fired_step timer c s waits) (accepted timer c s waits);
+      down = ap (λ (x : LinkStation). x.phase) (near_is timer c s waits ∙ ap (λ (b : Bool). if b then record s.link { tries = suc s.link.tries } else with_nothing Down s.link.tries) last);
+      entries = entries_are timer c s waits ∙ ap (λ (b : Bool). entries_down (if b then None else Some Retries)) last;
+    }
+firing_leads_on timer c (suc n) s waits all =
+    let step : Step = fired_step timer c s waits in
+    let more : nat_lt s.link.tries c.retries ≡ true = lt-ltb _ _ (omega (arith, all)) in
+    let near : step.near.link ≡ record s.link { tries = suc s.link.tries } =
+    near_is timer c s waits ∙ ap (λ (b : Bool). if b then record s.link { tries = suc s.link.tries } else with_nothing Down s.link.tries) more in
+    let tries = ap (λ (x : LinkStation). x.tries) near in
+    let rest = firing_leads_on timer c n step.near (ap (λ (x : LinkStation). x.phase) near ∙ waits) (omega (arith, tries, all)) in
+    record {
+      last = rest.last;
+      fired = again (suc n) s step rest.last (accepted timer c s waits) rest.fired;
+      down = rest.down;
+      entries = rest.entries;
+    }

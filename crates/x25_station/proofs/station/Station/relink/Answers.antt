@@ -1,0 +1,83 @@
+use Rattle.std.proofs.Common.{arith, ◌≡◌, ◌≤◌, length, [], sym, subst, ◌∷◌, ap, ◌∙◌, ◌++◌, map}
+use Rattle.x25_link.specs.Link.{relink_refusal, relink_step}
+use Rattle.x25_link.specs.declared.heard.Heard.{Heard}
+use Rattle.x25_station.specs.code.Aside.{IsFewAside}
+use Rattle.x25_station.specs.code.FitsParts.{AreMeant, FitsParts}
+use Rattle.x25_station.specs.Config.{link_settings, layer_settings}
+use Rattle.x25_station.specs.Command.{Relinks}
+use Rattle.x25_station.specs.Entry.{entries_down, relink_asked}
+use Rattle.x25_station.specs.code.PlainEntry.{plain_entry}
+use Rattle.x25_station.specs.declared.entry.Entry.TheVariants.{RelinkAsked}
+use Rattle.x25_station.specs.Step.{Step, unless, follows, led_by, relinks}
+use Rattle.x25_station.proofs.DoesLemmas.{declines}
+use Rattle.x25_station.proofs.DownLemmas.{relink_down, leaves_down, frames_down, entries_noted_down}
+use Rattle.x25_station.proofs.AskLemmas.{taken_link}
+use Rattle.x25_station.proofs.OutcomeLemmas.{leaves_some, still_meant, sends_unless, enters_unless, goes, refused, relink_named}
+use Rattle.x25_station.proofs.TakeLemmas.{least_by_meaning, own_frames, own_few}
+use Rattle.x25_station.proofs.station.Station.relink.Goals as goal
+
+pub invariant_of-self : goal.invariant_of-self
+invariant_of-self c = record {
+  meant = still_meant _ _ _ _ c.args.self.now.meant (λ c' s fits.
+      let k = relink_step (link_settings c') s.link in
+      let step : Step = led_by (relink_asked ∷ []) (follows c' s.layer k) in
+      leaves_some c' _ _ (unless (relink_refusal s.link.phase) step)
+      (leaves_down c' fits.same _ _ (relink_refusal s.link.phase) s.layer k step _ (ap (λ (x : Step). x.near) (relink_down c' s.layer s.link))
+      (ap (λ n. n.down) (c.in-Ok.ensures.heard (link_settings c') s.link fits.link).notes)
+      (taken_link (link_settings c') c.relink.new.self c.swap_frames.new.self k.side.near c.swap_frames.ensures.station (c.in-Ok.ensures.state (link_settings c') s.link fits.link))
+      (c.note_down.ensures.layer (layer_settings c') s.layer fits.layer)
+      (ap (λ o. o.made) c.swap_frames.ensures.outbox ∙ ap (map (λ frame. frame.items)) c.requires.frames)
+      (c.steps_keep_bounds.ensures.command c' s Relinks fits.kept))
+      (goes _ (relink_refusal s.link.phase) step (c.in-Ok.ensures.refused (link_settings c') s.link fits.link)));
+  aside =
+      let before = c.args.self.now.aside in
+      let low = before.packets in
+      let memory = c.note_down.ensures.memory in
+      let promised : c.swap_frames.new.self.outbox.long ≡ 0 = ap (λ o. o.long) c.swap_frames.ensures.outbox in
+      record { packets = omega (arith, memory, low); promised = omega (arith, promised); texts = before.texts };
+}
+
+pub invariant_of-self-in-Err-1 : goal.invariant_of-self-in-Err-1
+invariant_of-self-in-Err-1 c = record { meant = subst (λ l. AreMeant c.args.self.now.manner l c.args.self.now.layer) (sym c.in-Err.ensures.err) c.args.self.now.meant; aside = subst (λ l. IsFewAside l c.args.self.now.layer c.args.self.now.texts) (sym c.in-Err.ensures.err) c.args.self.now.aside }
+
+pub returns-in-Ok : goal.returns-in-Ok
+returns-in-Ok c = record {
+  state = λ c' s fits.
+      let k = relink_step (link_settings c') s.link in
+      let step : Step = led_by (relink_asked ∷ []) (follows c' s.layer k) in
+      leaves_down c' fits.same _ _ (relink_refusal s.link.phase) s.layer k step _ (ap (λ (x : Step). x.near) (relink_down c' s.layer s.link))
+      (ap (λ n. n.down) (c.in-Ok.ensures.heard (link_settings c') s.link fits.link).notes)
+      (taken_link (link_settings c') c.relink.new.self c.swap_frames.new.self k.side.near c.swap_frames.ensures.station (c.in-Ok.ensures.state (link_settings c') s.link fits.link))
+      (c.note_down.ensures.layer (layer_settings c') s.layer fits.layer)
+      (ap (λ o. o.made) c.swap_frames.ensures.outbox ∙ ap (map (λ frame. frame.items)) c.requires.frames)
+      (c.steps_keep_bounds.ensures.command c' s Relinks fits.kept);
+  frames = λ c' s fits.
+      let k = relink_step (link_settings c') s.link in
+      let step : Step = led_by (relink_asked ∷ []) (follows c' s.layer k) in
+      sends_unless c' (record { frames = c.swap_frames.new.frames; entries = c.note_down.new.entries; timer = c.args.out.now.timer }) (relink_refusal s.link.phase) step
+      (frames_down c' s.layer k _ (follows c' s.layer k) (relink_down c' s.layer s.link) (own_frames c'.role _ _ (map (λ frame. frame.items) c.swap_frames.new.frames.items) k.side.out fits.sent (c.in-Ok.ensures.frames (link_settings c') s.link fits.link) c.swap_frames.ensures.frames));
+  entries = λ c' s fits.
+      let k = relink_step (link_settings c') s.link in
+      let step : Step = led_by (relink_asked ∷ []) (follows c' s.layer k) in
+      enters_unless (record { frames = c.swap_frames.new.frames; entries = c.note_down.new.entries; timer = c.args.out.now.timer }) (relink_refusal s.link.phase) step
+      (entries_noted_down s.layer k (relink_asked ∷ []) _ _ (follows c' s.layer k) (relink_down c' s.layer s.link) (ap (λ n. n.down) (c.in-Ok.ensures.heard (link_settings c') s.link fits.link).notes)
+      (c.note_down.ensures.entries ∙ ap (λ es. map plain_entry es ++ entries_down c.in-Ok.heard.notes.down) (c.push_reserved.ensures.items ∙ ap (λ es. es ++ RelinkAsked ∷ []) (c.reserve.ensures.items ∙ c.requires.entries))));
+  refused = λ c' s fits.
+      let step : Step = led_by (relink_asked ∷ []) (follows c' s.layer (relink_step (link_settings c') s.link)) in
+      goes _ (relink_refusal s.link.phase) step (c.in-Ok.ensures.refused (link_settings c') s.link fits.link);
+  stays = λ c' s fits. tt;
+  empty = tt;
+  few_frames = (let few : length c.swap_frames.new.frames.items ≤ 9 = least_by_meaning _ _ (length c.swap_frames.new.frames.items) 9 c.args.self.now.meant (λ c' s fits.
+      own_few c.swap_frames.new.frames.items (λ frame. frame.items) c.args.self.now.link.outbox.made c.relink.new.self.outbox.made fits.sent
+      (c.in-Ok.ensures.few (link_settings c') s.link fits.link) c.swap_frames.ensures.frames) in
+      grind (arith, few, c.swap_frames.new.frames.ok));
+  few_entries = grind (arith, c.note_down.ensures.few.length, c.push_reserved.ensures.len, c.reserve.ensures.len, ap length c.requires.entries, c.args.out.now.entries.ok);
+}
+
+pub returns-in-Err : goal.returns-in-Err
+returns-in-Err c = declines c.args.self.now _ _ _ relinks (λ c' s fits.
+    let step : Step = led_by (relink_asked ∷ []) (follows c' s.layer (relink_step (link_settings c') s.link)) in
+    refused Heard Unit c.in-Err.error _ (relink_refusal s.link.phase) step (relink_named s.link.phase) c.of_link.ensures
+    (c.in-Err.ensures.refused (link_settings c') s.link fits.link))
+    (λ c' s fits. subst (λ l. FitsParts c' c.args.self.now.manner l c.args.self.now.layer s) (sym c.in-Err.ensures.err) fits)
+    (record { frames = c.requires.frames; entries = c.reserve.ensures.items ∙ c.requires.entries })
