@@ -4,10 +4,15 @@ A capture may lack frames, as the program that made it fell behind, or as the li
 and such a frame would explain has a mark of its own.
 """
 
+from __future__ import annotations
+
+import argparse
 import re
 from collections import Counter
+from typing import Iterator, Sequence
 
 from x25tools import decoding
+from x25tools.pcap2x25 import Connection
 from x25tools.x25lines import fcs
 
 AT = ("line", "dte", "dce")
@@ -34,7 +39,7 @@ COUNTS = re.compile(r"# (dte|dce)(?: channel (\d+))?: (\d+) (?:frames|packets), 
 TOLD = re.compile(r"# told: (\d+) rules, (\d+) manners")
 
 
-def add_words(parser):
+def add_words(parser: argparse.ArgumentParser) -> None:
     """Adds the words that say what a judge goes by to a parser of words."""
     parser.add_argument("--k", type=int, choices=range(1, 8), default=7, help="the window that --judge goes by (7)")
     parser.add_argument("--at", choices=AT, help="with --judge: the capture has all frames of the line, or all that this end sent and that came to it")
@@ -42,23 +47,23 @@ def add_words(parser):
     parser.add_argument("--strict", action="store_true", help="with --judge: status 1 too where a frame wasn't judged, or the capture may explain what is told")
 
 
-def is_faulty(text, options):
+def is_faulty(text: str, options: argparse.Namespace) -> bool:
     """Whether what is told of a frame makes the status 1."""
     marks = [RULE, MANNERS] if options.manners else [RULE]
     return any(mark in text or (options.strict and IN_DOUBT[mark] in text) for mark in marks)
 
 
-def _control(line):
+def _control(line: str) -> int | None:
     """The control field of the frame of a line, without P or F; None where it has none."""
     return int(line[4:6], 16) & ~P_OR_F if len(line) >= 6 else None
 
 
-def _sealed(direction, octets):
+def _sealed(direction: str, octets: bytes) -> str:
     """The line of some octets, with their frame check sequence behind them."""
     return f"{direction} {(octets + fcs(octets)).hex()}"
 
 
-def _taken(line):
+def _taken(line: str) -> str:
     """The line of the RR by which the other end says that it took the I frame of a line."""
     direction, control = line[0], int(line[4:6], 16)
     return _sealed(OTHER[direction], bytes([1 if direction == ">" else 3, ((control >> 1) + 1 & 7) << 5 | 1]))
@@ -71,23 +76,24 @@ class Judge:
     the place of the capture, and None where that isn't said.
     """
 
-    def __init__(self, program, words, reading, at):
+    def __init__(self, program: str | None, words: list[str], reading: list[str], at: str | None) -> None:
         self._asked = program, words, reading, at
-        self._lines = {}
+        self._lines: dict[Connection, Frames] = {}
 
-    def __enter__(self):
+    def __enter__(self) -> Judge:
         return self
 
-    def __exit__(self, *_):
+    def __exit__(self, *_: object) -> None:
         for line in self._lines.values():
             line.close()
 
-    def texts(self, asked, connections):
+    def texts(self, asked: str, connections: Sequence[Connection]) -> list[str | None]:
         """The answers to the lines of a trace in a text, each of a connection, with what is told of each behind it; None for a gap."""
-        lines, places_of = asked.splitlines(), {}
+        lines = asked.splitlines()
+        places_of: dict[Connection, list[int]] = {}
         for place, connection in enumerate(connections):
             places_of.setdefault(connection, []).append(place)
-        texts = [None] * len(lines)
+        texts: list[str | None] = [None] * len(lines)
         for connection, places in places_of.items():
             if connection not in self._lines:
                 self._lines[connection] = self._begun(connection)
@@ -95,13 +101,13 @@ class Judge:
                 texts[place] = text
         return texts
 
-    def _begun(self, connection):
+    def _begun(self, connection: Connection) -> Frames:
         """What judges a connection."""
         if not connection.is_made_up:
             return Frames(*self._asked)
-        return (Circuit if connection.name.startswith("XOT ") else Packets)(*self._asked)
+        return (Circuit if (connection.name or "").startswith("XOT ") else Packets)(*self._asked)
 
-    def counts(self):
+    def counts(self) -> Iterator[tuple[int, str]]:
         """Yields the number of each connection, and a line of how much was judged, of its frames and of the packets of each channel, or of what was told."""
         for connection, line in self._lines.items():
             yield from ((connection.number, text) for text in line.counts())
@@ -110,27 +116,30 @@ class Judge:
 class Frames:
     """The frames of one connection, in stretches between gaps, each judged by itself."""
 
-    def __init__(self, program, words, reading, at):
+    def __init__(self, program: str | None, words: list[str], reading: list[str], at: str | None) -> None:
         self._program, self._words, self._reading, self._at = program, [*words, *reading], reading, at
         self._judge, self._decoder = self._begun(), decoding.Decoder(program, reading)
         self._is_behind_gap = False
         # Frames and packets and how many of them were judged, by end and channel; what was told, and of these what the capture may explain.
-        self._seen, self._judged, self._told = Counter(), Counter(), Counter()
+        self._seen: Counter[tuple[str, int | None]] = Counter()
+        self._judged: Counter[tuple[str, int | None]] = Counter()
+        self._told: Counter[str] = Counter()
         # Whether SABME waits for its answer, and whether UA was that; and which end's UA may be missing.
         self._asks_128 = self._is_128 = False
         self._awaits_ua = dict.fromkeys(OTHER, False)
 
-    def _begun(self):
+    def _begun(self) -> decoding.Decoder:
         return decoding.Decoder(self._program, self._words, "judge")
 
-    def close(self):
+    def close(self) -> None:
         """Ends the programs."""
         for program in self._judge, self._decoder:
             program.__exit__()
 
-    def texts(self, lines):
+    def texts(self, lines: list[str]) -> list[str | None]:
         """The answers to some lines, and None to a gap."""
-        texts, waiting = [], []
+        texts: list[str | None] = []
+        waiting: list[str] = []
         for line in lines:
             if line == GAP:
                 texts += self._answers(waiting)
@@ -141,15 +150,15 @@ class Frames:
                 texts.append(self._read(line))
             else:
                 waiting.append(line)
-        return texts + self._answers(waiting)
+        return [*texts, *self._answers(waiting)]
 
-    def _begin_anew(self):
+    def _begin_anew(self) -> None:
         """Behind a gap nothing is known."""
         self._add_counts()
         self._judge.__exit__()
         self._judge, self._is_behind_gap = self._begun(), True
 
-    def _has_128(self, line):
+    def _has_128(self, line: str) -> bool:
         """Whether a frame asks for numbers modulo 128, or is one of a link that has them."""
         control, was_128 = _control(line), self._is_128
         if control == SABM:
@@ -162,7 +171,7 @@ class Frames:
             self._asks_128, self._is_128 = False, True
         return self._is_128 or control == SABME
 
-    def _read(self, line):
+    def _read(self, line: str) -> str:
         """The answer to a line that isn't judged: one of a link modulo 128, or SABME, which the judge hears as a frame of which nothing is known."""
         text, = self._decoder.texts(f"{line}\n")
         if self._is_128:
@@ -171,12 +180,13 @@ class Frames:
             self._judge.texts(f"{UNREAD[line[0]]}\n")
         return text + UNJUDGED if _control(line) == UA else text
 
-    def _end(self, direction):
+    def _end(self, direction: str) -> str:
         return "dte" if direction == ">" else "dce"
 
-    def _answers(self, waiting):
+    def _answers(self, waiting: list[str]) -> list[str]:
         """The answers to the lines that wait, each with what is told of it."""
-        asked, places = [], []
+        asked: list[str] = []
+        places: list[int] = []
         for line in waiting:
             asked += self._missing(line)
             places.append(len(asked))
@@ -187,7 +197,7 @@ class Frames:
         waiting.clear()
         return texts
 
-    def _missing(self, line):
+    def _missing(self, line: str) -> list[str]:
         """What is judged before a line: where the capture may lack the UA to a SABM, and there was none up to a frame with a number, a frame of
         which nothing is known."""
         control, direction = _control(line), line[0]
@@ -202,15 +212,15 @@ class Frames:
         self._seen[self._end(direction), None] -= 1
         return [UNREAD[direction]]
 
-    def _heard(self, line):
+    def _heard(self, line: str) -> str:
         """The line as it is judged."""
         return line
 
-    def _behind(self, _):
+    def _behind(self, _: str) -> list[str]:
         """What is judged behind a line."""
         return []
 
-    def _said(self, direction, text):
+    def _said(self, direction: str, text: str) -> str:
         """An answer, with the mark of what the capture may explain."""
         mark = next((mark for mark in IN_DOUBT if mark in text), None)
         if mark is None:
@@ -224,21 +234,21 @@ class Frames:
         self._told[IN_DOUBT[mark]] += 1
         return whole + IN_DOUBT[mark] + told + IF_LACKING
 
-    def _lacks(self):
+    def _lacks(self) -> bool:
         """Whether frames of either end may be missing anywhere."""
         return self._at is None
 
-    def _add_counts(self):
+    def _add_counts(self) -> None:
         """Adds what the judge counts."""
         for line in self._judge.last_lines():
             if found := COUNTS.fullmatch(line):
-                key = found[1], found[2] and int(found[2])
+                key = found[1], int(found[2]) if found[2] else None
                 self._seen[key] += int(found[3])
                 self._judged[key] += int(found[4])
             elif found := TOLD.fullmatch(line):
                 self._told.update({RULE: int(found[1]), MANNERS: int(found[2])})
 
-    def counts(self):
+    def counts(self) -> Iterator[str]:
         """Yields the lines of how much was judged and of what was told."""
         self._add_counts()
         for end in ENDS:
@@ -249,12 +259,12 @@ class Frames:
         more = f", {in_doubt} that frames which the capture lacks would explain" if in_doubt else ""
         yield f"# told: {self._told[RULE]} rules, {self._told[MANNERS]} manners{more}"
 
-    def _counted(self, end, channel, what):
+    def _counted(self, end: str, channel: int | None, what: str) -> Iterator[str]:
         seen, judged = self._seen[end, channel], self._judged[end, channel]
         where = end if channel is None else f"{end} channel {self._shown(end, channel)}"
         yield f"# {where}: {seen} {what}, {judged} judged, {seen - judged} not judged"
 
-    def _shown(self, _, channel):
+    def _shown(self, _: str, channel: int) -> int:
         """The number of a channel as an end has it."""
         return channel
 
@@ -262,62 +272,63 @@ class Frames:
 class Packets(Frames):
     """The packets of a connection without frames, each in an I frame that was made up. TCP and LLC show where one is missing."""
 
-    def _begun(self):
+    def _begun(self) -> decoding.Decoder:
         judge = super()._begun()
         judge.texts("".join([f"{line}\n" for line in SET_UP]))
         self._sent = dict.fromkeys(OTHER, 0)
         return judge
 
-    def _heard(self, line):
+    def _heard(self, line: str) -> str:
         """The line with the numbers of its stretch."""
         direction = line[0]
         control = (self._sent[OTHER[direction]] << 5 | self._sent[direction] << 1 & 0x0E) & 0xFF
         self._sent[direction] += 1
         return _sealed(direction, bytes([int(line[2:4], 16), control]) + self._packet(direction, bytes.fromhex(line[6:-4])))
 
-    def _packet(self, _, packet):
+    def _packet(self, _: str, packet: bytes) -> bytes:
         """The packet as it is judged."""
         return packet
 
-    def _has_128(self, line):
+    def _has_128(self, line: str) -> bool:
         return False
 
-    def _lacks(self):
+    def _lacks(self) -> bool:
         return False
 
-    def _missing(self, _):
+    def _missing(self, _: str) -> list[str]:
         return []
 
-    def _behind(self, line):
+    def _behind(self, line: str) -> list[str]:
         return [_taken(line)]
 
-    def _counted(self, end, channel, what):
-        return super()._counted(end, channel, what) if channel is not None else ()
+    def _counted(self, end: str, channel: int | None, what: str) -> Iterator[str]:
+        return super()._counted(end, channel, what) if channel is not None else iter(())
 
 
 class Circuit(Packets):
     """The packets of a connection of XOT, which is one circuit, whatever number each end has for it: where the numbers differ, both are judged by
     that of the end whose packet came first."""
 
-    def __init__(self, *asked):
-        super().__init__(*asked)
+    def __init__(self, program: str | None, words: list[str], reading: list[str], at: str | None) -> None:
+        super().__init__(program, words, reading, at)
         # Of each direction the numbers that were used; and where one is judged by another, both.
-        self._used, self._renamed = {direction: set() for direction in OTHER}, {}
+        self._used: dict[str, set[int]] = {direction: set() for direction in OTHER}
+        self._renamed: dict[str, tuple[int, int]] = {}
 
-    def _packet(self, direction, packet):
+    def _packet(self, direction: str, packet: bytes) -> bytes:
         if len(packet) < 2:
             return packet
         channel, used, others = (packet[0] & 0x0F) << 8 | packet[1], self._used[direction], self._used[OTHER[direction]]
         if channel and not used and len(others) == 1 and channel not in others:
-            self._renamed[direction] = channel, *others
+            self._renamed[direction] = channel, next(iter(others))
         used |= {channel} - {0}
-        own, judged_by = self._renamed.get(direction, (None, None))
+        own, judged_by = self._renamed.get(direction, (-1, -1))
         return packet if channel != own else bytes([packet[0] & 0xF0 | judged_by >> 8, judged_by & 0xFF]) + packet[2:]
 
-    def _said(self, direction, text):
-        own, judged_by = self._renamed.get(direction, (None, None))
+    def _said(self, direction: str, text: str) -> str:
+        own, judged_by = self._renamed.get(direction, (-1, -1))
         return super()._said(direction, text).replace(f" ch={judged_by} ", f" ch={own} ", 1)
 
-    def _shown(self, end, channel):
-        own, judged_by = self._renamed.get(ENDS[end], (None, None))
+    def _shown(self, end: str, channel: int) -> int:
+        own, judged_by = self._renamed.get(ENDS[end], (-1, -1))
         return own if channel == judged_by else channel

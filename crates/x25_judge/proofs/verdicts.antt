@@ -20,3 +20,4 @@ pub mod Lag
 pub mod Stations
 pub mod SetUps
 pub mod Judged
+pub mod JudgedNumbers

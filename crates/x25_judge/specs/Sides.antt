@@ -381,9 +381,13 @@ judges_hearing t = not (is_unseen t.own.phase) && (way.is_sure t.other.way && (n
 abbrev pub judges_sending : Sides → Bool
 judges_sending t = not (way.is_unseen t.own.way) && not t.own.way.is_missed
 
--- an answer by F=1, or by UA: what was asked is known
+-- UA: what was asked is known
 abbrev pub judges_answer : ℕ → Sides → Bool
 judges_answer asked t = t.other.is_followed || not (asked == 0)
+
+-- F=1 of DM and FRMR: it answers a P=1 that was seen, or none that was not
+abbrev pub judges_final : Sides → Bool
+judges_final t = not (t.other.polls == 0) || (t.other.is_followed && not (is_unseen t.own.phase))
 
 -- none is at fault that SABM or DISC
 unfoldable pub is_judged : PlainFrame → Sides → Bool
@@ -394,8 +398,8 @@ is_judged (rej command nr pf) t = judges_hearing t
 is_judged (sabm p) t = true
 is_judged (disc p) t = true
 is_judged (ua f) t = judges_answer t.other.asked t
-is_judged (dm f) t = not f || judges_answer t.other.polls t
-is_judged (frmr f why) t = not f || judges_answer t.other.polls t
+is_judged (dm f) t = not f || judges_final t
+is_judged (frmr f why) t = not f || judges_final t
 
 -- a damaged frame may be a late UA to an end that none was shown to, and of which no frame was damaged
 abbrev pub is_overdue : Sides → Bool

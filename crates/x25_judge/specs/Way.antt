@@ -284,11 +284,15 @@ may_go_back is_poll back w = nat_lt w.behind back
 abbrev pub gone_back : Bool → ℕ → Way → Way
 gone_back is_poll back w = if is_poll then repeated back w else went_back back w
 
+-- where V(S) stands, or may have gone on to by what is acknowledged
+abbrev pub goes_on : ℕ → Way → Bool
+goes_on back w = back == w.behind || (nat_le (known_pending w) back && nat_lt back w.behind)
+
 -- One that was sent before. Where V(S) was set back, it is the one behind the last, or one that is acknowledged up to
 -- there; else V(S) is set back now.
 abbrev pub sent_again : Bool → Bool → ℕ → Way → Told
 sent_again is_poll is_same back w =
-    if back == w.behind || (nat_le (known_pending w) back && nat_lt back w.behind)
+    if goes_on back w
     then again is_same back (repeated back w) w
     else if may_go_back is_poll back w then again is_same back (gone_back is_poll back w) w
     else unexplained is_same back w

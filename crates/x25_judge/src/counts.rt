@@ -101,7 +101,7 @@ impl Model for Counts {
 
     ghost view = { λ c. c.counts.items };
 
-    ghost invariant = { λ c. length c.counts.items ≡ 4096 };
+    ghost invariant = { λ c. (length c.counts.items ≡ 4096) × (vec_capacity c.counts ≡ 4096) };
 }
 
 /// Puts none for each channel.
@@ -111,6 +111,7 @@ fn fill_up(counts: &mut Vec<Count>)
     requires room { 4096 ≤ vec_capacity counts.old }
     ensures items { counts.new.items ≡ definition.no_counts }
     ensures size { length counts.new.items ≡ 4096 }
+    ensures capacity { vec_capacity counts.new ≡ vec_capacity counts.old }
 {
     for _ in 0..CHANNELS {
         counts.push_reserved(Count::none());

@@ -22,7 +22,7 @@ impl Model for Held {
 
     ghost view = { λ h. h.slots.items };
 
-    ghost invariant = { λ h. length h.slots.items ≡ 8 };
+    ghost invariant = { λ h. (length h.slots.items ≡ 8) × (vec_capacity h.slots ≡ 8) };
 }
 
 /// No octets of each number.
@@ -32,6 +32,7 @@ fn fill_up(alloc: Global, slots: &mut Vec<Text>) -> Result<(), AllocError>
     requires room { 8 ≤ vec_capacity slots.old }
     ensures items { IfOk result (λ _. slots.new.items ≡ none_held) }
     ensures size { IfOk result (λ _. length slots.new.items ≡ 8) }
+    ensures capacity { vec_capacity slots.new ≡ vec_capacity slots.old }
 {
     for _ in 0..NUMBERS {
         slots.push_reserved(Text::new(alloc)?);

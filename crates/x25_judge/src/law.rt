@@ -2,6 +2,7 @@
 //! kept. Each law is the contract of a function that does nothing.
 ghost use Rattle.x25_frame.specs.laws.ReadingLaw.{ReadsSpelled, ReadsWhatIsSpelled};
 ghost use Rattle.x25_judge.specs.laws.VerdictClaims.{JudgedAnswersAreTold, JudgedNumbersAreTold};
+ghost use Rattle.x25_judge.specs.laws.VerdictClaims.{JudgedSendingsAreTold, JudgedOctetsAreTold, JudgedFinalsAreTold};
 ghost use Rattle.x25_judge.specs.laws.VerdictClaims.{NoInnocentIsAccused, NoStationIsAccused};
 ghost use Rattle.x25_judge.specs.laws.VerdictClaims.{NoSessionIsAccused, SilenceMeansOrder, SilenceMeansRules};
 ghost use Rattle.x25_judge.specs.laws.VerdictClaims.{SetUpsBegin, SilenceMeansNumbers};
@@ -23,23 +24,24 @@ pub fn set_ups_begin()
 
 /// An end that keeps the rules of docs/PEER.md, and whose numbers go one by one when they go for the first time, is
 /// told of by no rule of order of the link layer: an N(R) that acknowledges what was never sent or falls, other octets
-/// in an I frame that goes again, more than seven I frames unacknowledged. That holds whatever the other end sends,
-/// whether it keeps any rule or not, whatever of it comes, is heard or taken, and whichever of its lines are damaged,
-/// from a set-up on to the next frame without a number.
+/// in an I frame that goes again, more than seven I frames unacknowledged. That holds whatever frames the other end
+/// sends, whether it keeps any rule or not, whatever of them comes, is heard or taken, and whichever of its lines are
+/// damaged, from a set-up on to the next frame without a number. Of octets of it that pass the check and are no frame
+/// it says nothing, and no law here does.
 pub fn innocents_stay_untold()
     ensures { NoInnocentIsAccused }
 {}
 
 /// The same over any number of link set-ups, of the whole trace from its first line on: an end that keeps these rules
-/// and those of set-up of docs/PEER.md is told of by no rule of order of the link layer, whatever the other end sends,
-/// SABM, UA, DISC and DM at any moment too, and whatever of it comes or is damaged. Beyond those rules it leaves its
-/// session as it sends DM or FRMR and as it answers DISC.
+/// and those of set-up of docs/PEER.md is told of by no rule of order of the link layer, whatever frames the other end
+/// sends, SABM, UA, DISC and DM at any moment too, and whatever of them comes or is damaged. Beyond those rules it
+/// leaves its session as it sends DM or FRMR and as it answers DISC.
 pub fn sessions_stay_untold()
     ensures { NoSessionIsAccused }
 {}
 
-/// A station of ours is such an end: whatever the other end sends, and whatever the line does, no rule of order is told
-/// of a frame of it, in a trace taken in front of it, from a set-up on to the next frame without a number.
+/// A station of ours is such an end: whatever frames the other end sends, and whatever the line does, no rule of order
+/// is told of a frame of it, in a trace taken in front of it, from a set-up on to the next frame without a number.
 pub fn stations_stay_untold()
     ensures { NoStationIsAccused }
 {
@@ -75,11 +77,15 @@ pub fn silence_means_one_packet()
     laws_below();
 }
 
-/// What counts as judged is told of: a frame whose N(R) acknowledges what was never sent or falls, and a UA that
-/// answers neither SABM nor DISC.
+/// What counts as judged is told of, by a rule of order: a frame whose N(R) acknowledges what was never sent or falls,
+/// and a UA that answers neither SABM nor DISC. By such a rule or by manners: an I frame whose N(S) is none that V(S)
+/// may have, or whose octets aren't those that the number had, and a response with F=1 that answers no P=1.
 pub fn judged_frames_are_told()
     ensures numbers { JudgedNumbersAreTold }
     ensures answers { JudgedAnswersAreTold }
+    ensures sendings { JudgedSendingsAreTold }
+    ensures octets { JudgedOctetsAreTold }
+    ensures finals { JudgedFinalsAreTold }
 {}
 
 fn laws_below()

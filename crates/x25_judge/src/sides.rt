@@ -650,11 +650,18 @@ impl Sides {
         !self.own.way.is_unseen() && !self.own.way.is_missed
     }
 
-    /// Whether an answer is, to so many that the other end asked for.
+    /// Whether a UA is, to so many that the other end asked for.
     fn judges_answer(self, asked: u8) -> bool
         ensures { result ≡ definition.judges_answer asked self }
     {
         self.other.is_followed || asked != 0
+    }
+
+    /// Whether F=1 of a DM or FRMR is.
+    fn judges_final(self) -> bool
+        ensures { result ≡ definition.judges_final self }
+    {
+        self.other.polls != 0 || (self.other.is_followed && !self.own.phase.is_unseen())
     }
 
     /// Whether the first end's next frame is judged.
@@ -667,7 +674,7 @@ impl Sides {
             Frame::Rr { .. } | Frame::Rnr { .. } | Frame::Rej { .. } => self.judges_hearing(),
             Frame::Sabm { .. } | Frame::Disc { .. } => true,
             Frame::Ua { .. } => self.judges_answer(self.other.asked),
-            Frame::Dm { f } | Frame::Frmr { f, .. } => !*f || self.judges_answer(self.other.polls),
+            Frame::Dm { f } | Frame::Frmr { f, .. } => !*f || self.judges_final(),
         }
     }
 

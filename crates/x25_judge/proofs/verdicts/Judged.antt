@@ -26,7 +26,7 @@ use Rattle.x25_judge.proofs.verdicts.Frames.{Bare, begun_bare, is_bool}
 use Rattle.x25_judge.proofs.verdicts.Lines.{stands}
 use Rattle.x25_judge.proofs.verdicts.Ways.{sure_hears}
 
-abbrev Breaks : Option Rule → Type 0
+abbrev pub Breaks : Option Rule → Type 0
 Breaks r = breaks_order r ≡ true
 
 -- ---- the first of two
@@ -78,7 +78,7 @@ heard_breaks nr w sure whole far =
 
 -- ---- P and F go on
 
-bits_break : (command pf : Bool) (t : Sides) → Breaks t.rule → Breaks (sides.bits command pf t).rule
+pub bits_break : (command pf : Bool) (t : Sides) → Breaks t.rule → Breaks (sides.bits command pf t).rule
 bits_break command false t h = h
 bits_break true true t h = cond_both t.own.is_polling (sides.notes (Some PollAgain) (sides.asks_on true t)) (sides.asks_on true t) (λ (v : Sides). Breaks v.rule) (λ _. h) (λ _. h)
 bits_break false true t h =
@@ -86,7 +86,7 @@ bits_break false true t h =
     (λ _. cond_both (true && not (sides.is_unseen t.own.phase)) (sides.tells (Some NoPoll) (sides.poll_answered t)) (sides.notes (Some PollUnseen) (sides.poll_answered t)) (λ (v : Sides). Breaks v.rule)
     (λ _. first_keeps t.rule (Some NoPoll) h) (λ _. h))
 
-runs_break : (t : Sides) → sides.may_run t.own.phase ≡ false → Breaks (sides.runs t).rule
+pub runs_break : (t : Sides) → sides.may_run t.own.phase ≡ false → Breaks (sides.runs t).rule
 runs_break t out = cond_both (sides.may_run t.own.phase) (sides.with_own (sides.running_in t.own) t) _ (λ (v : Sides). Breaks v.rule)
     (λ up. absurd (both_ways (sides.may_run t.own.phase) out up)) (λ _. first_brings t.rule (Some NotUp) refl)
 

@@ -1,9 +1,10 @@
 -- One session of a link, as a trace shows it: SABM and UA, and then frames with numbers.
-use Rattle.std.specs.Prelude.{◌≡◌, ℕ, ◌<◌, All, length, Bool, true, false, List, Option, Some, None, Ok, nat_le}
+use Rattle.std.specs.Prelude.{◌≡◌, ℕ, ◌<◌, All, length, Bool, true, false, not, ◌&&◌, List, Option, Some, None, Ok}
+use Rattle.std.specs.Prelude.{nat_le}
 use Rattle.x25_bits.specs.declared.role.Role.{Role}
 use Rattle.x25_bits.specs.declared.role.Role.TheVariants.{Dte, Dce}
 use Rattle.x25_decode.specs.Decoding.{n1, sent_in}
-use Rattle.x25_frame.specs.Frame.{PlainFrame, info, rr, rnr, rej}
+use Rattle.x25_frame.specs.Frame.{PlainFrame, info, rr, rnr, rej, dm, frmr}
 use Rattle.x25_frame.specs.Reading.{frame_of}
 use Rattle.x25_judge.specs.Judge.{held_of, remark_of, seen_by}
 use Rattle.x25_judge.specs.Sides.{may_run}
@@ -56,6 +57,15 @@ nr_of (rr command nr pf) = Some nr
 nr_of (rnr command nr pf) = Some nr
 nr_of (rej command nr pf) = Some nr
 nr_of frame = None
+
+-- it is a response with F=1, but for UA
+abbrev pub is_final : PlainFrame → Bool
+is_final (rr command nr pf) = pf && not command
+is_final (rnr command nr pf) = pf && not command
+is_final (rej command nr pf) = pf && not command
+is_final (dm f) = f
+is_final (frmr f why) = f
+is_final frame = false
 
 -- it has no N(S)
 abbrev pub IsSupervisory : PlainFrame → Type 0

@@ -1,17 +1,19 @@
 -- What the laws say of `judge`.
-use Rattle.std.specs.Prelude.{◌≡◌, ℕ, ◌==◌, ◌<◌, ◌≤◌, Bool, true, false, not, List, [], ◌∷◌, Some}
+use Rattle.std.specs.Prelude.{◌≡◌, ℕ, ◌==◌, ◌<◌, ◌≤◌, Bool, true, false, not, List, [], ◌∷◌, Some, is_some}
 use Rattle.x25_bits.specs.declared.role.Role.{Role}
 use Rattle.x25_decode.specs.Decoding.{n1}
 use Rattle.x25_decode.specs.declared.answer.Reading.{Reading}
-use Rattle.x25_frame.specs.Frame.{PlainFrame, sabm, ua}
-use Rattle.x25_judge.specs.Judge.{begins, answer_to, sides_of}
+use Rattle.x25_frame.specs.Frame.{PlainFrame, info, sabm, ua}
+use Rattle.x25_judge.specs.Held.{is_same}
+use Rattle.x25_judge.specs.Judge.{begins, answer_to, held_of, sides_of}
 use Rattle.x25_judge.specs.Rule.{breaks_order}
 use Rattle.x25_judge.specs.Sides.{ended, is_judged}
-use Rattle.x25_judge.specs.Way.{awaited}
+use Rattle.x25_judge.specs.Way.{awaited, goes_on, may_go_back}
 use Rattle.x25_judge.specs.declared.judge.Judge.{Judge}
 use Rattle.x25_judge.specs.declared.judge.Strictness.{Strictness}
 use Rattle.x25_judge.specs.declared.sides.Phase.{Phase}
 use Rattle.x25_judge.specs.declared.sides.Phase.TheVariants.{Answered}
+use Rattle.x25_judge.specs.declared.way.Way.{Way}
 use Rattle.x25_line.specs.laws.InWindow.{IsPrefix}
 use Rattle.x25_line.specs.laws.Peer.{Peer}
 use Rattle.x25_link.specs.Hearing.{other}
@@ -20,7 +22,7 @@ use Rattle.x25_sessions.specs.laws.PeerSessions.{Stand}
 use Rattle.x25_judge.specs.laws.Explaining.{IsQuiet, IsKept, IsUntold, Carries}
 use Rattle.x25_judge.specs.laws.Keeping.{MaySend, MayBe}
 use Rattle.x25_judge.specs.laws.Sessions.{MaySay, MayStand}
-use Rattle.x25_judge.specs.laws.Session.{end_of, IsBegun, Shows, IsNumbered, nr_of, rule_of, is_of_order}
+use Rattle.x25_judge.specs.laws.Session.{end_of, IsBegun, Shows, IsNumbered, nr_of, is_final, rule_of, is_of_order}
 use Rattle.x25_judge.specs.laws.Watching.{Watched, IsSilent, IsAny}
 use Rattle.x25_packet_judge.specs.Numbers.{apart}
 
@@ -103,3 +105,31 @@ abbrev pub JudgedAnswersAreTold : Type 0
 JudgedAnswersAreTold =
     (from : Role) (j : Judge) (f : Bool) → is_judged (ua f) (sides_of from j) ≡ true
     → (end_of (other from) j).asked ≡ 0 → breaks_order (rule_of j from (ua f)) ≡ true
+
+-- V(S) can't stand at the N(S), nor be set back to it
+pub record IsOutOfPlace (ns : ℕ) (p : Bool) (w : Way) : Type 0 where
+  pub here : goes_on (apart w.next ns) w ≡ false
+  pub back : may_go_back p (apart w.next ns) w ≡ false
+
+-- a rule or manners are told of an I frame that counts so, where its N(S) is out of place
+abbrev pub JudgedSendingsAreTold : Type 0
+JudgedSendingsAreTold =
+    (from : Role) (j : Judge) (ns nr : ℕ) (p : Bool) (octets : List ℕ)
+    → is_judged (info ns nr p octets) (sides_of from j) ≡ true → IsOutOfPlace ns p (end_of from j).way
+    → is_some (rule_of j from (info ns nr p octets)) ≡ true
+
+-- and where it goes again, and not with the octets that it had
+abbrev pub JudgedOctetsAreTold : Type 0
+JudgedOctetsAreTold =
+    (from : Role) (j : Judge) (ns nr : ℕ) (p : Bool) (octets : List ℕ)
+    → is_judged (info ns nr p octets) (sides_of from j) ≡ true
+    → is_same (held_of from j) (info ns nr p octets) ≡ false → 0 < apart (end_of from j).way.next ns
+    → apart (end_of from j).way.next ns ≤ (end_of from j).way.kept
+    → is_some (rule_of j from (info ns nr p octets)) ≡ true
+
+-- and of a response with F=1, where no P=1 of the other end is unanswered
+abbrev pub JudgedFinalsAreTold : Type 0
+JudgedFinalsAreTold =
+    (from : Role) (j : Judge) (frame : PlainFrame) → is_final frame ≡ true
+    → is_judged frame (sides_of from j) ≡ true → (end_of (other from) j).polls ≡ 0
+    → is_some (rule_of j from frame) ≡ true
