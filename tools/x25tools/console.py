@@ -28,6 +28,8 @@ with contextlib.suppress(ImportError):
 COMMANDS = {
     "connect": ("", "has the link set up"),
     "disconnect": ("", "ends the link"),
+    "probe": ("", "asks an idle link for an answer"),
+    "relink": ("", "has the link set up anew; all circuits are gone"),
     "call": ("CALLED CALLING [DATA] [S S W W]", "calls an address, from another: digits, or - for none"),
     "accept": ("CHANNEL [S S W W]", "accepts the call that came on a channel"),
     "clear": ("CHANNEL", "refuses a call, or ends it"),
@@ -57,6 +59,7 @@ WIDTH = 80
 # What the events of entries mean.
 MEANS = {
     "connect": "the link is to be set up",
+    "relink": "the link is to be set up anew",
     "linkup": "the link is up",
     "restarted": "calls can be made",
     "restartdone": "all circuits are cleared",
