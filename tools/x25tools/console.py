@@ -28,8 +28,8 @@ with contextlib.suppress(ImportError):
 COMMANDS = {
     "connect": ("", "has the link set up"),
     "disconnect": ("", "ends the link"),
-    "probe": ("", "asks an idle link for an answer"),
-    "relink": ("", "has the link set up anew; all circuits are gone"),
+    "relink": ("", "has the link set up anew"),
+    "probe": ("", "polls the other end"),
     "call": ("CALLED CALLING [DATA] [S S W W]", "calls an address, from another: digits, or - for none"),
     "accept": ("CHANNEL [S S W W]", "accepts the call that came on a channel"),
     "clear": ("CHANNEL", "refuses a call, or ends it"),
