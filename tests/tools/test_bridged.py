@@ -275,9 +275,6 @@ class Two(ToolCase):
                 dce = self.begin("dce", "--listen", port, "--stay", "--t1", "0.3", "--n2", "5")
                 dce.stderr.readline()
                 self.hears(dte, "# the connection has ended")
-                if stage == 2:
-                    # Without a circuit nothing asks whether the other end is there; a call does.
-                    self.asks(dte, CALL)
                 if stage != 1:
                     self.hears(dte, "dte linkdown")
         self.open_call(dte, dce)
@@ -303,7 +300,7 @@ class Two(ToolCase):
             self.finish(dce)
 
     def test_a_line_that_dies_silently(self):
-        """Nothing comes any more, and the connection stands: the circuit's RR isn't acknowledged, and the link goes down."""
+        """Nothing comes any more, and the connection stands: the poll isn't answered, and the link goes down."""
         dte, dce, _ = self.joined("--t3", "0.5")
         time.sleep(2)
         dce.send_signal(signal.SIGSTOP)

@@ -39,8 +39,9 @@ next frame, and those behind it wait; so do all while the line isn't there. `con
 is answered or T1 has passed.
 
 T1 fires --t1 seconds after it began anew, where nothing that came is unread; let it be longer than the way to the other end and
-back. Where nothing came for --t3 seconds, the other end is asked whether it is there: by an RR of a circuit that is open, which it has to
-acknowledge, and of a connection over TCP by the system. A reader of notices may be slow: 256 KB are kept for him, then channels
+back. Where nothing came for --t3 seconds, the other end is asked whether it is there: by a poll of the link, which it has to answer, and
+of a connection over TCP by the system. Where a call or a reset isn't answered in --t21 or --t22 seconds it is cleared; where a clearing
+isn't in --t23, the station restarts; and where a restart isn't in --t20, the link is set up anew. A reader of notices may be slow: 256 KB are kept for him, then channels
 by which messages come are held (`notready`) until he has read half of it. The bridge ends when the commands have, nothing is left to
 do, and no frame went or came for --quiet seconds; with --stay only when the line does. CTRL-C and SIGTERM end it too: it sends DISC,
 and waits no longer than T1 for the answer.
@@ -68,6 +69,7 @@ from collections import Counter
 from x25tools import decoding, piped, wires, x25lines, x25names, xot_wire
 from x25tools.circuits import Circuits
 from x25tools.mishaps import Mishaps
+from x25tools.overdue import STANDARD, Overdue
 from x25tools.places import host_and_port, ports, within, xot_host
 from x25tools.users import SLOW, Outlet, Signals, User, kind
 from x25tools.x25lines import BadInput, FrameLine
@@ -123,6 +125,7 @@ class Bridge:
         self._quiet = quiet(options)
         self._outlets = [it for it in (user.notices, trace) if it is not None]
         self._circuits = Circuits()
+        self._overdue = Overdue(options.end, (options.t20, options.t21, options.t22, options.t23))
         self._deadline, self._is_idle = None, False
         self._is_full, self._held, self._unknown = False, set(), set()
         self._last_frame = self._last_came = time.monotonic()
@@ -173,7 +176,7 @@ class Bridge:
         if self._leaves is None and (self._command() is not None or self._has_caught_up() or self._in_vain()):
             return 0
         now = time.monotonic()
-        own = [self._leaves] if self._leaves is not None else [self._deadline, self._probing(), *self._waits()]
+        own = [self._leaves] if self._leaves is not None else [self._deadline, self._probing(), self._overdue.due(), *self._waits()]
         times = [at for at in (self._wire.due, *own) if at is not None]
         if self._is_settling():
             times.append(max(self._answers))
@@ -182,10 +185,12 @@ class Bridge:
         return max(0, min(times) - now) if times else None
 
     def _act(self):
-        """Where nothing came: T1, or what T3 asks for, or else a command."""
+        """Where nothing came: T1, or what is asked where an answer is overdue or nothing came for T3, or else a command."""
         now, probing = time.monotonic(), self._probing()
         if self._deadline is not None and now >= self._deadline:
             self._fire()
+        elif overdue := self._overdue.take(now):
+            self._insist(*overdue)
         elif probing is not None and now >= probing:
             self._probe()
         elif self._has_caught_up():
@@ -301,16 +306,25 @@ class Bridge:
             raise BadInput(f"the station refused a firing of T1, which ran: {answer.refusal}")
 
     def _probing(self):
-        """When the other end is asked whether it is there; None where there is no circuit to ask by, or T1 asks already."""
-        is_needed = self._options.t3 and self._circuits.open() and self._deadline is None and self._leaves is None and not self._is_at_rest()
+        """When the other end is asked whether it is there; None where the link isn't up, or T1 asks already."""
+        is_needed = self._options.t3 and self._circuits.is_up and self._deadline is None and self._leaves is None and not self._is_at_rest()
         return self._last_came + self._options.t3 if is_needed else None
 
     def _probe(self):
-        """Says once more on a circuit whether the user is ready: the other end has to acknowledge that."""
+        """Polls the other end, which has to answer."""
         self._last_came = time.monotonic()
-        channel = self._circuits.open()[0]
-        word = "notready" if channel in self._circuits.not_ready else "ready"
-        self._heed(self._station.ask(f"{self._end} {word} {channel}")._replace(notices=[]))
+        self._heed(self._station.ask(f"{self._end} probe"))
+
+    def _insist(self, timer, why, commands):
+        """An answer is overdue: the next wider thing is asked."""
+        self._user.note(f"{timer} has passed: {why}")
+        self._make_room()
+        for command in commands:
+            answer = self._station.ask(f"{self._end} {command}")
+            self._heed(answer)
+            if answer.refusal is None:
+                return
+        self._user.note(f"{commands[-1]} is refused: {x25names.refusal(answer.refusal)}")
 
     def _has_caught_up(self):
         """Whether channels are held for the reader of notices, and he has read."""
@@ -376,14 +390,16 @@ class Bridge:
 
     def _heed(self, answer):
         """Tells and sends what the station answers, and sets the deadline as its mark says."""
-        slow = set()
+        slow, is_anew = set(), False
         for notice in answer.notices:
             event, channel = self._circuits.heed(notice)
+            is_anew = is_anew or event.startswith("link")
             if event == "disconnect":
                 self._is_dead, self._answers[0] = True, time.monotonic() + self._options.t1
             self._user.tell(notice)
             if event == "message" and self._user.notices.is_slow():
                 slow.add(channel)
+        self._overdue.heed(time.monotonic(), self._circuits.awaited(), is_anew)
         for frame in answer.frames:
             self._send(frame.octets)
         if answer.t1 == "start":
@@ -483,6 +499,9 @@ def words():
     parser.add_argument("--library", metavar="PATH", help="a libx25.so, in place of the program")
     parser.add_argument("--t1", type=within(float, 0.001, 86_400), default=1, metavar="SECONDS", help="how long T1 is (1)")
     parser.add_argument("--t3", type=within(float, 0, 86_400), default=60, metavar="SECONDS", help="how long nothing comes before the other end is asked; 0 for never (60)")
+    for place, (name, what) in enumerate([("t20", "a restart"), ("t21", "a call"), ("t22", "a reset"), ("t23", "a clearing")]):
+        usual = ", ".join(f"{times[place]:g} at a {end.upper()}" for end, times in STANDARD.items())
+        parser.add_argument(f"--{name}", type=within(float, 0, 86_400), metavar="SECONDS", help=f"how long {what} waits for its answer, 0 for ever ({usual})")
     parser.add_argument("--quiet", type=within(float, 0, 86_400), metavar="SECONDS", help=f"how long nothing comes at the end ({QUIET_T1S} times T1)")
     parser.add_argument("--wait", type=within(float, 0, 86_400), metavar="SECONDS", help="how long a `wait` waits (as long as it may come)")
     parser.add_argument("--stay", action="store_true", help="end only when the line does")

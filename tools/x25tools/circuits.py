@@ -11,6 +11,10 @@ EVENT = re.compile(r"(d[tc]e) ([a-z]+)(?: |$)")
 BECOMES = {"call": "calling", "incoming": "called", "accept": "open", "connected": "open", "clear": "clearing", "reset": "resetting"}
 BECOMES |= {"resetdone": "open", "wasreset": "open", "fault": "fault"}
 ENDS = ("cleared", "cleardone", "collided")
+# Of what an answer of the other end is awaited in a state.
+AWAITS = {"calling": "call", "clearing": "clear", "resetting": "reset", "fault": "fault"}
+# Behind which events a restart of this end is under way, and behind which it isn't.
+RESTARTING = {"linkup": True, "restart": True, "linkdown": False, "restarted": False, "restartdone": False}
 OPEN = ("open", "resetting", "fault")
 # In which states of a circuit an event may come next, or behind what the other end does first; and what is said where none is in such a one.
 COMES_IN = {
@@ -32,20 +36,28 @@ class Circuits:
         self.proposed: dict[int, int] = {}
         self.is_up = False
         # Whether this end asked for the link, whether that came to nothing, and whether it ended it; whether it has restarted.
-        self._connects = self._has_failed = self._has_ended = self._restarts = False
+        self._connects = self._has_failed = self._has_ended = self._restarts = self._is_restarting = False
 
     def open(self) -> list[int]:
         """The channels that have a circuit open, in order."""
         return sorted(channel for channel, state in self._states.items() if state in ("open", "resetting"))
+
+    def awaited(self) -> dict[int, str]:
+        """Of what this end awaits an answer, by channel; a restart by channel 0."""
+        of_channels = {channel: AWAITS[state] for channel, state in self._states.items() if state in AWAITS}
+        return {0: "restart"} if self._is_restarting else of_channels
 
     def heed(self, notice: str) -> tuple[str, int | None]:
         """Takes an entry; answers its event and its channel, or None."""
         event = notice.split(" ")[1]
         found = CHANNEL.search(notice)
         channel = int(found[1]) if found else None
-        if channel is not None:
+        if (event, channel) == ("fault", 0):
+            # A confirmation that wasn't awaited is answered by a restart.
+            self._heed_the_link("restart")
+        elif channel is not None:
             self._heed_a_circuit(event, channel, notice)
-        elif event in ("connect", "disconnect") or event.startswith(("restart", "link")):
+        elif event in ("connect", "disconnect", "relink") or event.startswith(("restart", "link")):
             self._heed_the_link(event)
         return event, channel
 
@@ -66,7 +78,8 @@ class Circuits:
 
     def _heed_the_link(self, event: str) -> None:
         """Takes an entry on the link, or on all circuits."""
-        if event == "connect":
+        self._is_restarting = RESTARTING.get(event, self._is_restarting)
+        if event in ("connect", "relink"):
             self._connects, self._has_failed, self._has_ended = True, False, False
             return
         if event == "disconnect":

@@ -59,6 +59,7 @@ WIDTH = 80
 # What the events of entries mean.
 MEANS = {
     "connect": "the link is to be set up",
+    "relink": "the link is to be set up anew",
     "linkup": "the link is up",
     "restarted": "calls can be made",
     "restartdone": "all circuits are cleared",
