@@ -665,12 +665,21 @@ class Joined(ToolCase):
         self.child.terminate()
         self.end()
 
-    def test_words_of_the_station(self):
-        for words, given in ((["--k", "3", "--long"], ["--k", "3", "--channels", "1", "--long", "--wide"]), (["--no-wide"], ["--channels", "1"])):
-            parser = argparse.ArgumentParser()
-            bridge.add_station_words(parser)
-            bridge.add_line_words(parser)
-            self.assertEqual(bridge.station_words(parser.parse_args(["dte", *words])), given)
+    def test_sabme_is_answered_by_dm(self):
+        """Where the station is down and reads packets in all forms: it is asked what it answers DISC by."""
+        sabme, disc = (sealed(bytes([3, control])) for control in (0x7F, 0x53))
+        dm = "> " + sealed(bytes([3, 0x1F])).hex()
+        for words, heard, answered in (([], disc, [dm]), (["--no-wide"], sabme, [])):
+            with self.subTest(words):
+                self.begin("\n".join([". off idle", f"= {line(heard)}", *answered, ". off idle\n"]), *words)
+                self.sends(line(sabme))
+                self.assertEqual([self.gets() for _ in answered], answered)
+                self.assertEqual(self.end(), (0, [], ""))
+        # A link that comes up, or is up, has T1 or its own answer for it.
+        self.begin(f". off idle\n= dte connect\n{SABM}\n. start busy\n= {line(sabme)}\n. on busy\n= {UA}\ndte linkup\n. off idle\n= {line(sabme)}\n. off idle\n", user=b"dte connect\n")
+        self.gets()
+        self.sends("\n".join([line(sabme), UA, line(sabme)]))
+        self.assertEqual(self.end(), (0, ["dte linkup"], ""))
 
     def test_words_of_the_station(self):
         for words, given in ((["--k", "3", "--long"], ["--k", "3", "--channels", "1", "--long", "--wide"]), (["--no-wide"], ["--channels", "1"])):

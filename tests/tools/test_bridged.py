@@ -96,6 +96,19 @@ class Two(ToolCase):
         self.assertIn("> I cmd P=0 S=1 R=1 | CALL ch=1 called=123 calling=4567 fac=- data=41", decoded)
         self.assertEqual([text for text in decoded if "fault" in text], [])
 
+    def test_an_end_that_begins_by_sabme(self):
+        """It is answered DM at once, and SABM behind that by UA."""
+        dce, words = self.listening("--quiet", "3")
+        host, port = words[1].split(":")
+        with socket.create_connection((host, int(port)), timeout=SECONDS) as joined, joined.makefile("rw") as lines:
+            answers = []
+            for command in ("> 017fef9d\n", "> 013febdf\n"):
+                lines.write(command)
+                lines.flush()
+                answers.append(lines.readline())
+        dce.communicate(timeout=SECONDS)
+        self.assertEqual(support.decode("".join(answers).encode()), ["< DM rsp F=1", "< UA rsp F=1"])
+
     def test_a_call_over_datagrams(self):
         one, other = free_ports(2)
         dce = self.begin("dce", "--udp", f"{one}:{other}", "--t1", "1", "--quiet", "8")

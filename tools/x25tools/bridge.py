@@ -86,6 +86,7 @@ MOST_CHANNELS = 16
 OTHER = {">": "<", "<": ">"}
 OTHER_END = {"dte": "dce ", "dce": "dte "}
 CALL, UA, DM = 0x0B, 0x63, 0x0F
+SABME, DISC, P_OR_F = 0x6F, 0x43, 0x10
 # A call, and an acceptance, with the two packet sizes that they may say.
 SIZED = re.compile(r"(?:call \S+ \S+ \S+|accept (?P<channel>\d+))(?: (?P<called>\d{1,3}) (?P<calling>\d{1,3}) \d+ \d+)?")
 SENDS = re.compile(r"\w+ send ")
@@ -101,6 +102,14 @@ def called_channel(octets):
 def is_answer(octets):
     """Whether a frame is UA or DM, the answers to DISC."""
     return x25lines.is_sealed(octets) and octets[1] & 0xEF in (UA, DM)
+
+
+def as_disc(octets):
+    """DISC in place of SABME; other octets as they are."""
+    if len(octets) != 4 or octets[1] & ~P_OR_F != SABME or not x25lines.is_sealed(octets):
+        return octets
+    body = bytes([octets[0], DISC | octets[1] & P_OR_F])
+    return body + x25lines.fcs(body)
 
 
 class Bridge:
@@ -254,13 +263,18 @@ class Bridge:
         if octets is None:
             return
         self._make_room()
-        answer = self._station.ask(FrameLine(OTHER[self._direction], octets).text())
+        heard = as_disc(octets) if self._is_down() else octets
+        answer = self._station.ask(FrameLine(OTHER[self._direction], heard).text())
         if answer.refusal is not None:
             self._user.note(f"the station takes no frame of {len(octets):,} octets: it is lost")
         self._heed(answer)
         self._look_for_channel(octets)
         if is_answer(octets):
             self._answers[0] = 0
+
+    def _is_down(self):
+        """Whether SABME is to be answered by DM, which is what DISC is answered by: then the other end goes on by SABM (2.4.4.1)."""
+        return self._options.wide and not self._circuits.is_up and self._deadline is None
 
     def _look_for_channel(self, octets):
         """Tells of a call on a channel that the station doesn't have, once for each: nothing answers it."""
