@@ -226,7 +226,6 @@ module _ (c : Settings) (p : Program) (k : Kept c p) where
       let whole : Step = led_by (disconnect_asked ∷ []) (follows c s.layer l) in
       let did = unless_did (disconnect_refusal s.link.phase) whole step is in
       link_happens line none (Asks Disconnects) asks (disconnect_asked ∷ []) refl p.back p.met l (ap (with_pulls c) (is ∙ ap (λ (x : Step). Did x) (sym did.1))) (beside.Disconnects did.0)
-
   commanded line Probes (Did step) none asks octets is =
       let l : LinkStep = timer_step (link_settings c) s.link in
       let did = unless_did (probe_refusal s.link.phase) (follows c s.layer l) step is in

@@ -1,6 +1,8 @@
 //! What a link answers, and what it says of itself then; `tests/golden` has the frames of whole sessions.
 
-use crate::calls::{abandon, connect, disconnect, fire, link, link_for, probe, put, relink, sent, take};
+use crate::calls::{
+    abandon, connect, disconnect, fire, link, link_for, probe, put, relink, sent, take,
+};
 use std::alloc::Global;
 use x25_bits::{Role, Seq};
 use x25_frame::{Frame, encode};
@@ -150,7 +152,12 @@ static ASKED: [Row; 12] = [
     (Act::Probe, OK, (1, POLL), IDLE_RUNS),
     (Act::Take(POLL), OK, NONE, IDLE),
     (Act::Probe, OK, (1, POLL), IDLE_RUNS),
-    (Act::Relink, (0, Some(Reason::Local), false), (1, SABM), AWAITS_UA),
+    (
+        Act::Relink,
+        (0, Some(Reason::Local), false),
+        (1, SABM),
+        AWAITS_UA,
+    ),
     (Act::Take(UA), UP, NONE, IDLE),
     (Act::Probe, OK, (1, POLL), IDLE_RUNS),
     (Act::Probe, (0, Some(Reason::Retries), false), NONE, DOWN),

@@ -33,13 +33,16 @@ relink_leads_on connects two c s up =
     let down = relink_down c s.layer s.link in
     let waits = connects lc (with_nothing Down s.link.tries) refl in
     let near : step.near.link ≡ record (with_nothing Down s.link.tries) { phase = Waiting; tries = 0 } =
-    ap (λ (x : Step). x.near.link) down ∙ ap (λ (t : Side). t.near) (two lc s.link).connected ∙ waits.near in
-    (step, ap (λ (r : Option LinkError). unless r step) (refused_none s.link.phase up), record {
-      phase = ap (λ (x : LinkStation). x.phase) near;
-      tries = ap (λ (x : LinkStation). x.tries) near;
-      layer = ap (λ (x : Step). x.near.layer) down;
-      entries = ap (λ (x : Step). relink_asked ∷ x.entries) down;
-    })
+    ap (λ (x : Step). x.near.link) down ∙ ap (λ (t : Side). t.near) (two lc s.link).connected ∙ waits.near in (
+      step,
+      ap (λ (r : Option LinkError). unless r step) (refused_none s.link.phase up),
+      record {
+        phase = ap (λ (x : LinkStation). x.phase) near;
+        tries = ap (λ (x : LinkStation). x.tries) near;
+        layer = ap (λ (x : Step). x.near.layer) down;
+        entries = ap (λ (x : Step). relink_asked ∷ x.entries) down;
+      },
+    )
 
 -- ---- while UA is awaited
 
