@@ -34,6 +34,16 @@ def timed(words, file, statuses=(0,)):
     return used.ru_utime + used.ru_stime, time.perf_counter() - start, peak
 
 
+def processor_time(words):
+    """The seconds of a processor that a run of the words takes."""
+    child = subprocess.Popen(words, stdout=subprocess.DEVNULL)
+    _, status, used = os.wait4(child.pid, 0)
+    child.returncode = os.waitstatus_to_exitcode(status)
+    if child.returncode:
+        sys.exit(f"{words[0]} ended with status {child.returncode}")
+    return used.ru_utime + used.ru_stime
+
+
 def allocations(words, given=b"", statuses=(0,)):
     """How often a run of the words on these octets takes memory, by valgrind."""
     done = subprocess.run(["valgrind", *words], input=given, stdout=subprocess.DEVNULL, stderr=subprocess.PIPE)

@@ -1,7 +1,7 @@
 /* Two stations in memory, from C: the user of the one sends messages, and what each puts on the line arrives at the other at once,
  * whose user reads it.
  *
- *     two_stations COUNT LENGTH     writes how many messages were delivered
+ *     two_stations COUNT LENGTH [READS]     writes how many messages were delivered, each of which is read so often
  */
 #include "x25.h"
 #include <stdio.h>
@@ -12,7 +12,7 @@ enum { ROOM = 65536, MOST = 64 };
 static x25_station stations[2];
 static uint8_t octets[2][MOST][ROOM];    /* frames on their way from each */
 static size_t counts[2][MOST], waiting[2];
-static long delivered;
+static long delivered, reads = 1;
 
 static void check(uint32_t number)
 {
@@ -29,7 +29,11 @@ static void take(int end)
     for (size_t i = 0; x25_take(&stations[end], i, &event, octets[end][waiting[end] % MOST], ROOM); i++) {
         if (event.kind == X25_EVENT_FRAME)
             counts[end][waiting[end]++ % MOST] = event.count;
-        delivered += event.kind == X25_EVENT_MESSAGE;
+        if (event.kind == X25_EVENT_MESSAGE) {
+            delivered++;
+            for (long again = 1; again < reads; again++)
+                x25_take(&stations[end], i, &event, octets[end][waiting[end] % MOST], ROOM);
+        }
     }
 }
 
@@ -53,6 +57,7 @@ int main(int argc, char **argv)
     static uint8_t message[65535];
     long count = argc > 1 ? atol(argv[1]) : 1;
     size_t length = argc > 2 ? (size_t)atol(argv[2]) : 3;
+    reads = argc > 3 ? atol(argv[3]) : 1;
     x25_settings settings = {.k = 7, .n2 = 10, .channels = 1};
     x25_sizes sizes = {0, 0, 0, 0};
     uint16_t channel;

@@ -11,12 +11,14 @@
  * answered, and timer T1 goes on, or is off. (After X25_NO_COMMAND, and X25_IN_USE of x25_new, the last answer stands.) Each
  * may answer X25_NO_STATION and X25_NO_MEMORY; what else one answers stands beside it.
  *
- * An answer has at most 24 frames of at most 4,103 octets, and 3 events, of which one has at most 65,535 octets. Reading it
- * takes no memory, but for x25_entry. A station takes some 80 kB, and some 10 MB with all that may wait on 16 channels.
+ * An answer has at most 24 frames of at most 4,103 octets, and 3 events, of which one has at most 65,535 octets. Its memory is
+ * set aside before anything happens: reading it takes none, but for x25_entry. A station takes some 80 kB, and some 10 MB with
+ * all that may wait on 16 channels.
  *
  * What the library can't see, and the program has to keep:
  * - An x25_station that holds a station isn't copied, only the library reads and writes its fields, and it is in one call at
- *   a time. It may be handed to another thread, by a lock, a thread's start or join, or a sequentially consistent atomic.
+ *   a time. One that takes it as const leaves it as it was; it writes to it meanwhile. It may be handed to another thread, by
+ *   a lock, a thread's start or join, or a sequentially consistent atomic.
  * - A pointer leads to memory that no other parameter of the call leads to. It isn't null, but where its count is 0.
  * - The library takes memory from malloc, realloc and free alone. They are of one allocator, and it aligns a block to each
  *   power of two up to 16 that divides its size.
@@ -218,32 +220,32 @@ uint32_t x25_command(x25_station *station, const char *text, size_t text_count);
 
        for (size_t i = 0; x25_take(&station, i, &event, room, sizeof room); i++)
            switch (event.kind) .. */
-bool x25_take(x25_station *station, size_t i, x25_event *event, uint8_t *room, size_t size);
+bool x25_take(const x25_station *station, size_t i, x25_event *event, uint8_t *room, size_t size);
 /* What else item i has: the address that is called and the one that calls, 0 to 15 digits as "0" to "9", and the facilities that
    came beside, at most 109 octets. Each is copied to the front of text or room where it fits; its length is answered in any case,
    0 where there is none. */
-size_t x25_called(x25_station *station, size_t i, char *text, size_t size);
-size_t x25_calling(x25_station *station, size_t i, char *text, size_t size);
-size_t x25_facilities(x25_station *station, size_t i, uint8_t *room, size_t size);
+size_t x25_called(const x25_station *station, size_t i, char *text, size_t size);
+size_t x25_calling(const x25_station *station, size_t i, char *text, size_t size);
+size_t x25_facilities(const x25_station *station, size_t i, uint8_t *room, size_t size);
 
 /* The same answer by its parts, the events as text. x25_frame and x25_entry copy number i, from 0 on, to the front of room or
    text where it fits, and tell its length in any case, 0 where there is none. An entry is a line of the transcript with its line
    feed, of at most 131,200 octets. X25_NO_MEMORY of x25_entry leaves text and count as they were. */
-size_t x25_frames(x25_station *station);
-size_t x25_frame(x25_station *station, size_t i, uint8_t *room, size_t size);
-size_t x25_entries(x25_station *station);
+size_t x25_frames(const x25_station *station);
+size_t x25_frame(const x25_station *station, size_t i, uint8_t *room, size_t size);
+size_t x25_entries(const x25_station *station);
 uint32_t x25_entry(x25_station *station, size_t i, char *text, size_t size, size_t *count);
 /* What became of timer T1 at the last call. */
-uint32_t x25_timer(x25_station *station);
+uint32_t x25_timer(const x25_station *station);
 
 /* Whether memory was refused after the last call that was accepted, for messages that may wait: they go on with the next one, as
    x25_pull is. */
-bool x25_waits(x25_station *station);
+bool x25_waits(const x25_station *station);
 /* Whether the link is up, and all that was asked was sent and acknowledged. */
-bool x25_idle(x25_station *station);
+bool x25_idle(const x25_station *station);
 /* Whether a stretch is open on a channel: a call is up there, and no reset is under way. Then its name is written, which else is
    as it was. */
-bool x25_stretch(x25_station *station, uint16_t channel, x25_stretch_name *name);
+bool x25_stretch(const x25_station *station, uint16_t channel, x25_stretch_name *name);
 /* What the number of a refusal says, copied as x25_called copies, into memory of the program: at most 64 octets, without a zero
    after them; none where no call answers that number. */
 size_t x25_refusal_text(uint32_t number, char *text, size_t size);

@@ -4,7 +4,7 @@
 #include "two.h"
 #include <sys/mman.h>
 
-enum { AREA = 1 << 18, AREAS = 5, KINDS = 31 };
+enum { AREA = 1 << 18, AREAS = 5, KINDS = 32, ALL = 200000 /* in so many calls each kind comes */ };
 
 static uint64_t state;
 static uint8_t *ends[AREAS]; /* of memory behind which none may be touched */
@@ -66,12 +66,46 @@ static uint32_t command(x25_station *station)
     return x25_command(station, (const char *)copy, count);
 }
 
+/* Writes the frame check sequence of a frame. */
+static void seal(uint8_t *frame, size_t count)
+{
+    uint16_t sum = 0xffff;
+    for (size_t i = 0; i < count - 2; i++) {
+        sum ^= frame[i];
+        for (int bit = 0; bit < 8; bit++)
+            sum = (uint16_t)(sum & 1 ? sum >> 1 ^ 0x8408 : sum >> 1);
+    }
+    frame[count - 2] = (uint8_t)~sum;
+    frame[count - 1] = (uint8_t)(~sum >> 8);
+}
+
+/* The I frame with another packet: a DIAGNOSTIC, an acceptance with a facility and an octet of user data, or the same with another
+   octet. */
+static uint32_t hear_another(x25_station *station, const uint8_t *frame, size_t count)
+{
+    static const uint8_t diagnostic[] = {0x10, 0x00, 0xf1, 0x24}, beside[] = {0x00, 0x02, 0x02, 0xaa, 0xc0};
+    bool is_diagnostic = draw(4) == 0, is_acceptance = !is_diagnostic && count == 7 && frame[4] == 0x0f;
+    size_t length = is_diagnostic ? sizeof diagnostic + 4 : is_acceptance ? count + sizeof beside : count;
+    uint8_t *copy = room(0, length);
+    memcpy(copy, frame, is_diagnostic ? 2 : count);
+    if (is_diagnostic)
+        memcpy(copy + 2, diagnostic, sizeof diagnostic);
+    else if (is_acceptance)
+        memcpy(copy + 5, beside, sizeof beside);
+    else
+        copy[2 + draw((uint32_t)count - 4)] = (uint8_t)draw(256);
+    seal(copy, length);
+    return x25_receive(station, copy, length);
+}
+
 static uint32_t hear(x25_station *station, end_t *other)
 {
     size_t count;
     uint8_t *frame = next_frame(other, &count), *copy;
     if (frame == NULL)
         return draw(16) ? x25_t1(station) : x25_connect(station);
+    if (count > 6 && !(frame[1] & 1) && draw(16) == 0)
+        return hear_another(station, frame, count);
     copy = room(0, count);
     memcpy(copy, frame, count);
     if (draw(64) == 0)
@@ -114,7 +148,7 @@ static uint32_t call(end_t *end, end_t *other)
     case 15:
         return draw(64) ? x25_pull(station) : x25_restart(station);
     case 16:
-        return x25_pull(station);
+        return draw(64) ? x25_probe(station) : x25_relink(station);
     case 17:
         return draw(1000) ? x25_pull(station) : x25_disconnect(station);
     default:
@@ -143,7 +177,7 @@ static void put_octets(const char *label, const uint8_t *given, size_t count)
     }
 }
 
-static void put_address(const char *label, size_t (*read)(x25_station *, size_t, char *, size_t), x25_station *station, size_t i)
+static void put_address(const char *label, size_t (*read)(const x25_station *, size_t, char *, size_t), const x25_station *station, size_t i)
 {
     size_t count = read(station, i, NULL, 0);
     char *text = (char *)room(3, count);
@@ -184,7 +218,7 @@ static void write_event(end_t *end, size_t i, const x25_event *event, const uint
     static const char *const names[KINDS] = {
         "", "", "", "linkup", "linkdown ", "restarted", "restartdone", "fault", "beside", "diagnostic", "incoming", "connected", "collided",
         "cleared", "cleardone", "wasreset", "resetdone", "message", "interrupt", "intdone", "connect", "disconnect", "restart", "call", "accept",
-        "clear", "send", "int", "reset", "ready", "notready"};
+        "clear", "send", "int", "reset", "ready", "notready", "relink"};
     static const char *const reasons[] = {"", "retries", "disc", "dm", "frmr-sent", "frmr-got", "reset", "local", "counts"};
     unsigned kind = event->kind;
     length = 0;
@@ -193,7 +227,7 @@ static void write_event(end_t *end, size_t i, const x25_event *event, const uint
     if (kind == X25_EVENT_LINK_DOWN)
         put(reasons[event->reason], 0);
     if (kind == X25_EVENT_FAULT || kind == X25_EVENT_BESIDE || (kind >= X25_EVENT_INCOMING && kind < X25_EVENT_CONNECT_ASKED)
-        || kind >= X25_EVENT_CALL_ASKED)
+        || (kind >= X25_EVENT_CALL_ASKED && kind < X25_EVENT_RELINK_ASKED))
         put(" ch=%llu", event->channel);
     if (kind == X25_EVENT_INCOMING || kind == X25_EVENT_CALL_ASKED || kind == X25_EVENT_MESSAGE || kind == X25_EVENT_SEND_ASKED
         || kind == X25_EVENT_INTERRUPT || kind == X25_EVENT_INTERRUPT_ASKED)
@@ -262,9 +296,9 @@ static void take(end_t *end)
         end->first = end->next;
 }
 
-static void begin(end_t *end, uint8_t at)
+static void begin(end_t *end, uint8_t at, uint8_t channels)
 {
-    x25_settings settings = {.k = (uint8_t)(1 + draw(7)), .n2 = 3, .channels = 2, .long_data = draw(2), .say_sizes = draw(2), .wide = draw(2)};
+    x25_settings settings = {.k = (uint8_t)(1 + draw(7)), .n2 = 3, .channels = channels, .long_data = draw(2), .say_sizes = draw(2), .wide = draw(2)};
     x25_free(&end->station);
     expect("new", x25_new(&end->station, at, settings), 0);
 }
@@ -277,8 +311,9 @@ int main(int argc, char **argv)
     for (long i = 0; i < calls; i++) {
         end_t *end = draw(2) ? &dte : &dce;
         if (i % 5000 == 0) {
-            begin(&dte, X25_DTE);
-            begin(&dce, X25_DCE);
+            uint8_t channels = (uint8_t)(1 + draw(2));
+            begin(&dte, X25_DTE, channels);
+            begin(&dce, X25_DCE, channels);
         }
         uint32_t number = call(end, end == &dte ? &dce : &dte);
         if (number)
@@ -295,9 +330,9 @@ int main(int argc, char **argv)
     }
     x25_free(&dte.station);
     x25_free(&dce.station);
-    unsigned kinds = 0;
-    for (int kind = 0; kind < KINDS; kind++)
-        kinds += seen[kind] > 0;
-    printf("%ld did, %ld refused, %u kinds of items\n", did, refused, kinds);
+    for (uint32_t kind = 1; kind < KINDS && calls >= ALL; kind++)
+        if (seen[kind] == 0)
+            fail("a kind of item that didn't come", kind);
+    printf("%ld did, %ld refused\n", did, refused);
     return 0;
 }

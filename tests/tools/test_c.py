@@ -23,7 +23,9 @@ NUMBERS = {"u8": "uint8_t", "u16": "uint16_t", "u32": "uint32_t", "u64": "uint64
 STRUCTURES = {"Settings": "x25_settings", "StretchName": "x25_stretch_name", "Sizes": "x25_sizes", "Event": "x25_event"}
 # The parameters that are text in C, and not octets.
 TEXTS = ("called", "calling", "text")
-EXPORT = re.compile(r'pub extern "C" fn (\w+)\(([^)]*)\)(?: -> (\w+))?')
+EXPORT = re.compile(r'pub extern "C" fn (\w+)\(([^)]*)\)(?: -> (\w+))?([^{]*\{[^}]*\})?')
+# The clause of one that leaves what is held as it was: its station is const in C.
+KEPT = "ensures kept { slot.new.handle.held ≡ slot.old.handle.held }"
 PROTOTYPE = re.compile(r"^(?:void|bool|\w+_t) x25_\w+\([^)]*\);", re.MULTILINE)
 
 
@@ -52,8 +54,10 @@ def c_type(name):
 def exported():
     """The functions that the crate exports, in order, as C declares them."""
     found = []
-    for name, parameters, result in EXPORT.findall(support.read("crates/x25_c/src/lib.rt").decode()):
+    for name, parameters, result, clause in EXPORT.findall(support.read("crates/x25_c/src/lib.rt").decode()):
         texts = [parameter(" ".join(text.split())) for text in parameters.split(",") if text.strip()]
+        if KEPT in clause:
+            texts = ["const x25_station *station" if text == "x25_station *station" else text for text in texts]
         found.append(f"{NUMBERS.get(result, 'void')} {name}({', '.join(text for text in texts if text) or 'void'});")
     return found
 

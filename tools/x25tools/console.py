@@ -28,6 +28,8 @@ with contextlib.suppress(ImportError):
 COMMANDS = {
     "connect": ("", "has the link set up"),
     "disconnect": ("", "ends the link"),
+    "relink": ("", "has the link set up anew"),
+    "probe": ("", "polls the other end"),
     "call": ("CALLED CALLING [DATA] [S S W W]", "calls an address, from another: digits, or - for none"),
     "accept": ("CHANNEL [S S W W]", "accepts the call that came on a channel"),
     "clear": ("CHANNEL", "refuses a call, or ends it"),

@@ -137,11 +137,6 @@ class Answer(NamedTuple):
     events: list[Event]
     timer: Timer
 
-    def then(self, later: Answer) -> Answer:
-        """This answer and one behind it, as one: a timer that the later one leaves as it is becomes what this one says."""
-        timer = self.timer if later.timer == Timer.GOES_ON else later.timer
-        return Answer(self.frames + later.frames, self.events + later.events, timer)
-
 
 class Refused(Exception):
     """A call was refused, and the station is as before; `number` and `text` say why. Of `receive_all`, `taken` counts the frames before,
@@ -233,6 +228,7 @@ _FUNCTIONS: dict[str, tuple[list[Any], Any]] = {
 _FRAME, _TIMER = 1, 2
 _ROOM_SIZE = 1 << 18
 _TIMERS = tuple(Timer)
+_KINDS = {kind.value: kind for kind in Kind}
 _WITH_STRETCH = {Kind.INCOMING, Kind.CALL_ASKED, Kind.MESSAGE, Kind.SEND_ASKED, Kind.INTERRUPT, Kind.INTERRUPT_ASKED}
 _WITH_SIZES = {Kind.INCOMING, Kind.CALL_ASKED, Kind.CONNECTED, Kind.ACCEPT_ASKED}
 _WITH_ADDRESSES = {Kind.INCOMING, Kind.CALL_ASKED}
@@ -367,14 +363,19 @@ class Station:
     def receive_all(self, frames: Iterable[bytes]) -> Answer:
         """Several frames came, one behind another; what is answered to all of them. It ends at one that is refused, and the error has
         what was answered up to there."""
-        whole = Answer([], [], Timer.GOES_ON)
+        answered: list[bytes] = []
+        events: list[Event] = []
+        timer = Timer.GOES_ON
+        receive, slot = self._library.x25_receive, self._slot
         with self._lock:
             for taken, octets in enumerate(frames):
-                try:
-                    whole = whole.then(self.receive(octets))
-                except Refused as refusal:
-                    raise Refused(refusal.number, refusal.text, taken, whole) from None
-        return whole
+                number = receive(slot, octets, len(octets))
+                if number:
+                    raise Refused(number, self._text(number), taken, Answer(answered, events, timer))
+                later = self._take(answered, events)
+                if later != Timer.GOES_ON:
+                    timer = later
+        return Answer(answered, events, timer)
 
     def send(self, channel: int, user: bytes, q: bool = False) -> Answer:
         """Sends a message of at most 65,535 octets, with or without the qualifier."""
@@ -424,11 +425,13 @@ class Station:
     def _octets(self, count: int) -> bytes:
         return ctypes.string_at(self._room, count)
 
+    def _text(self, number: int) -> str:
+        return self._octets(self._library.x25_refusal_text(number, self._room, _ROOM_SIZE)).decode()
+
     def _check(self, number: int) -> None:
         if number:
             with self._lock:
-                count = self._library.x25_refusal_text(number, self._room, _ROOM_SIZE)
-                raise Refused(number, self._octets(count).decode())
+                raise Refused(number, self._text(number))
 
     def _on(self, function: Callable[..., int], channel: int, *words: Any) -> Answer:
         """Makes a call that names a channel; one that no number of 16 bits names isn't configured."""
@@ -439,21 +442,26 @@ class Station:
         """Makes a call and takes its answer, while no other thread is in one."""
         frames: list[bytes] = []
         events: list[Event] = []
-        take, slot, event, at, room, i = self._library.x25_take, self._slot, self._event, self._told_at, self._room, 0
         with self._lock:
-            number = function(slot, *words)
+            number = function(self._slot, *words)
             if number:
                 self._check(number)
-            while take(slot, i, at, room, _ROOM_SIZE):
-                kind = event.kind
-                if kind == _FRAME:
-                    frames.append(ctypes.string_at(room, event.count))
-                elif kind == _TIMER:  # the last item
-                    return Answer(frames, events, _TIMERS[event.timer])
-                else:
-                    events.append(self._told(i, Kind(kind), event))
-                i += 1
-        return Answer(frames, events, Timer.GOES_ON)
+            return Answer(frames, events, self._take(frames, events))
+
+    def _take(self, frames: list[bytes], events: list[Event]) -> Timer:
+        """Takes the frames and events of the last answer behind others; answers what becomes of the timer, which is its last item."""
+        take, slot, event, at, room, i = self._library.x25_take, self._slot, self._event, self._told_at, self._room, 0
+        while take(slot, i, at, room, _ROOM_SIZE):
+            kind = event.kind
+            if kind == _FRAME:
+                frames.append(ctypes.string_at(room, event.count))
+            elif kind == _TIMER:
+                timer: int = event.timer
+                return _TIMERS[timer]
+            else:
+                events.append(self._told(i, _KINDS[kind], event))
+            i += 1
+        return Timer.GOES_ON
 
     def _told(self, i: int, kind: Kind, event: Any) -> Event:
         """The event that stands in a place of the answer, whose user data lie in the room."""

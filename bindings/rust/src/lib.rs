@@ -14,7 +14,7 @@
 mod event;
 mod raw;
 
-use std::{error, fmt, ptr};
+use std::{cell::UnsafeCell, error, fmt, ptr};
 
 pub use event::{Down, Event, Sizes, Stretch};
 
@@ -119,7 +119,8 @@ fn checked(number: u32) -> Result<(), Refused> {
 /// is_shared::<x25_station::Station>();
 /// ```
 pub struct Station {
-    slot: raw::Slot,
+    // A call that reads takes the station out and puts it back.
+    slot: UnsafeCell<raw::Slot>,
     room: Vec<u8>,
 }
 
@@ -129,45 +130,45 @@ unsafe impl Send for Station {}
 impl Station {
     /// A station whose link is down; 14 where a setting is out of its range, and 70 where memory is refused.
     pub fn new(end: End, settings: Settings) -> Result<Station, Refused> {
-        let mut station = Station {
-            slot: raw::Slot {
+        let station = Station {
+            slot: UnsafeCell::new(raw::Slot {
                 at: ptr::null_mut(),
                 is_open: false,
-            },
+            }),
             room: vec![0; 1 << 18],
         };
         let settings = raw::Settings::of(settings);
-        checked(unsafe { raw::x25_new(&mut station.slot, end as u8, settings) })?;
+        checked(unsafe { raw::x25_new(station.slot.get(), end as u8, settings) })?;
         Ok(station)
     }
 
     /// Begins to set the link up.
     pub fn connect(&mut self) -> Result<Answer, Refused> {
-        let number = unsafe { raw::x25_connect(&mut self.slot) };
+        let number = unsafe { raw::x25_connect(self.slot.get()) };
         self.answer(number)
     }
 
     /// Disconnects the link, for good.
     pub fn disconnect(&mut self) -> Result<Answer, Refused> {
-        let number = unsafe { raw::x25_disconnect(&mut self.slot) };
+        let number = unsafe { raw::x25_disconnect(self.slot.get()) };
         self.answer(number)
     }
 
     /// Polls the other end of a link that is up, whether timer T1 runs or not.
     pub fn probe(&mut self) -> Result<Answer, Refused> {
-        let number = unsafe { raw::x25_probe(&mut self.slot) };
+        let number = unsafe { raw::x25_probe(self.slot.get()) };
         self.answer(number)
     }
 
     /// Sets a link that is up up anew.
     pub fn relink(&mut self) -> Result<Answer, Refused> {
-        let number = unsafe { raw::x25_relink(&mut self.slot) };
+        let number = unsafe { raw::x25_relink(self.slot.get()) };
         self.answer(number)
     }
 
     /// Restarts the packet layer: each call ends.
     pub fn restart(&mut self) -> Result<Answer, Refused> {
-        let number = unsafe { raw::x25_restart(&mut self.slot) };
+        let number = unsafe { raw::x25_restart(self.slot.get()) };
         self.answer(number)
     }
 
@@ -183,7 +184,7 @@ impl Station {
         let mut channel = 0;
         let number = unsafe {
             raw::x25_call(
-                &mut self.slot,
+                self.slot.get(),
                 called.as_ptr(),
                 called.len(),
                 calling.as_ptr(),
@@ -199,105 +200,106 @@ impl Station {
 
     /// Accepts the call that came on a channel, without sizes with those that it proposes.
     pub fn accept(&mut self, channel: u16, sizes: Option<Sizes>) -> Result<Answer, Refused> {
-        let number = unsafe { raw::x25_accept(&mut self.slot, channel, sizes.unwrap_or_default()) };
+        let number =
+            unsafe { raw::x25_accept(self.slot.get(), channel, sizes.unwrap_or_default()) };
         self.answer(number)
     }
 
     /// Clears a call, whatever its state.
     pub fn clear(&mut self, channel: u16) -> Result<Answer, Refused> {
-        let number = unsafe { raw::x25_clear(&mut self.slot, channel) };
+        let number = unsafe { raw::x25_clear(self.slot.get(), channel) };
         self.answer(number)
     }
 
     /// Resets a call: messages on the way are lost.
     pub fn reset(&mut self, channel: u16) -> Result<Answer, Refused> {
-        let number = unsafe { raw::x25_reset(&mut self.slot, channel) };
+        let number = unsafe { raw::x25_reset(self.slot.get(), channel) };
         self.answer(number)
     }
 
     /// Sends an interrupt of 1 to 32 octets.
     pub fn interrupt(&mut self, channel: u16, user: &[u8]) -> Result<Answer, Refused> {
         let number =
-            unsafe { raw::x25_interrupt(&mut self.slot, channel, user.as_ptr(), user.len()) };
+            unsafe { raw::x25_interrupt(self.slot.get(), channel, user.as_ptr(), user.len()) };
         self.answer(number)
     }
 
     /// Tells the other end that this one takes data packets.
     pub fn ready(&mut self, channel: u16) -> Result<Answer, Refused> {
-        let number = unsafe { raw::x25_ready(&mut self.slot, channel) };
+        let number = unsafe { raw::x25_ready(self.slot.get(), channel) };
         self.answer(number)
     }
 
     /// Tells the other end that this one takes no data packets for now.
     pub fn not_ready(&mut self, channel: u16) -> Result<Answer, Refused> {
-        let number = unsafe { raw::x25_not_ready(&mut self.slot, channel) };
+        let number = unsafe { raw::x25_not_ready(self.slot.get(), channel) };
         self.answer(number)
     }
 
     /// Hands down what waits in the circuits, as each call does.
     pub fn pull(&mut self) -> Result<Answer, Refused> {
-        let number = unsafe { raw::x25_pull(&mut self.slot) };
+        let number = unsafe { raw::x25_pull(self.slot.get()) };
         self.answer(number)
     }
 
     /// Timer T1 fired.
     pub fn t1(&mut self) -> Result<Answer, Refused> {
-        let number = unsafe { raw::x25_t1(&mut self.slot) };
+        let number = unsafe { raw::x25_t1(self.slot.get()) };
         self.answer(number)
     }
 
     /// The octets of a frame came, frame check sequence included.
     pub fn receive(&mut self, octets: &[u8]) -> Result<Answer, Refused> {
-        let number = unsafe { raw::x25_receive(&mut self.slot, octets.as_ptr(), octets.len()) };
+        let number = unsafe { raw::x25_receive(self.slot.get(), octets.as_ptr(), octets.len()) };
         self.answer(number)
     }
 
     /// Sends a message of at most 65,535 octets, with or without the qualifier.
     pub fn send(&mut self, channel: u16, q: bool, user: &[u8]) -> Result<Answer, Refused> {
         let number =
-            unsafe { raw::x25_send(&mut self.slot, channel, q, user.as_ptr(), user.len()) };
+            unsafe { raw::x25_send(self.slot.get(), channel, q, user.as_ptr(), user.len()) };
         self.answer(number)
     }
 
     /// Does what a text asks, as a line of a script without the name of its end: `call 123 4567 41`, `accept 1`.
     pub fn command(&mut self, text: &str) -> Result<Answer, Refused> {
-        let number = unsafe { raw::x25_command(&mut self.slot, text.as_ptr(), text.len()) };
+        let number = unsafe { raw::x25_command(self.slot.get(), text.as_ptr(), text.len()) };
         self.answer(number)
     }
 
     /// The events of the last answer as lines of the transcript, each with its line feed; 70 where memory is refused, and it may be
     /// asked again.
     pub fn lines(&mut self) -> Result<Vec<String>, Refused> {
-        let entries = unsafe { raw::x25_entries(&mut self.slot) };
+        let entries = unsafe { raw::x25_entries(self.slot.get()) };
         (0..entries)
             .map(|i| {
                 let (at, size) = (self.room.as_mut_ptr(), self.room.len());
                 let mut count = 0;
-                checked(unsafe { raw::x25_entry(&mut self.slot, i, at, size, &mut count) })?;
+                checked(unsafe { raw::x25_entry(self.slot.get(), i, at, size, &mut count) })?;
                 Ok(String::from_utf8_lossy(&self.room[..count]).into_owned())
             })
             .collect()
     }
 
     /// What became of timer T1 at the last call.
-    pub fn timer(&mut self) -> Timer {
-        Timer::of(unsafe { raw::x25_timer(&mut self.slot) })
+    pub fn timer(&self) -> Timer {
+        Timer::of(unsafe { raw::x25_timer(self.slot.get()) })
     }
 
     /// Whether memory was refused for messages that wait, behind the last call.
-    pub fn waits(&mut self) -> bool {
-        unsafe { raw::x25_waits(&mut self.slot) }
+    pub fn waits(&self) -> bool {
+        unsafe { raw::x25_waits(self.slot.get()) }
     }
 
     /// Whether the link is up, and all that was asked was sent and acknowledged.
-    pub fn is_idle(&mut self) -> bool {
-        unsafe { raw::x25_idle(&mut self.slot) }
+    pub fn is_idle(&self) -> bool {
+        unsafe { raw::x25_idle(self.slot.get()) }
     }
 
     /// The stretch that is open on a channel, where one is.
-    pub fn stretch(&mut self, channel: u16) -> Option<Stretch> {
+    pub fn stretch(&self, channel: u16) -> Option<Stretch> {
         let mut name = Stretch::default();
-        unsafe { raw::x25_stretch(&mut self.slot, channel, &mut name) }.then_some(name)
+        unsafe { raw::x25_stretch(self.slot.get(), channel, &mut name) }.then_some(name)
     }
 
     /// What a call answered, where it was done.
@@ -307,7 +309,7 @@ impl Station {
         let (mut timer, mut item) = (Timer::GoesOn, raw::Event::default());
         let (at, size) = (self.room.as_mut_ptr(), self.room.len());
         for i in 0.. {
-            if !unsafe { raw::x25_take(&mut self.slot, i, &mut item, at, size) } {
+            if !unsafe { raw::x25_take(self.slot.get(), i, &mut item, at, size) } {
                 break;
             }
             let octets = self.room[..item.count].to_vec();
@@ -336,16 +338,16 @@ impl Station {
     fn part(
         &mut self,
         i: usize,
-        read: unsafe extern "C" fn(*mut raw::Slot, usize, *mut u8, usize) -> usize,
+        read: unsafe extern "C" fn(*const raw::Slot, usize, *mut u8, usize) -> usize,
     ) -> Vec<u8> {
-        let count = unsafe { read(&mut self.slot, i, self.room.as_mut_ptr(), self.room.len()) };
+        let count = unsafe { read(self.slot.get(), i, self.room.as_mut_ptr(), self.room.len()) };
         self.room[..count].to_vec()
     }
 }
 
 impl Drop for Station {
     fn drop(&mut self) {
-        unsafe { raw::x25_free(&mut self.slot) }
+        unsafe { raw::x25_free(self.slot.get()) }
     }
 }
 

@@ -88,16 +88,16 @@ extern "C" {
     pub fn x25_send(slot: *mut Slot, channel: u16, q: bool, user: *const u8, count: usize) -> u32;
     pub fn x25_command(slot: *mut Slot, text: *const u8, count: usize) -> u32;
     pub fn x25_take(
-        slot: *mut Slot,
+        slot: *const Slot,
         i: usize,
         event: *mut Event,
         room: *mut u8,
         size: usize,
     ) -> bool;
-    pub fn x25_called(slot: *mut Slot, i: usize, text: *mut u8, size: usize) -> usize;
-    pub fn x25_calling(slot: *mut Slot, i: usize, text: *mut u8, size: usize) -> usize;
-    pub fn x25_facilities(slot: *mut Slot, i: usize, room: *mut u8, size: usize) -> usize;
-    pub fn x25_entries(slot: *mut Slot) -> usize;
+    pub fn x25_called(slot: *const Slot, i: usize, text: *mut u8, size: usize) -> usize;
+    pub fn x25_calling(slot: *const Slot, i: usize, text: *mut u8, size: usize) -> usize;
+    pub fn x25_facilities(slot: *const Slot, i: usize, room: *mut u8, size: usize) -> usize;
+    pub fn x25_entries(slot: *const Slot) -> usize;
     pub fn x25_entry(
         slot: *mut Slot,
         i: usize,
@@ -105,9 +105,9 @@ extern "C" {
         size: usize,
         count: *mut usize,
     ) -> u32;
-    pub fn x25_timer(slot: *mut Slot) -> u32;
-    pub fn x25_waits(slot: *mut Slot) -> bool;
-    pub fn x25_idle(slot: *mut Slot) -> bool;
-    pub fn x25_stretch(slot: *mut Slot, channel: u16, name: *mut Stretch) -> bool;
+    pub fn x25_timer(slot: *const Slot) -> u32;
+    pub fn x25_waits(slot: *const Slot) -> bool;
+    pub fn x25_idle(slot: *const Slot) -> bool;
+    pub fn x25_stretch(slot: *const Slot, channel: u16, name: *mut Stretch) -> bool;
     pub fn x25_refusal_text(number: u32, text: *mut u8, size: usize) -> usize;
 }

@@ -1,5 +1,5 @@
-ghost use Rattle.std.specs.Prelude.{◌≡◌, ◌+◌, ◌*◌, ◌<◌, ◌≤◌, max, [], length, map, remove, OnOk, OnErr, ◌∷◌};
-ghost use Rattle.std.specs.Prelude.{option_copied};
+ghost use Rattle.std.specs.Prelude.{◌≡◌, ◌+◌, ◌*◌, ◌<◌, ◌≤◌, ◌++◌, max, [], length, map, remove, OnOk, OnErr, ◌∷◌};
+ghost use Rattle.std.specs.Prelude.{option_copied, vec_capacity, IfOk};
 ghost use Rattle.std.specs.Prelude.{slice_get};
 ghost use Rattle.x25_line.specs.laws.Stations.{replaced};
 ghost use Rattle.x25_world.specs.code.ShownLine.{ShownLine, line_to, with_line_to, with_room_of, put_by, TakesFew};
@@ -84,8 +84,8 @@ impl Line {
     {
         self.room -= 1;
         match from {
-            Role::Dte => self.to_dce.push_back_reserved(octets),
-            Role::Dce => self.to_dte.push_back_reserved(octets),
+            Role::Dte => lay(&mut self.to_dce, octets),
+            Role::Dce => lay(&mut self.to_dte, octets),
         }
     }
 
@@ -128,13 +128,36 @@ impl Line {
             ≡ with_line_to self.old to (replaced (line_to self.old to) place octets.now)) }
         ensures err { OnErr result (self.new ≡ self.old) }
     {
-        let own = Vec::from_slice(self.alloc, octets)?;
+        let own = copied(self.alloc, octets)?;
         match to {
             Role::Dce => self.to_dce[place] = own,
             Role::Dte => self.to_dte[place] = own,
         }
         Ok(())
     }
+}
+
+// A frame goes behind the others, in the memory that it is in.
+#[inline(always)]
+fn lay(queue: &mut VecDeque<Vec<u8>>, octets: Vec<u8>)
+    requires { deque_len queue.old < deque_capacity queue.old }
+    ensures items { queue.new.items ≡ queue.old.items ++ octets ∷ [] }
+    ensures len { deque_len queue.new ≡ deque_len queue.old + 1 }
+    ensures capacity { deque_capacity queue.new ≡ deque_capacity queue.old }
+{
+    queue.push_back_reserved(octets);
+}
+
+// A copy of octets, in memory for these and no more. Err: no memory.
+fn copied(alloc: Global, octets: &[u8]) -> Result<Vec<u8>, AllocError>
+    ensures items { IfOk result (λ own. own.items ≡ octets.now) }
+    ensures room { IfOk result (λ own. vec_capacity own ≡ length octets.now) }
+{
+    let mut own = Vec::with_capacity(alloc, octets.len())?;
+    for octet in octets {
+        own.push_reserved(*octet);
+    }
+    Ok(own)
 }
 
 // For how many frames more there are places.

@@ -15,7 +15,8 @@ use Rattle.x25_link.specs.Station.{Settings, LinkStation, is_up, with_nothing}
 use Rattle.x25_link.specs.Hearing.{Step, other}
 use Rattle.x25_link.specs.Link.{take_step, put_step, put_refusal, timer_step, timer_refusal, connect_step}
 use Rattle.x25_link.specs.Link.{connect_refusal, disconnect_step, disconnect_refusal, abandon_step}
-use Rattle.x25_line.specs.laws.Stations.{Act, Put, Deliver, T1, Connect, Disconnect, Abandon, Probe, Lose, Damage, Event, Near}
+use Rattle.x25_line.specs.laws.Stations.{Act, Put, Deliver, T1, Connect, Disconnect, Abandon, Probe, Lose, Damage}
+use Rattle.x25_line.specs.laws.Stations.{Event, Near}
 use Rattle.x25_line.specs.laws.Stations.{Far, is_visible}
 use Rattle.x25_line.specs.laws.StationClaims.{number_in}
 

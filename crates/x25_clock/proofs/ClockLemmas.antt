@@ -1,0 +1,228 @@
+-- Deadlines stand for what is awaited.
+use Rattle.std.proofs.Common.{◌≡◌, ℕ, zero, suc, ◌+◌, ◌≤◌, ◌==◌, List, [], ◌∷◌, ◌++◌, map, Bool, true, false, not, ◌||◌, if◌then◌else◌, Option, Some, None, refl, sym, ap, subst, ◌∙◌, arith}
+use Rattle.std.proofs.lemmas.Bool.{true≢false}
+use Rattle.std.proofs.lemmas.Option.{none-some}
+use Rattle.x25_circuit.specs.declared.awaits.Awaits.{Awaits}
+use Rattle.x25_circuit.specs.declared.awaits.Awaits.TheVariants.{Nothing, Acceptance, ResetConfirmation, ClearConfirmation}
+use Rattle.x25_layer.specs.code.FitsLayer.{awaited_at}
+use Rattle.x25_layer.specs.Layer.{is_channel}
+use Rattle.x25_station.specs.Config.{Settings, layer_settings}
+use Rattle.x25_station.specs.Station.{Station, new_station}
+use Rattle.x25_station.specs.Station.Told.{is_at_rest}
+use Rattle.x25_station.specs.Step.{Step, Outcome, Did, Refused}
+use Rattle.x25_station.specs.Timer.{runs, standing, tells_link, is_acknowledged, timer_of}
+use Rattle.x25_station.specs.laws.TimerLaw as timer
+use Rattle.x25_station.specs.declared.timer.Timer.{Timer}
+use Rattle.x25_clock.specs.declared.times.Times.{Times}
+use Rattle.x25_clock.specs.declared.wait.Wait.{Wait}
+use Rattle.x25_clock.specs.Clock.{Deadlines, Seen, nothing_awaited, channels_from, deadline, time_of, number_of, running, is_past, t1_after, wait_after, heeded, renewed, overdue_of, renewed_on, after_due}
+use Rattle.x25_clock.specs.laws.ClockLaw.{Moment, Happens, IsDue, Watched, seen_of, heeds, watched_by, watched_from, IsSince, Stands, IsAwaited, AreAwaited, AreTrue, DeadlinesAreTrue}
+
+-- ---- a deadline
+
+begins : (now time : ℕ) → IsSince now time (deadline now time)
+begins now time = record { since = now; past = omega arith; is = refl }
+
+goes_on : (now more time : ℕ) (until : Option ℕ) → IsSince now time until → IsSince (now + more) time until
+goes_on now more time until h = (let past = h.past in record { since = h.since; past = omega (arith, past); is = h.is })
+
+stands_later : (now more time : ℕ) (so : Bool) (until : Option ℕ) → Stands now time so until → Stands (now + more) time so until
+stands_later now more time so until h = record { on = λ yes. goes_on now more time until (h.on yes); off = h.off }
+
+false_true : {A : Type 0} → false ≡ true → A
+false_true e = absurd (true≢false (sym e))
+
+-- a deadline that stands while something is so
+runs_on : (now more time : ℕ) (was is anew : Bool) (until : Option ℕ) → Stands now time was until → Stands (now + more) time is (running is anew until (deadline (now + more) time))
+runs_on now more time was false anew until h = record { on = λ e. false_true e; off = λ e. refl }
+runs_on now more time was true true until h = record { on = λ e. begins (now + more) time; off = λ e. false_true (sym e) }
+runs_on now more time was true false None h = record { on = λ e. begins (now + more) time; off = λ e. false_true (sym e) }
+runs_on now more time true true false (Some moment) h = record { on = λ e. goes_on now more time (Some moment) (h.on refl); off = λ e. false_true (sym e) }
+runs_on now more time false true false (Some moment) h = absurd (none-some moment (sym (h.off refl)))
+
+-- ---- timer T1
+
+t1_runs : (times : Times) (now more : ℕ) (was is other : Bool) (until : Option ℕ) → Stands now times.t1 was until → Stands (now + more) times.t1 is (t1_after times (now + more) (timer_of is (not was || other)) until)
+t1_runs times now more was false other until h = record { on = λ e. false_true e; off = λ e. refl }
+t1_runs times now more false true other until h = record { on = λ e. begins (now + more) times.t1; off = λ e. false_true (sym e) }
+t1_runs times now more true true true until h = record { on = λ e. begins (now + more) times.t1; off = λ e. false_true (sym e) }
+t1_runs times now more true true false until h = record { on = λ e. goes_on now more times.t1 until (h.on refl); off = λ e. false_true (sym e) }
+
+t1_stands : (times : Times) (now more : ℕ) (was : Bool) (until : Option ℕ) → Stands now times.t1 was until → Stands (now + more) times.t1 was (t1_after times (now + more) (timer_of was false) until)
+t1_stands times now more false until h = record { on = λ e. false_true e; off = λ e. refl }
+t1_stands times now more true until h = record { on = λ e. goes_on now more times.t1 until (h.on refl); off = λ e. false_true (sym e) }
+
+-- ---- channels
+
+same_number : (a b : Awaits) → (number_of a == number_of b) ≡ true → a ≡ b
+same_number Nothing Nothing e = refl
+same_number Nothing Acceptance e = false_true e
+same_number Nothing ResetConfirmation e = false_true e
+same_number Nothing ClearConfirmation e = false_true e
+same_number Acceptance Nothing e = false_true e
+same_number Acceptance Acceptance e = refl
+same_number Acceptance ResetConfirmation e = false_true e
+same_number Acceptance ClearConfirmation e = false_true e
+same_number ResetConfirmation Nothing e = false_true e
+same_number ResetConfirmation Acceptance e = false_true e
+same_number ResetConfirmation ResetConfirmation e = refl
+same_number ResetConfirmation ClearConfirmation e = false_true e
+same_number ClearConfirmation Nothing e = false_true e
+same_number ClearConfirmation Acceptance e = false_true e
+same_number ClearConfirmation ResetConfirmation e = false_true e
+same_number ClearConfirmation ClearConfirmation e = refl
+
+module _ (times : Times) (now more : ℕ) where
+  wait_true : (old new : ℕ → Awaits) (w : Wait) → IsAwaited times now old w → IsAwaited times (now + more) new (wait_after times (now + more) (new w.channel) w)
+  wait_true old new w h = by (number_of w.awaits == number_of (new w.channel)) refl
+    where
+      by : (b : Bool) → (number_of w.awaits == number_of (new w.channel)) ≡ b
+          → IsAwaited times (now + more) new (if b then w else record { channel = w.channel; awaits = new w.channel; until = deadline (now + more) (time_of times (new w.channel)) })
+      by true e = record { awaits = same_number w.awaits (new w.channel) e; until = goes_on now more (time_of times w.awaits) w.until h.until }
+      by false e = record { awaits = refl; until = begins (now + more) (time_of times (new w.channel)) }
+
+  waits_true : (old new : ℕ → Awaits) (waits : List Wait) → AreAwaited times now old waits → AreAwaited times (now + more) new (map (λ w. wait_after times (now + more) (new w.channel) w) waits)
+  waits_true old new [] h = tt
+  waits_true old new (w ∷ waits) h = (wait_true old new w h.0, waits_true old new waits h.1)
+
+  wait_channel : (awaits : Awaits) (w : Wait) → (wait_after times (now + more) awaits w).channel ≡ w.channel
+  wait_channel awaits w = by (number_of w.awaits == number_of awaits)
+    where
+      by : (b : Bool) → (let x : Wait = if b then w else record { channel = w.channel; awaits = awaits; until = deadline (now + more) (time_of times awaits) } in x.channel) ≡ w.channel
+      by true = refl
+      by false = refl
+
+  waits_channels : (new : ℕ → Awaits) (waits : List Wait) → map (λ (x : Wait). x.channel) (map (λ w. wait_after times (now + more) (new w.channel) w) waits) ≡ map (λ (x : Wait). x.channel) waits
+  waits_channels new [] = refl
+  waits_channels new (w ∷ waits) = ap (λ (h : ℕ). h ∷ map (λ (x : Wait). x.channel) (map (λ w. wait_after times (now + more) (new w.channel) w) waits)) (wait_channel (new w.channel) w)
+      ∙ ap (λ (hs : List ℕ). w.channel ∷ hs) (waits_channels new waits)
+
+  -- what is due is asked for, and its time begins anew
+  renewed_true : (awaited : ℕ → Awaits) (h : ℕ) (w : Wait) → IsAwaited times now awaited w → IsAwaited times (now + more) awaited (renewed times (now + more) h w)
+  renewed_true awaited h w is = by (not (w.channel == h))
+    where
+      by : (b : Bool) → IsAwaited times (now + more) awaited (if b then w else record { channel = w.channel; awaits = w.awaits; until = deadline (now + more) (time_of times w.awaits) })
+      by true = record { awaits = is.awaits; until = goes_on now more (time_of times w.awaits) w.until is.until }
+      by false = record { awaits = is.awaits; until = begins (now + more) (time_of times w.awaits) }
+
+  all_renewed : (awaited : ℕ → Awaits) (h : ℕ) (waits : List Wait) → AreAwaited times now awaited waits → AreAwaited times (now + more) awaited (map (renewed times (now + more) h) waits)
+  all_renewed awaited h [] is = tt
+  all_renewed awaited h (w ∷ waits) is = (renewed_true awaited h w is.0, all_renewed awaited h waits is.1)
+
+  all_later : (awaited : ℕ → Awaits) (waits : List Wait) → AreAwaited times now awaited waits → AreAwaited times (now + more) awaited waits
+  all_later awaited [] is = tt
+  all_later awaited (w ∷ waits) is = (record { awaits = is.0.awaits; until = goes_on now more (time_of times w.awaits) w.until is.0.until }, all_later awaited waits is.1)
+
+  renewed_channels : (h : ℕ) (waits : List Wait) → map (λ (x : Wait). x.channel) (map (renewed times (now + more) h) waits) ≡ map (λ (x : Wait). x.channel) waits
+  renewed_channels h [] = refl
+  renewed_channels h (w ∷ waits) = ap (λ (k : ℕ). k ∷ map (λ (x : Wait). x.channel) (map (renewed times (now + more) h) waits)) (by (not (w.channel == h)))
+      ∙ ap (λ (hs : List ℕ). w.channel ∷ hs) (renewed_channels h waits)
+    where
+      by : (b : Bool) → (let x : Wait = if b then w else record { channel = w.channel; awaits = w.awaits; until = deadline (now + more) (time_of times w.awaits) } in x.channel) ≡ w.channel
+      by true = refl
+      by false = refl
+
+-- ---- moments
+
+module _ (c : Settings) (times : Times) where
+  abbrev awaited_by : Station → ℕ → Awaits
+  awaited_by s h = awaited_at (layer_settings c) s.layer h
+
+  happens_true : (w : Watched) (more : ℕ) (event : timer.Event) (o : Outcome) → AreTrue c times w → AreTrue c times (heeds c times (w.now + more) event o w)
+  happens_true w more event (Did step) h = record {
+    t1 = t1_runs times w.now more (runs w.station) (runs step.near) (timer.is_firing event || (tells_link step.entries || is_acknowledged w.station.link step.near.link)) w.deadlines.t1 h.t1;
+    idle = runs_on w.now more times.t3 (is_at_rest w.station) (is_at_rest step.near) (seen_of c w.station event (Did step)).come w.deadlines.idle h.idle;
+    restart = runs_on w.now more times.t20 w.station.layer.restarting step.near.layer.restarting (tells_link step.entries) w.deadlines.restart h.restart;
+    waits = waits_true times w.now more (awaited_by w.station) (awaited_by step.near) w.deadlines.waits h.waits;
+    channels = waits_channels times w.now more (awaited_by step.near) w.deadlines.waits ∙ h.channels;
+  }
+  happens_true w more event (Refused e) h = record {
+    t1 = t1_stands times w.now more (runs w.station) w.deadlines.t1 h.t1;
+    idle = runs_on w.now more times.t3 (is_at_rest w.station) (is_at_rest w.station) (seen_of c w.station event (Refused e)).come w.deadlines.idle h.idle;
+    restart = runs_on w.now more times.t20 w.station.layer.restarting w.station.layer.restarting false w.deadlines.restart h.restart;
+    waits = waits_true times w.now more (awaited_by w.station) (awaited_by w.station) w.deadlines.waits h.waits;
+    channels = waits_channels times w.now more (awaited_by w.station) w.deadlines.waits ∙ h.channels;
+  }
+
+  -- a deadline that is past begins anew
+  anew : (now more time : ℕ) (so : Bool) (until : Option ℕ) → is_past (now + more) until ≡ true → Stands now time so until → Stands (now + more) time so (deadline (now + more) time)
+  anew now more time true until past h = record { on = λ e. begins (now + more) time; off = λ e. false_true (sym e) }
+  anew now more time false until past h = false_true (sym (ap (is_past (now + more)) (h.off refl)) ∙ past)
+
+  due_true : (w : Watched) (more : ℕ) → AreTrue c times w → AreTrue c times (record w { deadlines = after_due times (w.now + more) w.deadlines; now = w.now + more })
+  due_true w more h = by (is_past now d.t1) refl
+    where
+      d : Deadlines
+      d = w.deadlines
+
+      now : ℕ
+      now = w.now + more
+
+      At : Deadlines → Type 0
+      At e = AreTrue c times (record w { deadlines = e; now = w.now + more })
+
+      t1 : Stands now times.t1 (runs w.station) d.t1
+      t1 = stands_later w.now more times.t1 (runs w.station) d.t1 h.t1
+
+      idle : Stands now times.t3 (is_at_rest w.station) d.idle
+      idle = stands_later w.now more times.t3 (is_at_rest w.station) d.idle h.idle
+
+      restart : Stands now times.t20 w.station.layer.restarting d.restart
+      restart = stands_later w.now more times.t20 w.station.layer.restarting d.restart h.restart
+
+      waits : AreAwaited times now (awaited_by w.station) d.waits
+      waits = all_later times w.now more (awaited_by w.station) d.waits h.waits
+
+      on_channels : (o : Option Wait) (is_idle : Bool) → is_past now d.idle ≡ is_idle → At (renewed_on times now o is_idle d)
+      on_channels (Some x) is_idle e = record { t1 = t1; idle = idle; restart = restart; waits = all_renewed times w.now more (awaited_by w.station) x.channel d.waits h.waits; channels = renewed_channels times w.now more x.channel d.waits ∙ h.channels }
+      on_channels None true e = record { t1 = t1; idle = anew w.now more times.t3 (is_at_rest w.station) d.idle e h.idle; restart = restart; waits = waits; channels = h.channels }
+      on_channels None false e = record { t1 = t1; idle = idle; restart = restart; waits = waits; channels = h.channels }
+
+      behind : (b : Bool) → is_past now d.restart ≡ b → At (if b then record d { restart = deadline now times.t20 } else renewed_on times now (overdue_of now d.waits) (is_past now d.idle) d)
+      behind true e = record { t1 = t1; idle = idle; restart = anew w.now more times.t20 w.station.layer.restarting d.restart e h.restart; waits = waits; channels = h.channels }
+      behind false e = on_channels (overdue_of now d.waits) (is_past now d.idle) refl
+
+      by : (b : Bool) → is_past now d.t1 ≡ b
+          → At (if b then record d { t1 = deadline now times.t1 } else if is_past now d.restart then record d { restart = deadline now times.t20 } else renewed_on times now (overdue_of now d.waits) (is_past now d.idle) d)
+      by true e = record { t1 = anew w.now more times.t1 (runs w.station) d.t1 e h.t1; idle = idle; restart = restart; waits = waits; channels = h.channels }
+      by false e = behind (is_past now d.restart) refl
+
+  moment_true : (moment : Moment) (w : Watched) → AreTrue c times w → AreTrue c times (watched_by c times moment w)
+  moment_true (Happens later event) w h = happens_true w later event (timer.outcome c w.station event) h
+  moment_true (IsDue later) w h = due_true w later h
+
+  from_here : (moments : List Moment) (w : Watched) → AreTrue c times w → AreTrue c times (watched_from c times moments w)
+  from_here [] w h = h
+  from_here (moment ∷ moments) w h = from_here moments (watched_by c times moment w) (moment_true moment w h)
+
+  -- ---- the first one
+
+  nothing_on : (b : Bool) → Nothing ≡ (if b then Nothing else Nothing)
+  nothing_on true = refl
+  nothing_on false = refl
+
+  first_waits : (n first : ℕ) → AreAwaited times 0 (awaited_by new_station) (channels_from first n)
+  first_waits zero first = tt
+  first_waits (suc n) first = (record { awaits = nothing_on (is_channel c.channels first); until = record { since = 0; past = omega arith; is = refl } }, first_waits n (first + 1))
+
+  off_first : (time : ℕ) → Stands 0 time false None
+  off_first time = record { on = λ e. false_true e; off = λ e. refl }
+
+  first_true : AreTrue c times (record { station = new_station; deadlines = nothing_awaited; now = 0 })
+  first_true = record { t1 = off_first times.t1; idle = off_first times.t3; restart = off_first times.t20; waits = first_waits 16 1; channels = refl }
+
+pub deadlines_are_true : DeadlinesAreTrue
+deadlines_are_true c times moments = from_here c times moments _ (first_true c times)
+
+-- ---- a new clock
+
+abbrev new_on : ℕ → Wait
+new_on h = record { channel = h; awaits = Nothing; until = None }
+
+more_channels : (n first h : ℕ) → h ≡ first + n → channels_from first n ++ new_on h ∷ [] ≡ channels_from first (suc n)
+more_channels zero first h is = ap (λ (k : ℕ). new_on k ∷ []) (let e : h ≡ first = omega (arith, is) in e)
+more_channels (suc n) first h is = ap (λ (l : List Wait). new_on first ∷ l) (more_channels n (first + 1) h (omega (arith, is)))
+
+pub one_channel_more : (n : ℕ) (xs : List Wait) → xs ≡ channels_from 1 n → xs ++ new_on (n + 1) ∷ [] ≡ channels_from 1 (n + 1)
+one_channel_more n xs is =
+    ap (λ (l : List Wait). l ++ new_on (n + 1) ∷ []) is ∙ more_channels n 1 (n + 1) (omega arith) ∙ ap (channels_from 1) (let e : suc n ≡ n + 1 = omega arith in e)

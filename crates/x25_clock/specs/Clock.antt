@@ -1,0 +1,170 @@
+-- The deadlines of one who has a clock beside a station (profile), and what each step of the station makes of them.
+use Rattle.std.specs.Prelude.{ℕ, zero, suc, ◌+◌, ◌^◌, ◌==◌, nat_le, nat_lt, Bool, true, false, not, if◌then◌else◌, List}
+use Rattle.std.specs.Prelude.{[], ◌∷◌}
+use Rattle.std.specs.Prelude.{map, Option, Some, None}
+use Rattle.x25_circuit.specs.declared.awaits.Awaits.{Awaits}
+use Rattle.x25_circuit.specs.declared.awaits.Awaits.TheVariants.{Nothing, Acceptance, ResetConfirmation}
+use Rattle.x25_circuit.specs.declared.awaits.Awaits.TheVariants.{ClearConfirmation}
+use Rattle.x25_layer.specs.Layer.{LayerSettings, Layer}
+use Rattle.x25_layer.specs.code.FitsLayer.{awaited_at}
+use Rattle.x25_station.specs.declared.step.Step as step_code
+use Rattle.x25_station.specs.declared.timer.Timer.{Timer}
+use Rattle.x25_station.specs.declared.timer.Timer.TheVariants.{Off, Begins, GoesOn}
+use Rattle.x25_station.specs.code.PlainEntry.{plain_entry}
+use Rattle.x25_station.specs.Config.{Settings, layer_settings}
+use Rattle.x25_station.specs.Station.{Station}
+use Rattle.x25_station.specs.Station.Told.{is_at_rest}
+use Rattle.x25_station.specs.Timer.{tells_link}
+use Rattle.x25_clock.specs.declared.clock.Clock as code
+use Rattle.x25_clock.specs.declared.due.Due.{Due}
+use Rattle.x25_clock.specs.declared.due.Due.TheVariants as due
+use Rattle.x25_clock.specs.declared.times.Times.{Times}
+use Rattle.x25_clock.specs.declared.wait.Wait.{Wait}
+
+-- of T1, of an idle link, of a restart, and on each channel of what is awaited there; no moment where nothing is, or
+-- where it may take for ever
+pub record Deadlines : Type 0 where
+  pub t1 : Option ℕ
+  pub idle : Option ℕ
+  pub restart : Option ℕ
+  pub waits : List Wait
+
+abbrev pub plain : code.Clock → Deadlines
+plain v = record { t1 = v.t1; idle = v.idle; restart = v.restart; waits = v.waits.items }
+
+-- channels from a number on, so many
+abbrev pub channels_from : ℕ → ℕ → List Wait
+channels_from first zero = []
+channels_from first (suc n) = record { channel = first; awaits = Nothing; until = None } ∷ channels_from (first + 1) n
+
+abbrev pub nothing_awaited : Deadlines
+nothing_awaited = record { t1 = None; idle = None; restart = None; waits = channels_from 1 16 }
+
+-- ---- moments, in milliseconds below 2^64; a time of 0 is for ever
+
+abbrev pub deadline : ℕ → ℕ → Option ℕ
+deadline now time = if time == 0 then None else if nat_lt (now + time) (2 ^ 64) then Some (now + time) else None
+
+abbrev pub is_past : ℕ → Option ℕ → Bool
+is_past now None = false
+is_past now (Some moment) = nat_le moment now
+
+abbrev pub sooner : Option ℕ → Option ℕ → Option ℕ
+sooner None other = other
+sooner (Some moment) None = Some moment
+sooner (Some moment) (Some another) = if nat_le moment another then Some moment else Some another
+
+-- ---- what each answer may take
+
+abbrev pub number_of : Awaits → ℕ
+number_of Nothing = 0
+number_of Acceptance = 1
+number_of ResetConfirmation = 2
+number_of ClearConfirmation = 3
+
+abbrev pub time_of : Times → Awaits → ℕ
+time_of times Nothing = 0
+time_of times Acceptance = times.t21
+time_of times ResetConfirmation = times.t22
+time_of times ClearConfirmation = times.t23
+
+-- ---- behind a step
+
+-- What one who has a clock sees of a step and of the station after it: what T1 became, whether the link is at rest,
+-- whether a restart is under way, whether the link came up or went down, whether octets came, and what each channel
+-- awaits.
+pub record Seen : Type 0 where
+  pub timer : Timer
+  pub at_rest : Bool
+  pub restarting : Bool
+  pub noted : Bool
+  pub come : Bool
+  pub awaited : ℕ → Awaits
+
+abbrev pub seen : Settings → Station → step_code.Step → Bool → Seen
+seen c s step come = record {
+  timer = step.timer;
+  at_rest = is_at_rest s;
+  restarting = s.layer.restarting;
+  noted = tells_link (map plain_entry step.entries.items);
+  come = come;
+  awaited = λ h. awaited_at (layer_settings c) s.layer h;
+}
+
+abbrev pub t1_after : Times → ℕ → Timer → Option ℕ → Option ℕ
+t1_after times now Off old = None
+t1_after times now GoesOn old = old
+t1_after times now Begins old = deadline now times.t1
+
+-- while something is so a deadline stands, from where it began on, or where it is to begin anew
+abbrev pub running : Bool → Bool → Option ℕ → Option ℕ → Option ℕ
+running false anew old new = None
+running true true old new = new
+running true false None new = new
+running true false (Some moment) new = Some moment
+
+-- another answer than before has its time from now on
+abbrev pub wait_after : Times → ℕ → Awaits → Wait → Wait
+wait_after times now awaits w = if number_of w.awaits == number_of awaits then w
+    else record { channel = w.channel; awaits = awaits; until = deadline now (time_of times awaits) }
+
+abbrev pub heeded_on : Times → ℕ → LayerSettings → Layer → Wait → Wait
+heeded_on times now c l w = wait_after times now (awaited_at c l w.channel) w
+
+abbrev pub heeded : Times → ℕ → Seen → Deadlines → Deadlines
+heeded times now x d = record {
+  t1 = t1_after times now x.timer d.t1;
+  idle = running x.at_rest x.come d.idle (deadline now times.t3);
+  restart = running x.restarting x.noted d.restart (deadline now times.t20);
+  waits = map (λ w. wait_after times now (x.awaited w.channel) w) d.waits;
+}
+
+-- ---- what is due
+
+-- the first moment from one on and those of channels
+abbrev pub first_of : Option ℕ → List Wait → Option ℕ
+first_of first [] = first
+first_of first (w ∷ waits) = first_of (sooner first w.until) waits
+
+abbrev pub next_of : Deadlines → Option ℕ
+next_of d = first_of (sooner (sooner d.t1 d.idle) d.restart) d.waits
+
+abbrev pub overdue_of : ℕ → List Wait → Option Wait
+overdue_of now [] = None
+overdue_of now (w ∷ waits) = if is_past now w.until then Some w else overdue_of now waits
+
+-- a call or a reset that isn't answered is cleared, and a clearing that isn't confirmed ends by a restart
+abbrev pub asked_for : ℕ → Awaits → Option Due
+asked_for h Nothing = None
+asked_for h Acceptance = Some (due.Clear h)
+asked_for h ResetConfirmation = Some (due.Clear h)
+asked_for h ClearConfirmation = Some (due.Restart h)
+
+abbrev pub due_on : Wait → Option Due
+due_on w = asked_for w.channel w.awaits
+
+-- T1; a restart that isn't confirmed, by which the link is set up anew; the first channel; an idle link
+abbrev pub unless_on : Option Wait → Option Due → Option Due
+unless_on None other = other
+unless_on (Some w) other = due_on w
+
+abbrev pub due_of : ℕ → Deadlines → Option Due
+due_of now d = if is_past now d.t1 then Some due.T1
+    else if is_past now d.restart then Some due.Relink
+    else unless_on (overdue_of now d.waits) (if is_past now d.idle then Some due.Probe else None)
+
+-- the time of the answer on a channel begins anew
+abbrev pub renewed : Times → ℕ → ℕ → Wait → Wait
+renewed times now h w = if not (w.channel == h) then w
+    else record { channel = w.channel; awaits = w.awaits; until = deadline now (time_of times w.awaits) }
+
+-- What is told as due has its time anew, so that it is asked again where it is refused; all else is as it was.
+abbrev pub renewed_on : Times → ℕ → Option Wait → Bool → Deadlines → Deadlines
+renewed_on times now None true d = record d { idle = deadline now times.t3 }
+renewed_on times now None false d = d
+renewed_on times now (Some x) idle d = record d { waits = map (renewed times now x.channel) d.waits }
+
+abbrev pub after_due : Times → ℕ → Deadlines → Deadlines
+after_due times now d = if is_past now d.t1 then record d { t1 = deadline now times.t1 }
+    else if is_past now d.restart then record d { restart = deadline now times.t20 }
+    else renewed_on times now (overdue_of now d.waits) (is_past now d.idle) d

@@ -1,0 +1,14 @@
+//! A clock beside a station of X.25, of no device: the time is an argument. It knows when timers T1, T3 and T20 to T23
+//! pass, and what is then to be asked. ITU-T X.25 (10/96), sections 2.4.8 and Annex D.
+#![tactic(auto)]
+
+mod clock;
+mod due;
+mod law;
+mod times;
+mod wait;
+
+pub use clock::Clock;
+pub use due::Due;
+pub use law::awaited_deadlines_are_true;
+pub use times::Times;

@@ -1,0 +1,124 @@
+//! Deadlines, and the answer that is awaited on a channel.
+ghost use Rattle.std.specs.Prelude.{◌≡◌, ◌==◌, not};
+ghost use Rattle.x25_clock.specs.Clock.{deadline, is_past, number_of, running, sooner, time_of, wait_after};
+ghost use Rattle.x25_clock.specs.Clock.{due_on, renewed};
+
+use crate::due::Due;
+use crate::times::Times;
+use x25_layer::Awaits;
+
+/// What is awaited on a channel, and until when; no moment where it may take for ever.
+#[derive(Clone, Copy)]
+pub(crate) struct Wait {
+    pub(crate) channel: u16,
+    pub(crate) awaits: Awaits,
+    pub(crate) until: Option<u64>,
+}
+
+/// So much later, where it isn't for ever and there is such a moment.
+pub(crate) fn deadline(now: u64, time: u32) -> Option<u64>
+    ensures { result ≡ deadline now time }
+{
+    if time == 0 || now > u64::MAX - u64::from(time) {
+        None
+    } else {
+        Some(now + u64::from(time))
+    }
+}
+
+/// Whether a moment has come.
+pub(crate) fn is_past(until: Option<u64>, now: u64) -> bool
+    ensures { result ≡ is_past now until }
+{
+    match until {
+        Some(moment) => moment <= now,
+        None => false,
+    }
+}
+
+/// The sooner of two moments.
+pub(crate) fn sooner(one: Option<u64>, other: Option<u64>) -> Option<u64>
+    ensures { result ≡ sooner one other }
+{
+    match (one, other) {
+        (Some(moment), Some(another)) => { if moment <= another { one } else { other } }
+        (Some(_), None) => one,
+        (None, _) => other,
+    }
+}
+
+/// A deadline that stands while something is so, and begins anew where it is to.
+pub(crate) fn running(stands: bool, anew: bool, old: Option<u64>, new: Option<u64>) -> Option<u64>
+    ensures { result ≡ running stands anew old new }
+{
+    match (stands, anew, old) {
+        (false, _, _) => None,
+        (true, false, Some(_)) => old,
+        (true, _, _) => new,
+    }
+}
+
+fn number(awaits: Awaits) -> u8
+    ensures { result ≡ number_of awaits }
+{
+    match awaits {
+        Awaits::Nothing => 0,
+        Awaits::Acceptance => 1,
+        Awaits::ResetConfirmation => 2,
+        Awaits::ClearConfirmation => 3,
+    }
+}
+
+/// How long an answer may take.
+pub(crate) fn time_of(times: Times, awaits: Awaits) -> u32
+    ensures { result ≡ time_of times awaits }
+{
+    match awaits {
+        Awaits::Nothing => 0,
+        Awaits::Acceptance => times.t21,
+        Awaits::ResetConfirmation => times.t22,
+        Awaits::ClearConfirmation => times.t23,
+    }
+}
+
+impl Wait {
+    /// As this is awaited: another answer than before has its time from now on.
+    pub(crate) fn heed(self, times: Times, now: u64, awaits: Awaits) -> Wait
+        ensures { result ≡ wait_after times now awaits self }
+    {
+        if number(self.awaits) == number(awaits) {
+            return self;
+        }
+        Wait {
+            channel: self.channel,
+            awaits,
+            until: deadline(now, time_of(times, awaits)),
+        }
+    }
+
+    /// What is to be asked as its time has passed.
+    pub(crate) fn due(self) -> Option<Due>
+        ensures { result ≡ due_on self }
+    {
+        let channel = self.channel;
+        match self.awaits {
+            Awaits::Nothing => None,
+            Awaits::Acceptance | Awaits::ResetConfirmation => Some(Due::Clear { channel }),
+            Awaits::ClearConfirmation => Some(Due::Restart { channel }),
+        }
+    }
+
+    /// The time of the answer on a channel begins anew, where this is its.
+    pub(crate) fn renewed(self, times: Times, now: u64, channel: u16) -> Wait
+        ensures { result ≡ renewed times now channel self }
+    {
+        if self.channel != channel {
+            return self;
+        }
+        Wait {
+            channel: self.channel,
+            awaits: self.awaits,
+            until: deadline(now, time_of(times, self.awaits)),
+        }
+    }
+}

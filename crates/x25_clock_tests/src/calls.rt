@@ -1,0 +1,64 @@
+//! The calls of a station and of its clock without their claims: a body that makes one of these itself carries all that
+//! it promises.
+
+use std::alloc::Global;
+use x25_clock::{Clock, Due, Times};
+use x25_station::{Awaits, Cfg, Cmd, Role, Station, StationError, Step};
+
+/// A DTE with two channels.
+const SETTINGS: Cfg = Cfg {
+    k: 7,
+    n2: 1,
+    channels: 2,
+    long_data: false,
+    say_sizes: false,
+    wide: false,
+};
+
+// A value in a place of its own: a body that holds the box lets go of it by one call, and not of each part of the
+// value, and so does one that doesn't know what it is.
+fn boxed<T: Drop>(alloc: Global, value: T) -> Option<Box<T>> {
+    Box::new(alloc, value).ok()
+}
+
+pub fn station(alloc: Global) -> Option<Box<Station>> {
+    boxed(alloc, Station::new(alloc, Role::Dte, SETTINGS).ok()?)
+}
+
+pub fn clock(alloc: Global, times: Times) -> Option<Box<Clock>> {
+    boxed(alloc, Clock::new(alloc, times).ok()?)
+}
+
+pub fn ask(station: &mut Station, command: Cmd<'_>, out: &mut Step) -> Result<(), StationError> {
+    station.command(command, out)
+}
+
+pub fn fire(station: &mut Station, out: &mut Step) -> Result<(), StationError> {
+    station.t1(out)
+}
+
+pub fn receive(station: &mut Station, octets: &[u8], out: &mut Step) -> Result<(), StationError> {
+    station.receive(octets, out)
+}
+
+pub fn heed(clock: &mut Clock, now: u64, station: &Station, step: &Step, has_come: bool) {
+    clock.heed(now, station, step, has_come);
+}
+
+pub fn due(clock: &mut Clock, now: u64) -> Option<Due> {
+    clock.due(now)
+}
+
+pub fn next(clock: &Clock) -> Option<u64> {
+    clock.next()
+}
+
+/// What a station says of what it awaits: on channel 2, the first that a DTE takes, whether a restart is under way, and
+/// whether it awaits anything.
+pub fn awaited(station: &Station) -> (Awaits, bool, bool) {
+    (
+        station.awaits(2),
+        station.is_restarting(),
+        station.awaits_answers(),
+    )
+}
