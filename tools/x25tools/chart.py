@@ -7,8 +7,9 @@
     chart.py --connection 2 capture.pcapng
 
 Reads the lines of `x25 decode`, the lines of a trace, also with a time and a tab before them, comments, which begin with `#`,
-and the lines of `x25 sim --tap`. Of a capture, which is read as pcap2x25.py reads it, one connection is drawn. Frames in hexadecimal digits are given to `x25 decode --wide`. A run alone doesn't say which of its frames was lost:
-with --script the run is made here from its script, by `x25 sim --tap`, and what the script loses or damages is marked.
+and the lines of `x25 sim --tap`. Frames in hexadecimal digits are given to `x25 decode --wide`. Of a capture, which is read as
+pcap2x25.py reads it, one connection is drawn. A run alone doesn't say which of its frames was lost: with --script the run is made
+here from its script, by `x25 sim --tap`, and what the script loses or damages is marked.
 
 The program is the one that --x25 or the variable X25 names, or `x25` of the PATH, or else the one that was built or
 installed with this script, or that of `make look`, which is unproved.
