@@ -99,6 +99,16 @@ class Charts(ToolCase):
         self.assertTrue(self.chart(b"1.5\t> SABM cmd P=1\n").endswith(">|  1.5\n"))
         self.assertTrue(self.chart(b"1.5\t> 013febdf\n", "--x25", FAKE).endswith(">|  1.500000000\n"))
 
+    @support.needs_program
+    def test_a_capture(self):
+        """It is drawn as the lines that pcap2x25 writes, one connection of it."""
+        capture = os.path.join(support.ROOT, "examples", "line.pcapng")
+        trace = support.run("pcap2x25.py", "--time", capture).stdout
+        drawn = self.chart(trace, "--x25", support.PROGRAM)
+        self.assertEqual((self.chart(b"", "--x25", support.PROGRAM, capture), drawn.count("\n")), (drawn, trace.count(b"\n") + 2))
+        done = support.run("chart.py", "--connection", "2", capture)
+        self.assertEqual((done.returncode, done.stderr), (2, b"chart.py: there are 1 connections, and no number 2\n"))
+
     def test_long_texts_are_cut(self):
         for line in (b"> I cmd P=0 S=0 R=0 | DATA ch=1 S=0 R=0 M=0 Q=0 data=" + b"00" * 4096, b"dce message ch=1 at 1.0.0 q=0 data=" + b"00" * 65535):
             rows = self.chart(line + b"\n").splitlines()[2:]

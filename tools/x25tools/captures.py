@@ -42,6 +42,8 @@ INBOUND, OUTBOUND, DIRECTION = 1, 2, 3
 IS_OUTBOUND = {INBOUND: False, OUTBOUND: True, 0: None, 3: None}
 CRC_ERROR, TOO_SHORT = 1 << 24, 1 << 26
 
+# What a capture begins with; no line begins so, but an empty one with the first octet of pcapng.
+BEGINNINGS = (b"\xa1", b"\xd4", b"\x4d", b"\x0a\x0d")
 NO_CAPTURE = "neither a pcap nor a pcapng file"
 # A record: see above.
 Record = tuple[int, int, bytes, bool, Optional[int], Optional[bool], Optional[int], int, int]
@@ -84,6 +86,11 @@ def blocks(file: x25lines.Readable, notes: Counter[str] | None = None) -> Iterat
         raise BadInput(NO_CAPTURE)
     if rest:
         raise BadInput(f"the file ends within {reader.next()}")
+
+
+def is_capture(file: x25lines.Readable) -> bool:
+    """Whether a file is a capture, and not lines."""
+    return file.peek(2).startswith(BEGINNINGS)
 
 
 def _reader(magic: bytes) -> _Pcap | _Pcapng:

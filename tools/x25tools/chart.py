@@ -4,15 +4,17 @@
     x25 sim --tap < script | chart.py
     chart.py --script script
     chart.py --svg examples/exchange.trace > exchange.svg
+    chart.py --connection 2 capture.pcapng
 
 Reads the lines of `x25 decode`, the lines of a trace, also with a time and a tab before them, comments, which begin with `#`,
-and the lines of `x25 sim --tap`. Frames in hexadecimal digits are given to `x25 decode --wide`. A run alone doesn't say which of its frames was lost:
-with --script the run is made here from its script, by `x25 sim --tap`, and what the script loses or damages is marked.
+and the lines of `x25 sim --tap`. Frames in hexadecimal digits are given to `x25 decode --wide`. Of a capture, which is read as
+pcap2x25.py reads it, one connection is drawn. A run alone doesn't say which of its frames was lost: with --script the run is made
+here from its script, by `x25 sim --tap`, and what the script loses or damages is marked.
 
 The program is the one that --x25 or the variable X25 names, or `x25` of the PATH, or else the one that was built or
 installed with this script, or that of `make look`, which is unproved.
 
-Exit status: 0, or 2 for bad words or bad input, where a chart as text has the rows before it.
+Exit status: 0, 1 where something of a capture was left out, or 2 for bad words or bad input, where a chart as text has the rows before it.
 """
 
 from __future__ import annotations
@@ -22,7 +24,7 @@ import itertools
 import sys
 from typing import Iterable, Iterator, TextIO
 
-from x25tools import decoding, drawing, simruns, x25lines
+from x25tools import captures, decoding, drawing, pcap2x25, simruns, x25lines
 from x25tools.drawing import Entry, Frame, Note, Row
 from x25tools.x25lines import BadInput
 
@@ -53,6 +55,14 @@ def row(number: int, line: bytes) -> Row:
     if x25lines.REFUSAL_LINE.fullmatch(line) or x25lines.is_passed_over(line):
         return Note(line.decode("utf-8", "replace"))
     raise BadInput(f"line {number} is no line of decode, of a trace or of a run: {x25lines.shown(line)}")
+
+
+def lines_of_capture(converter: pcap2x25.Converter, file: x25lines.Readable, options: argparse.Namespace) -> Iterator[tuple[int, list[bytes]]]:
+    """Yields the lines of a connection with their times, as blocks of lines."""
+    number = 1
+    for times, lines in pcap2x25.lines_of(converter, file, options):
+        yield number, [f"{x25lines.seconds(time)}\t{line}".rstrip("\n").encode() for time, line in zip(times, lines)]
+        number += len(lines)
 
 
 def rows_of_script(decoder: decoding.Decoder, program: str, file: x25lines.Readable, words: list[str]) -> list[list[Row]]:
@@ -86,6 +96,7 @@ def words() -> argparse.Namespace:
     parser.add_argument("--sim", default="", metavar="WORDS", help="with --script, more words for `x25 sim`, as in --sim '--k 2'")
     parser.add_argument("--svg", action="store_true", help="draw SVG")
     parser.add_argument("--width", type=int, default=76, metavar="N", help="characters between the two ends (76)")
+    pcap2x25.add_capture_words(parser)
     decoding.add_program(parser)
     options = parser.parse_args()
     if not LEAST_WIDTH <= options.width <= MOST_WIDTH:
@@ -100,6 +111,10 @@ def main() -> int:
     with x25lines.opened(options.file) as file, decoding.Decoder(options.x25) as decoder:
         if options.script:
             drawn: Iterable[list[Row]] = rows_of_script(decoder, options.x25, file, options.sim.split())
+        elif captures.is_capture(file):
+            converter = pcap2x25.Converter(options)
+            draw(rows(decoder, lines_of_capture(converter, file, options)), options, sys.stdout)
+            return pcap2x25.tell_of_one(converter, options)
         else:
             drawn = rows(decoder, x25lines.blocks_of_lines(file))
         draw(drawn, options, sys.stdout)

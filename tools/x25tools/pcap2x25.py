@@ -343,28 +343,37 @@ def write_list(converter: Converter, blocks: Iterable[list[captures.Record]]) ->
     return converter.tell()
 
 
-def write_lines(converter: Converter, blocks: Iterable[list[captures.Record]], options: argparse.Namespace) -> int:
-    """Writes the lines of a connection, those of each block at once."""
+def lines_of(converter: Converter, file: x25lines.Readable, options: argparse.Namespace) -> Iterator[tuple[list[int], list[str]]]:
+    """Yields the times and the lines of the connection that is wanted, or of the first, those of each block at once."""
     wanted = options.connection or 1
-    for block in converter.blocks(blocks):
+    for block in converter.blocks(captures.blocks(file, converter.notes)):
         connections, times, lines = without_gaps(*block)
         are_wanted = [connection.number == wanted for connection in connections]
-        if options.time:
-            lines = [f"{x25lines.seconds(time)}\t{line}" for time, line in zip(times, lines)]
-        sys.stdout.write("".join(itertools.compress(lines, are_wanted)))
-    count = len(converter.connections())
-    if 0 < count < wanted:
-        raise BadInput(f"there are {count} connections, and no number {wanted}")
-    status = converter.tell()
-    if count > 1 and options.connection is None:
-        x25lines.warn(f"left out: {count - 1} more connections (--list names them, --connection N takes one)")
+        yield list(itertools.compress(times, are_wanted)), list(itertools.compress(lines, are_wanted))
+    if 0 < len(converter.connections()) < wanted:
+        raise BadInput(f"there are {len(converter.connections())} connections, and no number {wanted}")
+
+
+def tell_of_one(converter: Converter, options: argparse.Namespace) -> int:
+    """Tells what was left out of the lines of a connection; answers the status."""
+    status, others = converter.tell(), len(converter.connections()) - 1
+    if others > 0 and options.connection is None:
+        x25lines.warn(f"left out: {others} more connections (pcap2x25 --list names them, --connection N takes one)")
         return 1
     return status
+
+
+def write_lines(converter: Converter, file: x25lines.Readable, options: argparse.Namespace) -> int:
+    """Writes the lines of a connection, those of each block at once."""
+    for times, lines in lines_of(converter, file, options):
+        if options.time:
+            lines = [f"{x25lines.seconds(time)}\t{line}" for time, line in zip(times, lines)]
+        sys.stdout.write("".join(lines))
+    return tell_of_one(converter, options)
 
 
 def main() -> int:
     options = words()
     converter = Converter(options)
     with x25lines.opened(options.file) as file:
-        blocks = captures.blocks(file, converter.notes)
-        return write_list(converter, blocks) if options.list else write_lines(converter, blocks, options)
+        return write_list(converter, captures.blocks(file, converter.notes)) if options.list else write_lines(converter, file, options)

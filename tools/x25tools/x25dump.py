@@ -48,8 +48,6 @@ from x25tools.ahead import ahead
 from x25tools.messages import Messages, dumped
 from x25tools.x25lines import BadInput
 
-# What a capture of either format begins with; no line does.
-CAPTURE = (b"\xa1", b"\xd4", b"\x4d", b"\x0a")
 RED, BLUE, GREEN, GREY, PLAIN = "\x1b[31m", "\x1b[34m", "\x1b[32m", "\x1b[90m", "\x1b[0m"
 COLOURS = {">": BLUE, "<": GREEN}
 CHANNEL = re.compile(r" ch=(\d+)")
@@ -85,7 +83,7 @@ class Reader:
 
     def shown(self, file):
         """Whatever the file holds."""
-        for block in self._captured(file) if is_capture(file) else self._lines(file):
+        for block in self._captured(file) if captures.is_capture(file) else self._lines(file):
             if self._options.judge and any(judging.is_faulty(text, self._options) for _, _, text in block):
                 self.status = 1
             yield block
@@ -386,18 +384,13 @@ def words():
     return parser.parse_args()
 
 
-def is_capture(file):
-    """Whether a file is a capture."""
-    return file.peek(1)[:1] in CAPTURE
-
-
 def asked(options, file):
     """What is asked for the text of a frame. Lines of a trace are all that was on the line, where nothing else is said."""
     long, wide = ["--long"] if options.long else [], ["--wide"] if options.wide else []
     reading = [*long, *wide]
     if not options.judge:
         return decoding.Decoder(options.x25, reading)
-    return judging.Judge(options.x25, ["--k", str(options.k)], reading, options.at or (None if is_capture(file) else "line"))
+    return judging.Judge(options.x25, ["--k", str(options.k)], reading, options.at or (None if captures.is_capture(file) else "line"))
 
 
 def show(view, blocks, out):
