@@ -1,3 +1,4 @@
 pub mod Times
+pub mod Due
 pub mod Clock
 pub mod laws

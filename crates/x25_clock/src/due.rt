@@ -1,3 +1,7 @@
+ghost use Rattle.std.specs.Prelude.{◌≡◌, option_map};
+ghost use Rattle.x25_clock.specs.Due.{command_for};
+ghost use Rattle.x25_station.specs.Command.{command_of};
+
 use x25_station::Cmd;
 
 /// What is to be asked of a station, as a time has passed.
@@ -17,7 +21,9 @@ pub enum Due {
 
 impl Due {
     /// The command that it asks for; none where T1 is to fire.
-    pub fn command(self) -> Option<Cmd<'static>> {
+    pub fn command(self) -> Option<Cmd<'static>>
+        ensures { option_map command_of result ≡ command_for self }
+    {
         match self {
             Due::T1 => None,
             Due::Probe => Some(Cmd::Probe),
