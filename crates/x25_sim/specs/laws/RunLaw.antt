@@ -2,7 +2,7 @@
 use Rattle.std.specs.Prelude.{◌≡◌, ℕ, Bool, true, false, List, [], ◌∷◌, Option, Some, None}
 use Rattle.x25_station.specs.declared.config.Cfg.{Cfg}
 use Rattle.x25_station.specs.Config.{config_refusal}
-use Rattle.x25_script.specs.ScriptLine.{connect, PlainLine, command, heal}
+use Rattle.x25_script.specs.ScriptLine.{connect, relink, PlainLine, command, heal}
 use Rattle.x25_io.specs.Lines.{lines_of}
 use Rattle.x25_world.specs.World.{World, OnTap, AtEnd, Event, AreAccepted, run, start, established}
 use Rattle.x25_world.specs.Healing.{healing, ArrivesByHealing, RestShowsAll}
@@ -34,6 +34,7 @@ begins cfg false = established cfg
 -- not a line by which a user asks that the link be set up
 abbrev pub IsNoConnectLine : Option PlainLine → Type 0
 IsNoConnectLine (Some (command end connect)) = ⊥
+IsNoConnectLine (Some (command end relink)) = ⊥
 IsNoConnectLine asked = Unit {0}
 
 -- no such line is among these
