@@ -104,7 +104,7 @@ static uint32_t hear(x25_station *station, end_t *other)
     uint8_t *frame = next_frame(other, &count), *copy;
     if (frame == NULL)
         return draw(16) ? x25_t1(station) : x25_connect(station);
-    if (count > 6 && !(frame[1] & 1) && draw(16) == 0)
+    if (count > 6 && !(frame[1] & 1) && draw(frame[4] == 0x0f ? 2 : 16) == 0)
         return hear_another(station, frame, count);
     copy = room(0, count);
     memcpy(copy, frame, count);
