@@ -6,7 +6,7 @@ import unittest
 import support
 from runs import ACCEPTED, CALL, CLEAR, CLEAR_CONFIRMATION, INTERRUPT, INTERRUPT_CONFIRMATION
 from runs import RESET, RESET_CONFIRMATION, RESTART, RNR, RR
-from test_station import Station
+from x25tools.piped import Station
 from x25tools.x25lines import fcs
 
 PACKETS = {
@@ -104,7 +104,8 @@ class Linked:
     """A station whose link is up; packets come to it in I frames, and those that it sends are acknowledged by the next one."""
 
     def __init__(self, end):
-        self.end, self.station = end, Station(end)
+        self.end, self.station = end, Station(support.PROGRAM, end)
+        self.station.begin()
         self.mark, self.address = ("<", 3) if end == "dte" else (">", 1)
         self.sent = self.taken = 0
         self.station.ask(f"{end} connect")
@@ -113,17 +114,16 @@ class Linked:
     def frame(self, octets):
         return self.heard(self.station.ask(f"{self.mark} {(octets + fcs(octets)).hex()}"))
 
-    def heard(self, lines):
-        """The entries of some lines, each without the end and the stretch, and the packets that were sent."""
-        entries, packets = [], []
-        for line in lines[:-1]:
-            octets = bytes.fromhex(line[2:]) if line[0] in "<>" else b""
-            if octets and octets[1] & 1 == 0:
+    def heard(self, answer):
+        """The entries of an answer, each without the end and the stretch, behind its refusal, and the packets that were sent."""
+        told = [answer.refusal, *answer.notices] if answer.refusal else answer.notices
+        packets = []
+        for frame in answer.frames:
+            octets = bytes.fromhex(frame.text()[2:])
+            if octets[1] & 1 == 0:
                 self.taken = (self.taken + 1) % 8
                 packets.append(octets[2:-2])
-            elif not octets:
-                entries.append(CHANNEL.sub("", line.removeprefix(self.end + " ")).strip())
-        return entries, packets
+        return [CHANNEL.sub("", entry.removeprefix(self.end + " ")).strip() for entry in told], packets
 
     def comes(self, body, channel=1, first=0x10):
         octets = bytes((self.address, self.taken << 5 | self.sent << 1, first, channel)) + body
@@ -158,12 +158,12 @@ class Linked:
         return states[told[0]] if told else "clr"
 
 
-@support.needs_station
+@support.needs_program
 class Tables(unittest.TestCase):
     def setUp(self):
         self.ends = {end: Linked(end) for end in ("dte", "dce")}
         for linked in self.ends.values():
-            self.addCleanup(linked.station.end)
+            self.addCleanup(linked.station.__exit__)
 
     def error(self, linked, of_call, diagnostic, cause=19):
         """CLEAR or RESET for an error, what is told, and the state."""
