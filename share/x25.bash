@@ -11,14 +11,15 @@ _x25() {
             sim:--k | station:--k | judge:--k) words="1 2 3 4 5 6 7" ;;
             sim:--n2 | station:--n2) words="1 10 255" ;;
             sim:--channels | station:--channels) words="1 2 3 4 5 6 7 8 9 10 11 12 13 14 15 16" ;;
-            sim:*) words="--tap --down --long --say-sizes --wide --k --n2 --channels --help" ;;
+            sim:*) words="--tap --events --down --loose --long --say-sizes --wide --k --n2 --channels --help" ;;
             station:station) words="dte dce --help" ;;
             station:*) words="--long --say-sizes --wide --k --n2 --channels --help" ;;
-            judge:*) words="--k --long --wide --manners --strict --help" ;;
+            judge:*) words="--k --long --loose --wide --manners --strict --help" ;;
             deframe:deframe) words="dte dce --help" ;;
             deframe:*) words="--help" ;;
-            decode:*) words="--long --wide --help" ;;
-            vectors:* | frame:*) words="--help" ;;
+            decode:*) words="--long --loose --wide --help" ;;
+            frame:*) words="--loose --help" ;;
+            vectors:*) words="--help" ;;
             help:*) ((COMP_CWORD == 2)) && words="decode vectors sim station judge deframe frame help" ;;
         esac
     fi

@@ -9,7 +9,6 @@ frames are left out, in stretches, each of which leaves a gap that the judge is 
 Exit status: 0; 1 where a rule was told without doubt, with the seed of that run; 2 for bad words, or where there is no program.
 """
 
-import io
 import sys
 
 import runs
@@ -47,8 +46,7 @@ class Tapped(simruns.Line):
 def captured(program, words, script):
     """What was captured in front of the end whose frames have each direction."""
     line = Tapped()
-    begun, steps = simruns.parts(program, io.BytesIO(script.encode()), [word for word in words if word != "--tap"])
-    simruns.follow(line, begun, steps)
+    simruns.follow(line, simruns.steps(program, script.encode(), [word for word in words if word != "--tap"]))
     return line.tapes
 
 

@@ -180,19 +180,17 @@ class Refused(ToolCase):
     def test_lines_that_are_none(self):
         for line in (b"x", b"> 0", b"> what", b"dte", b"> SABM cmd P=1\r\r", b"\xff\xfe", b"! x", b"dte \x1b[2J"):
             with self.subTest(line):
-                self.assert_refused(support.run("chart.py", given=DECODED + line + b"\n"), "line 6 is no line of decode")
+                self.assert_refused(support.run("chart.py", "--x25", FAKE, given=DECODED + line + b"\n"), "line 6 is no line of decode")
 
     def test_scripts_that_are_none(self):
         for line in (b"drain 0", b"deliver", b" # comment"):
             with self.subTest(line):
                 self.assert_refused(support.run("chart.py", "--script", "--x25", FAKE, given=b"damage > 0 013febdf\n" + line + b"\n"), f"line 2 of the script: no such event '{line.decode()}'")
-        many = b"drain 65535\n" * 4
-        self.assert_refused(support.run("chart.py", "--script", "--x25", FAKE, given=many), "more than 200,000 events")
 
     def test_programs_that_are_none(self):
         for program, words in ((os.path.join(self.folder, "none"), "No such file"), ("/bin/true", "didn't answer line by line")):
             self.assert_refused(support.run("chart.py", "--x25", program, given=RUN), words)
-        self.assert_refused(support.run("chart.py", "--script", "--x25", "/bin/true", given=b"deliver >\n"), "didn't answer event by event")
+        self.assert_refused(support.run("chart.py", "--script", "--x25", "/bin/echo", given=b"deliver >\n"), "didn't answer event by event")
         self.assert_refused(support.run("chart.py", "--script", "--x25", FAKE, given=b"deliver >\n"), "sim: the script is another one")
 
     def test_a_large_sparse_file(self):

@@ -62,7 +62,7 @@ class Lemmas(unittest.TestCase):
         ("x25_line", "x25_link"): {"EndLemmas"},
         ("x25_sim", "x25_world"): {"Established"},
         ("x25_judge", "x25_line"): {"StationActs", "StationAway", "StationLines", "StationRuns", "StationSays", "StationSends", "StationSteps"},
-        ("any", "x25_io"): {"LineLemmas", "RunLemmas", "TakerLemmas", "ToldLemmas"},
+        ("any", "x25_io"): {"LineLemmas", "LooseLemmas", "RunLemmas", "TakerLemmas", "ToldLemmas"},
     }
 
     def test_none_of_a_lower_crate_is_cited(self):

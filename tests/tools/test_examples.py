@@ -4,7 +4,6 @@ Each script writes the transcript that stands beside it. Each trace is what went
 beginning of that: so two stations sent each of its frames, and the other one took it without fault, but for a damaged one.
 """
 
-import io
 import os
 import re
 import subprocess
@@ -28,7 +27,7 @@ def names(ending):
 def frames_of(script):
     """The lines of the frames that went over the line in a run; a damaged frame is as it came."""
     text = support.read("examples", f"{script}.script")
-    run = simruns.run(support.PROGRAM, io.BytesIO(text), [])
+    run = simruns.run(support.PROGRAM, text, [])
     damage = re.findall(rb"^damage . 0 (\w+)$", text, re.MULTILINE)
     frames, faults = [], []
     for place, line in enumerate(run.lines):

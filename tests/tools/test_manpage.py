@@ -51,7 +51,7 @@ class Completion(unittest.TestCase):
         self.assertEqual(complete("deframe", ""), ["dte", "dce", "--help"])
         self.assertEqual(complete("deframe", "dte", ""), ["--help"])
         self.assertEqual(complete("--"), ["--help", "--version"])
-        self.assertEqual(complete("decode", "--l"), ["--long"])
+        self.assertEqual(complete("decode", "--l"), ["--long", "--loose"])
         self.assertEqual(complete("sim", "--tap", "--k", ""), list("1234567"))
         self.assertEqual(complete("station", "d"), ["dte", "dce"])
         self.assertEqual(complete("station", "dte", "--k", ""), list("1234567"))

@@ -29,6 +29,7 @@ from x25tools.drawing import Entry, Frame, Note, Row
 from x25tools.x25lines import BadInput
 
 LEAST_WIDTH, MOST_WIDTH = 40, 400
+DECODING = "--loose", "--wide"
 
 
 def rows(decoder: decoding.Decoder, blocks: Iterable[tuple[int, list[bytes]]]) -> Iterator[list[Row]]:
@@ -38,7 +39,8 @@ def rows(decoder: decoding.Decoder, blocks: Iterable[tuple[int, list[bytes]]]) -
         try:
             for number, (line, answer) in enumerate(zip(lines, decoding.answers(decoder, lines)), first):
                 if answer:
-                    found.append(Frame(answer[1][0], answer[1][2:], None, x25lines.seconds(answer[0])))
+                    time = x25lines.nanoseconds(answer[0])
+                    found.append(Frame(answer[1][0], answer[1][2:], None, answer[0] if time is None else x25lines.seconds(time)))
                 elif line:
                     found.append(row(number, line))
         finally:
@@ -67,7 +69,7 @@ def lines_of_capture(converter: pcap2x25.Converter, file: x25lines.Readable, opt
 
 def rows_of_script(decoder: decoding.Decoder, program: str, file: x25lines.Readable, words: list[str]) -> list[list[Row]]:
     """The rows of the run of a script, with what became of each frame."""
-    run = simruns.run(program, file, words)
+    run = simruns.run(program, b"".join(x25lines.pieces(file)), words)
     drawn, = rows(decoder, [(1, run.lines)])
     for index, fate in run.fates.items():
         if isinstance(frame := drawn[index], Frame):
@@ -108,7 +110,7 @@ def words() -> argparse.Namespace:
 
 def main() -> int:
     options = words()
-    with x25lines.opened(options.file) as file, decoding.Decoder(options.x25) as decoder:
+    with x25lines.opened(options.file) as file, decoding.Decoder(options.x25, DECODING) as decoder:
         if options.script:
             drawn: Iterable[list[Row]] = rows_of_script(decoder, options.x25, file, options.sim.split())
         elif captures.is_capture(file):

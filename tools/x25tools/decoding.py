@@ -21,10 +21,14 @@ UNPROVED = "x25-unproved"
 PLACES = [os.path.normpath(os.path.join(FOLDER, place)) for place in ("../build/x25", "../../bin/x25", f"../build/{UNPROVED}")]
 MISSING = "frames in hexadecimal digits need the program x25: build it (make look, make x25) or name it (--x25)"
 MISSING_STATION = "a station needs the program x25: build it (make look, make x25) or name it (--x25)"
+# The answer to a line that is none of a trace.
+REFUSED = "? 60"
 # The kinds of frames, in the order of a statistic: those of LAPB modulo 8, and those that `decode --wide` names.
 FRAMES = ("I", "RR", "RNR", "REJ", "SABM", "DISC", "UA", "DM", "FRMR", "SREJ", "SABME", "SARM", "XID", "TEST", "UI", "fault")
 # A line of `decode`, with a time and a tab before it where there is one.
 TEXT_LINE = re.compile(rb"(?:([0-9.]{1,30})\t)?([<>] (?:%b) [ -~]*)" % "|".join(FRAMES).encode())
+# What may stand among the lines of a trace beside frames in digits: a comment, an empty line, and the lines of `decode` and of a run.
+OTHER_LINE = re.compile(b"|".join([rb"(?:#[^\n]*)?", *(line.pattern for line in (TEXT_LINE, x25lines.ENTRY_LINE, x25lines.REFUSAL_LINE))]))
 
 
 # A program that is asked line by line.
@@ -78,13 +82,21 @@ def let_end(child: Child) -> None:
     child.wait()
 
 
-def answers(decoder: Asked, lines: list[bytes], connection: object = None) -> list[tuple[int | None, str] | None]:
-    """What is answered to the frames of some lines: of each its time, in nanoseconds or None, and its text; None where a line has no frame in
-    hexadecimal digits."""
-    read = [x25lines.timed(line) for line in lines]
-    asked = [f"{frame[1]}\n" for frame in read if frame]
-    texts = iter(decoder.texts("".join(asked), [connection] * len(asked)))
-    return [frame and (frame[0], next(texts)) for frame in read]
+def answers(decoder: Asked, lines: list[bytes]) -> list[tuple[str, str] | None]:
+    """What a decoder with `--loose` answers to some lines, each its octets: of each its time as text, empty where it has none, and its text; None where a
+    line has no frame in hexadecimal digits."""
+    are_asked = [not OTHER_LINE.fullmatch(line) for line in lines]
+    asked = [f"{line.decode('latin-1')}\n" for line, is_asked in zip(lines, are_asked) if is_asked]
+    texts = iter(decoder.texts("".join(asked), [None] * len(asked)))
+    return [_parted(next(texts)) if is_asked else None for is_asked in are_asked]
+
+
+def _parted(text: str | None) -> tuple[str, str] | None:
+    """The time that an answer carries, and the text behind it; None where it refuses a line."""
+    if not text or text.endswith(REFUSED):
+        return None
+    time, _, rest = text.rpartition("\t")
+    return time, rest
 
 
 class Decoder:
@@ -105,14 +117,14 @@ class Decoder:
             let_end(self._child)
 
     def texts(self, asked: str, connections: Sequence[object] = ()) -> list[str]:
-        """The answers to the lines of a trace in a text, each with its direction, whatever the connections."""
+        """The answers to the lines of a trace in a text, each with what stands before the frame's digits, whatever the connections."""
         if not asked:
             return []
         if self._child is None:
             self._child = self._begun()
         count = asked.count("\n")
-        *texts, rest = self._answers(self._child, asked.encode(), count).decode("ascii", "replace").split("\n")
-        if rest or len(texts) != count or texts[0][:2] != asked[:2]:
+        *texts, rest = self._answers(self._child, asked.encode("latin-1"), count).decode("ascii", "replace").split("\n")
+        if rest or len(texts) != count or texts[0][:2] not in (asked[:2], REFUSED[:2]):
             raise BadInput(f"{self._program} {self._task} didn't answer line by line")
         return texts
 

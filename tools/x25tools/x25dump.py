@@ -116,9 +116,19 @@ class Reader:
         if not file.peek(1):
             x25lines.warn("nothing was found: the input is empty")
             self.status = 1
-        for _, lines in x25lines.blocks_of_lines(file):
-            answers = decoding.answers(self._decoder, lines, trace)
-            yield [(self._time(answer[0]), trace, answer[1]) if answer else self._other(line, trace) for line, answer in zip(lines, answers)]
+        with decoding.Decoder(self._options.x25, ["--loose", *reading(self._options)]) as decoder:
+            for _, lines in x25lines.blocks_of_lines(file):
+                answers = decoding.answers(decoder, lines)
+                if self._options.judge:
+                    frames = [line.rpartition(b"\t")[2].decode() for line, answer in zip(lines, answers) if answer]
+                    judged = iter(self._decoder.texts("".join([f"{frame}\n" for frame in frames]), [trace] * len(frames)))
+                    answers = [answer and (answer[0], next(judged)) for answer in answers]
+                yield [(self._clock(answer[0]), trace, answer[1]) if answer else self._other(line, trace) for line, answer in zip(lines, answers)]
+
+    def _clock(self, time):
+        """A time of a line as it is shown."""
+        found = x25lines.nanoseconds(time)
+        return time if found is None else self._time(found)
 
     def _other(self, line, trace):
         """What there is to show of a line that holds no frame in digits."""
@@ -384,13 +394,16 @@ def words():
     return parser.parse_args()
 
 
+def reading(options):
+    """How octets are read, in words of the program."""
+    return [*(["--long"] if options.long else []), *(["--wide"] if options.wide else [])]
+
+
 def asked(options, file):
     """What is asked for the text of a frame. Lines of a trace are all that was on the line, where nothing else is said."""
-    long, wide = ["--long"] if options.long else [], ["--wide"] if options.wide else []
-    reading = [*long, *wide]
     if not options.judge:
-        return decoding.Decoder(options.x25, reading)
-    return judging.Judge(options.x25, ["--k", str(options.k)], reading, options.at or (None if captures.is_capture(file) else "line"))
+        return decoding.Decoder(options.x25, reading(options))
+    return judging.Judge(options.x25, ["--k", str(options.k)], reading(options), options.at or (None if captures.is_capture(file) else "line"))
 
 
 def show(view, blocks, out):

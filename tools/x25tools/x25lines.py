@@ -37,7 +37,8 @@ GZIP = b"\x1f"
 # What is read at once.
 PIECE = 65_536
 
-FRAME_LINE = re.compile(rb"(?:([0-9]{1,10})(?:\.([0-9]{1,9}))?\t)?([<>] [0-9a-fA-F]*)")
+TIME = re.compile(r"([0-9]{1,10})(?:\.([0-9]{1,9}))?")
+FRAME_LINE = re.compile(rb"(?:([0-9]{1,10}(?:\.[0-9]{1,9})?)\t)?([<>]) ([0-9a-fA-F]*)")
 
 # The other lines of a run of `x25 sim`: an entry of an end, a refusal, a line that was no event.
 ENTRY_LINE = re.compile(rb"(dte|dce) ([a-z][ -~]*)")
@@ -115,23 +116,19 @@ def is_passed_over(line: bytes) -> bool:
     return not line or line[:1] == b"#"
 
 
-def timed(line: bytes) -> tuple[int | None, str] | None:
-    """Reads a line of a trace, given as octets without its line feed; answers its time in nanoseconds, None where it has none, and the line
-    without it; or None where it is none."""
-    found = FRAME_LINE.fullmatch(line)
-    if not found:
-        return None
-    whole, part, frame = found.groups()
-    if len(frame) % 2 or len(frame) > MOST_LINE:
-        return None
-    time = None if whole is None else int(whole) * NANOSECONDS + int((part or b"").ljust(9, b"0"))
-    return time, frame.decode()
+def nanoseconds(time: str) -> int | None:
+    """The nanoseconds of a time, a decimal number of seconds; None where it is none."""
+    found = TIME.fullmatch(time)
+    return int(found[1]) * NANOSECONDS + int((found[2] or "").ljust(9, "0")) if found else None
 
 
 def frame_line(line: bytes) -> FrameLine | None:
     """The frame of a line of a trace, given as octets without its line feed; None where it is none."""
-    found = timed(line)
-    return found and FrameLine(found[1][0], bytes.fromhex(found[1][2:]), found[0])
+    found = FRAME_LINE.fullmatch(line)
+    if not found or len(found[3]) % 2 or len(found[3]) > 2 * MOST_OCTETS:
+        return None
+    time, direction, digits = found.groups()
+    return FrameLine(direction.decode(), bytes.fromhex(digits.decode()), nanoseconds(time.decode()) if time else None)
 
 
 def pieces(file: Readable) -> Iterator[bytes]:

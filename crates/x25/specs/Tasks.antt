@@ -6,7 +6,8 @@ use Rattle.x25_bits.specs.declared.role.Role.TheVariants as role
 use Rattle.x25_bit_line.specs.code.Frames as framing
 use Rattle.x25_bit_line.specs.code.Reads as deframing
 use Rattle.x25_decode.specs.TestVectors.{verdicts, are_right}
-use Rattle.x25_decode.specs.code.Stream as decoding
+use Rattle.x25_decode.specs.code.LooseStream as decoding
+use Rattle.x25_io.specs.Loose.{asked_text}
 use Rattle.x25_io.specs.code.Runs.{OfInput, Program}
 use Rattle.x25_io.specs.code.Written.{AppendsPrefix}
 use Rattle.x25_judge.specs.Judge.{begins}
@@ -14,10 +15,12 @@ use Rattle.x25_judge.specs.code.Stream as judging
 use Rattle.x25_pipe.specs.code.Stream as piping
 use Rattle.x25_settings.specs.declared.options.End.{End}
 use Rattle.x25_settings.specs.declared.options.End.TheVariants.{Dte, Dce}
+use Rattle.x25_settings.specs.declared.options.Simulation.{Simulation}
 use Rattle.x25_settings.specs.declared.options.StationOptions.{StationOptions}
 use Rattle.x25_settings.specs.declared.words.Task.{Task}
 use Rattle.x25_settings.specs.declared.words.Task.TheVariants.{Decode, Vectors, Sim, Station, Judge, Deframe, Frame}
 use Rattle.x25_sim.specs.code.Stream as simulating
+use Rattle.x25_sim.specs.declared.stage.Shown.{Shown}
 use Rattle.x25_sim.specs.laws.WritesRun.{WritesRun}
 use Rattle.x25_station.specs.declared.config.Cfg.{Cfg}
 use Rattle.x25_station.specs.Config.{settings_from}
@@ -37,40 +40,45 @@ abbrev pub role_in : End → Role
 role_in Dte = role.Dte
 role_in Dce = role.Dce
 
+-- what is told beside entries and refusals
+abbrev pub shown_in : Simulation → Shown
+shown_in s = record { tap = s.tap; events = s.events }
+
 -- the program that does a task; `vectors` reads nothing
 abbrev pub program_of : Task → Program
-program_of (Decode long wide) = decoding.program (record { long = long; wide = wide })
+program_of (Decode d) = decoding.program_by d.loose (record { long = d.long; wide = d.wide })
 program_of Vectors = record {
   text = λ _. verdicts;
   status = λ _. if are_right then 0 else 1;
   Ended = λ _ _ _ _. ⊥;
 }
-program_of (Sim s) = simulating.program (settings_in s.station) s.down s.tap
+program_of (Sim s) = simulating.program (settings_in s.station) s.down (shown_in s) s.loose
 program_of (Station p) = piping.program (settings_from (role_in p.end) (settings_in p.station))
-program_of (Judge g) = judging.program (begins g.k (record { long = g.long; wide = g.wide })
+program_of (Judge g) = judging.program g.loose (begins g.k (record { long = g.long; wide = g.wide })
     (record { unjudged = g.strict; manners = g.manners }))
 program_of (Deframe end) = deframing.program (role_in end)
-program_of Frame = framing.program
+program_of (Frame loose) = framing.program loose
 
 -- what holds of what was written for a script; of the other tasks nothing is said
 abbrev pub WritesScript : Task → List ℕ → Option (List ℕ) → Option (List ℕ) → Type 0
-WritesScript (Decode long wide) script old now = ⊤
+WritesScript (Decode d) script old now = ⊤
 WritesScript Vectors script old now = ⊤
-WritesScript (Sim s) script old now = WritesRun (settings_in s.station) s.down s.tap script old now
+WritesScript (Sim s) script old now = WritesRun (settings_in s.station) s.down (shown_in s)
+    (asked_text s.loose script) old now
 WritesScript (Station p) script old now = ⊤
 WritesScript (Judge g) script old now = ⊤
 WritesScript (Deframe end) script old now = ⊤
-WritesScript Frame script old now = ⊤
+WritesScript (Frame loose) script old now = ⊤
 
 -- a task that asks for memory before it reads and writes alone
 abbrev pub is_plain : Task → Bool
-is_plain (Decode long wide) = true
+is_plain (Decode d) = true
 is_plain Vectors = true
 is_plain (Sim s) = false
 is_plain (Station p) = false
 is_plain (Judge g) = true
 is_plain (Deframe end) = true
-is_plain Frame = false
+is_plain (Frame loose) = false
 
 -- The task is done: the status is its own, 0 or 1, and what is written its text of all that was read.
 abbrev pub IsDone : Task → ℕ → Option (List ℕ) → Option (List ℕ) → Option (List ℕ) → Type 0

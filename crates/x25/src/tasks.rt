@@ -1,6 +1,7 @@
 //! What each task does, over any reader and writer.
 ghost use Rattle.std.specs.Prelude.{◌≡◌, true, IsErrOf, OnOk};
-ghost use Rattle.x25.specs.Tasks.{WritesScript, is_plain, program_of, role_in, settings_in};
+ghost use Rattle.x25.specs.Tasks.{WritesScript, is_plain, program_of, role_in, settings_in, shown_in};
+ghost use Rattle.x25_io.specs.Loose.{asked_text};
 ghost use Rattle.x25_io.specs.code.Runs.{OfInput, Runs};
 ghost use Rattle.x25_pipe.specs.code.Stream as piping;
 ghost use Rattle.x25_settings.specs.Options as options;
@@ -16,7 +17,7 @@ use x25_io::{Fault, Sink, Source};
 use x25_judge::{Strictness, judge_lines};
 use x25_pipe::{Role, station};
 use x25_settings::{End, Place, Simulation, StationOptions, Task};
-use x25_sim::{Cfg, Reporter, sim};
+use x25_sim::{Cfg, Reporter, Shown, sim};
 
 /// The settings of a station, as the words of the command line say them.
 fn settings_of(options: StationOptions) -> Cfg
@@ -72,18 +73,22 @@ fn simulate<P: Reporter, R: Source, W: Sink>(
 ) -> Result<u8, Fault>
     requires { options.AreInRange simulation.station }
     ensures runs { Runs R.Source W.Sink
-        (simulating.program (settings_in simulation.station) simulation.down simulation.tap)
+        (simulating.program (settings_in simulation.station) simulation.down (shown_in simulation) simulation.loose)
         reader.old reader.new writer.old writer.new result }
     ensures claims { OnOk result (OfInput (R.remaining reader.old) (λ script.
-        WritesRun (settings_in simulation.station) simulation.down simulation.tap script
+        WritesRun (settings_in simulation.station) simulation.down (shown_in simulation)
+        (asked_text simulation.loose script)
         (W.contents writer.old) (W.contents writer.new))) }
 {
-    let Simulation { down, tap, station } = simulation;
     sim(
         alloc,
-        down,
-        settings_of(station),
-        tap,
+        simulation.down,
+        settings_of(simulation.station),
+        Shown {
+            tap: simulation.tap,
+            events: simulation.events,
+        },
+        simulation.loose,
         reporter,
         reader,
         writer,
@@ -110,7 +115,16 @@ pub(crate) fn perform<P: Reporter, R: Source, W: Sink>(
     ensures unread { task ≡ Task.Vectors → reader.new ≡ reader.old }
 {
     match task {
-        Task::Decode { long, wide } => decode_lines(alloc, Reading { long, wide }, reader, writer),
+        Task::Decode(decoding) => decode_lines(
+            alloc,
+            Reading {
+                long: decoding.long,
+                wide: decoding.wide,
+            },
+            decoding.loose,
+            reader,
+            writer,
+        ),
         Task::Sim(simulation) => simulate(alloc, simulation, reporter, reader, writer),
         Task::Station(place) => answer_lines(alloc, place, reader, writer),
         Task::Vectors => vectors(alloc, writer),
@@ -125,10 +139,11 @@ pub(crate) fn perform<P: Reporter, R: Source, W: Sink>(
                 unjudged: judging.strict,
                 manners: judging.manners,
             },
+            judging.loose,
             reader,
             writer,
         ),
         Task::Deframe(end) => deframe(alloc, role_of(end), reader, writer),
-        Task::Frame => frame(alloc, reader, writer),
+        Task::Frame { loose } => frame(alloc, loose, reader, writer),
     }
 }

@@ -8,7 +8,9 @@ use Rattle.x25_bits.specs.Stuffing.{filled}
 use Rattle.x25_io.specs.HeldLine.{HoldsLine}
 use Rattle.x25_io.specs.declared.held_line.HeldLine.{HeldLine}
 use Rattle.x25_io.specs.Lines.{lines_of}
+use Rattle.x25_io.specs.Loose.{asked_lines, asked_text}
 use Rattle.x25_io.specs.code.LinesLead.{LinesLead}
+use Rattle.x25_io.proofs.LooseLemmas.{lines_asked}
 use Rattle.x25_io.proofs.TakerLemmas.{between}
 use Rattle.x25_io.specs.code.Written.{AppendsPrefix, Tells}
 use Rattle.x25_io.proofs.ToldLemmas.{prefix_more, none_told, told_prefix}
@@ -29,11 +31,16 @@ start old s input none no_text right = record {
   status = ap (λ b. b || has_wrong input) right;
 }
 
-pub begins : (old : Option (List ℕ)) (held first : HeldLine) (s sender : FrameSender) → held ≡ first → s ≡ sender → HoldsLine [] first → sender.bits.bits ≡ [] → sender.output ≡ [] → sender.is_wrong ≡ false
-    → (input : List ℕ) → LinesLead (λ lines. FramesOn s old old lines input) held input
-begins old held first s sender is_first is_sender empty none no_text right input =
-    between (λ (lines : List (List ℕ)). FramesOn s old old lines input) held input (subst (HoldsLine []) (sym is_first) empty)
-    (start old s input (ap (λ (s : FrameSender). s.bits.bits) is_sender ∙ none) (ap (λ (s : FrameSender). s.output) is_sender ∙ no_text) (ap (λ (s : FrameSender). s.is_wrong) is_sender ∙ right))
+pub begins : (loose : Bool) (old : Option (List ℕ)) (held first : HeldLine) (is_loose : Bool) (s sender : FrameSender) → held ≡ first → is_loose ≡ loose → s ≡ sender → HoldsLine [] first
+    → sender.bits.bits ≡ [] → sender.output ≡ [] → sender.is_wrong ≡ false → (input : List ℕ)
+    → LinesLead (λ lines. (is_loose ≡ loose) × FramesOn s old old (asked_lines loose lines) (asked_text loose input)) held input
+begins loose old held first is_loose s sender is_first is_so is_sender empty none no_text right input =
+    let text = asked_text loose input in
+    between (λ (lines : List (List ℕ)). (is_loose ≡ loose) × FramesOn s old old (asked_lines loose lines) text) held input (subst (HoldsLine []) (sym is_first) empty) (
+      is_so,
+      subst (λ (lines : List (List ℕ)). FramesOn s old old lines text) (lines_asked loose input)
+          (start old s text (ap (λ (s : FrameSender). s.bits.bits) is_sender ∙ none) (ap (λ (s : FrameSender). s.output) is_sender ∙ no_text) (ap (λ (s : FrameSender). s.is_wrong) is_sender ∙ right)),
+    )
 
 module _ (old now next : Option (List ℕ)) (input : List ℕ) where
   -- a line was taken

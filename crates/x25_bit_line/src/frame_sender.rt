@@ -146,6 +146,8 @@ impl LineTaker for FrameSender {
         }
     }
 
+    fn pass_over(&mut self) {}
+
     fn write_out<W: Sink>(&mut self, writer: &mut W) -> Result<(), Fault> {
         self.flush(writer)
     }

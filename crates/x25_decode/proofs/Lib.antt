@@ -3,3 +3,4 @@ pub mod FrontLemmas
 pub mod HeldLemmas
 pub mod VectorLemmas
 pub mod VerdictLemmas
+pub mod LooseLemmas

@@ -1,3 +1,4 @@
 pub mod Decoding
+pub mod LooseDecoder
 pub mod TestVectors
 pub mod code

@@ -1,3 +1,4 @@
 -- What the code's values stand for: contracts and proofs need it, and a reader of the claims doesn't.
 pub mod Front
+pub mod LooseStream
 pub mod Stream

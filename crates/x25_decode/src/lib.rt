@@ -7,6 +7,7 @@ mod answer;
 mod decoder;
 mod decoding;
 mod law;
+mod loose_decoder;
 mod test_vectors;
 
 pub use answer::{Reading, mark, read_sent};

@@ -4,7 +4,7 @@ use x25_bit_line::{Role, deframe, frame};
 use x25_decode::{Reading, decode_lines};
 use x25_io::{Fault, Sink, Source};
 use x25_pipe::station;
-use x25_sim::{Cfg, Silent, sim};
+use x25_sim::{Cfg, Shown, Silent, sim};
 
 #[derive(Clone, Copy)]
 pub enum Task {
@@ -71,6 +71,11 @@ const USUAL: Cfg = Cfg {
     wide: false,
 };
 
+const PLAIN: Shown = Shown {
+    tap: false,
+    events: false,
+};
+
 /// Does a task.
 pub fn does<R: Source, W: Sink>(
     alloc: Global,
@@ -79,10 +84,10 @@ pub fn does<R: Source, W: Sink>(
     writer: &mut W,
 ) -> Result<u8, Fault> {
     match task {
-        Task::Decode => decode_lines(alloc, AS_WRITTEN, reader, writer),
-        Task::Sim => sim(alloc, false, USUAL, false, Silent, reader, writer),
+        Task::Decode => decode_lines(alloc, AS_WRITTEN, false, reader, writer),
+        Task::Sim => sim(alloc, false, USUAL, PLAIN, false, Silent, reader, writer),
         Task::Station => station(alloc, Role::Dte, USUAL, reader, writer),
         Task::Deframe(from) => deframe(alloc, from, reader, writer),
-        Task::Frame => frame(alloc, reader, writer),
+        Task::Frame => frame(alloc, false, reader, writer),
     }
 }

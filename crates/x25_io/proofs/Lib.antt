@@ -1,4 +1,5 @@
 pub mod LineLemmas
+pub mod LooseLemmas
 pub mod ReadLemmas
 pub mod RunLemmas
 pub mod TakerLemmas

@@ -43,6 +43,11 @@ pub trait LineTaker: Drop {
         ensures memory { IsErrOf result Fault.NoMemory → may_want × (W.is_marked writer.new ≡ W.is_marked writer.old) }
         ensures read { IsErrOf result Fault.Read → ⊥ };
 
+    /// Passes over a line that asks nothing.
+    fn pass_over(&mut self)
+        ensures { (setting : Setting) (old now : Option (List ℕ)) (lines : List (List ℕ)) (text : List ℕ)
+            → stands setting self.old old now lines text → stands setting self.new old now lines text };
+
     /// Writes what waits.
     fn write_out<W: Sink>(&mut self, writer: &mut W) -> Result<(), Fault>
         ensures written { OnOk result (waiting self.new ≡ []) }

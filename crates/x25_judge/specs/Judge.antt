@@ -11,7 +11,6 @@ use Rattle.x25_frame.specs.Reading.{frame_of}
 use Rattle.x25_frame.specs.declared.error.FrameError.{FrameError}
 use Rattle.x25_frame.specs.declared.error.FrameError.TheVariants.{Short, BadFcs, BadAddress, Undefined, NoInfoAllowed}
 use Rattle.x25_frame.specs.declared.error.FrameError.TheVariants.{TooLong}
-use Rattle.x25_io.specs.Lines.{lines_of}
 use Rattle.x25_packet_judge.specs.Book as book
 use Rattle.x25_judge.specs.Counts.{counted, end_text, more, no_counts, no_tally, none, tallied, tally_line}
 use Rattle.x25_judge.specs.Held.{none_held, is_same, keeps}
@@ -222,20 +221,3 @@ ends_text j = end_text Dte j.dte_frames j.dte_packets ++ end_text Dce j.dce_fram
 
 abbrev pub counts_text : Judge → List ℕ
 counts_text j = ends_text j ++ tally_line j.told
-
-unfoldable pub text_of : Judge → List (List ℕ) → List ℕ
-text_of j [] = counts_text j
-text_of j (line ∷ lines) = (answer_to j line).text ++ text_of (answer_to j line).next lines
-
-unfoldable pub has_fault : Judge → List (List ℕ) → Bool
-has_fault j [] = false
-has_fault j (line ∷ lines) = (answer_to j line).counts || has_fault (answer_to j line).next lines
-
--- the text that answers the octets read
-abbrev pub output_of : Judge → List ℕ → List ℕ
-output_of j input = text_of j (lines_of input)
-
--- the status that `judge` ends with: 1 where a rule was broken or a line is none of a trace, or by its strictness where
--- manners were, or anything wasn't judged
-abbrev pub status_of : Judge → List ℕ → ℕ
-status_of j input = if has_fault j (lines_of input) then 1 else 0

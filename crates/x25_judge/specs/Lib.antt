@@ -6,5 +6,6 @@ pub mod RuleText
 pub mod Way
 pub mod Sides
 pub mod Judge
+pub mod Answerer
 pub mod code
 pub mod laws

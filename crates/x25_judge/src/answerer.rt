@@ -4,7 +4,7 @@ ghost use Rattle.std.specs.Prelude.{length};
 use crate::judge::{Judge, MOST_ANSWER, Strictness};
 use std::alloc::{AllocError, Global};
 use x25_decode::{Reading, long_lines_send_nothing};
-use x25_io::{Failed, Fault, LineTaker, Output, Sink};
+use x25_io::{Failed, Fault, LineTaker, Output, Sink, split_loose};
 use x25_text::{MOST_OCTETS, ROOM, Text};
 
 /// The answer to the last line, text that waits to be written, and the judge.
@@ -16,6 +16,7 @@ pub(crate) struct Answerer {
     answer: Text,
     output: Output,
     judge: Judge,
+    loose: bool,
     is_faulty: bool,
 }
 
@@ -24,6 +25,7 @@ impl Answerer {
     ghost use Rattle.std.specs.Prelude.{MatchOption, MatchResult};
     ghost use Rattle.x25_io.specs.HeldLine.{most_line};
     ghost use Rattle.x25_io.specs.code.Written.{AppendsPrefix, Tells, TellsMore};
+    ghost use Rattle.x25_judge.specs.Answerer.{reply};
     ghost use Rattle.x25_judge.specs.Judge.{answer_to, begins, counts_text};
 
     /// Nothing waits.
@@ -32,7 +34,9 @@ impl Answerer {
         window: u8,
         reading: Reading,
         strictness: Strictness,
+        loose: bool,
     ) -> Result<Answerer, AllocError>
+        ensures loose { IfOk result (λ a. a.loose ≡ loose) }
         ensures judge { IfOk result (λ a. a.judge ≡ begins window reading strictness) }
         ensures empty { IfOk result (λ a. a.output ≡ []) }
         ensures faultless { IfOk result (λ a. a.is_faulty ≡ false) }
@@ -45,6 +49,7 @@ impl Answerer {
             answer,
             output,
             judge,
+            loose,
             is_faulty: false,
         })
     }
@@ -63,6 +68,7 @@ impl Answerer {
             → result ≡ (answer_to self.old.judge first).counts }
         ensures output { self.new.output ≡ self.old.output }
         ensures before { self.new.is_faulty ≡ self.old.is_faulty }
+        ensures loose { self.new.loose ≡ self.old.loose }
     {
         self.answer.clear();
         match line {
@@ -75,8 +81,8 @@ impl Answerer {
         }
     }
 
-    /// Answers a line.
-    fn answer_line<W: Sink>(&mut self, line: Option<&[u8]>, writer: &mut W) -> Result<(), Failed>
+    /// Answers what a line asks, `None` where it is too long.
+    fn answer_asked<W: Sink>(&mut self, line: Option<&[u8]>, writer: &mut W) -> Result<(), Failed>
         ensures kept { OnOk result (W.is_marked writer.new ≡ W.is_marked writer.old) }
         ensures tells { (old : Option (List ℕ)) (told first : List ℕ)
             → MatchOption line.entry (most_line < length first) (λ held. (held.now ≡ first)
@@ -92,11 +98,55 @@ impl Answerer {
             → MatchOption line.entry (most_line < length first) (λ held. (held.now ≡ first)
             × (length first ≤ most_line))
             → self.new.is_faulty ≡ (self.old.is_faulty || (answer_to self.old.judge first).counts) }
+        ensures loose { self.new.loose ≡ self.old.loose }
         ensures marked { OnErr result (W.is_marked writer.new ≡ true) }
     {
         let counts = self.judge_line(line);
         self.is_faulty |= counts;
         self.output.tell(self.answer.as_slice(), writer)
+    }
+
+    /// Answers a line, and before that tells what stands beside what it asks.
+    fn answer_parts<W: Sink>(&mut self, line: &[u8], writer: &mut W) -> Result<(), Failed>
+        ensures kept { OnOk result (W.is_marked writer.new ≡ W.is_marked writer.old) }
+        ensures tells { length line.now ≤ most_line → TellsMore result (W.contents writer.old) (W.contents writer.new)
+            self.old.output self.new.output (reply self.old.loose self.old.judge line.now).text }
+        ensures next { length line.now ≤ most_line
+            → OnOk result (self.new.judge ≡ (reply self.old.loose self.old.judge line.now).next) }
+        ensures is_faulty { length line.now ≤ most_line → OnOk result (self.new.is_faulty ≡ (self.old.is_faulty
+            || (reply self.old.loose self.old.judge line.now).counts)) }
+        ensures loose { self.new.loose ≡ self.old.loose }
+        ensures marked { OnErr result (W.is_marked writer.new ≡ true) }
+    {
+        let (carried, asked) = split_loose(self.loose, line);
+        self.output.tell(carried, writer)?;
+        match asked {
+            Some(line) => self.answer_asked(Some(line), writer),
+            None => self.output.tell(b"\n", writer),
+        }
+    }
+
+    /// Answers a line, `None` where it is too long.
+    fn answer_line<W: Sink>(&mut self, line: Option<&[u8]>, writer: &mut W) -> Result<(), Failed>
+        ensures kept { OnOk result (W.is_marked writer.new ≡ W.is_marked writer.old) }
+        ensures tells { (first : List ℕ) → MatchOption line.entry (most_line < length first) (λ held. (held.now ≡ first)
+            × (length first ≤ most_line))
+            → TellsMore result (W.contents writer.old) (W.contents writer.new) self.old.output self.new.output
+            (reply self.old.loose self.old.judge first).text }
+        ensures next { (first : List ℕ) → MatchOption line.entry (most_line < length first) (λ held. (held.now ≡ first)
+            × (length first ≤ most_line))
+            → OnOk result (self.new.judge ≡ (reply self.old.loose self.old.judge first).next) }
+        ensures is_faulty { (first : List ℕ)
+            → MatchOption line.entry (most_line < length first) (λ held. (held.now ≡ first)
+            × (length first ≤ most_line)) → OnOk result (self.new.is_faulty ≡ (self.old.is_faulty
+            || (reply self.old.loose self.old.judge first).counts)) }
+        ensures loose { self.new.loose ≡ self.old.loose }
+        ensures marked { OnErr result (W.is_marked writer.new ≡ true) }
+    {
+        match line {
+            Some(line) => self.answer_parts(line, writer),
+            None => self.answer_asked(None, writer),
+        }
     }
 
     /// Tells how much was judged and what was told, and writes what waits.
@@ -106,6 +156,7 @@ impl Answerer {
             (counts_text self.old.judge) }
         ensures empty { OnOk result (self.new.output ≡ []) }
         ensures is_faulty { self.new.is_faulty ≡ self.old.is_faulty }
+        ensures loose { self.new.loose ≡ self.old.loose }
         ensures marked { OnErr result (W.is_marked writer.new ≡ true) }
     {
         self.judge.tell_counts(&mut self.output, writer)?;
@@ -114,24 +165,25 @@ impl Answerer {
 }
 
 impl LineTaker for Answerer {
-    ghost use Rattle.x25_judge.specs.Judge.{output_of, status_of as status};
+    ghost use Rattle.std.specs.Prelude.{Bool};
+    ghost use Rattle.x25_judge.specs.Answerer.{output_by, status_by};
     ghost use Rattle.x25_judge.specs.code.Stream.{JudgesOn, WritesLines};
     ghost use Rattle.x25_judge.specs.declared.judge.Judge as judge;
 
-    // The judge before the first line.
-    ghost Setting = { judge.Judge };
+    // Whether lines are read loosely, and the judge before the first line.
+    ghost Setting = { Bool × judge.Judge };
 
-    ghost text_of = { output_of };
+    ghost text_of = { λ s. output_by s.0 s.1 };
 
-    ghost status_of = { status };
+    ghost status_of = { λ s. status_by s.0 s.1 };
 
     ghost waiting = { λ a. a.output };
 
     ghost may_want = { ⊥ };
 
-    ghost stands = { JudgesOn };
+    ghost stands = { λ s. JudgesOn s.0 s.1 };
 
-    ghost ended = { λ j old now lines input. WritesLines old now lines (output_of j input) };
+    ghost ended = { λ s old now lines input. WritesLines s.0 old now lines (output_by s.0 s.1 input) };
 
     fn take_line<W: Sink>(&mut self, line: Option<&[u8]>, writer: &mut W) -> Result<(), Fault> {
         match self.answer_line(line, writer) {
@@ -139,6 +191,8 @@ impl LineTaker for Answerer {
             Err(_) => Err(Fault::Write),
         }
     }
+
+    fn pass_over(&mut self) {}
 
     fn write_out<W: Sink>(&mut self, writer: &mut W) -> Result<(), Fault> {
         match self.output.flush(writer) {

@@ -16,6 +16,9 @@ use x25_io::{Fault, HeldLine, LineByLine, Piece, Sink, Source, take_text};
 /// answers the status: 1 where a rule was broken or a line was refused, or by its `strictness` where manners were, or
 /// anything wasn't judged, else 0.
 ///
+/// With `loose` a time and its tab may stand before a line, and go before its answer; an empty line and a comment,
+/// which begins with `#`, are their own answers; and a carriage return at the end of a line is left out.
+///
 /// The trace has what both ends sent, in the order in which it passed. At most `window` I frames may be unacknowledged;
 /// of data packets on a channel as many as its call and the acceptance say. `reading` says how octets are read: with
 /// `wide` a packet in any form is judged as the one that a station takes it for. At most one line is held, and after
@@ -27,16 +30,17 @@ pub fn judge_lines<R: Source, W: Sink>(
     window: u8,
     reading: Reading,
     strictness: Strictness,
+    loose: bool,
     reader: &mut R,
     writer: &mut W,
 ) -> Result<u8, Fault>
-    ensures runs { Runs R.Source W.Sink (program (begins window reading strictness)) reader.old reader.new
+    ensures runs { Runs R.Source W.Sink (program loose (begins window reading strictness)) reader.old reader.new
         writer.old writer.new result }
     ensures memory { IsErrOf result Fault.NoMemory → (reader.new ≡ reader.old) × (writer.new ≡ writer.old) }
 {
     let piece = Piece::new(alloc)?;
     let held = HeldLine::new(alloc)?;
-    let answerer = Answerer::new(alloc, window, reading, strictness)?;
+    let answerer = Answerer::new(alloc, window, reading, strictness, loose)?;
     let lines = LineByLine::new(held, answerer);
     take_text(lines, piece, reader, writer)
 }

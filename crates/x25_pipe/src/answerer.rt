@@ -29,6 +29,8 @@ impl LineTaker for Pipe {
         }
     }
 
+    fn pass_over(&mut self) {}
+
     fn write_out<W: Sink>(&mut self, writer: &mut W) -> Result<(), Fault> {
         self.flush(writer)
     }

@@ -1,7 +1,8 @@
--- The words behind `sim`, `station` and `judge`, those for an end, and what plain ones say (profile).
-use Rattle.std.specs.Prelude.{◌≡◌, ◌≤◌, ◌||◌, ℕ, Bool, true, false, List, [], ◌∷◌, Option, Some, None, unwrap_or, codes}
+-- The commands that have options, the words behind them, and what plain ones say (profile).
+use Rattle.std.specs.Prelude.{◌≡◌, ◌≤◌, ℕ, Bool, true, false, List, [], ◌∷◌, Option, Some, None, unwrap_or, codes}
 use Rattle.std.specs.Prelude.{decimal}
 use Rattle.std.specs.List.{flat_map}
+use Rattle.x25_settings.specs.declared.options.Decoding.{Decoding}
 use Rattle.x25_settings.specs.declared.options.Simulation.{Simulation}
 use Rattle.x25_settings.specs.declared.options.StationOptions.{StationOptions}
 use Rattle.x25_settings.specs.declared.options.End.{End}
@@ -10,14 +11,19 @@ use Rattle.x25_settings.specs.declared.options.Judging.{Judging}
 use Rattle.x25_settings.specs.declared.options.Place.{Place}
 use Rattle.x25_settings.specs.declared.options.Chosen.{Chosen}
 use Rattle.x25_settings.specs.declared.options.Flag.{Flag}
-use Rattle.x25_settings.specs.declared.options.Flag.TheVariants.{Down, Long, Manners, SaySizes, Tap, Strict, Wide}
+use Rattle.x25_settings.specs.declared.options.Flag.TheVariants.{Down, Events, Long, Loose, Manners, SaySizes, Tap}
+use Rattle.x25_settings.specs.declared.options.Flag.TheVariants.{Strict, Wide}
+use Rattle.x25_settings.specs.declared.options.Kind.{Kind}
+use Rattle.x25_settings.specs.declared.options.Kind.TheVariants.{Decode, Sim, Station, Judge, Frame}
 use Rattle.x25_settings.specs.declared.options.Numbered.{Numbered}
 use Rattle.x25_settings.specs.declared.options.Numbered.TheVariants.{Window, Tries, Channels}
 pub mod Choosing
 
 abbrev pub flag_word : Flag → List ℕ
 flag_word Down = codes "--down"
+flag_word Events = codes "--events"
 flag_word Long = codes "--long"
+flag_word Loose = codes "--loose"
 flag_word Manners = codes "--manners"
 flag_word SaySizes = codes "--say-sizes"
 flag_word Tap = codes "--tap"
@@ -28,6 +34,37 @@ abbrev pub word_of : Numbered → List ℕ
 word_of Window = codes "--k"
 word_of Tries = codes "--n2"
 word_of Channels = codes "--channels"
+
+-- which command has which option
+abbrev pub takes : Kind → Flag → Bool
+takes Decode Long = true
+takes Decode Loose = true
+takes Decode Wide = true
+takes Decode flag = false
+takes Sim Manners = false
+takes Sim Strict = false
+takes Sim flag = true
+takes Station Long = true
+takes Station SaySizes = true
+takes Station Wide = true
+takes Station flag = false
+takes Judge Long = true
+takes Judge Loose = true
+takes Judge Manners = true
+takes Judge Strict = true
+takes Judge Wide = true
+takes Judge flag = false
+takes Frame Loose = true
+takes Frame flag = false
+
+abbrev pub has : Kind → Numbered → Bool
+has Decode option = false
+has Sim option = true
+has Station option = true
+has Judge Window = true
+has Judge Tries = false
+has Judge Channels = false
+has Frame option = false
 
 -- the most that it may be; the least is 1
 abbrev pub most_of : Numbered → ℕ
@@ -53,7 +90,9 @@ words_of (number x n) = word_of x ∷ decimal n ∷ []
 abbrev pub nothing : Chosen
 nothing = record {
   down = false;
+  events = false;
   long = false;
+  loose = false;
   manners = false;
   say_sizes = false;
   tap = false;
@@ -71,7 +110,9 @@ chosen_number c Channels = c.channels
 
 abbrev pub chosen_flag : Chosen → Flag → Bool
 chosen_flag c Down = c.down
+chosen_flag c Events = c.events
 chosen_flag c Long = c.long
+chosen_flag c Loose = c.loose
 chosen_flag c Manners = c.manners
 chosen_flag c SaySizes = c.say_sizes
 chosen_flag c Tap = c.tap
@@ -80,7 +121,9 @@ chosen_flag c Wide = c.wide
 
 abbrev pub with_flag : Chosen → Flag → Chosen
 with_flag c Down = record c { down = true }
+with_flag c Events = record c { events = true }
 with_flag c Long = record c { long = true }
+with_flag c Loose = record c { loose = true }
 with_flag c Manners = record c { manners = true }
 with_flag c SaySizes = record c { say_sizes = true }
 with_flag c Tap = record c { tap = true }
@@ -99,15 +142,15 @@ with_choice c (number x n) = with_number c x n
 abbrev pub IsInRange : Numbered → ℕ → Type 0
 IsInRange x n = (1 ≤ n) × (n ≤ most_of x)
 
--- the option wasn't chosen before, and its number is in its range
-abbrev pub IsOpen : Chosen → Choice → Type 0
-IsOpen c (flag x) = chosen_flag c x ≡ false
-IsOpen c (number x n) = (chosen_number c x ≡ None) × IsInRange x n
+-- the command has the option, it wasn't chosen before, and its number is in its range
+abbrev pub IsOpen : Kind → Chosen → Choice → Type 0
+IsOpen kind c (flag x) = (takes kind x ≡ true) × (chosen_flag c x ≡ false)
+IsOpen kind c (number x n) = (has kind x ≡ true) × (chosen_number c x ≡ None) × IsInRange x n
 
 -- one after another, each once, in any order
-abbrev pub Leads : Chosen → List Choice → Chosen → Type 0
-Leads c [] end = end ≡ c
-Leads c (choice ∷ choices) end = IsOpen c choice × Leads (with_choice c choice) choices end
+abbrev pub Leads : Kind → Chosen → List Choice → Chosen → Type 0
+Leads kind c [] end = end ≡ c
+Leads kind c (choice ∷ choices) end = IsOpen kind c choice × Leads kind (with_choice c choice) choices end
 
 abbrev pub chosen_or_default : Chosen → Numbered → ℕ
 chosen_or_default c x = unwrap_or (chosen_number c x) (default_of x)
@@ -123,58 +166,32 @@ settled c = record {
   channels = chosen_or_default c Channels;
 }
 
-abbrev pub settled_both : Chosen → Simulation
-settled_both c = record { down = c.down; tap = c.tap; station = settled c }
+abbrev pub simulated : Chosen → Simulation
+simulated c = record { down = c.down; tap = c.tap; events = c.events; loose = c.loose; station = settled c }
 
-abbrev pub settled_at : End → Chosen → Place
-settled_at end c = record { end = end; station = settled c }
+abbrev pub decoded : Chosen → Decoding
+decoded c = record { long = c.long; loose = c.loose; wide = c.wide }
 
-abbrev pub judging_in : Chosen → Judging
-judging_in c = record {
+abbrev pub placed : End → Chosen → Place
+placed end c = record { end = end; station = settled c }
+
+abbrev pub judged : Chosen → Judging
+judged c = record {
   long = c.long;
+  loose = c.loose;
   manners = c.manners;
   strict = c.strict;
   wide = c.wide;
   k = chosen_or_default c Window;
 }
 
--- options that `judge` alone has
-abbrev pub of_a_judge : Chosen → Bool
-of_a_judge c = c.manners || c.strict
-
--- these words choose this
-abbrev pub Choose : List (List ℕ) → Chosen → Type 0
-Choose words end = (choices : List Choice) × (words ≡ flat_map words_of choices) × Leads nothing choices end
-
--- the words are plain, and they say this; of the options `--manners` and `--strict` are none
-abbrev pub SaySimulation : List (List ℕ) → Simulation → Type 0
-SaySimulation words s = (end : Chosen) × Choose words end × (of_a_judge end ≡ false) × (s ≡ settled_both end)
+-- these words choose this behind a command
+abbrev pub Choose : Kind → List (List ℕ) → Chosen → Type 0
+Choose kind words end = (choices : List Choice) × (words ≡ flat_map words_of choices) × Leads kind nothing choices end
 
 abbrev pub end_word : End → List ℕ
 end_word Dte = codes "dte"
 end_word Dce = codes "dce"
-
--- the first word is the end, and of the options `--down`, `--tap`, `--manners` and `--strict` are none
-pub record SayPlace (words : List (List ℕ)) (p : Place) : Type 0 where
-  pub rest : List (List ℕ)
-  pub end : Chosen
-  pub words_are : words ≡ end_word p.end ∷ rest
-  pub choose : Choose rest end
-  pub no_down : end.down ≡ false
-  pub no_tap : end.tap ≡ false
-  pub no_judge : of_a_judge end ≡ false
-  pub same : p ≡ settled_at p.end end
-
--- of the options `--k`, `--long`, `--manners`, `--strict` and `--wide` are there alone
-pub record SayJudging (words : List (List ℕ)) (g : Judging) : Type 0 where
-  pub end : Chosen
-  pub choose : Choose words end
-  pub no_down : end.down ≡ false
-  pub no_tap : end.tap ≡ false
-  pub no_say : end.say_sizes ≡ false
-  pub no_tries : end.n2 ≡ None
-  pub no_channels : end.channels ≡ None
-  pub same : g ≡ judging_in end
 
 abbrev pub JudgingIsInRange : Judging → Type 0
 JudgingIsInRange g = IsInRange Window g.k

@@ -1,34 +1,40 @@
 -- The plain words of the command line, and what they say (profile).
-use Rattle.std.specs.Prelude.{◌≡◌, ◌⊎◌, ℕ, Bool, true, false, List, [], ◌∷◌, codes}
+use Rattle.std.specs.Prelude.{◌≡◌, ℕ, List, [], ◌∷◌, codes}
+use Rattle.x25_settings.specs.declared.options.Chosen.{Chosen}
+use Rattle.x25_settings.specs.declared.options.Kind.{Kind}
+use Rattle.x25_settings.specs.declared.options.Kind.TheVariants as kind
 use Rattle.x25_settings.specs.declared.words.Task.{Task}
 use Rattle.x25_settings.specs.declared.words.Task.TheVariants.{Decode, Vectors, Sim, Station, Judge, Deframe, Frame}
-use Rattle.x25_settings.specs.Options as simulation
+use Rattle.x25_settings.specs.Options.{Choose, decoded, end_word, judged, placed, simulated, JudgingIsInRange}
+use Rattle.x25_settings.specs.Options as options
 pub mod SettingsError
 
--- the options of `decode`, each at most once and in any order
-abbrev pub DecodeWords : Bool → Bool → List (List ℕ) → Type 0
-DecodeWords false false words = words ≡ []
-DecodeWords true false words = words ≡ codes "--long" ∷ []
-DecodeWords false true words = words ≡ codes "--wide" ∷ []
-DecodeWords true true words = (words ≡ codes "--long" ∷ codes "--wide" ∷ [])
-    ⊎ (words ≡ codes "--wide" ∷ codes "--long" ∷ [])
+-- words in front, and behind them options of a command, which choose this
+pub record ChooseBehind (front : List (List ℕ) → List (List ℕ)) (kind : Kind) (words : List (List ℕ))
+    (Is : Chosen → Type 0) : Type 0 where
+  pub rest : List (List ℕ)
+  pub end : Chosen
+  pub words_are : words ≡ front rest
+  pub choose : Choose kind rest end
+  pub is : Is end
 
 -- the words are plain, and they say the task
 abbrev pub Say : List (List ℕ) → Task → Type 0
-Say words (Decode long wide) = (rest : List (List ℕ)) × (words ≡ codes "decode" ∷ rest) × DecodeWords long wide rest
+Say words (Decode d) = ChooseBehind (λ rest. codes "decode" ∷ rest) kind.Decode words (λ c. d ≡ decoded c)
 Say words Vectors = words ≡ codes "vectors" ∷ []
-Say words (Sim s) = (rest : List (List ℕ)) × (words ≡ codes "sim" ∷ rest) × simulation.SaySimulation rest s
-Say words (Station p) = (rest : List (List ℕ)) × (words ≡ codes "station" ∷ rest) × simulation.SayPlace rest p
-Say words (Judge g) = (rest : List (List ℕ)) × (words ≡ codes "judge" ∷ rest) × simulation.SayJudging rest g
-Say words (Deframe end) = words ≡ codes "deframe" ∷ simulation.end_word end ∷ []
-Say words Frame = words ≡ codes "frame" ∷ []
+Say words (Sim s) = ChooseBehind (λ rest. codes "sim" ∷ rest) kind.Sim words (λ c. s ≡ simulated c)
+Say words (Station p) = ChooseBehind (λ rest. codes "station" ∷ end_word p.end ∷ rest) kind.Station words
+    (λ c. p ≡ placed p.end c)
+Say words (Judge g) = ChooseBehind (λ rest. codes "judge" ∷ rest) kind.Judge words (λ c. g ≡ judged c)
+Say words (Deframe end) = words ≡ codes "deframe" ∷ end_word end ∷ []
+Say words (Frame loose) = ChooseBehind (λ rest. codes "frame" ∷ rest) kind.Frame words (λ c. loose ≡ c.loose)
 
 -- the numbers of a task
 abbrev pub AreInRange : Task → Type 0
-AreInRange (Decode long wide) = Unit {0}
+AreInRange (Decode d) = Unit {0}
 AreInRange Vectors = Unit {0}
-AreInRange (Sim s) = simulation.AreInRange s.station
-AreInRange (Station p) = simulation.AreInRange p.station
-AreInRange (Judge g) = simulation.JudgingIsInRange g
+AreInRange (Sim s) = options.AreInRange s.station
+AreInRange (Station p) = options.AreInRange p.station
+AreInRange (Judge g) = JudgingIsInRange g
 AreInRange (Deframe end) = Unit {0}
-AreInRange Frame = Unit {0}
+AreInRange (Frame loose) = Unit {0}

@@ -1,14 +1,25 @@
-//! The words behind `sim`, `station`, `judge` and `deframe`.
+//! The commands that have options, and the words behind them.
 ghost use Rattle.std.specs.Prelude.{◌≡◌, ◌<◌, ◌↔◌, ◌∷◌, [], IfSome, MatchOption, IsTrue, decimal, map, length};
 ghost use Rattle.std.specs.Str.{bytes_eq};
-ghost use Rattle.x25_settings.specs.Options.Choosing.{chosen_in, end_in, flag_in, judge_in, judging_of, number_in};
-ghost use Rattle.x25_settings.specs.Options.Choosing.{simulated};
-ghost use Rattle.x25_settings.specs.Options.Choosing.{numbered_in, placed, put_flag, put_number, simulation_in};
-ghost use Rattle.x25_settings.specs.Options.Choosing.{station_in};
-ghost use Rattle.x25_settings.specs.Options.{default_of, most_of, nothing, of_a_judge, settled};
+ghost use Rattle.x25_settings.specs.Options.Choosing.{chosen_in, end_in, flag_in, number_in, numbered_in, put_flag};
+ghost use Rattle.x25_settings.specs.Options.Choosing.{put_number, read_decoding, read_framing};
+ghost use Rattle.x25_settings.specs.Options.Choosing.{read_judging as judging_in};
+ghost use Rattle.x25_settings.specs.Options.Choosing.{read_place as place_in, read_simulation as simulation_in};
+ghost use Rattle.x25_settings.specs.Options.{default_of, has, most_of, nothing, settled, takes};
 
 use itoa::Buffer;
 use std::convert::AsStr;
+
+/// What `decode` is run with.
+#[derive(Clone, Copy, Debug, PartialEq, Eq)]
+pub struct Decoding {
+    /// A CALL has up to 128 octets of user data, in place of up to 16.
+    pub long: bool,
+    /// Times, comments, empty lines and carriage returns are read.
+    pub loose: bool,
+    /// Packets are read in all the forms that a peer may send.
+    pub wide: bool,
+}
 
 /// What a station is run with.
 #[derive(Clone, Copy, Debug, PartialEq, Eq)]
@@ -34,6 +45,10 @@ pub struct Simulation {
     pub down: bool,
     /// The frames of each step are written behind its entries.
     pub tap: bool,
+    /// Each event is told behind what it made.
+    pub events: bool,
+    /// Times, comments, empty lines and carriage returns are read.
+    pub loose: bool,
     /// Of both stations.
     pub station: StationOptions,
 }
@@ -58,6 +73,8 @@ pub struct Place {
 pub struct Judging {
     /// A CALL has up to 128 octets of user data, in place of up to 16.
     pub long: bool,
+    /// Times, comments, empty lines and carriage returns are read.
+    pub loose: bool,
     /// Broken manners make the status 1 too.
     pub manners: bool,
     /// What isn't judged makes the status 1 too.
@@ -68,11 +85,23 @@ pub struct Judging {
     pub k: u8,
 }
 
+/// The commands that have options.
+#[derive(Clone, Copy)]
+pub(crate) enum Kind {
+    Decode,
+    Sim,
+    Station,
+    Judge,
+    Frame,
+}
+
 /// The options that are one word.
 #[derive(Clone, Copy)]
 enum Flag {
     Down,
+    Events,
     Long,
+    Loose,
     Manners,
     SaySizes,
     Tap,
@@ -86,6 +115,31 @@ pub(crate) enum Numbered {
     Window,
     Tries,
     Channels,
+}
+
+impl Kind {
+    /// Whether the command has an option that is one word.
+    fn takes(self, flag: Flag) -> bool
+        ensures { result ≡ takes self flag }
+    {
+        match flag {
+            Flag::Down | Flag::Events | Flag::Tap => matches!(self, Kind::Sim),
+            Flag::Long | Flag::Wide => !matches!(self, Kind::Frame),
+            Flag::Loose => !matches!(self, Kind::Station),
+            Flag::Manners | Flag::Strict => matches!(self, Kind::Judge),
+            Flag::SaySizes => matches!(self, Kind::Sim | Kind::Station),
+        }
+    }
+
+    /// Whether it has an option with a number.
+    fn has(self, option: Numbered) -> bool
+        ensures { result ≡ has self option }
+    {
+        match option {
+            Numbered::Window => matches!(self, Kind::Sim | Kind::Station | Kind::Judge),
+            Numbered::Tries | Numbered::Channels => matches!(self, Kind::Sim | Kind::Station),
+        }
+    }
 }
 
 impl Numbered {
@@ -134,7 +188,9 @@ impl Numbered {
 #[derive(Clone, Copy)]
 struct Chosen {
     down: bool,
+    events: bool,
     long: bool,
+    loose: bool,
     manners: bool,
     say_sizes: bool,
     tap: bool,
@@ -156,8 +212,12 @@ fn flag_option(word: &str) -> Option<Flag>
 {
     if is(word, "--down") {
         Some(Flag::Down)
+    } else if is(word, "--events") {
+        Some(Flag::Events)
     } else if is(word, "--long") {
         Some(Flag::Long)
+    } else if is(word, "--loose") {
+        Some(Flag::Loose)
     } else if is(word, "--manners") {
         Some(Flag::Manners)
     } else if is(word, "--say-sizes") {
@@ -220,12 +280,24 @@ fn number(text: &str, most: u8) -> Option<u8>
 }
 
 impl Chosen {
-    fn with_flag(self, flag: Flag) -> Option<Chosen>
-        ensures { result ≡ put_flag self flag }
+    /// With an option of a command, where it wasn't chosen before.
+    fn with_flag(self, kind: Kind, flag: Flag) -> Option<Chosen>
+        ensures { result ≡ put_flag kind self flag }
     {
+        if !kind.takes(flag) {
+            return None;
+        }
         match flag {
             Flag::Down if !self.down => Some(Chosen { down: true, ..self }),
+            Flag::Events if !self.events => Some(Chosen {
+                events: true,
+                ..self
+            }),
             Flag::Long if !self.long => Some(Chosen { long: true, ..self }),
+            Flag::Loose if !self.loose => Some(Chosen {
+                loose: true,
+                ..self
+            }),
             Flag::Manners if !self.manners => Some(Chosen {
                 manners: true,
                 ..self
@@ -244,10 +316,14 @@ impl Chosen {
         }
     }
 
-    fn with_number(self, word: &str, text: &str) -> Option<Chosen>
-        ensures { result ≡ put_number self word.now text.now }
+    /// With an option of a command and its number, where it wasn't chosen before.
+    fn with_number(self, kind: Kind, word: &str, text: &str) -> Option<Chosen>
+        ensures { result ≡ put_number kind self word.now text.now }
     {
         let option = numbered_option(word)?;
+        if !kind.has(option) {
+            return None;
+        }
         let n = number(text, option.most())?;
         match option {
             Numbered::Window => match self.k {
@@ -268,63 +344,6 @@ impl Chosen {
                 }),
                 Some(_) => None,
             },
-        }
-    }
-
-    /// Whether something was chosen that `judge` alone has.
-    fn of_a_judge(self) -> bool
-        ensures { result ≡ of_a_judge self }
-    {
-        self.manners || self.strict
-    }
-
-    /// Of a simulation, with the defaults for the rest, where nothing was chosen that `judge` alone has.
-    fn simulated(self) -> Option<Simulation>
-        ensures { result ≡ simulated self }
-    {
-        if self.of_a_judge() {
-            None
-        } else {
-            Some(Simulation {
-                down: self.down,
-                tap: self.tap,
-                station: self.with_defaults(),
-            })
-        }
-    }
-
-    /// At an end, with the defaults for the rest, where nothing was chosen that `sim` or `judge` alone has.
-    fn at(self, end: End) -> Option<Place>
-        ensures { result ≡ placed end self }
-    {
-        if (self.down || self.tap) || self.of_a_judge() {
-            return None;
-        }
-        Some(Place {
-            end,
-            station: self.with_defaults(),
-        })
-    }
-
-    /// Of a judge, with the defaults for the rest, where nothing was chosen that it hasn't.
-    fn judging(self) -> Option<Judging>
-        ensures { result ≡ judging_of self }
-    {
-        if (self.down || self.tap) || self.say_sizes {
-            return None;
-        }
-        match (self.n2, self.channels) {
-            (None, None) => {
-                let rest = self.with_defaults();
-                Some(Judging {
-                    long: rest.long,
-                    manners: self.manners,
-                    strict: self.strict,
-                    wide: rest.wide,
-                    k: rest.k,
-                })
-            }
-            _ => None,
         }
     }
 
@@ -355,12 +374,15 @@ pub(crate) fn split_word<S: AsStr>(words: &[S]) -> Option<(&str, &[S])>
     }
 }
 
-fn choose<S: AsStr>(words: &[S]) -> Option<Chosen>
-    ensures { result ≡ chosen_in nothing (map S.text words.now) }
+/// What the words behind a command choose, where they are options of it, each at most once.
+fn choose<S: AsStr>(kind: Kind, words: &[S]) -> Option<Chosen>
+    ensures { result ≡ chosen_in kind nothing (map S.text words.now) }
 {
     let mut chosen = Chosen {
         down: false,
+        events: false,
         long: false,
+        loose: false,
         manners: false,
         say_sizes: false,
         tap: false,
@@ -373,37 +395,75 @@ fn choose<S: AsStr>(words: &[S]) -> Option<Chosen>
     let mut rest = words;
     while let Some((word, after)) = split_word(rest) {
         if let Some(flag) = flag_option(word) {
-            chosen = chosen.with_flag(flag)?;
+            chosen = chosen.with_flag(kind, flag)?;
             rest = after;
         } else {
             let (text, after) = split_word(after)?;
-            chosen = chosen.with_number(word, text)?;
+            chosen = chosen.with_number(kind, word, text)?;
             rest = after;
         }
     }
     Some(chosen)
 }
 
+/// What the words behind `decode` say, where they are plain.
+pub(crate) fn read_decode<S: AsStr>(words: &[S]) -> Option<Decoding>
+    ensures { result ≡ read_decoding (map S.text words.now) }
+{
+    let chosen = choose(Kind::Decode, words)?;
+    Some(Decoding {
+        long: chosen.long,
+        loose: chosen.loose,
+        wide: chosen.wide,
+    })
+}
+
+/// What the words behind `frame` say, where they are plain: whether times, comments and the like are read.
+pub(crate) fn read_frame<S: AsStr>(words: &[S]) -> Option<bool>
+    ensures { result ≡ read_framing (map S.text words.now) }
+{
+    Some(choose(Kind::Frame, words)?.loose)
+}
+
 /// What the words behind `sim` say, where they are plain.
 pub(crate) fn read_simulation<S: AsStr>(words: &[S]) -> Option<Simulation>
     ensures { result ≡ simulation_in (map S.text words.now) }
 {
-    choose(words)?.simulated()
+    let chosen = choose(Kind::Sim, words)?;
+    Some(Simulation {
+        down: chosen.down,
+        tap: chosen.tap,
+        events: chosen.events,
+        loose: chosen.loose,
+        station: chosen.with_defaults(),
+    })
 }
 
 /// What the words behind `judge` say, where they are plain.
 pub(crate) fn read_judging<S: AsStr>(words: &[S]) -> Option<Judging>
-    ensures { result ≡ judge_in (map S.text words.now) }
+    ensures { result ≡ judging_in (map S.text words.now) }
 {
-    choose(words)?.judging()
+    let chosen = choose(Kind::Judge, words)?;
+    let rest = chosen.with_defaults();
+    Some(Judging {
+        long: chosen.long,
+        loose: chosen.loose,
+        manners: chosen.manners,
+        strict: chosen.strict,
+        wide: chosen.wide,
+        k: rest.k,
+    })
 }
 
 /// What the words behind `station` say, where they are plain.
 pub(crate) fn read_place<S: AsStr>(words: &[S]) -> Option<Place>
-    ensures { result ≡ station_in (map S.text words.now) }
+    ensures { result ≡ place_in (map S.text words.now) }
 {
     let (word, behind) = split_word(words)?;
     let end = end_word(word)?;
-    let chosen = choose(behind)?;
-    chosen.at(end)
+    let chosen = choose(Kind::Station, behind)?;
+    Some(Place {
+        end,
+        station: chosen.with_defaults(),
+    })
 }

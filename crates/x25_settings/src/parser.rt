@@ -28,6 +28,11 @@ const LONG: Word = Word::Flag(
     "Take up to 128 octets of user data in a CALL, in place of 16",
 );
 
+const LOOSE: Word = Word::Flag(
+    "loose",
+    "Read a time and a tab before a line, comments (#), empty lines and CR LF too",
+);
+
 const SAY_SIZES: Word = Word::Flag(
     "say-sizes",
     "Say packet sizes and windows in each CALL and CALL ACCEPTED, also where they are the default",
@@ -59,9 +64,9 @@ static COMMANDS: [Row; 7] = [
     Row {
         name: "decode",
         about: "Answer lines of octets, `> HEX` from the DTE and `< HEX` from the DCE, by lines of text",
-        usage: "x25 decode [--long] [--wide] [FILE]",
+        usage: "x25 decode [--long] [--loose] [--wide] [FILE]",
         examples: None,
-        words: &[LONG, WIDE],
+        words: &[LONG, LOOSE, WIDE],
     },
     Row {
         name: "vectors",
@@ -88,6 +93,8 @@ static COMMANDS: [Row; 7] = [
                 "down",
                 "Begin with both links down, in place of just set up",
             ),
+            Word::Flag("events", "Tell each event behind what it made"),
+            LOOSE,
             LONG,
             SAY_SIZES,
             WIDE_STATION,
@@ -116,7 +123,7 @@ static COMMANDS: [Row; 7] = [
     },
     Row {
         name: "judge",
-        about: "Answer lines of a trace of both ends as `decode` does, and say which end broke which rule",
+        about: "Answer lines of a trace of both ends as `decode` does, in its place, and say which end broke which rule",
         usage: "x25 judge [OPTIONS] [FILE]",
         examples: Some(
             "Examples:
@@ -126,6 +133,7 @@ static COMMANDS: [Row; 7] = [
         words: &[
             WINDOW,
             LONG,
+            LOOSE,
             WIDE,
             Word::Flag("manners", "Answer status 1 too where manners were broken"),
             Word::Flag(
@@ -148,9 +156,9 @@ static COMMANDS: [Row; 7] = [
     Row {
         name: "frame",
         about: "Answer lines of a trace by octets of a synchronous line that carries their frames",
-        usage: "x25 frame [FILE]",
+        usage: "x25 frame [--loose] [FILE]",
         examples: None,
-        words: &[],
+        words: &[LOOSE],
     },
 ];
 

@@ -1,15 +1,13 @@
 //! What the words of the command line ask for.
 ghost use Rattle.std.specs.Prelude.{◌≡◌, Ok, IfOk, map};
-ghost use Rattle.x25_settings.specs.Options.Choosing.{decode_in, deframe_in, frame_in, option_in, options_in};
-ghost use Rattle.x25_settings.specs.Options.Choosing.{task_behind, task_in};
-ghost use Rattle.x25_settings.specs.Options.Choosing.{vectors_in};
+ghost use Rattle.x25_settings.specs.Options.Choosing.{deframe_in, task_behind, task_in, vectors_in};
 ghost use Rattle.x25_settings.specs.Words.{AreInRange, Say};
 ghost use Rattle.x25_settings.specs.declared.words.SettingsError.TheVariants.{NoMemory};
 ghost use Rattle.x25_settings.specs.declared.words.Task.{Task as TaskValue};
 
 use crate::options::{
-    End, Judging, Place, Simulation, end_word, is, read_judging, read_place, read_simulation,
-    split_word,
+    Decoding, End, Judging, Place, Simulation, end_word, is, read_decode, read_frame, read_judging,
+    read_place, read_simulation, split_word,
 };
 use crate::parser::command;
 use clap::error::ErrorKind;
@@ -19,19 +17,17 @@ use std::convert::AsStr;
 /// What to run.
 #[derive(Clone, Copy, Debug, PartialEq, Eq)]
 pub enum Task {
-    Decode {
-        /// A CALL may have 128 octets of user data, and else 16.
-        long: bool,
-        /// Packets are read in all the forms that a peer may send.
-        wide: bool,
-    },
+    Decode(Decoding),
     Vectors,
     Sim(Simulation),
     Station(Place),
     Judge(Judging),
     /// Of a synchronous line, the end that sends on it.
     Deframe(End),
-    Frame,
+    Frame {
+        /// Times, comments, empty lines and carriage returns are read.
+        loose: bool,
+    },
 }
 
 /// Why nothing runs.
@@ -75,56 +71,6 @@ impl From<AllocError> for SettingsError {
     }
 }
 
-/// What one option of `decode` says.
-fn read_option(word: &str) -> Option<Task>
-    ensures { result ≡ option_in word.now }
-{
-    if is(word, "--long") {
-        Some(Task::Decode {
-            long: true,
-            wide: false,
-        })
-    } else if is(word, "--wide") {
-        Some(Task::Decode {
-            long: false,
-            wide: true,
-        })
-    } else {
-        None
-    }
-}
-
-/// What two options of `decode` say.
-fn read_options(word: &str, next: &str) -> Option<Task>
-    ensures { result ≡ options_in word.now next.now }
-{
-    let in_order = is(word, "--long") && is(next, "--wide");
-    let turned = is(word, "--wide") && is(next, "--long");
-    if in_order || turned {
-        Some(Task::Decode {
-            long: true,
-            wide: true,
-        })
-    } else {
-        None
-    }
-}
-
-/// What the words behind `decode` say, where they are plain.
-fn read_decode<S: AsStr>(words: &[S]) -> Option<Task>
-    ensures { result ≡ decode_in (map S.text words.now) }
-{
-    match words {
-        [] => Some(Task::Decode {
-            long: false,
-            wide: false,
-        }),
-        [word] => read_option(word.as_str()),
-        [word, next] => read_options(word.as_str(), next.as_str()),
-        _ => None,
-    }
-}
-
 /// What the words behind `vectors` say, where they are plain.
 fn read_vectors<S: AsStr>(words: &[S]) -> Option<Task>
     ensures { result ≡ vectors_in (map S.text words.now) }
@@ -145,22 +91,12 @@ fn read_deframe<S: AsStr>(words: &[S]) -> Option<Task>
     }
 }
 
-/// What the words behind `frame` say, where they are plain.
-fn read_frame<S: AsStr>(words: &[S]) -> Option<Task>
-    ensures { result ≡ frame_in (map S.text words.now) }
-{
-    match words {
-        [] => Some(Task::Frame),
-        _ => None,
-    }
-}
-
 /// What a word and those behind it say, where they are plain.
 fn read_behind<S: AsStr>(word: &str, words: &[S]) -> Option<Task>
     ensures { result ≡ task_behind word.now (map S.text words.now) }
 {
     if is(word, "decode") {
-        read_decode(words)
+        Some(Task::Decode(read_decode(words)?))
     } else if is(word, "vectors") {
         read_vectors(words)
     } else if is(word, "sim") {
@@ -172,7 +108,9 @@ fn read_behind<S: AsStr>(word: &str, words: &[S]) -> Option<Task>
     } else if is(word, "deframe") {
         read_deframe(words)
     } else if is(word, "frame") {
-        read_frame(words)
+        Some(Task::Frame {
+            loose: read_frame(words)?,
+        })
     } else {
         None
     }
@@ -230,12 +168,12 @@ fn usage_fault<'a, S: AsStr>(alloc: Global, words: &'a [S]) -> SettingsError {
 
 /// What the words after the program's name ask for.
 ///
-/// Plain words are `decode`, which `--long` and `--wide` may follow in any order, `vectors`, or `sim` and then each at
-/// most once and in any order `--tap`, `--down`, `--long`, `--say-sizes`, `--wide`, `--k N`, `--n2 N` and `--channels
-/// N`, with N in decimal without leading zeros, from 1 to 7, 255 and 16; what isn't said is 7, 10 and 1. Or they are
-/// `station`, then `dte` or `dce`, and then these options but `--tap` and `--down`. Or they are `judge`, and then `--k
-/// N`, `--long` and `--wide` alone of these, `--manners` and `--strict`. Or they are `deframe` and `dte` or `dce`, or
-/// `frame`. All others are a usage fault, help words too. Plain words take no memory. Profile.
+/// Plain words are a command and its options, each at most once and in any order, or `vectors` alone, or `deframe` and
+/// `dte` or `dce`. Options of `decode` are `--long`, `--loose` and `--wide`; of `judge` these, `--manners`, `--strict`
+/// and `--k N`; of `frame` `--loose`; of `station`, behind `dte` or `dce`, `--long`, `--say-sizes`, `--wide`, `--k N`,
+/// `--n2 N` and `--channels N`; of `sim` these, `--down`, `--events`, `--loose` and `--tap`. N is decimal without
+/// leading zeros, from 1 to 7, 255 and 16; what isn't said is 7, 10 and 1. All others are a usage fault, help words
+/// too. Plain words take no memory. Profile.
 pub fn settings<'a, S: AsStr>(alloc: Global, words: &'a [S]) -> Result<Task, SettingsError>
     ensures plain { (task : TaskValue) → Say (map S.text words.now) task → result ≡ Ok task }
     ensures only { IfOk result (Say (map S.text words.now)) }

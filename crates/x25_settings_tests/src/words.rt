@@ -1,6 +1,6 @@
 use std::test::Fail;
 use x25_settings::{
-    End, Judging, Place, SettingsError, Simulation, StationOptions, Task, settings,
+    Decoding, End, Judging, Place, SettingsError, Simulation, StationOptions, Task, settings,
 };
 
 const DEFAULTS: StationOptions = StationOptions {
@@ -12,8 +12,29 @@ const DEFAULTS: StationOptions = StationOptions {
     channels: 1,
 };
 
+const PLAIN_DECODING: Decoding = Decoding {
+    long: false,
+    loose: false,
+    wide: false,
+};
+
+const PLAIN_JUDGING: Judging = Judging {
+    long: false,
+    loose: false,
+    manners: false,
+    strict: false,
+    wide: false,
+    k: 7,
+};
+
 fn simulation(down: bool, tap: bool, station: StationOptions) -> Task {
-    Task::Sim(Simulation { down, tap, station })
+    Task::Sim(Simulation {
+        down,
+        tap,
+        events: false,
+        loose: false,
+        station,
+    })
 }
 
 fn place(end: End, station: StationOptions) -> Task {
@@ -22,34 +43,29 @@ fn place(end: End, station: StationOptions) -> Task {
 
 #[test]
 fn takes_plain_words_alone(rt: HostRuntime) {
-    let plain: [(&[&str], Task); 27] = [
-        (
-            &["decode"],
-            Task::Decode {
-                long: false,
-                wide: false,
-            },
-        ),
+    let plain: [(&[&str], Task); 31] = [
+        (&["decode"], Task::Decode(PLAIN_DECODING)),
         (
             &["decode", "--long"],
-            Task::Decode {
+            Task::Decode(Decoding {
                 long: true,
-                wide: false,
-            },
+                ..PLAIN_DECODING
+            }),
         ),
         (
             &["decode", "--wide"],
-            Task::Decode {
-                long: false,
+            Task::Decode(Decoding {
                 wide: true,
-            },
+                ..PLAIN_DECODING
+            }),
         ),
         (
             &["decode", "--wide", "--long"],
-            Task::Decode {
+            Task::Decode(Decoding {
                 long: true,
                 wide: true,
-            },
+                ..PLAIN_DECODING
+            }),
         ),
         (&["vectors"], Task::Vectors),
         (&["sim"], simulation(false, false, DEFAULTS)),
@@ -130,55 +146,61 @@ fn takes_plain_words_alone(rt: HostRuntime) {
         ),
         (&["deframe", "dte"], Task::Deframe(End::Dte)),
         (&["deframe", "dce"], Task::Deframe(End::Dce)),
-        (&["frame"], Task::Frame),
+        (&["frame"], Task::Frame { loose: false }),
+        (&["frame", "--loose"], Task::Frame { loose: true }),
         (
-            &["judge"],
-            Task::Judge(Judging {
-                long: false,
-                manners: false,
-                strict: false,
-                wide: false,
-                k: 7,
+            &["decode", "--loose", "--wide"],
+            Task::Decode(Decoding {
+                loose: true,
+                wide: true,
+                ..PLAIN_DECODING
             }),
         ),
         (
+            &["judge", "--loose"],
+            Task::Judge(Judging {
+                loose: true,
+                ..PLAIN_JUDGING
+            }),
+        ),
+        (
+            &["sim", "--loose", "--events"],
+            Task::Sim(Simulation {
+                down: false,
+                tap: false,
+                events: true,
+                loose: true,
+                station: DEFAULTS,
+            }),
+        ),
+        (&["judge"], Task::Judge(PLAIN_JUDGING)),
+        (
             &["judge", "--strict"],
             Task::Judge(Judging {
-                long: false,
-                manners: false,
                 strict: true,
-                wide: false,
-                k: 7,
+                ..PLAIN_JUDGING
             }),
         ),
         (
             &["judge", "--manners"],
             Task::Judge(Judging {
-                long: false,
                 manners: true,
-                strict: false,
-                wide: false,
-                k: 7,
+                ..PLAIN_JUDGING
             }),
         ),
         (
             &["judge", "--wide"],
             Task::Judge(Judging {
-                long: false,
-                manners: false,
-                strict: false,
                 wide: true,
-                k: 7,
+                ..PLAIN_JUDGING
             }),
         ),
         (
             &["judge", "--long", "--k", "1"],
             Task::Judge(Judging {
                 long: true,
-                manners: false,
-                strict: false,
-                wide: false,
                 k: 1,
+                ..PLAIN_JUDGING
             }),
         ),
         (&["station", "dte"], place(End::Dte, DEFAULTS)),
@@ -245,7 +267,7 @@ fn takes_plain_words_alone(rt: HostRuntime) {
 
 #[test]
 fn takes_no_other_words(rt: HostRuntime) {
-    let others: [&[&str]; 54] = [
+    let others: [&[&str]; 61] = [
         &[],
         &["dec"],
         &["decode", "decode"],
@@ -300,6 +322,13 @@ fn takes_no_other_words(rt: HostRuntime) {
         &["deframe", "dte", "--long"],
         &["frame", "dte"],
         &["frame", "--long"],
+        &["frame", "--loose", "--loose"],
+        &["station", "dte", "--loose"],
+        &["station", "dte", "--events"],
+        &["judge", "--events"],
+        &["decode", "--k", "3"],
+        &["vectors", "--loose"],
+        &["deframe", "dte", "--loose"],
     ];
     for words in others {
         let is_usage = matches!(settings(rt.alloc(), words), Err(SettingsError::Usage(_)));
@@ -317,7 +346,7 @@ decode   Answer lines of octets, `> HEX` from the DTE and `< HEX` from the DCE, 
 vectors  Run the stored test vectors\n  \
 sim      Run a script of two stations joined by a line, and write what each end is told\n  \
 station  Run one station: lines of the other end and of its user in, what it does out\n  \
-judge    Answer lines of a trace of both ends as `decode` does, and say which end broke which rule\n  \
+judge    Answer lines of a trace of both ends as `decode` does, in its place, and say which end broke which rule\n  \
 deframe  Answer octets of a synchronous line by the lines of a trace that it carries\n  \
 frame    Answer lines of a trace by octets of a synchronous line that carries their frames\n  \
 help     Print this message or the help of the given subcommand(s)\n\nOptions:\n  \
@@ -335,10 +364,11 @@ Usage: x25 <COMMAND>\n\nFor more information, try '--help'.\n";
 /// The help of `decode`.
 const DECODE: &str =
     "Answer lines of octets, `> HEX` from the DTE and `< HEX` from the DCE, by lines of text\n\n\
-Usage: x25 decode [--long] [--wide] [FILE]\n\nOptions:\n      \
---long  Take up to 128 octets of user data in a CALL, in place of 16\n      \
---wide  Read packets in all the forms that X.25 lets equipment send, and mark those by `~ wide`\n  \
--h, --help  Print help\n";
+Usage: x25 decode [--long] [--loose] [--wide] [FILE]\n\nOptions:\n      \
+--long   Take up to 128 octets of user data in a CALL, in place of 16\n      \
+--loose  Read a time and a tab before a line, comments (#), empty lines and CR LF too\n      \
+--wide   Read packets in all the forms that X.25 lets equipment send, and mark those by `~ wide`\n  \
+-h, --help   Print help\n";
 
 /// The help of `sim`.
 const SIM: &str =
@@ -346,6 +376,8 @@ const SIM: &str =
 Usage: x25 sim [OPTIONS] [FILE]\n\nOptions:\n      \
 --tap           Tell the frames of each step behind its entries, as lines for `decode`\n      \
 --down          Begin with both links down, in place of just set up\n      \
+--events        Tell each event behind what it made\n      \
+--loose         Read a time and a tab before a line, comments (#), empty lines and CR LF too\n      \
 --long          Take up to 128 octets of user data in a CALL, in place of 16\n      \
 --say-sizes     Say packet sizes and windows in each CALL and CALL ACCEPTED, also where they are the default\n      \
 --wide          Take packets in all the forms that X.25 lets equipment send\n      \
@@ -357,10 +389,11 @@ x25 sim --tap < examples/call.script | grep '^[<>]' | x25 decode\n";
 
 /// The help of `judge`.
 const JUDGE: &str =
-    "Answer lines of a trace of both ends as `decode` does, and say which end broke which rule\n\n\
+    "Answer lines of a trace of both ends as `decode` does, in its place, and say which end broke which rule\n\n\
 Usage: x25 judge [OPTIONS] [FILE]\n\nOptions:\n      \
 --k <N>    The window of the link: 1 to 7 [default: 7]\n      \
 --long     Take up to 128 octets of user data in a CALL, in place of 16\n      \
+--loose    Read a time and a tab before a line, comments (#), empty lines and CR LF too\n      \
 --wide     Read packets in all the forms that X.25 lets equipment send, and mark those by `~ wide`\n      \
 --manners  Answer status 1 too where manners were broken\n      \
 --strict   Answer status 1 too where a frame or a packet wasn't judged\n  \

@@ -6,22 +6,23 @@ use Rattle.x25_world.specs.World.{World, Receives}
 use Rattle.x25_world.specs.code.ShownWorld.{ShownWorld}
 use Rattle.x25_world.specs.code.FitsWorld.{FitsWorld}
 use Rattle.x25_world.specs.Healing.{next_end}
+use Rattle.x25_sim.specs.declared.stage.Shown.{Shown}
 use Rattle.x25_sim.specs.Stage.{quiet, and_then, event_turn, delivered_to, drained}
 
-module _ (cfg : Cfg) (tap : Bool) where
-  pub drained_all : (n : ℕ) (w : World) → n ≡ 0 → drained cfg tap n w ≡ quiet w
+module _ (cfg : Cfg) (shown : Shown) where
+  pub drained_all : (n : ℕ) (w : World) → n ≡ 0 → drained cfg shown n w ≡ quiet w
   unfolding drained
-  drained_all n w e = ap (λ m. drained cfg tap m w) e
+  drained_all n w e = ap (λ m. drained cfg shown m w) e
 
-  pub drained_empty : (n : ℕ) (w : World) → next_end w.out w.back ≡ None → drained cfg tap n w ≡ quiet w
+  pub drained_empty : (n : ℕ) (w : World) → next_end w.out w.back ≡ None → drained cfg shown n w ≡ quiet w
   unfolding drained
   drained_empty zero w e = refl
-  drained_empty (suc n) w e = ap (delivered_to cfg tap (drained cfg tap n) w) e
+  drained_empty (suc n) w e = ap (delivered_to cfg shown (drained cfg shown n) w) e
 
   pub drained_more : (n m : ℕ) (w : World) (at : Role) → n ≡ suc m → next_end w.out w.back ≡ Some at
-      → drained cfg tap n w ≡ and_then (drained cfg tap m) (event_turn cfg tap (record { at = at; act = Receives }) w)
+      → drained cfg shown n w ≡ and_then (drained cfg shown m) (event_turn cfg shown (record { at = at; act = Receives }) w)
   unfolding drained
-  drained_more n m w at e here = ap (λ n. drained cfg tap n w) e ∙ ap (delivered_to cfg tap (drained cfg tap m) w) here
+  drained_more n m w at e here = ap (λ n. drained cfg shown n w) e ∙ ap (delivered_to cfg shown (drained cfg shown m) w) here
 
 -- what the world tells of its line
 pub line_is : (cfg : Cfg) (v : ShownWorld) (w : World) → FitsWorld cfg v w → next_end v.to_dce v.to_dte ≡ next_end w.out w.back

@@ -5,6 +5,7 @@ use Rattle.x25_bits.specs.declared.role.Role.{Role}
 use Rattle.x25_station.specs.declared.config.Cfg.{Cfg}
 use Rattle.x25_world.specs.World.{World}
 use Rattle.x25_world.specs.Healing.{next_end}
+use Rattle.x25_sim.specs.declared.stage.Shown.{Shown}
 use Rattle.x25_sim.specs.Stage.{Turn, quiet, and_then, pulled, unless_empty, emptied}
 
 -- whether there is none, by whether there is some
@@ -19,28 +20,28 @@ pub one_less : (all done : ℕ) → done < all → all - done ≡ suc (all - (do
 one_less all done h = omega (arith, h)
 
 -- what is left behind a round
-abbrev pub left_behind : Cfg → Bool → ℕ → World → Turn
-left_behind cfg tap n w = unless_empty (emptied cfg tap n) w (next_end w.out w.back)
+abbrev pub left_behind : Cfg → Shown → ℕ → World → Turn
+left_behind cfg shown n w = unless_empty (emptied cfg shown n) w (next_end w.out w.back)
 
-module _ (cfg : Cfg) (tap : Bool) where
-  pub emptied_all : (n : ℕ) (w : World) → n ≡ 0 → emptied cfg tap n w ≡ quiet w
+module _ (cfg : Cfg) (shown : Shown) where
+  pub emptied_all : (n : ℕ) (w : World) → n ≡ 0 → emptied cfg shown n w ≡ quiet w
   unfolding emptied
-  emptied_all n w e = ap (λ m. emptied cfg tap m w) e
+  emptied_all n w e = ap (λ m. emptied cfg shown m w) e
 
-  pub emptied_more : (n m : ℕ) (w : World) → n ≡ suc m → emptied cfg tap n w ≡ and_then (left_behind cfg tap m) (pulled cfg tap w)
+  pub emptied_more : (n m : ℕ) (w : World) → n ≡ suc m → emptied cfg shown n w ≡ and_then (left_behind cfg shown m) (pulled cfg shown w)
   unfolding emptied
-  emptied_more n m w e = ap (λ n. emptied cfg tap n w) e
+  emptied_more n m w e = ap (λ n. emptied cfg shown n w) e
 
   by_line : (rest : World → Turn) (w : World) (at : Option Role) → is_none at ≡ true → unless_empty rest w at ≡ quiet w
   by_line rest w None e = refl
   by_line rest w (Some at) e = absurd (cc)
 
-  pub line_empty : (n : ℕ) (w : World) → is_none (next_end w.out w.back) ≡ true → left_behind cfg tap n w ≡ quiet w
-  line_empty n w e = by_line (emptied cfg tap n) w (next_end w.out w.back) e
+  pub line_empty : (n : ℕ) (w : World) → is_none (next_end w.out w.back) ≡ true → left_behind cfg shown n w ≡ quiet w
+  line_empty n w e = by_line (emptied cfg shown n) w (next_end w.out w.back) e
 
   by_frames : (rest : World → Turn) (w : World) (at : Option Role) → is_none at ≡ false → unless_empty rest w at ≡ rest w
   by_frames rest w None e = absurd (cc)
   by_frames rest w (Some at) e = refl
 
-  pub line_filled : (n : ℕ) (w : World) → is_none (next_end w.out w.back) ≡ false → left_behind cfg tap n w ≡ emptied cfg tap n w
-  line_filled n w e = by_frames (emptied cfg tap n) w (next_end w.out w.back) e
+  pub line_filled : (n : ℕ) (w : World) → is_none (next_end w.out w.back) ≡ false → left_behind cfg shown n w ≡ emptied cfg shown n w
+  line_filled n w e = by_frames (emptied cfg shown n) w (next_end w.out w.back) e

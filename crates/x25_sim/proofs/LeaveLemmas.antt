@@ -6,6 +6,7 @@ use Rattle.std.proofs.Math.Bool.{or-false}
 use Rattle.x25_io.specs.code.Written.{AppendsPrefix}
 use Rattle.x25_station.specs.declared.config.Cfg.{Cfg}
 use Rattle.x25_world.specs.World.{World}
+use Rattle.x25_sim.specs.declared.stage.Shown.{Shown}
 use Rattle.x25_sim.specs.declared.stage.Stage.{Stage}
 use Rattle.x25_sim.specs.Telling.{sayings_text, has_refusal}
 use Rattle.x25_sim.specs.Stage.{Turn, quiet, and_then}
@@ -14,9 +15,9 @@ use Rattle.x25_sim.specs.code.Leaves.{Leaves}
 use Rattle.x25_io.proofs.ToldLemmas.{prefix_more, told_prefix}
 use Rattle.x25_sim.proofs.StandLemmas.{StandsAt, BeginsAt, parts_text, parts_refused}
 
-module _ (cfg : Cfg) (tap : Bool) (old now next : Option (List ℕ)) (s u : Stage) (told : List ℕ) (refused : Bool) (whole : Turn) where
+module _ (cfg : Cfg) (shown : Shown) (old now next : Option (List ℕ)) (s u : Stage) (told : List ℕ) (refused : Bool) (whole : Turn) where
   -- all of it is left
-  pub all_left : (rest : World → Turn) (w : World) → Stands cfg tap old now s w told refused → rest w ≡ whole → Leaves cfg tap old now s rest told refused whole
+  pub all_left : (rest : World → Turn) (w : World) → Stands cfg shown old now s w told refused → rest w ≡ whole → Leaves cfg shown old now s rest told refused whole
   all_left rest w h e = record {
     at = w;
     text = told;
@@ -28,17 +29,17 @@ module _ (cfg : Cfg) (tap : Bool) (old now next : Option (List ℕ)) (s u : Stag
   }
 
   -- nothing of it is left
-  pub none_left : (rest : World → Turn) (l : Leaves cfg tap old now s rest told refused whole) → rest l.at ≡ quiet l.at → StandsAt cfg tap old now s told refused whole
+  pub none_left : (rest : World → Turn) (l : Leaves cfg shown old now s rest told refused whole) → rest l.at ≡ quiet l.at → StandsAt cfg shown old now s told refused whole
   none_left rest l is =
       let at : l.at ≡ whole.next = sym (ap (λ t. t.next) is) ∙ l.next in
       let text : l.text ≡ told ++ sayings_text whole.sayings = sym (append-nil l.text) ∙ sym (ap (λ t. l.text ++ sayings_text t.sayings) is) ∙ l.same in
       let any : l.status ≡ (refused || has_refusal whole.sayings) = sym (or-false l.status) ∙ sym (ap (λ t. l.status || has_refusal t.sayings) is) ∙ l.any in
-      subst (λ w. Stands cfg tap old now s w (told ++ sayings_text whole.sayings) (refused || has_refusal whole.sayings)) at
-      (subst (λ t. Stands cfg tap old now s l.at t (refused || has_refusal whole.sayings)) text
-      (subst (Stands cfg tap old now s l.at l.text) any l.stands))
+      subst (λ w. Stands cfg shown old now s w (told ++ sayings_text whole.sayings) (refused || has_refusal whole.sayings)) at
+      (subst (λ t. Stands cfg shown old now s l.at t (refused || has_refusal whole.sayings)) text
+      (subst (Stands cfg shown old now s l.at l.text) any l.stands))
 
   -- the same is left
-  pub left_as : (rest other : World → Turn) (l : Leaves cfg tap old now s rest told refused whole) → rest l.at ≡ other l.at → Leaves cfg tap old now s other told refused whole
+  pub left_as : (rest other : World → Turn) (l : Leaves cfg shown old now s rest told refused whole) → rest l.at ≡ other l.at → Leaves cfg shown old now s other told refused whole
   left_as rest other l e = record {
     at = l.at;
     text = l.text;
@@ -50,8 +51,8 @@ module _ (cfg : Cfg) (tap : Bool) (old now next : Option (List ℕ)) (s u : Stag
   }
 
   -- a part of it is done
-  pub part_done : (all first rest : World → Turn) (l : Leaves cfg tap old now s all told refused whole) → all l.at ≡ and_then rest (first l.at)
-      → StandsAt cfg tap old next u l.text l.status (first l.at) → Leaves cfg tap old next u rest told refused whole
+  pub part_done : (all first rest : World → Turn) (l : Leaves cfg shown old now s all told refused whole) → all l.at ≡ and_then rest (first l.at)
+      → StandsAt cfg shown old next u l.text l.status (first l.at) → Leaves cfg shown old next u rest told refused whole
   part_done all first rest l e h = record {
     at = (first l.at).next;
     text = l.text ++ sayings_text (first l.at).sayings;
@@ -63,7 +64,7 @@ module _ (cfg : Cfg) (tap : Bool) (old now next : Option (List ℕ)) (s u : Stag
   }
 
   -- a part of it failed
-  pub part_failed : (all first rest : World → Turn) (l : Leaves cfg tap old now s all told refused whole) → all l.at ≡ and_then rest (first l.at)
+  pub part_failed : (all first rest : World → Turn) (l : Leaves cfg shown old now s all told refused whole) → all l.at ≡ and_then rest (first l.at)
       → BeginsAt old next l.text (first l.at) → BeginsAt old next told whole
   part_failed all first rest l e b =
       subst (AppendsPrefix old next)
@@ -71,5 +72,5 @@ module _ (cfg : Cfg) (tap : Bool) (old now next : Option (List ℕ)) (s u : Stag
       (prefix_more old next (l.text ++ sayings_text (first l.at).sayings) (sayings_text (rest (first l.at).next).sayings) b)
 
   -- nothing more is told
-  pub given_up : (rest : World → Turn) → Leaves cfg tap old now s rest told refused whole → BeginsAt old now told whole
+  pub given_up : (rest : World → Turn) → Leaves cfg shown old now s rest told refused whole → BeginsAt old now told whole
   given_up rest l = subst (AppendsPrefix old now) l.same (prefix_more old now l.text (sayings_text (rest l.at).sayings) (told_prefix old now s.output l.text l.stands.tells))

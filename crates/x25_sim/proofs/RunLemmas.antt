@@ -18,11 +18,12 @@ use Rattle.x25_world.specs.World.{World, OnTap, AtEnd, swapped, Act, Commands, R
 use Rattle.x25_world.specs.declared.error.WorldError.{WorldError}
 use Rattle.x25_world.specs.laws.Claims.{ActsInOctets, AreInOctets, IsUpOnce, IsUpAtMostOnce, IsBeginning, IsNoConnect, NoneConnects, UpOnceUnlessConnected, Always, UntilSecondUp}
 use Rattle.x25_world.specs.laws.SessionClaims.{Throughout, ThroughoutAlong}
-use Rattle.x25_sim.specs.Telling.{Saying, enters, taps, reads_nothing, refuses}
+use Rattle.x25_sim.specs.Telling.{Saying, enters, taps, reads_nothing, refuses, marks}
 use Rattle.x25_console.specs.Commands.{command_asked}
 use Rattle.x25_io.specs.HeldLine.{most_line}
 use Rattle.x25_world.specs.Healing.{next_end}
-use Rattle.x25_sim.specs.Stage.{Turn, and_then, step_told, told_between, turn_of, event_turn, delivered_to, drained, tried_of, tried, both_tried, most_times, fired, pulled, unless_empty, emptied, healed, line_turn, asked_in, asked_turn, turn, turns, connecting, set_up, opened, simulated}
+use Rattle.x25_sim.specs.Stage.{Turn, and_then, frames_if, frames_told, marks_if, marked, step_told, told_between, turn_of, event_turn, delivered_to, drained, tried_of, tried, both_tried, most_times, fired, pulled, unless_empty, emptied, healed, line_turn, asked_in, asked_turn, turn, turns, connecting, set_up, opened, simulated}
+use Rattle.x25_sim.specs.declared.stage.Shown.{Shown}
 use Rattle.x25_sim.specs.laws.RunLaw.{entries_in, frames_in, begins, IsNoConnectLine, NoneAsks, IsRun, ScriptsAreRuns, OfScripts, OfScriptsSetUp, OfAllScripts, UpOnceUnlessAsked, ScriptsAreTold, ScriptsAreTapped}
 
 -- ---- a world only grows
@@ -76,6 +77,7 @@ entries-append (enters e ∷ xs) ys = ap (λ es. e ∷ es) (entries-append xs ys
 entries-append (taps f ∷ xs) ys = entries-append xs ys
 entries-append (reads_nothing ∷ xs) ys = entries-append xs ys
 entries-append (refuses error ∷ xs) ys = entries-append xs ys
+entries-append (marks event ∷ xs) ys = entries-append xs ys
 
 frames-append : (xs ys : List Saying) → frames_in (xs ++ ys) ≡ frames_in xs ++ frames_in ys
 frames-append [] ys = refl
@@ -83,6 +85,7 @@ frames-append (enters e ∷ xs) ys = frames-append xs ys
 frames-append (taps f ∷ xs) ys = ap (λ fs. f ∷ fs) (frames-append xs ys)
 frames-append (reads_nothing ∷ xs) ys = frames-append xs ys
 frames-append (refuses error ∷ xs) ys = frames-append xs ys
+frames-append (marks event ∷ xs) ys = frames-append xs ys
 
 entries_of_enters : (es : List AtEnd) → entries_in (map enters es) ≡ es
 entries_of_enters [] = refl
@@ -100,13 +103,25 @@ frames_of_taps : (fs : List OnTap) → frames_in (map taps fs) ≡ fs
 frames_of_taps [] = refl
 frames_of_taps (f ∷ fs) = ap (λ xs. f ∷ xs) (frames_of_taps fs)
 
-step_entries : (tap : Bool) (es : List AtEnd) (fs : List OnTap) → entries_in (step_told tap es fs) ≡ es
-step_entries true es fs = entries-append (map enters es) (map taps fs) ∙ ap (λ xs. entries_in (map enters es) ++ xs) (entries_of_taps fs) ∙ append-nil (entries_in (map enters es)) ∙ entries_of_enters es
-step_entries false es fs = entries-append (map enters es) [] ∙ append-nil (entries_in (map enters es)) ∙ entries_of_enters es
+entries_of_frames : (tap : Bool) (fs : List OnTap) → entries_in (frames_if tap fs) ≡ []
+entries_of_frames true fs = entries_of_taps fs
+entries_of_frames false fs = refl
 
-step_frames : (tap : Bool) (es : List AtEnd) (fs : List OnTap) → tap ≡ true → frames_in (step_told tap es fs) ≡ fs
-step_frames true es fs e = frames-append (map enters es) (map taps fs) ∙ ap (λ xs. xs ++ frames_in (map taps fs)) (frames_of_enters es) ∙ frames_of_taps fs
-step_frames false es fs e = absurd (cc)
+step_entries : (shown : Shown) (es : List AtEnd) (fs : List OnTap) → entries_in (step_told shown es fs) ≡ es
+step_entries shown es fs = entries-append (map enters es) (frames_told shown fs) ∙ ap (λ xs. entries_in (map enters es) ++ xs) (entries_of_frames shown.tap fs)
+    ∙ append-nil (entries_in (map enters es)) ∙ entries_of_enters es
+
+step_frames : (shown : Shown) (es : List AtEnd) (fs : List OnTap) → shown.tap ≡ true → frames_in (step_told shown es fs) ≡ fs
+step_frames shown es fs asked = frames-append (map enters es) (frames_told shown fs) ∙ ap (λ xs. xs ++ frames_in (frames_told shown fs)) (frames_of_enters es)
+    ∙ ap (λ b. frames_in (frames_if b fs)) asked ∙ frames_of_taps fs
+
+no_entries_marked : (events : Bool) (e : Event) → entries_in (marks_if events e) ≡ []
+no_entries_marked true e = refl
+no_entries_marked false e = refl
+
+no_frames_marked : (events : Bool) (e : Event) → frames_in (marks_if events e) ≡ []
+no_frames_marked true e = refl
+no_frames_marked false e = refl
 
 -- ---- what users hand down is octets
 
@@ -169,17 +184,17 @@ other_asked end relink refusal h = absurd h
 -- ---- turns are runs
 
 -- no event connects under the premise
-record Runs (P : Type 0) (cfg : Cfg) (tap : Bool) (w : World) (t : Turn) : Type 0 where
+record Runs (P : Type 0) (cfg : Cfg) (shown : Shown) (w : World) (t : Turn) : Type 0 where
   events : List Event
   accepted : AreAccepted cfg events w
   octets : AreInOctets events
   next : t.next ≡ run cfg events w
   entries : t.next.transcript ≡ w.transcript ++ entries_in t.sayings
-  frames : tap ≡ true → t.next.tap ≡ w.tap ++ frames_in t.sayings
+  frames : shown.tap ≡ true → t.next.tap ≡ w.tap ++ frames_in t.sayings
   unconnected : P → NoneConnects cfg events w
 
-stays : (P : Type 0) (cfg : Cfg) (tap : Bool) (w : World) (sayings : List Saying) → entries_in sayings ≡ [] → frames_in sayings ≡ [] → Runs P cfg tap w (record { next = w; sayings = sayings })
-stays P cfg tap w sayings no_entries no_frames = record {
+stays : (P : Type 0) (cfg : Cfg) (shown : Shown) (w : World) (sayings : List Saying) → entries_in sayings ≡ [] → frames_in sayings ≡ [] → Runs P cfg shown w (record { next = w; sayings = sayings })
+stays P cfg shown w sayings no_entries no_frames = record {
   events = [];
   accepted = tt;
   octets = tt;
@@ -189,23 +204,18 @@ stays P cfg tap w sayings no_entries no_frames = record {
   unconnected = λ p. tt;
 }
 
-moves : (P : Type 0) (cfg : Cfg) (tap : Bool) (w : World) (e : Event) (o : WorldOutcome) → happens cfg w e ≡ o → GrowsTo w o → ActsInOctets e.act
-    → (P → (refusal : Option WorldError) → IsNoConnect e.act refusal) → Runs P cfg tap w (turn_of tap w o)
-moves P cfg tap w e (Happened next) is g octets other = record {
+moves : (P : Type 0) (cfg : Cfg) (shown : Shown) (w : World) (e : Event) (o : WorldOutcome) → happens cfg w e ≡ o → GrowsTo w o → ActsInOctets e.act
+    → (P → (refusal : Option WorldError) → IsNoConnect e.act refusal) → Runs P cfg shown w (turn_of shown w o)
+moves P cfg shown w e (Happened next) is g octets other = record {
   events = e ∷ [];
   accepted = (ap refusal_of is, tt);
   octets = (octets, tt);
   next = sym (ap (after w) is);
-  entries = g.transcript ∙ ap (λ xs. w.transcript ++ xs) (sym (step_entries tap _ _ ∙ ap (drop (length w.transcript)) g.transcript ∙ drop-append_seam w.transcript g.entries));
-  frames = λ asked. g.tap ∙ ap (λ xs. w.tap ++ xs) (sym (step_frames tap (drop (length w.transcript) next.transcript) _ asked ∙ ap (drop (length w.tap)) g.tap ∙ drop-append_seam w.tap g.frames));
+  entries = g.transcript ∙ ap (λ xs. w.transcript ++ xs) (sym (step_entries shown _ _ ∙ ap (drop (length w.transcript)) g.transcript ∙ drop-append_seam w.transcript g.entries));
+  frames = λ asked. g.tap ∙ ap (λ xs. w.tap ++ xs) (sym (step_frames shown (drop (length w.transcript) next.transcript) _ asked ∙ ap (drop (length w.tap)) g.tap ∙ drop-append_seam w.tap g.frames));
   unconnected = λ p. (other p (refusal_of (happens cfg w e)), tt);
 }
-moves P cfg tap w e (Declined error) is g octets other = stays P cfg tap w (refuses error ∷ []) refl refl
-
-event_runs : (P : Type 0) (cfg : Cfg) (tap : Bool) (e : Event) (w : World) → ActsInOctets e.act → (P → (refusal : Option WorldError) → IsNoConnect e.act refusal)
-    → Runs P cfg tap w (event_turn cfg tap e w)
-unfolding event_turn
-event_runs P cfg tap e w octets other = moves P cfg tap w e (happens cfg w e) refl (by_event cfg w e.at e.act) octets other
+moves P cfg shown w e (Declined error) is g octets other = stays P cfg shown w (refuses error ∷ []) refl refl
 
 run-append : (cfg : Cfg) (events more : List Event) (w : World) → run cfg (events ++ more) w ≡ run cfg more (run cfg events w)
 run-append cfg [] more w = refl
@@ -219,8 +229,8 @@ none-append : (cfg : Cfg) (events more : List Event) (w : World) → NoneConnect
 none-append cfg [] more w h k = k
 none-append cfg (e ∷ events) more w h k = (h.0, none-append cfg events more (after w (happens cfg w e)) h.1 k)
 
-both_run : (P : Type 0) (cfg : Cfg) (tap : Bool) (w : World) (t : Turn) (rest : World → Turn) → Runs P cfg tap w t → ((v : World) → Runs P cfg tap v (rest v)) → Runs P cfg tap w (and_then rest t)
-both_run P cfg tap w t rest first second =
+both_run : (P : Type 0) (cfg : Cfg) (shown : Shown) (w : World) (t : Turn) (rest : World → Turn) → Runs P cfg shown w t → ((v : World) → Runs P cfg shown v (rest v)) → Runs P cfg shown w (and_then rest t)
+both_run P cfg shown w t rest first second =
     let then = second t.next in record {
       events = first.events ++ then.events;
       accepted = accepted-append cfg first.events then.events w first.accepted (subst (AreAccepted cfg then.events) first.next then.accepted);
@@ -233,104 +243,114 @@ both_run P cfg tap w t rest first second =
       unconnected = λ p. none-append cfg first.events then.events w (first.unconnected p) (subst (NoneConnects cfg then.events) first.next (then.unconnected p));
     }
 
-delivery_runs : (P : Type 0) (cfg : Cfg) (tap : Bool) (rest : World → Turn) (w : World) (at : Option Role) → ((v : World) → Runs P cfg tap v (rest v)) → Runs P cfg tap w (delivered_to cfg tap rest w at)
-delivery_runs P cfg tap rest w None h = stays P cfg tap w [] refl refl
-delivery_runs P cfg tap rest w (Some at) h = both_run P cfg tap w _ rest (event_runs P cfg tap (record { at = at; act = Receives }) w tt (λ p refusal. tt)) h
+-- a turn, and behind it the event
+marked_runs : (P : Type 0) (cfg : Cfg) (shown : Shown) (e : Event) (w : World) (t : Turn) → Runs P cfg shown w t → Runs P cfg shown w (and_then (marked shown e) t)
+marked_runs P cfg shown e w t runs =
+    both_run P cfg shown w t (marked shown e) runs (λ v. stays P cfg shown v (marks_if shown.events e) (no_entries_marked shown.events e) (no_frames_marked shown.events e))
 
-drain_runs : (P : Type 0) (cfg : Cfg) (tap : Bool) (n : ℕ) (w : World) → Runs P cfg tap w (drained cfg tap n w)
+event_runs : (P : Type 0) (cfg : Cfg) (shown : Shown) (e : Event) (w : World) → ActsInOctets e.act → (P → (refusal : Option WorldError) → IsNoConnect e.act refusal)
+    → Runs P cfg shown w (event_turn cfg shown e w)
+unfolding event_turn
+event_runs P cfg shown e w octets other = marked_runs P cfg shown e w _ (moves P cfg shown w e (happens cfg w e) refl (by_event cfg w e.at e.act) octets other)
+
+delivery_runs : (P : Type 0) (cfg : Cfg) (shown : Shown) (rest : World → Turn) (w : World) (at : Option Role) → ((v : World) → Runs P cfg shown v (rest v)) → Runs P cfg shown w (delivered_to cfg shown rest w at)
+delivery_runs P cfg shown rest w None h = stays P cfg shown w [] refl refl
+delivery_runs P cfg shown rest w (Some at) h = both_run P cfg shown w _ rest (event_runs P cfg shown (record { at = at; act = Receives }) w tt (λ p refusal. tt)) h
+
+drain_runs : (P : Type 0) (cfg : Cfg) (shown : Shown) (n : ℕ) (w : World) → Runs P cfg shown w (drained cfg shown n w)
 unfolding drained
-drain_runs P cfg tap zero w = stays P cfg tap w [] refl refl
-drain_runs P cfg tap (suc n) w = delivery_runs P cfg tap (drained cfg tap n) w (next_end w.out w.back) (drain_runs P cfg tap n)
+drain_runs P cfg shown zero w = stays P cfg shown w [] refl refl
+drain_runs P cfg shown (suc n) w = delivery_runs P cfg shown (drained cfg shown n) w (next_end w.out w.back) (drain_runs P cfg shown n)
 
-outcome_runs : (P : Type 0) (cfg : Cfg) (tap : Bool) (w : World) (e : Event) (o : WorldOutcome) → happens cfg w e ≡ o → GrowsTo w o → ActsInOctets e.act
-    → (P → (refusal : Option WorldError) → IsNoConnect e.act refusal) → Runs P cfg tap w (tried_of tap w o)
-outcome_runs P cfg tap w e (Happened next) is g octets other = moves P cfg tap w e (Happened next) is g octets other
-outcome_runs P cfg tap w e (Declined error) is g octets other = stays P cfg tap w [] refl refl
+outcome_runs : (P : Type 0) (cfg : Cfg) (shown : Shown) (w : World) (e : Event) (o : WorldOutcome) → happens cfg w e ≡ o → GrowsTo w o → ActsInOctets e.act
+    → (P → (refusal : Option WorldError) → IsNoConnect e.act refusal) → Runs P cfg shown w (tried_of shown e w o)
+outcome_runs P cfg shown w e (Happened next) is g octets other = marked_runs P cfg shown e w _ (moves P cfg shown w e (Happened next) is g octets other)
+outcome_runs P cfg shown w e (Declined error) is g octets other = stays P cfg shown w [] refl refl
 
-tried_runs : (P : Type 0) (cfg : Cfg) (tap : Bool) (e : Event) (w : World) → ActsInOctets e.act → (P → (refusal : Option WorldError) → IsNoConnect e.act refusal)
-    → Runs P cfg tap w (tried cfg tap e w)
+tried_runs : (P : Type 0) (cfg : Cfg) (shown : Shown) (e : Event) (w : World) → ActsInOctets e.act → (P → (refusal : Option WorldError) → IsNoConnect e.act refusal)
+    → Runs P cfg shown w (tried cfg shown e w)
 unfolding tried
-tried_runs P cfg tap e w octets other = outcome_runs P cfg tap w e (happens cfg w e) refl (by_event cfg w e.at e.act) octets other
+tried_runs P cfg shown e w octets other = outcome_runs P cfg shown w e (happens cfg w e) refl (by_event cfg w e.at e.act) octets other
 
-both_tried_run : (P : Type 0) (cfg : Cfg) (tap : Bool) (act : Act) (w : World) → ActsInOctets act → (P → (refusal : Option WorldError) → IsNoConnect act refusal)
-    → Runs P cfg tap w (both_tried cfg tap act w)
+both_tried_run : (P : Type 0) (cfg : Cfg) (shown : Shown) (act : Act) (w : World) → ActsInOctets act → (P → (refusal : Option WorldError) → IsNoConnect act refusal)
+    → Runs P cfg shown w (both_tried cfg shown act w)
 unfolding both_tried
-both_tried_run P cfg tap act w octets other =
-    both_run P cfg tap w _ (tried cfg tap (record { at = Dce; act = act })) (tried_runs P cfg tap (record { at = Dte; act = act }) w octets other)
-    (λ v. tried_runs P cfg tap (record { at = Dce; act = act }) v octets other)
+both_tried_run P cfg shown act w octets other =
+    both_run P cfg shown w _ (tried cfg shown (record { at = Dce; act = act })) (tried_runs P cfg shown (record { at = Dte; act = act }) w octets other)
+    (λ v. tried_runs P cfg shown (record { at = Dce; act = act }) v octets other)
 
-fired_runs : (P : Type 0) (cfg : Cfg) (tap : Bool) (w : World) → Runs P cfg tap w (fired cfg tap w)
+fired_runs : (P : Type 0) (cfg : Cfg) (shown : Shown) (w : World) → Runs P cfg shown w (fired cfg shown w)
 unfolding fired
-fired_runs P cfg tap w = both_run P cfg tap w _ (both_tried cfg tap Fires) (drain_runs P cfg tap most_times w) (λ v. both_tried_run P cfg tap Fires v tt (λ p refusal. tt))
+fired_runs P cfg shown w = both_run P cfg shown w _ (both_tried cfg shown Fires) (drain_runs P cfg shown most_times w) (λ v. both_tried_run P cfg shown Fires v tt (λ p refusal. tt))
 
-pulled_runs : (P : Type 0) (cfg : Cfg) (tap : Bool) (w : World) → Runs P cfg tap w (pulled cfg tap w)
+pulled_runs : (P : Type 0) (cfg : Cfg) (shown : Shown) (w : World) → Runs P cfg shown w (pulled cfg shown w)
 unfolding pulled
-pulled_runs P cfg tap w =
-    both_run P cfg tap w _ (both_tried cfg tap (Commands (command_asked pull))) (drain_runs P cfg tap most_times w)
-    (λ v. both_tried_run P cfg tap (Commands (command_asked pull)) v tt (λ p refusal. tt))
+pulled_runs P cfg shown w =
+    both_run P cfg shown w _ (both_tried cfg shown (Commands (command_asked pull))) (drain_runs P cfg shown most_times w)
+    (λ v. both_tried_run P cfg shown (Commands (command_asked pull)) v tt (λ p refusal. tt))
 
-rest_runs : (P : Type 0) (cfg : Cfg) (tap : Bool) (rest : World → Turn) (w : World) (at : Option Role) → ((v : World) → Runs P cfg tap v (rest v)) → Runs P cfg tap w (unless_empty rest w at)
-rest_runs P cfg tap rest w None h = stays P cfg tap w [] refl refl
-rest_runs P cfg tap rest w (Some at) h = h w
+rest_runs : (P : Type 0) (cfg : Cfg) (shown : Shown) (rest : World → Turn) (w : World) (at : Option Role) → ((v : World) → Runs P cfg shown v (rest v)) → Runs P cfg shown w (unless_empty rest w at)
+rest_runs P cfg shown rest w None h = stays P cfg shown w [] refl refl
+rest_runs P cfg shown rest w (Some at) h = h w
 
-emptied_runs : (P : Type 0) (cfg : Cfg) (tap : Bool) (n : ℕ) (w : World) → Runs P cfg tap w (emptied cfg tap n w)
+emptied_runs : (P : Type 0) (cfg : Cfg) (shown : Shown) (n : ℕ) (w : World) → Runs P cfg shown w (emptied cfg shown n w)
 unfolding emptied
-emptied_runs P cfg tap zero w = stays P cfg tap w [] refl refl
-emptied_runs P cfg tap (suc n) w =
-    both_run P cfg tap w _ (λ v. unless_empty (emptied cfg tap n) v (next_end v.out v.back)) (pulled_runs P cfg tap w)
-    (λ v. rest_runs P cfg tap (emptied cfg tap n) v (next_end v.out v.back) (emptied_runs P cfg tap n))
+emptied_runs P cfg shown zero w = stays P cfg shown w [] refl refl
+emptied_runs P cfg shown (suc n) w =
+    both_run P cfg shown w _ (λ v. unless_empty (emptied cfg shown n) v (next_end v.out v.back)) (pulled_runs P cfg shown w)
+    (λ v. rest_runs P cfg shown (emptied cfg shown n) v (next_end v.out v.back) (emptied_runs P cfg shown n))
 
-healed_runs : (P : Type 0) (cfg : Cfg) (tap : Bool) (w : World) → Runs P cfg tap w (healed cfg tap w)
+healed_runs : (P : Type 0) (cfg : Cfg) (shown : Shown) (w : World) → Runs P cfg shown w (healed cfg shown w)
 unfolding healed
-healed_runs P cfg tap w = both_run P cfg tap w _ (emptied cfg tap most_times) (fired_runs P cfg tap w) (emptied_runs P cfg tap most_times)
+healed_runs P cfg shown w = both_run P cfg shown w _ (emptied cfg shown most_times) (fired_runs P cfg shown w) (emptied_runs P cfg shown most_times)
 
-line_runs : (P : Type 0) (cfg : Cfg) (tap : Bool) (line : PlainLine) (w : World) → IsInOctets line → (P → IsNoConnectLine (Some line)) → Runs P cfg tap w (line_turn cfg tap line w)
+line_runs : (P : Type 0) (cfg : Cfg) (shown : Shown) (line : PlainLine) (w : World) → IsInOctets line → (P → IsNoConnectLine (Some line)) → Runs P cfg shown w (line_turn cfg shown line w)
 unfolding line_turn
-line_runs P cfg tap (command end asked) w h other = event_runs P cfg tap _ w (handed asked h) (λ p refusal. other_asked end asked refusal (other p))
-line_runs P cfg tap (t1 end) w h other = event_runs P cfg tap _ w tt (λ p refusal. tt)
-line_runs P cfg tap (deliver from) w h other = event_runs P cfg tap _ w tt (λ p refusal. tt)
-line_runs P cfg tap (lose from place) w h other = event_runs P cfg tap _ w tt (λ p refusal. tt)
-line_runs P cfg tap (damage from place octets) w h other = event_runs P cfg tap _ w tt (λ p refusal. tt)
-line_runs P cfg tap (drain count) w h other = drain_runs P cfg tap count w
-line_runs P cfg tap heal w h other = healed_runs P cfg tap w
+line_runs P cfg shown (command end asked) w h other = event_runs P cfg shown _ w (handed asked h) (λ p refusal. other_asked end asked refusal (other p))
+line_runs P cfg shown (t1 end) w h other = event_runs P cfg shown _ w tt (λ p refusal. tt)
+line_runs P cfg shown (deliver from) w h other = event_runs P cfg shown _ w tt (λ p refusal. tt)
+line_runs P cfg shown (lose from place) w h other = event_runs P cfg shown _ w tt (λ p refusal. tt)
+line_runs P cfg shown (damage from place octets) w h other = event_runs P cfg shown _ w tt (λ p refusal. tt)
+line_runs P cfg shown (drain count) w h other = drain_runs P cfg shown count w
+line_runs P cfg shown heal w h other = healed_runs P cfg shown w
 
-asked_runs : (P : Type 0) (cfg : Cfg) (tap : Bool) (w : World) (asked : Option PlainLine) → AskedInOctets asked → (P → IsNoConnectLine asked) → Runs P cfg tap w (asked_turn cfg tap w asked)
-asked_runs P cfg tap w None h other = stays P cfg tap w (reads_nothing ∷ []) refl refl
-asked_runs P cfg tap w (Some line) h other = line_runs P cfg tap line w h other
+asked_runs : (P : Type 0) (cfg : Cfg) (shown : Shown) (w : World) (asked : Option PlainLine) → AskedInOctets asked → (P → IsNoConnectLine asked) → Runs P cfg shown w (asked_turn cfg shown w asked)
+asked_runs P cfg shown w None h other = stays P cfg shown w (reads_nothing ∷ []) refl refl
+asked_runs P cfg shown w (Some line) h other = line_runs P cfg shown line w h other
 
-turn_runs : (P : Type 0) → ReadsOctets → (cfg : Cfg) (tap : Bool) (line : List ℕ) (w : World) → (P → IsNoConnectLine (asked_in line)) → Runs P cfg tap w (turn cfg tap line w)
+turn_runs : (P : Type 0) → ReadsOctets → (cfg : Cfg) (shown : Shown) (line : List ℕ) (w : World) → (P → IsNoConnectLine (asked_in line)) → Runs P cfg shown w (turn cfg shown line w)
 unfolding turn
-turn_runs P reads cfg tap line w other = asked_runs P cfg tap w (asked_in line) (asked_octets reads line) other
+turn_runs P reads cfg shown line w other = asked_runs P cfg shown w (asked_in line) (asked_octets reads line) other
 
-lines_run : (P : Type 0) → ReadsOctets → (cfg : Cfg) (tap : Bool) (lines : List (List ℕ)) (w : World) → (P → NoneAsks lines) → Runs P cfg tap w (turns cfg tap lines w)
+lines_run : (P : Type 0) → ReadsOctets → (cfg : Cfg) (shown : Shown) (lines : List (List ℕ)) (w : World) → (P → NoneAsks lines) → Runs P cfg shown w (turns cfg shown lines w)
 unfolding turns
-lines_run P reads cfg tap [] w other = stays P cfg tap w [] refl refl
-lines_run P reads cfg tap (line ∷ lines) w other = both_run P cfg tap w (turn cfg tap line w) (turns cfg tap lines) (turn_runs P reads cfg tap line w (λ p. (other p).0))
-    (λ v. lines_run P reads cfg tap lines v (λ p. (other p).1))
+lines_run P reads cfg shown [] w other = stays P cfg shown w [] refl refl
+lines_run P reads cfg shown (line ∷ lines) w other = both_run P cfg shown w (turn cfg shown line w) (turns cfg shown lines) (turn_runs P reads cfg shown line w (λ p. (other p).0))
+    (λ v. lines_run P reads cfg shown lines v (λ p. (other p).1))
 
 -- ---- set-up
 
 -- what is said is all of the transcript and the tap
-record Says (tap : Bool) (t : Turn) : Type 0 where
+record Says (shown : Shown) (t : Turn) : Type 0 where
   entries : entries_in t.sayings ≡ t.next.transcript
-  frames : tap ≡ true → frames_in t.sayings ≡ t.next.tap
+  frames : shown.tap ≡ true → frames_in t.sayings ≡ t.next.tap
 
-says_more : (P : Type 0) (cfg : Cfg) (tap : Bool) (t : Turn) (rest : World → Turn) → Says tap t → Runs P cfg tap t.next (rest t.next) → Says tap (and_then rest t)
-says_more P cfg tap t rest s r = record {
+says_more : (P : Type 0) (cfg : Cfg) (shown : Shown) (t : Turn) (rest : World → Turn) → Says shown t → Runs P cfg shown t.next (rest t.next) → Says shown (and_then rest t)
+says_more P cfg shown t rest s r = record {
   entries = entries-append t.sayings (rest t.next).sayings ∙ ap (λ xs. xs ++ entries_in (rest t.next).sayings) s.entries ∙ sym r.entries;
   frames = λ asked. frames-append t.sayings (rest t.next).sayings ∙ ap (λ xs. xs ++ frames_in (rest t.next).sayings) (s.frames asked) ∙ sym (r.frames asked);
 }
 
-says_connecting : (tap : Bool) (w : World) → Says tap (record { next = w; sayings = told_between tap start w })
-says_connecting tap w = record { entries = step_entries tap w.transcript w.tap; frames = λ asked. step_frames tap w.transcript w.tap asked }
+says_connecting : (shown : Shown) (w : World) → Says shown (record { next = w; sayings = told_between shown start w })
+says_connecting shown w = record { entries = step_entries shown w.transcript w.tap; frames = λ asked. step_frames shown w.transcript w.tap asked }
 
-turned : (tap : Bool) (w : World) (o : WorldOutcome) → (turn_of tap w o).next ≡ after w o
-turned tap w (Happened next) = refl
-turned tap w (Declined error) = refl
+turned : (shown : Shown) (w : World) (o : WorldOutcome) → (turn_of shown w o).next ≡ after w o
+turned shown w (Happened next) = refl
+turned shown w (Declined error) = refl
 
-event_turned : (cfg : Cfg) (tap : Bool) (e : Event) (w : World) → (event_turn cfg tap e w).next ≡ after w (happens cfg w e)
+event_turned : (cfg : Cfg) (shown : Shown) (e : Event) (w : World) → (event_turn cfg shown e w).next ≡ after w (happens cfg w e)
 unfolding event_turn
-event_turned cfg tap e w = turned tap w (happens cfg w e)
+event_turned cfg shown e w = turned shown w (happens cfg w e)
 
 abbrev to_dce : Event
 to_dce = record { at = Dce; act = Receives }
@@ -338,44 +358,44 @@ to_dce = record { at = Dce; act = Receives }
 abbrev to_dte : Event
 to_dte = record { at = Dte; act = Receives }
 
-two_turned : (cfg : Cfg) (tap : Bool) (w : World)
-    → (event_turn cfg tap to_dte (event_turn cfg tap to_dce w).next).next ≡ run cfg (to_dce ∷ to_dte ∷ []) w
-two_turned cfg tap w = event_turned cfg tap to_dte (event_turn cfg tap to_dce w).next ∙ ap (λ v. after v (happens cfg v to_dte)) (event_turned cfg tap to_dce w)
+two_turned : (cfg : Cfg) (shown : Shown) (w : World)
+    → (event_turn cfg shown to_dte (event_turn cfg shown to_dce w).next).next ≡ run cfg (to_dce ∷ to_dte ∷ []) w
+two_turned cfg shown w = event_turned cfg shown to_dte (event_turn cfg shown to_dce w).next ∙ ap (λ v. after v (happens cfg v to_dte)) (event_turned cfg shown to_dce w)
 
-up_at : (cfg : Cfg) (tap : Bool) → (set_up cfg tap).next ≡ established cfg
+up_at : (cfg : Cfg) (shown : Shown) → (set_up cfg shown).next ≡ established cfg
 unfolding set_up
-up_at cfg tap = two_turned cfg tap (connected cfg)
+up_at cfg shown = two_turned cfg shown (connected cfg)
 
-says_up : (cfg : Cfg) (tap : Bool) → Says tap (set_up cfg tap)
+says_up : (cfg : Cfg) (shown : Shown) → Says shown (set_up cfg shown)
 unfolding set_up
-says_up cfg tap =
-    says_more (Unit {0}) cfg tap (and_then (event_turn cfg tap to_dce) (connecting cfg tap)) (event_turn cfg tap to_dte)
-    (says_more (Unit {0}) cfg tap (connecting cfg tap) (event_turn cfg tap to_dce) (says_connecting tap (connected cfg)) (event_runs (Unit {0}) cfg tap to_dce (connected cfg) tt (λ p refusal. tt)))
-    (event_runs (Unit {0}) cfg tap to_dte (event_turn cfg tap to_dce (connected cfg)).next tt (λ p refusal. tt))
+says_up cfg shown =
+    says_more (Unit {0}) cfg shown (and_then (event_turn cfg shown to_dce) (connecting cfg shown)) (event_turn cfg shown to_dte)
+    (says_more (Unit {0}) cfg shown (connecting cfg shown) (event_turn cfg shown to_dce) (says_connecting shown (connected cfg)) (event_runs (Unit {0}) cfg shown to_dce (connected cfg) tt (λ p refusal. tt)))
+    (event_runs (Unit {0}) cfg shown to_dte (event_turn cfg shown to_dce (connected cfg)).next tt (λ p refusal. tt))
 
 -- what comes before the script
-opened_at : (cfg : Cfg) (down tap : Bool) → (opened cfg down tap).next ≡ begins cfg down
-opened_at cfg true tap = refl
-opened_at cfg false tap = up_at cfg tap
+opened_at : (cfg : Cfg) (down : Bool) (shown : Shown) → (opened cfg down shown).next ≡ begins cfg down
+opened_at cfg true shown = refl
+opened_at cfg false shown = up_at cfg shown
 
-says_opened : (cfg : Cfg) (down tap : Bool) → Says tap (opened cfg down tap)
-says_opened cfg true tap = record { entries = refl; frames = λ asked. refl }
-says_opened cfg false tap = says_up cfg tap
+says_opened : (cfg : Cfg) (down : Bool) (shown : Shown) → Says shown (opened cfg down shown)
+says_opened cfg true shown = record { entries = refl; frames = λ asked. refl }
+says_opened cfg false shown = says_up cfg shown
 
-pub script_runs : ReadsOctets → (cfg : Cfg) (down tap : Bool) (script : List ℕ) → IsRun cfg down tap script
+pub script_runs : ReadsOctets → (cfg : Cfg) (down : Bool) (shown : Shown) (script : List ℕ) → IsRun cfg down shown script
 unfolding simulated
-script_runs reads cfg down tap script =
-    let up = opened cfg down tap in
-    let r = lines_run (NoneAsks (lines_of script)) reads cfg tap (lines_of script) up.next (λ none. none) in
-    let says = says_more (NoneAsks (lines_of script)) cfg tap up (turns cfg tap (lines_of script)) (says_opened cfg down tap) r in
-    let at : (turns cfg tap (lines_of script) up.next).next ≡ run cfg r.events (begins cfg down) = r.next ∙ ap (run cfg r.events) (opened_at cfg down tap) in record {
+script_runs reads cfg down shown script =
+    let up = opened cfg down shown in
+    let r = lines_run (NoneAsks (lines_of script)) reads cfg shown (lines_of script) up.next (λ none. none) in
+    let says = says_more (NoneAsks (lines_of script)) cfg shown up (turns cfg shown (lines_of script)) (says_opened cfg down shown) r in
+    let at : (turns cfg shown (lines_of script) up.next).next ≡ run cfg r.events (begins cfg down) = r.next ∙ ap (run cfg r.events) (opened_at cfg down shown) in record {
       events = r.events;
-      accepted = subst (AreAccepted cfg r.events) (opened_at cfg down tap) r.accepted;
+      accepted = subst (AreAccepted cfg r.events) (opened_at cfg down shown) r.accepted;
       octets = r.octets;
       next = at;
       entries = says.entries ∙ ap (λ w. w.transcript) at;
       frames = λ asked. says.frames asked ∙ ap (λ w. w.tap) at;
-      unconnected = λ none. subst (NoneConnects cfg r.events) (opened_at cfg down tap) (r.unconnected none);
+      unconnected = λ none. subst (NoneConnects cfg r.events) (opened_at cfg down shown) (r.unconnected none);
     }
 
 -- ---- what holds of runs
@@ -385,29 +405,29 @@ begins_there cfg true = inl refl
 begins_there cfg false = inr (inr refl)
 
 pub of_script : (Holds : Cfg → World → Type 0) → UntilSecondUp Holds → ScriptsAreRuns → OfScripts Holds
-of_script Holds until runs = λ cfg range down tap script once. let r = runs cfg down tap script in
+of_script Holds until runs = λ cfg range down shown script once. let r = runs cfg down shown script in
     subst (Holds cfg) (sym r.next) (until cfg range (begins cfg down) (begins_there cfg down) r.events r.octets (subst (IsUpAtMostOnce cfg) r.next once))
 
 pub of_script_set_up : (Holds : Cfg → List Event → World → Type 0) → Always Holds → ScriptsAreRuns
     → OfScriptsSetUp (λ (cfg : Cfg) (w : World). (events : List Event) × (run cfg events (established cfg) ≡ w) × Holds cfg events w)
-of_script_set_up Holds always runs = λ cfg range tap script once. let r = runs cfg false tap script in
+of_script_set_up Holds always runs = λ cfg range shown script once. let r = runs cfg false shown script in
     (r.events, sym r.next, subst (Holds cfg r.events) (sym r.next) (always cfg range r.events r.octets (subst (IsUpOnce cfg) r.next once)))
 
 pub of_all_scripts : (Holds : Cfg → World → Type 0) → Throughout Holds → ScriptsAreRuns → OfAllScripts Holds
-of_all_scripts Holds throughout runs = λ cfg range down tap script. let r = runs cfg down tap script in
+of_all_scripts Holds throughout runs = λ cfg range down shown script. let r = runs cfg down shown script in
     subst (Holds cfg) (sym r.next) (throughout cfg range (begins cfg down) (begins_there cfg down) r.events r.octets)
 
 pub of_all_runs : (Holds : Cfg → World → List Event → World → Type 0) → ThroughoutAlong Holds → ScriptsAreRuns
     → OfAllScripts (λ (cfg : Cfg) (w : World). (begin : World) × IsBeginning cfg begin × (events : List Event) × (run cfg events begin ≡ w) × Holds cfg begin events w)
-of_all_runs Holds throughout runs = λ cfg range down tap script. let r = runs cfg down tap script in
+of_all_runs Holds throughout runs = λ cfg range down shown script. let r = runs cfg down shown script in
     (begins cfg down, begins_there cfg down, r.events, sym r.next, subst (Holds cfg (begins cfg down) r.events) (sym r.next) (throughout cfg range (begins cfg down) (begins_there cfg down) r.events r.octets))
 
 pub up_once : UpOnceUnlessConnected → ScriptsAreRuns → UpOnceUnlessAsked
-up_once once runs = λ cfg range tap script none. let r = runs cfg false tap script in
+up_once once runs = λ cfg range shown script none. let r = runs cfg false shown script in
     subst (IsUpOnce cfg) (sym r.next) (once cfg range r.events r.octets (r.unconnected none))
 
 pub are_told : ScriptsAreRuns → ScriptsAreTold
-are_told runs = λ cfg down tap script. let r = runs cfg down tap script in r.entries ∙ ap (λ w. w.transcript) (sym r.next)
+are_told runs = λ cfg down shown script. let r = runs cfg down shown script in r.entries ∙ ap (λ w. w.transcript) (sym r.next)
 
 pub are_tapped : ScriptsAreRuns → ScriptsAreTapped
-are_tapped runs = λ cfg down script. let r = runs cfg down true script in r.frames refl ∙ ap (λ w. w.tap) (sym r.next)
+are_tapped runs = λ cfg down shown script asked. let r = runs cfg down shown script in r.frames asked ∙ ap (λ w. w.tap) (sym r.next)

@@ -10,9 +10,10 @@ use Rattle.x25_station.specs.declared.config.Cfg.{Cfg}
 use Rattle.x25_world.specs.World.{World, WorldOutcome, Event, Receives, Happened, Declined, AreAccepted, happens, refusal_of, after, start, connected}
 use Rattle.x25_world.specs.code.FitsWorld.{FitsWorld}
 use Rattle.x25_world.specs.declared.error.WorldError.{WorldError}
+use Rattle.x25_sim.specs.declared.stage.Shown.{Shown}
 use Rattle.x25_sim.specs.declared.stage.Stage.{Stage}
-use Rattle.x25_sim.specs.Telling.{Saying, refuses, reads_nothing, sayings_text, saying_line, refusal_number, is_refusal, has_refusal}
-use Rattle.x25_sim.specs.Stage.{Turn, quiet, and_then, turn_of, tried_of, tried, event_turn, told_between, asked_turn, connecting, set_up, opened}
+use Rattle.x25_sim.specs.Telling.{Saying, refuses, reads_nothing, sayings_text, saying_line, mark_line, refusal_number, is_refusal, has_refusal}
+use Rattle.x25_sim.specs.Stage.{Turn, quiet, and_then, frames_if, marked, marks_if, turn_of, tried_of, tried, event_turn, told_between, asked_turn, connecting, set_up, opened}
 use Rattle.x25_sim.specs.code.Stands.{Stands, opening}
 use Rattle.x25_console.specs.Telling.{refusal_line}
 use Rattle.x25_io.proofs.ToldLemmas.{prefix_more}
@@ -20,73 +21,64 @@ use Rattle.x25_sim.proofs.SayingLemmas.{text-append}
 use Rattle.x25_sim.proofs.StepLemmas.{happened_turn, declined_turn, happened_tried, declined_tried, step_accepts, refusal_told}
 
 -- where it stands, by the turn that led there
-abbrev pub StandsAt : Cfg → Bool → Option (List ℕ) → Option (List ℕ) → Stage → List ℕ → Bool → Turn → Type 0
-StandsAt cfg tap old next u told refused t = Stands cfg tap old next u t.next (told ++ sayings_text t.sayings) (refused || has_refusal t.sayings)
+abbrev pub StandsAt : Cfg → Shown → Option (List ℕ) → Option (List ℕ) → Stage → List ℕ → Bool → Turn → Type 0
+StandsAt cfg shown old next u told refused t = Stands cfg shown old next u t.next (told ++ sayings_text t.sayings) (refused || has_refusal t.sayings)
 
 abbrev pub BeginsAt : Option (List ℕ) → Option (List ℕ) → List ℕ → Turn → Type 0
 BeginsAt old next told t = AppendsPrefix old next (told ++ sayings_text t.sayings)
 
-module _ (cfg : Cfg) (tap : Bool) (old now next : Option (List ℕ)) (s u : Stage) (w : World) (o : WorldOutcome) (told : List ℕ) (refused : Bool)
-    (h : Stands cfg tap old now s w told refused) where
+module _ (cfg : Cfg) (shown : Shown) (old now next : Option (List ℕ)) (s u : Stage) (w : World) (o : WorldOutcome) (told : List ℕ) (refused : Bool)
+    (h : Stands cfg shown old now s w told refused) where
   -- ---- an event happened
 
   module _ (accepted : refusal_of o ≡ None) where
-    pub stands_moved : FitsWorld cfg u.world (after w o) → u.tap ≡ s.tap → u.is_refused ≡ s.is_refused
-        → Tells old next u.output (told ++ sayings_text (told_between s.tap w (after w o))) → StandsAt cfg tap old next u told refused (turn_of tap w o)
+    pub stands_moved : FitsWorld cfg u.world (after w o) → u.shown ≡ s.shown → u.is_refused ≡ s.is_refused
+        → Tells old next u.output (told ++ sayings_text (told_between s.shown w (after w o))) → StandsAt cfg shown old next u told refused (turn_of shown w o)
     stands_moved fits asked status tells =
-        let moved : Turn = record { next = after w o; sayings = told_between tap w (after w o) } in
-        let stands : StandsAt cfg tap old next u told refused moved = record {
+        let moved : Turn = record { next = after w o; sayings = told_between shown w (after w o) } in
+        let stands : StandsAt cfg shown old next u told refused moved = record {
           fits = fits;
           asked = asked ∙ h.asked;
           tells = subst (λ b. Tells old next u.output (told ++ sayings_text (told_between b w (after w o)))) h.asked tells;
-          status = status ∙ h.status ∙ sym (or-false refused) ∙ ap (λ b. refused || b) (sym (step_accepts tap w (after w o)));
+          status = status ∙ h.status ∙ sym (or-false refused) ∙ ap (λ b. refused || b) (sym (step_accepts shown w (after w o)));
         } in
-        subst (StandsAt cfg tap old next u told refused) (sym (happened_turn tap w o accepted)) stands
+        subst (StandsAt cfg shown old next u told refused) (sym (happened_turn shown w o accepted)) stands
 
-    pub begins_moved : AppendsPrefix old next (told ++ sayings_text (told_between s.tap w (after w o))) → BeginsAt old next told (turn_of tap w o)
+    pub begins_moved : AppendsPrefix old next (told ++ sayings_text (told_between s.shown w (after w o))) → BeginsAt old next told (turn_of shown w o)
     begins_moved b =
-        subst (BeginsAt old next told) (sym (happened_turn tap w o accepted))
+        subst (BeginsAt old next told) (sym (happened_turn shown w o accepted))
         (subst (λ a. AppendsPrefix old next (told ++ sayings_text (told_between a w (after w o)))) h.asked b)
-
-    -- the same where nothing would be said of a refusal
-    pub stands_tried : FitsWorld cfg u.world (after w o) → u.tap ≡ s.tap → u.is_refused ≡ s.is_refused
-        → Tells old next u.output (told ++ sayings_text (told_between s.tap w (after w o))) → StandsAt cfg tap old next u told refused (tried_of tap w o)
-    stands_tried fits asked status tells =
-        subst (StandsAt cfg tap old next u told refused) (sym (happened_tried tap w o accepted)) (stands_moved fits asked status tells)
-
-    pub begins_tried : AppendsPrefix old next (told ++ sayings_text (told_between s.tap w (after w o))) → BeginsAt old next told (tried_of tap w o)
-    begins_tried b = subst (BeginsAt old next told) (sym (happened_tried tap w o accepted)) (begins_moved b)
 
   -- ---- an event was refused
 
   module _ (error : WorldError) (refusal : refusal_of o ≡ Some error) where
-    pub stands_refused : u.world ≡ s.world → u.tap ≡ s.tap → u.is_refused ≡ true → Tells old next u.output (told ++ refusal_line (refusal_number error))
-        → StandsAt cfg tap old next u told refused (turn_of tap w o)
+    pub stands_refused : u.world ≡ s.world → u.shown ≡ s.shown → u.is_refused ≡ true → Tells old next u.output (told ++ refusal_line (refusal_number error))
+        → StandsAt cfg shown old next u told refused (turn_of shown w o)
     stands_refused world asked status tells =
         let declined : Turn = record { next = w; sayings = refuses error ∷ [] } in
-        let stands : StandsAt cfg tap old next u told refused declined = record {
+        let stands : StandsAt cfg shown old next u told refused declined = record {
           fits = subst (λ v. FitsWorld cfg v w) (sym world) h.fits;
           asked = asked ∙ h.asked;
           tells = subst (λ t. Tells old next u.output (told ++ t)) (sym (refusal_told error)) tells;
           status = status ∙ sym (or-true refused);
         } in
-        subst (StandsAt cfg tap old next u told refused) (sym (declined_turn tap w o error refusal)) stands
+        subst (StandsAt cfg shown old next u told refused) (sym (declined_turn shown w o error refusal)) stands
 
-    pub begins_refused : AppendsPrefix old next (told ++ refusal_line (refusal_number error)) → BeginsAt old next told (turn_of tap w o)
+    pub begins_refused : AppendsPrefix old next (told ++ refusal_line (refusal_number error)) → BeginsAt old next told (turn_of shown w o)
     begins_refused b =
-        subst (BeginsAt old next told) (sym (declined_turn tap w o error refusal)) (subst (λ t. AppendsPrefix old next (told ++ t)) (sym (refusal_told error)) b)
+        subst (BeginsAt old next told) (sym (declined_turn shown w o error refusal)) (subst (λ t. AppendsPrefix old next (told ++ t)) (sym (refusal_told error)) b)
 
     -- nothing is said of the refusal
-    pub stands_left_out : FitsWorld cfg u.world w → u.tap ≡ s.tap → u.is_refused ≡ s.is_refused → Tells old next u.output told
-        → StandsAt cfg tap old next u told refused (tried_of tap w o)
-    stands_left_out fits asked status tells =
-        let stays : StandsAt cfg tap old next u told refused (quiet w) = record {
+    pub stands_left_out : (event : Event) → FitsWorld cfg u.world w → u.shown ≡ s.shown → u.is_refused ≡ s.is_refused → Tells old next u.output told
+        → StandsAt cfg shown old next u told refused (tried_of shown event w o)
+    stands_left_out event fits asked status tells =
+        let stays : StandsAt cfg shown old next u told refused (quiet w) = record {
           fits = fits;
           asked = asked ∙ h.asked;
           tells = subst (Tells old next u.output) (sym (append-nil told)) tells;
           status = status ∙ h.status ∙ sym (or-false refused);
         } in
-        subst (StandsAt cfg tap old next u told refused) (sym (declined_tried tap w o error refusal)) stays
+        subst (StandsAt cfg shown old next u told refused) (sym (declined_tried shown event w o error refusal)) stays
 
 pub refusal_is : {P Q : Type 0} → P ⊎ Q → (Q → ⊥) → P
 refusal_is (inl p) other = p
@@ -97,10 +89,10 @@ nothing_read : sayings_text (reads_nothing ∷ []) ≡ codes "? 60\n"
 unfolding saying_line
 nothing_read = refl
 
-module _ (cfg : Cfg) (tap : Bool) (old now next : Option (List ℕ)) (s u : Stage) (w : World) (told : List ℕ) (refused : Bool)
-    (h : Stands cfg tap old now s w told refused) where
-  pub stands_unread : u.world ≡ s.world → u.tap ≡ s.tap → u.is_refused ≡ true → Tells old next u.output (told ++ codes "? 60\n")
-      → StandsAt cfg tap old next u told refused (asked_turn cfg tap w None)
+module _ (cfg : Cfg) (shown : Shown) (old now next : Option (List ℕ)) (s u : Stage) (w : World) (told : List ℕ) (refused : Bool)
+    (h : Stands cfg shown old now s w told refused) where
+  pub stands_unread : u.world ≡ s.world → u.shown ≡ s.shown → u.is_refused ≡ true → Tells old next u.output (told ++ codes "? 60\n")
+      → StandsAt cfg shown old next u told refused (asked_turn cfg shown w None)
   stands_unread world asked status tells = record {
     fits = subst (λ v. FitsWorld cfg v w) (sym world) h.fits;
     asked = asked ∙ h.asked;
@@ -108,9 +100,50 @@ module _ (cfg : Cfg) (tap : Bool) (old now next : Option (List ℕ)) (s u : Stag
     status = status ∙ sym (or-true refused);
   }
 
-pub begins_unread : (cfg : Cfg) (tap : Bool) (old next : Option (List ℕ)) (w : World) (told : List ℕ) → AppendsPrefix old next (told ++ codes "? 60\n")
-    → BeginsAt old next told (asked_turn cfg tap w None)
-begins_unread cfg tap old next w told b = subst (λ t. AppendsPrefix old next (told ++ t)) (sym nothing_read) b
+pub begins_unread : (cfg : Cfg) (shown : Shown) (old next : Option (List ℕ)) (w : World) (told : List ℕ) → AppendsPrefix old next (told ++ codes "? 60\n")
+    → BeginsAt old next told (asked_turn cfg shown w None)
+begins_unread cfg shown old next w told b = subst (λ t. AppendsPrefix old next (told ++ t)) (sym nothing_read) b
+
+-- ---- an event is told
+
+marks_text : (events : Bool) (e : Event) → events ≡ true → sayings_text (marks_if events e) ≡ mark_line e
+unfolding saying_line
+marks_text true e on = append-nil (mark_line e)
+marks_text false e on = absurd (cc)
+
+no_marks_text : (events : Bool) (e : Event) → events ≡ false → sayings_text (marks_if events e) ≡ []
+no_marks_text true e off = absurd (cc)
+no_marks_text false e off = refl
+
+no_mark_refuses : (events : Bool) (e : Event) → has_refusal (marks_if events e) ≡ false
+no_mark_refuses true e = refl
+no_mark_refuses false e = refl
+
+module _ (cfg : Cfg) (shown : Shown) (old now next : Option (List ℕ)) (s u : Stage) (w : World) (e : Event) (told : List ℕ) (refused : Bool)
+    (h : Stands cfg shown old now s w told refused) where
+  stands_so : u.world ≡ s.world → u.shown ≡ s.shown → u.is_refused ≡ s.is_refused → Tells old next u.output (told ++ sayings_text (marks_if shown.events e))
+      → StandsAt cfg shown old next u told refused (marked shown e w)
+  stands_so world asked status tells = record {
+    fits = subst (λ v. FitsWorld cfg v w) (sym world) h.fits;
+    asked = asked ∙ h.asked;
+    tells = tells;
+    status = status ∙ h.status ∙ sym (or-false refused) ∙ ap (λ b. refused || b) (sym (no_mark_refuses shown.events e));
+  }
+
+  are_told : s.shown.events ≡ true → shown.events ≡ true
+  are_told on = sym (ap (λ (x : Shown). x.events) h.asked) ∙ on
+
+  pub stands_marked : s.shown.events ≡ true → u.world ≡ s.world → u.shown ≡ s.shown → u.is_refused ≡ s.is_refused → Tells old next u.output (told ++ mark_line e)
+      → StandsAt cfg shown old next u told refused (marked shown e w)
+  stands_marked on world asked status tells = stands_so world asked status (subst (λ t. Tells old next u.output (told ++ t)) (sym (marks_text shown.events e (are_told on))) tells)
+
+  pub begins_marked : s.shown.events ≡ true → AppendsPrefix old next (told ++ mark_line e) → BeginsAt old next told (marked shown e w)
+  begins_marked on b = subst (λ t. AppendsPrefix old next (told ++ t)) (sym (marks_text shown.events e (are_told on))) b
+
+  pub stands_unmarked : s.shown.events ≡ false → u.world ≡ s.world → u.shown ≡ s.shown → u.is_refused ≡ s.is_refused → Tells old next u.output told
+      → StandsAt cfg shown old next u told refused (marked shown e w)
+  stands_unmarked off world asked status tells = stands_so world asked status
+      (subst (Tells old next u.output) (sym (append-nil told) ∙ ap (λ t. told ++ t) (sym (no_marks_text shown.events e (sym (ap (λ (x : Shown). x.events) h.asked) ∙ off)))) tells)
 
 -- ---- one turn behind another
 
@@ -121,11 +154,11 @@ parts_text told first second = append_assoc told (sayings_text first) (sayings_t
 pub parts_refused : (refused : Bool) (first second : List Saying) → ((refused || has_refusal first) || has_refusal second) ≡ (refused || has_refusal (first ++ second))
 parts_refused refused first second = or_assoc refused (has_refusal first) (has_refusal second) ∙ ap (λ b. refused || b) (sym (list_any-append is_refusal first second))
 
-module _ (cfg : Cfg) (tap : Bool) (old next : Option (List ℕ)) (u : Stage) (told : List ℕ) (refused : Bool) (rest : World → Turn) (t : Turn) where
-  pub stands_behind : StandsAt cfg tap old next u (told ++ sayings_text t.sayings) (refused || has_refusal t.sayings) (rest t.next) → StandsAt cfg tap old next u told refused (and_then rest t)
+module _ (cfg : Cfg) (shown : Shown) (old next : Option (List ℕ)) (u : Stage) (told : List ℕ) (refused : Bool) (rest : World → Turn) (t : Turn) where
+  pub stands_behind : StandsAt cfg shown old next u (told ++ sayings_text t.sayings) (refused || has_refusal t.sayings) (rest t.next) → StandsAt cfg shown old next u told refused (and_then rest t)
   stands_behind h =
-      subst (λ text. Stands cfg tap old next u (rest t.next).next text (refused || has_refusal (and_then rest t).sayings)) (parts_text told t.sayings (rest t.next).sayings)
-      (subst (Stands cfg tap old next u (rest t.next).next ((told ++ sayings_text t.sayings) ++ sayings_text (rest t.next).sayings)) (parts_refused refused t.sayings (rest t.next).sayings) h)
+      subst (λ text. Stands cfg shown old next u (rest t.next).next text (refused || has_refusal (and_then rest t).sayings)) (parts_text told t.sayings (rest t.next).sayings)
+      (subst (Stands cfg shown old next u (rest t.next).next ((told ++ sayings_text t.sayings) ++ sayings_text (rest t.next).sayings)) (parts_refused refused t.sayings (rest t.next).sayings) h)
 
   pub begins_behind : BeginsAt old next (told ++ sayings_text t.sayings) (rest t.next) → BeginsAt old next told (and_then rest t)
   begins_behind b = subst (AppendsPrefix old next) (parts_text told t.sayings (rest t.next).sayings) b
@@ -137,13 +170,13 @@ module _ (cfg : Cfg) (tap : Bool) (old next : Option (List ℕ)) (u : Stage) (to
 -- ---- before the script
 
 -- the first world, and what is said of it
-abbrev pub first_turn : Cfg → Bool → Bool → Turn
-first_turn cfg down tap = record { next = opening cfg down; sayings = told_between tap start (opening cfg down) }
+abbrev pub first_turn : Cfg → Bool → Shown → Turn
+first_turn cfg down shown = record { next = opening cfg down; sayings = told_between shown start (opening cfg down) }
 
-pub stands_first : (cfg : Cfg) (down tap : Bool) (old next : Option (List ℕ)) (u : Stage) → FitsWorld cfg u.world (opening cfg down) → u.tap ≡ tap
-    → u.is_refused ≡ false → Tells old next u.output (sayings_text (told_between tap start (opening cfg down))) → StandsAt cfg tap old next u [] false (first_turn cfg down tap)
-stands_first cfg down tap old next u fits asked status tells =
-    record { fits = fits; asked = asked; tells = tells; status = status ∙ sym (step_accepts tap start (opening cfg down)) }
+pub stands_first : (cfg : Cfg) (down : Bool) (shown : Shown) (old next : Option (List ℕ)) (u : Stage) → FitsWorld cfg u.world (opening cfg down) → u.shown ≡ shown
+    → u.is_refused ≡ false → Tells old next u.output (sayings_text (told_between shown start (opening cfg down))) → StandsAt cfg shown old next u [] false (first_turn cfg down shown)
+stands_first cfg down shown old next u fits asked status tells =
+    record { fits = fits; asked = asked; tells = tells; status = status ∙ sym (step_accepts shown start (opening cfg down)) }
 
 abbrev sabm_arrives : Event
 sabm_arrives = record { at = Dce; act = Receives }
@@ -152,32 +185,35 @@ abbrev ua_arrives : Event
 ua_arrives = record { at = Dte; act = Receives }
 
 -- both deliveries, each where it isn't refused
-abbrev pub deliveries : Cfg → Bool → World → Turn
-deliveries cfg tap w = and_then (tried cfg tap ua_arrives) (tried cfg tap sabm_arrives w)
+abbrev pub deliveries : Cfg → Shown → World → Turn
+deliveries cfg shown w = and_then (tried cfg shown ua_arrives) (tried cfg shown sabm_arrives w)
 
-accepted_turn : (cfg : Cfg) (tap : Bool) (e : Event) (w : World) → refusal_of (happens cfg w e) ≡ None → tried cfg tap e w ≡ event_turn cfg tap e w
+accepted_turn : (cfg : Cfg) (shown : Shown) (e : Event) (w : World) → refusal_of (happens cfg w e) ≡ None → tried cfg shown e w ≡ event_turn cfg shown e w
 unfolding tried event_turn
-accepted_turn cfg tap e w accepted = happened_tried tap w (happens cfg w e) accepted
+accepted_turn cfg shown e w accepted = happened_tried shown e w (happens cfg w e) accepted
 
-turned_at : (cfg : Cfg) (tap : Bool) (e : Event) (w : World) → (event_turn cfg tap e w).next ≡ after w (happens cfg w e)
+turned_at : (cfg : Cfg) (shown : Shown) (e : Event) (w : World) → (event_turn cfg shown e w).next ≡ after w (happens cfg w e)
 unfolding event_turn
-turned_at cfg tap e w = go (happens cfg w e)
+turned_at cfg shown e w = go (happens cfg w e)
   where
-    go : (o : WorldOutcome) → (turn_of tap w o).next ≡ after w o
+    go : (o : WorldOutcome) → (turn_of shown w o).next ≡ after w o
     go (Happened next) = refl
     go (Declined error) = refl
 
+no_frames : (tap : Bool) → frames_if tap [] ≡ []
+no_frames true = refl
+no_frames false = refl
+
 -- SABM and UA are there where the DTE has asked, and nothing is on the line where both links are down
-pub opens : (cfg : Cfg) (down tap : Bool) → AreAccepted cfg (sabm_arrives ∷ ua_arrives ∷ []) (connected cfg) → and_then (deliveries cfg tap) (first_turn cfg down tap) ≡ opened cfg down tap
+pub opens : (cfg : Cfg) (down : Bool) (shown : Shown) → AreAccepted cfg (sabm_arrives ∷ ua_arrives ∷ []) (connected cfg) → and_then (deliveries cfg shown) (first_turn cfg down shown) ≡ opened cfg down shown
 unfolding tried set_up
-opens cfg true true accepted = refl
-opens cfg true false accepted = refl
-opens cfg false tap accepted =
+opens cfg true shown accepted = ap (λ frames. record { next = start; sayings = frames ++ [] }) (no_frames shown.tap)
+opens cfg false shown accepted =
     let w = connected cfg in
-    let said = told_between tap start w in
-    let sabm = event_turn cfg tap sabm_arrives w in
-    let ua = event_turn cfg tap ua_arrives sabm.next in
-    let there = subst (λ v. refusal_of (happens cfg v ua_arrives) ≡ None) (sym (turned_at cfg tap sabm_arrives w)) accepted.1.0 in
-    ap (λ (t : Turn). and_then (λ v. and_then (tried cfg tap ua_arrives) t) (connecting cfg tap)) (accepted_turn cfg tap sabm_arrives w accepted.0)
-    ∙ ap (λ (t : Turn). record { next = t.next; sayings = said ++ (sabm.sayings ++ t.sayings) }) (accepted_turn cfg tap ua_arrives sabm.next there)
+    let said = told_between shown start w in
+    let sabm = event_turn cfg shown sabm_arrives w in
+    let ua = event_turn cfg shown ua_arrives sabm.next in
+    let there = subst (λ v. refusal_of (happens cfg v ua_arrives) ≡ None) (sym (turned_at cfg shown sabm_arrives w)) accepted.1.0 in
+    ap (λ (t : Turn). and_then (λ v. and_then (tried cfg shown ua_arrives) t) (connecting cfg shown)) (accepted_turn cfg shown sabm_arrives w accepted.0)
+    ∙ ap (λ (t : Turn). record { next = t.next; sayings = said ++ (sabm.sayings ++ t.sayings) }) (accepted_turn cfg shown ua_arrives sabm.next there)
     ∙ ap (λ says. record { next = ua.next; sayings = says }) (sym (append_assoc said sabm.sayings ua.sayings))

@@ -9,6 +9,7 @@ use Rattle.x25_io.specs.declared.fault.Fault.{Fault}
 use Rattle.x25_script.specs.Reading.{line_in}
 use Rattle.x25_station.specs.declared.config.Cfg.{Cfg}
 use Rattle.x25_world.specs.World.{World}
+use Rattle.x25_sim.specs.declared.stage.Shown.{Shown}
 use Rattle.x25_sim.specs.Telling.{sayings_text, has_refusal}
 use Rattle.x25_sim.specs.Stage.{Turn, quiet, and_then, asked_in, asked_turn, turn, turns}
 use Rattle.x25_sim.specs.code.Stands.{Stands, Stood, Turns}
@@ -23,47 +24,47 @@ pub asks_nothing : (line : List ℕ) → most_line < length line → asked_in li
 unfolding asked_in
 asks_nothing line long = ap (λ b. if b then line_in line else None) (lt-leb (length line) most_line long)
 
-turns_more : (cfg : Cfg) (tap : Bool) (line : List ℕ) (lines : List (List ℕ)) (w : World) → turns cfg tap (line ∷ lines) w ≡ and_then (turns cfg tap lines) (turn cfg tap line w)
+turns_more : (cfg : Cfg) (shown : Shown) (line : List ℕ) (lines : List (List ℕ)) (w : World) → turns cfg shown (line ∷ lines) w ≡ and_then (turns cfg shown lines) (turn cfg shown line w)
 unfolding turns
-turns_more cfg tap line lines w = refl
+turns_more cfg shown line lines w = refl
 
-turns_none : (cfg : Cfg) (tap : Bool) (w : World) → turns cfg tap [] w ≡ quiet w
+turns_none : (cfg : Cfg) (shown : Shown) (w : World) → turns cfg shown [] w ≡ quiet w
 unfolding turns
-turns_none cfg tap w = refl
+turns_none cfg shown w = refl
 
-module _ (cfg : Cfg) (tap : Bool) (old now next : Option (List ℕ)) (whole : Turn) where
+module _ (cfg : Cfg) (shown : Shown) (old now next : Option (List ℕ)) (whole : Turn) where
   -- a line was taken
-  pub line_done : (s u : Stage) (line : List ℕ) (lines : List (List ℕ)) (l : Leaves cfg tap old now s (turns cfg tap (line ∷ lines)) [] false whole)
-      → StandsAt cfg tap old next u l.text l.status (turn cfg tap line l.at) → Leaves cfg tap old next u (turns cfg tap lines) [] false whole
-  line_done s u line lines l h = part_done cfg tap old now next s u [] false whole (turns cfg tap (line ∷ lines)) (turn cfg tap line) (turns cfg tap lines) l (turns_more cfg tap line lines l.at) h
+  pub line_done : (s u : Stage) (line : List ℕ) (lines : List (List ℕ)) (l : Leaves cfg shown old now s (turns cfg shown (line ∷ lines)) [] false whole)
+      → StandsAt cfg shown old next u l.text l.status (turn cfg shown line l.at) → Leaves cfg shown old next u (turns cfg shown lines) [] false whole
+  line_done s u line lines l h = part_done cfg shown old now next s u [] false whole (turns cfg shown (line ∷ lines)) (turn cfg shown line) (turns cfg shown lines) l (turns_more cfg shown line lines l.at) h
 
-  pub line_failed : (s : Stage) (line : List ℕ) (lines : List (List ℕ)) (l : Leaves cfg tap old now s (turns cfg tap (line ∷ lines)) [] false whole)
-      → BeginsAt old next l.text (turn cfg tap line l.at) → AppendsPrefix old next (sayings_text whole.sayings)
-  line_failed s line lines l b = part_failed cfg tap old now next s s [] false whole (turns cfg tap (line ∷ lines)) (turn cfg tap line) (turns cfg tap lines) l (turns_more cfg tap line lines l.at) b
+  pub line_failed : (s : Stage) (line : List ℕ) (lines : List (List ℕ)) (l : Leaves cfg shown old now s (turns cfg shown (line ∷ lines)) [] false whole)
+      → BeginsAt old next l.text (turn cfg shown line l.at) → AppendsPrefix old next (sayings_text whole.sayings)
+  line_failed s line lines l b = part_failed cfg shown old now next s s [] false whole (turns cfg shown (line ∷ lines)) (turn cfg shown line) (turns cfg shown lines) l (turns_more cfg shown line lines l.at) b
 
   -- ---- what waited is written
 
-  pub left_written : (s u : Stage) (rest : World → Turn) (l : Leaves cfg tap old now s rest [] false whole) → Stands cfg tap old next u l.at l.text l.status
-      → Leaves cfg tap old next u rest [] false whole
+  pub left_written : (s u : Stage) (rest : World → Turn) (l : Leaves cfg shown old now s rest [] false whole) → Stands cfg shown old next u l.at l.text l.status
+      → Leaves cfg shown old next u rest [] false whole
   left_written s u rest l h = record { at = l.at; text = l.text; status = l.status; stands = h; next = l.next; same = l.same; any = l.any }
 
-  pub left_begun : (s : Stage) (rest : World → Turn) (l : Leaves cfg tap old now s rest [] false whole) → AppendsPrefix old next l.text → AppendsPrefix old next (sayings_text whole.sayings)
+  pub left_begun : (s : Stage) (rest : World → Turn) (l : Leaves cfg shown old now s rest [] false whole) → AppendsPrefix old next l.text → AppendsPrefix old next (sayings_text whole.sayings)
   left_begun s rest l b = subst (AppendsPrefix old next) l.same (b.0, b.1 ++ sayings_text (rest l.at).sayings, ap (λ t. t ++ sayings_text (rest l.at).sayings) b.2 ∙ append_assoc b.0 b.1 (sayings_text (rest l.at).sayings), b.3)
 
-  pub ended_written : (s u : Stage) (lines : List (List ℕ)) (l : Leaves cfg tap old now s (turns cfg tap lines) [] false whole) → u.output ≡ [] → Stands cfg tap old next u l.at l.text l.status
-      → WritesLines cfg tap old next lines whole
+  pub ended_written : (s u : Stage) (lines : List (List ℕ)) (l : Leaves cfg shown old now s (turns cfg shown lines) [] false whole) → u.output ≡ [] → Stands cfg shown old next u l.at l.text l.status
+      → WritesLines cfg shown old next lines whole
   ended_written s u lines l empty h = record {
     at = l.at;
     part = h.tells.written;
     appends = h.tells.appends;
-    same = ap (λ t. t ++ sayings_text (turns cfg tap lines l.at).sayings) (sym (append-nil h.tells.written) ∙ ap (λ t. h.tells.written ++ t) (sym empty) ∙ h.tells.same) ∙ l.same;
+    same = ap (λ t. t ++ sayings_text (turns cfg shown lines l.at).sayings) (sym (append-nil h.tells.written) ∙ ap (λ t. h.tells.written ++ t) (sym empty) ∙ h.tells.same) ∙ l.same;
   }
 
 -- all is told, and nothing waits
-pub whole_told : (cfg : Cfg) (tap : Bool) (old now : Option (List ℕ)) (s : Stage) (whole : Turn) → Leaves cfg tap old now s (turns cfg tap []) [] false whole → s.output ≡ []
+pub whole_told : (cfg : Cfg) (shown : Shown) (old now : Option (List ℕ)) (s : Stage) (whole : Turn) → Leaves cfg shown old now s (turns cfg shown []) [] false whole → s.output ≡ []
     → Appends old now (sayings_text whole.sayings) × (s.is_refused ≡ has_refusal whole.sayings)
-whole_told cfg tap old now s whole l empty =
-    let h = none_left cfg tap old now old s s [] false whole (turns cfg tap []) l (turns_none cfg tap l.at) in
+whole_told cfg shown old now s whole l empty =
+    let h = none_left cfg shown old now old s s [] false whole (turns cfg shown []) l (turns_none cfg shown l.at) in
     let text : h.tells.written ≡ sayings_text whole.sayings = sym (append-nil h.tells.written) ∙ ap (λ t. h.tells.written ++ t) (sym empty) ∙ h.tells.same in
     (subst (Appends old now) text h.tells.appends, h.status)
 
@@ -74,8 +75,8 @@ unfolding asked_in
 asks line few = ap (λ b. if b then line_in line else None) (le-leb (length line) most_line few)
 
 -- what a line asks for happens, where it isn't too long
-pub obeyed : (cfg : Cfg) (tap : Bool) (old now next : Option (List ℕ)) (s u : Stage) (result : Result Unit Fault) (line : List ℕ) → length line ≤ most_line
-    → Turns cfg tap old now next s u result (λ w. asked_turn cfg tap w (line_in line)) → Turns cfg tap old now next s u result (turn cfg tap line)
+pub obeyed : (cfg : Cfg) (shown : Shown) (old now next : Option (List ℕ)) (s u : Stage) (result : Result Unit Fault) (line : List ℕ) → length line ≤ most_line
+    → Turns cfg shown old now next s u result (λ w. asked_turn cfg shown w (line_in line)) → Turns cfg shown old now next s u result (turn cfg shown line)
 unfolding turn
-obeyed cfg tap old now next s u result line few h = λ w told refused stands.
-    subst (λ read. Stood cfg tap old next u told refused result (asked_turn cfg tap w read)) (sym (asks line few)) (h w told refused stands)
+obeyed cfg shown old now next s u result line few h = λ w told refused stands.
+    subst (λ read. Stood cfg shown old next u told refused result (asked_turn cfg shown w read)) (sym (asks line few)) (h w told refused stands)

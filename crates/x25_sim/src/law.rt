@@ -9,6 +9,7 @@ ghost use Rattle.x25_sim.specs.laws.RunLaw.{HealBringsAll, HealRestShowsAll, Hea
 ghost use Rattle.x25_sim.specs.laws.RunLaw.{OfScripts, OfScriptsSetUp};
 ghost use Rattle.x25_sim.specs.laws.RunLaw.{ScriptsAreRuns, ScriptsAreTapped, ScriptsAreTold, UpOnceUnlessAsked};
 ghost use Rattle.x25_sim.specs.rows.ScriptRows.{BothEndsGoDown, BothEndsHeal, CallsCollide, DamageIsSeen};
+ghost use Rattle.x25_sim.specs.rows.ScriptRows.{EventsAreTold};
 ghost use Rattle.x25_sim.specs.rows.ScriptRows.{FramesAreWritten, LinkGoesDown, LinkIsSetUp, LinkIsSetUpAgain};
 ghost use Rattle.x25_sim.specs.rows.ScriptRows.{LinksComeUp, LinksThatAreDownHeal, LostFrameArrives, LostUaComesAgain};
 ghost use Rattle.x25_sim.specs.rows.ScriptRows.{MessagesArrive, OtherLinesAreRefused, ResetIsDone, RestartIsDone};
@@ -78,14 +79,15 @@ pub fn heal_is_the_schedule()
     healing_brings_all();
 }
 
-/// Worked scripts, with what is written and the status: set-up, and with its frames; a link that goes down by retries;
-/// damage and other refusals; two calls that collide; lines outside of the grammar; a call and its messages; `reset`,
-/// `restart` and `disconnect`; `connect` from both links down, also where a UA is lost, and of a link that went down;
-/// `heal` where frames are lost one way and both ways, where a message waits in its circuit, and where both links are
-/// down.
+/// Worked scripts, with what is written and the status: set-up, and with its frames; events; a link that goes down by
+/// retries; damage and other refusals; two calls that collide; lines outside of the grammar; a call and its messages;
+/// `reset`, `restart` and `disconnect`; `connect` from both links down, also where a UA is lost, and of a link that
+/// went down; `heal` where frames are lost one way and both ways, where a message waits in its circuit, and where both
+/// links are down.
 pub fn scripts_move()
     ensures set_up { LinksComeUp }
     ensures frames { FramesAreWritten }
+    ensures events { EventsAreTold }
     ensures down { LinkGoesDown }
     ensures damage { DamageIsSeen }
     ensures collision { CallsCollide }

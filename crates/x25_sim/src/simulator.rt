@@ -25,6 +25,7 @@ impl<P: Reporter> Simulator<P> {
     ghost use Rattle.x25_station.specs.declared.config.Cfg.{Cfg as Settings};
     ghost use Rattle.x25_sim.specs.Stage.{asked_turn};
     ghost use Rattle.x25_sim.specs.code.Stands.{Turns};
+    ghost use Rattle.x25_sim.specs.declared.stage.Shown.{Shown as Show};
 
     pub(crate) fn new(octets: Vec<u8>, stage: Stage, reporter: P) -> Simulator<P>
         ensures { result.stage ≡ stage }
@@ -51,9 +52,9 @@ impl<P: Reporter> Simulator<P> {
     /// Does what a line asks for.
     #[inline(always)]
     fn read<W: Sink>(&mut self, line: &[u8], writer: &mut W) -> Result<(), Fault>
-        ensures turns { (cfg : Settings) (tap : Bool) (old : Option (List ℕ))
-            → Turns cfg tap old (W.contents writer.old) (W.contents writer.new) self.old.stage self.new.stage result
-            (λ w. asked_turn cfg tap w (line_in line.now)) }
+        ensures turns { (cfg : Settings) (shown : Show) (old : Option (List ℕ))
+            → Turns cfg shown old (W.contents writer.old) (W.contents writer.new) self.old.stage self.new.stage result
+            (λ w. asked_turn cfg shown w (line_in line.now)) }
         ensures faults { MarksFaults W.Sink writer.old writer.new result }
     {
         let result = read_line(line, self, writer);
@@ -69,11 +70,13 @@ impl<W: Sink, P: Reporter> ScriptTaker<W> for Simulator<P> {
     ghost use Rattle.x25_station.specs.declared.config.Cfg.{Cfg as Settings};
     ghost use Rattle.x25_sim.specs.Stage.{asked_turn};
     ghost use Rattle.x25_sim.specs.code.Stands.{Turns};
+    ghost use Rattle.x25_sim.specs.declared.stage.Shown.{Shown as Show};
 
     type Answer = Result<(), Fault>;
 
-    ghost gives = { λ s was u is result asked. ((cfg : Settings) (tap : Bool) (old : Option (List ℕ))
-        → Turns cfg tap old (W.contents was) (W.contents is) s.stage u.stage result (λ w. asked_turn cfg tap w asked))
+    ghost gives = { λ s was u is result asked. ((cfg : Settings) (shown : Show) (old : Option (List ℕ))
+        → Turns cfg shown old (W.contents was) (W.contents is) s.stage u.stage result
+        (λ w. asked_turn cfg shown w asked))
         × MarksFaults W.Sink was is result };
 
     #[inline(always)]
@@ -140,9 +143,9 @@ impl<P: Reporter> LineTaker for Simulator<P> {
     // How the simulation was asked for.
     ghost Setting = { Asked };
 
-    ghost text_of = { λ a. sim_text a.cfg a.down a.tap };
+    ghost text_of = { λ a. sim_text a.cfg a.down a.shown };
 
-    ghost status_of = { λ a. sim_status a.cfg a.down a.tap };
+    ghost status_of = { λ a. sim_status a.cfg a.down a.shown };
 
     ghost waiting = { λ s. s.stage.output };
 
@@ -150,8 +153,8 @@ impl<P: Reporter> LineTaker for Simulator<P> {
 
     ghost stands = { λ a s. Simulates a s.stage };
 
-    ghost ended = { λ a old now lines script. WritesLines a.cfg a.tap old now lines
-        (simulated a.cfg a.down a.tap script) };
+    ghost ended = { λ a old now lines script. WritesLines a.cfg a.shown old now lines
+        (simulated a.cfg a.down a.shown script) };
 
     #[inline(always)]
     fn take_line<W: Sink>(&mut self, line: Option<&[u8]>, writer: &mut W) -> Result<(), Fault> {
@@ -163,6 +166,10 @@ impl<P: Reporter> LineTaker for Simulator<P> {
                 self.stage.read_nothing(writer)
             }
         }
+    }
+
+    fn pass_over(&mut self) {
+        self.number = self.number.saturating_add(1);
     }
 
     fn write_out<W: Sink>(&mut self, writer: &mut W) -> Result<(), Fault> {

@@ -6,7 +6,7 @@ ghost use Rattle.x25_world.specs.code.FitsWorld.{FitsWorld};
 ghost use Rattle.x25_world.specs.code.ShownWorld.{ShownWorld, line_from, line_of};
 ghost use Rattle.x25_sim.specs.code.Stands.{opening};
 
-use crate::telling::{tell_entries, tell_frames, tell_refusal};
+use crate::telling::{tell_entries, tell_frames, tell_mark, tell_refusal};
 use std::alloc::Global;
 use x25_console::tell_nothing;
 use x25_io::{Fault, Output, Sink};
@@ -15,12 +15,21 @@ use x25_world::{
     Direction, Event, Role, SABM_ARRIVES, UA_ARRIVES, World, WorldError, two_stations_keep_order,
 };
 
+/// What is told beside entries and refusals.
+#[derive(Clone, Copy, Debug, PartialEq, Eq)]
+pub struct Shown {
+    /// The frames that were put on the line in a step, behind its entries.
+    pub tap: bool,
+    /// Each event, behind what it made.
+    pub events: bool,
+}
+
 /// A world of which all was told, and what waits to be written.
 #[derive(Drop)]
 pub(crate) struct Stage {
     world: World,
     step: Step,
-    tap: bool,
+    shown: Shown,
     output: Output,
     is_refused: bool,
 }
@@ -68,18 +77,20 @@ impl Stage {
     ghost use Rattle.x25_io.specs.code.MarksFaults.{MarksFaults};
     ghost use Rattle.x25_io.specs.code.Written.{AppendsPrefix, Tells, TellsMore};
     ghost use Rattle.x25_station.specs.declared.config.Cfg.{Cfg as Settings};
-    ghost use Rattle.x25_world.specs.World.{World as State, start, entered, tapped, WorldOutcome, event_of, refusal_of};
+    ghost use Rattle.x25_world.specs.World.{World as State, start, entered, tapped, WorldOutcome, event_of, happens};
+    ghost use Rattle.x25_world.specs.World.{refusal_of};
     ghost use Rattle.x25_world.specs.Healing.{next_end};
     ghost use Rattle.x25_sim.specs.Telling.{taps, sayings_text};
-    ghost use Rattle.x25_sim.specs.Stage.{and_then, asked_turn, drained, emptied, event_turn, fired, healed};
+    ghost use Rattle.x25_sim.specs.Stage.{and_then, asked_turn, drained, emptied, event_turn, fired, healed, marked};
     ghost use Rattle.x25_sim.specs.Stage.{most_times, opened, pulled, told_between, tried, turn_of};
+    ghost use Rattle.x25_sim.specs.declared.stage.Shown.{Shown as Show};
     ghost use Rattle.x25_sim.specs.code.Stands.{IsOpening, Stands, Stood, Turns};
 
     /// The first world, of which nothing was told.
     #[tactic(auto, unfolding(crate::specs::code::Stands::IsOpening))]
-    pub(crate) fn new(alloc: Global, down: bool, cfg: Cfg, tap: bool) -> Result<Stage, Fault>
+    pub(crate) fn new(alloc: Global, down: bool, cfg: Cfg, shown: Shown) -> Result<Stage, Fault>
         ensures opening { IfOk result (IsOpening cfg down) }
-        ensures tap { IfOk result (λ s. s.tap ≡ tap) }
+        ensures shown { IfOk result (λ s. s.shown ≡ shown) }
         ensures empty { IfOk result (λ s. s.output ≡ []) }
         ensures is_refused { IfOk result (λ s. s.is_refused ≡ false) }
         ensures memory { IfErr result (λ fault. fault ≡ Fault.NoMemory) }
@@ -91,7 +102,7 @@ impl Stage {
         Ok(Stage {
             world,
             step: Step::new(alloc),
-            tap,
+            shown,
             output,
             is_refused: false,
         })
@@ -102,7 +113,7 @@ impl Stage {
         ensures tells { TellsMore result (W.contents writer.old) (W.contents writer.new) self.old.output self.new.output
             (sayings_text (map taps (tapped at (drop before (line_from self.old.world at))))) }
         ensures world { self.new.world ≡ self.old.world }
-        ensures tap { self.new.tap ≡ self.old.tap }
+        ensures shown { self.new.shown ≡ self.old.shown }
         ensures is_refused { self.new.is_refused ≡ self.old.is_refused }
         ensures faults { MarksFaults W.Sink writer.old writer.new result }
     {
@@ -117,16 +128,17 @@ impl Stage {
         ensures tells { (old : Option (List ℕ)) (told : List ℕ) (w next : State) → next.transcript ≡ w.transcript
             ++ entered at (map plain_entry self.old.step.entries.items)
             → next.tap ≡ w.tap ++ tapped at (drop before (line_from self.old.world at))
-            → Tells old (W.contents writer.old) self.old.output told → let sayings = told_between self.old.tap w next in
+            → Tells old (W.contents writer.old) self.old.output told
+            → let sayings = told_between self.old.shown w next in
             MatchResult result (λ _. Tells old (W.contents writer.new) self.new.output (told ++ sayings_text sayings))
             (λ _. AppendsPrefix old (W.contents writer.new) (told ++ sayings_text sayings)) }
         ensures world { self.new.world ≡ self.old.world }
-        ensures tap { self.new.tap ≡ self.old.tap }
+        ensures shown { self.new.shown ≡ self.old.shown }
         ensures is_refused { self.new.is_refused ≡ self.old.is_refused }
         ensures faults { MarksFaults W.Sink writer.old writer.new result }
     {
         tell_entries(at, self.step.entries.as_slice(), &mut self.output, writer)?;
-        if !self.tap {
+        if !self.shown.tap {
             return Ok(());
         }
         self.tell_put(at, before, writer)
@@ -146,11 +158,11 @@ impl Stage {
     /// Tells that an event is refused; want of memory is a fault.
     #[inline(always)]
     fn refuse<W: Sink>(&mut self, error: WorldError, writer: &mut W) -> Result<(), Fault>
-        ensures stood { (cfg : Settings) (tap : Bool) (old : Option (List ℕ)) (w : State) (outcome : WorldOutcome)
+        ensures stood { (cfg : Settings) (shown : Show) (old : Option (List ℕ)) (w : State) (outcome : WorldOutcome)
             (told : List ℕ) (refused : Bool)
-            → Stands cfg tap old (W.contents writer.old) self.old w told refused
+            → Stands cfg shown old (W.contents writer.old) self.old w told refused
             → ((refusal_of outcome ≡ Some error) ⊎ (error ≡ WorldError.NoMemory))
-            → Stood cfg tap old (W.contents writer.new) self.new told refused result (turn_of tap w outcome) }
+            → Stood cfg shown old (W.contents writer.new) self.new told refused result (turn_of shown w outcome) }
         ensures faults { MarksFaults W.Sink writer.old writer.new result }
     {
         unless_memory(error)?;
@@ -158,12 +170,26 @@ impl Stage {
         tell_refusal(error, &mut self.output, writer)
     }
 
-    /// An event happens, and is told, or it is told that it is refused.
+    /// Tells an event, where events are told.
     #[inline(always)]
-    pub(crate) fn happen<W: Sink>(&mut self, event: Event, writer: &mut W) -> Result<(), Fault>
-        ensures turns { (cfg : Settings) (tap : Bool) (old : Option (List ℕ))
-            → Turns cfg tap old (W.contents writer.old) (W.contents writer.new) self.old self.new result
-            (event_turn cfg tap (event_of event.entry)) }
+    fn mark<W: Sink>(&mut self, event: Event, writer: &mut W) -> Result<(), Fault>
+        ensures turns { (cfg : Settings) (shown : Show) (old : Option (List ℕ))
+            → Turns cfg shown old (W.contents writer.old) (W.contents writer.new) self.old self.new result
+            (marked shown (event_of event.entry)) }
+        ensures faults { MarksFaults W.Sink writer.old writer.new result }
+    {
+        if !self.shown.events {
+            return Ok(());
+        }
+        tell_mark(event, &mut self.output, writer)
+    }
+
+    /// An event happens, and what it makes is told, or it is told that it is refused.
+    #[inline(always)]
+    fn occur<W: Sink>(&mut self, event: Event, writer: &mut W) -> Result<(), Fault>
+        ensures turns { (cfg : Settings) (shown : Show) (old : Option (List ℕ))
+            → Turns cfg shown old (W.contents writer.old) (W.contents writer.new) self.old self.new result
+            (λ w. turn_of shown w (happens cfg w (event_of event.entry))) }
         ensures faults { MarksFaults W.Sink writer.old writer.new result }
     {
         let at = event.at();
@@ -172,6 +198,18 @@ impl Stage {
             Ok(()) => self.tell_step(at, before, writer),
             Err(error) => self.refuse(error, writer),
         }
+    }
+
+    /// An event happens, and what it makes and which it was is told, or it is told that it is refused.
+    #[inline(always)]
+    pub(crate) fn happen<W: Sink>(&mut self, event: Event, writer: &mut W) -> Result<(), Fault>
+        ensures turns { (cfg : Settings) (shown : Show) (old : Option (List ℕ))
+            → Turns cfg shown old (W.contents writer.old) (W.contents writer.new) self.old self.new result
+            (event_turn cfg shown (event_of event.entry)) }
+        ensures faults { MarksFaults W.Sink writer.old writer.new result }
+    {
+        self.occur(event, writer)?;
+        self.mark(event, writer)
     }
 
     /// Where the next frame of a drain is delivered: to the DCE where one is on the line to it, else to the DTE.
@@ -196,9 +234,9 @@ impl Stage {
 
     /// At most so many frames are delivered.
     pub(crate) fn drain<W: Sink>(&mut self, count: u32, writer: &mut W) -> Result<(), Fault>
-        ensures turns { (cfg : Settings) (tap : Bool) (old : Option (List ℕ))
-            → Turns cfg tap old (W.contents writer.old) (W.contents writer.new) self.old self.new result
-            (drained cfg tap count) }
+        ensures turns { (cfg : Settings) (shown : Show) (old : Option (List ℕ))
+            → Turns cfg shown old (W.contents writer.old) (W.contents writer.new) self.old self.new result
+            (drained cfg shown count) }
         ensures faults { MarksFaults W.Sink writer.old writer.new result }
     {
         for _ in 0..count {
@@ -212,9 +250,9 @@ impl Stage {
 
     /// An event happens, and is told; where it is refused nothing is told.
     fn attempt<W: Sink>(&mut self, event: Event, writer: &mut W) -> Result<(), Fault>
-        ensures turns { (cfg : Settings) (tap : Bool) (old : Option (List ℕ))
-            → Turns cfg tap old (W.contents writer.old) (W.contents writer.new) self.old self.new result
-            (tried cfg tap (event_of event.entry)) }
+        ensures turns { (cfg : Settings) (shown : Show) (old : Option (List ℕ))
+            → Turns cfg shown old (W.contents writer.old) (W.contents writer.new) self.old self.new result
+            (tried cfg shown (event_of event.entry)) }
         ensures faults { MarksFaults W.Sink writer.old writer.new result }
     {
         let at = event.at();
@@ -222,7 +260,8 @@ impl Stage {
         if let Err(error) = self.world.step(event, &mut self.step) {
             return unless_memory(error);
         }
-        self.tell_step(at, before, writer)
+        self.tell_step(at, before, writer)?;
+        self.mark(event, writer)
     }
 
     /// Two events happen, each where it isn't refused.
@@ -232,9 +271,9 @@ impl Stage {
         second: Event,
         writer: &mut W,
     ) -> Result<(), Fault>
-        ensures turns { (cfg : Settings) (tap : Bool) (old : Option (List ℕ))
-            → Turns cfg tap old (W.contents writer.old) (W.contents writer.new) self.old self.new result
-            (λ w. and_then (tried cfg tap (event_of second.entry)) (tried cfg tap (event_of first.entry) w)) }
+        ensures turns { (cfg : Settings) (shown : Show) (old : Option (List ℕ))
+            → Turns cfg shown old (W.contents writer.old) (W.contents writer.new) self.old self.new result
+            (λ w. and_then (tried cfg shown (event_of second.entry)) (tried cfg shown (event_of first.entry) w)) }
         ensures faults { MarksFaults W.Sink writer.old writer.new result }
     {
         self.attempt(first, writer)?;
@@ -248,11 +287,11 @@ impl Stage {
         second: Event,
         writer: &mut W,
     ) -> Result<(), Fault>
-        ensures turns { (cfg : Settings) (tap : Bool) (old : Option (List ℕ))
-            → Turns cfg tap old (W.contents writer.old) (W.contents writer.new) self.old self.new result
-            (λ w. and_then (λ v. and_then (tried cfg tap (event_of second.entry))
-            (tried cfg tap (event_of first.entry) v))
-            (drained cfg tap most_times w)) }
+        ensures turns { (cfg : Settings) (shown : Show) (old : Option (List ℕ))
+            → Turns cfg shown old (W.contents writer.old) (W.contents writer.new) self.old self.new result
+            (λ w. and_then (λ v. and_then (tried cfg shown (event_of second.entry))
+            (tried cfg shown (event_of first.entry) v))
+            (drained cfg shown most_times w)) }
         ensures faults { MarksFaults W.Sink writer.old writer.new result }
     {
         self.drain(MOST_TIMES, writer)?;
@@ -261,9 +300,9 @@ impl Stage {
 
     /// What is on the line arrives, and then timer T1 runs out at each end where it runs.
     fn fire<W: Sink>(&mut self, writer: &mut W) -> Result<(), Fault>
-        ensures turns { (cfg : Settings) (tap : Bool) (old : Option (List ℕ))
-            → Turns cfg tap old (W.contents writer.old) (W.contents writer.new) self.old self.new result
-            (fired cfg tap) }
+        ensures turns { (cfg : Settings) (shown : Show) (old : Option (List ℕ))
+            → Turns cfg shown old (W.contents writer.old) (W.contents writer.new) self.old self.new result
+            (fired cfg shown) }
         ensures faults { MarksFaults W.Sink writer.old writer.new result }
     {
         self.deliver_all_then(Event::T1(Role::Dte), Event::T1(Role::Dce), writer)
@@ -271,9 +310,9 @@ impl Stage {
 
     /// What is on the line arrives, and then each end pulls what waits in its circuits.
     fn pull<W: Sink>(&mut self, writer: &mut W) -> Result<(), Fault>
-        ensures turns { (cfg : Settings) (tap : Bool) (old : Option (List ℕ))
-            → Turns cfg tap old (W.contents writer.old) (W.contents writer.new) self.old self.new result
-            (pulled cfg tap) }
+        ensures turns { (cfg : Settings) (shown : Show) (old : Option (List ℕ))
+            → Turns cfg shown old (W.contents writer.old) (W.contents writer.new) self.old self.new result
+            (pulled cfg shown) }
         ensures faults { MarksFaults W.Sink writer.old writer.new result }
     {
         self.deliver_all_then(
@@ -285,9 +324,9 @@ impl Stage {
 
     /// So it goes on as long as that puts frames on the line.
     fn empty<W: Sink>(&mut self, writer: &mut W) -> Result<(), Fault>
-        ensures turns { (cfg : Settings) (tap : Bool) (old : Option (List ℕ))
-            → Turns cfg tap old (W.contents writer.old) (W.contents writer.new) self.old self.new result
-            (emptied cfg tap most_times) }
+        ensures turns { (cfg : Settings) (shown : Show) (old : Option (List ℕ))
+            → Turns cfg shown old (W.contents writer.old) (W.contents writer.new) self.old self.new result
+            (emptied cfg shown most_times) }
         ensures faults { MarksFaults W.Sink writer.old writer.new result }
     {
         for _ in 0..MOST_TIMES {
@@ -302,9 +341,9 @@ impl Stage {
     /// The line is good for a moment: what is on it arrives, timer T1 runs out at each end where it runs, and what they
     /// send then and what waits in the circuits arrives.
     pub(crate) fn heal<W: Sink>(&mut self, writer: &mut W) -> Result<(), Fault>
-        ensures turns { (cfg : Settings) (tap : Bool) (old : Option (List ℕ))
-            → Turns cfg tap old (W.contents writer.old) (W.contents writer.new) self.old self.new result
-            (healed cfg tap) }
+        ensures turns { (cfg : Settings) (shown : Show) (old : Option (List ℕ))
+            → Turns cfg shown old (W.contents writer.old) (W.contents writer.new) self.old self.new result
+            (healed cfg shown) }
         ensures faults { MarksFaults W.Sink writer.old writer.new result }
     {
         self.fire(writer)?;
@@ -313,9 +352,9 @@ impl Stage {
 
     /// Tells that a line isn't in the grammar.
     pub(crate) fn read_nothing<W: Sink>(&mut self, writer: &mut W) -> Result<(), Fault>
-        ensures turns { (cfg : Settings) (tap : Bool) (old : Option (List ℕ))
-            → Turns cfg tap old (W.contents writer.old) (W.contents writer.new) self.old self.new result
-            (λ w. asked_turn cfg tap w None) }
+        ensures turns { (cfg : Settings) (shown : Show) (old : Option (List ℕ))
+            → Turns cfg shown old (W.contents writer.old) (W.contents writer.new) self.old self.new result
+            (λ w. asked_turn cfg shown w None) }
         ensures faults { MarksFaults W.Sink writer.old writer.new result }
     {
         self.is_refused = true;
@@ -332,10 +371,10 @@ impl Stage {
     /// Writes what waits.
     pub(crate) fn flush<W: Sink>(&mut self, writer: &mut W) -> Result<(), Fault>
         ensures kept { OnOk result (W.is_marked writer.new ≡ W.is_marked writer.old) }
-        ensures stands { (cfg : Settings) (tap : Bool) (old : Option (List ℕ)) (w : State) (told : List ℕ)
+        ensures stands { (cfg : Settings) (shown : Show) (old : Option (List ℕ)) (w : State) (told : List ℕ)
             (refused : Bool)
-            → Stands cfg tap old (W.contents writer.old) self.old w told refused
-            → MatchResult result (λ _. Stands cfg tap old (W.contents writer.new) self.new w told refused)
+            → Stands cfg shown old (W.contents writer.old) self.old w told refused
+            → MatchResult result (λ _. Stands cfg shown old (W.contents writer.new) self.new w told refused)
             (λ _. AppendsPrefix old (W.contents writer.new) told) }
         ensures empty { OnOk result (self.new.output ≡ []) }
         ensures is_refused { self.new.is_refused ≡ self.old.is_refused }
@@ -350,15 +389,15 @@ impl Stage {
         ensures tells { (cfg : Settings) (down : Bool) (old : Option (List ℕ)) (told : List ℕ)
             → FitsWorld cfg self.old.world (opening cfg down)
             → Tells old (W.contents writer.old) self.old.output told
-            → let sayings = told_between self.old.tap start (opening cfg down) in
+            → let sayings = told_between self.old.shown start (opening cfg down) in
             MatchResult result (λ _. Tells old (W.contents writer.new) self.new.output (told ++ sayings_text sayings))
             (λ _. AppendsPrefix old (W.contents writer.new) (told ++ sayings_text sayings)) }
         ensures world { self.new.world ≡ self.old.world }
-        ensures tap { self.new.tap ≡ self.old.tap }
+        ensures shown { self.new.shown ≡ self.old.shown }
         ensures is_refused { self.new.is_refused ≡ self.old.is_refused }
         ensures faults { MarksFaults W.Sink writer.old writer.new result }
     {
-        if !self.tap {
+        if !self.shown.tap {
             return Ok(());
         }
         self.tell_put(Role::Dte, 0, writer)
@@ -369,8 +408,8 @@ impl Stage {
     pub(crate) fn open<W: Sink>(&mut self, writer: &mut W) -> Result<(), Fault>
         ensures stood { (cfg : Settings) (down : Bool) (old : Option (List ℕ)) → IsOpening cfg down self.old
             → self.old.is_refused ≡ false → Tells old (W.contents writer.old) self.old.output []
-            → Stood cfg self.old.tap old (W.contents writer.new) self.new [] false result
-            (opened cfg down self.old.tap) }
+            → Stood cfg self.old.shown old (W.contents writer.new) self.new [] false result
+            (opened cfg down self.old.shown) }
         ensures faults { MarksFaults W.Sink writer.old writer.new result }
     {
         two_stations_keep_order();

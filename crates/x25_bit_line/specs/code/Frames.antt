@@ -4,6 +4,7 @@ use Rattle.std.specs.List.{flat_map, list_any}
 use Rattle.std.specs.Io.KnownBytes.{Appends}
 use Rattle.x25_bits.specs.Found.{octets_of}
 use Rattle.x25_bits.specs.Stuffing.{filled}
+use Rattle.x25_io.specs.Loose.{asked_lines, asked_text}
 use Rattle.x25_io.specs.code.LinesLead.{LinesEnded}
 use Rattle.x25_io.specs.code.Runs.{Program}
 use Rattle.x25_bit_line.specs.Framing.{frame_status, framed_bits, framed_octets, has_wrong, is_wrong, line_bits}
@@ -27,9 +28,11 @@ pub record WritesLines (old now : Option (List ℕ)) (lines : List (List ℕ)) (
   pub appends : Appends old now part
   pub same : part ++ octets_of (filled (left ++ flat_map line_bits lines)) ≡ framed_octets input
 
--- the same, where a line has begun
-abbrev pub WritesFrames : Option (List ℕ) → Option (List ℕ) → List ℕ → List ℕ → Type 0
-WritesFrames old now rest input = LinesEnded (λ lines. WritesLines old now lines input) rest
-
-abbrev pub program : Program
-program = record { text = framed_octets; status = frame_status; Ended = WritesFrames }
+-- with `loose` of what the lines ask
+abbrev pub program : Bool → Program
+program loose = record {
+  text = λ input. framed_octets (asked_text loose input);
+  status = λ input. frame_status (asked_text loose input);
+  Ended = λ old now rest input. LinesEnded (λ lines. WritesLines old now (asked_lines loose lines)
+      (asked_text loose input)) rest;
+}

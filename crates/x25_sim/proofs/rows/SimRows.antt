@@ -13,9 +13,9 @@ use Rattle.x25_script.specs.Reading.{parts_of, number_in, small_number_in, param
 use Rattle.x25_io.specs.Lines.{lines_of}
 use Rattle.x25_transcript.specs.EntryText.{entry_line}
 use Rattle.x25_console.specs.Telling.{frame_line, refusal_line}
-use Rattle.x25_sim.specs.Telling.{saying_line}
+use Rattle.x25_sim.specs.Telling.{mark_line, saying_line}
 use Rattle.x25_sim.specs.Stage.{event_turn, drained, tried, both_tried, fired, pulled, emptied, healed, line_turn, asked_in, turn, turns, set_up, simulated}
-use Rattle.x25_sim.specs.rows.ScriptRows.{LinksComeUp, FramesAreWritten, LinkGoesDown, DamageIsSeen, CallsCollide, OtherLinesAreRefused, MessagesArrive, ResetIsDone, RestartIsDone, BothEndsGoDown, LinkIsSetUp, LostUaComesAgain, LinkIsSetUpAgain, LostFrameArrives, BothEndsHeal, WaitingMessageIsPulled, LinksThatAreDownHeal}
+use Rattle.x25_sim.specs.rows.ScriptRows.{LinksComeUp, FramesAreWritten, LinkGoesDown, DamageIsSeen, EventsAreTold, CallsCollide, OtherLinesAreRefused, MessagesArrive, ResetIsDone, RestartIsDone, BothEndsGoDown, LinkIsSetUp, LostUaComesAgain, LinkIsSetUpAgain, LostFrameArrives, BothEndsHeal, WaitingMessageIsPulled, LinksThatAreDownHeal}
 
 pub links_come_up : LinksComeUp
 unfolding digits decode_pairs simulated set_up event_turn line_turn drained turn turns asked_in lines_of line_in parts_of number_in lose_in damage_in drain_in command_in with_fields small_number_in params_in with_params_in call_in accept_in send_in interrupt_in saying_line entry_line frame_line refusal_line pumped frame_of packet_of halves_of packed facilities_of is_sealed fcs_of number_of divided low_bits add divisor
@@ -24,6 +24,10 @@ links_come_up = (refl, refl)
 pub frames_are_written : FramesAreWritten
 unfolding digits decode_pairs simulated set_up event_turn line_turn drained turn turns asked_in lines_of line_in parts_of number_in lose_in damage_in drain_in command_in with_fields small_number_in params_in with_params_in call_in accept_in send_in interrupt_in saying_line entry_line frame_line refusal_line pumped frame_of packet_of halves_of packed facilities_of is_sealed fcs_of number_of divided low_bits add divisor
 frames_are_written = (refl, refl)
+
+pub events_are_told : EventsAreTold
+unfolding digits decode_pairs simulated set_up event_turn line_turn drained turn turns asked_in lines_of line_in parts_of number_in lose_in damage_in drain_in command_in with_fields small_number_in params_in with_params_in call_in accept_in send_in interrupt_in saying_line mark_line entry_line frame_line refusal_line pumped frame_of packet_of halves_of packed facilities_of is_sealed fcs_of number_of divided low_bits add divisor
+events_are_told = (refl, refl)
 
 pub link_goes_down : LinkGoesDown
 unfolding digits decode_pairs simulated set_up event_turn line_turn drained turn turns asked_in lines_of line_in parts_of number_in lose_in damage_in drain_in command_in with_fields small_number_in params_in with_params_in call_in accept_in send_in interrupt_in saying_line entry_line frame_line refusal_line pumped frame_of packet_of halves_of packed facilities_of is_sealed fcs_of number_of divided low_bits add divisor

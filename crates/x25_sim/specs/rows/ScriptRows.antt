@@ -2,6 +2,7 @@
 use Rattle.std.specs.Prelude.{◌≡◌, ℕ, Bool, true, false, List, [], codes}
 use Rattle.x25_station.specs.declared.config.Cfg.{Cfg}
 use Rattle.x25_sim.specs.Stage.{sim_text, sim_status}
+use Rattle.x25_sim.specs.declared.stage.Shown.{Shown}
 
 abbrev pub usual : Cfg
 usual = record { k = 7; n2 = 10; channels = 1; long_data = false; say_sizes = false; wide = false }
@@ -12,10 +13,13 @@ narrow = record { k = 1; n2 = 10; channels = 1; long_data = false; say_sizes = f
 abbrev pub once : Cfg
 once = record { k = 7; n2 = 1; channels = 1; long_data = false; say_sizes = false; wide = false }
 
+abbrev pub Shows : Cfg → Bool → Shown → List ℕ → List ℕ → ℕ → Type 0
+Shows cfg down shown script text status = (sim_text cfg down shown script ≡ text)
+    × (sim_status cfg down shown script ≡ status)
+
 -- whether both links are down at first, whether frames are asked for, a script, what is written for it, and the status
 abbrev pub Simulates : Cfg → Bool → Bool → List ℕ → List ℕ → ℕ → Type 0
-Simulates cfg down tap script text status = (sim_text cfg down tap script ≡ text)
-    × (sim_status cfg down tap script ≡ status)
+Simulates cfg down tap script text status = Shows cfg down (record { tap = tap; events = false }) script text status
 
 -- links come up
 abbrev pub LinksComeUp : Type 0
@@ -25,6 +29,12 @@ LinksComeUp = Simulates usual false false [] (codes "dce linkup\ndte linkup\n") 
 abbrev pub FramesAreWritten : Type 0
 FramesAreWritten = Simulates usual false true []
     (codes "> 013febdf\ndce linkup\n< 01738357\n< 03001000fb0700c478\ndte linkup\n> 01001000fb00007702\n") 0
+
+-- with the events, of which two are refused, and a line that is none
+abbrev pub EventsAreTold : Type 0
+EventsAreTold = Shows usual false (record { tap = false; events = true })
+    (codes "deliver >\nx\nlose > 0\nt1 dte\ndte call 1 2 -\n")
+    (codes "dce linkup\n. deliver >\ndte linkup\n. deliver <\ndce restarted cause=0 diag=0\n. deliver >\n? 60\n! 51\n. lose > 0\n. t1 dte\n! 40\n. dte asks\n") 1
 
 -- timer T1 runs out twice where N2 is 1, and a call finds the link down
 abbrev pub LinkGoesDown : Type 0

@@ -5,6 +5,6 @@ use Rattle.x25_sim.specs.code.Stands.{Turns}
 use Rattle.x25_sim.proofs.simulator.Simulator.read.Goals as goal
 
 pub returns-clause-turns : goal.returns-clause-turns
-returns-clause-turns g c = λ cfg tap old.
-    subst (λ stage. Turns cfg tap old (g.W.Sink.contents c.args.writer.now) (g.W.Sink.contents c.read_line-result.new.with) c.args.self.now.stage stage c.read_line-result.result (λ w. asked_turn cfg tap w (line_in c.args.line.now)))
-    (sym c.report_none.ensures) (c.read_line-result.ensures.exact.0 cfg tap old)
+returns-clause-turns g c = λ cfg shown old.
+    subst (λ stage. Turns cfg shown old (g.W.Sink.contents c.args.writer.now) (g.W.Sink.contents c.read_line-result.new.with) c.args.self.now.stage stage c.read_line-result.result (λ w. asked_turn cfg shown w (line_in c.args.line.now)))
+    (sym c.report_none.ensures) (c.read_line-result.ensures.exact.0 cfg shown old)

@@ -1,6 +1,7 @@
 use Rattle.std.proofs.Common.{◌≡◌, ◌-◌, ℕ, Bool, List, Option}
 use Rattle.x25_station.specs.declared.config.Cfg.{Cfg}
 use Rattle.x25_world.specs.World.{World}
+use Rattle.x25_sim.specs.declared.stage.Shown.{Shown}
 use Rattle.x25_sim.specs.Stage.{emptied, most_times}
 use Rattle.x25_sim.specs.code.Stands.{Stands}
 use Rattle.x25_sim.specs.code.Leaves.{Leaves}
@@ -8,6 +9,6 @@ use Rattle.x25_sim.proofs.stage.Stage.empty.Given as goal
 
 -- the rounds that are left
 abbrev pub invariant-loop : goal.invariant-loop
-invariant-loop g l = (g.W.Sink.is_marked l.writer ≡ g.W.Sink.is_marked l.fn.writer) × ((cfg : Cfg) (tap : Bool) (old : Option (List ℕ)) (w : World) (told : List ℕ) (refused : Bool)
-    → Stands cfg tap old (g.W.Sink.contents l.fn.writer) l.fn.self w told refused
-    → Leaves cfg tap old (g.W.Sink.contents l.writer) l.self (emptied cfg tap (most_times - l.counter)) told refused (emptied cfg tap most_times w))
+invariant-loop g l = (g.W.Sink.is_marked l.writer ≡ g.W.Sink.is_marked l.fn.writer) × ((cfg : Cfg) (shown : Shown) (old : Option (List ℕ)) (w : World) (told : List ℕ) (refused : Bool)
+    → Stands cfg shown old (g.W.Sink.contents l.fn.writer) l.fn.self w told refused
+    → Leaves cfg shown old (g.W.Sink.contents l.writer) l.self (emptied cfg shown (most_times - l.counter)) told refused (emptied cfg shown most_times w))

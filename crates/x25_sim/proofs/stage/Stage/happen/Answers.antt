@@ -1,26 +1,21 @@
-use Rattle.std.proofs.Common.{sym, subst}
-use Rattle.std.proofs.lemmas.Result.{MatchResult-weaker}
-use Rattle.x25_world.specs.World.{event_of, happens, after}
-use Rattle.x25_world.specs.code.FitsWorld.{FitsWorld}
-use Rattle.x25_sim.specs.Stage.{event_turn}
-use Rattle.x25_sim.proofs.StandLemmas.{stands_moved, begins_moved}
+use Rattle.std.proofs.lemmas.Result.{err_from_is_err_and, MatchResult-weaker}
+use Rattle.x25_world.specs.World.{event_of, happens}
+use Rattle.x25_sim.specs.Stage.{event_turn, marked, turn_of}
+use Rattle.x25_sim.proofs.StandLemmas.{stands_behind, begins_behind, begins_before}
 use Rattle.x25_sim.proofs.stage.Stage.happen.Goals as goal
 
-pub returns-in-Ok-clause-turns : goal.returns-in-Ok-clause-turns
+pub returns-in_err-occur-clause-turns : goal.returns-in_err-occur-clause-turns
 unfolding event_turn
-returns-in-Ok-clause-turns g c = λ cfg tap old w told refused h.
-    let o = happens cfg w (event_of c.args.event) in
-    let acted = c.in-Ok.ensures.acted cfg w h.fits in
-    let put = c.in-Ok.ensures.put cfg w h.fits in
-    let stands = subst (λ v. FitsWorld cfg v (after w o)) (sym c.tell_step.ensures.world) acted.happened in
-    MatchResult-weaker c.tell_step.result
-    (c.tell_step.ensures.tells old told w (after w o) (rw c.at-at.ensures acted.tells) (rw (c.sent-before.ensures, c.at-at.ensures) put) h.tells)
-    (λ _ told_all. stands_moved cfg tap old _ _ c.args.self.now c.tell_step.new.self w o told refused h acted.accepted stands c.tell_step.ensures.tap c.tell_step.ensures.is_refused told_all)
-    (λ _ begins. begins_moved cfg tap old _ _ c.args.self.now c.tell_step.new.self w o told refused h acted.accepted begins)
+returns-in_err-occur-clause-turns g c = λ cfg shown old w told refused h.
+    let p = err_from_is_err_and c.from_residual.result c.from_residual.ensures.1 in
+    let e = event_of c.args.event in
+    rw p.1 (begins_before cfg shown old _ c.occur.new.self told refused (marked shown e) (turn_of shown w (happens cfg w e)) (c.in_err-occur.ensures.turns cfg shown old w told refused h))
 
-pub returns-in-Err-clause-turns : goal.returns-in-Err-clause-turns
+pub returns-clause-turns : goal.returns-clause-turns
 unfolding event_turn
-returns-in-Err-clause-turns g c = λ cfg tap old w told refused h.
-    c.refuse.ensures.stood cfg tap old w (happens cfg w (event_of c.args.event)) told refused
-    (record { fits = (c.in-Err.ensures.acted cfg w h.fits).stays; asked = h.asked; tells = h.tells; status = h.status })
-    (c.in-Err.ensures.acted cfg w h.fits).refused
+returns-clause-turns g c = λ cfg shown old w told refused h.
+    let e = event_of c.args.event in
+    let first = turn_of shown w (happens cfg w e) in
+    MatchResult-weaker c.mark.result (c.mark.ensures.turns cfg shown old _ _ _ (c.in_ok-occur.ensures.turns cfg shown old w told refused h))
+    (λ _ stands. stands_behind cfg shown old _ c.mark.new.self told refused (marked shown e) first stands)
+    (λ _ begins. begins_behind cfg shown old _ c.mark.new.self told refused (marked shown e) first begins)

@@ -5,13 +5,13 @@ use Rattle.x25_sim.proofs.stage.Stage.heal.Goals as goal
 
 pub returns-in_err-fire-clause-turns : goal.returns-in_err-fire-clause-turns
 unfolding healed
-returns-in_err-fire-clause-turns g c = λ cfg tap old w told refused h.
+returns-in_err-fire-clause-turns g c = λ cfg shown old w told refused h.
     let p = err_from_is_err_and c.from_residual.result c.from_residual.ensures.1 in
-    rw p.1 (begins_before cfg tap old _ c.fire.new.self told refused (emptied cfg tap most_times) (fired cfg tap w) (c.in_err-fire.ensures.turns cfg tap old w told refused h))
+    rw p.1 (begins_before cfg shown old _ c.fire.new.self told refused (emptied cfg shown most_times) (fired cfg shown w) (c.in_err-fire.ensures.turns cfg shown old w told refused h))
 
 pub returns-clause-turns : goal.returns-clause-turns
 unfolding healed
-returns-clause-turns g c = λ cfg tap old w told refused h.
-    MatchResult-weaker c.empty.result (c.empty.ensures.turns cfg tap old _ _ _ (c.in_ok-fire.ensures.turns cfg tap old w told refused h))
-    (λ _ stands. stands_behind cfg tap old _ c.empty.new.self told refused (emptied cfg tap most_times) (fired cfg tap w) stands)
-    (λ _ begins. begins_behind cfg tap old _ c.empty.new.self told refused (emptied cfg tap most_times) (fired cfg tap w) begins)
+returns-clause-turns g c = λ cfg shown old w told refused h.
+    MatchResult-weaker c.empty.result (c.empty.ensures.turns cfg shown old _ _ _ (c.in_ok-fire.ensures.turns cfg shown old w told refused h))
+    (λ _ stands. stands_behind cfg shown old _ c.empty.new.self told refused (emptied cfg shown most_times) (fired cfg shown w) stands)
+    (λ _ begins. begins_behind cfg shown old _ c.empty.new.self told refused (emptied cfg shown most_times) (fired cfg shown w) begins)

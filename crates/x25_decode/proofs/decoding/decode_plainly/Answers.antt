@@ -1,6 +1,6 @@
 use Rattle.x25_decode.specs.code.Stream.{program}
 use Rattle.x25_io.proofs.RunLemmas.{none_ran}
-use Rattle.x25_decode.proofs.decoding.decode_lines.Goals as goal
+use Rattle.x25_decode.proofs.decoding.decode_plainly.Goals as goal
 
 pub returns-in_err-decoder-clause-runs : goal.returns-in_err-decoder-clause-runs
 returns-in_err-decoder-clause-runs g c =
