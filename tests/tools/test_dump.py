@@ -168,6 +168,7 @@ class Dump(ToolCase):
             records.append((client, 0, samples.ethernet(samples.ipv4(True, samples.tcp(True, 1, stream), client=client))))
         return samples.pcap(records, link_type=1)
 
+    @support.needs_program
     def test_decoded_lines_with_names(self):
         self.assertEqual(self.dump(DECODED, status=1), SHOWN)
         self.assertEqual(self.dump(gzip.compress(DECODED), status=1), SHOWN)
@@ -197,6 +198,7 @@ class Dump(ToolCase):
         self.assertEqual(self.dump(given, "--fold"), given.decode().replace("78" * 33, "78" * 24 + "..(33 octets)"))
         self.assertEqual(self.dump(given, "--fold", "--whole"), given.decode())
 
+    @support.needs_program
     def test_one_channel(self):
         self.assertEqual(self.dump(DECODED, "--channel", "7", status=1), "".join(SHOWN.splitlines(True)[2:4]))
         self.assertEqual(self.dump(b"> I cmd P=0 S=0 R=0 | RESTART cause=0 diag=0\n", "--channel", "0").count("\n"), 1)
@@ -336,7 +338,7 @@ class Dump(ToolCase):
         self.assertEqual(live.end(), (0, b"", b""))
 
     def test_colours_are_for_a_terminal(self):
-        self.assertNotIn("\x1b", self.dump(DECODED, status=1))
+        self.assertNotIn("\x1b", self.dump(b"> SABM cmd P=1\n"))
         for environment, has_colour in (({}, True), ({"NO_COLOR": "1"}, False)):
             read, write = pty.openpty()
             command = [sys.executable, os.path.join(support.TOOLS, "x25dump.py"), self.file("decoded", b"> SABM cmd P=1\n")]
@@ -349,7 +351,7 @@ class Dump(ToolCase):
         self.assert_refused(support.run("x25dump.py", "--x25", "/bin/true", given=b"> 013febdf\n"), "didn't answer line by line")
         self.assert_refused(support.run("x25dump.py", os.path.join(self.folder, "none")), "No such file")
         self.assert_refused(support.run("x25dump.py", given=samples.pcap([])[:9]), "the file ends within the file header")
-        self.assert_refused(support.run("x25dump.py", self.sparse("trace", DECODED)), "is longer than")
+        self.assert_refused(support.run("x25dump.py", self.sparse("trace", b"> SABM cmd P=1\n")), "is longer than")
         for words in (["--verdict"], ["--messages", "--stats"], ["--stats", "--judge"], ["--judge", "--k", "8"], ["--channel", "x"]):
             self.assertEqual(support.run("x25dump.py", *words).returncode, 2)
 

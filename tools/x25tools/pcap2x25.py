@@ -326,11 +326,16 @@ def without_gaps(connections: list[Connection], times: list[int], lines: list[st
     """The connections, the times and the lines of a block, without those that say that frames aren't there."""
     if GAP not in lines:
         return connections, times, lines
-    are_frames = [line != GAP for line in lines]
+    return picked((connections, times, lines), [line != GAP for line in lines])
+
+
+def picked(found: Found, are_picked: list[bool]) -> Found:
+    """The connections, the times and the lines of those frames that are picked."""
+    connections, times, lines = found
     return (
-        list(itertools.compress(connections, are_frames)),
-        list(itertools.compress(times, are_frames)),
-        list(itertools.compress(lines, are_frames)),
+        list(itertools.compress(connections, are_picked)),
+        list(itertools.compress(times, are_picked)),
+        list(itertools.compress(lines, are_picked)),
     )
 
 

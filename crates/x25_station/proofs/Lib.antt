@@ -27,6 +27,8 @@ pub mod RoomLemmas
 pub mod ResultLemmas
 pub mod OutcomeLemmas
 pub mod TimerLemmas
+pub mod AwaitLemmas
+pub mod StillLemmas
 pub mod WayOutLemmas
 pub mod DoesLemmas
 pub mod PullLemmas
