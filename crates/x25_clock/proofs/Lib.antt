@@ -1,2 +1,3 @@
 pub mod ListLemmas
 pub mod ClockLemmas
+pub mod WaitLemmas

@@ -1,5 +1,8 @@
-//! What deadlines stand for: a law, the contract of a function that does nothing.
+//! What deadlines stand for, and what they are good for: laws, each the contract of a function that does nothing.
 ghost use Rattle.x25_clock.specs.laws.ClockLaw.{DeadlinesAreTrue};
+ghost use Rattle.x25_clock.specs.laws.WaitLaw.{NothingWaits};
+
+use x25_station::ways_out_lead_on;
 
 /// Over any events of a station at any times, each of them heeded, and with what is due asked for at any moments: the
 /// deadline of T1 stands exactly while T1 runs, that of an idle link while it is at rest, that of a restart while one
@@ -8,3 +11,13 @@ ghost use Rattle.x25_clock.specs.laws.ClockLaw.{DeadlinesAreTrue};
 pub fn awaited_deadlines_are_true()
     ensures { DeadlinesAreTrue }
 {}
+
+/// No silence of the other end leaves a channel waiting. One who heeds each event, lets no moment pass at which
+/// something is due, and asks at once what is: then, whatever comes and whatever else is asked, a channel awaits an
+/// answer no longer than T21 for a call or T22 for a reset, T23 and T20 together, or hears of LinkUp or LinkDown
+/// before. None of these times is for ever, and 256 packets don't wait in the link where something is due.
+pub fn nothing_waits_for_ever()
+    ensures { NothingWaits }
+{
+    ways_out_lead_on();
+}

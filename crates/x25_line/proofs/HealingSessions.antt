@@ -16,7 +16,7 @@ use Rattle.x25_line.proofs.StationRuns.{joined_swapped}
 use Rattle.x25_line.proofs.sessions.SessionActs.{in_session}
 use Rattle.x25_line.proofs.sessions.SessionHeld.{Held}
 use Rattle.x25_line.proofs.sessions.SessionRuns.{throughout, held_swapped}
-use Rattle.x25_line.proofs.sessions.SessionLatest.{idle_has_arrived}
+use Rattle.x25_line.proofs.sessions.TwoSessions.{idle_has_arrived}
 use Rattle.x25_line.proofs.sessions.SessionsForgotten.{sessions_are_links, set_up_is_the_start}
 use Rattle.x25_line.proofs.HealingRuns.{BothSaid, said_run, fresh_said}
 

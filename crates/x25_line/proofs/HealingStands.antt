@@ -8,7 +8,7 @@ use Rattle.x25_frame.specs.laws.ReadingLaw.{ReadsSpelled}
 use Rattle.x25_window.specs.laws.Window.{End}
 use Rattle.x25_link.specs.declared.error.LinkError.{LinkError}
 use Rattle.x25_link.specs.declared.phase.Phase.{Phase}
-use Rattle.x25_link.specs.declared.phase.Phase.TheVariants.{Down, Waiting, Up, Closed}
+use Rattle.x25_link.specs.declared.phase.Phase.TheVariants.{Up}
 use Rattle.x25_link.specs.Station.{Settings, LinkStation, is_up, is_busy}
 use Rattle.x25_link.specs.Hearing.{Step, other}
 use Rattle.x25_link.specs.Link.{take_step, put_step, put_refusal, timer_step, timer_runs, timer_refusal}
@@ -31,7 +31,7 @@ use Rattle.x25_line.proofs.StationAway.{first_false, second_false}
 use Rattle.x25_line.proofs.sessions.SessionLines.{octets_append, octets_sent}
 use Rattle.x25_line.proofs.sessions.SessionHeld.{View, Live, Soon, Gone, IsView, IsHeard, Held}
 use Rattle.x25_line.proofs.sessions.SessionRuns.{throughout}
-use Rattle.x25_line.proofs.sessions.SessionLatest.{idle_has_arrived}
+use Rattle.x25_line.proofs.sessions.TwoSessions.{idle_has_arrived}
 use Rattle.x25_line.proofs.HealingSteps.{Sound, deliver_is}
 use Rattle.x25_line.proofs.HealingBoth.{HealsBoth, both_settle}
 use Rattle.x25_line.proofs.HealingEnds.{after_firings}

@@ -84,8 +84,8 @@ module _ (Odd : Type 0) (c : Settings) (q : Peer) where
 
   station_may : MayDo c (Odd → ⊥) IsWith
   station_may = record {
-    handed = λ os p out packet h. record { hold = handed p q (tolds c.role c.longest out) (tolds (other c.role) c.longest os) packet h.hold; lapb = h.lapb };
-    sends = λ os p r out octets may h. record {
+    handed = λ os p out packet short h. record { hold = handed p q (tolds c.role c.longest out) (tolds (other c.role) c.longest os) packet h.hold; lapb = h.lapb };
+    sends = λ os p r out octets may next h. record {
       hold = subst (λ (xs : List Told). Hold r q xs (tolds (other c.role) c.longest os)) (sym (tolds_push c.role c.longest out octets))
           (says p q (tolds c.role c.longest out) (tolds (other c.role) c.longest os) ⊥ (said (frame_of c.role c.longest octets)) r may h.hold);
       lapb = h.lapb;

@@ -27,7 +27,10 @@ pub mod RoomLemmas
 pub mod ResultLemmas
 pub mod OutcomeLemmas
 pub mod TimerLemmas
+pub mod AwaitLemmas
+pub mod StillLemmas
 pub mod WayOutLemmas
+pub mod UnheardLemmas
 pub mod DoesLemmas
 pub mod PullLemmas
 pub mod ClockLemmas
