@@ -1,5 +1,5 @@
 -- Deadlines stand for what is awaited.
-use Rattle.std.proofs.Common.{◌≡◌, ℕ, zero, suc, ◌+◌, ◌≤◌, ◌==◌, List, [], ◌∷◌, ◌++◌, map, Bool, true, false, not, ◌||◌, if◌then◌else◌, Option, Some, None, refl, sym, ap, subst, ◌∙◌, arith}
+use Rattle.std.proofs.Common.{◌≡◌, ℕ, zero, suc, ◌+◌, ◌==◌, List, [], ◌∷◌, ◌++◌, map, Bool, true, false, not, ◌||◌, if◌then◌else◌, Option, Some, None, refl, sym, ap, ◌∙◌, arith}
 use Rattle.std.proofs.lemmas.Bool.{true≢false}
 use Rattle.std.proofs.lemmas.Option.{none-some}
 use Rattle.x25_circuit.specs.declared.awaits.Awaits.{Awaits}
@@ -9,13 +9,12 @@ use Rattle.x25_layer.specs.Layer.{is_channel}
 use Rattle.x25_station.specs.Config.{Settings, layer_settings}
 use Rattle.x25_station.specs.Station.{Station, new_station}
 use Rattle.x25_station.specs.Station.Told.{is_at_rest}
-use Rattle.x25_station.specs.Step.{Step, Outcome, Did, Refused}
-use Rattle.x25_station.specs.Timer.{runs, standing, tells_link, is_acknowledged, timer_of}
+use Rattle.x25_station.specs.Step.{Outcome, Did, Refused}
+use Rattle.x25_station.specs.Timer.{runs, tells_link, is_acknowledged, timer_of}
 use Rattle.x25_station.specs.laws.TimerLaw as timer
-use Rattle.x25_station.specs.declared.timer.Timer.{Timer}
 use Rattle.x25_clock.specs.declared.times.Times.{Times}
 use Rattle.x25_clock.specs.declared.wait.Wait.{Wait}
-use Rattle.x25_clock.specs.Clock.{Deadlines, Seen, nothing_awaited, channels_from, deadline, time_of, number_of, running, is_past, t1_after, wait_after, heeded, renewed, overdue_of, renewed_on, after_due}
+use Rattle.x25_clock.specs.Clock.{Deadlines, nothing_awaited, channels_from, deadline, time_of, number_of, running, is_past, t1_after, wait_after, renewed, overdue_of, renewed_on, after_due}
 use Rattle.x25_clock.specs.laws.ClockLaw.{Moment, Happens, IsDue, Watched, seen_of, heeds, watched_by, watched_from, IsSince, Stands, IsAwaited, AreAwaited, AreTrue, DeadlinesAreTrue}
 
 -- ---- a deadline

@@ -1,6 +1,6 @@
 -- An answer is awaited no longer than the times say, where what is due is asked at once.
-use Rattle.std.proofs.Common.{◌≡◌, ℕ, zero, suc, ◌+◌, ◌^◌, ◌<◌, ◌≤◌, ◌==◌, ◌⊎◌, inl, inr, List, [], ◌∷◌, map, Bool, true, false, not, nat_le, nat_lt, ◌&&◌, if◌then◌else◌, Option, Some, None, refl, sym, ap, subst, ◌∙◌, arith}
-use Rattle.std.proofs.lemmas.Bool.{true≢false, eqb-true, eq-eqb, leb-true, leb-false, lt-ltb, and_parts}
+use Rattle.std.proofs.Common.{◌≡◌, ℕ, zero, suc, ◌+◌, ◌^◌, ◌<◌, ◌≤◌, ◌==◌, ◌⊎◌, inl, inr, List, [], ◌∷◌, map, Bool, true, false, not, nat_le, if◌then◌else◌, Option, Some, None, refl, sym, ap, subst, ◌∙◌, arith}
+use Rattle.std.proofs.lemmas.Bool.{true≢false, eqb-true, eq-eqb, leb-true, and_parts}
 use Rattle.std.proofs.lemmas.Option.{none-some}
 use Rattle.x25_link.specs.declared.phase.Phase.{Phase}
 use Rattle.x25_link.specs.declared.phase.Phase.TheVariants.{Down, Waiting, Up, Closed}
@@ -22,46 +22,11 @@ use Rattle.x25_clock.specs.declared.due.Due.{Due}
 use Rattle.x25_clock.specs.declared.due.Due.TheVariants as due
 use Rattle.x25_clock.specs.declared.times.Times.{Times}
 use Rattle.x25_clock.specs.declared.wait.Wait.{Wait}
-use Rattle.x25_clock.specs.Clock.{Deadlines, nothing_awaited, channels_from, deadline, is_past, sooner, number_of, time_of, running, wait_after, heeded, first_of, next_of, overdue_of, asked_for, due_on, unless_on, due_of, renewed, renewed_on, after_due}
-use Rattle.x25_clock.specs.Due.{command_for}
-use Rattle.x25_clock.specs.laws.ClockLaw.{Moment, Watched, seen_of, heeds, watched, IsSince, IsAwaited, AreAwaited, AreTrue}
+use Rattle.x25_clock.specs.Clock.{Deadlines, channels_from, deadline, is_past, sooner, number_of, time_of, running, wait_after, heeded, next_of, overdue_of, asked_for, due_on, unless_on, due_of, renewed, renewed_on, after_due}
+use Rattle.x25_clock.specs.laws.ClockLaw.{Watched, seen_of, heeds, watched, IsSince, AreAwaited, AreTrue}
 use Rattle.x25_clock.specs.laws.WaitLaw.{Deed, Happens, IsAsked, later_by, event_of, found_by, outcome_of, done, all_done, IsFounded, IsNotPast, AreObeyed, tells, AwaitsAll, longest_wait, AreSet, NothingWaits}
 use Rattle.x25_clock.proofs.ClockLemmas.{happens_true, due_true, deadlines_are_true}
-
--- ---- no deadline is past where the next moment isn't
-
-past_first : (now : ℕ) (a b : Option ℕ) → IsNotPast now (sooner a b) → IsNotPast now a
-past_first now None b h = tt
-past_first now (Some x) None h = h
-past_first now (Some x) (Some y) h = test (nat_le x y) refl h
-  where
-    test : (b : Bool) → nat_le x y ≡ b → IsNotPast now (if b then Some x else Some y) → now ≤ x
-    test true is h = h
-    test false is h = let low : y < x = leb-false x y is in omega (arith, low, h)
-
-past_second : (now : ℕ) (a b : Option ℕ) → IsNotPast now (sooner a b) → IsNotPast now b
-past_second now None b h = h
-past_second now (Some x) None h = tt
-past_second now (Some x) (Some y) h = test (nat_le x y) refl h
-  where
-    test : (b : Bool) → nat_le x y ≡ b → IsNotPast now (if b then Some x else Some y) → now ≤ y
-    test true is h = let low : x ≤ y = leb-true x y is in omega (arith, low, h)
-    test false is h = h
-
-abbrev AreNotPast : ℕ → List Wait → Type 0
-AreNotPast now [] = Unit {0}
-AreNotPast now (w ∷ ws) = IsNotPast now w.until × AreNotPast now ws
-
-first_past : (now : ℕ) (ws : List Wait) (first : Option ℕ) → IsNotPast now (first_of first ws) → IsNotPast now first
-first_past now [] first h = h
-first_past now (w ∷ ws) first h = past_first now first w.until (first_past now ws (sooner first w.until) h)
-
-waits_past : (now : ℕ) (ws : List Wait) (first : Option ℕ) → IsNotPast now (first_of first ws) → AreNotPast now ws
-waits_past now [] first h = tt
-waits_past now (w ∷ ws) first h = (past_second now first w.until (first_past now ws (sooner first w.until) h), waits_past now ws (sooner first w.until) h)
-
-restart_past : (now : ℕ) (d : Deadlines) → IsNotPast now (next_of d) → IsNotPast now d.restart
-restart_past now d h = past_second now (sooner d.t1 d.idle) d.restart (first_past now d.waits (sooner (sooner d.t1 d.idle) d.restart) h)
+use Rattle.x25_clock.proofs.DeadlineLemmas.{AreNotPast, waits_past, restart_past, or_t1, Ends, begins_at, end_in_time}
 
 -- ---- what is asked, and the deadlines behind it
 
@@ -79,10 +44,6 @@ record AsksOn (times : Times) (now : ℕ) (d e : Deadlines) (what : Due) : Type 
   is : due_on wait ≡ Some what
   restart : e.restart ≡ d.restart
   waits : e.waits ≡ map (renewed times now wait.channel) d.waits
-
-abbrev or_t1 : Option Due → Due
-or_t1 None = due.T1
-or_t1 (Some what) = what
 
 abbrev or_wait : Wait → Option Wait → Wait
 or_wait w None = w
@@ -176,24 +137,13 @@ rank_up Waiting r a up = absurd (true≢false (sym up))
 rank_up Up r a up = refl
 rank_up Closed r a up = absurd (true≢false (sym up))
 
--- ---- a moment that isn't too late
-
-some_deadline : (now time : ℕ) → 0 < time → now + time < 2 ^ 64 → deadline now time ≡ Some (now + time)
-some_deadline now time set small =
-    ap (λ (b : Bool). if b then None else if nat_lt (now + time) (2 ^ 64) then Some (now + time) else None) (is_set (time == 0) refl)
-    ∙ ap (λ (b : Bool). if b then Some (now + time) else None) (lt-ltb (now + time) (2 ^ 64) small)
-  where
-    is_set : (b : Bool) → (time == 0) ≡ b → (time == 0) ≡ false
-    is_set true is = let e : time ≡ 0 = eqb-true time 0 is in absurd (omega (arith, e, set))
-    is_set false is = is
-
 -- a call or a reset that was cleared
 record IsCleared (rest_a rest : ℕ) (a b : Awaits) : Type 0 where
   old : rest_a ≡ rest
   new : b ≡ ClearConfirmation
   differ : (number_of a == number_of ClearConfirmation) ≡ false
 
-abbrev asks : Due → timer.Event
+abbrev pub asks : Due → timer.Event
 asks what = event_of (IsAsked 0 what)
 
 -- what is due is asked, and the rank is lower
@@ -210,11 +160,6 @@ record Laws : Type 0 where
   back : NothingLeadsBack
 
 module _ (c : Settings) (times : Times) (h bound : ℕ) (set : AreSet times) (small : bound < 2 ^ 64) where
-  -- a deadline stands, and so long after it isn't too late
-  abbrev Ends : Option ℕ → ℕ → Type 0
-  Ends None more = ⊥
-  Ends (Some moment) more = moment + more ≤ bound
-
   -- what may still follow
   abbrev left : Awaits → ℕ
   left Nothing = 0
@@ -224,11 +169,11 @@ module _ (c : Settings) (times : Times) (h bound : ℕ) (set : AreSet times) (sm
 
   abbrev OnChannel : List Wait → Type 0
   OnChannel [] = Unit {0}
-  OnChannel (w ∷ ws) = (w.channel ≡ h → Ends w.until (left w.awaits)) × OnChannel ws
+  OnChannel (w ∷ ws) = (w.channel ≡ h → Ends bound w.until (left w.awaits)) × OnChannel ws
 
   -- the restart, or what is awaited on the channel
   abbrev IsBy : Bool → Option ℕ → List Wait → Type 0
-  IsBy true restart ws = Ends restart 0
+  IsBy true restart ws = Ends bound restart 0
   IsBy false restart ws = OnChannel ws
 
   abbrev InTime : Bool → Awaits → ℕ → Type 0
@@ -238,22 +183,12 @@ module _ (c : Settings) (times : Times) (h bound : ℕ) (set : AreSet times) (sm
   abbrev awaited : Station → Awaits
   awaited s = awaited_at (layer_settings c) s.layer h
 
-  begins_at : (now time more : ℕ) → 0 < time → now + (time + more) ≤ bound → Ends (deadline now time) more
-  begins_at now time more positive late =
-      let low : now + time < 2 ^ 64 = omega (arith, late, small) in
-      let sum : (now + time) + more ≤ bound = omega (arith, late) in
-      subst (λ (o : Option ℕ). Ends o more) (sym (some_deadline now time positive low)) sum
-
   -- ---- no deadline is past
-
-  end_in_time : (now : ℕ) (o : Option ℕ) (more : ℕ) → Ends o more → IsNotPast now o → now + more ≤ bound
-  end_in_time now None more ends past = absurd ends
-  end_in_time now (Some moment) more ends past = omega (arith, ends, past)
 
   channel_in_time : (before now : ℕ) (f : ℕ → Awaits) (ws : List Wait) → Has h (map channel_in ws) → AreAwaited times before f ws → OnChannel ws → AreNotPast now ws → now + left (f h) ≤ bound
   channel_in_time before now f [] has are on past = absurd has
   channel_in_time before now f (w ∷ ws) (inl is) are on past =
-      subst (λ (a : Awaits). now + left a ≤ bound) (are.0.awaits ∙ ap f is) (end_in_time now w.until (left w.awaits) (on.0 is) past.0)
+      subst (λ (a : Awaits). now + left a ≤ bound) (are.0.awaits ∙ ap f is) (end_in_time bound now w.until (left w.awaits) (on.0 is) past.0)
   channel_in_time before now f (w ∷ ws) (inr has) are on past = channel_in_time before now f ws has are.1 on.1 past.1
 
   has_it : (w : Watched) → c.channels ≤ 16 → AreTrue c times w → is_channel c.channels h ≡ true → Has h (map channel_in w.deadlines.waits)
@@ -271,7 +206,7 @@ module _ (c : Settings) (times : Times) (h bound : ℕ) (set : AreSet times) (sm
       d = w.deadlines
 
       on : (r : Bool) → w.station.layer.restarting ≡ r → IsBy r d.restart d.waits → InTime r (awaited w.station) now
-      on true is by = let low : now + 0 ≤ bound = end_in_time now d.restart 0 by (restart_past now d past) in omega (arith, low)
+      on true is by = let low : now + 0 ≤ bound = end_in_time bound now d.restart 0 by (restart_past now d past) in omega (arith, low)
       on false is by =
           let two : 2 ≤ rank_of w.station.link.phase false (awaited w.station) = subst (λ (r : Bool). 2 ≤ rank_of w.station.link.phase r (awaited w.station)) is high in
           channel_in_time w.now now (λ k. awaited_at (layer_settings c) w.station.layer k) d.waits
@@ -292,11 +227,11 @@ module _ (c : Settings) (times : Times) (h bound : ℕ) (set : AreSet times) (sm
   waits_stay before now old new [] same are on = tt
   waits_stay before now old new (w ∷ ws) same are on = (first, waits_stay before now old new ws same are.1 on.1)
     where
-      first : (wait_after times now (new w.channel) w).channel ≡ h → (let x : Wait = wait_after times now (new w.channel) w in Ends x.until (left x.awaits))
+      first : (wait_after times now (new w.channel) w).channel ≡ h → (let x : Wait = wait_after times now (new w.channel) w in Ends bound x.until (left x.awaits))
       first is =
           let at_h : w.channel ≡ h = sym (after_channel times now (new w.channel) w) ∙ is in
           let unchanged : wait_after times now (new w.channel) w ≡ w = same_after times now (new w.channel) w (are.0.awaits ∙ ap old at_h ∙ sym same ∙ ap new (sym at_h)) in
-          subst (λ (x : Wait). Ends x.until (left x.awaits)) (sym unchanged) (on.0 at_h)
+          subst (λ (x : Wait). Ends bound x.until (left x.awaits)) (sym unchanged) (on.0 at_h)
 
   not_less : {A : Type 0} (m n : ℕ) → n ≤ m → m < n → A
   not_less m n low high = absurd (omega (arith, low, high))
@@ -321,7 +256,7 @@ module _ (c : Settings) (times : Times) (h bound : ℕ) (set : AreSet times) (sm
   waits_fall before now old new [] gone late are = tt
   waits_fall before now old new (w ∷ ws) gone late are = (first, waits_fall before now old new ws gone late are.1)
     where
-      first : (wait_after times now (new w.channel) w).channel ≡ h → (let x : Wait = wait_after times now (new w.channel) w in Ends x.until (left x.awaits))
+      first : (wait_after times now (new w.channel) w).channel ≡ h → (let x : Wait = wait_after times now (new w.channel) w in Ends bound x.until (left x.awaits))
       first is =
           let at_h : w.channel ≡ h = sym (after_channel times now (new w.channel) w) ∙ is in
           let cleared : new w.channel ≡ ClearConfirmation = ap new at_h ∙ gone.new in
@@ -330,7 +265,7 @@ module _ (c : Settings) (times : Times) (h bound : ℕ) (set : AreSet times) (sm
           ap (λ (a : Awaits). wait_after times now a w) cleared
           ∙ ap (λ (b : Bool). let x : Wait = if b then w else record { channel = w.channel; awaits = ClearConfirmation; until = deadline now times.t23 } in x) other in
           let more : now + (times.t23 + times.t20) ≤ bound = subst (λ (n : ℕ). now + n ≤ bound) gone.old late in
-          subst (λ (x : Wait). Ends x.until (left x.awaits)) (sym changed) (begins_at now times.t23 times.t20 set.t23 more)
+          subst (λ (x : Wait). Ends bound x.until (left x.awaits)) (sym changed) (begins_at bound small now times.t23 times.t20 set.t23 more)
 
   -- an answer that is awaited leaves time for a restart
   left_some : (a : Awaits) → 2 ≤ rank_in a → times.t20 ≤ left a
@@ -339,7 +274,7 @@ module _ (c : Settings) (times : Times) (h bound : ℕ) (set : AreSet times) (sm
   left_some ResetConfirmation two = omega arith
   left_some ClearConfirmation two = omega arith
 
-  restart_stays : (now : ℕ) (restart : Option ℕ) → Ends restart 0 → Ends (running true false restart (deadline now times.t20)) 0
+  restart_stays : (now : ℕ) (restart : Option ℕ) → Ends bound restart 0 → Ends bound (running true false restart (deadline now times.t20)) 0
   restart_stays now None ends = absurd ends
   restart_stays now (Some moment) ends = ends
 
@@ -360,7 +295,7 @@ module _ (c : Settings) (times : Times) (h bound : ℕ) (set : AreSet times) (sm
     falls_by false true is two three low late =
         let some : times.t20 ≤ left (awaited s) = left_some (awaited s) two in
         let more : now + (times.t20 + 0) ≤ bound = omega (arith, late, some) in
-        subst (λ (o : Option ℕ). Ends (running true false o (deadline now times.t20)) 0) (sym (off is)) (begins_at now times.t20 0 set.t20 more)
+        subst (λ (o : Option ℕ). Ends bound (running true false o (deadline now times.t20)) 0) (sym (off is)) (begins_at bound small now times.t20 0 set.t20 more)
     falls_by false false is two three low late =
         waits_fall before now (λ k. awaited_at (layer_settings c) s.layer k) (λ k. awaited_at (layer_settings c) next.layer k) ws (is_cleared (awaited s) (awaited next) three low) late are
 
@@ -417,11 +352,11 @@ module _ (c : Settings) (times : Times) (h bound : ℕ) (set : AreSet times) (sm
   renewed_on_others now k [] other on = tt
   renewed_on_others now k (w ∷ ws) other on = (first, renewed_on_others now k ws other on.1)
     where
-      first : (renewed times now k w).channel ≡ h → (let x : Wait = renewed times now k w in Ends x.until (left x.awaits))
+      first : (renewed times now k w).channel ≡ h → (let x : Wait = renewed times now k w in Ends bound x.until (left x.awaits))
       first is =
           let at_h : w.channel ≡ h = sym (renewed_channel times now k w) ∙ is in
           let differ : (w.channel == k) ≡ false = not_same (w.channel == k) refl at_h in
-          subst (λ (x : Wait). Ends x.until (left x.awaits)) (sym (not_renewed times now k w differ)) (on.0 at_h)
+          subst (λ (x : Wait). Ends bound x.until (left x.awaits)) (sym (not_renewed times now k w differ)) (on.0 at_h)
         where
           not_same : (b : Bool) → (w.channel == k) ≡ b → w.channel ≡ h → b ≡ false
           not_same false same at_h = refl
@@ -440,10 +375,10 @@ module _ (c : Settings) (times : Times) (h bound : ℕ) (set : AreSet times) (sm
       record { step = found.0; is = ap (λ (x : Due). timer.outcome c s (asks x)) is ∙ found.1; low = omega (arith, two, three) }
 
   asked_falls : Laws → (s : Station) (what : Due) (a : Awaits) → rank c s h ≡ rank_in a → 2 ≤ rank c s h → is_up s.link.phase ≡ true → s.layer.restarting ≡ false → asked_for h a ≡ Some what → waits s.link.outgoing < 256 → Falls c h s what
-  asked_falls laws s what Nothing is high up ready asked low = absurd (none-some what asked)
-  asked_falls laws s what Acceptance is high up ready asked low = cleared laws s what is (sym (ap or_t1 asked)) low
-  asked_falls laws s what ResetConfirmation is high up ready asked low = cleared laws s what is (sym (ap or_t1 asked)) low
-  asked_falls laws s what ClearConfirmation is high up ready asked low = restarted laws s what is up ready (sym (ap or_t1 asked)) low
+  asked_falls laws s what Nothing is high linked ready asked low = absurd (none-some what asked)
+  asked_falls laws s what Acceptance is high linked ready asked low = cleared laws s what is (sym (ap or_t1 asked)) low
+  asked_falls laws s what ResetConfirmation is high linked ready asked low = cleared laws s what is (sym (ap or_t1 asked)) low
+  asked_falls laws s what ClearConfirmation is high linked ready asked low = restarted laws s what is linked ready (sym (ap or_t1 asked)) low
 
   relink_told : Laws → (s : Station) (what : Due) → is_up s.link.phase ≡ true → what ≡ due.Relink → tells (timer.outcome c s (asks what)) ≡ false → ⊥
   relink_told laws s what up is quiet =
@@ -488,7 +423,7 @@ module _ (c : Settings) (times : Times) (h bound : ℕ) (set : AreSet times) (sm
       relinked asked false is by = subst (λ (ws : List Wait). OnChannel ws) (sym asked.waits) by
 
       other : (asked : AsksOn times now d e what) → (asked.wait.channel == h) ≡ false → (r : Bool) → IsBy r d.restart d.waits → IsBy r e.restart e.waits
-      other asked differ true by = subst (λ (x : Option ℕ). Ends x 0) (sym asked.restart) by
+      other asked differ true by = subst (λ (x : Option ℕ). Ends bound x 0) (sym asked.restart) by
       other asked differ false by = subst (λ (ws : List Wait). OnChannel ws) (sym asked.waits) (renewed_on_others now asked.wait.channel d.waits differ by)
 
       falls : Falls c h s what → Behind now now s high e then_true.restart.off then_true.waits event o
@@ -497,7 +432,7 @@ module _ (c : Settings) (times : Times) (h bound : ℕ) (set : AreSet times) (sm
           (fallen_by now now s high e then_true.restart.off then_true.waits event f.step (ap tells (sym f.is) ∙ quiet) (subst (λ (x : Outcome). 2 ≤ rank c (timer.after s x) h) f.is (higher quiet)) f.low late)
 
       itself : (asked : AsksOn times now d e what) → asked.wait.channel ≡ h → (r : Bool) → s.layer.restarting ≡ r → IsBy r d.restart d.waits → Behind now now s high e then_true.restart.off then_true.waits event o
-      itself asked at_h true is by = goes (subst (λ (r : Bool). IsBy r e.restart e.waits) (sym is) (subst (λ (x : Option ℕ). Ends x 0) (sym asked.restart) by))
+      itself asked at_h true is by = goes (subst (λ (r : Bool). IsBy r e.restart e.waits) (sym is) (subst (λ (x : Option ℕ). Ends bound x 0) (sym asked.restart) by))
       itself asked at_h false is by =
           let awaits : asked.wait.awaits ≡ awaited s = overdue_is times w.now now (λ k. awaited_at (layer_settings c) s.layer k) d.waits asked.wait true_now.waits asked.found ∙ ap (λ (k : ℕ). awaited_at (layer_settings c) s.layer k) at_h in
           let asks_it : asked_for h (awaited s) ≡ Some what = sym (ap (λ (k : ℕ). asked_for k asked.wait.awaits) at_h ∙ ap (asked_for h) awaits) ∙ asked.is in
@@ -509,7 +444,7 @@ module _ (c : Settings) (times : Times) (h bound : ℕ) (set : AreSet times) (sm
       on_wait asked false is = goes (other asked is s.layer.restarting by)
 
       none : AsksNone d e → (r : Bool) → IsBy r d.restart d.waits → IsBy r e.restart e.waits
-      none asked true by = subst (λ (x : Option ℕ). Ends x 0) (sym asked.restart) by
+      none asked true by = subst (λ (x : Option ℕ). Ends bound x 0) (sym asked.restart) by
       none asked false by = subst (λ (ws : List Wait). OnChannel ws) (sym asked.waits) by
 
       on : WhatIsAsked times now d what e → Behind now now s high e then_true.restart.off then_true.waits event o
@@ -550,22 +485,22 @@ module _ (c : Settings) (times : Times) (h bound : ℕ) (set : AreSet times) (sm
 -- ---- where it begins
 
 module _ (c : Settings) (times : Times) (h : ℕ) (set : AreSet times) where
-  ends_by : (bound now time more : ℕ) (until : Option ℕ) → (few : bound < 2 ^ 64) → 0 < time → now + (time + more) ≤ bound → IsSince now time until → Ends c times h bound set few until more
+  ends_by : (bound now time more : ℕ) (until : Option ℕ) → (few : bound < 2 ^ 64) → 0 < time → now + (time + more) ≤ bound → IsSince now time until → Ends bound until more
   ends_by bound now time more until few positive low since =
       let past : since.since ≤ now = since.past in
-      subst (λ (o : Option ℕ). Ends c times h bound set few o more) (sym since.is) (begins_at c times h bound set few since.since time more positive (omega (arith, low, past)))
+      subst (λ (o : Option ℕ). Ends bound o more) (sym since.is) (begins_at bound few since.since time more positive (omega (arith, low, past)))
 
   first_on : (bound now : ℕ) (few : bound < 2 ^ 64) (f : ℕ → Awaits) (ws : List Wait) → bound ≡ now + longest_wait times false (f h) → 2 ≤ rank_in (f h) → AreAwaited times now f ws → OnChannel c times h bound set few ws
   first_on bound now few f [] is high are = tt
   first_on bound now few f (w ∷ ws) is high are = (first, first_on bound now few f ws is high are.1)
     where
-      at : (a : Awaits) → bound ≡ now + longest_wait times false a → 2 ≤ rank_in a → IsSince now (time_of times a) w.until → Ends c times h bound set few w.until (left c times h bound set few a)
+      at : (a : Awaits) → bound ≡ now + longest_wait times false a → 2 ≤ rank_in a → IsSince now (time_of times a) w.until → Ends bound w.until (left c times h bound set few a)
       at Nothing is high since = low_one 0 (omega arith) high
       at Acceptance is high since = ends_by bound now times.t21 (times.t23 + times.t20) w.until few set.t21 (omega (arith, is)) since
       at ResetConfirmation is high since = ends_by bound now times.t22 (times.t23 + times.t20) w.until few set.t22 (omega (arith, is)) since
       at ClearConfirmation is high since = ends_by bound now times.t23 times.t20 w.until few set.t23 (omega (arith, is)) since
 
-      first : w.channel ≡ h → Ends c times h bound set few w.until (left c times h bound set few w.awaits)
+      first : w.channel ≡ h → Ends bound w.until (left c times h bound set few w.awaits)
       first at_h =
           let same : w.awaits ≡ f h = are.0.awaits ∙ ap f at_h in
           at w.awaits (is ∙ ap (λ (a : Awaits). now + longest_wait times false a) (sym same)) (subst (λ (a : Awaits). 2 ≤ rank_in a) (sym same) high) are.0.until

@@ -1,8 +1,9 @@
 //! What deadlines stand for, and what they are good for: laws, each the contract of a function that does nothing.
 ghost use Rattle.x25_clock.specs.laws.ClockLaw.{DeadlinesAreTrue};
+ghost use Rattle.x25_clock.specs.laws.SilenceLaw.{IdleIsAsked, SilenceEnds};
 ghost use Rattle.x25_clock.specs.laws.WaitLaw.{NothingWaits};
 
-use x25_station::ways_out_lead_on;
+use x25_station::{silence_is_asked, ways_out_lead_on};
 
 /// Over any events of a station at any times, each of them heeded, and with what is due asked for at any moments: the
 /// deadline of T1 stands exactly while T1 runs, that of an idle link while it is at rest, that of a restart while one
@@ -20,4 +21,14 @@ pub fn nothing_waits_for_ever()
     ensures { NothingWaits }
 {
     ways_out_lead_on();
+}
+
+/// Nor does a dead line stay unnoticed. One who obeys his clock so polls a link at rest of which no octets come after
+/// T3 at the latest; and while UA is awaited, or no octets come of a link that is up, LinkUp or LinkDown is told after
+/// N2 times T1 and once more at the latest, where T1 doesn't run after T3 and that. Neither T1 nor T3 is for ever.
+pub fn silence_is_told()
+    ensures ends { SilenceEnds }
+    ensures idle { IdleIsAsked }
+{
+    silence_is_asked();
 }

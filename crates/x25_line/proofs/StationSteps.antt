@@ -47,6 +47,11 @@ out_is_away MayAsk Waiting h = absurd h
 out_is_away MayAsk Up h = absurd h
 out_is_away MayAsk p h = tt
 
+pub out_not_up : (p : Phase) → IsOut p → is_up p ≡ false
+out_not_up Waiting h = absurd h
+out_not_up Up h = absurd h
+out_not_up p h = refl
+
 pub not_both : {A : Type 0} (b : Bool) → b ≡ true → b ≡ false → A
 not_both b e f = absurd (never (sym e ∙ f))
   where
@@ -182,7 +187,7 @@ quiet_notes MayAsk c w back down step h quiet same =
     }
 
 -- LinkUp is noted by a station that begins afresh
-not_afresh : (s : LinkStation) (step : Step) → Tells s step → is_up step.side.near.phase ≡ false → step.notes.up ≡ false
+pub not_afresh : (s : LinkStation) (step : Step) → Tells s step → is_up step.side.near.phase ≡ false → step.notes.up ≡ false
 not_afresh s step tells off = go step.notes.up refl
   where
     go : (b : Bool) → step.notes.up ≡ b → step.notes.up ≡ false

@@ -76,7 +76,7 @@ module _ (from : Role) (n1 : ℕ) where
   letters_removed (e ∷ es) zero = refl
   letters_removed (e ∷ es) (suc i) = ap (λ (xs : List Letter). letter e.session (said (frame_of from n1 e.octets)) ∷ xs) (letters_removed es i)
 
-  visible_said : (o : List ℕ) → is_visible o ≡ true → said (frame_of from n1 o) ≡ Else
+  pub visible_said : (o : List ℕ) → is_visible o ≡ true → said (frame_of from n1 o) ≡ Else
   visible_said o visible = elim (visible_reads from n1 o visible) [ inl short ↦ ap said short | inr bad ↦ ap said bad ]
 
   pub letters_replaced : (o : List ℕ) → is_visible o ≡ true → (es : List Entry) (i : ℕ) → letters (replaced es i o) ≡ spoilt (letters es) i

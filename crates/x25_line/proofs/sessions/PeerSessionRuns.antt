@@ -1,10 +1,8 @@
 -- What a station and a peer reach are two ends that keep the rules, and that says the claims.
-use Rattle.std.proofs.Common.{◌≡◌, inl, inr, ◌-◌, ◌+◌, ◌≤◌, ◌==◌, ℕ, List, [], ◌∷◌, map, length, true, false, refl, sym, ap, ◌∙◌, subst, arith}
-use Rattle.std.specs.Prelude.{◌&&◌}
-use Rattle.std.proofs.lemmas.Bool.{and_parts, eqb-true}
+use Rattle.std.proofs.Common.{◌≡◌, inl, inr, ◌+◌, ◌≤◌, ℕ, List, [], ◌∷◌, map, length, true, false, refl, sym, ap, ◌∙◌, subst, arith}
+use Rattle.std.proofs.lemmas.Bool.{and_parts}
 use Rattle.x25_frame.specs.laws.ReadingLaw.{ReadsSpelled}
-use Rattle.x25_link.specs.Outgoing.{waits}
-use Rattle.x25_link.specs.Station.{Settings, LinkStation, is_up}
+use Rattle.x25_link.specs.Station.{Settings, is_up}
 use Rattle.x25_link.specs.Hearing.{other}
 use Rattle.x25_link.specs.Link.{is_idle}
 use Rattle.x25_link.specs.laws.WindowMachine.{Window}
@@ -14,6 +12,7 @@ use Rattle.x25_line.specs.laws.Sessions.{Meeting, turned, sabm_in, ua_in, disc_i
 use Rattle.x25_line.specs.laws.SessionClaims.{AllMet, IsInOrder, MeetInStep, MetAreInOrder, UnmetHandNothingUp}
 use Rattle.x25_line.specs.laws.LawsBelow.{SessionLaws}
 use Rattle.x25_line.specs.laws.Peer.{fresh_peer}
+use Rattle.x25_line.proofs.StationClaimLemmas.{idle_all}
 use Rattle.x25_line.proofs.StationAway.{is_up_phase}
 use Rattle.x25_line.proofs.sessions.SessionHeld.{View, Live, Soon, Gone, Owes}
 use Rattle.x25_line.specs.laws.PeerSessions.{PeerSessions, PeerEnd, Out, In, both_ends, as_end, with_peer, begin_with, IsReached, at_start, set_up, goes_on}
@@ -29,15 +28,6 @@ use Rattle.x25_line.proofs.sessions.SessionWith.{outs, backs, at, IsWith, statio
 use Rattle.x25_line.proofs.sessions.PeerMoves.{peer_held}
 use Rattle.x25_line.proofs.ends.Held.{ViewIs, NotIn}
 use Rattle.x25_line.proofs.ends.Sessions.{All, all_turned, reached_all, keep_sessions, latest, some_stands, all_taken}
-
-idle_counts : (s : LinkStation) → is_idle s ≡ true → s.outgoing.sent ≤ length s.outgoing.given → s.outgoing.acked ≡ length s.outgoing.given
-idle_counts s idle high =
-    let outer = and_parts (is_up s.phase) (waits s.outgoing == 0 && s.outgoing.acked == s.outgoing.sent) idle in
-    let inner = and_parts (waits s.outgoing == 0) (s.outgoing.acked == s.outgoing.sent) outer.1 in
-    counts s.outgoing.acked s.outgoing.sent (length s.outgoing.given) (eqb-true (waits s.outgoing) 0 inner.0) (eqb-true s.outgoing.acked s.outgoing.sent inner.1) high
-  where
-    counts : (a m n : ℕ) → n - m ≡ 0 → a ≡ m → m ≤ n → a ≡ n
-    counts a m n none all high = omega arith
 
 -- what holds of a station and a peer
 abbrev Joined : Type 0 → Settings → PeerSessions → Type 0
@@ -120,7 +110,7 @@ module _ (reads : ReadsSpelled) (rests : SessionLaws) where
     idle_acked : is_idle w.near.station ≡ true → (h.all w.near.begun).acked ≡ length (h.all w.near.begun).given
     idle_acked idle =
         let f = h.up (and_parts _ _ idle).0 in
-        ap (λ (z : Window). z.acked) f.same ∙ idle_counts w.near.station idle f.sound.sent_high ∙ sym (ap (λ (z : Window). length z.given) f.same)
+        ap (λ (z : Window). z.acked) f.same ∙ idle_all w.near.station idle f.sound.sent_high ∙ sym (ap (λ (z : Window). length z.given) f.same)
 
     pub up_in : is_up w.near.station.phase ≡ true → stand_of w.near.station.phase ≡ In
     up_in up = ap stand_of (is_up_phase w.near.station.phase up)

@@ -19,7 +19,7 @@ use Rattle.x25_line.specs.laws.Sessions.{Entry, SessionEnd, Meeting, Sessions, t
 use Rattle.x25_line.specs.laws.SessionClaims.{Throughout, AllOf}
 use Rattle.x25_line.specs.laws.SessionEvents.{NextBegins, GoesOn, HandsInSession, EachEventHandsInSession, latest, BeginsAfresh, MeetsNone, MeetsOne, EachEventMeetsLatest}
 use Rattle.x25_line.specs.laws.LawsBelow.{SessionLaws}
-use Rattle.x25_line.proofs.StationSteps.{not_both}
+use Rattle.x25_line.proofs.StationSteps.{not_both, not_afresh}
 use Rattle.x25_line.proofs.StationEvents.{timer_packet, timer_up}
 use Rattle.x25_line.proofs.sessions.SessionLines.{Read, none_is_some}
 use Rattle.x25_line.proofs.sessions.SessionHeld.{extended_same, extended_other}
@@ -141,16 +141,9 @@ each_hands_in_session hands_up c d (Far act) w = acts_hands hands_up d act (swap
 
 -- ---- no LinkUp is noted where a frame with a number comes
 
-ends_quiet : (s : LinkStation) (step : Step) → Tells s step → is_up step.side.near.phase ≡ false → step.notes.up ≡ false
-ends_quiet s step tells off = go step.notes.up refl
-  where
-    go : (b : Bool) → step.notes.up ≡ b → step.notes.up ≡ false
-    go true high = not_both (is_up step.side.near.phase) (ap (λ (t : LinkStation). is_up t.phase) (tells.fresh_up high)) off
-    go false low = low
-
 valid_quiet : (b : Bool) (k : ℕ) (input : Input) (s : LinkStation) (step : Step) → Tells s step → (let o : Option Reason = if b then None else Some FrmrSent in Follows o k input s step) → step.notes.up ≡ false
 valid_quiet true k input s step tells stay = ap (λ (n : Notes). n.up) stay.quiet
-valid_quiet false k input s step tells end = ends_quiet s step tells (ap is_up end.phase)
+valid_quiet false k input s step tells end = not_afresh s step tells (ap is_up end.phase)
 
 number_quiet : (r : Read) (f : PlainFrame) (k : ℕ) (v : Window) (s : LinkStation) (step : Step) → number_in r ≡ Some f → Tells s step → Follows (ending_of r v) k (brought_by r) s step → step.notes.up ≡ false
 number_quiet (Ok (info ns nr p x)) f k v s step some tells h = valid_quiet _ k _ s step tells h

@@ -20,14 +20,13 @@ use Rattle.x25_link.specs.Link.{take_step}
 use Rattle.x25_link.specs.laws.SetUp.{Is, TakesPart, reset_from, waiting_after, waiting_sends, waiting_up}
 use Rattle.x25_link.specs.laws.WindowMachine.{Window, Input, receives, nothing}
 use Rattle.x25_link.specs.laws.WindowLaw.{window_of, brought_by, after_input, MayHandUp, ending_of, ends_in, Stays, Ends, Follows, AreDeclining, StaysOut}
-use Rattle.x25_link.specs.laws.NoteLaw.{Tells}
 use Rattle.x25_line.specs.laws.StationClaims.{number_in}
 use Rattle.x25_line.specs.laws.Sessions.{Entry, Meeting, Sessions, sabm_in, disc_in, how_many, sent_in, after_step, heard}
 use Rattle.x25_line.specs.laws.LawsBelow.{SessionLaws}
 use Rattle.x25_line.specs.laws.Peer.{Peer, fresh_peer, MayHear, hearing, taking, IsWanted}
 use Rattle.x25_line.proofs.StationSays.{machine_of}
 use Rattle.x25_line.proofs.StationPeers.{low_resolved}
-use Rattle.x25_line.proofs.StationSteps.{no_packet_of, not_both}
+use Rattle.x25_line.proofs.StationSteps.{no_packet_of, not_afresh}
 use Rattle.x25_line.proofs.StationAway.{is_up_phase, frmr_three, waits_on}
 use Rattle.x25_line.proofs.sessions.SessionLines.{Read}
 use Rattle.x25_line.specs.laws.PeerSessions.{put_for}
@@ -83,13 +82,6 @@ left_by_local (Err error) v = refl
 disc_or_not : (r : Read) → ((p : Bool) × (r ≡ Ok (disc p))) ⊎ (disc_in r ≡ 0)
 disc_or_not (Ok (disc p)) = inl (p, refl)
 disc_or_not r = inr refl
-
-pub down_quiet : (s : LinkStation) (step : Step) → Tells s step → is_up step.side.near.phase ≡ false → step.notes.up ≡ false
-down_quiet s step tells off = go step.notes.up refl
-  where
-    go : (b : Bool) → step.notes.up ≡ b → step.notes.up ≡ false
-    go true up = not_both (is_up step.side.near.phase) (ap (λ (z : LinkStation). is_up z.phase) (tells.fresh_up up)) off
-    go false up = up
 
 pub ends_away : (reason : Reason) → (reason ≡ Reset → ⊥) → (p : Phase) → p ≡ ends_in reason → is_up p ≡ false
 ends_away Reset never p is = absurd (never refl)
@@ -274,7 +266,7 @@ module _ (d : Settings) (high : d.window ≤ 7) (reads : ReadsSpelled) (rests : 
       left_seen : (reason : Reason) → (reason ≡ Reset → ⊥) → Ends reason step → R es met (ends_in reason) b h.all (w.out ++ sent_in b d.role step.side.out) → S (after_step d w es met [] step)
       left_seen reason no_reset ends reached =
           let off = ends_away reason no_reset step.side.near.phase ends.phase in
-          build_quiet d high reads Due R does w h es met step (down_quiet s step (rests.laws.take_tells d e.octets s) off) ends.packet off
+          build_quiet d high reads Due R does w h es met step (not_afresh s step (rests.laws.take_tells d e.octets s) off) ends.packet off
           (subst (λ (x : Phase). R es met x b h.all (w.out ++ sent_in b d.role step.side.out)) (sym ends.phase) reached)
 
       -- without a frame

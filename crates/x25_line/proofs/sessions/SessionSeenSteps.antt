@@ -24,13 +24,13 @@ use Rattle.x25_line.specs.laws.LawsBelow.{SessionLaws}
 use Rattle.x25_line.specs.laws.Peer.{Peer}
 use Rattle.x25_line.proofs.sessions.SessionTakes.{is_answer}
 use Rattle.x25_line.proofs.StationSends.{within_push}
-use Rattle.x25_line.proofs.StationSteps.{no_packet_of}
+use Rattle.x25_line.proofs.StationSteps.{no_packet_of, not_afresh}
 use Rattle.x25_line.proofs.StationAway.{connects_from, closed_takes}
 use Rattle.x25_line.proofs.sessions.SessionLines.{Read}
 use Rattle.x25_line.proofs.sessions.SessionHeld.{Owes}
 use Rattle.x25_line.proofs.sessions.SessionMay.{hears_read, IsClear, MayAsk, MayDo}
 use Rattle.x25_line.proofs.sessions.SessionSeen.{Seen, build_quiet, stays_seen, reached_in, unchanged, changed}
-use Rattle.x25_line.proofs.sessions.SessionSeenActs.{down_quiet, put_none, put_asks, put_closes, sets_up_seen, up_seen, out_seen, answer_seen, waiting_seen}
+use Rattle.x25_line.proofs.sessions.SessionSeenActs.{put_none, put_asks, put_closes, sets_up_seen, up_seen, out_seen, answer_seen, waiting_seen}
 
 sabm_or_not : (r : Read) → ((p : Bool) × (r ≡ Ok (sabm p))) ⊎ (sabm_in r ≡ 0)
 sabm_or_not (Ok (sabm p)) = inl (p, refl)
@@ -118,7 +118,7 @@ module _ (d : Settings) (high : d.window ≤ 7) (reads : ReadsSpelled) (rests : 
           stays_seen d high reads Due R does w h w.back w.met [] nothing step
           (unchanged d high reads Due R does w h up w.back w.met (reached_in d high reads Due R does w h up) (window_of d.window s) refl step.packet (no_packet_of nothing step.packet (window_of d.window s) (λ y never. never) stays.hands_up)) stays
       by false ends =
-          away_seen w h step (down_quiet s step (rests.laws.timer_tells d s) (ap is_up ends.phase)) ends.packet Down ends.phase refl (left w h up step.side.out ends.frames)
+          away_seen w h step (not_afresh s step (rests.laws.timer_tells d s) (ap is_up ends.phase)) ends.packet Down ends.phase refl (left w h up step.side.out ends.frames)
 
   timer_waiting : (w : Sessions) (h : S w) → w.near.station.phase ≡ Waiting → IsOver w → OwesAt w → S (after_step d w w.back w.met [] (timer_step d w.near.station))
   timer_waiting w h waiting over owes = by (nat_lt w.near.station.tries d.retries) (timer_step d w.near.station) (rests.laws.set_up.timer d w.near.station waiting)
@@ -177,7 +177,7 @@ module _ (d : Settings) (high : d.window ≤ 7) (reads : ReadsSpelled) (rests : 
       by Up is =
           let up : is_up s.phase ≡ true = ap is_up is in
           let ends = rests.laws.window.disconnect d s (record { up = up; sound = (h.up up).sound }) in
-          closes (down_quiet s step (rests.laws.disconnect_tells d s) (ap is_up ends.phase)) ends.packet ends.phase ends.frames
+          closes (not_afresh s step (rests.laws.disconnect_tells d s) (ap is_up ends.phase)) ends.packet ends.phase ends.frames
       by Closed is = absurd (refused (sym (ap disconnect_refusal is) ∙ accepted))
 
   abandon_seen : (w : Sessions) (h : S w) → is_up w.near.station.phase ≡ true → S (after_step d w w.back w.met [] (abandon_step d w.near.station))
@@ -185,7 +185,7 @@ module _ (d : Settings) (high : d.window ≤ 7) (reads : ReadsSpelled) (rests : 
       let s = w.near.station in
       let step = abandon_step d s in
       let ends = rests.laws.window.abandon d s (record { up = up; sound = (h.up up).sound }) in
-      away_seen w h step (down_quiet s step (rests.laws.abandon_tells d s) (ap is_up ends.phase)) ends.packet Down ends.phase refl (left w h up step.side.out ends.frames)
+      away_seen w h step (not_afresh s step (rests.laws.abandon_tells d s) (ap is_up ends.phase)) ends.packet Down ends.phase refl (left w h up step.side.out ends.frames)
 
   deliver_seen : (w : Sessions) (h : S w) → OwesAt w → (es : List Entry) → w.back ≡ es → S (delivered d es w)
   deliver_seen w h owes [] is = h

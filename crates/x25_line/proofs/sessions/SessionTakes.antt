@@ -20,7 +20,7 @@ use Rattle.x25_line.specs.laws.SessionNumbers.{Standing, is_sabm, is_set_up, ane
 use Rattle.x25_line.specs.laws.Sessions.{Entry, Meeting, Sessions, sabm_in, ua_in, disc_in, how_many, begun_by, after_step, heard}
 use Rattle.x25_line.specs.laws.LawsBelow.{Laws}
 use Rattle.x25_line.proofs.StationLines.{IsOrderly, orderly_where, AreOrderly, consed, AreParting}
-use Rattle.x25_line.proofs.StationSteps.{Leads, not_both, read_joint, declining_parting}
+use Rattle.x25_line.proofs.StationSteps.{Leads, not_both, read_joint, declining_parting, out_not_up}
 use Rattle.x25_line.proofs.StationAway.{closed_takes, waits_on, waiting_parting}
 use Rattle.x25_line.proofs.StationRuns.{orderly_sets_up}
 use Rattle.x25_line.proofs.sessions.SessionLines.{Read, count, numbers, quiet_of, carried, carried_numbers, carried_orderly}
@@ -111,11 +111,6 @@ closed_by p n m some h = absurd (omega (arith, some, h.1))
 out_is_waiting : {A : Type 0} (p : Phase) → IsOut p → p ≡ Waiting → A
 out_is_waiting p out waiting = absurd (subst IsOut waiting out)
 
-out_off : (p : Phase) → IsOut p → is_up p ≡ false
-out_off Waiting h = absurd h
-out_off Up h = absurd h
-out_off p h = refl
-
 module _ (c d : Settings) (joined : AreJoined c d) (reads : ReadsSpelled) (laws : Laws) where
   -- ---- the front is taken off the line
 
@@ -179,7 +174,7 @@ module _ (c d : Settings) (joined : AreJoined c d) (reads : ReadsSpelled) (laws 
     stays_held out stays =
         let t = step_of c w e in
         quiet_held c d w es (heard_by c w e) [] t (ap (λ (n : Notes). n.up) stays.quiet)
-        (apart_held c d joined reads w h es (heard_by c w e) w.near.begun t Gone stays.packet (omega arith) (out_off t.side.near.phase stays.out, near_high c d w h) (λ waiting. out_is_waiting t.side.near.phase stays.out waiting)
+        (apart_held c d joined reads w h es (heard_by c w e) w.near.begun t Gone stays.packet (omega arith) (out_not_up t.side.near.phase stays.out, near_high c d w h) (λ waiting. out_is_waiting t.side.near.phase stays.out waiting)
         (declining_parting (Unit {0}) t.side.out stays.frames) (declining_none t.side.out stays.frames) fine.1)
 
     -- ---- while UA is awaited
