@@ -208,8 +208,8 @@ nothing_held c d joined =
       out = λ waiting. refl;
       out_orderly = tt;
       back_orderly = tt;
-      near_lists = record { down = refl; up = refl; later = λ n less. (refl, refl) };
-      far_lists = record { down = refl; up = refl; later = λ n less. (refl, refl) };
+      near_lists = record { down = refl; up = refl };
+      far_lists = record { down = refl; up = refl };
       no_frmr = tt;
       whole = record { given = []; handed_down = λ x there. absurd (omega (arith, there.1)); whole = tt };
     }
@@ -227,8 +227,8 @@ set_up_held c d joined =
       out = (refl, tt);
       out_orderly = tt;
       back_orderly = tt;
-      near_lists = record { down = refl; up = refl; later = λ n less. (refl, refl) };
-      far_lists = record { down = refl; up = refl; later = λ n less. (refl, refl) };
+      near_lists = record { down = refl; up = refl };
+      far_lists = record { down = refl; up = refl };
       no_frmr = tt;
       whole = record { given = []; handed_down = λ x there. absurd (omega (arith, there.1)); whole = tt };
     }

@@ -23,7 +23,7 @@ use Rattle.x25_line.specs.laws.SessionClaims.{octets_of, AllOf}
 use Rattle.x25_line.proofs.StationLines.{IsOrderly, orderly_where, AreOrderly, orderly_append, AreParting, no_frmr_append, parting_no_frmr, parting_numbered, parting_orderly, parting_whole}
 use Rattle.x25_line.proofs.StationSteps.{MayBeAway, away_is_not_up, Leads, put_behind, FitsEnd}
 use Rattle.x25_line.proofs.sessions.SessionLines.{Read, octets_append, octets_sent, count, numbers, quiet_of, of_sent, many_sent}
-use Rattle.x25_line.proofs.sessions.SessionHeld.{View, Live, Gone, IsView, IsHeard, Comes, Owes, HasLists, SameLists, lists_same, Held, counted_view, with_machine, standing_after_is, stays_on, extended_nil, extended_same, extended_other, extended_more, whole_on, whole_apart, heard_more}
+use Rattle.x25_line.proofs.sessions.SessionHeld.{View, Live, Gone, IsView, IsHeard, Comes, Owes, HasLists, SameLists, lists_same, Held, counted_view, with_machine, standing_after_is, stays_on, extended_nil, extended_same, extended_more, whole_on, whole_apart, heard_more}
 
 -- ---- the end, and both, after a step, in which its session is n
 
@@ -44,13 +44,9 @@ stepped c w es met down n step = record {
 abbrev pub went_by : Settings → Step → Option ℕ → Standing → Standing
 went_by c step gone stand = standing_after c step.side.near (map (spelling_of c.role) step.side.out) gone stand
 
-pub nothing_handed : (e : SessionEnd) (n : ℕ) (step : Step) → step.packet ≡ None → e.begun ≤ n → SameLists e (end_after e n [] step)
-nothing_handed e n step none le =
-    record {
-      down = λ m. extended_nil e.down n m;
-      up = λ m. ap (λ (o : Option (List ℕ)). extended e.up n (option_to_list o) m) none ∙ extended_nil e.up n m;
-      begun = le;
-    }
+pub nothing_handed : (e : SessionEnd) (n : ℕ) (step : Step) → step.packet ≡ None → SameLists e (end_after e n [] step)
+nothing_handed e n step none =
+    record { down = λ m. extended_nil e.down n m; up = λ m. ap (λ (o : Option (List ℕ)). extended e.up n (option_to_list o) m) none ∙ extended_nil e.up n m }
 
 pub live_lists : (c : Settings) (e : SessionEnd) (p : ℕ) (v : Stations) (os down : List (List ℕ)) (step : Step) → e.begun ≡ p → HasLists e p v.near
     → HasLists (end_after e e.begun down step) p (one.after_step c v os down step).near
@@ -59,10 +55,6 @@ live_lists c e p v os down step is h =
       down = ap (extended e.down e.begun down) (sym is) ∙ extended_same e.down e.begun down ∙ ap (λ (x : List (List ℕ)). x ++ down) (ap e.down is ∙ h.down);
       up = ap (extended e.up e.begun (option_to_list step.packet)) (sym is) ∙ extended_same e.up e.begun (option_to_list step.packet)
           ∙ ap (λ (x : List (List ℕ)). x ++ option_to_list step.packet) (ap e.up is ∙ h.up);
-      later = λ n less. (let old = h.later n less in (
-        extended_other e.down e.begun n down (λ (same : n ≡ e.begun). omega (arith, same, less)) ∙ old.0,
-        extended_other e.up e.begun n (option_to_list step.packet) (λ (same : n ≡ e.begun). omega (arith, same, less)) ∙ old.1,
-      ));
     }
 
 -- ---- what stands behind
@@ -190,12 +182,12 @@ module _ (c d : Settings) (joined : AreJoined c d) (reads : ReadsSpelled) where
 
   -- ---- an end that is out of the session, or goes into it
 
-  pub apart_held : {stand : Standing} (w : Sessions) (h : Held stand c d w) (es : List Entry) (met : List Meeting) (n : ℕ) (step : Step) (v : View) → step.packet ≡ None → w.near.begun ≤ n
+  pub apart_held : {stand : Standing} (w : Sessions) (h : Held stand c d w) (es : List Entry) (met : List Meeting) (n : ℕ) (step : Step) (v : View) → step.packet ≡ None
       → IsView v (end_after w.near n [] step) h.alone.near.station stand.near → IsHeard v (other c.role) c.longest step.side.near.phase es h.alone.back stand.far
       → AreParting (Unit {0}) step.side.out → count ua_in step.side.out ≡ 0
       → AreOrderly (Unit {0}) (other c.role) c.longest (octets_of es) → Held (went_by c step None stand) c d (stepped c w es met [] n step)
-  apart_held {stand} w h es met n step v none le view heard parting no_ua left =
-      let same = nothing_handed w.near n step none le in
+  apart_held {stand} w h es met n step v none view heard parting no_ua left =
+      let same = nothing_handed w.near n step none in
       subst (λ (z : Standing). Held z c d (stepped c w es met [] n step)) is_on (record {
         alone = h.alone;
         holds = h.holds;

@@ -1,5 +1,5 @@
 -- Two stations over sessions, of which each has the other as its peer: what is claimed of who meets whom, and of order.
-use Rattle.std.proofs.Common.{◌≡◌, ◌≤◌, ◌+◌, ℕ, List, [], ◌∷◌, ◌⊎◌, inl, inr, true, None, Ok, Err, refl, sym, ap, ◌∙◌, subst, arith}
+use Rattle.std.proofs.Common.{◌≡◌, ◌≤◌, ◌+◌, ℕ, List, [], ◌∷◌, ◌⊎◌, inl, inr, true, None, Ok, Err, refl, sym, ap, ◌∙◌, subst, arith, suc}
 use Rattle.x25_bits.specs.declared.role.Role.{Role}
 use Rattle.x25_frame.specs.Frame.{PlainFrame, info, rr, rnr, rej, sabm}
 use Rattle.x25_frame.specs.Reading.{frame_of}
@@ -148,7 +148,7 @@ module _ (reads : ReadsSpelled) (rests : SessionLaws) where
   -- what the rules of both say of the line
   pub on_line : (c d : Settings) (near_joined : AreJoined d c) (far_joined : AreJoined c d) (w : Sessions) → Both c d near_joined far_joined w → OnLine c d w
   on_line c d near_joined far_joined w h =
-      record { near_owes = near_owes c d near_joined far_joined w h; far_owes = near_owes d c far_joined near_joined (swapped w) (both_swapped c d near_joined far_joined w h); quiet = quiet c d near_joined far_joined w h }
+      record { near_owes = near_owes c d near_joined far_joined w h; far_owes = near_owes d c far_joined near_joined (swapped w) (both_swapped c d near_joined far_joined w h); quiet = quiet c d near_joined far_joined w h; near_next = h.near.later (suc w.near.begun) (omega arith); far_next = h.far.later (suc w.far.begun) (omega arith) }
 
   -- ---- the claims
 
