@@ -78,7 +78,7 @@ module _ (c d : Settings) (joined : AreJoined c d) (reads : ReadsSpelled) (laws 
       live_goes_on c d joined reads w h i.view w.back h.alone.back w.met (packet ∷ []) (put_step c packet w.near.station) None
       (subst (λ (s : LinkStation). Leads ⊥ c d h.alone stand.machine stand.machine.back (one.after_step c h.alone h.alone.back (packet ∷ []) (put_step c packet s))) i.view.1
       (put_up ⊥ c d joined reads laws h.alone stand.machine packet h.holds i.machine short))
-      i.comes h.back_orderly (stays_answers w c.window (hands_down packet) w.near.station (put_step c packet w.near.station) stays)
+      i.comes (stays_answers w c.window (hands_down packet) w.near.station (put_step c packet w.near.station) stays)
 
   pub timer_up_held : {stand : Standing} (w : Sessions) → Held stand c d w → is_up w.near.station.phase ≡ true → Held (went_by c (timer_step c w.near.station) None stand) c d (after_step c w w.back w.met [] (timer_step c w.near.station))
   timer_up_held {stand} w h up =
@@ -92,14 +92,14 @@ module _ (c d : Settings) (joined : AreJoined c d) (reads : ReadsSpelled) (laws 
       (subst (λ (z : LinkStation). Leads ⊥ c d h.alone stand.machine stand.machine.back (one.after_step c h.alone h.alone.back [] (timer_step c z))) i.view.1
       (timer_by ⊥ c d joined reads laws h.alone stand.machine h.holds i.machine (nat_lt t.tries c.retries) (timer_step c t) (laws.timer_tells c t)
       (laws.window.timer c t (record { up = i.machine.up; sound = i.machine.sound }))))
-      i.comes h.back_orderly (follows_answers w o c.window nothing s step (λ one. (let none = by_neither by_disc None (Some Retries) refl refl (nat_lt s.tries c.retries) in absurd (omega (arith, one, none)))) (by_neither by_reset None (Some Retries) refl refl (nat_lt s.tries c.retries)) follows)
+      i.comes (follows_answers w o c.window nothing s step (λ one. (let none = by_neither by_disc None (Some Retries) refl refl (nat_lt s.tries c.retries) in absurd (omega (arith, one, none)))) (by_neither by_reset None (Some Retries) refl refl (nat_lt s.tries c.retries)) follows)
 
   leaves_held : {stand : Standing} (w : Sessions) (h : Held stand c d w) → InSession stand c d w h → (reason : Reason) → by_disc (Some reason) ≡ 0 → by_reset (Some reason) ≡ 0 → (f : LinkStation → Step)
       → Leads ⊥ c d h.alone stand.machine stand.machine.back (one.after_step c h.alone h.alone.back [] (f h.alone.near.station)) → Ends reason (f w.near.station) → Held (went_by c (f w.near.station) None stand) c d (after_step c w w.back w.met [] (f w.near.station))
   leaves_held {stand} w h i reason by_own stays f holds ends =
       live_goes_on c d joined reads w h i.view w.back h.alone.back w.met [] (f w.near.station) None
       (subst (λ (z : LinkStation). Leads ⊥ c d h.alone stand.machine stand.machine.back (one.after_step c h.alone h.alone.back [] (f z))) i.view.1 holds)
-      i.comes h.back_orderly (follows_answers w (Some reason) c.window nothing w.near.station (f w.near.station) (λ one. absurd (omega (arith, one, by_own))) stays ends)
+      i.comes (follows_answers w (Some reason) c.window nothing w.near.station (f w.near.station) (λ one. absurd (omega (arith, one, by_own))) stays ends)
 
   pub disconnect_up_held : {stand : Standing} (w : Sessions) → Held stand c d w → is_up w.near.station.phase ≡ true → Held (went_by c (disconnect_step c w.near.station) None stand) c d (after_step c w w.back w.met [] (disconnect_step c w.near.station))
   disconnect_up_held {stand} w h up =
@@ -128,14 +128,14 @@ module _ (c d : Settings) (joined : AreJoined c d) (reads : ReadsSpelled) (laws 
       let same : step.side.near.phase ≡ near.phase = ap (λ (s : LinkStation). s.phase) i.near in
       quiet_held c d w w.back w.met [] step i.up
       (apart_held c d joined reads w h w.back w.met w.near.begun step Gone i.packet (ap is_up same ∙ off, near_high c d w h) (λ waiting. none (sym same ∙ waiting))
-      (subst (AreParting (Unit {0})) (sym i.out) parting) (ap (count ua_in) i.out ∙ no_ua) h.back_orderly)
+      (subst (AreParting (Unit {0})) (sym i.out) parting) (ap (count ua_in) i.out ∙ no_ua))
 
   closes_held : {stand : Standing} (w : Sessions) → Held stand c d w → (step : Step) → step.side.near.phase ≡ Closed → step.side.out ≡ disc true ∷ [] → step.packet ≡ None → step.notes.up ≡ false
       → Held (went_by c step None stand) c d (after_step c w w.back w.met [] step)
   closes_held {stand} w h step closed sent none quiet =
       quiet_held c d w w.back w.met [] step quiet
       (apart_held c d joined reads w h w.back w.met w.near.begun step Gone none (ap is_up closed, near_high c d w h) (λ waiting. closed_is_waiting step.side.near.phase closed waiting)
-      (subst (AreParting (Unit {0})) (sym sent) tt) (ap (count ua_in) sent) h.back_orderly)
+      (subst (AreParting (Unit {0})) (sym sent) tt) (ap (count ua_in) sent))
 
   pub connect_held : {stand : Standing} (w : Sessions) → Held stand c d w → OnLine c d w → w.near.station.phase ≡ Down → Held (went_by c (connect_step c w.near.station) None stand) c d (after_step c w w.back w.met [] (connect_step c w.near.station))
   connect_held {stand} w h line down =

@@ -11,10 +11,9 @@ use Rattle.x25_line.specs.laws.Stations.{start}
 use Rattle.x25_line.specs.laws.StationClaims.{AreJoined, NoFrmr, numbered_on}
 use Rattle.x25_line.specs.laws.Sessions.{Entry, Meeting, Sessions, sabm_in, ua_in, how_many, sent_in}
 use Rattle.x25_line.specs.laws.SessionNumbers.{Standing, anew}
-use Rattle.x25_line.specs.laws.SessionClaims.{octets_of}
-use Rattle.x25_line.proofs.StationLines.{AreOrderly, orderly_append, AreParting, no_frmr_append, parting_numbered, parting_orderly, parting_whole}
+use Rattle.x25_line.proofs.StationLines.{AreParting, no_frmr_append, parting_numbered, parting_whole}
 use Rattle.x25_line.proofs.StationRuns.{start_machine}
-use Rattle.x25_line.proofs.sessions.SessionLines.{Read, octets_append, octets_sent, numbers}
+use Rattle.x25_line.proofs.sessions.SessionLines.{Read, octets_sent, numbers}
 use Rattle.x25_line.proofs.sessions.SessionHeld.{View, Soon, Gone, IsView, IsHeard, AfterUa, OnLine, HasLists, SameLists, Held, whole_apart, after_answer}
 use Rattle.x25_line.proofs.sessions.SessionSteps.{end_after, stepped, nothing_handed, waiting_is_closed, asked_by, many_out}
 
@@ -45,18 +44,10 @@ module _ (c d : Settings) (joined : AreJoined c d) (reads : ReadsSpelled) where
       some : 1 ≤ how_many sabm_in (other c.role) c.longest w.back + how_many ua_in (other d.role) d.longest w.out
       some = omega (arith, some_back)
 
-      left : AreOrderly (Unit {0}) (other c.role) c.longest (octets_of es)
-      left = (subst (λ (xs : List Entry). AreOrderly (Unit {0}) (other c.role) c.longest (octets_of xs)) is h.back_orderly).1
-
       parting_quiet : numbers (other d.role) d.longest more ≡ []
       parting_quiet =
           ap (numbered_on (other d.role) d.longest) (octets_sent n c.role step.side.out ∙ ap (map (spelling_of c.role)) answer)
           ∙ subst (λ (r : Role). numbered_on r d.longest (map (spelling_of c.role) (ua f ∷ [])) ≡ []) (sym joined.near_role) (parting_numbered reads c.role d.longest (Unit {0}) (ua f ∷ []) tt)
-
-      orderly : AreOrderly (Unit {0}) (other d.role) d.longest (octets_of more)
-      orderly =
-          subst (AreOrderly (Unit {0}) (other d.role) d.longest) (sym (octets_sent n c.role step.side.out ∙ ap (map (spelling_of c.role)) answer))
-          (subst (λ (r : Role). AreOrderly (Unit {0}) r d.longest (map (spelling_of c.role) (ua f ∷ []))) (sym joined.near_role) (parting_orderly reads c.role d.longest (Unit {0}) (ua f ∷ []) tt))
 
       ua_reads : ua_in (frame_of (other d.role) d.longest (spelling_of c.role (ua f))) ≡ 1
       ua_reads =
@@ -80,9 +71,6 @@ module _ (c d : Settings) (joined : AreJoined c d) (reads : ReadsSpelled) where
             far = far_view;
             back = heard;
             out = out;
-            out_orderly = subst (AreOrderly (Unit {0}) (other d.role) d.longest) (sym (octets_append w.out more))
-                (orderly_append (Unit {0}) (other d.role) d.longest (octets_of w.out) (octets_of more) h.out_orderly orderly);
-            back_orderly = left;
             near_lists = near_lists;
             far_lists = record { down = line.far_next.0; up = line.far_next.1 };
             no_frmr = subst (λ (xs : List PlainFrame). NoFrmr (w.sent ++ xs)) (sym answer) (no_frmr_append w.sent (ua f ∷ []) h.no_frmr tt);

@@ -17,8 +17,8 @@ use Rattle.x25_line.specs.laws.Sessions.{Entry, SessionEnd, Sessions, sabm_in, u
 use Rattle.x25_line.specs.laws.Line.{Line}
 use Rattle.x25_line.specs.laws.WholeNumbers.{given, taken_out, counted}
 use Rattle.x25_line.specs.laws.SessionNumbers.{Standing, standing_after}
-use Rattle.x25_line.specs.laws.SessionClaims.{octets_of, AllOf, AreWholeIn}
-use Rattle.x25_line.proofs.StationLines.{AreOrderly, numbered_append, AreParting, whole_more, whole_append, parting_whole}
+use Rattle.x25_line.specs.laws.SessionClaims.{AllOf, AreWholeIn}
+use Rattle.x25_line.proofs.StationLines.{numbered_append, AreParting, whole_more, whole_append, parting_whole, IsOrderly}
 use Rattle.x25_line.proofs.StationSteps.{Joint, FitsEnd, counted_off, counted_fits, none_put, not_both}
 use Rattle.x25_line.proofs.sessions.SessionLines.{numbers, numbers_append, quiet_tail, quiet_of, of_append, many_append}
 
@@ -80,6 +80,7 @@ pub record OnLine (c d : Settings) (w : Sessions) : Type 0 where
   pub near_owes : Owes w.near.station.phase (how_many sabm_in (other d.role) d.longest w.out + how_many ua_in (other c.role) c.longest w.back) (how_many disc_in (other d.role) d.longest w.out)
   pub far_owes : Owes w.far.station.phase (how_many sabm_in (other c.role) c.longest w.back + how_many ua_in (other d.role) d.longest w.out) (how_many disc_in (other c.role) c.longest w.back)
   pub quiet : (e : Entry) (es : List Entry) → w.back ≡ e ∷ es → sabm_in (frame_of (other c.role) c.longest e.octets) ≡ 1 → numbers (other c.role) c.longest es ≡ []
+  pub fine : (e : Entry) (es : List Entry) → w.back ≡ e ∷ es → IsOrderly (Unit {0}) (frame_of (other c.role) c.longest e.octets)
   -- the next session of each has no lists
   pub near_next : (w.near.down (suc w.near.begun) ≡ []) × (w.near.up (suc w.near.begun) ≡ [])
   pub far_next : (w.far.down (suc w.far.begun) ≡ []) × (w.far.up (suc w.far.begun) ≡ [])
@@ -111,8 +112,6 @@ pub record Held (stand : Standing) (c d : Settings) (w : Sessions) : Type 0 wher
   pub far : IsView far_view w.far alone.far.station stand.far
   pub back : IsHeard near_view (other c.role) c.longest w.near.station.phase w.back alone.back stand.far
   pub out : IsHeard far_view (other d.role) d.longest w.far.station.phase w.out alone.out stand.near
-  pub out_orderly : AreOrderly (Unit {0}) (other d.role) d.longest (octets_of w.out)
-  pub back_orderly : AreOrderly (Unit {0}) (other c.role) c.longest (octets_of w.back)
   pub near_lists : HasLists w.near stand.near alone.near
   pub far_lists : HasLists w.far stand.far alone.far
   pub no_frmr : NoFrmr w.sent

@@ -19,7 +19,7 @@ use Rattle.x25_line.specs.laws.SessionClaims.{octets_of}
 use Rattle.x25_line.specs.laws.SessionNumbers.{Standing, is_sabm, is_set_up, anew, place_to_hear}
 use Rattle.x25_line.specs.laws.Sessions.{Entry, Meeting, Sessions, sabm_in, ua_in, disc_in, how_many, begun_by, after_step, heard}
 use Rattle.x25_line.specs.laws.LawsBelow.{Laws}
-use Rattle.x25_line.proofs.StationLines.{IsOrderly, orderly_where, AreOrderly, consed, AreParting}
+use Rattle.x25_line.proofs.StationLines.{IsOrderly, orderly_where, consed, AreParting}
 use Rattle.x25_line.proofs.StationSteps.{Leads, not_both, read_joint, declining_parting, out_not_up}
 use Rattle.x25_line.proofs.StationAway.{closed_takes, waits_on, waiting_parting}
 use Rattle.x25_line.proofs.sessions.SessionLines.{Read, count, numbers, quiet_of, carried, carried_numbers, carried_orderly}
@@ -93,12 +93,8 @@ module _ (c d : Settings) (joined : AreJoined c d) (reads : ReadsSpelled) (laws 
     all_back : (kind : Read → ℕ) → how_many kind (other c.role) c.longest w.back ≡ kind (read_of c e) + how_many kind (other c.role) c.longest es
     all_back kind = ap (how_many kind (other c.role) c.longest) is
 
-    -- the line to it is whole, and so is what is left
-    fine : AreOrderly (Unit {0}) (other c.role) c.longest (octets_of (e ∷ es))
-    fine = subst (λ (xs : List Entry). AreOrderly (Unit {0}) (other c.role) c.longest (octets_of xs)) is h.back_orderly
-
     orderly : IsNoSabm (read_of c e) → IsOrderly ⊥ (read_of c e)
-    orderly no_sabm = orderly_where (Unit {0}) ⊥ (read_of c e) (λ p sabm_is asked. (let one = ap sabm_in sabm_is in absurd (omega (arith, no_sabm, one)))) fine.0
+    orderly no_sabm = orderly_where (Unit {0}) ⊥ (read_of c e) (λ p sabm_is asked. (let one = ap sabm_in sabm_is in absurd (omega (arith, no_sabm, one)))) (line.fine e es is)
 
     -- ---- a SABM
 
@@ -150,7 +146,7 @@ module _ (c d : Settings) (joined : AreJoined c d) (reads : ReadsSpelled) (laws 
         let t = step_of c w e in
         quiet_held c d w es (heard_by c w e) [] t (ap (λ (n : Notes). n.up) stays.quiet)
         (apart_held c d joined reads w h es (heard_by c w e) w.near.begun t Gone stays.packet (out_not_up t.side.near.phase stays.out, near_high c d w h) (λ waiting. out_is_waiting t.side.near.phase stays.out waiting)
-        (declining_parting (Unit {0}) t.side.out stays.frames) (declining_none t.side.out stays.frames) fine.1)
+        (declining_parting (Unit {0}) t.side.out stays.frames) (declining_none t.side.out stays.frames))
 
     -- ---- while UA is awaited
 
@@ -174,7 +170,7 @@ module _ (c d : Settings) (joined : AreJoined c d) (reads : ReadsSpelled) (laws 
             subst (λ (n : ℕ). Held (went_by c (step_of c w e) None stand) c d (stepped c w es (heard_by c w e) [] n (step_of c w e))) (sym (ap (λ (b : Bool). begun_by b w.near.begun) i.up))
             (apart_held c d joined reads w h es (heard_by c w e) (suc w.near.begun) (step_of c w e) Live i.packet (up, view.1 ∙ sym i.near, view.2)
             (front_answers (other c.role) c.longest e es h.alone.back stand.far one_ua (subst (λ (xs : List Entry). AfterUa (other c.role) c.longest xs h.alone.back stand.far) is back))
-            (subst (AreParting (Unit {0})) (sym i.out) tt) (ap (count ua_in) i.out) fine.1)
+            (subst (AreParting (Unit {0})) (sym i.out) tt) (ap (count ua_in) i.out))
         go Gone view back = (let none = back waiting in let all = all_back ua_in in absurd (omega (arith, none, all, one_ua)))
 
     -- what else comes
@@ -193,7 +189,7 @@ module _ (c d : Settings) (joined : AreJoined c d) (reads : ReadsSpelled) (laws 
             → Held (went_by c (step_of c w e) None stand) c d (stepped c w es (heard_by c w e) [] w.near.begun (step_of c w e))
         by v view back =
             apart_held c d joined reads w h es (heard_by c w e) w.near.begun (step_of c w e) v i.packet view back
-            (subst (AreParting (Unit {0})) (sym i.out) (waiting_parting (Unit {0}) (read_of c e))) (ap (count ua_in) i.out ∙ waiting_none (read_of c e) no_sabm) fine.1
+            (subst (AreParting (Unit {0})) (sym i.out) (waiting_parting (Unit {0}) (read_of c e))) (ap (count ua_in) i.out ∙ waiting_none (read_of c e) no_sabm)
 
         owed : (how_many sabm_in (other d.role) d.longest w.out + how_many ua_in (other c.role) c.longest w.back ≤ 1) × (how_many disc_in (other d.role) d.longest w.out ≡ 0)
         owed = waiting_owes w.near.station.phase _ _ waiting line.near_owes
@@ -214,7 +210,7 @@ module _ (c d : Settings) (joined : AreJoined c d) (reads : ReadsSpelled) (laws 
 
     up_held : IsNoSabm (read_of c e) → is_up w.near.station.phase ≡ true
         → Held (went_by c (step_of c w e) (first_of (number_in (read_of c e))) stand) c d (taken c w e es)
-    up_held no_sabm up = live_goes_on c d joined reads w h i.view es (carried (other c.role) c.longest es) (heard_by c w e) [] (step_of c w e) gone leads left fine.1 answers
+    up_held no_sabm up = live_goes_on c d joined reads w h i.view es (carried (other c.role) c.longest es) (heard_by c w e) [] (step_of c w e) gone leads left answers
       where
         i : InSession stand c d w h
         i = in_session c d w h up

@@ -16,9 +16,7 @@ use Rattle.x25_line.specs.laws.StationClaims.{AreJoined, number_in}
 use Rattle.x25_line.specs.laws.Sessions.{Entry, Meeting, Sessions, ua_in, begun_by, after_step}
 use Rattle.x25_line.specs.laws.SessionNumbers.{Standing}
 use Rattle.x25_line.specs.laws.WholeNumbers.{taken_out}
-use Rattle.x25_line.specs.laws.SessionClaims.{octets_of}
 use Rattle.x25_line.proofs.sessions.SessionSeenActs.{by_disc, by_reset}
-use Rattle.x25_line.proofs.StationLines.{AreOrderly}
 use Rattle.x25_line.proofs.StationSteps.{Holds, Leads}
 use Rattle.x25_line.proofs.StationAway.{second_false}
 use Rattle.x25_line.proofs.sessions.SessionLines.{Read, of_ua, none_is_some, count, AllNumbered, numbered_count}
@@ -84,7 +82,7 @@ module _ (c d : Settings) (joined : AreJoined c d) (reads : ReadsSpelled) where
 
   pub live_goes_on : {stand : Standing} (w : Sessions) (h : Held stand c d w) → IsView Live w.near h.alone.near.station stand.near → (es : List Entry) (os : List (List ℕ)) (met : List Meeting) (down : List (List ℕ)) (step : Step) (gone : Option ℕ)
       → Leads ⊥ c d h.alone stand.machine (taken_out gone stand.machine.back) (one.after_step c h.alone os down step) → Comes (other c.role) c.longest es os stand.far
-      → AreOrderly (Unit {0}) (other c.role) c.longest (octets_of es) → Answers w step → Held (went_by c step gone stand) c d (after_step c w es met down step)
-  live_goes_on {stand} w h near es os met down step gone leads comes left answers =
+      → Answers w step → Held (went_by c step gone stand) c d (after_step c w es met down step)
+  live_goes_on {stand} w h near es os met down step gone leads comes answers =
       subst (λ (n : ℕ). Held (went_by c step gone stand) c d (stepped c w es met down n step)) (sym (ap (λ (b : Bool). begun_by b w.near.begun) (quiet_up h.alone os down step (leads.0, leads.1))))
-      (live_held c d joined reads w h near es os met down step gone leads comes left answers)
+      (live_held c d joined reads w h near es os met down step gone leads comes answers)
