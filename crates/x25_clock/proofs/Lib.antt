@@ -1,2 +1,5 @@
 pub mod ListLemmas
 pub mod ClockLemmas
+pub mod DeadlineLemmas
+pub mod WaitLemmas
+pub mod SilenceLemmas

@@ -30,6 +30,7 @@ pub mod TimerLemmas
 pub mod AwaitLemmas
 pub mod StillLemmas
 pub mod WayOutLemmas
+pub mod UnheardLemmas
 pub mod DoesLemmas
 pub mod PullLemmas
 pub mod ClockLemmas

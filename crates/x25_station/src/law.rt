@@ -8,6 +8,7 @@ ghost use Rattle.x25_station.specs.laws.HoldLaw.{FewWait, FewStand, FewMessages,
 ghost use Rattle.x25_station.specs.laws.OctetLaw.{FewOctets, FewOctetsInAll};
 ghost use Rattle.x25_station.specs.laws.TimerLaw.{BeginsWhereDue, BeginsBehindPull, DeadlineIsTrue, FiringIsTaken};
 ghost use Rattle.x25_station.specs.laws.TimerLaw.{OffIsRefused, PullIsHeeded};
+ghost use Rattle.x25_station.specs.laws.UnheardLaw.{UnheardAsksOn};
 ghost use Rattle.x25_station.specs.laws.WayOutLaw.{ClearLeadsOn, FiringLeadsOn, NothingLeadsBack, RelinkLeadsOn};
 ghost use Rattle.x25_station.specs.laws.WayOutLaw.{RestartLeadsOn};
 
@@ -109,4 +110,13 @@ pub fn ways_out_lead_on()
 {
     sets_up_by_rows();
     notes_what_changes();
+}
+
+/// While nothing is heard of the other end, as no octets come or UA is awaited, T1 runs on, whatever is asked: each
+/// firing of it and each poll takes one of N2 tries, no more is acknowledged, and it runs after each. So at most N2
+/// firings and one more lead to LinkDown, which ends that, as LinkUp does.
+pub fn silence_is_asked()
+    ensures { UnheardAsksOn }
+{
+    sets_up_by_rows();
 }

@@ -1,0 +1,7 @@
+use Rattle.x25_clock.proofs.SilenceLemmas.{silence_ends, idle_is_asked}
+use Rattle.x25_clock.proofs.law.silence_is_told.Goals as goal
+
+pub returns : goal.returns
+returns c =
+    let silent = c.silence_is_asked.ensures in
+    record { ends = silence_ends silent; idle = idle_is_asked silent }
