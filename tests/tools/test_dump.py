@@ -45,7 +45,7 @@ def data(number, text, more=0, channel=1, acknowledged=0):
 def joined(frames, due=None):
     """Sort and octets of what frames, each direction and text, complete."""
     line = messages.Messages(due)
-    found = [it for frame in frames for _, completed in line.take([" ".join(frame)]) for it in completed]
+    found = [it for frame in frames for _, it in line.take([" ".join(frame)])]
     return [(sort, octets.decode()) for _, _, sort, octets, _ in [*found, *line.end()]]
 
 
@@ -154,6 +154,14 @@ class Joining(unittest.TestCase):
         self.assertEqual(joined(frames), [("message broken off by link set up", "a"), ("message", "b")])
 
 
+class Rows(unittest.TestCase):
+    def test_rows_that_are_laid_out_together(self):
+        octets = bytes(range(256)) * 257
+        many = [octets[-count:] for count in (*range(1, 40), 4096, 65535, 65536, 65537)] + [b"", b"  "]
+        self.assertEqual(messages.all_dumped(many), [messages.dumped(it) for it in many])
+        self.assertEqual(messages.dumped(b"a\xff" * 9), "    0000 " + " 61 ff" * 8 + "  a." + "a." * 7 + "\n    0010  61 ff" + " " * 44 + "a.")
+
+
 class Dump(ToolCase):
     def dump(self, given, *words, status=0):
         done = support.run("x25dump.py", *words, given=given)
@@ -168,6 +176,7 @@ class Dump(ToolCase):
             records.append((client, 0, samples.ethernet(samples.ipv4(True, samples.tcp(True, 1, stream), client=client))))
         return samples.pcap(records, link_type=1)
 
+    @support.needs_program
     def test_decoded_lines_with_names(self):
         self.assertEqual(self.dump(DECODED, status=1), SHOWN)
         self.assertEqual(self.dump(gzip.compress(DECODED), status=1), SHOWN)
@@ -197,6 +206,7 @@ class Dump(ToolCase):
         self.assertEqual(self.dump(given, "--fold"), given.decode().replace("78" * 33, "78" * 24 + "..(33 octets)"))
         self.assertEqual(self.dump(given, "--fold", "--whole"), given.decode())
 
+    @support.needs_program
     def test_one_channel(self):
         self.assertEqual(self.dump(DECODED, "--channel", "7", status=1), "".join(SHOWN.splitlines(True)[2:4]))
         self.assertEqual(self.dump(b"> I cmd P=0 S=0 R=0 | RESTART cause=0 diag=0\n", "--channel", "0").count("\n"), 1)
@@ -336,7 +346,7 @@ class Dump(ToolCase):
         self.assertEqual(live.end(), (0, b"", b""))
 
     def test_colours_are_for_a_terminal(self):
-        self.assertNotIn("\x1b", self.dump(DECODED, status=1))
+        self.assertNotIn("\x1b", self.dump(b"> SABM cmd P=1\n"))
         for environment, has_colour in (({}, True), ({"NO_COLOR": "1"}, False)):
             read, write = pty.openpty()
             command = [sys.executable, os.path.join(support.TOOLS, "x25dump.py"), self.file("decoded", b"> SABM cmd P=1\n")]
@@ -349,7 +359,7 @@ class Dump(ToolCase):
         self.assert_refused(support.run("x25dump.py", "--x25", "/bin/true", given=b"> 013febdf\n"), "didn't answer line by line")
         self.assert_refused(support.run("x25dump.py", os.path.join(self.folder, "none")), "No such file")
         self.assert_refused(support.run("x25dump.py", given=samples.pcap([])[:9]), "the file ends within the file header")
-        self.assert_refused(support.run("x25dump.py", self.sparse("trace", DECODED)), "is longer than")
+        self.assert_refused(support.run("x25dump.py", self.sparse("trace", b"> SABM cmd P=1\n")), "is longer than")
         for words in (["--verdict"], ["--messages", "--stats"], ["--stats", "--judge"], ["--judge", "--k", "8"], ["--channel", "x"]):
             self.assertEqual(support.run("x25dump.py", *words).returncode, 2)
 

@@ -57,6 +57,8 @@ Exit status: 0; 1 where a command was refused or was none, the line ended before
 bad words, or anything else that stops the bridge, which standard error names; 130 behind CTRL-C and 143 behind SIGTERM.
 """
 
+from __future__ import annotations
+
 import argparse
 import contextlib
 import os
@@ -65,15 +67,22 @@ import select
 import sys
 import time
 from collections import Counter
+from typing import IO, TYPE_CHECKING, Union
 
 from x25tools import decoding, piped, wires, x25lines, x25names, xot_wire
 from x25tools.circuits import Circuits
 from x25tools.mishaps import Mishaps
 from x25tools.overdue import STANDARD, Overdue
 from x25tools.places import host_and_port, ports, within, xot_host
-from x25tools.users import SLOW, Outlet, Signals, User, kind
+from x25tools.users import SLOW, Outlet, Signals, User, Written, kind
 from x25tools.x25lines import BadInput, FrameLine
 from x25tools.xot import XOT_PORT
+
+if TYPE_CHECKING:
+    from x25tools import linked
+    from x25tools.piped import Answer
+
+    Station = Union[piped.Station, linked.Station]
 
 # What a station answers where there is room again once something is acknowledged, where the link was ended for good, for a parameter
 # out of range, and for a line that asks for nothing.
@@ -95,18 +104,18 @@ SENDS = re.compile(r"\w+ send ")
 READY = re.compile(r"\w+ (?:not)?ready (\d+)")
 
 
-def called_channel(octets):
+def called_channel(octets: bytes) -> int | None:
     """The channel of a CALL in a frame, or None where it brings none."""
     is_call = len(octets) >= 7 and not octets[1] & 1 and octets[4] == CALL and x25lines.is_sealed(octets)
     return (octets[2] & 15) << 8 | octets[3] if is_call else None
 
 
-def is_answer(octets):
+def is_answer(octets: bytes) -> bool:
     """Whether a frame is UA or DM, the answers to DISC."""
     return x25lines.is_sealed(octets) and octets[1] & 0xEF in (UA, DM)
 
 
-def as_disc(octets):
+def as_disc(octets: bytes) -> bytes:
     """DISC in place of SABME; other octets as they are."""
     if len(octets) != 4 or octets[1] & ~P_OR_F != SABME or not x25lines.is_sealed(octets):
         return octets
@@ -117,7 +126,7 @@ def as_disc(octets):
 class Bridge:
     """A station, its line and its user, and the deadline of T1. `status` is what the script ends with."""
 
-    def __init__(self, station, wire, user, options, trace, signals):
+    def __init__(self, station: Station, wire: wires.Wire, user: User, options: argparse.Namespace, trace: Outlet | None, signals: Signals) -> None:
         self._station, self._wire, self._user, self._options, self._trace, self._signals = station, wire, user, options, trace, signals
         self._end = options.end
         self._direction = ">" if options.end == "dte" else "<"
@@ -127,21 +136,24 @@ class Bridge:
         self._circuits = Circuits()
         self._overdue = Overdue(options.end, (options.t20, options.t21, options.t22, options.t23))
         self._deadline, self._is_idle = None, False
-        self._is_full, self._held, self._unknown = False, set(), set()
+        self._is_full = False
+        self._held: set[int] = set()
+        self._unknown: set[int] = set()
         self._last_frame = self._last_came = time.monotonic()
         # Whether the link was ended here, and until when an answer to that, or to what T1 sent again, may come.
         self._is_dead, self._answers = False, [0, 0]
         self._leaves = None
-        self.status, self.counts = 0, Counter()
+        self.status = 0
+        self.counts: Counter[str] = Counter()
 
-    def run(self):
+    def run(self) -> None:
         """Runs until all is done or the line ends."""
         self._heed(self._station.first)
         while not self._has_ended() and self._turn():
             if self._signals.number is not None and self._leaves is None:
                 self._leave()
 
-    def _turn(self):
+    def _turn(self) -> bool:
         """What comes next: frames, T1, or a command; answers False where the line has ended."""
         ready = self._ready()
         is_still = True
@@ -159,7 +171,7 @@ class Bridge:
             outlet.flush()
         return True
 
-    def _ready(self):
+    def _ready(self) -> set[int]:
         """Waits until the bridge has something to do; answers the files that are ready."""
         wire = self._wire
         if not wire.has_begun:
@@ -171,7 +183,7 @@ class Bridge:
         came, room, _ = select.select(readers, writers, [], patience)
         return {*came, *room}
 
-    def _patience(self):
+    def _patience(self) -> float | None:
         """How long nothing may happen before the bridge itself has to act, in seconds; None where it has nothing to do."""
         if self._leaves is None and (self._command() is not None or self._has_caught_up() or self._in_vain()):
             return 0
@@ -184,7 +196,7 @@ class Bridge:
             times.append(self._last_frame + self._quiet)
         return max(0, min(times) - now) if times else None
 
-    def _act(self):
+    def _act(self) -> None:
         """Where nothing came: T1, or what is asked where an answer is overdue or nothing came for T3, or else a command."""
         now, probing = time.monotonic(), self._probing()
         if self._deadline is not None and now >= self._deadline:
@@ -198,22 +210,22 @@ class Bridge:
         elif (command := self._command()) is not None:
             self._ask(command)
         elif why := self._in_vain():
-            command, held = f"wait {self._user.awaits()[0]}", self._user.held()
+            (text, _), held = self._user.awaits() or ("", 0), self._user.held()
             self._user.end_wait()
-            self._refuse(IN_VAIN, "; ".join(filter(None, [why, held])), command)
+            self._refuse(IN_VAIN, "; ".join(filter(None, [why, held])), f"wait {text}")
         elif (silence := self._user.silence()) is not None and now >= silence:
             self._user.tell_silence()
 
-    def _command(self):
+    def _command(self) -> str | None:
         """The command that may be asked now."""
         return None if self._is_held_up() else self._user.command()
 
-    def _is_held_up(self):
+    def _is_held_up(self) -> bool:
         """Whether no command may be asked now."""
         waits = self._is_full or self._user.notices.is_slow() or self._is_settling()
         return waits or not self._wire.is_there or self._wire.waits > MOST_UNSENT
 
-    def _in_vain(self):
+    def _in_vain(self) -> str:
         """Why a `wait` is given up; nothing where none is."""
         text, since = self._user.awaits() or ("", 0)
         if not text:
@@ -223,50 +235,50 @@ class Bridge:
         is_over = self._options.wait is not None and time.monotonic() >= since + self._options.wait
         return self._circuits.cannot_come(text) or (f"it hasn't come in {self._options.wait:g} seconds" if is_over else "")
 
-    def _waits(self):
+    def _waits(self) -> list[float | None]:
         """When a `wait` is given up, when it is told that it holds commands, and when a command goes before messages that stand aside."""
         awaited = self._user.awaits()
-        is_limited = awaited is not None and self._options.wait is not None
         passes = None if self._is_held_up() else self._user.commands.due()
-        return [awaited[1] + self._options.wait if is_limited else None, self._user.silence(), passes]
+        return [awaited[1] + self._options.wait if awaited and self._options.wait is not None else None, self._user.silence(), passes]
 
-    def _is_settling(self):
+    def _is_settling(self) -> bool:
         """Whether an answer may still come though the link was ended: a new station would take it for one to its SABM."""
         return self._is_dead and time.monotonic() < max(self._answers)
 
-    def _is_at_rest(self):
+    def _is_at_rest(self) -> bool:
         """Whether nothing is left to do here, if nothing comes any more."""
         is_still = (self._is_idle or not self._circuits.is_up) and self._deadline is None and not self._wire.waits and not self._user.notices
         return not self._options.stay and self._wire.has_begun and self._user.has_done() and is_still
 
-    def _has_ended(self):
+    def _has_ended(self) -> bool:
         now = time.monotonic()
         if self._leaves is not None:
             return now >= self._leaves or not (self._is_settling() or self._wire.waits or self._user.notices)
         return self._is_at_rest() and now >= self._last_frame + self._quiet
 
-    def _is_cut_off(self):
+    def _is_cut_off(self) -> bool:
         """The other end has gone: it is told where something was left to do."""
         if not (self._user.has_asked() and (self._is_idle or not self._circuits.is_up)):
             self._user.warn("the line has ended before all was done")
             self.status = 1
         return False
 
-    def _leave(self):
+    def _leave(self) -> None:
         """Ends the link, and the bridge once that is answered, or T1 later."""
         self._leaves = time.monotonic() + self._options.t1
         self.status = 128 + self._signals.number if self._signals.number else self.status
         if self._circuits.is_up or self._deadline is not None:
             self._heed(self._station.ask(f"{self._end} disconnect"))
 
-    def _receive(self, octets):
+    def _receive(self, octets: bytes) -> None:
         """A frame came over the line."""
         self._last_frame = self._last_came = time.monotonic()
         self.counts["came"] += 1
         self._note(OTHER[self._direction], octets)
-        octets = self._befallen(octets, self._coming)
-        if octets is None:
+        befallen = self._befallen(octets, self._coming)
+        if befallen is None:
             return
+        octets = befallen
         self._make_room()
         heard = as_disc(octets) if self._is_down() else octets
         answer = self._station.ask(FrameLine(OTHER[self._direction], heard).text())
@@ -277,11 +289,11 @@ class Bridge:
         if is_answer(octets):
             self._answers[0] = 0
 
-    def _is_down(self):
+    def _is_down(self) -> bool:
         """Whether SABME is to be answered by DM, which is what DISC is answered by: then the other end goes on by SABM (2.4.4.1)."""
         return self._options.wide and not self._circuits.is_up and self._deadline is None
 
-    def _look_for_channel(self, octets):
+    def _look_for_channel(self, octets: bytes) -> None:
         """Tells of a call on a channel that the station doesn't have, once for each: nothing answers it."""
         channel = called_channel(octets)
         if channel is not None and channel > self._options.channels and channel not in self._unknown:
@@ -289,12 +301,12 @@ class Bridge:
             hint = f"--channels {channel} would have it" if channel <= MOST_CHANNELS else f"a station has at most {MOST_CHANNELS}"
             self._user.note(f"a call came on channel {channel}, and there are {self._options.channels}: nothing answers it; {hint}")
 
-    def _make_room(self):
+    def _make_room(self) -> None:
         """What was refused as too much waits is asked again: a frame came, or the user did something else than send."""
         self._is_full = False
         self._user.commands.make_room()
 
-    def _fire(self):
+    def _fire(self) -> None:
         """T1 runs out. Where the link goes down by it, no frame comes, so what waited for one is asked again."""
         self._deadline = None
         self._make_room()
@@ -305,17 +317,17 @@ class Bridge:
         if answer.refusal is not None:
             raise BadInput(f"the station refused a firing of T1, which ran: {answer.refusal}")
 
-    def _probing(self):
+    def _probing(self) -> float | None:
         """When the other end is asked whether it is there; None where the link isn't up, or T1 asks already."""
         is_needed = self._options.t3 and self._circuits.is_up and self._deadline is None and self._leaves is None and not self._is_at_rest()
         return self._last_came + self._options.t3 if is_needed else None
 
-    def _probe(self):
+    def _probe(self) -> None:
         """Polls the other end, which has to answer."""
         self._last_came = time.monotonic()
         self._heed(self._station.ask(f"{self._end} probe"))
 
-    def _insist(self, timer, why, commands):
+    def _insist(self, timer: str, why: str, commands: list[str]) -> None:
         """An answer is overdue: the next wider thing is asked."""
         self._user.note(f"{timer} has passed: {why}")
         self._make_room()
@@ -324,19 +336,20 @@ class Bridge:
             self._heed(answer)
             if answer.refusal is None:
                 return
+        assert answer.refusal
         self._user.note(f"{commands[-1]} is refused: {x25names.refusal(answer.refusal)}")
 
-    def _has_caught_up(self):
+    def _has_caught_up(self) -> bool:
         """Whether channels are held for the reader of notices, and he has read."""
         return bool(self._held) and len(self._user.notices) < SLOW // 2
 
-    def _release(self):
+    def _release(self) -> None:
         """What was held for the reader of notices comes again."""
         held, self._held = sorted(self._held & self._circuits.not_ready), set()
         for channel in held:
             self._heed(self._station.ask(f"{self._end} ready {channel}"))
 
-    def _ask(self, command):
+    def _ask(self, command: str) -> None:
         """The user asks for something."""
         why = self._objection(command)
         if why:
@@ -362,7 +375,7 @@ class Bridge:
                 self._held.discard(int(found[1]))
         self._heed(answer)
 
-    def _objection(self, command):
+    def _objection(self, command: str) -> str:
         """Why the bridge itself refuses a command; nothing where it doesn't."""
         if len(command) > x25lines.MOST_CHARACTERS:
             return f"no command has more than {x25lines.MOST_CHARACTERS:,} characters"
@@ -375,20 +388,20 @@ class Bridge:
                 return f"packet sizes over {self._wire.most_size} ({1 << self._wire.most_size} octets) don't fit the line"
         return ""
 
-    def _refuse(self, refusal, why, command):
+    def _refuse(self, refusal: str, why: str, command: str) -> None:
         """Tells that a command was refused, and why."""
         self.status = 1
         self._user.tell(refusal)
         self._user.note(f"{refusal}, {why}: {x25lines.shown(command.encode('latin-1'))}")
 
-    def _begin_anew(self):
+    def _begin_anew(self) -> None:
         """A station that has ended its link is so for good: another one begins."""
         self._station.begin()
         self._circuits, self._held = Circuits(), set()
         self._deadline, self._is_dead = None, False
         self._heed(self._station.first)
 
-    def _heed(self, answer):
+    def _heed(self, answer: Answer) -> None:
         """Tells and sends what the station answers, and sets the deadline as its mark says."""
         slow, is_anew = set(), False
         for notice in answer.notices:
@@ -397,7 +410,7 @@ class Bridge:
             if event == "disconnect":
                 self._is_dead, self._answers[0] = True, time.monotonic() + self._options.t1
             self._user.tell(notice)
-            if event == "message" and self._user.notices.is_slow():
+            if event == "message" and channel is not None and self._user.notices.is_slow():
                 slow.add(channel)
         self._overdue.heed(time.monotonic(), self._circuits.awaited(), is_anew)
         for frame in answer.frames:
@@ -412,41 +425,41 @@ class Bridge:
         for channel in slow - self._circuits.not_ready:
             self._hold(channel)
 
-    def _hold(self, channel):
+    def _hold(self, channel: int) -> None:
         """Has no more messages come by a channel, as the reader of notices is slow."""
         self._held.add(channel)
         self._user.note(f"notices wait to be read: channel {channel} is held")
         self._heed(self._station.ask(f"{self._end} notready {channel}"))
 
-    def _send(self, octets):
+    def _send(self, octets: bytes) -> None:
         self._last_frame = time.monotonic()
         self.counts["sent"] += 1
         self._note(self._direction, octets)
-        octets = self._befallen(octets, self._going)
-        if octets is not None and (self._wire.has_fcs or x25lines.is_sealed(octets)):
-            self._wire.send(octets)
+        befallen = self._befallen(octets, self._going)
+        if befallen is not None and (self._wire.has_fcs or x25lines.is_sealed(befallen)):
+            self._wire.send(befallen)
 
-    def _befallen(self, octets, mishaps):
+    def _befallen(self, octets: bytes, mishaps: Mishaps) -> bytes | None:
         """What comes of a frame; with --heal nothing happens to it any more once no command is left."""
         return octets if self._options.heal and self._user.has_done() else mishaps.happen(octets)
 
-    def _note(self, direction, octets):
+    def _note(self, direction: str, octets: bytes) -> None:
         """Writes a frame to the trace, as the line has it."""
         if self._trace is not None:
             self._trace.put(FrameLine(direction, octets, time.time_ns()).text(timed=True))
 
-    def stats(self):
+    def stats(self) -> None:
         """Says on standard error what went and came."""
         lost, damaged = (f"{getattr(self._going, kind)} + {getattr(self._coming, kind)} {kind}" for kind in ("lost", "damaged"))
         x25lines.warn(f"frames: {self.counts['sent']} sent, {self.counts['came']} came; {lost}, {damaged}; T1 fired {self.counts['fired']} times")
 
 
-def is_xot(options):
+def is_xot(options: argparse.Namespace) -> bool:
     """Whether the line is X.25 over TCP."""
     return bool(options.xot or options.xot_listen)
 
 
-def add_station_words(parser):
+def add_station_words(parser: argparse.ArgumentParser) -> None:
     """Adds the words that the station gets."""
     parser.add_argument("end", choices=["dte", "dce"], help="which end the station is")
     parser.add_argument("--k", type=within(int, 1, 7), metavar="N", help="the window of the link, 1 to 7 (7)")
@@ -457,14 +470,14 @@ def add_station_words(parser):
     decoding.add_program(parser)
 
 
-def station_words(options):
+def station_words(options: argparse.Namespace) -> list[str]:
     """The words that the station gets behind its end."""
     given = [(f"--{name}", str(getattr(options, name))) for name in ("k", "n2", "channels") if getattr(options, name) is not None]
     flags = {"--long": options.long, "--say-sizes": is_xot(options), "--wide": options.wide}
     return [word for pair in given for word in pair] + [word for word, is_asked in flags.items() if is_asked]
 
 
-def station_of(options):
+def station_of(options: argparse.Namespace) -> Station:
     """The station that the words ask for: the program's, or that of a library."""
     if not options.library:
         return piped.Station(options.x25, options.end, station_words(options))
@@ -474,7 +487,7 @@ def station_of(options):
     return linked.Station(options.library, options.end, long_data=options.long, say_sizes=is_xot(options), wide=options.wide, **given)
 
 
-def add_line_words(parser):
+def add_line_words(parser: argparse.ArgumentParser) -> None:
     """Adds the words that say what the line is."""
     parser.add_argument("--listen", type=host_and_port, metavar="PORT", help="lines of a trace over a connection that another makes")
     parser.add_argument("--connect", type=host_and_port, metavar="HOST:PORT", help="lines of a trace over a connection to HOST")
@@ -491,7 +504,7 @@ def add_line_words(parser):
     parser.add_argument("--seed", type=within(int, 0, 2**63), default=1, metavar="N", help="what these chances come from (1)")
 
 
-def words():
+def words() -> argparse.Namespace:
     """The words after the script's name."""
     parser = argparse.ArgumentParser(description=__doc__, formatter_class=argparse.RawDescriptionHelpFormatter)
     add_station_words(parser)
@@ -522,7 +535,7 @@ def words():
     return options
 
 
-def joined(options, note):
+def joined(options: argparse.Namespace, note: wires.Note) -> wires.Wire:
     """The wire that the words ask for."""
     end, t3 = options.end, options.t3
     if options.listen:
@@ -538,12 +551,12 @@ def joined(options, note):
     return xot_wire.Xot(end, note, options.xot, options.xot_listen, options.channels, t3)
 
 
-def quiet(options):
+def quiet(options: argparse.Namespace) -> float:
     """How long nothing may come or go at the end, in seconds."""
-    return options.quiet if options.quiet is not None else QUIET_T1S * options.t1
+    return float(options.quiet if options.quiet is not None else QUIET_T1S * options.t1)
 
 
-def opened(path, mode):
+def opened(path: str, mode: str) -> IO[bytes]:
     """Opens a file that the words name, without a buffer."""
     try:
         return open(path, mode, 0)
@@ -551,10 +564,10 @@ def opened(path, mode):
         raise BadInput(f"{path}: {error.strerror}") from error
 
 
-def user_of(options, files):
+def user_of(options: argparse.Namespace, files: contextlib.ExitStack) -> User:
     """The user that the words ask for; files that are opened for it are closed with `files`."""
     commands = None if options.stdio else sys.stdin.fileno()
-    notices = sys.stderr if options.stdio else sys.stdout
+    notices: Written = sys.stderr if options.stdio else sys.stdout
     if options.commands:
         commands = files.enter_context(opened(options.commands, "rb")).fileno()
     if options.notices:
@@ -562,14 +575,14 @@ def user_of(options, files):
     return User(commands, Outlet(notices, kind), quiet(options))
 
 
-def has_console(options):
+def has_console(options: argparse.Namespace) -> bool:
     """Whether the user sits at a terminal that can make room for a line, and the bridge isn't one of its jobs in the background."""
     if options.stdio or options.commands or options.notices or os.environ.get("TERM", "dumb") == "dumb":
         return False
     return sys.stdin.isatty() and sys.stdout.isatty() and os.tcgetpgrp(0) == os.getpgrp()
 
 
-def main():
+def main() -> int:
     options = words()
     with contextlib.ExitStack() as files:
         signals = files.enter_context(Signals())
@@ -583,7 +596,8 @@ def main():
         else:
             user = user_of(options, files)
         trace = Outlet(files.enter_context(opened(options.trace, "wb"))) if options.trace else None
-        station = files.enter_context(station_of(options))
+        station = station_of(options)
+        files.enter_context(station)
         wire = joined(options, user.note)
         files.callback(wire.close)
         bridge = Bridge(station, wire, user, options, trace, signals)
@@ -598,4 +612,4 @@ def main():
                 console.close()
             if options.stats:
                 bridge.stats()
-        return bridge.status
+    return bridge.status

@@ -41,13 +41,12 @@ from collections import Counter
 from typing import Callable, Iterable, Iterator
 
 from x25tools import captures, lan, x25lines, xot
-from x25tools.x25lines import BadInput
+from x25tools.x25lines import OTHER, BadInput
 
 LAPB_WITH_DIRECTION, SITA = 207, 196
 SITA_HEADER, SITA_RECEIVED, SITA_NO_PROTOCOL, SITA_LAPB = 5, 1, 0, 1
 # Commands of the DTE and responses of the DCE have the address B.
 ADDRESS = {">": 0x01, "<": 0x03}
-OTHER = {">": "<", "<": ">"}
 # A line between those of a connection says that frames of it aren't there, any number of either end's; and these are the octets of a frame of
 # which nothing is known.
 GAP, UNREAD = "\n", b""
@@ -326,11 +325,16 @@ def without_gaps(connections: list[Connection], times: list[int], lines: list[st
     """The connections, the times and the lines of a block, without those that say that frames aren't there."""
     if GAP not in lines:
         return connections, times, lines
-    are_frames = [line != GAP for line in lines]
+    return picked((connections, times, lines), [line != GAP for line in lines])
+
+
+def picked(found: Found, are_picked: list[bool]) -> Found:
+    """The connections, the times and the lines of those frames that are picked."""
+    connections, times, lines = found
     return (
-        list(itertools.compress(connections, are_frames)),
-        list(itertools.compress(times, are_frames)),
-        list(itertools.compress(lines, are_frames)),
+        list(itertools.compress(connections, are_picked)),
+        list(itertools.compress(times, are_picked)),
+        list(itertools.compress(lines, are_picked)),
     )
 
 

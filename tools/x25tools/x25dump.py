@@ -35,17 +35,22 @@ Exit status: 0; 1 where a line was none, a rule was broken, nothing was found in
 words or bad input, behind what stands before it.
 """
 
+from __future__ import annotations
+
 import argparse
+import functools
 import itertools
 import operator
 import os
 import re
 import sys
 from collections import Counter, defaultdict
+from typing import Any, Callable, Iterable, Iterator, TextIO
 
 from x25tools import captures, decoding, judging, pcap2x25, x25lines, x25names
 from x25tools.ahead import ahead
-from x25tools.messages import Messages, dumped
+from x25tools.messages import Message, Messages, all_dumped
+from x25tools.pcap2x25 import Connection
 from x25tools.x25lines import BadInput
 
 RED, BLUE, GREEN, GREY, PLAIN = "\x1b[31m", "\x1b[34m", "\x1b[32m", "\x1b[90m", "\x1b[0m"
@@ -62,8 +67,12 @@ RULES, NOTES = (judging.RULE, judging.IN_DOUBT[judging.RULE]), (judging.IN_DOUBT
 # Texts without any of these letters are shown as they are. Others may be refusals, or have rules, notes, or numbers that x25names has words for: `diag=`,
 # `why=`, and `fac=`, which stands behind `calling=` or in an ACCEPT.
 SIGNS = "!?~gyE"
+# Something to show: see `Reader`; and what puts a text into a colour.
+Thing = tuple[str, Connection, str]
+Paint = Callable[[str, str], str]
 
-def channel_of(text):
+
+def channel_of(text: str) -> int | None:
     """The channel of a frame's packet, or of an entry; None where it has none."""
     found = CHANNEL.search(text)
     return int(found[1]) if found else 0 if OF_NO_CHANNEL.search(text) else None
@@ -75,43 +84,43 @@ class Reader:
     Each thing is its time as text, its connection, and its text: a frame's with its direction, an entry with its end, a refusal.
     """
 
-    def __init__(self, decoder, options):
+    def __init__(self, decoder: decoding.Decoder | judging.Judge, options: argparse.Namespace) -> None:
         self._decoder = decoder
         self._options = options
         self._time = x25lines.seconds if options.epoch else x25lines.moment
         self.status = 0
 
-    def shown(self, file):
+    def shown(self, file: x25lines.Readable) -> Iterator[list[Thing]]:
         """Whatever the file holds."""
         for block in self._captured(file) if captures.is_capture(file) else self._lines(file):
             if self._options.judge and any(judging.is_faulty(text, self._options) for _, _, text in block):
                 self.status = 1
             yield block
 
-    def _captured(self, file):
+    def _captured(self, file: x25lines.Readable) -> Iterator[list[Thing]]:
         for found in ahead(self._found(file)):
             if isinstance(found, int):
                 self.status = max(self.status, found)
                 continue
             connections, times, asked = found
             shown = zip(map(self._time, times), connections, self._decoder.texts(asked, connections))
-            yield [it for it in shown if it[2] is not None]
+            yield [(time, connection, text) for time, connection, text in shown if text is not None]
 
-    def _found(self, file):
+    def _found(self, file: x25lines.Readable) -> Iterator[tuple[list[Connection], list[int], str] | int]:
         """Yields the connections, the times and the text of the lines of the frames of a capture, in blocks, and at the end the status."""
         converter = pcap2x25.Converter(self._options)
         wanted = self._options.connection
         for found in converter.blocks(captures.blocks(file, converter.notes)):
             if wanted is not None:
                 are_wanted = [connection.number == wanted for connection in found[0]]
-                found = (list(itertools.compress(column, are_wanted)) for column in found)
+                found = pcap2x25.picked(found, are_wanted)
             connections, times, lines = found if self._options.judge else pcap2x25.without_gaps(*found)
             yield connections, times, "".join(lines)
         if 0 < len(converter.connections()) < (wanted or 1):
             raise BadInput(f"there are {len(converter.connections())} connections, and no number {wanted}")
         yield converter.tell()
 
-    def _lines(self, file):
+    def _lines(self, file: x25lines.Readable) -> Iterator[list[Thing]]:
         trace = pcap2x25.Connection(1, None, False)
         if not file.peek(1):
             x25lines.warn("nothing was found: the input is empty")
@@ -120,18 +129,25 @@ class Reader:
             for _, lines in x25lines.blocks_of_lines(file):
                 answers = decoding.answers(decoder, lines)
                 if self._options.judge:
-                    frames = [line.rpartition(b"\t")[2].decode() for line, answer in zip(lines, answers) if answer]
-                    judged = iter(self._decoder.texts("".join([f"{frame}\n" for frame in frames]), [trace] * len(frames)))
-                    answers = [answer and (answer[0], next(judged)) for answer in answers]
-                yield [(self._clock(answer[0]), trace, answer[1]) if answer else self._other(line, trace) for line, answer in zip(lines, answers)]
+                    answers = self._judged(lines, answers, trace)
+                yield [("", trace, answer) if answer[:1] in COLOURS else self._other(line, answer, trace) for line, answer in zip(lines, answers)]
 
-    def _clock(self, time):
+    def _judged(self, lines: list[bytes], answers: list[str], trace: Connection) -> list[str]:
+        """The answers to lines, those to frames with what is told of each behind it."""
+        frames = [line.rpartition(b"\t")[2].decode() if decoding.parted(line, answer) else None for line, answer in zip(lines, answers)]
+        asked = [f"{frame}\n" for frame in frames if frame]
+        texts = iter(self._decoder.texts("".join(asked), [trace] * len(asked)))
+        return ["".join(answer.rpartition("\t")[:2]) + (next(texts) or "") if frame else answer for frame, answer in zip(frames, answers)]
+
+    def _clock(self, time: str) -> str:
         """A time of a line as it is shown."""
         found = x25lines.nanoseconds(time)
         return time if found is None else self._time(found)
 
-    def _other(self, line, trace):
-        """What there is to show of a line that holds no frame in digits."""
+    def _other(self, line: bytes, answer: str, trace: Connection) -> Thing:
+        """What there is to show of a line, by its answer, that has a time, or holds no frame in digits."""
+        if parts := decoding.parted(line, answer):
+            return self._clock(parts[0]), trace, parts[1]
         if found := decoding.TEXT_LINE.fullmatch(line):
             return (found[1] or b"").decode(), trace, found[2].decode()
         if x25lines.is_passed_over(line):
@@ -144,11 +160,11 @@ class Reader:
 class Days:
     """Parts times into the date, which is shown in a line of its own where it changes, and the time of the day."""
 
-    def __init__(self, paint):
+    def __init__(self, paint: Paint) -> None:
         self._paint = paint
-        self._day = None
+        self._day: str | None = None
 
-    def part(self, time):
+    def part(self, time: str) -> tuple[list[str], str]:
         """The lines to show before a time, and what is left of it."""
         if len(time) != x25lines.MOMENT:
             return [], time
@@ -161,13 +177,13 @@ class Days:
 class Lines:
     """Shows each frame and entry in a line; long data may be folded."""
 
-    def __init__(self, paint, is_folded):
+    def __init__(self, paint: Paint, is_folded: bool) -> None:
         self._paint = paint
         self._is_folded = is_folded
         self._days = Days(paint)
-        self._named = set()
+        self._named: set[int] = set()
 
-    def take(self, block):
+    def take(self, block: list[Thing]) -> list[str]:
         """Answers the lines of the things of a block."""
         texts = "".join([text for _, _, text in block])
         has_plain_texts = self._paint is unpainted and not self._is_folded and not any(sign in texts for sign in SIGNS)
@@ -184,12 +200,15 @@ class Lines:
                 text = text[:2] + text[PACKET_AT:]
             if not has_plain_texts:
                 text = self._text(text)
+            if not time:
+                lines.append(f"{front[1:]}{text}")
+                continue
             day, time = self._days.part(time)
             lines += day
-            lines.append(f"{time}{front}{text}" if time else f"{front[1:]}{text}")
+            lines.append(f"{time}{front}{text}")
         return lines
 
-    def _text(self, text):
+    def _text(self, text: str) -> str:
         if text.startswith(("!", "?")):
             return self._paint(RED, f"{text} {x25names.refusal(text)}".rstrip())
         if x25lines.is_passed_over(text.encode()):
@@ -202,133 +221,132 @@ class Lines:
             shown += self._paint(GREY, f"  ({said})")
         return shown + self._paint(RED if mark in RULES else GREY, mark + remark) if mark else shown
 
-    def end(self):
+    def end(self) -> list[str]:
         """Nothing is left at the end."""
         return []
 
 
-def folded(found):
+def folded(found: re.Match[str]) -> str:
     """The beginning of some digits, and how many octets they are."""
     return f"{found[0][:FOLDED]}..({len(found[0]) // 2} octets)"
 
 
-def colour_of(text):
+def colour_of(text: str) -> str:
     """The colour of a frame or an entry."""
     if text.startswith("FRMR", 2) or "fault" in text:
         return RED
     return COLOURS.get(text[0], PLAIN)
 
 
-def lead(time, connection):
-    """What stands before the direction: the time, and the connection but for the first."""
-    number = f"#{connection.number} " if connection.number > 1 else ""
-    return f"{time} {number}" if time else number
+@functools.lru_cache
+def counted(count: int) -> str:
+    """So many octets, in words."""
+    return f"{count:,} octet{'s' if count != 1 else ''}"
 
 
 class Joined:
     """Shows messages."""
 
-    def __init__(self, paint, channel):
+    def __init__(self, paint: Paint, channel: int | None) -> None:
         self._paint = paint
         self._channel = channel
         self._days = Days(paint)
-        self._lines = {}
-        self._last = {}
+        self._lines: dict[Connection, Messages] = {}
+        self._last: dict[Connection, str] = {}
 
-    def take(self, block):
+    def take(self, block: list[Thing]) -> list[str]:
         """Answers the lines of the messages that the frames of a block complete."""
-        lines = []
+        lines: list[str] = []
         for connection, things in itertools.groupby(block, key=CONNECTION):
-            frames = [it for it in things if it[2][:1] in pcap2x25.OTHER]
+            frames = [it for it in things if it[2][:1] in x25lines.OTHER]
             if not frames:
                 continue
             if connection not in self._lines:
                 # Frames that were made up count from 0.
                 self._lines[connection] = Messages(0 if connection.is_made_up else None)
             self._last[connection] = frames[-1][0]
-            for place, completed in self._lines[connection].take([text for _, _, text in frames]):
-                lines += self._rows(frames[place][0], connection, completed)
+            completed = self._lines[connection].take([text for _, _, text in frames])
+            lines += self._rows(connection, [(frames[place][0], message) for place, message in completed])
         return lines
 
-    def _rows(self, time, connection, messages):
-        """The lines of messages that are completed at a time."""
-        lines, before = [], None
-        for direction, channel, sort, octets, q in messages:
-            if self._channel is not None and channel not in (None, self._channel):
-                continue
-            if before is None:
-                lines, clock = self._days.part(time)
-                before = lead(clock, connection)
-            if channel is None:
-                lines.append(before + self._paint(RED, f"{direction} {sort}"))
-                continue
-            count = f"{len(octets):,} octet{'s' if len(octets) != 1 else ''}"
-            shown = self._paint(COLOURS[direction], f"{direction} ch={channel}{f' Q={q}' if q else ''} {sort}, {count}")
-            lines.append(f"{before}{shown}\n{dumped(octets)}" if octets else before + shown)
+    def _rows(self, connection: Connection, completed: list[tuple[str, Message]]) -> list[str]:
+        """The lines of messages of a connection, each with its time."""
+        lines: list[str] = []
+        number = f"#{connection.number} " if connection.number > 1 else ""
+        if self._channel is not None:
+            completed = [(time, message) for time, message in completed if message[1] in (None, self._channel)]
+        for (time, (direction, channel, sort, octets, q)), rows in zip(completed, all_dumped([message[3] for _, message in completed])):
+            if time:
+                day, time = self._days.part(time)
+                lines += day
+            shown = direction if channel is None else f"{direction} ch={channel}{f' Q={q}' if q else ''}"
+            shown = self._paint(RED, f"{shown} {sort}") if channel is None else self._paint(COLOURS[direction], f"{shown} {sort}, {counted(len(octets))}")
+            lines.append(f"{time} {number}{shown}" if time else f"{number}{shown}")
+            if rows:
+                lines.append(rows)
         return lines
 
-    def end(self):
+    def end(self) -> Iterator[str]:
         """Yields the lines of what is known at the end alone; messages that are begun there aren't shown."""
         for connection, line in self._lines.items():
-            yield from self._rows(self._last[connection], connection, line.end())
+            yield from self._rows(connection, [(self._last[connection], message) for message in line.end()])
 
 
 AGAIN, OCTETS = "I frames out of order, or again", "octets of data"
-# The frames of a text, a line each: the direction; of an I frame N(S) and whether it has DATA, its data, or another kind of packet; or the kind.
+# The frames of a text, each in a line with a blank at its end: of an I frame N(S); the kind of the frame or, behind a bar, of its packet; the data of
+# DATA.
 COUNTED = re.compile(
-    r"^([<>]) (?:I cmd P=[01] S=([0-7]) R=[0-7] \| (?:(DATA) ch=\d+ S=[0-7] R=[0-7] M=[01] Q=[01](?: D=1)? data=([0-9a-f]*)|(\S+)).*|(\S+).*)$",
-    re.MULTILINE,
+    r"^.(?: I cmd P=[01] S=([0-7]) R=[0-7])? (\| DATA(?= ch=\d+ S=[0-7] R=[0-7] M=[01] Q=[01](?: D=1)? data=-?([^ ]*))|(?:\| )?[^ ]+).*$", re.MULTILINE
 )
-KIND = operator.itemgetter(0, 2, 4, 5)
-SET_UP, IN_ORDER = ("SABM", "UA"), "01234567"
+DATA = "| DATA"
+SET_UPS, IN_ORDER = ("SABM ", "UA "), "01234567"
 
 
 class Statistic:
     """Counts frames, packets and octets of data each way, by connection."""
 
-    def __init__(self):
-        self._counts = defaultdict(Counter)
-        self._names = {}
-        self._due = {}
-        self._times = []
+    def __init__(self) -> None:
+        self._counts: defaultdict[int, Counter[tuple[str, str]]] = defaultdict(Counter)
+        self._names: dict[int, str | None] = {}
+        self._due: dict[tuple[int, str], int] = {}
+        self._times: list[str] = []
 
-    def take(self, block):
+    def take(self, block: list[Thing]) -> list[str]:
         """Counts the frames of a block; shows nothing."""
         for connection, things in itertools.groupby(block, key=CONNECTION):
-            if frames := [it for it in things if it[2][:1] in pcap2x25.OTHER]:
-                self._names[connection.number] = connection.name
-                self._times = [*(self._times[:1] or [frames[0][0]]), frames[-1][0]]
-                self._count(connection, COUNTED.findall("\n".join([text for _, _, text in frames])))
+            frames = [it for it in things if it[2][:1] in x25lines.OTHER]
+            if not frames:
+                continue
+            self._names[connection.number] = connection.name
+            self._times = [*(self._times[:1] or [frames[0][0]]), frames[-1][0]]
+            begin = 0
+            for end in [place for place, (_, _, text) in enumerate(frames) if text[2:3] != "I" and text.startswith(SET_UPS, 2)]:
+                self._count(connection, frames[begin:end])
+                # A set-up begins the numbers anew.
+                self._due = {key: due for key, due in self._due.items() if key[0] != connection.number}
+                begin = end
+            self._count(connection, frames[begin:])
         return []
 
-    def _count(self, connection, found):
+    def _count(self, connection: Connection, frames: list[Thing]) -> None:
+        """Counts frames among which only the first may set the link up."""
         counts = self._counts[connection.number]
-        for (direction, data, packet, frame), count in Counter(map(KIND, found)).items():
-            if frame:
-                counts[frame, direction] += count
+        for direction in x25lines.OTHER:
+            texts = [text for _, _, text in frames if text[0] == direction]
+            if not texts:
                 continue
-            if not connection.is_made_up:
-                counts["I", direction] += count
-            counts[f"| {data or packet}", direction] += count
-            if data:
-                counts[OCTETS, direction] += sum([len(it[3]) for it in found if it[0] == direction]) // 2
-        if not connection.is_made_up:
-            for direction, again in self._out_of_order(connection.number, found):
-                counts[AGAIN, direction] += again
+            found: list[tuple[str, str, str]] = COUNTED.findall(" \n".join([*texts, ""]))
+            numbers, kinds, data = zip(*found)
+            for kind, count in Counter(kinds).items():
+                counts[kind, direction] += count
+            if DATA in kinds:
+                counts[OCTETS, direction] += sum(map(len, data)) // 2
+            if (sent := "".join(numbers)) and not connection.is_made_up:
+                counts["I", direction] += len(sent)
+                if again := self._again((connection.number, direction), sent):
+                    counts[AGAIN, direction] += again
 
-    def _out_of_order(self, number, found):
-        """Yields how many I frames of an end come out of order, or again, where there are some; a set-up begins the numbers anew."""
-        begin = 0
-        for end in [*(place for place, it in enumerate(found) if it[5] in SET_UP), len(found)]:
-            for direction in pcap2x25.OTHER:
-                numbers = "".join([it[1] for it in found[begin:end] if it[0] == direction])
-                if again := numbers and self._again((number, direction), numbers):
-                    yield direction, again
-            if end < len(found):
-                self._due = {key: due for key, due in self._due.items() if key[0] != number}
-            begin = end
-
-    def _again(self, way, numbers):
+    def _again(self, way: tuple[int, str], numbers: str) -> int:
         """How many of these numbers, each of one digit, aren't the one that is due."""
         due = self._due.get(way, int(numbers[0]))
         if (IN_ORDER * (len(numbers) // 8 + 2))[due : due + len(numbers)] == numbers:
@@ -343,7 +361,7 @@ class Statistic:
         self._due[way] = due
         return again
 
-    def end(self):
+    def end(self) -> Iterator[str]:
         """Yields the lines of the statistic."""
         for connection, name in self._names.items():
             yield (f"connection {connection}: {name}" if name else "the trace").ljust(34) + f"{'>':>10}{'<':>10}"
@@ -354,27 +372,27 @@ class Statistic:
             yield f"from {self._times[0]} to {self._times[-1]}"
 
 
-def _place(kind):
+def _place(kind: str) -> tuple[int, int, str]:
     """Frames come first, then packets, then what was counted of them."""
     return (0, decoding.FRAMES.index(kind), "") if kind in decoding.FRAMES else (1 if kind[0] == "|" else 2, 0, kind)
 
 
-def painted(colour, text):
+def painted(colour: str, text: str) -> str:
     """A text in a colour."""
     return f"{colour}{text}{PLAIN}"
 
 
-def unpainted(_, text):
+def unpainted(_: str, text: str) -> str:
     """A text as it is."""
     return text
 
 
-def painter():
+def painter() -> Paint:
     """What puts a text into a colour: on a terminal alone."""
     return painted if sys.stdout.isatty() and not os.environ.get("NO_COLOR") else unpainted
 
 
-def words():
+def words() -> argparse.Namespace:
     """The words after the script's name."""
     parser = argparse.ArgumentParser(description=__doc__, formatter_class=argparse.RawDescriptionHelpFormatter)
     x25lines.add_input(parser, "the capture or the trace")
@@ -394,38 +412,38 @@ def words():
     return parser.parse_args()
 
 
-def reading(options):
+def reading(options: argparse.Namespace) -> list[str]:
     """How octets are read, in words of the program."""
     return [*(["--long"] if options.long else []), *(["--wide"] if options.wide else [])]
 
 
-def asked(options, file):
+def asked(options: argparse.Namespace, file: x25lines.Readable) -> decoding.Decoder | judging.Judge:
     """What is asked for the text of a frame. Lines of a trace are all that was on the line, where nothing else is said."""
     if not options.judge:
         return decoding.Decoder(options.x25, reading(options))
     return judging.Judge(options.x25, ["--k", str(options.k)], reading(options), options.at or (None if captures.is_capture(file) else "line"))
 
 
-def show(view, blocks, out):
+def show(view: Lines | Joined | Statistic, blocks: Iterable[list[Thing]], out: TextIO) -> None:
     """Writes what a view makes of the things of each block; also what it has at the end, where the user ends it."""
     try:
         for block in blocks:
-            out.write("".join([f"{line}\n" for line in view.take(block)]))
+            out.write("\n".join([*view.take(block), ""]))
     finally:
-        out.write("".join([f"{line}\n" for line in view.end()]))
+        out.write("\n".join([*view.end(), ""]))
 
 
-def main():
+def main() -> int:
     options = words()
     paint = painter()
     with x25lines.opened(options.file) as file, asked(options, file) as decoder:
         reader = Reader(decoder, options)
         blocks = reader.shown(file)
-        view = Joined(paint, options.channel) if options.messages else Statistic() if options.stats else Lines(paint, options.fold)
+        view: Lines | Joined | Statistic = Joined(paint, options.channel) if options.messages else Statistic() if options.stats else Lines(paint, options.fold)
         if options.channel is not None and not options.messages:
             blocks = ([it for it in block if channel_of(it[2]) == options.channel] for block in blocks)
         show(view, blocks, sys.stdout)
-        counts = list(decoder.counts()) if options.judge else []
+        counts = list(decoder.counts()) if isinstance(decoder, judging.Judge) else []
     for number, line in counts:
         print(f"#{number} {line}" if number > 1 else line)
     return 1 if options.strict and any(" judged, " in line and not line.endswith(" 0 not judged") for _, line in counts) else reader.status
