@@ -7,3 +7,4 @@ pub mod OctetLaw
 pub mod TimerLaw
 pub mod WayOutLaw
 pub mod UnheardLaw
+pub mod GivenLaw
