@@ -1,8 +1,8 @@
 -- What may be given, fact by fact.
-use Rattle.std.proofs.Common.{ℕ, ◌≤◌, ◌≡◌, Bool, true, false, length, refl, Option, Some, None}
-use Rattle.std.specs.Prelude.{not, ◌&&◌, nat_le, is_some}
+use Rattle.std.proofs.Common.{◌≤◌, ◌≡◌, true, length, refl, Option, Some, None}
+use Rattle.std.specs.Prelude.{not, is_some}
 use Rattle.std.proofs.lemmas.Bool.{and_parts, leb-true}
-use Rattle.x25_wide.specs.Facilities.{none_own, own_in, are_facilities, IsFacilityField}
+use Rattle.x25_wide.specs.Facilities.{none_own, own_in, IsFacilityField}
 use Rattle.x25_wide.proofs.FacilityLemmas.{field_found}
 use Rattle.x25_given.specs.Given.{PlainGiven, may_give}
 

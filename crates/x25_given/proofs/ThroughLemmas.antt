@@ -1,5 +1,5 @@
 -- One bound has one proof; and what the link below is then.
-use Rattle.std.proofs.Common.{ℕ, ◌≤◌, ◌≡◌, List, Option, Result, Ok, Err, OnOk}
+use Rattle.std.proofs.Common.{ℕ, ◌≤◌, ◌≡◌, Option, Result, Ok, Err, OnOk}
 use Rattle.std.proofs.Props.{props}
 use Rattle.x25_link.specs.OrderedLink.{Lists}
 use Rattle.x25_given.specs.Through.{Passage, FitsPassage}

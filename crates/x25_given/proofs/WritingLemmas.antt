@@ -1,13 +1,13 @@
 -- The octets that are written are those of the definition.
-use Rattle.std.proofs.Common.{ℕ, suc, ◌+◌, ◌*◌, ◌/◌, ◌≤◌, ◌≡◌, ◌∙◌, List, [], ◌∷◌, ◌++◌, length, take, drop, Some, Ok, refl, ap, ap₂, sym, arith, length-append, ◌%◌}
+use Rattle.std.proofs.Common.{ℕ, suc, ◌+◌, ◌*◌, ◌/◌, ◌≤◌, ◌≡◌, ◌∙◌, List, ◌∷◌, ◌++◌, length, take, drop, Some, Ok, ap, ap₂, sym, arith, length-append, ◌%◌}
 use Rattle.x25_packet.proofs.AddressLaws.{length-pairs, take_first}
 use Rattle.x25_packet.specs.Digits.{packed}
-use Rattle.x25_packet.specs.Packet.{PlainPacket, call}
+use Rattle.x25_packet.specs.Packet.{call}
 use Rattle.x25_packet.specs.Reading.{packet_of}
 use Rattle.x25_packet.specs.Spelling.{spelling_of, addresses}
 use Rattle.x25_wide.specs.Block.{fields_octets}
 use Rattle.x25_given.specs.Given.{PlainGiven}
-use Rattle.x25_given.specs.Writing.{fields, head_of, write, written, written_read}
+use Rattle.x25_given.specs.Writing.{fields, head_of, write, written_read}
 
 -- how many octets the digits have
 pairs : (n m : ℕ) (called calling : List ℕ) → n ≡ length called → m ≡ length calling → (n + m + 1) / 2 ≡ length (packed (called ++ calling))

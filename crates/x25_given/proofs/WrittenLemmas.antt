@@ -1,10 +1,10 @@
 -- What is given beside a packet doesn't change what the packet is.
-use Rattle.std.proofs.Common.{ℕ, zero, suc, ◌+◌, ◌*◌, ◌/◌, ◌%◌, ◌<◌, ◌≤◌, ◌≡◌, ◌∙◌, ◌⊎◌, Bool, true, false, List, [], ◌∷◌, ◌++◌, length, get_or, drop, refl, ap, ap₂, sym, subst, arith, Option, Some, None, Result, Ok, Err, All, ◌≢◌, append_assoc, length-append}
+use Rattle.std.proofs.Common.{ℕ, zero, suc, ◌+◌, ◌<◌, ◌≤◌, ◌≡◌, ◌∙◌, Bool, true, false, List, [], ◌∷◌, ◌++◌, length, get_or, refl, ap, ap₂, sym, subst, arith, Option, Some, None, Result, Ok, Err, All, length-append}
 use Rattle.std.specs.Prelude.{cond, ◌&&◌, ◌||◌, nat_eq, nat_le, nat_lt}
 use Rattle.std.proofs.lemmas.Bool.{and_from, le-leb}
 use Rattle.std.proofs.lemmas.Option.{same_Some}
 use Rattle.x25_packet.proofs.AddressLaws.{called_again, calling_again, length-pairs, packed_holds}
-use Rattle.x25_packet.specs.Digits.{IsAddress, halves_of, hold_digits, packed}
+use Rattle.x25_packet.specs.Digits.{IsAddress, halves_of, hold_digits}
 use Rattle.x25_packet.specs.Facilities as strict_field
 use Rattle.x25_packet.specs.Packet as strict
 use Rattle.x25_packet.specs.Reading.{packet_of}
@@ -12,19 +12,17 @@ use Rattle.x25_packet.specs.Spelling as strict_spelling
 use Rattle.x25_packet.specs.declared.error.PacketError.{PacketError}
 use Rattle.x25_packet.specs.declared.facilities.Directions.{Directions}
 use Rattle.x25_packet.specs.laws.ReadingLaw.{ReadsWhatIsSpelled}
-use Rattle.x25_wide.specs.Block.{PlainBlock, PlainFields}
-use Rattle.x25_wide.specs.Facilities.{Facility, class_b, none_own, own_in, with_facility, more_of, AreOfClass, IsFacilityField, asks_fast_select}
-use Rattle.x25_wide.specs.Facilities as wide_field
+use Rattle.x25_wide.specs.Facilities.{class_b, none_own, own_in, with_facility, more_of, IsFacilityField}
 use Rattle.x25_wide.specs.declared.facilities.Own.{Own}
-use Rattle.x25_wide.specs.Narrowing.{are_within, field_said, narrow_of, narrowed, taken_of}
-use Rattle.x25_wide.specs.Packet.{PlainKind, PlainWide, call, accept, extended_clear}
+use Rattle.x25_wide.specs.Narrowing.{field_said, narrow_of, narrowed, taken_of}
+use Rattle.x25_wide.specs.Packet.{PlainWide, call, accept, extended_clear}
 use Rattle.x25_wide.specs.Packet.Spelling.{spelling_of, may_have, IsPacket}
 use Rattle.x25_wide.specs.Reading.{wide_of}
 use Rattle.x25_wide.specs.Taking.{taken_in, or_taken}
 use Rattle.x25_wide.specs.laws.NarrowLaw.{ReadsAlike}
 use Rattle.x25_wide.proofs.AgainLaws.{only_found}
 use Rattle.x25_wide.proofs.FacilityLemmas.{own_stepped}
-use Rattle.x25_given.specs.Given.{PlainGiven, may_give}
+use Rattle.x25_given.specs.Given.{PlainGiven}
 use Rattle.x25_given.specs.Writing.{written, fields, bare_block, call_block, headed}
 use Rattle.x25_given.specs.laws.ReadingLaw.{MayGo, WrittenIsInForm, WrittenIsRead}
 use Rattle.x25_given.proofs.GivenLemmas.{IsGiven, given_when}

@@ -1,5 +1,5 @@
 -- What a user gives beside a packet of his own. ITU-T X.25 (10/96), sections 6.16, 7.1 and 7.2.2.
-use Rattle.std.specs.Prelude.{ℕ, Bool, true, false, not, ◌&&◌, nat_le, List, length, is_some}
+use Rattle.std.specs.Prelude.{ℕ, Bool, not, ◌&&◌, nat_le, List, length, is_some}
 use Rattle.x25_wide.specs.Facilities.{are_facilities, none_own, own_in}
 use Rattle.x25_given.specs.declared.given.Given.{Given}
 

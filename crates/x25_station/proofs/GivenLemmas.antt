@@ -1,5 +1,5 @@
 -- What is given beside a packet the user of the other end is told.
-use Rattle.std.proofs.Common.{ℕ, ◌≡◌, ◌≢◌, ◌∙◌, List, [], ◌++◌, Some, Result, Ok, Err, true, false, inl, refl, sym, ap, arith, length, ◌≤◌}
+use Rattle.std.proofs.Common.{ℕ, ◌≡◌, ◌≢◌, ◌∙◌, List, ◌++◌, Some, Result, Ok, Err, true, false, inl, refl, sym, ap, arith}
 use Rattle.x25_packet.specs.Packet as packet
 use Rattle.x25_packet.specs.Packet.{PlainPacket}
 use Rattle.x25_packet.specs.Reading.{packet_of}
@@ -15,7 +15,7 @@ use Rattle.x25_given.specs.Given.{PlainGiven, may_give}
 use Rattle.x25_given.specs.Writing.{bare_block, call_block, fields, form_of, headed, written, written_read}
 use Rattle.x25_given.specs.laws.ReadingLaw.{MayGo, WrittenIsInForm, WrittenIsRead}
 use Rattle.x25_station.specs.Beside.{beside_in, beside_kind, beside_or_none, unless_written}
-use Rattle.x25_station.specs.laws.GivenLaw.{GivenIsTold, GivenIsWritten, told}
+use Rattle.x25_station.specs.laws.GivenLaw.{GivenIsTold, GivenIsWritten}
 use Rattle.x25_station.specs.laws.ReadLaw.{AreOctets}
 
 pub given_written : ReadsWhatIsSpelled → GivenIsWritten

@@ -1,5 +1,5 @@
 -- A call, an acceptance or a clearing with something given beside its packet.
-use Rattle.std.proofs.Common.{◌≡◌, ℕ, zero, suc, ◌+◌, ◌<◌, ◌≤◌, List, [], ◌∷◌, ◌++◌, length, map, vec_len, Option, Some, None, Result, Ok, Err, Bool, true, false, nat_lt, ◌==◌, ◌&&◌, if◌then◌else◌, option_to_list, inl, refl, ap, sym, subst, ◌∙◌, arith}
+use Rattle.std.proofs.Common.{◌≡◌, ℕ, zero, suc, ◌<◌, ◌≤◌, List, [], ◌∷◌, ◌++◌, length, map, vec_len, Option, Some, None, Result, Ok, Err, Bool, true, false, nat_lt, ◌==◌, ◌&&◌, if◌then◌else◌, option_to_list, inl, refl, ap, sym, subst, ◌∙◌, arith}
 use Rattle.std.proofs.Math.Nat.{le_trans}
 use Rattle.std.proofs.Math.Path.{fun_ext}
 use Rattle.std.proofs.lemmas.Bool.{ltb-true}
@@ -33,13 +33,12 @@ use Rattle.x25_station.specs.declared.config.Manner.{Manner}
 use Rattle.x25_station.specs.declared.station.Station as code
 use Rattle.x25_station.specs.declared.step.Step as code_step
 use Rattle.x25_station.specs.declared.error.StationError.{StationError}
-use Rattle.x25_station.specs.declared.error.StationError.TheVariants as error
 use Rattle.x25_station.specs.Error.{of_layer}
 use Rattle.x25_station.specs.Config.{Settings, link_settings, layer_settings, manner_of}
 use Rattle.x25_station.specs.Entry.{StationEntry, of_channel}
 use Rattle.x25_station.specs.Giving.{suits, is_taken, all_given, view_given, with_given, not_taken, gave, gives_of, gives}
 use Rattle.x25_station.specs.Receiving.{kept_of}
-use Rattle.x25_station.specs.Station.{Station, behind, all_put, view_of}
+use Rattle.x25_station.specs.Station.{Station, behind, view_of}
 use Rattle.x25_station.specs.Step.{Step, Outcome, Did, Refused, entries_of_outcome}
 use Rattle.x25_station.specs.laws.JoinLaw.{AreAccepted}
 use Rattle.x25_station.specs.laws.KeepLaw.{IsKept, KeptBy, GivenKeeps}

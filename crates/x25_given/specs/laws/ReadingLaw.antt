@@ -1,5 +1,5 @@
 -- What is given beside a packet doesn't change what the packet is.
-use Rattle.std.specs.Prelude.{◌≡◌, ℕ, ◌<◌, ◌≤◌, ◌⊎◌, List, ◌++◌, length, true, All, Some, Ok}
+use Rattle.std.specs.Prelude.{◌≡◌, ℕ, ◌<◌, ◌≤◌, ◌⊎◌, ◌++◌, length, true, All, Some, Ok}
 use Rattle.x25_packet.specs.Packet.{PlainPacket, call}
 use Rattle.x25_packet.specs.Spelling.{IsInRange}
 use Rattle.x25_wide.specs.Facilities.{asks_fast_select}

@@ -1,5 +1,5 @@
 -- What is given beside a packet the user of the other end is told, where that station reads packets in all their forms.
-use Rattle.std.specs.Prelude.{◌≡◌, ◌≢◌, List, [], ◌++◌, Some, true}
+use Rattle.std.specs.Prelude.{◌≡◌, ◌≢◌, [], ◌++◌, Some, true}
 use Rattle.x25_packet.specs.Packet.{PlainPacket, call, accept, clear}
 use Rattle.x25_packet.specs.Spelling.{IsInRange, spelling_of}
 use Rattle.x25_given.specs.Given.{PlainGiven, may_give}

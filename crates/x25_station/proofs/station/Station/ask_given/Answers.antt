@@ -1,4 +1,4 @@
-use Rattle.std.proofs.Common.{◌≡◌, ◌&&◌, Bool, true, false, Ok, Err, None, refl, arith, [], ◌∷◌, ◌++◌, ap, ◌∙◌, sym, length, map}
+use Rattle.std.proofs.Common.{◌≡◌, ◌&&◌, Bool, Ok, Err, refl, arith, [], ◌∷◌, ◌++◌, ap, ◌∙◌, sym, length, map}
 use Rattle.x25_circuit.specs.Request.{plain_request}
 use Rattle.x25_layer.specs.Calls.{Asks}
 use Rattle.x25_layer.specs.laws.Transcript.{Asked, name_of}

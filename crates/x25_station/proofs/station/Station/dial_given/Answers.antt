@@ -1,4 +1,4 @@
-use Rattle.std.proofs.Common.{◌≡◌, ◌&&◌, Bool, true, false, Ok, Err, None, refl, arith, [], ◌∷◌, ◌++◌, ap, ◌∙◌, sym, length, map}
+use Rattle.std.proofs.Common.{◌≡◌, ◌&&◌, Bool, Ok, Err, refl, arith, [], ◌∷◌, ◌++◌, ap, ◌∙◌, sym, length, map}
 use Rattle.x25_circuit.specs.declared.params.Params.{Params}
 use Rattle.x25_circuit.specs.Params.{in_brief}
 use Rattle.x25_circuit.specs.Calling.{Calls}
