@@ -174,9 +174,16 @@ pub extern "C" fn x25_relink(alloc: Global, slot: &mut Slot) -> u32
 /// 16 where the slot holds no station, else as `Station::command` of `Cmd::Restart`. The station is as before then.
 #[unsafe(no_mangle)]
 pub extern "C" fn x25_restart(alloc: Global, slot: &mut Slot) -> u32
-    ensures { Answers slot.old.handle.held slot.new.handle.held result (Asks (Requests Restarts)) }
+    ensures { Answers slot.old.handle.held slot.new.handle.held result (Asks (Requests (Restarts 0 0))) }
 {
-    ask(alloc, slot, Cmd::Restart)
+    ask(
+        alloc,
+        slot,
+        Cmd::Restart {
+            cause: 0,
+            diagnostic: 0,
+        },
+    )
 }
 
 /// Calls the other end on a free channel, with addresses in digits, and packet sizes and windows where some are named;
@@ -234,9 +241,17 @@ pub extern "C" fn x25_accept(alloc: Global, slot: &mut Slot, channel: u16, sizes
 /// 16 where the slot holds no station, else as `Station::command` of `Cmd::Clear`. The station is as before then.
 #[unsafe(no_mangle)]
 pub extern "C" fn x25_clear(alloc: Global, slot: &mut Slot, channel: u16) -> u32
-    ensures { Answers slot.old.handle.held slot.new.handle.held result (Asks (Requests (OnChannel channel Clears))) }
+    ensures { Answers slot.old.handle.held slot.new.handle.held result (Asks (Requests (OnChannel channel (Clears 0 0)))) }
 {
-    ask(alloc, slot, Cmd::Clear { channel })
+    ask(
+        alloc,
+        slot,
+        Cmd::Clear {
+            channel,
+            cause: 0,
+            diagnostic: 0,
+        },
+    )
 }
 
 /// Resets a call.
@@ -244,9 +259,17 @@ pub extern "C" fn x25_clear(alloc: Global, slot: &mut Slot, channel: u16) -> u32
 /// 16 where the slot holds no station, else as `Station::command` of `Cmd::Reset`. The station is as before then.
 #[unsafe(no_mangle)]
 pub extern "C" fn x25_reset(alloc: Global, slot: &mut Slot, channel: u16) -> u32
-    ensures { Answers slot.old.handle.held slot.new.handle.held result (Asks (Requests (OnChannel channel Resets))) }
+    ensures { Answers slot.old.handle.held slot.new.handle.held result (Asks (Requests (OnChannel channel (Resets 0 0)))) }
 {
-    ask(alloc, slot, Cmd::Reset { channel })
+    ask(
+        alloc,
+        slot,
+        Cmd::Reset {
+            channel,
+            cause: 0,
+            diagnostic: 0,
+        },
+    )
 }
 
 /// Sends an interrupt of 1 to 32 octets.

@@ -16,15 +16,17 @@ use Rattle.x25_station.specs.Station.Told.{is_at_rest}
 use Rattle.x25_station.specs.Step.{Step, Outcome, Did, Refused, follows, unless}
 use Rattle.x25_station.specs.Timer.{runs, timer_of, tells_link, is_acknowledged}
 use Rattle.x25_station.specs.laws.TimerLaw as timer
+use Rattle.x25_station.specs.laws.SettledLaw.{IsSettled, SettledBy, NewIsSettled, StaysSettled, SettledAsks}
 use Rattle.x25_station.specs.laws.UnheardLaw.{MayAsk, IsUnheard, takes, TakesTries, AsksOn, UnheardAsksOn}
 use Rattle.x25_clock.specs.declared.due.Due.{Due}
 use Rattle.x25_clock.specs.declared.due.Due.TheVariants as due
 use Rattle.x25_clock.specs.declared.times.Times.{Times}
 use Rattle.x25_clock.specs.declared.wait.Wait.{Wait}
 use Rattle.x25_clock.specs.Clock.{Deadlines, deadline, is_past, sooner, running, t1_after, heeded, next_of, overdue_of, unless_on, due_of, renewed_on, after_due}
-use Rattle.x25_clock.specs.laws.ClockLaw.{Watched, seen_of, watched, comes, IsSince, AreTrue}
+use Rattle.x25_clock.specs.laws.ClockLaw as moment
+use Rattle.x25_clock.specs.laws.ClockLaw.{Moment, Watched, watched_by, watched_from, seen_of, watched, comes, IsSince, AreTrue}
 use Rattle.x25_clock.specs.laws.WaitLaw.{Deed, Happens, IsAsked, later_by, event_of, outcome_of, done, all_done, IsFounded, IsNotPast, AreObeyed, tells}
-use Rattle.x25_clock.specs.laws.SilenceLaw.{IsOn, IsSilent, longest_silence, SilenceEnds, IsIdle, IdleIsAsked}
+use Rattle.x25_clock.specs.laws.SilenceLaw.{IsSilent, longest_silence, SilenceEnds, IsIdle, IdleIsAsked}
 use Rattle.x25_clock.proofs.ClockLemmas.{deadlines_are_true}
 use Rattle.x25_clock.proofs.DeadlineLemmas.{past_first, past_second, first_past, Ends, begins_at, end_in_time, or_t1}
 use Rattle.x25_clock.proofs.WaitLemmas.{asks}
@@ -154,6 +156,38 @@ one_firing timer.Fires is = refl
 same_acked : (before after : LinkStation) → after.outgoing.acked ≡ before.outgoing.acked → is_acknowledged before after ≡ false
 same_acked before after same = ap not (eq-eqb (before.outgoing.acked % 8) (after.outgoing.acked % 8) (ap (λ (n : ℕ). n % 8) (sym same)))
 
+-- T1 runs, or the link is at rest
+record IsOn (p : Phase) (s : Station) : Type 0 where
+  phase : s.link.phase ≡ p
+  on : (runs s || is_at_rest s) ≡ true
+
+-- the laws of the station that are used
+pub record Silent : Type 0 where
+  pub asks : UnheardAsksOn
+  pub new : NewIsSettled
+  pub stays : StaysSettled
+  pub rests : SettledAsks
+
+is_on : Silent → (c : Settings) (p : Phase) (s : Station) → MayAsk p → 1 ≤ c.window → IsSettled c s → s.link.phase ≡ p → IsOn p s
+is_on laws c Down s may least settled is = absurd may
+is_on laws c Closed s may least settled is = absurd may
+is_on laws c Waiting s may least settled is = record { phase = is; on = ap (λ (b : Bool). b || is_at_rest s) (waits_runs s.link is) }
+is_on laws c Up s may least settled is = record { phase = is; on = laws.rests c s least settled (ap is_up is) }
+
+settled_after : (c : Settings) (s : Station) (o : Outcome) → IsSettled c s → SettledBy c o → IsSettled c (timer.after s o)
+settled_after c s (Did step) before settled = settled
+settled_after c s (Refused e) before settled = before
+
+moments_settled : Silent → (c : Settings) (times : Times) → c.window ≤ 7 → (moments : List Moment) (w : Watched) → IsSettled c w.station → IsSettled c (watched_from c times moments w).station
+moments_settled laws c times most [] w settled = settled
+moments_settled laws c times most (moment.Happens later event ∷ moments) w settled =
+    moments_settled laws c times most moments (watched_by c times (moment.Happens later event) w) (settled_after c w.station (timer.outcome c w.station event) settled (laws.stays c w.station event most settled))
+moments_settled laws c times most (moment.IsDue later ∷ moments) w settled = moments_settled laws c times most moments (watched_by c times (moment.IsDue later) w) settled
+
+deed_settled : Silent → (c : Settings) (times : Times) → c.window ≤ 7 → (deed : Deed) (w : Watched) → IsSettled c w.station → IsSettled c (done c times deed w).station
+deed_settled laws c times most (Happens later event) w settled = settled_after c w.station (timer.outcome c w.station event) settled (laws.stays c w.station event most settled)
+deed_settled laws c times most (IsAsked later what) w settled = settled_after c w.station (timer.outcome c w.station (asks what)) settled (laws.stays c w.station (asks what) most settled)
+
 module _ (c : Settings) (times : Times) (phase : Phase) (bound : ℕ) (may : MayAsk phase) (set : 0 < times.t1) (small : bound < 2 ^ 64) where
   abbrev left : Station → ℕ
   left s = (c.retries - s.link.tries) * times.t1
@@ -247,17 +281,18 @@ module _ (c : Settings) (times : Times) (phase : Phase) (bound : ℕ) (may : May
       event_by (w.now + later) w.station w.deadlines event (timer.outcome c w.station event) (silent c w.station event (subst MayAsk (sym before.phase) may) unheard) before after unheard quiet late by
   deed_by silent w (IsAsked later what) founded before after unheard quiet late by = asked_by silent w later before late by what after quiet unheard founded.0
 
-  is_on : (deeds : List Deed) (w : Watched) → IsSilent c times phase deeds w → IsOn phase w.station
-  is_on [] w all = all
-  is_on (deed ∷ deeds) w all = all.0
+  in_phase : (deeds : List Deed) (w : Watched) → IsSilent c times phase deeds w → w.station.link.phase ≡ phase
+  in_phase [] w all = all
+  in_phase (deed ∷ deeds) w all = all.0
 
-  all_by : UnheardAsksOn → (deeds : List Deed) (w : Watched) → AreObeyed c times deeds w → IsSilent c times phase deeds w → w.now ≤ bound → Holds w → (all_done c times deeds w).now ≤ bound
-  all_by silent [] w obeyed all low by = low
-  all_by silent (deed ∷ deeds) w obeyed all low by =
+  all_by : Silent → 1 ≤ c.window → c.window ≤ 7 → (deeds : List Deed) (w : Watched) → IsSettled c w.station → AreObeyed c times deeds w → IsSilent c times phase deeds w → w.now ≤ bound → Holds w → (all_done c times deeds w).now ≤ bound
+  all_by laws least most [] w settled obeyed all low by = low
+  all_by laws least most (deed ∷ deeds) w settled obeyed all low by =
       let late : InTime bound times (runs w.station) (left w.station) (w.now + later_by deed) = in_time bound times (runs w.station) (left w.station) (w.now + later_by deed) w.deadlines obeyed.1 by in
       let v : Watched = done c times deed w in
-      all_by silent deeds v obeyed.2 all.3 (now_in_time bound times (runs w.station) (left w.station) (w.now + later_by deed) late)
-      (deed_by silent w deed obeyed.0 all.0 (is_on deeds v all.3) all.1 all.2 late by)
+      let then_settled : IsSettled c v.station = deed_settled laws c times most deed w settled in
+      all_by laws least most deeds v then_settled obeyed.2 all.3 (now_in_time bound times (runs w.station) (left w.station) (w.now + later_by deed) late)
+      (deed_by laws.asks w deed obeyed.0 (is_on laws c phase w.station may least settled all.0) (is_on laws c phase v.station may least then_settled (in_phase deeds v all.3)) all.1 all.2 late by)
 
 -- ---- where it begins
 
@@ -278,12 +313,13 @@ first_by c times bound w false is same set polled small on true_now =
     ends_by bound w.now times.t3 (times.t1 + (c.retries - w.station.link.tries) * times.t1) w.deadlines.idle small polled
     (add_less bound w.now times.t3 (times.t1 + (c.retries - w.station.link.tries) * times.t1) (times.t1 + c.retries * times.t1) (omega (arith, few)) (omega (arith, same))) (true_now.idle.on rest)
 
-pub silence_ends : UnheardAsksOn → SilenceEnds
-silence_ends silent c times phase moments deeds may set polled small obeyed all =
+pub silence_ends : Silent → SilenceEnds
+silence_ends laws c times phase moments deeds may least most set polled small obeyed all =
     let w : Watched = watched c times moments in
     let bound : ℕ = w.now + longest_silence times c.retries (runs w.station) in
-    all_by c times phase bound may set small silent deeds w obeyed all (omega arith)
-    (first_by c times bound w (runs w.station) refl refl set polled small (is_on c times phase bound may set small deeds w all).on (deadlines_are_true c times moments))
+    let settled : IsSettled c w.station = moments_settled laws c times most moments _ (laws.new c) in
+    all_by c times phase bound may set small laws least most deeds w settled obeyed all (omega arith)
+    (first_by c times bound w (runs w.station) refl refl set polled small (is_on laws c phase w.station may least settled (in_phase c times phase bound may set small deeds w all)).on (deadlines_are_true c times moments))
 
 -- ---- an idle link
 

@@ -3,7 +3,7 @@ ghost use Rattle.x25_clock.specs.laws.ClockLaw.{DeadlinesAreTrue};
 ghost use Rattle.x25_clock.specs.laws.SilenceLaw.{IdleIsAsked, SilenceEnds};
 ghost use Rattle.x25_clock.specs.laws.WaitLaw.{NothingWaits};
 
-use x25_station::{silence_is_asked, ways_out_lead_on};
+use x25_station::{silence_is_asked, stations_ask_or_rest, ways_out_lead_on};
 
 /// Over any events of a station at any times, each of them heeded, and with what is due asked for at any moments: the
 /// deadline of T1 stands exactly while T1 runs, that of an idle link while it is at rest, that of a restart while one
@@ -31,4 +31,5 @@ pub fn silence_is_told()
     ensures idle { IdleIsAsked }
 {
     silence_is_asked();
+    stations_ask_or_rest();
 }

@@ -8,7 +8,7 @@ use Rattle.x25_frame.specs.Frame.{PlainFrame, info, rr, rnr, rej, disc, ua, dm}
 use Rattle.x25_frame.specs.Spelling.{spelling_of}
 use Rattle.x25_frame.specs.laws.ReadingLaw.{ReadsSpelled}
 use Rattle.x25_frame.specs.declared.error.FrameError.{FrameError}
-use Rattle.x25_frame.specs.declared.error.FrameError.TheVariants.{Short, BadFcs}
+use Rattle.x25_frame.specs.declared.error.FrameError.TheVariants.{Short, BadFcs, BadAddress}
 use Rattle.x25_window.specs.laws.Window.{End, Numbered, Frame, after}
 use Rattle.x25_window.specs.laws.Window.Step.{Hear, Take}
 use Rattle.x25_link.specs.declared.phase.Phase.{Phase}
@@ -559,6 +559,7 @@ module _ (MayAsk : Type 0) (c d : Settings) (joined : AreJoined c d) (reads : Re
   read_joint w l h u (Ok (dm f)) os step good orderly shows tells follows = ends_joint w l h u.up os step Dm tt shows orderly tells follows
   read_joint w l h u (Err Short) os step good orderly shows tells follows = quiet_joint w l h u os orderly shows nothing step refl (λ y k. k) follows
   read_joint w l h u (Err BadFcs) os step good orderly shows tells follows = quiet_joint w l h u os orderly shows nothing step refl (λ y k. k) follows
+  read_joint w l h u (Err BadAddress) os step good orderly shows tells follows = quiet_joint w l h u os orderly shows nothing step refl (λ y k. k) follows
   read_joint w l h u r os step good orderly shows tells follows = absurd good
 
   -- ---- what comes to an end that isn't Up

@@ -13,6 +13,8 @@ use Rattle.x25_circuit.specs.declared.awaits.Awaits.TheVariants.{Nothing, Accept
 use Rattle.x25_circuit.specs.declared.params.Params.{Params}
 use Rattle.x25_circuit.specs.declared.state.State.{State}
 use Rattle.x25_circuit.specs.declared.state.State.TheVariants.{Free, Calling, Arriving, Collision, Open, Resetting, Clearing}
+use Rattle.x25_circuit.specs.declared.error.CircuitError.TheVariants as circuit_error
+use Rattle.x25_circuit.specs.Cause.{may_clear_for, may_restart_for}
 use Rattle.x25_circuit.specs.Awaits.{awaited_in}
 use Rattle.x25_circuit.specs.Circuit.{Settings as CircuitSettings, Circuit}
 use Rattle.x25_circuit.specs.Calling.{Outcome as CircuitOutcome, Done, Refused as CircuitRefused, Request, Calls, Accepts, Clears, Sends, Interrupts, Resets, SaysReady, SaysNotReady, call_in, accept_in, clear_in, send_in, interrupt_in, reset_in, ready_in, outcome, Pulled, pull_in, pull_open, pulled}
@@ -21,8 +23,8 @@ use Rattle.x25_circuit.specs.Notice.{CallRequest}
 use Rattle.x25_circuit.specs.Params.{Proposal, may_answer, said_in}
 use Rattle.x25_circuit.specs.Hearing as table
 use Rattle.x25_circuit.specs.Hearing.{Answer, answers, undecoded}
-use Rattle.x25_layer.specs.Layer.{LayerSettings, Layer, LayerAnswer, is_channel, put_at, answers_on, drops, answers_ready, answers_restarting, answers_in, undecoded_in}
-use Rattle.x25_layer.specs.Calls.{LayerRequest, Asks, Dials, Restarts, PullsAll, LayerOutcome, Accepted, Declined, where_room, if_at_once, puts_at_once, outcome_on, dialled, outcome_ready, outcome_in, layer_outcome, free_channel, layer_pulled}
+use Rattle.x25_layer.specs.Layer.{LayerSettings, Layer, LayerAnswer, is_channel, put_at, answers_on, drops, restarting_from, answers_ready, answers_restarting, answers_in, undecoded_in}
+use Rattle.x25_layer.specs.Calls.{LayerRequest, Asks, Dials, Restarts, PullsAll, LayerOutcome, Accepted, Declined, where_room, if_at_once, puts_at_once, outcome_on, dialled, restarted_for, outcome_ready, outcome_in, layer_outcome, free_channel, layer_pulled}
 use Rattle.x25_layer.specs.Rounds.{LinkView, Putting, with_pulled, pull_one, round, rounds_of, rounds, backlog, undecoded_at, answer_to}
 use Rattle.x25_layer.specs.declared.error.LayerError.TheVariants as error
 use Rattle.x25_station.specs.laws.WayOutLaw.{rank_in, rank_of}
@@ -186,11 +188,15 @@ module _ (c : CircuitSettings) (x : Circuit) where
   no_acceptance answer in_reset = tt
   no_acceptance answer in_clear = tt
 
-  cleared : (k : Kind) → OutcomeNext (state_of k) (clear_in x (state_of k))
-  cleared in_call = to_clearing in_call
-  cleared in_collision = to_clearing in_collision
-  cleared in_reset = to_clearing in_reset
-  cleared in_clear = tt
+  given : (s : State) (b : Bool) (u : CircuitOutcome) → OutcomeNext s u → OutcomeNext s (if b then u else CircuitRefused circuit_error.BadParameter)
+  given s true u next = next
+  given s false u next = tt
+
+  cleared : (cause diagnostic : ℕ) (k : Kind) → OutcomeNext (state_of k) (clear_in c x (state_of k) cause diagnostic)
+  cleared cause diagnostic in_call = given Calling (may_clear_for c.role cause) _ (to_clearing in_call)
+  cleared cause diagnostic in_collision = given Collision (may_clear_for c.role cause) _ (to_clearing in_collision)
+  cleared cause diagnostic in_reset = given Resetting (may_clear_for c.role cause) _ (to_clearing in_reset)
+  cleared cause diagnostic in_clear = tt
 
   no_message : (q : Bool) (user : List ℕ) (k : Kind) → OutcomeNext (state_of k) (send_in c x (state_of k) q user)
   no_message q user in_call = tt
@@ -204,11 +210,11 @@ module _ (c : CircuitSettings) (x : Circuit) where
   no_interrupt user in_reset = tt
   no_interrupt user in_clear = tt
 
-  no_reset : (k : Kind) → OutcomeNext (state_of k) (reset_in x (state_of k))
-  no_reset in_call = tt
-  no_reset in_collision = tt
-  no_reset in_reset = tt
-  no_reset in_clear = tt
+  no_reset : (cause diagnostic : ℕ) (k : Kind) → OutcomeNext (state_of k) (reset_in c x (state_of k) cause diagnostic)
+  no_reset cause diagnostic in_call = tt
+  no_reset cause diagnostic in_collision = tt
+  no_reset cause diagnostic in_reset = tt
+  no_reset cause diagnostic in_clear = tt
 
   no_ready : (ready : Bool) (k : Kind) → OutcomeNext (state_of k) (ready_in x (state_of k) ready)
   no_ready ready in_call = tt
@@ -222,10 +228,10 @@ module _ (c : CircuitSettings) (x : Circuit) where
   asks_next : IsKind x.state → (request : Request) → OutcomeNext x.state (outcome c x request)
   asks_next k (Calls called calling user proposal) = asked (λ s. call_in c x s called calling user proposal) (no_call called calling user proposal) k
   asks_next k (Accepts answer) = asked (λ s. accept_in x s answer) (no_acceptance answer) k
-  asks_next k Clears = asked (λ s. clear_in x s) cleared k
+  asks_next k (Clears cause diagnostic) = asked (λ s. clear_in c x s cause diagnostic) (cleared cause diagnostic) k
   asks_next k (Sends q user) = asked (λ s. send_in c x s q user) (no_message q user) k
   asks_next k (Interrupts user) = asked (λ s. interrupt_in x s user) (no_interrupt user) k
-  asks_next k Resets = asked (λ s. reset_in x s) no_reset k
+  asks_next k (Resets cause diagnostic) = asked (λ s. reset_in c x s cause diagnostic) (no_reset cause diagnostic) k
   asks_next k SaysReady = asked (λ s. ready_in x s true) (no_ready true) k
   asks_next k SaysNotReady = asked (λ s. ready_in x s false) (no_ready false) k
 
@@ -379,7 +385,10 @@ module _ (c : LayerSettings) (h : ℕ) where
       on (Some k) =
           let o : CircuitOutcome = outcome c.circuit (circuits k) (Calls called calling user proposal) in
           room_moves false circuits full (outcome_on restarts circuits k o) (on_asked restarts circuits k o high (λ is. asks_next c.circuit (circuits k) is (Calls called calling user proposal)))
-  ready_asked full restarts circuits Restarts high = room_moves false circuits full _ (restarting_moves configured (circuits h).state Free high)
+  ready_asked full restarts circuits (Restarts cause diagnostic) high =
+      room_moves false circuits full (restarted_for c.circuit.role restarts circuits cause diagnostic)
+      (if_moves false circuits (may_restart_for c.circuit.role cause) (Accepted (restarting_from restarts circuits) (Some (restart cause diagnostic))) (Declined (error.Circuit circuit_error.BadParameter))
+      (restarting_moves configured (circuits h).state Free high) tt)
   ready_asked full restarts circuits PullsAll high = still configured false (circuits h).state
 
   in_asked : (full r : Bool) (restarts : ℕ) (circuits : ℕ → Circuit) (request : LayerRequest) → IsHigh r circuits → OutcomeMoves r circuits (outcome_in c full r restarts circuits request)

@@ -33,6 +33,7 @@ pub mod AwaitLemmas
 pub mod StillLemmas
 pub mod WayOutLemmas
 pub mod UnheardLemmas
+pub mod SettledLemmas
 pub mod DoesLemmas
 pub mod PullLemmas
 pub mod ClockLemmas

@@ -18,7 +18,7 @@ use Rattle.x25_circuit.specs.declared.state.State.{State}
 use Rattle.x25_circuit.specs.declared.state.State.TheVariants.{Free, Calling, Arriving, Collision, Open, Resetting, Clearing}
 use Rattle.x25_circuit.specs.Awaits.{awaited_in}
 use Rattle.x25_circuit.specs.Calling.{Clears, does, clear_in}
-use Rattle.x25_circuit.specs.Circuit.{Circuit, entered}
+use Rattle.x25_circuit.specs.Circuit.{Settings as CircuitSettings, Circuit, entered}
 use Rattle.x25_circuit.specs.Params.{default_params}
 use Rattle.x25_layer.specs.declared.error.LayerError.TheVariants as layer_error
 use Rattle.x25_layer.specs.Layer.{LayerSettings, Layer, is_channel, is_ready, put_at, packet_on, restarting_from}
@@ -213,11 +213,11 @@ oldest Up false true Open is = not_four 0 (omega arith) is
 oldest Up false true Resetting is = record { phase = refl; ready = refl; configured = refl; kind = in_reset; state = refl; awaits = refl }
 oldest Up false true Clearing is = not_four 3 (omega arith) is
 
-clears_it : (x : Circuit) (k : Kind) → rank_in (awaited_in (state_of k)) ≡ 4 → clear_in x (state_of k) ≡ does x Clearing default_params false (clear 1 0 0)
-clears_it x in_call is = refl
-clears_it x in_collision is = refl
-clears_it x in_reset is = refl
-clears_it x in_clear is = not_four 3 (omega arith) is
+clears_it : (c : CircuitSettings) (x : Circuit) (k : Kind) → rank_in (awaited_in (state_of k)) ≡ 4 → clear_in c x (state_of k) 0 0 ≡ does x Clearing default_params false (clear 1 0 0)
+clears_it c x in_call is = refl
+clears_it c x in_collision is = refl
+clears_it c x in_reset is = refl
+clears_it c x in_clear is = not_four 3 (omega arith) is
 
 pub clear_leads_on : PutTells → ClearLeadsOn
 clear_leads_on tells c s h is low =
@@ -227,13 +227,13 @@ clear_leads_on tells c s h is low =
     let old : IsOldest s.link.phase l.restarting (is_channel c.channels h) x.state = oldest s.link.phase l.restarting (is_channel c.channels h) x.state is in
     let gone : Circuit = entered x Clearing default_params false in
     let next : Layer = is_ready l.restarts (put_at l.circuits h gone) in
-    let request : LayerRequest = Asks h Clears in
+    let request : LayerRequest = Asks h (Clears 0 0) in
     let packet : Option PlainPacket = packet_on h (Some (clear 1 0 0)) in
     let found : layer_outcome lc false l request ≡ Accepted next packet =
     ap (λ (r : Bool). outcome_in lc false r l.restarts l.circuits request) old.ready
-    ∙ ap (λ (b : Bool). if b then outcome_on l.restarts l.circuits h (clear_in x x.state) else Declined layer_error.NoSuchChannel) old.configured
-    ∙ ap (λ (y : State). outcome_on l.restarts l.circuits h (clear_in x y)) old.state
-    ∙ ap (outcome_on l.restarts l.circuits h) (clears_it x old.kind old.awaits) in
+    ∙ ap (λ (b : Bool). if b then outcome_on l.restarts l.circuits h (clear_in lc.circuit x x.state 0 0) else Declined layer_error.NoSuchChannel) old.configured
+    ∙ ap (λ (y : State). outcome_on l.restarts l.circuits h (clear_in lc.circuit x y 0 0)) old.state
+    ∙ ap (outcome_on l.restarts l.circuits h) (clears_it lc.circuit x old.kind old.awaits) in
     let at_h : (next.circuits h).state ≡ Clearing = ap (λ (b : Bool). let y : Circuit = if b then gone else x in y.state) (eq-eqb h h refl) in (
       accepted_step tells c s request next packet old.phase low found,
       accepted tells c s request next packet old.phase low found,
@@ -245,10 +245,11 @@ pub restart_leads_on : PutTells → RestartLeadsOn
 restart_leads_on tells c s up ready low =
     let lc : LayerSettings = layer_settings c in
     let l : Layer = s.layer in
+    let request : LayerRequest = Restarts 0 0 in
     let next : Layer = restarting_from l.restarts l.circuits in
     let packet : Option PlainPacket = Some (restart 0 0) in
-    let found : layer_outcome lc false l Restarts ≡ Accepted next packet = ap (λ (r : Bool). outcome_in lc false r l.restarts l.circuits Restarts) ready in (
-      accepted_step tells c s Restarts next packet up low found,
-      accepted tells c s Restarts next packet up low found,
-      λ h. accepted_rank tells c s Restarts next packet up low found h true Free refl refl,
+    let found : layer_outcome lc false l request ≡ Accepted next packet = ap (λ (r : Bool). outcome_in lc false r l.restarts l.circuits request) ready in (
+      accepted_step tells c s request next packet up low found,
+      accepted tells c s request next packet up low found,
+      λ h. accepted_rank tells c s request next packet up low found h true Free refl refl,
     )

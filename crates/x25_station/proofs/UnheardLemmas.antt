@@ -31,8 +31,8 @@ use Rattle.x25_station.proofs.DownLemmas.{downs, follows_down, timer_down, disco
 
 -- ---- what sending leaves as it is
 
-record Lasts (s t : LinkStation) : Type 0 where
-  phase : t.phase ≡ s.phase
+pub record Lasts (s t : LinkStation) : Type 0 where
+  pub phase : t.phase ≡ s.phase
   tries : t.tries ≡ s.tries
   acked : t.outgoing.acked ≡ s.outgoing.acked
   recovery : t.recovery ≡ s.recovery
@@ -71,7 +71,7 @@ pumped_lasts (suc n) k t =
     let u : Side = pumped n k t in
     if_lasts t.near (may_send k u.near) (send_next u) u (lasts_on t.near u.near (send_next u).near (pumped_lasts n k t) (send_lasts u)) (pumped_lasts n k t)
 
-ended_lasts : (k : ℕ) (t : Side) → Lasts t.near (ended k t).near
+pub ended_lasts : (k : ℕ) (t : Side) → Lasts t.near (ended k t).near
 ended_lasts k t =
     let u : Side = pumped 7 k t in
     if_lasts t.near (owes_ready u.near) (ready false false u) u (lasts_on t.near u.near (ready false false u).near (pumped_lasts 7 k t) (ready_lasts false false u)) (pumped_lasts 7 k t)
@@ -79,7 +79,7 @@ ended_lasts k t =
 added_lasts : (packet : List ℕ) (s : LinkStation) → Lasts s (record s { outgoing = added packet s.outgoing })
 added_lasts packet s = record { phase = refl; tries = refl; acked = refl; recovery = refl; peer_busy = refl; sent = omega arith }
 
-put_lasts : (c : LinkSettings) (packet : List ℕ) (s : LinkStation) → Lasts s (put_step c packet s).side.near
+pub put_lasts : (c : LinkSettings) (packet : List ℕ) (s : LinkStation) → Lasts s (put_step c packet s).side.near
 put_lasts c packet s =
     let t : Side = with_near (alone s) (record s { outgoing = added packet s.outgoing }) in
     lasts_on s t.near (ended c.window t).near (added_lasts packet s) (ended_lasts c.window t)

@@ -30,13 +30,13 @@ abbrev pub request_of : CallCmd → LayerRequest
 request_of (code.Call called calling user params) =
     Dials called.now calling.now user.now (in_brief (unwrap_or params default_params))
 request_of (code.Accept channel params) = Asks channel (Accepts (answer_in_brief params))
-request_of (code.Clear channel) = Asks channel Clears
+request_of (code.Clear channel cause diagnostic) = Asks channel (Clears cause diagnostic)
 
 -- the user data of a CALL stands in the command, and CLEAR has no D
 abbrev pub suits : PlainGiven → LayerRequest → Bool
 suits g (Dials called calling user proposal) = length g.user == 0
 suits g (Asks h (Accepts answer)) = true
-suits g (Asks h Clears) = not g.d
+suits g (Asks h (Clears cause diagnostic)) = not g.d
 suits g request = false
 
 -- by a station that reads packets in all their forms

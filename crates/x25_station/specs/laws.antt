@@ -7,4 +7,5 @@ pub mod OctetLaw
 pub mod TimerLaw
 pub mod WayOutLaw
 pub mod UnheardLaw
+pub mod SettledLaw
 pub mod GivenLaw

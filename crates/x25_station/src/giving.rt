@@ -49,6 +49,8 @@ pub enum CallCmd<'a> {
     /// As `Cmd::Clear`.
     Clear {
         channel: u16,
+        cause: u8,
+        diagnostic: u8,
     },
 }
 
@@ -58,7 +60,7 @@ fn suits(given: &Given<'_>, request: &Request<'_>) -> bool
 {
     match request {
         Request::Accept { .. } => true,
-        Request::Clear => !given.d,
+        Request::Clear { .. } => !given.d,
         _ => false,
     }
 }
@@ -112,7 +114,19 @@ impl Station {
             CallCmd::Accept { channel, params } => {
                 self.accept_given(given, *channel, *params, out)
             }
-            CallCmd::Clear { channel } => self.ask_given(given, *channel, Request::Clear, out),
+            CallCmd::Clear {
+                channel,
+                cause,
+                diagnostic,
+            } => self.ask_given(
+                given,
+                *channel,
+                Request::Clear {
+                    cause: *cause,
+                    diagnostic: *diagnostic,
+                },
+                out,
+            ),
         }
     }
 

@@ -10,6 +10,7 @@ ghost use Rattle.x25_station.specs.laws.HoldLaw.{FewWait, FewStand, FewMessages,
 ghost use Rattle.x25_station.specs.laws.OctetLaw.{FewOctets, FewOctetsInAll};
 ghost use Rattle.x25_station.specs.laws.TimerLaw.{BeginsWhereDue, BeginsBehindPull, DeadlineIsTrue, FiringIsTaken};
 ghost use Rattle.x25_station.specs.laws.TimerLaw.{OffIsRefused, PullIsHeeded};
+ghost use Rattle.x25_station.specs.laws.SettledLaw.{NewIsSettled, SettledAsks, StaysSettled};
 ghost use Rattle.x25_station.specs.laws.UnheardLaw.{UnheardAsksOn};
 ghost use Rattle.x25_station.specs.laws.WayOutLaw.{ClearLeadsOn, FiringLeadsOn, NothingLeadsBack, RelinkLeadsOn};
 ghost use Rattle.x25_station.specs.laws.WayOutLaw.{RestartLeadsOn};
@@ -17,7 +18,7 @@ ghost use Rattle.x25_station.specs.laws.WayOutLaw.{RestartLeadsOn};
 use x25_circuit::values_are_agreed;
 use x25_given::what_is_written_is_read;
 use x25_layer::calls_are_runs;
-use x25_link::{holds_few, notes_what_changes, sets_up_by_rows};
+use x25_link::{comes_to_rest, follows_the_window, holds_few, notes_what_changes, sets_up_by_rows};
 use x25_packet::reading_is_the_grammar;
 use x25_wide::taking_keeps_octets;
 
@@ -133,5 +134,19 @@ pub fn ways_out_lead_on()
 pub fn silence_is_asked()
     ensures { UnheardAsksOn }
 {
+    sets_up_by_rows();
+}
+
+/// A station whose link is up asks, or its link is at rest: from a new station on, whatever comes and whatever is
+/// asked, nothing is left that its link may send, and the window is sound. So where the link is up T1 runs, or it is at
+/// rest.
+pub fn stations_ask_or_rest()
+    ensures new { NewIsSettled }
+    ensures stays { StaysSettled }
+    ensures asks { SettledAsks }
+{
+    comes_to_rest();
+    follows_the_window();
+    notes_what_changes();
     sets_up_by_rows();
 }

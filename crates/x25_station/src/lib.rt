@@ -25,7 +25,7 @@ pub use error::StationError;
 pub use giving::CallCmd;
 pub use law::{
     deadlines_are_true, puts_are_readable, puts_beside_peers_are_readable, silence_is_asked,
-    stations_hold_few, steps_are_joined, steps_keep_bounds, ways_out_lead_on,
+    stations_ask_or_rest, stations_hold_few, steps_are_joined, steps_keep_bounds, ways_out_lead_on,
     what_is_given_is_told,
 };
 pub use station::Station;

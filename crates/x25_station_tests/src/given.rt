@@ -47,9 +47,17 @@ const ACCEPT: CallCmd<'static> = CallCmd::Accept {
     params: None,
 };
 
-const CLEAR: CallCmd<'static> = CallCmd::Clear { channel: 1 };
+const CLEAR: CallCmd<'static> = CallCmd::Clear {
+    channel: 1,
+    cause: 0,
+    diagnostic: 0,
+};
 
-const CLEAR_2: CallCmd<'static> = CallCmd::Clear { channel: 2 };
+const CLEAR_2: CallCmd<'static> = CallCmd::Clear {
+    channel: 2,
+    cause: 0,
+    diagnostic: 0,
+};
 
 const BEHIND_A_MARKER: &[u8] = &[0x01, 0x01, 0x00, 0xFF, 0x42, 0x07, 0x07];
 

@@ -1,9 +1,8 @@
 -- How long one who obeys his clock hears nothing of the other end (profile): an idle link is polled, and T1 fires,
 -- until LinkUp or LinkDown is told.
-use Rattle.std.specs.Prelude.{◌≡◌, ℕ, ◌+◌, ◌*◌, ◌^◌, ◌<◌, ◌≤◌, Bool, true, false, ◌||◌, List, [], ◌∷◌}
+use Rattle.std.specs.Prelude.{◌≡◌, ℕ, ◌+◌, ◌*◌, ◌^◌, ◌<◌, ◌≤◌, Bool, true, false, List, [], ◌∷◌}
 use Rattle.x25_link.specs.declared.phase.Phase.{Phase}
 use Rattle.x25_station.specs.Config.{Settings}
-use Rattle.x25_station.specs.Station.{Station}
 use Rattle.x25_station.specs.Station.Told.{is_at_rest}
 use Rattle.x25_station.specs.Timer.{runs}
 use Rattle.x25_station.specs.laws.UnheardLaw.{MayAsk, IsUnheard}
@@ -11,16 +10,11 @@ use Rattle.x25_clock.specs.declared.times.Times.{Times}
 use Rattle.x25_clock.specs.laws.ClockLaw.{Moment, Watched, watched, comes}
 use Rattle.x25_clock.specs.laws.WaitLaw.{Deed, event_of, outcome_of, done, all_done, AreObeyed, tells}
 
--- T1 runs, or the link is at rest, as each is that is up: `comes_to_rest` of x25_link
-pub record IsOn (p : Phase) (s : Station) : Type 0 where
-  pub phase : s.link.phase ≡ p
-  pub on : (runs s || is_at_rest s) ≡ true
-
 -- The link is up before each of these and after it, or UA is awaited; no octets come but while UA is; and none tells
 -- LinkUp or LinkDown.
 abbrev pub IsSilent : Settings → Times → Phase → List Deed → Watched → Type 0
-IsSilent c times phase [] w = IsOn phase w.station
-IsSilent c times phase (deed ∷ deeds) w = IsOn phase w.station × IsUnheard w.station (event_of deed)
+IsSilent c times phase [] w = w.station.link.phase ≡ phase
+IsSilent c times phase (deed ∷ deeds) w = (w.station.link.phase ≡ phase) × IsUnheard w.station (event_of deed)
     × (tells (outcome_of c deed w) ≡ false) × IsSilent c times phase deeds (done c times deed w)
 
 -- how long that may last: N2 firings and one more, where T1 runs, and else T3 before
@@ -33,7 +27,7 @@ abbrev pub SilenceEnds : Type 0
 SilenceEnds = (c : Settings) (times : Times) (phase : Phase) (moments : List Moment) (deeds : List Deed) →
     let w : Watched = watched c times moments in
     let longest : ℕ = longest_silence times c.retries (runs w.station) in
-    MayAsk phase → 0 < times.t1 → 0 < times.t3 → w.now + longest < 2 ^ 64
+    MayAsk phase → 1 ≤ c.window → c.window ≤ 7 → 0 < times.t1 → 0 < times.t3 → w.now + longest < 2 ^ 64
     → AreObeyed c times deeds w → IsSilent c times phase deeds w → (all_done c times deeds w).now ≤ w.now + longest
 
 -- ---- an idle link is polled

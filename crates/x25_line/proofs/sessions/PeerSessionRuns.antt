@@ -1,5 +1,5 @@
 -- What a station and a peer reach are two ends that keep the rules, and that says the claims.
-use Rattle.std.proofs.Common.{◌≡◌, inl, inr, ◌+◌, ◌≤◌, ℕ, List, [], ◌∷◌, map, length, true, false, refl, sym, ap, ◌∙◌, subst, arith}
+use Rattle.std.proofs.Common.{◌≡◌, inl, inr, ◌≤◌, ℕ, List, [], ◌∷◌, map, length, true, false, refl, sym, ap, ◌∙◌, subst, arith}
 use Rattle.std.proofs.lemmas.Bool.{and_parts}
 use Rattle.x25_frame.specs.laws.ReadingLaw.{ReadsSpelled}
 use Rattle.x25_link.specs.Station.{Settings, is_up}
@@ -8,13 +8,13 @@ use Rattle.x25_link.specs.Link.{is_idle}
 use Rattle.x25_link.specs.laws.WindowMachine.{Window}
 use Rattle.x25_line.specs.laws.Stations.{Act, T1}
 use Rattle.x25_line.specs.laws.InWindow.{IsPrefix}
-use Rattle.x25_line.specs.laws.Sessions.{Meeting, turned, sabm_in, ua_in, disc_in, how_many, acts, from_nothing, from_set_up}
+use Rattle.x25_line.specs.laws.Sessions.{Meeting, turned, acts, from_nothing, from_set_up}
 use Rattle.x25_line.specs.laws.SessionClaims.{AllMet, IsInOrder, MeetInStep, MetAreInOrder, UnmetHandNothingUp}
 use Rattle.x25_line.specs.laws.LawsBelow.{SessionLaws}
 use Rattle.x25_line.specs.laws.Peer.{fresh_peer}
 use Rattle.x25_line.proofs.StationClaimLemmas.{idle_all}
 use Rattle.x25_line.proofs.StationAway.{is_up_phase}
-use Rattle.x25_line.proofs.sessions.SessionHeld.{View, Live, Soon, Gone, Owes}
+use Rattle.x25_line.proofs.sessions.SessionHeld.{View, Live, Soon, Gone}
 use Rattle.x25_line.specs.laws.PeerSessions.{PeerSessions, PeerEnd, Out, In, both_ends, as_end, with_peer, begin_with, IsReached, at_start, set_up, goes_on}
 use Rattle.x25_line.specs.laws.PeerSessions as sessions
 use Rattle.x25_line.specs.laws.PeerSessionClaims.{WithAnyPeer, WithAnyLapbPeer, OfBothEnds, IdleHasArrived, EachMeetsLatest, SendsNoFrmr}
@@ -24,7 +24,7 @@ use Rattle.x25_line.specs.laws.EndClaims.{MetInOrder, KeepSessions}
 use Rattle.x25_line.proofs.sessions.SessionMay.{stand_of}
 use Rattle.x25_line.proofs.sessions.SessionSeen.{Seen}
 use Rattle.x25_line.proofs.sessions.SessionSeenSteps.{IsTimely, station_acts}
-use Rattle.x25_line.proofs.sessions.SessionWith.{outs, backs, at, IsWith, station_may}
+use Rattle.x25_line.proofs.sessions.SessionWith.{outs, backs, at, IsWith, station_may, Kept}
 use Rattle.x25_line.proofs.sessions.PeerMoves.{peer_held}
 use Rattle.x25_line.proofs.ends.Held.{ViewIs, NotIn}
 use Rattle.x25_line.proofs.ends.Sessions.{All, all_turned, reached_all, keep_sessions, latest, some_stands, all_taken}
@@ -92,9 +92,9 @@ module _ (reads : ReadsSpelled) (rests : SessionLaws) where
     keeps : KeepSessions two
     keeps = keep_sessions two h.reached.reached
 
-    -- the station's SABMs and the UAs to it that are on the line, and its DISCs
-    pub owes : Owes w.near.station.phase (how_many sabm_in c.role c.longest w.out + how_many ua_in (other c.role) c.longest w.back) (how_many disc_in c.role c.longest w.out)
-    owes = h.reached.kept.owes
+    -- what is kept of the lines
+    pub lines : Kept Odd c w.peer.begun w.near.station.phase w.back w.out
+    lines = h.reached.kept
 
     in_order : (m : Meeting) → MetInOrder h.all w.peer.of_session m → IsInOrder w.near (as_end w.peer) m
     in_order m k = record {

@@ -20,6 +20,7 @@ use Rattle.x25_line.specs.laws.StationClaims.{AreJoined}
 use Rattle.x25_line.specs.laws.SessionNumbers.{Standing}
 use Rattle.x25_line.specs.laws.Sessions.{Entry, Meeting, Sessions, sabm_in, ua_in, how_many, begun_by, after_step}
 use Rattle.x25_line.specs.laws.LawsBelow.{Laws}
+use Rattle.x25_line.proofs.sessions.SessionSeenActs.{by_disc, by_reset, by_neither}
 use Rattle.x25_line.proofs.StationLines.{AreParting}
 use Rattle.x25_line.proofs.StationSteps.{AsUp, Leads, not_both, ends_joint}
 use Rattle.x25_line.proofs.StationRuns.{put_up, timer_by}
@@ -27,7 +28,7 @@ use Rattle.x25_line.proofs.StationClaimLemmas.{up_of}
 use Rattle.x25_line.proofs.sessions.SessionLines.{count}
 use Rattle.x25_line.proofs.sessions.SessionHeld.{OnLine, View, Live, Soon, Gone, IsView, IsHeard, Comes, Owes, Held, near_high}
 use Rattle.x25_line.proofs.sessions.SessionSteps.{stepped, went_by, apart_held}
-use Rattle.x25_line.proofs.sessions.SessionUp.{MayAnswer, stays_answers, ends_answers, follows_answers, by_reason, none_reason, live_goes_on}
+use Rattle.x25_line.proofs.sessions.SessionUp.{stays_answers, follows_answers, live_goes_on}
 
 -- what holds of a step in which no LinkUp is noted
 pub quiet_held : {stand : Standing} (c d : Settings) (w : Sessions) (es : List Entry) (met : List Meeting) (down : List (List ℕ)) (step : Step) → step.notes.up ≡ false
@@ -66,10 +67,6 @@ closed_is_waiting p e f = absurd (never (sym e ∙ f))
     never : Closed ≡ Waiting → ⊥
     never k = cc
 
-retries_answer : (b : Bool) (far : Phase) (reason : Reason) → (let o : Option Reason = if b then None else Some Retries in o) ≡ Some reason → MayAnswer reason far
-retries_answer true far reason e = none_reason reason e
-retries_answer false far reason e = by_reason far Retries reason tt e
-
 module _ (c d : Settings) (joined : AreJoined c d) (reads : ReadsSpelled) (laws : Laws) where
   -- ---- in Up
 
@@ -81,7 +78,7 @@ module _ (c d : Settings) (joined : AreJoined c d) (reads : ReadsSpelled) (laws 
       live_goes_on c d joined reads w h i.view w.back h.alone.back w.met (packet ∷ []) (put_step c packet w.near.station) None
       (subst (λ (s : LinkStation). Leads ⊥ c d h.alone stand.machine stand.machine.back (one.after_step c h.alone h.alone.back (packet ∷ []) (put_step c packet s))) i.view.1
       (put_up ⊥ c d joined reads laws h.alone stand.machine packet h.holds i.machine short))
-      i.comes h.back_orderly (stays_answers w c.window (hands_down packet) w.near.station (put_step c packet w.near.station) stays)
+      i.comes (stays_answers w c.window (hands_down packet) w.near.station (put_step c packet w.near.station) stays)
 
   pub timer_up_held : {stand : Standing} (w : Sessions) → Held stand c d w → is_up w.near.station.phase ≡ true → Held (went_by c (timer_step c w.near.station) None stand) c d (after_step c w w.back w.met [] (timer_step c w.near.station))
   timer_up_held {stand} w h up =
@@ -95,20 +92,20 @@ module _ (c d : Settings) (joined : AreJoined c d) (reads : ReadsSpelled) (laws 
       (subst (λ (z : LinkStation). Leads ⊥ c d h.alone stand.machine stand.machine.back (one.after_step c h.alone h.alone.back [] (timer_step c z))) i.view.1
       (timer_by ⊥ c d joined reads laws h.alone stand.machine h.holds i.machine (nat_lt t.tries c.retries) (timer_step c t) (laws.timer_tells c t)
       (laws.window.timer c t (record { up = i.machine.up; sound = i.machine.sound }))))
-      i.comes h.back_orderly (follows_answers w o c.window nothing s step (λ reason e. retries_answer (nat_lt s.tries c.retries) w.far.station.phase reason e) follows)
+      i.comes (follows_answers w o c.window nothing s step (λ one. (let none = by_neither by_disc None (Some Retries) refl refl (nat_lt s.tries c.retries) in absurd (omega (arith, one, none)))) (by_neither by_reset None (Some Retries) refl refl (nat_lt s.tries c.retries)) follows)
 
-  leaves_held : {stand : Standing} (w : Sessions) (h : Held stand c d w) → InSession stand c d w h → (reason : Reason) → MayAnswer reason w.far.station.phase → (f : LinkStation → Step)
+  leaves_held : {stand : Standing} (w : Sessions) (h : Held stand c d w) → InSession stand c d w h → (reason : Reason) → by_disc (Some reason) ≡ 0 → by_reset (Some reason) ≡ 0 → (f : LinkStation → Step)
       → Leads ⊥ c d h.alone stand.machine stand.machine.back (one.after_step c h.alone h.alone.back [] (f h.alone.near.station)) → Ends reason (f w.near.station) → Held (went_by c (f w.near.station) None stand) c d (after_step c w w.back w.met [] (f w.near.station))
-  leaves_held {stand} w h i reason may f holds ends =
+  leaves_held {stand} w h i reason by_own stays f holds ends =
       live_goes_on c d joined reads w h i.view w.back h.alone.back w.met [] (f w.near.station) None
       (subst (λ (z : LinkStation). Leads ⊥ c d h.alone stand.machine stand.machine.back (one.after_step c h.alone h.alone.back [] (f z))) i.view.1 holds)
-      i.comes h.back_orderly (ends_answers w reason (f w.near.station) may ends)
+      i.comes (follows_answers w (Some reason) c.window nothing w.near.station (f w.near.station) (λ one. absurd (omega (arith, one, by_own))) stays ends)
 
   pub disconnect_up_held : {stand : Standing} (w : Sessions) → Held stand c d w → is_up w.near.station.phase ≡ true → Held (went_by c (disconnect_step c w.near.station) None stand) c d (after_step c w w.back w.met [] (disconnect_step c w.near.station))
   disconnect_up_held {stand} w h up =
       let i = in_session c d w h up in
       let t = h.alone.near.station in
-      leaves_held w h i Local tt (disconnect_step c)
+      leaves_held w h i Local refl refl (disconnect_step c)
       (ends_joint ⊥ c d joined reads h.alone stand.machine h.holds i.machine.up h.alone.back (disconnect_step c t) Local tt h.holds.back h.holds.back_orderly (laws.disconnect_tells c t)
       (laws.window.disconnect c t (record { up = i.machine.up; sound = i.machine.sound })))
       (laws.window.disconnect c w.near.station i.running)
@@ -117,7 +114,7 @@ module _ (c d : Settings) (joined : AreJoined c d) (reads : ReadsSpelled) (laws 
   abandon_held {stand} w h up =
       let i = in_session c d w h up in
       let t = h.alone.near.station in
-      leaves_held w h i Counts tt (abandon_step c)
+      leaves_held w h i Counts refl refl (abandon_step c)
       (ends_joint ⊥ c d joined reads h.alone stand.machine h.holds i.machine.up h.alone.back (abandon_step c t) Counts tt h.holds.back h.holds.back_orderly (laws.abandon_tells c t)
       (laws.window.abandon c t (record { up = i.machine.up; sound = i.machine.sound })))
       (laws.window.abandon c w.near.station i.running)
@@ -130,15 +127,15 @@ module _ (c d : Settings) (joined : AreJoined c d) (reads : ReadsSpelled) (laws 
   out_held {stand} w h near frames ends step i off none parting no_ua =
       let same : step.side.near.phase ≡ near.phase = ap (λ (s : LinkStation). s.phase) i.near in
       quiet_held c d w w.back w.met [] step i.up
-      (apart_held c d joined reads w h w.back w.met w.near.begun step Gone i.packet (omega arith) (ap is_up same ∙ off, near_high c d w h) (λ waiting. none (sym same ∙ waiting))
-      (subst (AreParting (Unit {0})) (sym i.out) parting) (ap (count ua_in) i.out ∙ no_ua) h.back_orderly)
+      (apart_held c d joined reads w h w.back w.met w.near.begun step Gone i.packet (ap is_up same ∙ off, near_high c d w h) (λ waiting. none (sym same ∙ waiting))
+      (subst (AreParting (Unit {0})) (sym i.out) parting) (ap (count ua_in) i.out ∙ no_ua))
 
   closes_held : {stand : Standing} (w : Sessions) → Held stand c d w → (step : Step) → step.side.near.phase ≡ Closed → step.side.out ≡ disc true ∷ [] → step.packet ≡ None → step.notes.up ≡ false
       → Held (went_by c step None stand) c d (after_step c w w.back w.met [] step)
   closes_held {stand} w h step closed sent none quiet =
       quiet_held c d w w.back w.met [] step quiet
-      (apart_held c d joined reads w h w.back w.met w.near.begun step Gone none (omega arith) (ap is_up closed, near_high c d w h) (λ waiting. closed_is_waiting step.side.near.phase closed waiting)
-      (subst (AreParting (Unit {0})) (sym sent) tt) (ap (count ua_in) sent) h.back_orderly)
+      (apart_held c d joined reads w h w.back w.met w.near.begun step Gone none (ap is_up closed, near_high c d w h) (λ waiting. closed_is_waiting step.side.near.phase closed waiting)
+      (subst (AreParting (Unit {0})) (sym sent) tt) (ap (count ua_in) sent))
 
   pub connect_held : {stand : Standing} (w : Sessions) → Held stand c d w → OnLine c d w → w.near.station.phase ≡ Down → Held (went_by c (connect_step c w.near.station) None stand) c d (after_step c w w.back w.met [] (connect_step c w.near.station))
   connect_held {stand} w h line down =

@@ -1,5 +1,5 @@
 -- A SABM that comes to an end that isn't Closed begins two sessions, and keeps what holds of two stations.
-use Rattle.std.proofs.Common.{◌≡◌, ◌≤◌, ◌<◌, ℕ, suc, ◌+◌, List, [], ◌∷◌, ◌++◌, inl, inr, map, Bool, None, refl, sym, ap, ◌∙◌, subst, arith}
+use Rattle.std.proofs.Common.{◌≡◌, ◌≤◌, ℕ, suc, ◌+◌, List, [], ◌∷◌, ◌++◌, inl, inr, map, Bool, None, refl, sym, ap, ◌∙◌, subst, arith}
 use Rattle.x25_bits.specs.declared.role.Role.{Role}
 use Rattle.x25_frame.specs.Frame.{PlainFrame, ua}
 use Rattle.x25_frame.specs.Spelling.{spelling_of}
@@ -9,27 +9,21 @@ use Rattle.x25_link.specs.Station.{Settings, is_up, fresh}
 use Rattle.x25_link.specs.Hearing.{Step, other}
 use Rattle.x25_line.specs.laws.Stations.{start}
 use Rattle.x25_line.specs.laws.StationClaims.{AreJoined, NoFrmr, numbered_on}
-use Rattle.x25_line.specs.laws.Sessions.{Entry, SessionEnd, Meeting, Sessions, sabm_in, ua_in, how_many, sent_in}
+use Rattle.x25_line.specs.laws.Sessions.{Entry, Meeting, Sessions, sabm_in, ua_in, how_many, sent_in}
 use Rattle.x25_line.specs.laws.SessionNumbers.{Standing, anew}
-use Rattle.x25_line.specs.laws.SessionClaims.{octets_of}
-use Rattle.x25_line.proofs.StationLines.{AreOrderly, orderly_append, AreParting, no_frmr_append, parting_numbered, parting_orderly, parting_whole}
+use Rattle.x25_line.proofs.StationLines.{AreParting, no_frmr_append, parting_numbered, parting_whole}
 use Rattle.x25_line.proofs.StationRuns.{start_machine}
-use Rattle.x25_line.proofs.sessions.SessionLines.{Read, octets_append, octets_sent, numbers}
+use Rattle.x25_line.proofs.sessions.SessionLines.{Read, octets_sent, numbers}
 use Rattle.x25_line.proofs.sessions.SessionHeld.{View, Soon, Gone, IsView, IsHeard, AfterUa, OnLine, HasLists, SameLists, Held, whole_apart, after_answer}
 use Rattle.x25_line.proofs.sessions.SessionSteps.{end_after, stepped, nothing_handed, waiting_is_closed, asked_by, many_out}
-
-begins_lists : (e : SessionEnd) (n : ℕ) (same : (m : ℕ) → e.begun < m → (e.down m ≡ []) × (e.up m ≡ [])) → e.begun < n → HasLists e n start.near
-begins_lists e n later less =
-    let at = later n less in
-    record { down = at.0; up = at.1; later = later }
 
 module _ (c d : Settings) (joined : AreJoined c d) (reads : ReadsSpelled) where
   -- the near end answers UA; the far end asked, so that it is about to be in its session, or it is Closed
   pub begins_held : {stand : Standing} (w : Sessions) (h : Held stand c d w) (line : OnLine c d w) (e : Entry) (es : List Entry) (met : List Meeting) → w.back ≡ e ∷ es → sabm_in (frame_of (other c.role) c.longest e.octets) ≡ 1 → (n : ℕ) (f : Bool) (step : Step) (v : View)
-      → step.packet ≡ None → step.side.out ≡ ua f ∷ [] → w.near.begun ≤ n
+      → step.packet ≡ None → step.side.out ≡ ua f ∷ []
       → IsView v (end_after w.near n [] step) fresh (suc w.near.begun) → IsHeard v (other c.role) c.longest step.side.near.phase es [] (suc w.far.begun)
       → Held (anew c d w) c d (stepped c w es met [] n step)
-  begins_held {stand} w h line e es met is one n f step v none answer le view heard = elim (asked_by w.far.station.phase _ _ some line.far_owes) [
+  begins_held {stand} w h line e es met is one n f step v none answer view heard = elim (asked_by w.far.station.phase _ _ some line.far_owes) [
     | inl waits ↦ by Soon (waits.0, refl, refl) (subst (λ (fs : List PlainFrame). AfterUa (other d.role) d.longest (w.out ++ sent_in n c.role fs) [] (suc w.near.begun)) (sym answer)
         (after_answer (other d.role) d.longest w.out [] (record { session = n; octets = spelling_of c.role (ua f) }) [] (suc w.near.begun) (omega (arith, waits.1, some_back)) ua_reads (refl, tt)))
     | inr closed ↦ by Gone (ap is_up closed, omega arith) (λ waiting. waiting_is_closed w.far.station.phase waiting closed)
@@ -50,18 +44,10 @@ module _ (c d : Settings) (joined : AreJoined c d) (reads : ReadsSpelled) where
       some : 1 ≤ how_many sabm_in (other c.role) c.longest w.back + how_many ua_in (other d.role) d.longest w.out
       some = omega (arith, some_back)
 
-      left : AreOrderly (Unit {0}) (other c.role) c.longest (octets_of es)
-      left = (subst (λ (xs : List Entry). AreOrderly (Unit {0}) (other c.role) c.longest (octets_of xs)) is h.back_orderly).1
-
       parting_quiet : numbers (other d.role) d.longest more ≡ []
       parting_quiet =
           ap (numbered_on (other d.role) d.longest) (octets_sent n c.role step.side.out ∙ ap (map (spelling_of c.role)) answer)
           ∙ subst (λ (r : Role). numbered_on r d.longest (map (spelling_of c.role) (ua f ∷ [])) ≡ []) (sym joined.near_role) (parting_numbered reads c.role d.longest (Unit {0}) (ua f ∷ []) tt)
-
-      orderly : AreOrderly (Unit {0}) (other d.role) d.longest (octets_of more)
-      orderly =
-          subst (AreOrderly (Unit {0}) (other d.role) d.longest) (sym (octets_sent n c.role step.side.out ∙ ap (map (spelling_of c.role)) answer))
-          (subst (λ (r : Role). AreOrderly (Unit {0}) r d.longest (map (spelling_of c.role) (ua f ∷ []))) (sym joined.near_role) (parting_orderly reads c.role d.longest (Unit {0}) (ua f ∷ []) tt))
 
       ua_reads : ua_in (frame_of (other d.role) d.longest (spelling_of c.role (ua f))) ≡ 1
       ua_reads =
@@ -69,17 +55,10 @@ module _ (c d : Settings) (joined : AreJoined c d) (reads : ReadsSpelled) where
           omega (arith, one_ua)
 
       same : SameLists w.near (end_after w.near n [] step)
-      same = nothing_handed w.near n step none le
-
-      later : (m : ℕ) → n < m → (end_after w.near n [] step).down m ≡ [] × (end_after w.near n [] step).up m ≡ []
-      later m less =
-          let old = h.near_lists.later m (omega (arith, le, less)) in
-          (same.down m ∙ old.0, same.up m ∙ old.1)
+      same = nothing_handed w.near n step none
 
       near_lists : HasLists (end_after w.near n [] step) (suc w.near.begun) start.near
-      near_lists =
-          let old = h.near_lists.later (suc w.near.begun) (omega arith) in
-          record { down = same.down (suc w.near.begun) ∙ old.0; up = same.up (suc w.near.begun) ∙ old.1; later = later }
+      near_lists = record { down = same.down (suc w.near.begun) ∙ line.near_next.0; up = same.up (suc w.near.begun) ∙ line.near_next.1 }
 
       by : (u : View) → IsView u w.far fresh (suc w.far.begun) → IsHeard u (other d.role) d.longest w.far.station.phase (w.out ++ more) [] (suc w.near.begun) → Held (anew c d w) c d (stepped c w es met [] n step)
       by u far_view out =
@@ -92,11 +71,8 @@ module _ (c d : Settings) (joined : AreJoined c d) (reads : ReadsSpelled) where
             far = far_view;
             back = heard;
             out = out;
-            out_orderly = subst (AreOrderly (Unit {0}) (other d.role) d.longest) (sym (octets_append w.out more))
-                (orderly_append (Unit {0}) (other d.role) d.longest (octets_of w.out) (octets_of more) h.out_orderly orderly);
-            back_orderly = left;
             near_lists = near_lists;
-            far_lists = begins_lists w.far (suc w.far.begun) h.far_lists.later (omega arith);
+            far_lists = record { down = line.far_next.0; up = line.far_next.1 };
             no_frmr = subst (λ (xs : List PlainFrame). NoFrmr (w.sent ++ xs)) (sym answer) (no_frmr_append w.sent (ua f ∷ []) h.no_frmr tt);
             whole = whole_apart d.longest w.near (end_after w.near n [] step) w.far w.sent fs same (subst (AreParting (Unit {0})) (sym answer) tt) h.whole;
           }

@@ -20,7 +20,7 @@ use Rattle.x25_line.specs.laws.LawsBelow.{Laws}
 use Rattle.x25_line.proofs.sessions.SessionActs.{waiting_owes}
 use Rattle.x25_line.proofs.StationSteps.{Joint, Leads, counted_fits, nothing_put, stands_still, not_both}
 use Rattle.x25_line.proofs.StationRuns.{taken_off}
-use Rattle.x25_line.proofs.sessions.SessionLines.{of_ua, numbers, carried, carried_numbers, carried_orderly, Change, nothing, lost, damaged, further, removes, replaces, change_many, change_of, change_orderly, change_place, place_removes, place_replaces, change_behind_ua, behind_removes, behind_replaces, change_shows}
+use Rattle.x25_line.proofs.sessions.SessionLines.{of_ua, numbers, carried, carried_numbers, carried_orderly, Change, nothing, lost, damaged, further, removes, replaces, change_many, change_of, change_place, place_removes, place_replaces, change_behind_ua, behind_removes, behind_replaces, change_shows}
 use Rattle.x25_line.proofs.sessions.SessionHeld.{View, Live, Soon, Gone, IsView, IsHeard, Comes, AfterUa, choose, OnLine, Held, counted_view, with_machine, standing_after_is}
 
 -- ---- which frame of the session that stands is gone
@@ -139,8 +139,6 @@ module _ (c d : Settings) (joined : AreJoined c d) (reads : ReadsSpelled) (laws 
         far = h.far;
         back = heard;
         out = h.out;
-        out_orderly = h.out_orderly;
-        back_orderly = change_orderly (other c.role) c.longest (Unit {0}) w.back es change h.back_orderly;
         near_lists = h.near_lists;
         far_lists = h.far_lists;
         no_frmr = h.no_frmr;

@@ -57,7 +57,7 @@ quiet_goes e step none low = subst (λ (o : Option (List ℕ)). GoesOn [] (optio
 
 step_begins : (e : SessionEnd) (step : Step) → step.packet ≡ None → step.notes.up ≡ true → NextBegins e (end_by e [] step)
 step_begins e step none high =
-    let same = nothing_handed e (suc e.begun) step none (omega arith) in
+    let same = nothing_handed e (suc e.begun) step none in
     subst (λ (b : Bool). NextBegins e (end_after e (begun_by b e.begun) [] step)) (sym high) (record { begun = refl; down = same.down; up = same.up })
 
 -- as LinkUp is noted nothing is handed up

@@ -1,5 +1,5 @@
 -- What holds of two stations over set-up and re-set-up at any moment.
-use Rattle.std.proofs.Common.{◌≡◌, ◌≤◌, ◌<◌, ◌==◌, ℕ, zero, suc, ◌+◌, List, [], ◌∷◌, ◌++◌, ◌⊎◌, inl, inr, Bool, true, false, if◌then◌else◌, length, Option, None, refl, sym, ap, ◌∙◌, subst, arith, append-nil}
+use Rattle.std.proofs.Common.{◌≡◌, ◌≤◌, ◌==◌, ℕ, zero, suc, ◌+◌, List, [], ◌∷◌, ◌++◌, ◌⊎◌, inl, inr, Bool, true, false, if◌then◌else◌, length, Option, None, refl, sym, ap, ◌∙◌, subst, arith, append-nil}
 use Rattle.std.specs.List.{Contains}
 use Rattle.std.proofs.lemmas.Bool.{eq-eqb, eqb-true}
 use Rattle.std.proofs.lemmas.List.Elements.{Contains-append_left, Contains-append_right, Contains-append_cases}
@@ -17,8 +17,8 @@ use Rattle.x25_line.specs.laws.Sessions.{Entry, SessionEnd, Sessions, sabm_in, u
 use Rattle.x25_line.specs.laws.Line.{Line}
 use Rattle.x25_line.specs.laws.WholeNumbers.{given, taken_out, counted}
 use Rattle.x25_line.specs.laws.SessionNumbers.{Standing, standing_after}
-use Rattle.x25_line.specs.laws.SessionClaims.{octets_of, AllOf, AreWholeIn}
-use Rattle.x25_line.proofs.StationLines.{AreOrderly, numbered_append, AreParting, whole_more, whole_append, parting_whole}
+use Rattle.x25_line.specs.laws.SessionClaims.{AllOf, AreWholeIn}
+use Rattle.x25_line.proofs.StationLines.{numbered_append, AreParting, whole_more, whole_append, parting_whole, IsOrderly}
 use Rattle.x25_line.proofs.StationSteps.{Joint, FitsEnd, counted_off, counted_fits, none_put, not_both}
 use Rattle.x25_line.proofs.sessions.SessionLines.{numbers, numbers_append, quiet_tail, quiet_of, of_append, many_append}
 
@@ -75,32 +75,29 @@ pub owes_less : (p : Phase) (n m a b : ℕ) → a ≤ n → b ≤ m → Owes p n
 owes_less Closed n m a b f g h = tt
 owes_less p n m a b f g h = (omega (arith, f, h.0), omega (arith, g, h.1))
 
--- what the rules of both ends say of the line
+-- what the rules of both ends say
 pub record OnLine (c d : Settings) (w : Sessions) : Type 0 where
   pub near_owes : Owes w.near.station.phase (how_many sabm_in (other d.role) d.longest w.out + how_many ua_in (other c.role) c.longest w.back) (how_many disc_in (other d.role) d.longest w.out)
   pub far_owes : Owes w.far.station.phase (how_many sabm_in (other c.role) c.longest w.back + how_many ua_in (other d.role) d.longest w.out) (how_many disc_in (other c.role) c.longest w.back)
   pub quiet : (e : Entry) (es : List Entry) → w.back ≡ e ∷ es → sabm_in (frame_of (other c.role) c.longest e.octets) ≡ 1 → numbers (other c.role) c.longest es ≡ []
+  pub fine : (e : Entry) (es : List Entry) → w.back ≡ e ∷ es → IsOrderly (Unit {0}) (frame_of (other c.role) c.longest e.octets)
+  -- the next session of each has no lists
+  pub near_next : (w.near.down (suc w.near.begun) ≡ []) × (w.near.up (suc w.near.begun) ≡ [])
+  pub far_next : (w.far.down (suc w.far.begun) ≡ []) × (w.far.up (suc w.far.begun) ≡ [])
 
 -- ---- lists
 
--- those of the session that stands, and none of a session that isn't begun
+-- those of the session that stands
 pub record HasLists (e : SessionEnd) (session : ℕ) (v : StationEnd) : Type 0 where
   pub down : e.down session ≡ v.down
   pub up : e.up session ≡ v.up
-  pub later : (n : ℕ) → e.begun < n → (e.down n ≡ []) × (e.up n ≡ [])
 
 pub record SameLists (e f : SessionEnd) : Type 0 where
   pub down : (n : ℕ) → f.down n ≡ e.down n
   pub up : (n : ℕ) → f.up n ≡ e.up n
-  pub begun : e.begun ≤ f.begun
 
 pub lists_same : (e f : SessionEnd) (session : ℕ) (v : StationEnd) → SameLists e f → HasLists e session v → HasLists f session v
-lists_same e f session v same h =
-    record {
-      down = same.down session ∙ h.down;
-      up = same.up session ∙ h.up;
-      later = λ n more. (let le = same.begun in let old = h.later n (omega (arith, more, le)) in (same.down n ∙ old.0, same.up n ∙ old.1));
-    }
+lists_same e f session v same h = record { down = same.down session ∙ h.down; up = same.up session ∙ h.up }
 
 -- ---- what holds
 
@@ -115,8 +112,6 @@ pub record Held (stand : Standing) (c d : Settings) (w : Sessions) : Type 0 wher
   pub far : IsView far_view w.far alone.far.station stand.far
   pub back : IsHeard near_view (other c.role) c.longest w.near.station.phase w.back alone.back stand.far
   pub out : IsHeard far_view (other d.role) d.longest w.far.station.phase w.out alone.out stand.near
-  pub out_orderly : AreOrderly (Unit {0}) (other d.role) d.longest (octets_of w.out)
-  pub back_orderly : AreOrderly (Unit {0}) (other c.role) c.longest (octets_of w.back)
   pub near_lists : HasLists w.near stand.near alone.near
   pub far_lists : HasLists w.far stand.far alone.far
   pub no_frmr : NoFrmr w.sent

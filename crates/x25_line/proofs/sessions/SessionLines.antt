@@ -179,9 +179,6 @@ module _ (from : Role) (n1 : ℕ) where
   damaged_number : (r : Read) → IsDamaged r → number_in r ≡ None
   damaged_number r h = elim h [ inl e ↦ ap number_in e | inr e ↦ ap number_in e ]
 
-  damaged_orderly : (MayAsk : Type 0) (r : Read) → IsDamaged r → IsOrderly MayAsk r
-  damaged_orderly MayAsk r h = elim h [ inl e ↦ subst (IsOrderly MayAsk) (sym e) tt | inr e ↦ subst (IsOrderly MayAsk) (sym e) tt ]
-
   pub change_many : (kind : Read → ℕ) → IsKind kind → (es fs : List Entry) → Change es fs → how_many kind from n1 fs ≤ how_many kind from n1 es
   change_many kind k es fs (nothing xs) = omega arith
   change_many kind k es fs (lost e xs) = omega arith
@@ -193,12 +190,6 @@ module _ (from : Role) (n1 : ℕ) where
   change_of s es fs (lost e xs) h = h.1
   change_of s es fs (damaged e xs octets bad) h = (inl (damaged_number (frame_of from n1 octets) bad), h.1)
   change_of s es fs (further e xs ys c) h = (h.0, change_of s xs ys c h.1)
-
-  pub change_orderly : (MayAsk : Type 0) (es fs : List Entry) → Change es fs → AreOrderly MayAsk from n1 (octets_of es) → AreOrderly MayAsk from n1 (octets_of fs)
-  change_orderly MayAsk es fs (nothing xs) h = h
-  change_orderly MayAsk es fs (lost e xs) h = h.1
-  change_orderly MayAsk es fs (damaged e xs octets bad) h = (damaged_orderly MayAsk (frame_of from n1 octets) bad, h.1)
-  change_orderly MayAsk es fs (further e xs ys c) h = (h.0, change_orderly MayAsk xs ys c h.1)
 
   -- which of the numbered frames goes, where one does
   pub change_place : (es fs : List Entry) → Change es fs → Option ℕ

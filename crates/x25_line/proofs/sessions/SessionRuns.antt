@@ -166,8 +166,6 @@ held_swapped {stand} c d joined w h =
       far = h.near;
       back = h.out;
       out = h.back;
-      out_orderly = h.back_orderly;
-      back_orderly = h.out_orderly;
       near_lists = h.far_lists;
       far_lists = h.near_lists;
       no_frmr = h.no_frmr;
@@ -206,10 +204,8 @@ nothing_held c d joined =
       far = (refl, omega arith);
       back = λ waiting. refl;
       out = λ waiting. refl;
-      out_orderly = tt;
-      back_orderly = tt;
-      near_lists = record { down = refl; up = refl; later = λ n less. (refl, refl) };
-      far_lists = record { down = refl; up = refl; later = λ n less. (refl, refl) };
+      near_lists = record { down = refl; up = refl };
+      far_lists = record { down = refl; up = refl };
       no_frmr = tt;
       whole = record { given = []; handed_down = λ x there. absurd (omega (arith, there.1)); whole = tt };
     }
@@ -225,10 +221,8 @@ set_up_held c d joined =
       far = (refl, refl, refl);
       back = (refl, tt);
       out = (refl, tt);
-      out_orderly = tt;
-      back_orderly = tt;
-      near_lists = record { down = refl; up = refl; later = λ n less. (refl, refl) };
-      far_lists = record { down = refl; up = refl; later = λ n less. (refl, refl) };
+      near_lists = record { down = refl; up = refl };
+      far_lists = record { down = refl; up = refl };
       no_frmr = tt;
       whole = record { given = []; handed_down = λ x there. absurd (omega (arith, there.1)); whole = tt };
     }

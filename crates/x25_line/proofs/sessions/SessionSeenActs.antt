@@ -35,11 +35,11 @@ use Rattle.x25_line.proofs.sessions.SessionSeen.{UpFacts, Seen, build_quiet, bui
 
 -- ---- why Up is left
 
-abbrev by_disc : Option Reason → ℕ
+abbrev pub by_disc : Option Reason → ℕ
 by_disc (Some Disc) = 1
 by_disc reason = 0
 
-abbrev by_reset : Option Reason → ℕ
+abbrev pub by_reset : Option Reason → ℕ
 by_reset (Some Reset) = 1
 by_reset reason = 0
 
@@ -47,34 +47,34 @@ abbrev by_local : Option Reason → ℕ
 by_local (Some Local) = 1
 by_local reason = 0
 
--- neither where an N(R) is valid, nor where it isn't
-by_neither : (f : Option Reason → ℕ) → f None ≡ 0 → f (Some FrmrSent) ≡ 0 → (b : Bool) → f (if b then None else Some FrmrSent) ≡ 0
-by_neither f none sent true = none
-by_neither f none sent false = sent
+-- neither the one way nor the other
+pub by_neither : (f : Option Reason → ℕ) (x y : Option Reason) → f x ≡ 0 → f y ≡ 0 → (b : Bool) → f (if b then x else y) ≡ 0
+by_neither f x y one other true = one
+by_neither f x y one other false = other
 
-left_by_disc : (r : Read) (v : Window) → by_disc (ending_of r v) ≡ disc_in r
-left_by_disc (Ok (info ns nr p x)) v = by_neither by_disc refl refl _
-left_by_disc (Ok (rr command nr pf)) v = by_neither by_disc refl refl _
-left_by_disc (Ok (rnr command nr pf)) v = by_neither by_disc refl refl _
-left_by_disc (Ok (rej command nr pf)) v = by_neither by_disc refl refl _
+pub left_by_disc : (r : Read) (v : Window) → by_disc (ending_of r v) ≡ disc_in r
+left_by_disc (Ok (info ns nr p x)) v = by_neither by_disc None (Some FrmrSent) refl refl _
+left_by_disc (Ok (rr command nr pf)) v = by_neither by_disc None (Some FrmrSent) refl refl _
+left_by_disc (Ok (rnr command nr pf)) v = by_neither by_disc None (Some FrmrSent) refl refl _
+left_by_disc (Ok (rej command nr pf)) v = by_neither by_disc None (Some FrmrSent) refl refl _
 left_by_disc (Ok f) v = refl
 left_by_disc (Err Short) v = refl
 left_by_disc (Err error) v = refl
 
-left_by_reset : (r : Read) (v : Window) → by_reset (ending_of r v) ≡ sabm_in r
-left_by_reset (Ok (info ns nr p x)) v = by_neither by_reset refl refl _
-left_by_reset (Ok (rr command nr pf)) v = by_neither by_reset refl refl _
-left_by_reset (Ok (rnr command nr pf)) v = by_neither by_reset refl refl _
-left_by_reset (Ok (rej command nr pf)) v = by_neither by_reset refl refl _
+pub left_by_reset : (r : Read) (v : Window) → by_reset (ending_of r v) ≡ sabm_in r
+left_by_reset (Ok (info ns nr p x)) v = by_neither by_reset None (Some FrmrSent) refl refl _
+left_by_reset (Ok (rr command nr pf)) v = by_neither by_reset None (Some FrmrSent) refl refl _
+left_by_reset (Ok (rnr command nr pf)) v = by_neither by_reset None (Some FrmrSent) refl refl _
+left_by_reset (Ok (rej command nr pf)) v = by_neither by_reset None (Some FrmrSent) refl refl _
 left_by_reset (Ok f) v = refl
 left_by_reset (Err Short) v = refl
 left_by_reset (Err error) v = refl
 
 left_by_local : (r : Read) (v : Window) → by_local (ending_of r v) ≡ 0
-left_by_local (Ok (info ns nr p x)) v = by_neither by_local refl refl _
-left_by_local (Ok (rr command nr pf)) v = by_neither by_local refl refl _
-left_by_local (Ok (rnr command nr pf)) v = by_neither by_local refl refl _
-left_by_local (Ok (rej command nr pf)) v = by_neither by_local refl refl _
+left_by_local (Ok (info ns nr p x)) v = by_neither by_local None (Some FrmrSent) refl refl _
+left_by_local (Ok (rr command nr pf)) v = by_neither by_local None (Some FrmrSent) refl refl _
+left_by_local (Ok (rnr command nr pf)) v = by_neither by_local None (Some FrmrSent) refl refl _
+left_by_local (Ok (rej command nr pf)) v = by_neither by_local None (Some FrmrSent) refl refl _
 left_by_local (Ok f) v = refl
 left_by_local (Err Short) v = refl
 left_by_local (Err error) v = refl

@@ -29,7 +29,7 @@ use Rattle.x25_line.proofs.sessions.SessionMay.{stand_of, sends_read, hears_read
 use Rattle.x25_line.proofs.ends.Meetings.{twice_turned}
 use Rattle.x25_line.proofs.sessions.SessionSeen.{UpFacts, Seen}
 use Rattle.x25_line.proofs.sessions.SessionSeenSteps as own
-use Rattle.x25_line.proofs.sessions.PeerSessionRuns.{owes}
+use Rattle.x25_line.proofs.sessions.PeerSessionRuns.{lines}
 
 -- ---- a station is known as a peer
 
@@ -243,7 +243,7 @@ module _ (c d : Settings) (joined : AreJoined c d) (reads : ReadsSpelled) (rests
 
   -- the other end, which sees it as its peer, with what that has on the line
   other_owes : (w : Sessions) → S w → Owes w.far.station.phase (how_many sabm_in c.role c.longest w.back + how_many ua_in (other c.role) c.longest w.out) (how_many disc_in c.role c.longest w.back)
-  other_owes w h = owes reads rests ⊥ c joined.near_high (at c d joined w.far w.back w.met (end c d joined w.far w.near.station.phase w.near.begun h.all) w.out) h.reached
+  other_owes w h = (lines reads rests ⊥ c joined.near_high (at c d joined w.far w.back w.met (end c d joined w.far w.near.station.phase w.near.begun h.all) w.out) h.reached).owes
 
 -- ---- both ends
 

@@ -13,7 +13,7 @@ use Rattle.x25_link.specs.declared.phase.Reason.TheVariants.{Retries}
 use Rattle.x25_link.specs.Station.{Settings, LinkStation, is_up, with_nothing}
 use Rattle.x25_link.specs.Hearing.{Step, other}
 use Rattle.x25_link.specs.Link.{put_step, put_refusal, timer_step, timer_refusal, timer_runs, connect_step, connect_refusal, disconnect_step, disconnect_refusal, abandon_step}
-use Rattle.x25_link.specs.laws.SetUp.{Is, TakesPart}
+use Rattle.x25_link.specs.laws.SetUp.{Is, TakesPart, waiting_up}
 use Rattle.x25_link.specs.laws.WindowMachine.{Window, hands_down, nothing}
 use Rattle.x25_link.specs.laws.WindowLaw.{window_of, Follows, IsOut, sets_up}
 use Rattle.x25_window.specs.laws.Window.{after}
@@ -22,7 +22,6 @@ use Rattle.x25_line.specs.laws.Stations.{Act, Put, Deliver, T1, Connect, Disconn
 use Rattle.x25_line.specs.laws.Sessions.{Entry, Meeting, Sessions, sabm_in, ua_in, disc_in, how_many, sent_in, after_step, unless, delivered, replaced, acts}
 use Rattle.x25_line.specs.laws.LawsBelow.{SessionLaws}
 use Rattle.x25_line.specs.laws.Peer.{Peer}
-use Rattle.x25_line.proofs.sessions.SessionTakes.{is_answer}
 use Rattle.x25_line.proofs.StationSends.{within_push}
 use Rattle.x25_line.proofs.StationSteps.{no_packet_of, not_afresh}
 use Rattle.x25_line.proofs.StationAway.{connects_from, closed_takes}
@@ -32,11 +31,16 @@ use Rattle.x25_line.proofs.sessions.SessionMay.{hears_read, IsClear, MayAsk, May
 use Rattle.x25_line.proofs.sessions.SessionSeen.{Seen, build_quiet, stays_seen, reached_in, unchanged, changed}
 use Rattle.x25_line.proofs.sessions.SessionSeenActs.{put_none, put_asks, put_closes, sets_up_seen, up_seen, out_seen, answer_seen, waiting_seen}
 
-sabm_or_not : (r : Read) → ((p : Bool) × (r ≡ Ok (sabm p))) ⊎ (sabm_in r ≡ 0)
+-- the UA that is awaited, or none such
+pub is_answer : (r : Read) → (r ≡ Ok (ua true)) ⊎ (waiting_up r ≡ false)
+is_answer (Ok (ua true)) = inl refl
+is_answer r = inr refl
+
+pub sabm_or_not : (r : Read) → ((p : Bool) × (r ≡ Ok (sabm p))) ⊎ (sabm_in r ≡ 0)
 sabm_or_not (Ok (sabm p)) = inl (p, refl)
 sabm_or_not r = inr refl
 
-sets_none_up : (r : Read) → sabm_in r ≡ 0 → sets_up r ≡ false
+pub sets_none_up : (r : Read) → sabm_in r ≡ 0 → sets_up r ≡ false
 sets_none_up (Ok (sabm p)) h = absurd (omega (arith, h))
 sets_none_up r h = refl
 

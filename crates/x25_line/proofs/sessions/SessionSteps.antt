@@ -7,7 +7,6 @@ use Rattle.std.proofs.lemmas.List.Elements.{Contains-append_cases}
 use Rattle.x25_bits.specs.declared.role.Role.{Role}
 use Rattle.x25_frame.specs.Frame.{PlainFrame, frmr}
 use Rattle.x25_frame.specs.Spelling.{spelling_of}
-use Rattle.x25_frame.specs.Reading.{frame_of}
 use Rattle.x25_frame.specs.laws.ReadingLaw.{ReadsSpelled}
 use Rattle.x25_link.specs.declared.phase.Phase.{Phase}
 use Rattle.x25_link.specs.declared.phase.Phase.TheVariants.{Waiting, Closed}
@@ -19,11 +18,11 @@ use Rattle.x25_line.specs.laws.StationClaims.{AreJoined, NoFrmr, AreWhole, numbe
 use Rattle.x25_line.specs.laws.Sessions.{Entry, SessionEnd, Meeting, Sessions, ua_in, how_many, sent_in, extended}
 use Rattle.x25_line.specs.laws.WholeNumbers.{given, taken_out}
 use Rattle.x25_line.specs.laws.SessionNumbers.{Standing, standing_after}
-use Rattle.x25_line.specs.laws.SessionClaims.{octets_of, AllOf}
-use Rattle.x25_line.proofs.StationLines.{IsOrderly, orderly_where, AreOrderly, orderly_append, AreParting, no_frmr_append, parting_no_frmr, parting_numbered, parting_orderly, parting_whole}
+use Rattle.x25_line.specs.laws.SessionClaims.{AllOf}
+use Rattle.x25_line.proofs.StationLines.{AreParting, no_frmr_append, parting_no_frmr, parting_numbered, parting_whole}
 use Rattle.x25_line.proofs.StationSteps.{MayBeAway, away_is_not_up, Leads, put_behind, FitsEnd}
-use Rattle.x25_line.proofs.sessions.SessionLines.{Read, octets_append, octets_sent, count, numbers, quiet_of, of_sent, many_sent}
-use Rattle.x25_line.proofs.sessions.SessionHeld.{View, Live, Gone, IsView, IsHeard, Comes, Owes, HasLists, SameLists, lists_same, Held, counted_view, with_machine, standing_after_is, stays_on, extended_nil, extended_same, extended_other, extended_more, whole_on, whole_apart, heard_more}
+use Rattle.x25_line.proofs.sessions.SessionLines.{Read, octets_sent, count, numbers, quiet_of, of_sent, many_sent}
+use Rattle.x25_line.proofs.sessions.SessionHeld.{View, Live, Gone, IsView, IsHeard, Comes, Owes, HasLists, SameLists, lists_same, Held, counted_view, with_machine, standing_after_is, stays_on, extended_nil, extended_same, extended_more, whole_on, whole_apart, heard_more}
 
 -- ---- the end, and both, after a step, in which its session is n
 
@@ -44,13 +43,9 @@ stepped c w es met down n step = record {
 abbrev pub went_by : Settings → Step → Option ℕ → Standing → Standing
 went_by c step gone stand = standing_after c step.side.near (map (spelling_of c.role) step.side.out) gone stand
 
-pub nothing_handed : (e : SessionEnd) (n : ℕ) (step : Step) → step.packet ≡ None → e.begun ≤ n → SameLists e (end_after e n [] step)
-nothing_handed e n step none le =
-    record {
-      down = λ m. extended_nil e.down n m;
-      up = λ m. ap (λ (o : Option (List ℕ)). extended e.up n (option_to_list o) m) none ∙ extended_nil e.up n m;
-      begun = le;
-    }
+pub nothing_handed : (e : SessionEnd) (n : ℕ) (step : Step) → step.packet ≡ None → SameLists e (end_after e n [] step)
+nothing_handed e n step none =
+    record { down = λ m. extended_nil e.down n m; up = λ m. ap (λ (o : Option (List ℕ)). extended e.up n (option_to_list o) m) none ∙ extended_nil e.up n m }
 
 pub live_lists : (c : Settings) (e : SessionEnd) (p : ℕ) (v : Stations) (os down : List (List ℕ)) (step : Step) → e.begun ≡ p → HasLists e p v.near
     → HasLists (end_after e e.begun down step) p (one.after_step c v os down step).near
@@ -59,17 +54,9 @@ live_lists c e p v os down step is h =
       down = ap (extended e.down e.begun down) (sym is) ∙ extended_same e.down e.begun down ∙ ap (λ (x : List (List ℕ)). x ++ down) (ap e.down is ∙ h.down);
       up = ap (extended e.up e.begun (option_to_list step.packet)) (sym is) ∙ extended_same e.up e.begun (option_to_list step.packet)
           ∙ ap (λ (x : List (List ℕ)). x ++ option_to_list step.packet) (ap e.up is ∙ h.up);
-      later = λ n less. (let old = h.later n less in (
-        extended_other e.down e.begun n down (λ (same : n ≡ e.begun). omega (arith, same, less)) ∙ old.0,
-        extended_other e.up e.begun n (option_to_list step.packet) (λ (same : n ≡ e.begun). omega (arith, same, less)) ∙ old.1,
-      ));
     }
 
 -- ---- what stands behind
-
-orderly_behind : (MayAsk : Type 0) (from : Role) (n1 : ℕ) (xs ys : List (List ℕ)) → AreOrderly MayAsk from n1 (xs ++ ys) → AreOrderly MayAsk from n1 ys
-orderly_behind MayAsk from n1 [] ys h = h
-orderly_behind MayAsk from n1 (o ∷ xs) ys h = orderly_behind MayAsk from n1 xs ys h.1
 
 whole_behind : (n1 : ℕ) (given : List (List ℕ)) (xs ys : List PlainFrame) → AreWhole n1 given (xs ++ ys) → AreWhole n1 given ys
 whole_behind n1 given [] ys h = h
@@ -79,14 +66,6 @@ pub no_frmr_behind : (xs ys : List PlainFrame) → NoFrmr (xs ++ ys) → NoFrmr 
 no_frmr_behind [] ys h = h
 no_frmr_behind (frmr g why ∷ xs) ys h = absurd h
 no_frmr_behind (frame ∷ xs) ys h = no_frmr_behind xs ys h
-
--- SABM or not
-ask_or_not : (from : Role) (n1 : ℕ) (os : List (List ℕ)) → AreOrderly ⊥ from n1 os → AreOrderly (Unit {0}) from n1 os
-ask_or_not from n1 [] h = tt
-ask_or_not from n1 (o ∷ os) h = (ask_one (frame_of from n1 o) h.0, ask_or_not from n1 os h.1)
-  where
-    ask_one : (r : Read) → IsOrderly ⊥ r → IsOrderly (Unit {0}) r
-    ask_one r k = orderly_where ⊥ (Unit {0}) r (λ p is never. tt) k
 
 pub waiting_is_closed : {A : Type 0} (p : Phase) → p ≡ Waiting → p ≡ Closed → A
 waiting_is_closed p e f = absurd (never (sym e ∙ f))
@@ -116,8 +95,8 @@ module _ (c d : Settings) (joined : AreJoined c d) (reads : ReadsSpelled) where
 
   pub live_held : {stand : Standing} (w : Sessions) (h : Held stand c d w) → IsView Live w.near h.alone.near.station stand.near → (es : List Entry) (os : List (List ℕ)) (met : List Meeting) (down : List (List ℕ)) (step : Step) (gone : Option ℕ)
       → Leads ⊥ c d h.alone stand.machine (taken_out gone stand.machine.back) (one.after_step c h.alone os down step) → Comes (other c.role) c.longest es os stand.far
-      → AreOrderly (Unit {0}) (other c.role) c.longest (octets_of es) → Answers w step → Held (went_by c step gone stand) c d (stepped c w es met down w.near.begun step)
-  live_held {stand} w h near es os met down step gone holds comes left answers = subst (λ (z : Standing). Held z c d (stepped c w es met down w.near.begun step)) is_on (go holds.1.near)
+      → Answers w step → Held (went_by c step gone stand) c d (stepped c w es met down w.near.begun step)
+  live_held {stand} w h near es os met down step gone holds comes answers = subst (λ (z : Standing). Held z c d (stepped c w es met down w.near.begun step)) is_on (go holds.1.near)
     where
       fs : List PlainFrame
       fs = step.side.out
@@ -127,11 +106,6 @@ module _ (c d : Settings) (joined : AreJoined c d) (reads : ReadsSpelled) where
 
       now : Stations
       now = one.after_step c h.alone os down step
-
-      orderly : AreOrderly ⊥ (other d.role) d.longest (octets_of more)
-      orderly =
-          subst (AreOrderly ⊥ (other d.role) d.longest) (sym (octets_sent w.near.begun c.role fs))
-          (orderly_behind ⊥ (other d.role) d.longest h.alone.out (map (spelling_of c.role) fs) holds.1.out_orderly)
 
       none_to : w.far.station.phase ≡ Waiting → how_many ua_in (other d.role) d.longest more ≡ 0
       none_to waiting =
@@ -168,9 +142,6 @@ module _ (c d : Settings) (joined : AreJoined c d) (reads : ReadsSpelled) where
             far = h.far;
             back = back;
             out = heard_more (other d.role) d.longest h.far_view w.far.station.phase w.out more h.alone.out (map (spelling_of c.role) fs) stand.near same of none_to h.out;
-            out_orderly = subst (AreOrderly (Unit {0}) (other d.role) d.longest) (sym (octets_append w.out more))
-                (orderly_append (Unit {0}) (other d.role) d.longest (octets_of w.out) (octets_of more) h.out_orderly (ask_or_not (other d.role) d.longest (octets_of more) orderly));
-            back_orderly = left;
             near_lists = live_lists c w.near stand.near h.alone os down step near.2 h.near_lists;
             far_lists = h.far_lists;
             no_frmr = no_frmr_append w.sent fs h.no_frmr (no_frmr_behind h.alone.sent fs holds.1.no_frmr);
@@ -190,12 +161,12 @@ module _ (c d : Settings) (joined : AreJoined c d) (reads : ReadsSpelled) where
 
   -- ---- an end that is out of the session, or goes into it
 
-  pub apart_held : {stand : Standing} (w : Sessions) (h : Held stand c d w) (es : List Entry) (met : List Meeting) (n : ℕ) (step : Step) (v : View) → step.packet ≡ None → w.near.begun ≤ n
+  pub apart_held : {stand : Standing} (w : Sessions) (h : Held stand c d w) (es : List Entry) (met : List Meeting) (n : ℕ) (step : Step) (v : View) → step.packet ≡ None
       → IsView v (end_after w.near n [] step) h.alone.near.station stand.near → IsHeard v (other c.role) c.longest step.side.near.phase es h.alone.back stand.far
       → AreParting (Unit {0}) step.side.out → count ua_in step.side.out ≡ 0
-      → AreOrderly (Unit {0}) (other c.role) c.longest (octets_of es) → Held (went_by c step None stand) c d (stepped c w es met [] n step)
-  apart_held {stand} w h es met n step v none le view heard parting no_ua left =
-      let same = nothing_handed w.near n step none le in
+      → Held (went_by c step None stand) c d (stepped c w es met [] n step)
+  apart_held {stand} w h es met n step v none view heard parting no_ua =
+      let same = nothing_handed w.near n step none in
       subst (λ (z : Standing). Held z c d (stepped c w es met [] n step)) is_on (record {
         alone = h.alone;
         holds = h.holds;
@@ -206,9 +177,6 @@ module _ (c d : Settings) (joined : AreJoined c d) (reads : ReadsSpelled) where
         back = heard;
         out = subst (λ (os : List (List ℕ)). IsHeard h.far_view (other d.role) d.longest w.far.station.phase (w.out ++ more) os stand.near) (append-nil h.alone.out)
             (heard_more (other d.role) d.longest h.far_view w.far.station.phase w.out more h.alone.out [] stand.near quiet (quiet_of (other d.role) d.longest stand.near more quiet) (λ waiting. many ua_in ∙ no_ua) h.out);
-        out_orderly = subst (AreOrderly (Unit {0}) (other d.role) d.longest) (sym (octets_append w.out more))
-            (orderly_append (Unit {0}) (other d.role) d.longest (octets_of w.out) (octets_of more) h.out_orderly orderly);
-        back_orderly = left;
         near_lists = lists_same w.near (end_after w.near n [] step) stand.near h.alone.near same h.near_lists;
         far_lists = h.far_lists;
         no_frmr = no_frmr_append w.sent fs h.no_frmr (parting_no_frmr (Unit {0}) fs parting);
@@ -225,11 +193,6 @@ module _ (c d : Settings) (joined : AreJoined c d) (reads : ReadsSpelled) where
       quiet =
           ap (numbered_on (other d.role) d.longest) (octets_sent n c.role step.side.out)
           ∙ subst (λ (r : Role). numbered_on r d.longest (map (spelling_of c.role) step.side.out) ≡ []) (sym joined.near_role) (parting_numbered reads c.role d.longest (Unit {0}) step.side.out parting)
-
-      orderly : AreOrderly (Unit {0}) (other d.role) d.longest (octets_of more)
-      orderly =
-          subst (AreOrderly (Unit {0}) (other d.role) d.longest) (sym (octets_sent n c.role step.side.out))
-          (subst (λ (r : Role). AreOrderly (Unit {0}) r d.longest (map (spelling_of c.role) step.side.out)) (sym joined.near_role) (parting_orderly reads c.role d.longest (Unit {0}) step.side.out parting))
 
       many : (kind : Read → ℕ) → how_many kind (other d.role) d.longest more ≡ count kind step.side.out
       many kind = many_out kind n [] step.side.out (parting_whole (Unit {0}) d.longest [] step.side.out parting)

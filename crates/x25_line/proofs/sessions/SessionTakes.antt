@@ -1,6 +1,6 @@
 -- What comes to the near end keeps what holds of two stations over sessions.
-use Rattle.std.proofs.Common.{◌≡◌, ◌≤◌, ℕ, zero, suc, ◌+◌, List, [], ◌∷◌, ◌⊎◌, inl, inr, Bool, true, false, if◌then◌else◌, Option, None, Ok, Err, refl, sym, ap, ◌∙◌, subst, arith}
-use Rattle.x25_frame.specs.Frame.{PlainFrame, info, rr, rnr, rej, sabm, disc, ua, dm, frmr}
+use Rattle.std.proofs.Common.{◌≡◌, ◌≤◌, ℕ, zero, suc, ◌+◌, List, [], ◌∷◌, ◌⊎◌, inl, inr, Bool, true, false, if◌then◌else◌, Option, None, Ok, refl, sym, ap, ◌∙◌, subst, arith}
+use Rattle.x25_frame.specs.Frame.{PlainFrame, sabm, disc, ua, dm}
 use Rattle.x25_frame.specs.Reading.{frame_of}
 use Rattle.x25_frame.specs.laws.ReadingLaw.{ReadsSpelled}
 use Rattle.x25_link.specs.declared.phase.Phase.{Phase}
@@ -19,52 +19,27 @@ use Rattle.x25_line.specs.laws.SessionClaims.{octets_of}
 use Rattle.x25_line.specs.laws.SessionNumbers.{Standing, is_sabm, is_set_up, anew, place_to_hear}
 use Rattle.x25_line.specs.laws.Sessions.{Entry, Meeting, Sessions, sabm_in, ua_in, disc_in, how_many, begun_by, after_step, heard}
 use Rattle.x25_line.specs.laws.LawsBelow.{Laws}
-use Rattle.x25_line.proofs.StationLines.{IsOrderly, orderly_where, AreOrderly, consed, AreParting}
+use Rattle.x25_line.proofs.StationLines.{IsOrderly, orderly_where, consed, AreParting}
 use Rattle.x25_line.proofs.StationSteps.{Leads, not_both, read_joint, declining_parting, out_not_up}
 use Rattle.x25_line.proofs.StationAway.{closed_takes, waits_on, waiting_parting}
-use Rattle.x25_line.proofs.StationRuns.{orderly_sets_up}
 use Rattle.x25_line.proofs.sessions.SessionLines.{Read, count, numbers, quiet_of, carried, carried_numbers, carried_orderly}
 use Rattle.x25_line.proofs.sessions.SessionHeld.{View, Live, Soon, Gone, IsView, IsHeard, Comes, AfterUa, Owes, OnLine, Held, near_high, front_answers, front_passes, after_quiet}
 use Rattle.x25_line.proofs.sessions.SessionSteps.{end_after, stepped, went_by, Answers, apart_held}
 use Rattle.x25_line.proofs.sessions.SessionBegins.{begins_held}
-use Rattle.x25_line.proofs.sessions.SessionUp.{follows_answers, ending_answers, live_goes_on}
+use Rattle.x25_line.proofs.sessions.SessionUp.{follows_answers, live_goes_on}
+use Rattle.x25_line.proofs.sessions.SessionSeenActs.{left_by_disc, left_by_reset}
+use Rattle.x25_line.proofs.sessions.SessionSeenSteps.{is_answer, sabm_or_not, sets_none_up}
 use Rattle.x25_line.proofs.sessions.SessionActs.{InSession, quiet_held, in_session, waiting_owes}
 
 -- ---- what comes
 
 abbrev IsNoSabm : Read → Type 0
-IsNoSabm r = (p : Bool) → r ≡ Ok (sabm p) → ⊥
-
--- no other frame is one
-apart : (f : PlainFrame) → sabm_in (Ok f) ≡ 0 → IsNoSabm (Ok f)
-apart f none p is =
-    let one_sabm = ap sabm_in is in
-    absurd (omega (arith, none, one_sabm))
-
-sabm_or_not : (r : Read) → ((p : Bool) × (r ≡ Ok (sabm p))) ⊎ IsNoSabm r
-sabm_or_not (Ok (info ns nr p x)) = inr (apart (info ns nr p x) refl)
-sabm_or_not (Ok (rr command nr pf)) = inr (apart (rr command nr pf) refl)
-sabm_or_not (Ok (rnr command nr pf)) = inr (apart (rnr command nr pf) refl)
-sabm_or_not (Ok (rej command nr pf)) = inr (apart (rej command nr pf) refl)
-sabm_or_not (Ok (sabm p)) = inl (p, refl)
-sabm_or_not (Ok (disc p)) = inr (apart (disc p) refl)
-sabm_or_not (Ok (ua f)) = inr (apart (ua f) refl)
-sabm_or_not (Ok (dm f)) = inr (apart (dm f) refl)
-sabm_or_not (Ok (frmr f why)) = inr (apart (frmr f why) refl)
-sabm_or_not (Err e) = inr (λ p is. absurd (never p is))
-  where
-    never : (p : Bool) → Err e ≡ Ok (sabm p) → ⊥
-    never p k = cc
-
--- the UA that is awaited, or none such
-pub is_answer : (r : Read) → (r ≡ Ok (ua true)) ⊎ (waiting_up r ≡ false)
-is_answer (Ok (ua true)) = inl refl
-is_answer r = inr refl
+IsNoSabm r = sabm_in r ≡ 0
 
 -- ---- what is sent while UA is awaited
 
 waiting_none : (r : Read) → IsNoSabm r → count ua_in (waiting_sends r) ≡ 0
-waiting_none (Ok (sabm p)) no_sabm = absurd (no_sabm p refl)
+waiting_none (Ok (sabm p)) no_sabm = absurd (omega (arith, no_sabm))
 waiting_none (Ok (disc p)) no_sabm = refl
 waiting_none r no_sabm = refl
 
@@ -95,7 +70,7 @@ abbrev pub taken_by : Settings → Settings → Sessions → Entry → List Entr
 taken_by c d w e es stand = stands_by c d w e es stand (is_set_up w.near.station.phase (read_of c e))
 
 none_asks : (r : Read) → IsNoSabm r → is_sabm r ≡ false
-none_asks (Ok (sabm p)) no_sabm = absurd (no_sabm p refl)
+none_asks (Ok (sabm p)) no_sabm = absurd (omega (arith, no_sabm))
 none_asks r no_sabm = refl
 
 no_set_up : (p : Phase) (r : Read) → IsNoSabm r → is_set_up p r ≡ false
@@ -118,12 +93,8 @@ module _ (c d : Settings) (joined : AreJoined c d) (reads : ReadsSpelled) (laws 
     all_back : (kind : Read → ℕ) → how_many kind (other c.role) c.longest w.back ≡ kind (read_of c e) + how_many kind (other c.role) c.longest es
     all_back kind = ap (how_many kind (other c.role) c.longest) is
 
-    -- the line to it is whole, and so is what is left
-    fine : AreOrderly (Unit {0}) (other c.role) c.longest (octets_of (e ∷ es))
-    fine = subst (λ (xs : List Entry). AreOrderly (Unit {0}) (other c.role) c.longest (octets_of xs)) is h.back_orderly
-
     orderly : IsNoSabm (read_of c e) → IsOrderly ⊥ (read_of c e)
-    orderly no_sabm = orderly_where (Unit {0}) ⊥ (read_of c e) (λ p sabm_is asked. no_sabm p sabm_is) fine.0
+    orderly no_sabm = orderly_where (Unit {0}) ⊥ (read_of c e) (λ p sabm_is asked. (let one = ap sabm_in sabm_is in absurd (omega (arith, no_sabm, one)))) (line.fine e es is)
 
     -- ---- a SABM
 
@@ -137,7 +108,7 @@ module _ (c d : Settings) (joined : AreJoined c d) (reads : ReadsSpelled) (laws 
         let quiet = quiet_left p read in
         let up : is_up (step_of c w e).side.near.phase ≡ true = ap (λ (z : LinkStation). is_up z.phase) i.near in
         subst (λ (n : ℕ). Held (anew c d w) c d (stepped c w es (heard_by c w e) [] n (step_of c w e))) (sym (ap (λ (b : Bool). begun_by b w.near.begun) i.up))
-        (begins_held c d joined reads w h line e es (heard_by c w e) is (ap sabm_in read) (suc w.near.begun) p (step_of c w e) Live i.packet i.out (omega arith) (up, sym i.near, refl)
+        (begins_held c d joined reads w h line e es (heard_by c w e) is (ap sabm_in read) (suc w.near.begun) p (step_of c w e) Live i.packet i.out (up, sym i.near, refl)
         (quiet, quiet_of (other c.role) c.longest (suc w.far.begun) es quiet))
 
     -- while UA is awaited: an end that is about to be in a session is about to be in the one that begins
@@ -157,7 +128,7 @@ module _ (c d : Settings) (joined : AreJoined c d) (reads : ReadsSpelled) (laws 
             → IsHeard v (other c.role) c.longest (step_of c w e).side.near.phase es [] (suc w.far.begun)
             → Held (anew c d w) c d (stepped c w es (heard_by c w e) [] w.near.begun (step_of c w e))
         by v view heard_now =
-            begins_held c d joined reads w h line e es (heard_by c w e) is (ap sabm_in read) w.near.begun p (step_of c w e) v i.packet i.out (omega arith) view heard_now
+            begins_held c d joined reads w h line e es (heard_by c w e) is (ap sabm_in read) w.near.begun p (step_of c w e) v i.packet i.out view heard_now
 
         go : (v : View) → IsView v w.near h.alone.near.station stand.near → IsHeard v (other c.role) c.longest w.near.station.phase w.back h.alone.back stand.far
             → Held (anew c d w) c d (stepped c w es (heard_by c w e) [] w.near.begun (step_of c w e))
@@ -174,8 +145,8 @@ module _ (c d : Settings) (joined : AreJoined c d) (reads : ReadsSpelled) (laws 
     stays_held out stays =
         let t = step_of c w e in
         quiet_held c d w es (heard_by c w e) [] t (ap (λ (n : Notes). n.up) stays.quiet)
-        (apart_held c d joined reads w h es (heard_by c w e) w.near.begun t Gone stays.packet (omega arith) (out_not_up t.side.near.phase stays.out, near_high c d w h) (λ waiting. out_is_waiting t.side.near.phase stays.out waiting)
-        (declining_parting (Unit {0}) t.side.out stays.frames) (declining_none t.side.out stays.frames) fine.1)
+        (apart_held c d joined reads w h es (heard_by c w e) w.near.begun t Gone stays.packet (out_not_up t.side.near.phase stays.out, near_high c d w h) (λ waiting. out_is_waiting t.side.near.phase stays.out waiting)
+        (declining_parting (Unit {0}) t.side.out stays.frames) (declining_none t.side.out stays.frames))
 
     -- ---- while UA is awaited
 
@@ -197,9 +168,9 @@ module _ (c d : Settings) (joined : AreJoined c d) (reads : ReadsSpelled) (laws 
         go Live view back = not_both (is_up w.near.station.phase) view.0 (ap is_up waiting)
         go Soon view back =
             subst (λ (n : ℕ). Held (went_by c (step_of c w e) None stand) c d (stepped c w es (heard_by c w e) [] n (step_of c w e))) (sym (ap (λ (b : Bool). begun_by b w.near.begun) i.up))
-            (apart_held c d joined reads w h es (heard_by c w e) (suc w.near.begun) (step_of c w e) Live i.packet (omega arith) (up, view.1 ∙ sym i.near, view.2)
+            (apart_held c d joined reads w h es (heard_by c w e) (suc w.near.begun) (step_of c w e) Live i.packet (up, view.1 ∙ sym i.near, view.2)
             (front_answers (other c.role) c.longest e es h.alone.back stand.far one_ua (subst (λ (xs : List Entry). AfterUa (other c.role) c.longest xs h.alone.back stand.far) is back))
-            (subst (AreParting (Unit {0})) (sym i.out) tt) (ap (count ua_in) i.out) fine.1)
+            (subst (AreParting (Unit {0})) (sym i.out) tt) (ap (count ua_in) i.out))
         go Gone view back = (let none = back waiting in let all = all_back ua_in in absurd (omega (arith, none, all, one_ua)))
 
     -- what else comes
@@ -217,8 +188,8 @@ module _ (c d : Settings) (joined : AreJoined c d) (reads : ReadsSpelled) (laws 
             → IsHeard v (other c.role) c.longest (step_of c w e).side.near.phase es h.alone.back stand.far
             → Held (went_by c (step_of c w e) None stand) c d (stepped c w es (heard_by c w e) [] w.near.begun (step_of c w e))
         by v view back =
-            apart_held c d joined reads w h es (heard_by c w e) w.near.begun (step_of c w e) v i.packet (omega arith) view back
-            (subst (AreParting (Unit {0})) (sym i.out) (waiting_parting (Unit {0}) (read_of c e))) (ap (count ua_in) i.out ∙ waiting_none (read_of c e) no_sabm) fine.1
+            apart_held c d joined reads w h es (heard_by c w e) w.near.begun (step_of c w e) v i.packet view back
+            (subst (AreParting (Unit {0})) (sym i.out) (waiting_parting (Unit {0}) (read_of c e))) (ap (count ua_in) i.out ∙ waiting_none (read_of c e) no_sabm)
 
         owed : (how_many sabm_in (other d.role) d.longest w.out + how_many ua_in (other c.role) c.longest w.back ≤ 1) × (how_many disc_in (other d.role) d.longest w.out ≡ 0)
         owed = waiting_owes w.near.station.phase _ _ waiting line.near_owes
@@ -239,7 +210,7 @@ module _ (c d : Settings) (joined : AreJoined c d) (reads : ReadsSpelled) (laws 
 
     up_held : IsNoSabm (read_of c e) → is_up w.near.station.phase ≡ true
         → Held (went_by c (step_of c w e) (first_of (number_in (read_of c e))) stand) c d (taken c w e es)
-    up_held no_sabm up = live_goes_on c d joined reads w h i.view es (carried (other c.role) c.longest es) (heard_by c w e) [] (step_of c w e) gone leads left fine.1 answers
+    up_held no_sabm up = live_goes_on c d joined reads w h i.view es (carried (other c.role) c.longest es) (heard_by c w e) [] (step_of c w e) gone leads left answers
       where
         i : InSession stand c d w h
         i = in_session c d w h up
@@ -264,13 +235,13 @@ module _ (c d : Settings) (joined : AreJoined c d) (reads : ReadsSpelled) (laws 
             (laws.window.take c e.octets h.alone.near.station (record { up = i.machine.up; sound = i.machine.sound }) (read_of c e) refl))
 
         -- who sent a DISC is Closed
-        closed : (p : Bool) → read_of c e ≡ Ok (disc p) → w.far.station.phase ≡ Closed
-        closed p read = (let one_disc = ap disc_in read in closed_by w.far.station.phase _ _ (let all = all_back disc_in in omega (arith, all, one_disc)) line.far_owes)
+        closed : disc_in (read_of c e) ≡ 1 → w.far.station.phase ≡ Closed
+        closed one = closed_by w.far.station.phase _ _ (let all = all_back disc_in in omega (arith, all, one)) line.far_owes
 
         answers : Answers w (step_of c w e)
         answers =
-            follows_answers w (ending_of (read_of c e) (window_of c.window w.near.station)) c.window (brought_by (read_of c e)) w.near.station (step_of c w e)
-            (λ reason ending. ending_answers (read_of c e) (window_of c.window w.near.station) w.far.station.phase no_sabm closed reason ending)
+            let v = window_of c.window w.near.station in
+            follows_answers w (ending_of (read_of c e) v) c.window (brought_by (read_of c e)) w.near.station (step_of c w e) (λ one. closed (sym (left_by_disc (read_of c e) v) ∙ one)) (left_by_reset (read_of c e) v ∙ no_sabm)
             (laws.window.take c e.octets w.near.station i.running (read_of c e) refl)
 
         left : Comes (other c.role) c.longest es (carried (other c.role) c.longest es) stand.far
@@ -309,7 +280,7 @@ module _ (c d : Settings) (joined : AreJoined c d) (reads : ReadsSpelled) (laws 
         by Down phase (inl read) = anew_by Down phase read.0 read.1 refl (sabm_held read.0 read.1 (subst TakesPart (sym phase) tt))
         by Down phase (inr no_sabm) =
             on_by Down phase None refl (no_set_up Down (read_of c e) no_sabm)
-            (stays_held (subst IsOut (sym phase) tt) (laws.window.take_out c e.octets w.near.station (subst IsOut (sym phase) tt) (orderly_sets_up (read_of c e) (orderly no_sabm))))
+            (stays_held (subst IsOut (sym phase) tt) (laws.window.take_out c e.octets w.near.station (subst IsOut (sym phase) tt) (sets_none_up (read_of c e) no_sabm)))
         by Waiting phase (inl read) = anew_by Waiting phase read.0 read.1 refl (sabm_waiting read.0 read.1 phase)
         by Waiting phase (inr no_sabm) =
             on_by Waiting phase None refl (no_set_up Waiting (read_of c e) no_sabm) (waiting phase no_sabm (is_answer (read_of c e)))

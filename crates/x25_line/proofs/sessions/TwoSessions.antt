@@ -1,7 +1,7 @@
 -- Two stations over sessions, of which each has the other as its peer: what is claimed of who meets whom, and of order.
-use Rattle.std.proofs.Common.{◌≡◌, ◌≤◌, ◌+◌, ℕ, List, [], ◌∷◌, ◌⊎◌, inl, inr, true, None, Ok, Err, refl, sym, ap, ◌∙◌, subst, arith}
+use Rattle.std.proofs.Common.{◌≡◌, ◌≤◌, ◌+◌, ℕ, List, [], ◌∷◌, ◌⊎◌, inl, inr, true, None, Ok, Err, refl, sym, ap, ◌∙◌, subst, arith, suc}
 use Rattle.x25_bits.specs.declared.role.Role.{Role}
-use Rattle.x25_frame.specs.Frame.{PlainFrame, info, rr, rnr, rej, sabm}
+use Rattle.x25_frame.specs.Frame.{PlainFrame, info, rr, rnr, rej, sabm, frmr}
 use Rattle.x25_frame.specs.Reading.{frame_of}
 use Rattle.x25_frame.specs.laws.ReadingLaw.{ReadsSpelled}
 use Rattle.x25_link.specs.Station.{Settings, is_up}
@@ -10,19 +10,22 @@ use Rattle.x25_link.specs.Link.{is_idle}
 use Rattle.x25_link.specs.laws.WindowLaw.{IsRunning}
 use Rattle.x25_line.specs.laws.InWindow.{IsPrefix}
 use Rattle.x25_line.specs.laws.StationClaims.{AreJoined, number_in}
-use Rattle.x25_line.specs.laws.Said.{said}
+use Rattle.x25_line.specs.laws.Said.{said, Odd}
 use Rattle.x25_line.specs.laws.Sessions.{Entry, Meeting, Sessions, swapped, sabm_in, ua_in, disc_in, how_many, run}
 use Rattle.x25_line.specs.laws.SessionClaims.{Throughout, AllOf, AllMet, SomeMet, IsInOrder, MeetInStep, MetAreInOrder, UnmetHandNothingUp, OnlyBegunHaveLists, EachHearsLatest, EachMeetsLatest, IdleHasArrived}
 use Rattle.x25_line.specs.laws.LawsBelow.{SessionLaws}
 use Rattle.x25_line.specs.laws.PeerSessions.{PeerEnd, as_end, with_peer, AllAskedIn, IsReached}
 use Rattle.x25_line.specs.laws.Ends.{letter, OfSabm, OfTells}
+use Rattle.x25_line.specs.laws.PeerSessionClaims.{frmr_in}
+use Rattle.x25_frame.specs.declared.error.FrameError.TheVariants.{Undefined, NoInfoAllowed, TooLong}
+use Rattle.x25_line.proofs.sessions.SessionWith.{NoneOdd}
 use Rattle.x25_line.proofs.StationAway.{is_up_phase}
-use Rattle.x25_line.proofs.StationLines.{consed}
+use Rattle.x25_line.proofs.StationLines.{consed, IsOrderly}
 use Rattle.x25_line.proofs.sessions.SessionLines.{Read, numbers}
 use Rattle.x25_line.proofs.sessions.SessionHeld.{Owes, OnLine}
 use Rattle.x25_line.proofs.sessions.SessionMay.{stand_of}
 use Rattle.x25_line.proofs.sessions.Letters.{letters}
-use Rattle.x25_line.proofs.sessions.PeerSessionRuns.{two, all_of, owes, up_in, step_is, order_is, unmet_is, idle_is, latest_is}
+use Rattle.x25_line.proofs.sessions.PeerSessionRuns.{two, all_of, lines, up_in, step_is, order_is, unmet_is, idle_is, latest_is}
 use Rattle.x25_line.proofs.sessions.SessionSeenRuns.{end, tags_there, Both, both_swapped, throughout_both}
 use Rattle.x25_line.proofs.ends.Meetings.{twice_turned, far_turned}
 use Rattle.x25_line.proofs.ends.Lines.{AllTold, Never, Of, AllTags, IsAsked, AllAsked}
@@ -69,6 +72,13 @@ quiet_behind N O from n1 b q all e es is asked tags one =
         never : (g : PlainFrame) → sabm_in (Ok g) ≡ 1 → ⊥
         never g k = cc
     go (Err x) a t one = absurd (omega (arith, one))
+
+orderly : (r : Read) → (said r ≡ Odd → ⊥) → frmr_in r ≡ 0 → IsOrderly (Unit {0}) r
+orderly (Ok (frmr f why)) odd none = absurd (omega (arith, none))
+orderly (Err (Undefined control)) odd none = absurd (odd refl)
+orderly (Err (NoInfoAllowed control)) odd none = absurd (odd refl)
+orderly (Err TooLong) odd none = absurd (odd refl)
+orderly r odd none = tt
 
 module _ (reads : ReadsSpelled) (rests : SessionLaws) where
   module _ (c d : Settings) (near_joined : AreJoined d c) (far_joined : AreJoined c d) (w : Sessions) (h : Both c d near_joined far_joined w) where
@@ -121,12 +131,19 @@ module _ (reads : ReadsSpelled) (rests : SessionLaws) where
         let p = w.near.station.phase in
         subst (λ (n1 : ℕ). Owes p (how_many sabm_in (other d.role) n1 w.out + how_many ua_in (other c.role) c.longest w.back) (how_many disc_in (other d.role) n1 w.out)) far_joined.longest
         (subst (λ (r : Role). Owes p (how_many sabm_in r c.longest w.out + how_many ua_in (other c.role) c.longest w.back) (how_many disc_in r c.longest w.out)) (sym far_joined.near_role)
-        (owes reads rests ⊥ c far_joined.near_high (with_peer peer w) reached))
+        (lines reads rests ⊥ c far_joined.near_high (with_peer peer w) reached).owes)
 
     quiet : (e : Entry) (es : List Entry) → w.back ≡ e ∷ es → sabm_in (frame_of (other c.role) c.longest e.octets) ≡ 1 → numbers (other c.role) c.longest es ≡ []
     quiet e es is one =
         let all = all_of reads rests ⊥ c far_joined.near_high (with_peer peer w) reached in
         quiet_behind _ _ (other c.role) c.longest w.far.begun all.held.q w.back e es is all.held.near.asked (tags_there c d far_joined reads rests w.far.begun w.back h.far.tags) one
+
+    -- no FRMR is on the line from it, and nothing on that to it is answered by FRMR
+    no_frmr : how_many frmr_in c.role c.longest w.out ≡ 0
+    no_frmr = (lines reads rests ⊥ c far_joined.near_high (with_peer peer w) reached).frmr (λ never. never)
+
+    none_odd : NoneOdd (other c.role) c.longest w.back
+    none_odd = (lines reads rests ⊥ c far_joined.near_high (with_peer peer w) reached).lapb (λ never. never)
 
     pub in_step : MeetInStep c d w
     in_step = step_is reads rests ⊥ c far_joined.near_high (with_peer peer w) reached
@@ -145,10 +162,21 @@ module _ (reads : ReadsSpelled) (rests : SessionLaws) where
           (elim which [ inl up ↦ inl up | inr some ↦ inr (far_turned w.far.begun w.met some) ]);
     }
 
+  fine : (c d : Settings) (near_joined : AreJoined d c) (far_joined : AreJoined c d) (w : Sessions) → Both c d near_joined far_joined w → (e : Entry) (es : List Entry) → w.back ≡ e ∷ es
+      → IsOrderly (Unit {0}) (frame_of (other c.role) c.longest e.octets)
+  fine c d near_joined far_joined w h e es is =
+      let far : how_many frmr_in d.role d.longest w.back ≡ 0 = no_frmr d c far_joined near_joined (swapped w) (both_swapped c d near_joined far_joined w h) in
+      let none : how_many frmr_in (other c.role) c.longest w.back ≡ 0 = subst (λ (n1 : ℕ). how_many frmr_in (other c.role) n1 w.back ≡ 0) (sym far_joined.longest)
+      (subst (λ (r : Role). how_many frmr_in r d.longest w.back ≡ 0) (sym far_joined.far_role) far)
+      in
+      let front = ap (how_many frmr_in (other c.role) c.longest) is in
+      let odd = subst (NoneOdd (other c.role) c.longest) is (none_odd c d near_joined far_joined w h) in
+      orderly (frame_of (other c.role) c.longest e.octets) odd.0 (omega (arith, none, front))
+
   -- what the rules of both say of the line
   pub on_line : (c d : Settings) (near_joined : AreJoined d c) (far_joined : AreJoined c d) (w : Sessions) → Both c d near_joined far_joined w → OnLine c d w
   on_line c d near_joined far_joined w h =
-      record { near_owes = near_owes c d near_joined far_joined w h; far_owes = near_owes d c far_joined near_joined (swapped w) (both_swapped c d near_joined far_joined w h); quiet = quiet c d near_joined far_joined w h }
+      record { near_owes = near_owes c d near_joined far_joined w h; far_owes = near_owes d c far_joined near_joined (swapped w) (both_swapped c d near_joined far_joined w h); quiet = quiet c d near_joined far_joined w h; fine = fine c d near_joined far_joined w h; near_next = h.near.later (suc w.near.begun) (omega arith); far_next = h.far.later (suc w.far.begun) (omega arith) }
 
   -- ---- the claims
 

@@ -47,13 +47,13 @@ rank c s h = rank_of s.link.phase s.layer.restarting (awaited_at (layer_settings
 -- Where a call or a reset isn't answered `clear` is accepted, but for 256 packets that wait in the link.
 abbrev pub ClearLeadsOn : Type 0
 ClearLeadsOn = (c : Settings) (s : Station) (h : ℕ) → rank c s h ≡ 4 → waits s.link.outgoing < 256
-    → (step : Step) × (commands c s (Requests (Asks h Clears)) ≡ Did step) × (rank c step.near h ≡ 3)
+    → (step : Step) × (commands c s (Requests (Asks h (Clears 0 0))) ≡ Did step) × (rank c step.near h ≡ 3)
 
 -- In r1 of a link that is up `restart` is accepted, but for 256 packets, whatever is awaited.
 abbrev pub RestartLeadsOn : Type 0
 RestartLeadsOn = (c : Settings) (s : Station) → is_up s.link.phase ≡ true → s.layer.restarting ≡ false
     → waits s.link.outgoing < 256
-    → (step : Step) × (commands c s (Requests Restarts) ≡ Did step) × ((h : ℕ) → rank c step.near h ≡ 2)
+    → (step : Step) × (commands c s (Requests (Restarts 0 0)) ≡ Did step) × ((h : ℕ) → rank c step.near h ≡ 2)
 
 -- Of a station that is up relink is accepted, whatever is awaited and whatever waits: LinkDown is told, all channels
 -- are in p1, no restart is under way, and UA is awaited, with all tries left.
