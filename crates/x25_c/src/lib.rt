@@ -241,7 +241,8 @@ pub extern "C" fn x25_accept(alloc: Global, slot: &mut Slot, channel: u16, sizes
 /// 16 where the slot holds no station, else as `Station::command` of `Cmd::Clear`. The station is as before then.
 #[unsafe(no_mangle)]
 pub extern "C" fn x25_clear(alloc: Global, slot: &mut Slot, channel: u16) -> u32
-    ensures { Answers slot.old.handle.held slot.new.handle.held result (Asks (Requests (OnChannel channel (Clears 0 0)))) }
+    ensures { Answers slot.old.handle.held slot.new.handle.held result
+        (Asks (Requests (OnChannel channel (Clears 0 0)))) }
 {
     ask(
         alloc,
@@ -259,7 +260,8 @@ pub extern "C" fn x25_clear(alloc: Global, slot: &mut Slot, channel: u16) -> u32
 /// 16 where the slot holds no station, else as `Station::command` of `Cmd::Reset`. The station is as before then.
 #[unsafe(no_mangle)]
 pub extern "C" fn x25_reset(alloc: Global, slot: &mut Slot, channel: u16) -> u32
-    ensures { Answers slot.old.handle.held slot.new.handle.held result (Asks (Requests (OnChannel channel (Resets 0 0)))) }
+    ensures { Answers slot.old.handle.held slot.new.handle.held result
+        (Asks (Requests (OnChannel channel (Resets 0 0)))) }
 {
     ask(
         alloc,

@@ -3,3 +3,4 @@ pub mod ClockLemmas
 pub mod DeadlineLemmas
 pub mod WaitLemmas
 pub mod SilenceLemmas
+pub mod RowLemmas

@@ -2,6 +2,7 @@
 ghost use Rattle.x25_clock.specs.laws.ClockLaw.{DeadlinesAreTrue};
 ghost use Rattle.x25_clock.specs.laws.SilenceLaw.{IdleIsAsked, SilenceEnds};
 ghost use Rattle.x25_clock.specs.laws.WaitLaw.{NothingWaits};
+ghost use Rattle.x25_clock.specs.rows.SilentRows.{SilentPeerIsLeft};
 
 use x25_station::{silence_is_asked, stations_ask_or_rest, ways_out_lead_on};
 
@@ -33,3 +34,9 @@ pub fn silence_is_told()
     silence_is_asked();
     stations_ask_or_rest();
 }
+
+/// A worked row: beside a peer whose packet layer is silent a DTE calls, clears, restarts, and sets the link up anew,
+/// each when it is due, and the last at the very moment up to which `nothing_waits_for_ever` lets it wait.
+pub fn silent_peer_is_left()
+    ensures { SilentPeerIsLeft }
+{}
