@@ -1,6 +1,7 @@
 //! What a verdict on a channel means: no end that keeps the rules is told of, and where nothing is told they are kept.
 //! Each law is the contract of a function that does nothing.
-ghost use Rattle.x25_packet_judge.specs.laws.VerdictClaims.{BooksTellOfChannels, CallsBegin, NoEndingIsTold};
+ghost use Rattle.x25_packet_judge.specs.laws.VerdictClaims.{BooksTellOfChannels, BooksJudgeKnownChannels, CallsBegin};
+ghost use Rattle.x25_packet_judge.specs.laws.VerdictClaims.{NoEndingIsTold};
 ghost use Rattle.x25_packet_judge.specs.laws.VerdictClaims.{NoEndOfTapeIsTold, NoInnocentPacketIsTold};
 ghost use Rattle.x25_packet_judge.specs.laws.VerdictClaims.{NoInnocentTapeIsTold, NoNextCallIsTold};
 ghost use Rattle.x25_packet_judge.specs.laws.VerdictClaims.{NoRestartOfTapeIsTold, ResetsBegin, RestartsBegin};
@@ -8,10 +9,10 @@ ghost use Rattle.x25_packet_judge.specs.laws.VerdictClaims.{SilentPacketsKeepThe
 
 /// Of an end that keeps the rules of docs/PEER.md neither a rule nor manners are told, of its CALL or its acceptance of
 /// the one that came, in one stretch of the call and in the next ones, behind RESETs of either end, and in the calls
-/// behind CLEARs of either end that go on a known channel, whatever the other end sends on the channel, whether it
-/// keeps any rule or not, and whenever that comes: calls, data, RR, RNR and interrupts that break rules, and RESTART,
-/// RESET, CLEAR and what belongs to no stretch. Nor are they told where it leaves a channel that isn't known by CLEAR,
-/// or by the confirmation of the one that came.
+/// behind CLEARs of either end that go on a known channel, whatever packets that read the other end sends on the
+/// channel, whether it keeps any rule or not, and whenever they come: calls, data, RR, RNR and interrupts that break
+/// rules, and RESTART, RESET, CLEAR and what belongs to no stretch. Nor are they told where it leaves a channel that
+/// isn't known by CLEAR, or by the confirmation of the one that came.
 pub fn innocent_packets_stay_untold()
     ensures sends { NoInnocentPacketIsTold }
     ensures ends { NoEndingIsTold }
@@ -23,13 +24,13 @@ pub fn silent_packets_keep_the_rules()
     ensures { SilentPacketsKeepTheRules }
 {}
 
-/// CALL and CALL ACCEPTED, where the channel is known and has no call, begin such a stretch, with the windows and
-/// packet sizes of their facilities.
+/// CALL and CALL ACCEPTED by the next packet of the channel, where it is known and has no call, begin such a stretch,
+/// with the windows and packet sizes of their facilities.
 pub fn calls_begin()
     ensures { CallsBegin }
 {}
 
-/// RESET and its confirmation, where a call is up, begin another.
+/// RESET and its confirmation by the next packet of the channel, where a call is up, begin another.
 pub fn resets_begin()
     ensures { ResetsBegin }
 {}
@@ -40,22 +41,25 @@ pub fn next_calls_stay_untold()
     ensures { NoNextCallIsTold }
 {}
 
-/// Where RESET is confirmed, whichever end sent it, the end stands at the beginning of the next stretch.
+/// Where RESET is confirmed by the next packet of the channel, whichever end sent it, the end stands at the beginning
+/// of the next stretch.
 pub fn stretches_follow()
     ensures { StretchesFollow }
 {}
 
 /// What the book tells of a packet on a channel is what both ends of the channel tell, of which the laws above speak,
-/// where its end has restarted, no RESTART of it waits for a confirmation, and restarts are known.
+/// where its end has restarted, no RESTART of it waits for a confirmation, and restarts are known. It counts as judged
+/// exactly where, behind it, both ends of the channel are known, or a rule or manners are told.
 pub fn books_tell_of_channels()
-    ensures { BooksTellOfChannels }
+    ensures rules { BooksTellOfChannels }
+    ensures judged { BooksJudgeKnownChannels }
 {}
 
 /// On a channel, of an end that keeps the rules neither a rule nor manners are told in the run of a book, over calls,
-/// clears, resets and restarts of either end, whatever the other end sends on that channel and on all others, RESTART
-/// and its confirmation too, and whatever the end itself sends on others. Nor are they told of its RESTART, at any
-/// moment, or of its confirmation of the one that came; it is followed behind these where restarts are counted. Such
-/// runs there are, also from the first RESTART and its confirmation behind the set-up of the link on.
+/// clears, resets and restarts of either end, whatever packets that read the other end sends on that channel and on all
+/// others, RESTART and its confirmation too, and whatever the end itself sends on others. Nor are they told of its
+/// RESTART, at any moment, or of its confirmation of the one that came; it is followed behind these where restarts are
+/// counted. Such runs there are, also from the first RESTART and its confirmation behind the set-up of the link on.
 pub fn innocent_tapes_stay_untold()
     ensures sends { NoInnocentTapeIsTold }
     ensures ends { NoEndOfTapeIsTold }

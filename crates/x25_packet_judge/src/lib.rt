@@ -1,6 +1,6 @@
 //! The rules of the packet layer, judged of a trace: which of them a frame breaks by the packet that it carries.
 //!
-//! docs/FORMATS.md has the rules and what is said of them. Profile.
+//! docs/JUDGE.md has the rules and what is said of them. Profile.
 #![tactic(auto)]
 
 mod book;

@@ -35,7 +35,7 @@ impl Model for Ports {
 
     ghost view = { λ p. map (shown p.fills p.usual) p.slots.items };
 
-    ghost invariant = { λ p. (length p.slots.items ≡ 4096) × (4096 ≤ vec_capacity p.slots)
+    ghost invariant = { λ p. (length p.slots.items ≡ 4096) × (vec_capacity p.slots ≡ 4096)
         × All (IsOld p.fills) p.slots.items };
 }
 

@@ -1,5 +1,5 @@
 -- What the laws say of the judge of packets.
-use Rattle.std.specs.Prelude.{◌≡◌, ℕ, true, false, List, [], None}
+use Rattle.std.specs.Prelude.{◌≡◌, ℕ, true, false, ◌||◌, List, [], None, is_some}
 use Rattle.x25_bits.specs.declared.role.Role.{Role}
 use Rattle.x25_packet.specs.Packet.{PlainPacket, call, accept, reset, reset_conf, restart, restart_conf}
 use Rattle.x25_packet_judge.specs.Book.{other, layers_of, pair_of, takes}
@@ -7,7 +7,7 @@ use Rattle.x25_packet_judge.specs.Layer.{is_begun}
 use Rattle.x25_packet_judge.specs.Layers.{runs_early, are_sure, are_level}
 use Rattle.x25_packet_judge.specs.Message.{octets_of}
 use Rattle.x25_packet_judge.specs.Packets.{sends, follows}
-use Rattle.x25_packet_judge.specs.Pair.{may_talk_in}
+use Rattle.x25_packet_judge.specs.Pair.{is_known, may_talk_in}
 use Rattle.x25_packet_judge.specs.Port as port
 use Rattle.x25_packet_judge.specs.Terms.{said, usual}
 use Rattle.x25_packet_judge.specs.declared.book.Book.{Book}
@@ -100,6 +100,16 @@ BooksTellOfChannels =
     → are_sure (layers_of from b) ≡ true
     → (takes from channel packet b).verdict.rule
     ≡ (follows packet (pair_of from (are_level (layers_of from b)) channel b)).rule
+
+-- and it counts as judged exactly where, behind it, both ends of the channel are known, or a rule or manners are told
+abbrev pub BooksJudgeKnownChannels : Type 0
+BooksJudgeKnownChannels =
+    (from : Role) (channel : ℕ) (packet : PlainPacket) (b : Book) → IsOfChannel packet
+    → is_begun (layers_of from b).own.restart ≡ false → runs_early (layers_of from b) ≡ false
+    → are_sure (layers_of from b) ≡ true
+    → (takes from channel packet b).verdict.is_judged
+    ≡ (is_known (follows packet (pair_of from (are_level (layers_of from b)) channel b))
+    || is_some (follows packet (pair_of from (are_level (layers_of from b)) channel b)).rule)
 
 -- of an end, whatever the other end sends on any channel, in as many stretches of its call as there are
 abbrev pub NoInnocentTapeIsTold : Type 0
