@@ -11,9 +11,9 @@
  * answered, and timer T1 goes on, or is off. (After X25_NO_COMMAND, and X25_IN_USE of x25_new, the last answer stands.) Each
  * may answer X25_NO_STATION and X25_NO_MEMORY; what else one answers stands beside it.
  *
- * An answer has at most 24 frames of at most 4,103 octets, and 3 events, of which one has at most 65,535 octets. Its memory is
- * set aside before anything happens: reading it takes none, but for x25_entry. A station takes some 80 kB, and some 10 MB with
- * all that may wait on 16 channels.
+ * An answer has at most 24 frames of at most 4,103 octets, and 3 events, of which one has at most 65,535 octets; that of
+ * x25_receive_all has as many for each frame that was taken. Its memory is set aside before anything happens: reading it takes
+ * none, but for x25_entry. A station takes some 80 kB, and some 10 MB with all that may wait on 16 channels.
  *
  * What the library can't see, and the program has to keep:
  * - An x25_station that holds a station isn't copied, only the library reads and writes its fields, and it is in one call at
@@ -208,6 +208,11 @@ uint32_t x25_pull(x25_station *station);
 uint32_t x25_t1(x25_station *station);
 /* The octets of a frame came, as they stand between the flags, frame check sequence included. */
 uint32_t x25_receive(x25_station *station, const uint8_t *octets, size_t octets_count);
+/* Several frames came, one behind another: each is received as by x25_receive, up to one that is refused. octets are those of all,
+   and counts says how many each has. How many were taken is written to taken; what is answered to all of these is one answer, and
+   the station is as they left it. A refusal is that of the next frame: 34 where its octets aren't there. */
+uint32_t x25_receive_all(x25_station *station, const uint8_t *octets, size_t octets_count, const size_t *counts, size_t counts_count,
+                         size_t *taken);
 /* Sends a message of at most 65,535 octets on a channel, with or without the qualifier. 9, 40, 42, 30, 32, 31. */
 uint32_t x25_send(x25_station *station, uint16_t channel, bool q, const uint8_t *user, size_t user_count);
 /* Does what a text asks, as a line of a script without the name of its end and the line feed: "call 123 4567 41",
@@ -221,6 +226,9 @@ uint32_t x25_command(x25_station *station, const char *text, size_t text_count);
        for (size_t i = 0; x25_take(&station, i, &event, room, sizeof room); i++)
            switch (event.kind) .. */
 bool x25_take(const x25_station *station, size_t i, x25_event *event, uint8_t *room, size_t size);
+/* Takes items from first on, as x25_take does, as many as there are or as fit: each is written to the next of events, of which
+   there is room for most, and its octets to room, behind those of the items before. How many were taken is answered. */
+size_t x25_take_all(const x25_station *station, size_t first, x25_event *events, size_t most, uint8_t *room, size_t size);
 /* What else item i has: the address that is called and the one that calls, 0 to 15 digits as "0" to "9", and the facilities that
    came beside, at most 109 octets. Each is copied to the front of text or room where it fits; its length is answered in any case,
    0 where there is none. */
@@ -243,6 +251,8 @@ uint32_t x25_timer(const x25_station *station);
 bool x25_waits(const x25_station *station);
 /* Whether the link is up, and all that was asked was sent and acknowledged. */
 bool x25_idle(const x25_station *station);
+/* How many messages more x25_send takes on a channel: 8 less those that wait, and 0 where it is refused. */
+size_t x25_room(const x25_station *station, uint16_t channel);
 /* Whether a stretch is open on a channel: a call is up there, and no reset is under way. Then its name is written, which else is
    as it was. */
 bool x25_stretch(const x25_station *station, uint16_t channel, x25_stretch_name *name);

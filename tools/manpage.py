@@ -23,16 +23,16 @@ import sys
 from x25tools import x25lines
 
 MANUAL = os.path.join(os.path.dirname(os.path.dirname(os.path.abspath(__file__))), "docs", "MANUAL.md")
-HEAD = [
-    ".TH X25 1",
-    ".SH NAME",
-    "x25 \\- X.25 packet layer over LAPB, on lines of text",
-    ".SH SYNOPSIS",
-    ".B x25 decode\n[\\-\\-long] [\\-\\-wide]\n.br\n.B x25 vectors\n.br\n.B x25 sim\n[\\-\\-tap] [\\-\\-down] [\\-\\-long] [\\-\\-say\\-sizes] [\\-\\-wide] [\\-\\-k N] [\\-\\-n2 N] [\\-\\-channels N]"
-    "\n.br\n.B x25 station\ndte|dce [\\-\\-long] [\\-\\-say\\-sizes] [\\-\\-wide] [\\-\\-k N] [\\-\\-n2 N] [\\-\\-channels N]\n.br\n.B x25 judge\n[\\-\\-long] [\\-\\-wide] [\\-\\-manners] [\\-\\-strict] [\\-\\-k N]"
-    "\n.br\n.B x25 deframe\ndte|dce\n.br\n.B x25 frame",
-    ".SH DESCRIPTION",
-]
+# What stands behind the program and each of its subcommands.
+SYNOPSIS = {
+    "decode": "[--long] [--loose] [--wide] [FILE]",
+    "vectors": "",
+    "sim": "[--tap] [--down] [--events] [--loose] [--long] [--say-sizes] [--wide] [--k N] [--n2 N] [--channels N] [FILE]",
+    "station": "dte|dce [--long] [--say-sizes] [--wide] [--k N] [--n2 N] [--channels N] [FILE]",
+    "judge": "[--long] [--loose] [--wide] [--manners] [--strict] [--k N] [FILE]",
+    "deframe": "dte|dce [FILE]",
+    "frame": "[--loose] [FILE]",
+}
 SEE_ALSO = [".SH SEE ALSO", "\\fBdocs/FORMATS.md\\fR, \\fBdocs/PROOFS.md\\fR, \\fBtshark\\fR(1), \\fBtcpdump\\fR(1)"]
 RULE = re.compile(r"\|[-| :]+\|")
 # The scripts that have names of their own where they are installed.
@@ -42,6 +42,14 @@ SCRIPT = re.compile(rf"(?:(?:python3 )?tools/|\b)({'|'.join(NAMES)})\.py\b")
 PROGRAM = re.compile(r"\bbuild/x25(?:-unproved)?(?![\w.])")
 # Paragraphs that tell of the repository alone, and lists that are made of the manual.
 OF_THE_REPOSITORY = re.compile("`make |`source share/|<!--")
+
+
+def head():
+    """The lines up to the description."""
+    lines = [".TH X25 1", ".SH NAME", "x25 \\- X.25 packet layer over LAPB, on lines of text", ".SH SYNOPSIS"]
+    for place, (name, words) in enumerate(SYNOPSIS.items()):
+        lines += [*([".br"] if place else []), f".B x25 {name}", *([escaped(words)] if words else [])]
+    return [*lines, ".SH DESCRIPTION"]
 
 
 def escaped(text):
@@ -64,7 +72,7 @@ def table_row(line):
 
 def roff(lines):
     """Yields the lines of the manual page."""
-    yield from HEAD
+    yield from head()
     is_example = False
     for line in lines:
         if is_example != line.startswith("    ") and (line.strip() or not is_example):

@@ -92,7 +92,7 @@ static void go_on(uint16_t channel, struct circuit *c)
     size_t gone = count >= 0 ? (size_t)count : errno == EAGAIN ? 0 : c->out_count;
     memmove(c->out, c->out + gone, c->out_count -= gone);
     if (c->state == UP) {
-        if (c->in_count == 0 && !c->has_ended) {
+        if (c->in_count == 0 && !c->has_ended && x25_room(&station, channel) > 0) {
             count = recv(c->file, c->in, PIECE, MSG_DONTWAIT);
             c->in_count = count > 0 ? (size_t)count : 0;
             c->has_ended = count == 0 || (count < 0 && errno != EAGAIN);
@@ -134,7 +134,7 @@ int main(int argc, char **argv)
         for (uint16_t h = 1; h <= CHANNELS; h++) {
             struct circuit *c = &circuits[h];
             go_on(h, c);
-            bool reads = c->state == UP && c->in_count == 0 && !c->has_ended, writes = c->out_count > 0;
+            bool reads = c->state == UP && c->in_count == 0 && !c->has_ended && x25_room(&station, h) > 0, writes = c->out_count > 0;
             files[h + 1] = (struct pollfd){reads || writes ? c->file : -1, (short)(reads * POLLIN | writes * POLLOUT), 0};
         }
         poll(files, CHANNELS + 2, deadline == 0 ? -1 : deadline < now() ? 0 : (int)(deadline - now()));

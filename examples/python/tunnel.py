@@ -25,8 +25,8 @@ class Circuit:
         self.read, self.came = b"", b""
         self.has_ended = self.told_end = self.end_came = self.told_came = self.all_came = self.is_slow = False
 
-    def reads(self):
-        return self.state == "up" and not self.read and not self.has_ended
+    def reads(self, room):
+        return self.state == "up" and not self.read and not self.has_ended and room > 0
 
 
 class Tunnel:
@@ -90,7 +90,7 @@ class Tunnel:
                     circuit.came = circuit.came[circuit.connection.send(circuit.came, socket.MSG_DONTWAIT) :]
                 except (BrokenPipeError, ConnectionResetError):
                     circuit.came = b""
-        if circuit.reads():
+        if circuit.reads(self.station.room(channel)):
             with contextlib.suppress(BlockingIOError):
                 circuit.read = circuit.connection.recv(PIECE, socket.MSG_DONTWAIT)
                 circuit.has_ended = not circuit.read
@@ -120,7 +120,7 @@ class Tunnel:
             self.circuits[channel], self.waiting = Circuit(self.waiting, "calling"), None
         for channel, circuit in list(self.circuits.items()):
             self.go_on(channel, circuit)
-        reads = [circuit.connection for circuit in self.circuits.values() if circuit.reads()]
+        reads = [circuit.connection for channel, circuit in self.circuits.items() if circuit.reads(self.station.room(channel))]
         writes = [circuit.connection for circuit in self.circuits.values() if circuit.came]
         files = [self.line, *([self.listener] if self.listener and not self.waiting else []), *reads]
         left = None if self.deadline is None else max(0, self.deadline - time.monotonic())

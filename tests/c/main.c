@@ -82,6 +82,7 @@ static void try_refusals(void)
     expect("timer of none", x25_timer(station), X25_TIMER_OFF);
     expect("none is idle", x25_idle(station), false);
     expect("none waits", x25_waits(station), false);
+    expect("room of none", (uint32_t)x25_room(station, 1), 0);
     expect("stretch of none", x25_stretch(station, 1, &(x25_stretch_name){0}), false);
     expect("a bad end", x25_new(station, 2, one_channel), X25_BAD_SETTING);
     expect("a bad window", x25_new(station, X25_DTE, (x25_settings){.k = 8, .n2 = 10, .channels = 1}), X25_BAD_SETTING);
@@ -200,6 +201,86 @@ static void try_beside(void)
     x25_free(&dte.station);
 }
 
+/* The octets of all frames of the last answer, and how many each has; answers how many there are. */
+static size_t frames_of(const x25_station *station, uint8_t *octets, size_t *counts)
+{
+    size_t frames = x25_frames(station), at = 0;
+    for (size_t i = 0; i < frames; i++, at += counts[i - 1])
+        counts[i] = x25_frame(station, i, octets + at, ROOM);
+    return frames;
+}
+
+/* Frames that come at once are answered as frames that come one by one: one DCE hears them so, and its twin so. */
+static void try_all(void)
+{
+    static uint8_t octets[2][MOST * ROOM], message[4000], room[1 << 16];
+    static x25_event events[MOST];
+    size_t counts[2][MOST] = {{0}}, few = 0, taken = 7, batches = 0;
+    x25_station twin = {NULL, false};
+    uint16_t channel = 0;
+    expect("frames of none", x25_receive_all(&twin, octets[0], 0, counts[0], 0, &taken), X25_NO_STATION);
+    expect("how many were taken", (uint32_t)taken, 0);
+    expect("items of none", (uint32_t)x25_take_all(&twin, 0, events, MOST, room, sizeof room), 0);
+    expect("new", x25_new(&dte.station, X25_DTE, one_channel), 0);
+    expect("new", x25_new(&dce.station, X25_DCE, one_channel), 0);
+    expect("new", x25_new(&twin, X25_DCE, one_channel), 0);
+    expect("connect", x25_connect(&dte.station), 0);
+    for (int step = 0; step < 3; step++) {
+        if (step == 1)
+            expect("call", x25_call(&dte.station, "1", 1, "2", 1, NULL, 0, (x25_sizes){0, 0, 0, 0}, &channel), 0);
+        if (step == 2) {
+            uint32_t numbers[] = {x25_accept(&dce.station, channel, (x25_sizes){0, 0, 0, 0}), x25_accept(&twin, channel, (x25_sizes){0, 0, 0, 0})};
+            expect("accept", numbers[0] + numbers[1], 0);
+            few = frames_of(&dce.station, octets[0], counts[0]);
+            expect("receive", x25_receive_all(&dte.station, octets[0], ROOM, counts[0], few, &taken), 0);
+            expect("send", x25_send(&dte.station, channel, true, message, sizeof message), 0);
+        }
+        for (size_t many; (many = frames_of(&dte.station, octets[0], counts[0])) > 0; batches += many > 1) {
+            size_t all = 0, at = 0;
+            uint32_t timer = X25_TIMER_GOES_ON;
+            for (size_t i = 0; i < many; i++)
+                all += counts[0][i];
+            expect("receive", x25_receive_all(&dce.station, octets[0], all, counts[0], many, &taken), 0);
+            expect("how many were taken", (uint32_t)taken, (uint32_t)many);
+            size_t items = x25_take_all(&dce.station, 0, events, MOST, room, sizeof room), place = 0, user = 0, frames = x25_frames(&dce.station);
+            for (size_t i = 0; i < many; at += counts[0][i++]) {
+                expect("receive", x25_receive(&twin, octets[0] + at, counts[0][i]), 0);
+                x25_event event;
+                for (size_t j = 0; x25_take(&twin, j, &event, octets[1], ROOM); j++) {
+                    if (event.kind == X25_EVENT_TIMER)
+                        timer = event.timer == X25_TIMER_GOES_ON ? timer : event.timer;
+                    else if (event.kind != X25_EVENT_FRAME)
+                        user += event.count;
+                    else if (event.count != events[place].count || x25_frame(&dce.station, place++, room, ROOM) != event.count || memcmp(room, octets[1], event.count))
+                        fail("another frame", (uint32_t)place);
+                }
+            }
+            expect("as many frames", (uint32_t)place, (uint32_t)frames);
+            expect("as many items", (uint32_t)items, (uint32_t)(frames + x25_entries(&dce.station) + 1));
+            expect("the timer", x25_timer(&dce.station), timer);
+            for (; place + 1 < items; place++)
+                user -= events[place].count;
+            expect("as many octets of users", (uint32_t)user, 0);
+            few = frames_of(&dce.station, octets[1], counts[1]);
+            expect("receive", x25_receive_all(&dte.station, octets[1], sizeof octets[1], counts[1], few, &taken), 0);
+        }
+    }
+    expect("frames came at once", batches > 3, true);
+    expect("idle", x25_idle(&dte.station) && x25_idle(&dce.station) && x25_idle(&twin), true);
+    expect("disconnect", x25_disconnect(&dte.station), 0);
+    few = frames_of(&dte.station, octets[0], counts[0]);
+    counts[0][1] = counts[0][0] + 1;
+    memcpy(octets[0] + counts[0][0], octets[0], counts[0][0]);
+    expect("octets that aren't there", x25_receive_all(&twin, octets[0], 2 * counts[0][0], counts[0], 2, &taken), X25_BAD_PARAMETER);
+    expect("how many were taken", (uint32_t)taken, 1);
+    expect("one event into one place", (uint32_t)x25_take_all(&twin, x25_frames(&twin), events, 1, room, 0), 1);
+    expect("its kind", events[0].kind, X25_EVENT_LINK_DOWN);
+    expect("a frame into no room", (uint32_t)x25_take_all(&twin, 0, events, MOST, room, 0), 0);
+    x25_free(&dte.station);
+    x25_free(&dce.station);
+    x25_free(&twin);
+}
+
 int main(void)
 {
     try_texts();
@@ -220,6 +301,8 @@ int main(void)
     ask(&dce, "accept 1");
     deliver_all();
     try_stretch(1, true);
+    expect("room", (uint32_t)x25_room(&dte.station, 1), 8);
+    expect("room where there is no channel", (uint32_t)x25_room(&dte.station, 2), 0);
     try_stretch(2, false);
     send_message(&dte, "hello");
     send_message(&dce, "hello yourself");
@@ -238,5 +321,6 @@ int main(void)
     try_forms(true);
     try_forms(false);
     try_beside();
+    try_all();
     return 0;
 }

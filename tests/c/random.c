@@ -4,7 +4,7 @@
 #include "two.h"
 #include <sys/mman.h>
 
-enum { AREA = 1 << 18, AREAS = 5, KINDS = 32, ALL = 200000 /* in so many calls each kind comes */ };
+enum { AREA = 1 << 18, AREAS = 7, SEVERAL = 4, KINDS = 32, ALL = 200000 /* in so many calls each kind comes */ };
 
 static uint64_t state;
 static uint8_t *ends[AREAS]; /* of memory behind which none may be touched */
@@ -113,12 +113,43 @@ static uint32_t hear(x25_station *station, end_t *other)
     return x25_receive(station, copy, count);
 }
 
+static size_t came = 1; /* how many frames the last call took */
+
+/* Several frames come at once, of which one is damaged at times, or the last has octets that aren't there. */
+static uint32_t hear_all(x25_station *station, end_t *other)
+{
+    uint8_t octets[SEVERAL * ROOM];
+    size_t counts[SEVERAL], count = 0, all = 0, taken = 77;
+    while (count < SEVERAL && other->first != other->next) {
+        uint8_t *frame = next_frame(other, &counts[count]);
+        memcpy(octets + all, frame, counts[count]);
+        all += counts[count++];
+    }
+    if (all && draw(64) == 0)
+        octets[draw((uint32_t)all)] ^= 1;
+    bool lacks = count && draw(64) == 0;
+    uint8_t *copy = room(0, all);
+    size_t *given = (size_t *)(void *)room(1, count * sizeof *counts);
+    if (all)
+        memcpy(copy, octets, all);
+    if (count)
+        memcpy(given, counts, count * sizeof *counts);
+    if (lacks)
+        given[count - 1] += 1 + draw(2) * (SIZE_MAX / 2);
+    uint32_t number = x25_receive_all(station, copy, all, given, count, &taken);
+    if (number != (lacks ? X25_BAD_PARAMETER : 0) || taken != count - lacks)
+        fail("frames that were taken", (uint32_t)taken);
+    came = taken;
+    return 0;
+}
+
 static uint32_t call(end_t *end, end_t *other)
 {
     x25_station *station = &end->station;
     uint16_t channel = (uint16_t)draw(4), called = 77;
     size_t count = draw(40), long_count = draw(8) ? draw(600) : draw(70000), first = draw(17), second = draw(17);
     uint32_t number;
+    came = 1;
     switch (draw(40)) {
     case 0:
         return x25_receive(station, octets(0, count), count);
@@ -126,8 +157,13 @@ static uint32_t call(end_t *end, end_t *other)
         return x25_t1(station);
     case 2:
         return command(station);
-    case 3: case 4: case 5:
-        return x25_send(station, channel, draw(2), octets(0, long_count), long_count);
+    case 3: case 4: case 5: {
+        size_t many = x25_room(station, channel);
+        number = x25_send(station, channel, draw(2), octets(0, long_count), long_count);
+        if (many > 8 || (long_count < 65536 && (many == 0) != (number != 0)))
+            fail("the room of a channel", (uint32_t)many);
+        return number;
+    }
     case 6: case 7:
         number = x25_call(station, digits(0, first), first, digits(1, second), second, octets(2, count), count, sizes(), &called);
         if (number ? called != 77 : called < 1 || called > 2)
@@ -151,6 +187,8 @@ static uint32_t call(end_t *end, end_t *other)
         return draw(64) ? x25_probe(station) : x25_relink(station);
     case 17:
         return draw(1000) ? x25_pull(station) : x25_disconnect(station);
+    case 18: case 19: case 20: case 21:
+        return hear_all(station, other);
     default:
         return hear(station, other);
     }
@@ -256,6 +294,25 @@ static void write_event(end_t *end, size_t i, const x25_event *event, const uint
     put("\n", 0);
 }
 
+/* Takes all items at once, and at times fewer, and compares them with those that are taken one by one, which have so many octets. */
+static void take_all(const x25_station *station, size_t items, size_t octets)
+{
+    size_t first = draw(4) ? 0 : draw((uint32_t)items + 2), most = draw(4) ? items : draw((uint32_t)items + 1), size = draw(4) ? octets : draw((uint32_t)octets + 1);
+    x25_event *events = (x25_event *)(void *)room(5, most * sizeof *events), event;
+    uint8_t *taken = room(6, size);
+    size_t count = x25_take_all(station, first, events, most, taken, size), at = 0;
+    for (size_t i = 0; i < count; i++) {
+        uint8_t *user = room(1, events[i].count);
+        if (!x25_take(station, first + i, &event, user, events[i].count) || memcmp(&event, &events[i], sizeof event) || at + event.count > size
+            || (event.count && memcmp(user, taken + at, event.count)))
+            fail("an item of all", (uint32_t)i);
+        at += event.count;
+    }
+    bool is_there = x25_take(station, first + count, &event, NULL, 0);
+    if (count > most || (is_there && count < most && at + event.count <= size))
+        fail("few items of all", (uint32_t)count);
+}
+
 static long seen[KINDS];
 
 /* Takes the items of an answer one by one, and compares them with its frames and entries. */
@@ -263,13 +320,15 @@ static void take(end_t *end)
 {
     size_t frames = x25_frames(&end->station), entries = x25_entries(&end->station), i = 0, count = 0;
     x25_event event;
-    if (frames > 24 || entries > 3)
+    size_t all = 0;
+    if (frames > 24 * came || entries > 3 * came)
         fail("many frames or entries", (uint32_t)(frames * 100 + entries));
     for (; x25_take(&end->station, i, &event, NULL, 0); i++) {
         uint8_t *taken = room(1, event.count), *told;
         if (!x25_take(&end->station, i, &event, taken, event.count) || event.kind < 1 || event.kind >= KINDS)
             fail("an item", event.kind);
         seen[event.kind]++;
+        all += event.count;
         if ((event.kind == X25_EVENT_FRAME) != (i < frames) || (event.kind == X25_EVENT_TIMER) != (i == frames + entries))
             fail("its place", (uint32_t)i);
         if (event.kind == X25_EVENT_TIMER) {
@@ -291,6 +350,7 @@ static void take(end_t *end)
     }
     if (i != frames + entries + 1)
         fail("many items", (uint32_t)i);
+    take_all(&end->station, i, all);
     take_frames(end);
     if (end->next - end->first > MOST / 2)
         end->first = end->next;

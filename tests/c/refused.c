@@ -46,15 +46,25 @@ static void ask(end_t *end, const char *text)
     take(end);
 }
 
+/* All frames that are on their way come at once; where memory is refused, those that weren't taken come again. */
 static bool deliver(end_t *from, end_t *to)
 {
-    uint32_t number;
-    size_t count;
-    uint8_t *octets = next_frame(from, &count);
-    if (octets == NULL)
+    static uint8_t octets[MOST * ROOM];
+    size_t counts[MOST], frames = 0, all = 0, first = 0, at = 0, taken;
+    for (uint8_t *frame; (frame = next_frame(from, &counts[frames])) != NULL; all += counts[frames++])
+        memcpy(octets + all, frame, counts[frames]);
+    if (frames == 0)
         return false;
-    expect("receive", AGAIN(x25_receive(&to->station, octets, count)), 0);
-    take(to);
+    while (first < frames) {
+        uint32_t number = x25_receive_all(&to->station, octets + at, all - at, counts + first, frames - first, &taken);
+        if (number == X25_NO_MEMORY)
+            met++;
+        else
+            expect("receive", number, 0);
+        take(to);
+        for (; taken > 0; taken--)
+            at += counts[first++];
+    }
     return true;
 }
 

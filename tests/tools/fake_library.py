@@ -4,7 +4,6 @@ import ctypes
 import time
 
 from x25tools import linked  # noqa: F401, which finds x25
-
 import x25
 
 FRAME, TIMER = 1, 2
@@ -12,11 +11,11 @@ FRAME, TIMER = 1, 2
 
 class Library:
     """Each call that lets something happen takes the next row of `plays`: its number, the frames, the kinds of events and the timer that
-    it leaves. Without rows it gives back the octets that come."""
+    it leaves. Without rows it gives back the octets that come. Of frames that come at once, each takes a row."""
 
     def __init__(self, plays=()):
         self.plays = list(plays)
-        self.items, self.lines = [], []
+        self.items = []
 
     def _happen(self, octets=b""):
         number, frames, kinds, timer = self.plays.pop(0) if self.plays else (0, [octets], [], 0)
@@ -36,16 +35,27 @@ class Library:
     def x25_receive(self, slot, octets, count):
         return self._happen(octets)
 
-    def x25_take(self, slot, i, event, room, size):
+    def x25_receive_all(self, slot, octets, count, counts, most, taken):
+        whole, number, done = [], 0, 0
+        for done in range(most):
+            number = self._happen()
+            if number:
+                break
+            whole += self.items[:-1]
+        self.items = [*whole, (TIMER, b"", self.items[-1][2])]
+        taken._obj.value = done
+        return number
+
+    def x25_take_all(self, slot, first, items, most, room, size):
         time.sleep(0)
-        if i >= len(self.items):
-            return False
-        event = x25._Event.from_address(event)
-        event.kind, octets, event.timer = self.items[i]
-        event.count = len(octets)
+        first, most = (getattr(number, "value", number) for number in (first, most))
+        taken = self.items[first : first + most]
+        for i, (kind, octets, timer) in enumerate(taken):
+            x25._ITEM.pack_into(items._obj, i * x25._ITEM.size, kind, *[0] * 9, timer, 0, 0, 0, len(octets))
+        octets = b"".join(octets for _, octets, _ in taken)
         ctypes.memmove(room, octets, len(octets))
         time.sleep(0)
-        return True
+        return len(taken)
 
     def x25_refusal_text(self, number, room, size):
         ctypes.memmove(room, b"why", 3)

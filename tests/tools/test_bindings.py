@@ -38,8 +38,8 @@ class Declared(unittest.TestCase):
     def test_each_binding_has_the_functions_of_the_header(self):
         rust = support.read("bindings/rust/src/raw.rs").decode()
         self.assertEqual(list(x25._FUNCTIONS), declared())
-        # Frames come as items of the answer.
-        self.assertEqual(re.findall(r"^    pub fn x25_(\w+)\(", rust, re.MULTILINE), [name for name in declared() if name not in ("frames", "frame")])
+        # Items are taken at once, and frames are among them.
+        self.assertEqual(re.findall(r"^    pub fn x25_(\w+)\(", rust, re.MULTILINE), [name for name in declared() if name not in ("take", "frames", "frame")])
 
     def test_each_binding_has_the_kinds_of_the_header(self):
         header, rust = support.read("include/x25.h").decode(), support.read("bindings/rust/src/event.rs").decode()
@@ -87,12 +87,9 @@ class Answers(unittest.TestCase):
             sys.setswitchinterval(interval)
         self.assertEqual(wrong, [])
 
-    def test_a_timer_that_begins_stays_where_the_next_frames_leave_it(self):
-        off, begins, goes_on = x25.Timer
-        for timers, expected in ([begins, goes_on], begins), ([begins, off, goes_on], off), ([goes_on], goes_on), ([], goes_on), ([off, begins], begins):
-            with self.subTest(timers=timers):
-                answer = self.station(*((0, [], [], timer) for timer in timers)).receive_all([b""] * len(timers))
-                self.assertIs(answer.timer, expected)
+    def test_more_items_than_are_taken_at_once(self):
+        frames = [bytes([i]) for i in range(200)]
+        self.assertEqual(self.station((0, frames, [x25.Kind.LINK_UP], 2)).connect(), x25.Answer(frames, [x25.Event(x25.Kind.LINK_UP)], x25.Timer.GOES_ON))
 
     def test_a_refusal_among_frames_has_what_was_answered_before(self):
         station = self.station((0, [b"one"], [x25.Kind.LINK_UP], 1), (70, [], [], 0))

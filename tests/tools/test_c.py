@@ -36,6 +36,10 @@ def parameter(text):
         return None
     if kind == "&mut Slot":
         return "x25_station *station"
+    if kind == "&[usize]":
+        return f"const size_t *{name}, size_t {name}_count"
+    if kind == "&mut [Event]":
+        return f"x25_event *{name}, size_t most"
     octet = "char" if name in TEXTS else "uint8_t"
     if kind == "&[u8]":
         return f"const {octet} *{name}, size_t {name}_count"

@@ -55,13 +55,13 @@ class Readmes(unittest.TestCase):
 
 
 class Lemmas(unittest.TestCase):
-    """A crate is for those above it by its contracts: none cites lemmas of a lower crate, but x25_sessions those of x25_line, and these."""
+    """A crate is for those above it by its contracts: none cites lemmas of a lower crate, but these."""
 
     CITED = {
         ("x25_wide", "x25_packet"): {"AddressLaws", "DigitLemmas"},
         ("x25_line", "x25_link"): {"EndLemmas"},
         ("x25_sim", "x25_world"): {"Established"},
-        ("x25_judge", "x25_line"): {"StationActs", "StationAway", "StationLines", "StationRuns", "StationSays", "StationSends", "StationSteps"},
+        ("x25_judge", "x25_line"): {"StationLines", "StationPeers", "StationRuns", "StationSays", "StationSends"},
         ("any", "x25_io"): {"LineLemmas", "LooseLemmas", "RunLemmas", "TakerLemmas", "ToldLemmas"},
     }
 
@@ -71,7 +71,7 @@ class Lemmas(unittest.TestCase):
             for path in glob(os.path.join(CRATES, "*", folder, "**", f"*.{ending}"), recursive=True):
                 crate = os.path.relpath(path, CRATES).split(os.sep)[0]
                 for low, lemmas in re.findall(r"\bRattle\.(x25\w*)\.proofs\.(?:[a-z]\w*\.)*(\w+)", support.read(path).decode()):
-                    if low != crate and (crate, low) != ("x25_sessions", "x25_line"):
+                    if low != crate:
                         cited["any" if low == "x25_io" else crate, low].add(lemmas)
         self.assertEqual(cited, self.CITED)
 

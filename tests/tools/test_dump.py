@@ -45,7 +45,7 @@ def data(number, text, more=0, channel=1, acknowledged=0):
 def joined(frames, due=None):
     """Sort and octets of what frames, each direction and text, complete."""
     line = messages.Messages(due)
-    found = [it for frame in frames for _, completed in line.take([" ".join(frame)]) for it in completed]
+    found = [it for frame in frames for _, it in line.take([" ".join(frame)])]
     return [(sort, octets.decode()) for _, _, sort, octets, _ in [*found, *line.end()]]
 
 
@@ -152,6 +152,14 @@ class Joining(unittest.TestCase):
             self.assertEqual(joined(frames, 0), [(f"message broken off by {packet.split()[0]}", "ab"), ("message", "c")])
         frames = (">", data(5, "a", 1)), ("<", "RR rsp F=0 R=6"), (">", "SABM cmd P=1"), (">", data(0, "b"))
         self.assertEqual(joined(frames), [("message broken off by link set up", "a"), ("message", "b")])
+
+
+class Rows(unittest.TestCase):
+    def test_rows_that_are_laid_out_together(self):
+        octets = bytes(range(256)) * 257
+        many = [octets[-count:] for count in (*range(1, 40), 4096, 65535, 65536, 65537)] + [b"", b"  "]
+        self.assertEqual(messages.all_dumped(many), [messages.dumped(it) for it in many])
+        self.assertEqual(messages.dumped(b"a\xff" * 9), "    0000 " + " 61 ff" * 8 + "  a." + "a." * 7 + "\n    0010  61 ff" + " " * 44 + "a.")
 
 
 class Dump(ToolCase):

@@ -37,6 +37,12 @@ class Page(ToolCase):
         self.assertEqual(sum(line.startswith("$ ") for line in lines), len(re.findall(r"^    \$ ", manual, re.MULTILINE)))
         self.assertEqual(lines.count(".nf"), lines.count(".fi"))
 
+    def test_the_synopsis_has_the_options_that_the_completion_offers(self):
+        self.assertEqual(list(manpage.SYNOPSIS), [word for word in complete("") if word != "help" and word[0] != "-"])
+        for name, words in manpage.SYNOPSIS.items():
+            ends = re.findall(r"^(dte)\|dce", words)
+            self.assertEqual({*re.findall(r"--[\w-]+", words), "--help"}, set(complete(name, *ends, "--")), name)
+
     @unittest.skipUnless(shutil.which("groff"), "groff isn't installed")
     def test_groff_takes_it_without_a_warning(self):
         page = support.run("manpage.py").stdout

@@ -38,9 +38,10 @@ def rows(decoder: decoding.Decoder, blocks: Iterable[tuple[int, list[bytes]]]) -
         found: list[Row] = []
         try:
             for number, (line, answer) in enumerate(zip(lines, decoding.answers(decoder, lines)), first):
-                if answer:
-                    time = x25lines.nanoseconds(answer[0])
-                    found.append(Frame(answer[1][0], answer[1][2:], None, answer[0] if time is None else x25lines.seconds(time)))
+                if parts := decoding.parted(line, answer):
+                    given, text = parts
+                    time = x25lines.nanoseconds(given)
+                    found.append(Frame(text[0], text[2:], None, given if time is None else x25lines.seconds(time)))
                 elif line:
                     found.append(row(number, line))
         finally:

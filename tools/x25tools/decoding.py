@@ -82,21 +82,18 @@ def let_end(child: Child) -> None:
     child.wait()
 
 
-def answers(decoder: Asked, lines: list[bytes]) -> list[tuple[str, str] | None]:
-    """What a decoder with `--loose` answers to some lines, each its octets: of each its time as text, empty where it has none, and its text; None where a
-    line has no frame in hexadecimal digits."""
-    are_asked = [not OTHER_LINE.fullmatch(line) for line in lines]
-    asked = [f"{line.decode('latin-1')}\n" for line, is_asked in zip(lines, are_asked) if is_asked]
-    texts = iter(decoder.texts("".join(asked), [None] * len(asked)))
-    return [_parted(next(texts)) if is_asked else None for is_asked in are_asked]
+def answers(decoder: Asked, lines: list[bytes]) -> list[str]:
+    """What a decoder with `--loose` answers to some lines, each its octets. Where none of them can be a frame in digits nothing is asked, and each answer
+    is empty."""
+    if all(map(OTHER_LINE.fullmatch, lines)):
+        return [""] * len(lines)
+    return decoder.texts(b"\n".join([*lines, b""]).decode("latin-1"), [None] * len(lines))
 
 
-def _parted(text: str | None) -> tuple[str, str] | None:
-    """The time that an answer carries, and the text behind it; None where it refuses a line."""
-    if not text or text.endswith(REFUSED):
-        return None
-    time, _, rest = text.rpartition("\t")
-    return time, rest
+def parted(line: bytes, answer: str) -> tuple[str, str] | None:
+    """The time, empty where there is none, and the text of the frame that a line has in digits, by the answer to it; None where it has none."""
+    time, _, text = answer.rpartition("\t")
+    return (time, text) if text[:1] in x25lines.OTHER and not x25lines.is_passed_over(line) else None
 
 
 class Decoder:
@@ -124,7 +121,7 @@ class Decoder:
             self._child = self._begun()
         count = asked.count("\n")
         *texts, rest = self._answers(self._child, asked.encode("latin-1"), count).decode("ascii", "replace").split("\n")
-        if rest or len(texts) != count or texts[0][:2] not in (asked[:2], REFUSED[:2]):
+        if rest or len(texts) != count or texts[0][:2] not in (asked[:2].partition("\n")[0], REFUSED[:2]):
             raise BadInput(f"{self._program} {self._task} didn't answer line by line")
         return texts
 

@@ -2,18 +2,19 @@
 
 from __future__ import annotations
 
-import operator
 import re
-from typing import Callable, Iterable, Iterator, Optional
+from typing import Iterable, Iterator, Optional, Sequence
 
-OTHER = {">": "<", "<": ">"}
+from x25tools.x25lines import OTHER
+
 # What `decode --wide` puts behind the text of a frame or a packet in another form than a station writes.
 WIDE = " ~ wide"
-# The frames of a text, a line each: the direction; of an I frame N(S), N(R), and of a DATA packet its channel, M, Q and data, of another all of
-# it; and of RR, RNR and REJ N(R). Of other frames all is empty but the direction, and what sets the link up.
+# The frames of a text, each in a line with a blank at its end, since what ends at a blank is found sooner than what has none: the direction; of an I
+# frame N(S), N(R), and of a DATA packet its channel, M, Q and data, of another all of it; and of RR, RNR and REJ N(R). Of other frames all is empty but
+# the direction, and what sets the link up.
 FRAMES = re.compile(
-    r"^([<>]) (?:I cmd P=[01] S=([0-7]) R=([0-7]) \| (?:DATA ch=(\d+) S=[0-7] R=[0-7] M=([01]) Q=([01])(?: D=1)? data=(\S+)(?: ~ wide)?|(.*))"
-    r"|(?:RR|RNR|REJ) (?:cmd|rsp) [PF]=[01] R=([0-7])|(SABM |UA )?.*)$",
+    r"^([<>]) (?:I cmd P=[01] S=([0-7]) R=([0-7]) \| (?:DATA ch=(\d+) S=[0-7] R=[0-7] M=([01]) Q=([01])(?: D=1)? data=([^ ]+)(?: ~ wide)? |(.*) )"
+    r"|(?:RR|RNR|REJ) (?:cmd|rsp) [PF]=[01] R=([0-7]) |(SABM |UA )?.*)$",
     re.MULTILINE,
 )
 # The parts of a frame that `FRAMES` finds; and a message: see `Messages`.
@@ -23,11 +24,10 @@ INTERRUPT = re.compile(r"INT ch=(\d+) data=(\S+)")
 # What an end sends of these ends what it had begun; where the other end asks for it, the answer does.
 ENDED = re.compile(r"((?:RESTART|CLEAR|RESET)(?:CONF)?|CALL|ACCEPT)\b(?: ch=(\d+))?")
 MODULUS = 8
+NUMBERS = {str(number): number for number in range(MODULUS)}
 # A message is shown in parts of about this many octets where it is longer.
 MOST_MESSAGE = 1 << 20
 A_ROW = 16
-# For how many lengths of data the form of their rows is kept.
-MOST_ROWS = 1024
 # Each octet as it is shown as text.
 SHOWN = bytes(octet if 0x20 <= octet < 0x7F else ord(".") for octet in range(256))
 
@@ -37,24 +37,41 @@ def octets_of(data: str) -> bytes:
     return b"" if data == "-" else bytes.fromhex(data)
 
 
-# Of so many octets the rows, with places for the digits and the text of each, and what takes these out of all digits and all text behind them.
-_ROWS: dict[int, tuple[str, Callable[[str], tuple[str, ...]]]] = {}
-
-
-def _rows(count: int) -> tuple[str, Callable[[str], tuple[str, ...]]]:
-    *full, last = range(0, count, A_ROW)
-    rows = "\n".join([*(f"    {at:04x}  %s  %s" for at in full), f"    {last:04x}  %-{3 * A_ROW}s %s"])
-    parts = [part for at in (*full, last) for part in (slice(3 * at, min(3 * (at + A_ROW), 3 * count) - 1), slice(3 * count - 1 + at, 3 * count - 1 + at + A_ROW))]
-    found = rows, operator.itemgetter(*parts)
-    if len(_ROWS) < MOST_ROWS:
-        _ROWS[count] = found
-    return found
-
-
 def dumped(octets: bytes) -> str:
     """The rows of some octets, as text: where each stands, its octets in hexadecimal digits and as text."""
-    rows, parts = _ROWS.get(len(octets)) or _rows(len(octets))
-    return rows % parts(octets.hex(" ") + octets.translate(SHOWN).decode())
+    rows = ((at, octets[at : at + A_ROW]) for at in range(0, len(octets), A_ROW))
+    return "\n".join([f"    {at:04x}  {row.hex(' '):{3 * A_ROW}} {row.translate(SHOWN).decode()}" for at, row in rows])
+
+
+# A row with four digits of its place, and where these, the digits of its octets and their text stand; and how many rows have so few.
+ROW = "    0000  " + "   " * A_ROW + " " * (1 + A_ROW) + "\n"
+PLACE_AT, DIGITS_AT, TEXT_AT, PLACE_DIGITS = 4, 10, 11 + 3 * A_ROW, 4
+MOST_ROWS = 0x10000 // A_ROW
+PLACES = "".join([f"{A_ROW * row:04x}" for row in range(MOST_ROWS)]).encode()
+
+
+def all_dumped(many: Sequence[bytes]) -> list[str]:
+    """The rows of each of some octets, as `dumped` has them. They are laid out together, column by column, which is ten times as fast."""
+    counts = [-(-len(octets) // A_ROW) if len(octets) <= A_ROW * MOST_ROWS else 0 for octets in many]
+    laid = b"".join([octets.ljust(A_ROW * rows) for octets, rows in zip(many, counts) if rows])
+    digits, text, places = laid.hex().encode(), laid.translate(SHOWN), b"".join([PLACES[: PLACE_DIGITS * rows] for rows in counts])
+    page = bytearray(ROW.encode() * sum(counts))
+    for column in range(PLACE_DIGITS):
+        page[PLACE_AT + column :: len(ROW)] = places[column::PLACE_DIGITS]
+    for column in range(A_ROW):
+        page[DIGITS_AT + 3 * column :: len(ROW)] = digits[2 * column :: 2 * A_ROW]
+        page[DIGITS_AT + 3 * column + 1 :: len(ROW)] = digits[2 * column + 1 :: 2 * A_ROW]
+        page[TEXT_AT + column :: len(ROW)] = text[column::A_ROW]
+    shown, found, begin = page.decode(), [], 0
+    for octets, rows in zip(many, counts):
+        if not rows:
+            found.append(dumped(octets))
+            continue
+        last = begin + len(ROW) * (rows - 1)
+        left = len(octets) - A_ROW * (rows - 1)
+        found.append(shown[begin : last + DIGITS_AT + 3 * left] + ROW[DIGITS_AT + 3 * left : TEXT_AT] + shown[last + TEXT_AT : last + TEXT_AT + left])
+        begin = last + len(ROW)
+    return found
 
 
 class Way:
@@ -132,31 +149,31 @@ class Messages:
         self._ways = {direction: Way(due) for direction in OTHER}
         self._begun: dict[tuple[str, int], bytearray] = {}
 
-    def take(self, texts: Iterable[str]) -> Iterator[tuple[int, list[Message]]]:
-        """Takes some frames, each a text of `x25 decode` with its direction; yields the place of each that completes messages, and these, in order."""
-        for place, frame in enumerate(FRAMES.findall("\n".join(texts))):
+    def take(self, texts: Iterable[str]) -> list[tuple[int, Message]]:
+        """Takes some frames, each a text of `x25 decode` with its direction; answers the messages that they complete, each with the place of its frame."""
+        completed: list[tuple[int, Message]] = []
+        for place, frame in enumerate(FRAMES.findall(" \n".join([*texts, ""]))):
             direction, ns, nr, channel, m, q, data, packet, acknowledged, set_up = frame
+            if heard := nr or acknowledged:
+                way, number = self._ways[OTHER[direction]], NUMBERS[heard]
+                if way.due is None or way.held:
+                    completed += [(place, it) for it in self._acknowledged(OTHER[direction], number)]
+                elif way.acknowledged is None or (number - way.acknowledged) % MODULUS <= (way.due - way.acknowledged) % MODULUS:
+                    way.acknowledged = number
             if ns:
-                completed = self._acknowledged(OTHER[direction], int(nr))
-                way, number = self._ways[direction], int(ns)
+                way, number = self._ways[direction], NUMBERS[ns]
                 if number != way.due or way.held:
-                    for it in way.take(number, frame):
-                        completed += self._packet(it)
+                    completed += [(place, it) for frame in way.take(number, frame) for it in self._packet(frame)]
+                    continue
+                way.due = (number + 1) % MODULUS
+                if m == "0" and not self._begun:
+                    completed.append((place, (direction, int(channel), "message", octets_of(data), q)))
                 else:
-                    way.due = (number + 1) % MODULUS
-                    if m == "0" and not self._begun:
-                        completed.append((direction, int(channel), "message", octets_of(data), q))
-                    else:
-                        completed += self._packet(frame)
-            elif acknowledged:
-                completed = self._acknowledged(OTHER[direction], int(acknowledged))
+                    completed += [(place, it) for it in self._packet(frame)]
             elif set_up:
                 self._ways = {way: Way(0) for way in OTHER}
-                completed = [message for way in OTHER for message in self._broken(way, None, "link set up")]
-            else:
-                continue
-            if completed:
-                yield place, completed
+                completed += [(place, it) for way in OTHER for it in self._broken(way, None, "link set up")]
+        return completed
 
     def end(self) -> Iterator[Message]:
         """Yields what is known at the end alone."""

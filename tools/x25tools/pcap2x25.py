@@ -41,13 +41,12 @@ from collections import Counter
 from typing import Callable, Iterable, Iterator
 
 from x25tools import captures, lan, x25lines, xot
-from x25tools.x25lines import BadInput
+from x25tools.x25lines import OTHER, BadInput
 
 LAPB_WITH_DIRECTION, SITA = 207, 196
 SITA_HEADER, SITA_RECEIVED, SITA_NO_PROTOCOL, SITA_LAPB = 5, 1, 0, 1
 # Commands of the DTE and responses of the DCE have the address B.
 ADDRESS = {">": 0x01, "<": 0x03}
-OTHER = {">": "<", "<": ">"}
 # A line between those of a connection says that frames of it aren't there, any number of either end's; and these are the octets of a frame of
 # which nothing is known.
 GAP, UNREAD = "\n", b""

@@ -38,6 +38,7 @@ words or bad input, behind what stands before it.
 from __future__ import annotations
 
 import argparse
+import functools
 import itertools
 import operator
 import os
@@ -48,7 +49,7 @@ from typing import Any, Callable, Iterable, Iterator, TextIO
 
 from x25tools import captures, decoding, judging, pcap2x25, x25lines, x25names
 from x25tools.ahead import ahead
-from x25tools.messages import Message, Messages, dumped
+from x25tools.messages import Message, Messages, all_dumped
 from x25tools.pcap2x25 import Connection
 from x25tools.x25lines import BadInput
 
@@ -128,19 +129,25 @@ class Reader:
             for _, lines in x25lines.blocks_of_lines(file):
                 answers = decoding.answers(decoder, lines)
                 if self._options.judge:
-                    frames = [line.rpartition(b"\t")[2].decode() for line, answer in zip(lines, answers) if answer]
-                    texts = self._decoder.texts("".join([f"{frame}\n" for frame in frames]), [trace] * len(frames))
-                    judged = iter([text for text in texts if text is not None])
-                    answers = [answer and (answer[0], next(judged)) for answer in answers]
-                yield [(self._clock(answer[0]), trace, answer[1]) if answer else self._other(line, trace) for line, answer in zip(lines, answers)]
+                    answers = self._judged(lines, answers, trace)
+                yield [("", trace, answer) if answer[:1] in COLOURS else self._other(line, answer, trace) for line, answer in zip(lines, answers)]
+
+    def _judged(self, lines: list[bytes], answers: list[str], trace: Connection) -> list[str]:
+        """The answers to lines, those to frames with what is told of each behind it."""
+        frames = [line.rpartition(b"\t")[2].decode() if decoding.parted(line, answer) else None for line, answer in zip(lines, answers)]
+        asked = [f"{frame}\n" for frame in frames if frame]
+        texts = iter(self._decoder.texts("".join(asked), [trace] * len(asked)))
+        return ["".join(answer.rpartition("\t")[:2]) + (next(texts) or "") if frame else answer for frame, answer in zip(frames, answers)]
 
     def _clock(self, time: str) -> str:
         """A time of a line as it is shown."""
         found = x25lines.nanoseconds(time)
         return time if found is None else self._time(found)
 
-    def _other(self, line: bytes, trace: Connection) -> Thing:
-        """What there is to show of a line that holds no frame in digits."""
+    def _other(self, line: bytes, answer: str, trace: Connection) -> Thing:
+        """What there is to show of a line, by its answer, that has a time, or holds no frame in digits."""
+        if parts := decoding.parted(line, answer):
+            return self._clock(parts[0]), trace, parts[1]
         if found := decoding.TEXT_LINE.fullmatch(line):
             return (found[1] or b"").decode(), trace, found[2].decode()
         if x25lines.is_passed_over(line):
@@ -193,9 +200,12 @@ class Lines:
                 text = text[:2] + text[PACKET_AT:]
             if not has_plain_texts:
                 text = self._text(text)
+            if not time:
+                lines.append(f"{front[1:]}{text}")
+                continue
             day, time = self._days.part(time)
             lines += day
-            lines.append(f"{time}{front}{text}" if time else f"{front[1:]}{text}")
+            lines.append(f"{time}{front}{text}")
         return lines
 
     def _text(self, text: str) -> str:
@@ -228,10 +238,10 @@ def colour_of(text: str) -> str:
     return COLOURS.get(text[0], PLAIN)
 
 
-def lead(time: str, connection: Connection) -> str:
-    """What stands before the direction: the time, and the connection but for the first."""
-    number = f"#{connection.number} " if connection.number > 1 else ""
-    return f"{time} {number}" if time else number
+@functools.lru_cache
+def counted(count: int) -> str:
+    """So many octets, in words."""
+    return f"{count:,} octet{'s' if count != 1 else ''}"
 
 
 class Joined:
@@ -248,49 +258,48 @@ class Joined:
         """Answers the lines of the messages that the frames of a block complete."""
         lines: list[str] = []
         for connection, things in itertools.groupby(block, key=CONNECTION):
-            frames = [it for it in things if it[2][:1] in pcap2x25.OTHER]
+            frames = [it for it in things if it[2][:1] in x25lines.OTHER]
             if not frames:
                 continue
             if connection not in self._lines:
                 # Frames that were made up count from 0.
                 self._lines[connection] = Messages(0 if connection.is_made_up else None)
             self._last[connection] = frames[-1][0]
-            for place, completed in self._lines[connection].take([text for _, _, text in frames]):
-                lines += self._rows(frames[place][0], connection, completed)
+            completed = self._lines[connection].take([text for _, _, text in frames])
+            lines += self._rows(connection, [(frames[place][0], message) for place, message in completed])
         return lines
 
-    def _rows(self, time: str, connection: Connection, messages: Iterable[Message]) -> list[str]:
-        """The lines of messages that are completed at a time."""
+    def _rows(self, connection: Connection, completed: list[tuple[str, Message]]) -> list[str]:
+        """The lines of messages of a connection, each with its time."""
         lines: list[str] = []
-        before = None
-        for direction, channel, sort, octets, q in messages:
-            if self._channel is not None and channel not in (None, self._channel):
-                continue
-            if before is None:
-                lines, clock = self._days.part(time)
-                before = lead(clock, connection)
-            if channel is None:
-                lines.append(before + self._paint(RED, f"{direction} {sort}"))
-                continue
-            count = f"{len(octets):,} octet{'s' if len(octets) != 1 else ''}"
-            shown = self._paint(COLOURS[direction], f"{direction} ch={channel}{f' Q={q}' if q else ''} {sort}, {count}")
-            lines.append(f"{before}{shown}\n{dumped(octets)}" if octets else before + shown)
+        number = f"#{connection.number} " if connection.number > 1 else ""
+        if self._channel is not None:
+            completed = [(time, message) for time, message in completed if message[1] in (None, self._channel)]
+        for (time, (direction, channel, sort, octets, q)), rows in zip(completed, all_dumped([message[3] for _, message in completed])):
+            if time:
+                day, time = self._days.part(time)
+                lines += day
+            shown = direction if channel is None else f"{direction} ch={channel}{f' Q={q}' if q else ''}"
+            shown = self._paint(RED, f"{shown} {sort}") if channel is None else self._paint(COLOURS[direction], f"{shown} {sort}, {counted(len(octets))}")
+            lines.append(f"{time} {number}{shown}" if time else f"{number}{shown}")
+            if rows:
+                lines.append(rows)
         return lines
 
     def end(self) -> Iterator[str]:
         """Yields the lines of what is known at the end alone; messages that are begun there aren't shown."""
         for connection, line in self._lines.items():
-            yield from self._rows(self._last[connection], connection, line.end())
+            yield from self._rows(connection, [(self._last[connection], message) for message in line.end()])
 
 
 AGAIN, OCTETS = "I frames out of order, or again", "octets of data"
-# The frames of a text, a line each: the direction; of an I frame N(S) and whether it has DATA, its data, or another kind of packet; or the kind.
+# The frames of a text, each in a line with a blank at its end: of an I frame N(S); the kind of the frame or, behind a bar, of its packet; the data of
+# DATA.
 COUNTED = re.compile(
-    r"^([<>]) (?:I cmd P=[01] S=([0-7]) R=[0-7] \| (?:(DATA) ch=\d+ S=[0-7] R=[0-7] M=[01] Q=[01](?: D=1)? data=([0-9a-f]*)|(\S+)).*|(\S+).*)$",
-    re.MULTILINE,
+    r"^.(?: I cmd P=[01] S=([0-7]) R=[0-7])? (\| DATA(?= ch=\d+ S=[0-7] R=[0-7] M=[01] Q=[01](?: D=1)? data=-?([^ ]*))|(?:\| )?[^ ]+).*$", re.MULTILINE
 )
-KIND = operator.itemgetter(0, 2, 4, 5)
-SET_UP, IN_ORDER = ("SABM", "UA"), "01234567"
+DATA = "| DATA"
+SET_UPS, IN_ORDER = ("SABM ", "UA "), "01234567"
 
 
 class Statistic:
@@ -305,38 +314,37 @@ class Statistic:
     def take(self, block: list[Thing]) -> list[str]:
         """Counts the frames of a block; shows nothing."""
         for connection, things in itertools.groupby(block, key=CONNECTION):
-            if frames := [it for it in things if it[2][:1] in pcap2x25.OTHER]:
-                self._names[connection.number] = connection.name
-                self._times = [*(self._times[:1] or [frames[0][0]]), frames[-1][0]]
-                self._count(connection, COUNTED.findall("\n".join([text for _, _, text in frames])))
+            frames = [it for it in things if it[2][:1] in x25lines.OTHER]
+            if not frames:
+                continue
+            self._names[connection.number] = connection.name
+            self._times = [*(self._times[:1] or [frames[0][0]]), frames[-1][0]]
+            begin = 0
+            for end in [place for place, (_, _, text) in enumerate(frames) if text[2:3] != "I" and text.startswith(SET_UPS, 2)]:
+                self._count(connection, frames[begin:end])
+                # A set-up begins the numbers anew.
+                self._due = {key: due for key, due in self._due.items() if key[0] != connection.number}
+                begin = end
+            self._count(connection, frames[begin:])
         return []
 
-    def _count(self, connection: Connection, found: list[tuple[str, ...]]) -> None:
+    def _count(self, connection: Connection, frames: list[Thing]) -> None:
+        """Counts frames among which only the first may set the link up."""
         counts = self._counts[connection.number]
-        for (direction, data, packet, frame), count in Counter(map(KIND, found)).items():
-            if frame:
-                counts[frame, direction] += count
+        for direction in x25lines.OTHER:
+            texts = [text for _, _, text in frames if text[0] == direction]
+            if not texts:
                 continue
-            if not connection.is_made_up:
-                counts["I", direction] += count
-            counts[f"| {data or packet}", direction] += count
-            if data:
-                counts[OCTETS, direction] += sum([len(it[3]) for it in found if it[0] == direction]) // 2
-        if not connection.is_made_up:
-            for direction, again in self._out_of_order(connection.number, found):
-                counts[AGAIN, direction] += again
-
-    def _out_of_order(self, number: int, found: list[tuple[str, ...]]) -> Iterator[tuple[str, int]]:
-        """Yields how many I frames of an end come out of order, or again, where there are some; a set-up begins the numbers anew."""
-        begin = 0
-        for end in [*(place for place, it in enumerate(found) if it[5] in SET_UP), len(found)]:
-            for direction in pcap2x25.OTHER:
-                numbers = "".join([it[1] for it in found[begin:end] if it[0] == direction])
-                if again := numbers and self._again((number, direction), numbers):
-                    yield direction, again
-            if end < len(found):
-                self._due = {key: due for key, due in self._due.items() if key[0] != number}
-            begin = end
+            found: list[tuple[str, str, str]] = COUNTED.findall(" \n".join([*texts, ""]))
+            numbers, kinds, data = zip(*found)
+            for kind, count in Counter(kinds).items():
+                counts[kind, direction] += count
+            if DATA in kinds:
+                counts[OCTETS, direction] += sum(map(len, data)) // 2
+            if (sent := "".join(numbers)) and not connection.is_made_up:
+                counts["I", direction] += len(sent)
+                if again := self._again((connection.number, direction), sent):
+                    counts[AGAIN, direction] += again
 
     def _again(self, way: tuple[int, str], numbers: str) -> int:
         """How many of these numbers, each of one digit, aren't the one that is due."""
@@ -420,9 +428,9 @@ def show(view: Lines | Joined | Statistic, blocks: Iterable[list[Thing]], out: T
     """Writes what a view makes of the things of each block; also what it has at the end, where the user ends it."""
     try:
         for block in blocks:
-            out.write("".join([f"{line}\n" for line in view.take(block)]))
+            out.write("\n".join([*view.take(block), ""]))
     finally:
-        out.write("".join([f"{line}\n" for line in view.end()]))
+        out.write("\n".join([*view.end(), ""]))
 
 
 def main() -> int:

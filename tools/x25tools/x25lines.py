@@ -37,6 +37,9 @@ GZIP = b"\x1f"
 # What is read at once.
 PIECE = 65_536
 
+# The other direction of each.
+OTHER = {">": "<", "<": ">"}
+
 TIME = re.compile(r"([0-9]{1,10})(?:\.([0-9]{1,9}))?")
 FRAME_LINE = re.compile(rb"(?:([0-9]{1,10}(?:\.[0-9]{1,9})?)\t)?([<>]) ([0-9a-fA-F]*)")
 

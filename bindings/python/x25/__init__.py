@@ -34,7 +34,9 @@ from __future__ import annotations
 import ctypes
 import dataclasses
 import enum
+import functools
 import os
+import struct
 import threading
 from typing import Any, Callable, Iterable, NamedTuple
 
@@ -172,20 +174,7 @@ class _Sizes(ctypes.Structure):
     _fields_ = [(name, ctypes.c_uint8) for name in Sizes._fields]
 
 
-class _Event(ctypes.Structure):
-    _fields_ = [
-        ("kind", ctypes.c_uint16),
-        ("channel", ctypes.c_uint16),
-        ("q", ctypes.c_bool),
-        *((name, ctypes.c_uint8) for name in ("cause", "diagnostic", "reason")),
-        ("sizes", _Sizes),
-        ("timer", ctypes.c_uint32),
-        ("stretch", _StretchName),
-        ("count", ctypes.c_size_t),
-    ]
-
-
-# Pointers go as addresses, which takes a fifth of the time of a structure.
+# Pointers go by `byref`, made once, which takes a fifth of the time of a structure.
 _STATION, _ROOM, _SIZE = ctypes.c_void_p, ctypes.c_void_p, ctypes.c_size_t
 _OCTETS = [ctypes.c_char_p, _SIZE]
 _AT = [_STATION, _SIZE, _ROOM, _SIZE]
@@ -209,9 +198,11 @@ _FUNCTIONS: dict[str, tuple[list[Any], Any]] = {
     "pull": ([_STATION], ctypes.c_uint32),
     "t1": ([_STATION], ctypes.c_uint32),
     "receive": ([_STATION, *_OCTETS], ctypes.c_uint32),
+    "receive_all": ([_STATION, *_OCTETS, ctypes.c_char_p, _SIZE, ctypes.c_void_p], ctypes.c_uint32),
     "send": ([_STATION, ctypes.c_uint16, ctypes.c_bool, *_OCTETS], ctypes.c_uint32),
     "command": ([_STATION, *_OCTETS], ctypes.c_uint32),
     "take": ([_STATION, _SIZE, ctypes.c_void_p, _ROOM, _SIZE], ctypes.c_bool),
+    "take_all": ([_STATION, _SIZE, ctypes.c_void_p, _SIZE, _ROOM, _SIZE], _SIZE),
     "called": (_AT, _SIZE),
     "calling": (_AT, _SIZE),
     "facilities": (_AT, _SIZE),
@@ -222,16 +213,20 @@ _FUNCTIONS: dict[str, tuple[list[Any], Any]] = {
     "timer": ([_STATION], ctypes.c_uint32),
     "waits": ([_STATION], ctypes.c_bool),
     "idle": ([_STATION], ctypes.c_bool),
+    "room": ([_STATION, ctypes.c_uint16], _SIZE),
     "stretch": ([_STATION, ctypes.c_uint16, ctypes.POINTER(_StretchName)], ctypes.c_bool),
     "refusal_text": ([ctypes.c_uint32, _ROOM, _SIZE], _SIZE),
 }
 _FRAME, _TIMER = 1, 2
-_ROOM_SIZE = 1 << 18
+_ROOM_SIZE, _ITEMS, _PART = 1 << 18, 64, 128
+# An x25_event: kind, channel, q, cause, diagnostic, reason, sizes, timer, stretch, count; and its kind, timer and count alone.
+_ITEM, _HEAD = struct.Struct("@HH?BBB4BI3QN"), struct.Struct("@H10xI24xN")
 _TIMERS = tuple(Timer)
-_KINDS = {kind.value: kind for kind in Kind}
-_WITH_STRETCH = {Kind.INCOMING, Kind.CALL_ASKED, Kind.MESSAGE, Kind.SEND_ASKED, Kind.INTERRUPT, Kind.INTERRUPT_ASKED}
-_WITH_SIZES = {Kind.INCOMING, Kind.CALL_ASKED, Kind.CONNECTED, Kind.ACCEPT_ASKED}
 _WITH_ADDRESSES = {Kind.INCOMING, Kind.CALL_ASKED}
+_WITH_SIZES = {*_WITH_ADDRESSES, Kind.CONNECTED, Kind.ACCEPT_ASKED}
+_WITH_STRETCH = {*_WITH_ADDRESSES, Kind.MESSAGE, Kind.SEND_ASKED, Kind.INTERRUPT, Kind.INTERRUPT_ASKED}
+# Each kind by its number, and which of these it has.
+_KINDS = {kind.value: (kind, kind in _WITH_ADDRESSES, kind in _WITH_SIZES, kind in _WITH_STRETCH) for kind in Kind}
 
 _loaded: dict[str, ctypes.PyDLL] = {}
 
@@ -276,9 +271,12 @@ class Station:
     ) -> None:
         # It is held from a call to the end of its answer.
         self._lock = threading.RLock()
-        self._library, self._held, self._event = load(library), _Slot(), _Event()
-        self._buffer = ctypes.create_string_buffer(_ROOM_SIZE)
-        self._slot, self._told_at, self._room = map(ctypes.addressof, (self._held, self._event, self._buffer))
+        self._library, self._held, self._taken = load(library), _Slot(), ctypes.c_size_t()
+        self._items, self._buffer = (ctypes.create_string_buffer(size) for size in (_ITEMS * _ITEM.size, _ROOM_SIZE))
+        self._slot, self._taken_at, self._items_at, self._room = map(ctypes.byref, (self._held, self._taken, self._items, self._buffer))
+        self._items_view, self._view = memoryview(self._items), memoryview(self._buffer)
+        words = self._slot, _SIZE(0), self._items_at, _SIZE(_ITEMS), self._room, _SIZE(_ROOM_SIZE)
+        self._take_first = functools.partial(self._library.x25_take_all, *words)
         self._check(0 if all(0 <= setting < 256 for setting in (end, k, n2, channels)) else 14)
         self._check(self._library.x25_new(self._slot, end, _Settings(k, n2, channels, long_data, say_sizes, wide)))
 
@@ -363,19 +361,13 @@ class Station:
     def receive_all(self, frames: Iterable[bytes]) -> Answer:
         """Several frames came, one behind another; what is answered to all of them. It ends at one that is refused, and the error has
         what was answered up to there."""
-        answered: list[bytes] = []
-        events: list[Event] = []
-        timer = Timer.GOES_ON
-        receive, slot = self._library.x25_receive, self._slot
+        frames = list(frames)
+        octets, counts = b"".join(frames), _packer(len(frames))(*map(len, frames))
         with self._lock:
-            for taken, octets in enumerate(frames):
-                number = receive(slot, octets, len(octets))
-                if number:
-                    raise Refused(number, self._text(number), taken, Answer(answered, events, timer))
-                later = self._take(answered, events)
-                if later != Timer.GOES_ON:
-                    timer = later
-        return Answer(answered, events, timer)
+            number = self._library.x25_receive_all(self._slot, octets, len(octets), counts, len(frames), self._taken_at)
+            if number:
+                raise Refused(number, self._text(number), self._taken.value, self._answer())
+            return self._answer()
 
     def send(self, channel: int, user: bytes, q: bool = False) -> Answer:
         """Sends a message of at most 65,535 octets, with or without the qualifier."""
@@ -414,6 +406,11 @@ class Station:
         with self._lock:
             return bool(self._library.x25_idle(self._slot))
 
+    def room(self, channel: int) -> int:
+        """How many messages more `send` takes on a channel: 8 less those that wait, and 0 where it is refused."""
+        with self._lock:
+            return int(self._library.x25_room(self._slot, channel)) if 0 <= channel < 65536 else 0
+
     def stretch(self, channel: int) -> tuple[int, int, int] | None:
         """The stretch that is open on a channel, as `Event.stretch` has it; None where none is."""
         name = _StretchName()
@@ -423,7 +420,7 @@ class Station:
         return name.restarts, name.clears, name.resets
 
     def _octets(self, count: int) -> bytes:
-        return ctypes.string_at(self._room, count)
+        return self._view[:count].tobytes()
 
     def _text(self, number: int) -> str:
         return self._octets(self._library.x25_refusal_text(number, self._room, _ROOM_SIZE)).decode()
@@ -440,54 +437,61 @@ class Station:
 
     def _call(self, function: Callable[..., int], *words: Any) -> Answer:
         """Makes a call and takes its answer, while no other thread is in one."""
-        frames: list[bytes] = []
-        events: list[Event] = []
         with self._lock:
             number = function(self._slot, *words)
             if number:
                 self._check(number)
-            return Answer(frames, events, self._take(frames, events))
+            return self._answer()
 
-    def _take(self, frames: list[bytes], events: list[Event]) -> Timer:
-        """Takes the frames and events of the last answer behind others; answers what becomes of the timer, which is its last item."""
-        take, slot, event, at, room, i = self._library.x25_take, self._slot, self._event, self._told_at, self._room, 0
-        while take(slot, i, at, room, _ROOM_SIZE):
-            kind = event.kind
-            if kind == _FRAME:
-                frames.append(ctypes.string_at(room, event.count))
-            elif kind == _TIMER:
-                timer: int = event.timer
-                return _TIMERS[timer]
-            else:
-                events.append(self._told(i, _KINDS[kind], event))
-            i += 1
-        return Timer.GOES_ON
+    def _answer(self) -> Answer:
+        """Takes the last answer, of which the timer is the last item."""
+        frames: list[bytes] = []
+        events: list[Event] = []
+        first, count, items, room = 0, self._take_first(), self._items_view, self._view
+        while count:
+            at = 0
+            for i, (kind, timer, length) in enumerate(_HEAD.iter_unpack(items[: count * _ITEM.size])):
+                if kind == _FRAME:
+                    frames.append(room[at : at + length].tobytes())
+                elif kind == _TIMER:
+                    return Answer(frames, events, _TIMERS[timer])
+                else:
+                    events.append(self._event(first + i, _ITEM.unpack_from(items, i * _ITEM.size), room[at : at + length].tobytes()))
+                at += length
+            first += count
+            count = self._library.x25_take_all(self._slot, first, self._items_at, _ITEMS, self._room, _ROOM_SIZE)
+        return Answer(frames, events, Timer.GOES_ON)  # the station was closed
 
-    def _told(self, i: int, kind: Kind, event: Any) -> Event:
-        """The event that stands in a place of the answer, whose user data lie in the room."""
-        user, called, calling, facilities = self._octets(event.count), "", "", b""
-        if kind in _WITH_ADDRESSES:
-            called, calling = (self._part(read, i).decode() for read in (self._library.x25_called, self._library.x25_calling))
-        elif kind == Kind.BESIDE:
-            facilities = self._part(self._library.x25_facilities, i)
-        name, sizes = event.stretch, event.sizes
-        return Event(
-            kind,
-            event.channel,
-            (name.restarts, name.clears, name.resets) if kind in _WITH_STRETCH else None,
-            event.q,
-            event.cause,
-            event.diagnostic,
-            Down(event.reason) if kind == Kind.LINK_DOWN else None,
-            Sizes(sizes.size_called, sizes.size_calling, sizes.window_called, sizes.window_calling) if kind in _WITH_SIZES else None,
-            called,
-            calling,
-            facilities,
-            user,
+    def _event(self, i: int, item: tuple[Any, ...], user: bytes) -> Event:
+        """The event that stands in a place of the answer."""
+        kind, has_addresses, has_sizes, has_stretch = _KINDS[item[0]]
+        event = object.__new__(Event)  # its own __init__, frozen, would take longer than the call
+        event.__dict__.update(
+            kind=kind,
+            channel=item[1],
+            stretch=item[11:14] if has_stretch else None,
+            q=item[2],
+            cause=item[3],
+            diagnostic=item[4],
+            reason=Down(item[5]) if item[5] else None,
+            sizes=Sizes(*item[6:10]) if has_sizes else None,
+            called=self._part(self._library.x25_called, i).decode() if has_addresses else "",
+            calling=self._part(self._library.x25_calling, i).decode() if has_addresses else "",
+            facilities=self._part(self._library.x25_facilities, i) if kind is Kind.BESIDE else b"",
+            user=user,
         )
+        return event
 
     def _part(self, read: Callable[..., int], i: int) -> bytes:
-        return self._octets(read(self._slot, i, self._room, _ROOM_SIZE))
+        text = ctypes.create_string_buffer(_PART)  # the room has the octets of items that are still to be read
+        count = read(self._slot, i, text, _PART)
+        return text.raw[:count]
+
+
+@functools.lru_cache(maxsize=64)
+def _packer(count: int) -> Callable[..., bytes]:
+    """What packs so many counts of octets."""
+    return struct.Struct(f"@{count}N").pack
 
 
 def _sizes(sizes: Sizes | None) -> _Sizes:

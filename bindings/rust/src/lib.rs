@@ -77,6 +77,15 @@ pub struct Answer {
     pub timer: Timer,
 }
 
+/// What frames that came at once were answered: how many were taken, what is answered to all of these, and why the next was refused,
+/// where one was.
+#[derive(Clone, Debug, PartialEq, Eq)]
+pub struct Received {
+    pub taken: usize,
+    pub answer: Answer,
+    pub refused: Option<Refused>,
+}
+
 /// A call was refused, by a number of `x25.h`; the station is as before.
 #[derive(Clone, Copy, Debug, PartialEq, Eq)]
 pub struct Refused(pub u32);
@@ -254,6 +263,32 @@ impl Station {
         self.answer(number)
     }
 
+    /// Several frames came, one behind another, each received as by `receive`, up to one that is refused.
+    pub fn receive_all(&mut self, frames: &[impl AsRef<[u8]>]) -> Received {
+        let octets: Vec<u8> = frames
+            .iter()
+            .flat_map(|frame| frame.as_ref())
+            .copied()
+            .collect();
+        let counts: Vec<usize> = frames.iter().map(|frame| frame.as_ref().len()).collect();
+        let mut taken = 0;
+        let number = unsafe {
+            raw::x25_receive_all(
+                self.slot.get(),
+                octets.as_ptr(),
+                octets.len(),
+                counts.as_ptr(),
+                counts.len(),
+                &mut taken,
+            )
+        };
+        Received {
+            taken,
+            answer: self.items(),
+            refused: checked(number).err(),
+        }
+    }
+
     /// Sends a message of at most 65,535 octets, with or without the qualifier.
     pub fn send(&mut self, channel: u16, q: bool, user: &[u8]) -> Result<Answer, Refused> {
         let number =
@@ -296,6 +331,11 @@ impl Station {
         unsafe { raw::x25_idle(self.slot.get()) }
     }
 
+    /// How many messages more `send` takes on a channel: 8 less those that wait, and 0 where it is refused.
+    pub fn room(&self, channel: u16) -> usize {
+        unsafe { raw::x25_room(self.slot.get(), channel) }
+    }
+
     /// The stretch that is open on a channel, where one is.
     pub fn stretch(&self, channel: u16) -> Option<Stretch> {
         let mut name = Stretch::default();
@@ -305,25 +345,41 @@ impl Station {
     /// What a call answered, where it was done.
     fn answer(&mut self, number: u32) -> Result<Answer, Refused> {
         checked(number)?;
-        let (mut frames, mut events) = (Vec::new(), Vec::new());
-        let (mut timer, mut item) = (Timer::GoesOn, raw::Event::default());
-        let (at, size) = (self.room.as_mut_ptr(), self.room.len());
-        for i in 0.. {
-            if !unsafe { raw::x25_take(self.slot.get(), i, &mut item, at, size) } {
-                break;
+        Ok(self.items())
+    }
+
+    /// What the last call answered.
+    fn items(&mut self) -> Answer {
+        let (mut frames, mut events, mut timer) = (Vec::new(), Vec::new(), Timer::GoesOn);
+        let (mut items, mut first) = ([raw::Event::default(); 64], 0);
+        loop {
+            let (at, size) = (self.room.as_mut_ptr(), self.room.len());
+            let (places, most) = (items.as_mut_ptr(), items.len());
+            let taken =
+                unsafe { raw::x25_take_all(self.slot.get(), first, places, most, at, size) };
+            if taken == 0 {
+                return Answer {
+                    frames,
+                    events,
+                    timer,
+                };
             }
-            let octets = self.room[..item.count].to_vec();
-            match item.kind {
-                raw::FRAME => frames.push(octets),
-                raw::TIMER => timer = Timer::of(item.timer),
-                _ => events.push(self.event(i, item, octets)),
+            let mut rest = &self.room[..];
+            let mut next = |item: &raw::Event| {
+                let (octets, behind) = rest.split_at(item.count);
+                rest = behind;
+                octets.to_vec()
+            };
+            let octets: Vec<Vec<u8>> = items[..taken].iter().map(&mut next).collect();
+            for (i, (item, octets)) in items.into_iter().zip(octets).enumerate() {
+                match item.kind {
+                    raw::FRAME => frames.push(octets),
+                    raw::TIMER => timer = Timer::of(item.timer),
+                    _ => events.push(self.event(first + i, item, octets)),
+                }
             }
+            first += taken;
         }
-        Ok(Answer {
-            frames,
-            events,
-            timer,
-        })
     }
 
     /// The event that stands in a place of the answer.
@@ -368,13 +424,10 @@ mod tests {
     ) -> Vec<Event> {
         let mut told = answer.events;
         while !answer.frames.is_empty() {
-            let mut frames = Vec::new();
-            for octets in &answer.frames {
-                let next = far.receive(octets).unwrap();
-                frames.extend(next.frames);
-                told.extend(next.events);
-            }
-            answer.frames = frames;
+            let come = far.receive_all(&answer.frames);
+            assert_eq!((come.taken, come.refused), (answer.frames.len(), None));
+            answer = come.answer;
+            told.append(&mut answer.events);
             (near, far) = (far, near);
         }
         told

@@ -85,15 +85,24 @@ extern "C" {
     pub fn x25_pull(slot: *mut Slot) -> u32;
     pub fn x25_t1(slot: *mut Slot) -> u32;
     pub fn x25_receive(slot: *mut Slot, octets: *const u8, count: usize) -> u32;
+    pub fn x25_receive_all(
+        slot: *mut Slot,
+        octets: *const u8,
+        octets_count: usize,
+        counts: *const usize,
+        counts_count: usize,
+        taken: *mut usize,
+    ) -> u32;
     pub fn x25_send(slot: *mut Slot, channel: u16, q: bool, user: *const u8, count: usize) -> u32;
     pub fn x25_command(slot: *mut Slot, text: *const u8, count: usize) -> u32;
-    pub fn x25_take(
+    pub fn x25_take_all(
         slot: *const Slot,
-        i: usize,
-        event: *mut Event,
+        first: usize,
+        events: *mut Event,
+        most: usize,
         room: *mut u8,
         size: usize,
-    ) -> bool;
+    ) -> usize;
     pub fn x25_called(slot: *const Slot, i: usize, text: *mut u8, size: usize) -> usize;
     pub fn x25_calling(slot: *const Slot, i: usize, text: *mut u8, size: usize) -> usize;
     pub fn x25_facilities(slot: *const Slot, i: usize, room: *mut u8, size: usize) -> usize;
@@ -108,6 +117,7 @@ extern "C" {
     pub fn x25_timer(slot: *const Slot) -> u32;
     pub fn x25_waits(slot: *const Slot) -> bool;
     pub fn x25_idle(slot: *const Slot) -> bool;
+    pub fn x25_room(slot: *const Slot, channel: u16) -> usize;
     pub fn x25_stretch(slot: *const Slot, channel: u16, name: *mut Stretch) -> bool;
     pub fn x25_refusal_text(number: u32, text: *mut u8, size: usize) -> usize;
 }

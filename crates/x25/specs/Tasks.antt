@@ -1,10 +1,13 @@
 -- What the program writes for a task, and the status that it ends with (profile).
-use Rattle.std.specs.Prelude.{◌≡◌, ◌≤◌, ◌⊎◌, ⊤, ℕ, Bool, true, false, List, if◌then◌else◌, Option}
+use Rattle.std.specs.Prelude.{◌≡◌, ◌≤◌, ◌⊎◌, ⊤, ℕ, Bool, true, false, List, if◌then◌else◌, Option, Some, None}
+use Rattle.std.specs.Prelude.{unwrap_or}
 use Rattle.std.specs.Io.KnownBytes.{Appends}
 use Rattle.x25_bits.specs.declared.role.Role.{Role}
 use Rattle.x25_bits.specs.declared.role.Role.TheVariants as role
 use Rattle.x25_bit_line.specs.code.Frames as framing
 use Rattle.x25_bit_line.specs.code.Reads as deframing
+use Rattle.x25_clock.specs.Times.{standard}
+use Rattle.x25_clock.specs.declared.times.Times.{Times}
 use Rattle.x25_decode.specs.TestVectors.{verdicts, are_right}
 use Rattle.x25_decode.specs.code.LooseStream as decoding
 use Rattle.x25_io.specs.Loose.{asked_text}
@@ -13,8 +16,11 @@ use Rattle.x25_io.specs.code.Written.{AppendsPrefix}
 use Rattle.x25_judge.specs.Judge.{begins}
 use Rattle.x25_judge.specs.code.Stream as judging
 use Rattle.x25_pipe.specs.code.Stream as piping
+use Rattle.x25_pipe.specs.code.TimedStream.{timed_program}
 use Rattle.x25_settings.specs.declared.options.End.{End}
 use Rattle.x25_settings.specs.declared.options.End.TheVariants.{Dte, Dce}
+use Rattle.x25_settings.specs.declared.options.GivenTimes.{GivenTimes}
+use Rattle.x25_settings.specs.declared.options.Place.{Place}
 use Rattle.x25_settings.specs.declared.options.Simulation.{Simulation}
 use Rattle.x25_settings.specs.declared.options.StationOptions.{StationOptions}
 use Rattle.x25_settings.specs.declared.words.Task.{Task}
@@ -23,7 +29,7 @@ use Rattle.x25_sim.specs.code.Stream as simulating
 use Rattle.x25_sim.specs.declared.stage.Shown.{Shown}
 use Rattle.x25_sim.specs.laws.WritesRun.{WritesRun}
 use Rattle.x25_station.specs.declared.config.Cfg.{Cfg}
-use Rattle.x25_station.specs.Config.{settings_from}
+use Rattle.x25_station.specs.Config.{Settings, settings_from}
 
 -- the settings of a station
 abbrev pub settings_in : StationOptions → Cfg
@@ -44,6 +50,25 @@ role_in Dce = role.Dce
 abbrev pub shown_in : Simulation → Shown
 shown_in s = record { tap = s.tap; events = s.events }
 
+-- how long the timers of a clock are; what isn't given is as is usual at that end
+abbrev pub times_in : Role → GivenTimes → Times
+times_in end given = record {
+  t1 = unwrap_or given.t1 (standard end).t1;
+  t3 = unwrap_or given.t3 (standard end).t3;
+  t20 = unwrap_or given.t20 (standard end).t20;
+  t21 = unwrap_or given.t21 (standard end).t21;
+  t22 = unwrap_or given.t22 (standard end).t22;
+  t23 = unwrap_or given.t23 (standard end).t23;
+}
+
+-- one station, with a clock or without
+abbrev pub clock_program : Settings → Role → Option GivenTimes → Program
+clock_program c end None = piping.program c
+clock_program c end (Some given) = timed_program c (times_in end given)
+
+abbrev pub place_program : Place → Program
+place_program p = clock_program (settings_from (role_in p.end) (settings_in p.station)) (role_in p.end) p.clock
+
 -- the program that does a task; `vectors` reads nothing
 abbrev pub program_of : Task → Program
 program_of (Decode d) = decoding.program_by d.loose (record { long = d.long; wide = d.wide })
@@ -53,7 +78,7 @@ program_of Vectors = record {
   Ended = λ _ _ _ _. ⊥;
 }
 program_of (Sim s) = simulating.program (settings_in s.station) s.down (shown_in s) s.loose
-program_of (Station p) = piping.program (settings_from (role_in p.end) (settings_in p.station))
+program_of (Station p) = place_program p
 program_of (Judge g) = judging.program g.loose (begins g.k (record { long = g.long; wide = g.wide })
     (record { unjudged = g.strict; manners = g.manners }))
 program_of (Deframe end) = deframing.program (role_in end)

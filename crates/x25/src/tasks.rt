@@ -1,22 +1,21 @@
 //! What each task does, over any reader and writer.
 ghost use Rattle.std.specs.Prelude.{◌≡◌, true, IsErrOf, OnOk};
-ghost use Rattle.x25.specs.Tasks.{WritesScript, is_plain, program_of, role_in, settings_in, shown_in};
+ghost use Rattle.x25.specs.Tasks.{WritesScript, is_plain, place_program, program_of, role_in, settings_in, shown_in};
+ghost use Rattle.x25.specs.Tasks.{times_in};
 ghost use Rattle.x25_io.specs.Loose.{asked_text};
 ghost use Rattle.x25_io.specs.code.Runs.{OfInput, Runs};
-ghost use Rattle.x25_pipe.specs.code.Stream as piping;
 ghost use Rattle.x25_settings.specs.Options as options;
 ghost use Rattle.x25_settings.specs.Words.{AreInRange};
 ghost use Rattle.x25_sim.specs.code.Stream as simulating;
 ghost use Rattle.x25_sim.specs.laws.WritesRun.{WritesRun};
-ghost use Rattle.x25_station.specs.Config.{settings_from};
 
 use std::alloc::Global;
 use x25_bit_line::{deframe, frame};
 use x25_decode::{Reading, decode_lines, vectors};
 use x25_io::{Fault, Sink, Source};
 use x25_judge::{Strictness, judge_lines};
-use x25_pipe::{Role, station};
-use x25_settings::{End, Place, Simulation, StationOptions, Task};
+use x25_pipe::{Role, Times, station, timed_station};
+use x25_settings::{End, GivenTimes, Place, Simulation, StationOptions, Task};
 use x25_sim::{Cfg, Reporter, Shown, sim};
 
 /// The settings of a station, as the words of the command line say them.
@@ -43,6 +42,21 @@ fn role_of(end: End) -> Role
     }
 }
 
+/// How long the timers of a clock at an end are, as the words of the command line say it, or else as is usual there.
+fn times_of(end: Role, given: GivenTimes) -> Times
+    ensures { result ≡ times_in end given }
+{
+    let usual = Times::standard(end);
+    Times {
+        t1: given.t1.unwrap_or(usual.t1),
+        t3: given.t3.unwrap_or(usual.t3),
+        t20: given.t20.unwrap_or(usual.t20),
+        t21: given.t21.unwrap_or(usual.t21),
+        t22: given.t22.unwrap_or(usual.t22),
+        t23: given.t23.unwrap_or(usual.t23),
+    }
+}
+
 /// Runs one station as the words of the command line ask for.
 fn answer_lines<R: Source, W: Sink>(
     alloc: Global,
@@ -51,16 +65,14 @@ fn answer_lines<R: Source, W: Sink>(
     writer: &mut W,
 ) -> Result<u8, Fault>
     requires { options.AreInRange place.station }
-    ensures { Runs R.Source W.Sink (piping.program (settings_from (role_in place.end) (settings_in place.station)))
-        reader.old reader.new writer.old writer.new result }
+    ensures { Runs R.Source W.Sink (place_program place) reader.old reader.new writer.old writer.new result }
 {
-    station(
-        alloc,
-        role_of(place.end),
-        settings_of(place.station),
-        reader,
-        writer,
-    )
+    let end = role_of(place.end);
+    let cfg = settings_of(place.station);
+    match place.clock {
+        None => station(alloc, end, cfg, reader, writer),
+        Some(given) => timed_station(alloc, end, cfg, times_of(end, given), reader, writer),
+    }
 }
 
 /// Runs the simulator as the words of the command line ask for.

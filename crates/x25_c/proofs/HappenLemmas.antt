@@ -10,7 +10,7 @@ use Rattle.x25_station.specs.Station.{Station}
 use Rattle.x25_station.specs.Step.{Outcome, Did, Refused}
 use Rattle.x25_station.specs.Timer.{standing}
 use Rattle.x25_station.specs.code.Clock as clock
-use Rattle.x25_station.specs.code.FitsStation.{FitsStation, Does, IsEmpty, Leaves, Sends, Enters, Refuses}
+use Rattle.x25_station.specs.code.FitsStation.{FitsStation, FitsStill, Does, IsEmpty, Leaves, Sends, Enters, Refuses}
 use Rattle.x25_station.specs.code.PlainEntry.{plain_entry}
 use Rattle.x25_station.specs.laws.TimerLaw.{Event, outcome, is_firing}
 use Rattle.x25_c.specs.declared.held.Held.{Held}
@@ -94,3 +94,17 @@ is_refused old new e event end waits refused stays empty timer = record {
 pub no_memory : (o : Outcome) → Refuses {T = Unit} (Err error.NoMemory) o
 no_memory (Did step) = refl
 no_memory (Refused e) = inr refl
+
+-- an event of a station that stands for what another stood for
+pub from_still : (old mid new : Held) (r : Result Unit StationError) (event : Event) → FitsStill old.station mid.station → mid.end ≡ old.end → Happens mid new r event → Happens old new r event
+from_still old mid new r event still end h = record {
+  end = h.end ∙ end;
+  state = λ c s fits. h.state c s (still c s fits);
+  frames = λ c s fits. h.frames c s (still c s fits);
+  entries = λ c s fits. h.entries c s (still c s fits);
+  timer = λ c s fits. h.timer c s (still c s fits);
+  refused = λ c s fits. h.refused c s (still c s fits);
+  stays = λ c s fits. h.stays c s (still c s fits);
+  empty = h.empty;
+  rests = h.rests;
+}

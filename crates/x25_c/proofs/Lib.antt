@@ -2,3 +2,5 @@ pub mod BoxLemmas
 pub mod HappenLemmas
 pub mod AskedLemmas
 pub mod ItemLemmas
+pub mod TakeLemmas
+pub mod ReceiveLemmas

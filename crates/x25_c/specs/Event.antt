@@ -59,10 +59,10 @@ asked_event channel name (Calls called calling user proposal) =
     record (under 23 channel name) { sizes = sizes_told proposal.params; count = length user }
 asked_event channel name (Accepts None) = on 24 channel
 asked_event channel name (Accepts (Some answer)) = record (on 24 channel) { sizes = sizes_told answer.params }
-asked_event channel name Clears = on 25 channel
+asked_event channel name (Clears cause diagnostic) = for_reason cause diagnostic (on 25 channel)
 asked_event channel name (Sends q user) = record (under 26 channel name) { q = q; count = length user }
 asked_event channel name (Interrupts user) = record (under 27 channel name) { count = length user }
-asked_event channel name Resets = on 28 channel
+asked_event channel name (Resets cause diagnostic) = for_reason cause diagnostic (on 28 channel)
 asked_event channel name SaysReady = on 29 channel
 asked_event channel name SaysNotReady = on 30 channel
 
@@ -88,7 +88,7 @@ said_event channel name (Told notice) = told_event channel name notice
 
 abbrev pub entry_event : StationEntry → Event
 entry_event (of_channel e) = said_event e.channel e.name e.said
-entry_event restart_asked = kind_alone 22
+entry_event (restart_asked cause diagnostic) = for_reason cause diagnostic (kind_alone 22)
 entry_event connect_asked = kind_alone 20
 entry_event disconnect_asked = kind_alone 21
 entry_event relink_asked = kind_alone 31

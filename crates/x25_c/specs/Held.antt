@@ -1,17 +1,68 @@
 -- What a station that is held last answered, as C takes it (profile).
-use Rattle.std.specs.Prelude.{◌≡◌, ℕ, List, [], ◌∷◌, map, get_or, Option, Some, None}
+use Rattle.std.specs.Prelude.{◌≡◌, ℕ, List, [], ◌∷◌, ◌++◌, map, get_or, Option, Some, None}
+use Rattle.x25_station.specs.declared.step.Step.{Step}
+use Rattle.x25_station.specs.declared.timer.Timer.{Timer}
+use Rattle.x25_station.specs.declared.timer.Timer.TheVariants.{Off, Begins, GoesOn}
 use Rattle.x25_station.specs.code.PlainEntry.{plain_entry}
 use Rattle.x25_station.specs.Entry.{StationEntry, of_channel}
 use Rattle.x25_transcript.specs.EntryText.{entry_line}
 use Rattle.x25_c.specs.declared.held.Held.{Held}
 
--- the octets of each frame
+-- what was answered: the octets of each frame, the entries, and what becomes of T1
+pub record Whole : Type 0 where
+  pub frames : List (List ℕ)
+  pub entries : List StationEntry
+  pub timer : Timer
+
+abbrev pub part_of : Step → Whole
+part_of step = record {
+  frames = map (λ frame. frame.items) step.frames.items;
+  entries = map plain_entry step.entries.items;
+  timer = step.timer;
+}
+
+abbrev pub no_answer : Whole
+no_answer = record { frames = []; entries = []; timer = GoesOn }
+
+-- T1 behind two answers is as the later says, and where it goes on there as the first says
+abbrev pub timer_then : Timer → Timer → Timer
+timer_then first Off = Off
+timer_then first Begins = Begins
+timer_then first GoesOn = first
+
+abbrev pub and_then : Whole → Whole → Whole
+and_then first later = record {
+  frames = first.frames ++ later.frames;
+  entries = first.entries ++ later.entries;
+  timer = timer_then first.timer later.timer;
+}
+
+-- of all frames, or of the one call
+abbrev pub whole_of : Held → Whole
+whole_of h = record {
+  frames = map (λ frame. frame.items) (h.earlier.frames.items ++ h.step.frames.items);
+  entries = map plain_entry (h.earlier.entries.items ++ h.step.entries.items);
+  timer = timer_then h.earlier.timer h.step.timer;
+}
+
 abbrev pub frames_of : Held → List (List ℕ)
-frames_of h = map (λ frame. frame.items) h.step.frames.items
+frames_of h = (whole_of h).frames
+
+abbrev pub entries_of : Held → List StationEntry
+entries_of h = (whole_of h).entries
+
+abbrev pub timer_of : Held → Timer
+timer_of h = (whole_of h).timer
 
 -- the line of each entry
 abbrev pub lines_of : Held → List (List ℕ)
-lines_of h = map (λ entry. entry_line h.end (plain_entry entry)) h.step.entries.items
+lines_of h = map (λ entry. entry_line h.end (plain_entry entry)) (h.earlier.entries.items ++ h.step.entries.items)
+
+-- the last step is all that was answered
+pub record IsAlone (h : Held) : Type 0 where
+  pub frames : h.earlier.frames.items ≡ []
+  pub entries : h.earlier.entries.items ≡ []
+  pub timer : h.earlier.timer ≡ GoesOn
 
 -- the channel of the first entry, 0 where that has none
 abbrev pub first_channel : List StationEntry → ℕ
@@ -30,6 +81,7 @@ pub record IsSame (old new : Held) : Type 0 where
   pub end : new.end ≡ old.end
   pub station : new.station ≡ old.station
   pub step : new.step ≡ old.step
+  pub earlier : new.earlier ≡ old.earlier
   pub waits : new.waits ≡ old.waits
 
 abbrev pub AreSame : Option Held → Option Held → Type 0

@@ -1,6 +1,8 @@
 -- The items of what a station that is held last answered (profile): the frames, the entries, each in order, and what
 -- becomes of timer T1.
-use Rattle.std.specs.Prelude.{◌≡◌, ℕ, Bool, true, false, List, [], ◌∷◌, ◌++◌, map, length, Option, Some, None}
+use Rattle.std.specs.Prelude.{◌≡◌, ◌⊎◌, ℕ, ◌+◌, ◌^◌, ◌<◌, ◌≤◌, Bool, true, false, List, [], ◌∷◌, ◌++◌, map, length}
+use Rattle.std.specs.Prelude.{take, drop, Option, Some, None}
+use Rattle.std.specs.List.{flat_map}
 use Rattle.x25_station.specs.declared.timer.Timer.{Timer}
 use Rattle.x25_station.specs.code.PlainEntry.{plain_entry}
 use Rattle.x25_station.specs.Entry.{StationEntry}
@@ -10,7 +12,7 @@ use Rattle.x25_c.specs.declared.item.Item.{Item}
 use Rattle.x25_c.specs.declared.item.Item.TheVariants as code
 use Rattle.x25_c.specs.Copying.{Copies}
 use Rattle.x25_c.specs.Event.{kind_alone, entry_event, entry_user, entry_facilities, entry_called, entry_calling}
-use Rattle.x25_c.specs.Held.{frames_of}
+use Rattle.x25_c.specs.Held.{frames_of, timer_of}
 use Rattle.x25_c.specs.Slot.{number_of_timer}
 
 pub data PlainItem : Type 0 where
@@ -25,7 +27,8 @@ plain_item (code.Timer timer) = the_timer timer
 
 -- behind the frames
 abbrev pub later_items : Held → List PlainItem
-later_items h = map (λ entry. an_entry (plain_entry entry)) h.step.entries.items ++ the_timer h.step.timer ∷ []
+later_items h = map (λ entry. an_entry (plain_entry entry)) (h.earlier.entries.items ++ h.step.entries.items)
+    ++ the_timer (timer_of h) ∷ []
 
 abbrev pub items_of : Held → List PlainItem
 items_of h = map a_frame (frames_of h) ++ later_items h
@@ -67,3 +70,18 @@ abbrev pub Takes : Option PlainItem → Bool → Event → Event → List ℕ �
 Takes None is_there old new before after = (is_there ≡ false) × (new ≡ old) × (after ≡ before)
 Takes (Some item) is_there old new before after = (is_there ≡ true) × (new ≡ event_at item)
     × Copies (octets_at item) before after
+
+-- ---- items that are taken at once
+
+-- their octets, one behind another
+abbrev pub octets_of : List PlainItem → List ℕ
+octets_of items = flat_map octets_at items
+
+-- Of these items so many are taken, from this place on: as many as there are, or as fit, or have a place of 64 bits.
+pub record TakesAll (first : ℕ) (items : List PlainItem) (n : ℕ) (old new : List Event)
+    (before after : List ℕ) : Type 0 where
+  pub there : n ≤ length items
+  pub events : new ≡ map event_at (take n items) ++ drop n old
+  pub octets : after ≡ octets_of (take n items) ++ drop (length (octets_of (take n items))) before
+  pub most : (n ≡ length items) ⊎ ((n ≡ length old) ⊎ ((length before < length (octets_of (take (n + 1) items)))
+      ⊎ (2 ^ 64 ≤ first + n)))

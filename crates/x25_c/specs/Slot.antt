@@ -1,5 +1,5 @@
 -- What a call leaves in the place where C holds a station, and the number that it answers (profile).
-use Rattle.std.specs.Prelude.{◌≡◌, ℕ, Option, Some, None, IsSomeAnd, Result, Ok, Err}
+use Rattle.std.specs.Prelude.{◌≡◌, ℕ, List, Option, Some, None, IsSomeAnd, Result, Ok, Err}
 use Rattle.x25_console.specs.Commands.{command_asked}
 use Rattle.x25_script.specs.ScriptLine.{PlainCommand}
 use Rattle.x25_station.specs.declared.error.StationError.{StationError}
@@ -10,8 +10,10 @@ use Rattle.x25_station.specs.declared.timer.Timer.TheVariants.{Off, Begins, Goes
 use Rattle.x25_station.specs.Error.{number_of}
 use Rattle.x25_station.specs.laws.TimerLaw.{Event, Asks}
 use Rattle.x25_c.specs.declared.held.Held.{Held}
+use Rattle.x25_c.specs.Held.{IsAlone}
 use Rattle.x25_c.specs.Making.{role_of, making_refusal}
 use Rattle.x25_c.specs.code.Happens.{Happens, IsNew}
+use Rattle.x25_c.specs.code.Receives.{ReceivesAll}
 
 -- the number of a result: 0, or that of its error
 abbrev pub number_in : Result Unit StationError → ℕ
@@ -26,7 +28,8 @@ number_of_timer GoesOn = 2
 
 -- a call of a station that is held does what the definition says of it, and answers the number of how it ended
 abbrev pub AnswersOne : Held → Held → ℕ → Event → Type 0
-AnswersOne old new number event = (r : Result Unit StationError) × (number ≡ number_in r) × Happens old new r event
+AnswersOne old new number event =
+    (r : Result Unit StationError) × (number ≡ number_in r) × Happens old new r event × IsAlone new
 
 -- where none is held, a call answers 16 and holds none behind it
 abbrev pub Answers : Option Held → Option Held → ℕ → Event → Type 0
@@ -62,3 +65,10 @@ Makes (Some old) new number end cfg = (number ≡ 17) × (new ≡ Some old)
 Makes None None number end cfg = RefusesNumber number (refusal_in end cfg)
 Makes None (Some new) number end cfg = (number ≡ 0)
     × IsSomeAnd cfg (λ known. IsSomeAnd (role_of end) (λ role. IsNew role known new))
+
+-- frames that came one behind another: each is received, up to one that is refused; the number says why
+abbrev pub AnswersAll : List ℕ → List ℕ → Option Held → Option Held → ℕ → ℕ → Type 0
+AnswersAll octets counts None None taken number = number ≡ 16
+AnswersAll octets counts None (Some new) taken number = ⊥
+AnswersAll octets counts (Some old) None taken number = ⊥
+AnswersAll octets counts (Some old) (Some new) taken number = ReceivesAll octets counts old new taken number

@@ -1,1 +1,2 @@
 pub mod Happens
+pub mod Receives

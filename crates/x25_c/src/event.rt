@@ -140,7 +140,11 @@ impl Event {
                 sizes: Sizes::of(*params),
                 ..Event::on(ACCEPT_ASKED, channel)
             },
-            Asked::Clear => Event::on(CLEAR_ASKED, channel),
+            Asked::Clear { cause, diagnostic } => Event {
+                cause: *cause,
+                diagnostic: *diagnostic,
+                ..Event::on(CLEAR_ASKED, channel)
+            },
             Asked::Send { q, user } => Event {
                 q: *q,
                 count: user.len(),
@@ -150,7 +154,11 @@ impl Event {
                 count: user.len(),
                 ..Event::under(INTERRUPT_ASKED, channel, name)
             },
-            Asked::Reset => Event::on(RESET_ASKED, channel),
+            Asked::Reset { cause, diagnostic } => Event {
+                cause: *cause,
+                diagnostic: *diagnostic,
+                ..Event::on(RESET_ASKED, channel)
+            },
             Asked::Ready => Event::on(READY_ASKED, channel),
             Asked::NotReady => Event::on(NOT_READY_ASKED, channel),
         }
@@ -214,7 +222,11 @@ impl Event {
                 name,
                 said: Said::Told(told),
             } => Event::of_told(*channel, name, told),
-            Entry::RestartAsked => Event::alone(RESTART_ASKED),
+            Entry::RestartAsked { cause, diagnostic } => Event {
+                cause: *cause,
+                diagnostic: *diagnostic,
+                ..Event::alone(RESTART_ASKED)
+            },
             Entry::ConnectAsked => Event::alone(CONNECT_ASKED),
             Entry::DisconnectAsked => Event::alone(DISCONNECT_ASKED),
             Entry::RelinkAsked => Event::alone(RELINK_ASKED),

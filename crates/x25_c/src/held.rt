@@ -1,5 +1,5 @@
 //! A station, and what it last answered.
-ghost use Rattle.std.specs.Prelude.{◌≡◌, ◌<◌, OnOk, Some, length, map, slice_get};
+ghost use Rattle.std.specs.Prelude.{◌≡◌, ◌≤◌, ◌+◌, OnOk, length, slice_get};
 ghost use Rattle.std.specs.Option.{option_map};
 ghost use Rattle.x25_bits.specs.declared.role.Role.{Role};
 ghost use Rattle.x25_console.specs.Commands.{command_asked};
@@ -9,26 +9,32 @@ ghost use Rattle.x25_station.specs.declared.config.Cfg.{Cfg};
 ghost use Rattle.x25_station.specs.Config.{settings_from};
 ghost use Rattle.x25_station.specs.Station.{new_station};
 ghost use Rattle.x25_station.specs.laws.TimerLaw.{Asks, Event};
-ghost use Rattle.x25_station.specs.code.FitsStation.{FitsStation};
-ghost use Rattle.x25_c.specs.Held.{channel_of, frames_of, in_place, lines_of};
-ghost use Rattle.x25_c.specs.Item.{a_frame, items_of, later_items, plain_item};
+ghost use Rattle.x25_station.specs.code.FitsStation.{FitsStation, FitsStill};
+ghost use Rattle.x25_c.specs.Held.{channel_of, entries_of, frames_of, in_place, lines_of, no_answer, part_of};
+ghost use Rattle.x25_c.specs.Held.{timer_of, whole_of, IsAlone};
+ghost use Rattle.x25_c.specs.Item.{items_of, later_items, plain_item};
 ghost use Rattle.x25_c.specs.code.Happens.{GivesAnswer, Happens, IsNew, PullsBehind, event_of};
+ghost use Rattle.x25_c.specs.code.Receives.{ReceivesAll};
 
+use crate::answers::{in_both, then};
 use crate::happening::{Happening, happen};
 use crate::item::Item;
+use crate::numbers::{BAD_PARAMETER, NO_MEMORY};
 use std::alloc::{AllocError, Global};
 use x25_console::{read_user, station_command};
 use x25_script::{Command, HexDigits, ScriptTaker, read_command};
-use x25_station::{Entry, Role, Station, StationError, Step};
+use x25_station::{Entry, Role, Station, StationError, Step, Timer};
 use x25_text::Text;
 use x25_transcript::push_entry;
 
 /// A station, which end it is, what it answered to its last call, nothing where that was refused, and whether memory
-/// was refused for the pull behind that.
+/// was refused for the pull behind that. Of frames that came in one call, `earlier` is what all but the last were
+/// answered.
 #[derive(Drop)]
 pub struct Held {
     pub end: Role,
     pub station: Station,
+    pub earlier: Step,
     pub step: Step,
     pub waits: bool,
     pub(crate) line: Text,
@@ -42,15 +48,32 @@ impl Held {
         Held {
             end,
             station,
+            earlier: Step {
+                frames: Vec::new(alloc),
+                entries: Vec::new(alloc),
+                timer: Timer::GoesOn,
+            },
             step: Step::new(alloc),
             waits: false,
             line,
         }
     }
 
+    // Takes back what frames before the last were answered.
+    fn begin(&mut self)
+        ensures station { FitsStill self.old.station self.new.station }
+        ensures alone { IsAlone self.new }
+        ensures end { self.new.end ≡ self.old.end }
+        ensures step { self.new.step ≡ self.old.step }
+    {
+        self.station.reuse(&mut self.earlier);
+        self.earlier.timer = Timer::GoesOn;
+    }
+
     // Pulls what waits, behind an event.
     fn pull(&mut self)
-        ensures { PullsBehind self.old self.new }
+        ensures pulls { PullsBehind self.old self.new }
+        ensures earlier { self.new.earlier ≡ self.old.earlier }
     {
         self.waits = self.station.pull(&mut self.step).is_err();
     }
@@ -58,7 +81,18 @@ impl Held {
     /// Lets something happen to the station, and pulls behind it.
     #[inline(always)]
     pub(crate) fn happen(&mut self, event: Happening<'_>) -> Result<(), StationError>
-        ensures { Happens self.old self.new result (event_of event.entry) }
+        ensures happens { Happens self.old self.new result (event_of event.entry) }
+        ensures alone { IsAlone self.new }
+    {
+        self.begin();
+        self.go_on(event)
+    }
+
+    // The same behind what was answered before.
+    #[inline(always)]
+    fn go_on(&mut self, event: Happening<'_>) -> Result<(), StationError>
+        ensures happens { Happens self.old self.new result (event_of event.entry) }
+        ensures earlier { self.new.earlier ≡ self.old.earlier }
     {
         self.waits = false;
         match happen(&mut self.station, event, &mut self.step) {
@@ -72,8 +106,10 @@ impl Held {
 
     // Refuses for want of memory.
     fn refuse(&mut self) -> Result<(), StationError>
-        ensures { (event : Event) → Happens self.old self.new result event }
+        ensures happens { (event : Event) → Happens self.old self.new result event }
+        ensures alone { IsAlone self.new }
     {
+        self.begin();
         self.station.reuse(&mut self.step);
         self.waits = false;
         Err(StationError::NoMemory)
@@ -81,7 +117,8 @@ impl Held {
 
     // Does a command.
     fn ask(&mut self, alloc: Global, command: Command) -> Result<(), StationError>
-        ensures { Happens self.old self.new result (Asks (command_asked (plain_command command.entry))) }
+        ensures happens { Happens self.old self.new result (Asks (command_asked (plain_command command.entry))) }
+        ensures alone { IsAlone self.new }
     {
         let mut user = Vec::new(alloc);
         let Ok(count) = read_user(&command, &mut user) else {
@@ -101,10 +138,73 @@ impl Held {
         read_command(self.end, text, self, &mut alloc)
     }
 
+    // Puts the last answer behind those before it. Err: no memory; all that was answered stands in either case.
+    fn keep(&mut self) -> Result<(), AllocError>
+        ensures whole { whole_of self.new ≡ whole_of self.old }
+        ensures kept { OnOk result (part_of self.new.step ≡ no_answer) }
+        ensures station { self.new.station ≡ self.old.station }
+        ensures end { self.new.end ≡ self.old.end }
+        ensures waits { self.new.waits ≡ self.old.waits }
+    {
+        self.earlier.frames.append(&mut self.step.frames)?;
+        self.earlier.entries.append(&mut self.step.entries)?;
+        self.earlier.timer = then(self.earlier.timer, self.step.timer);
+        self.step.timer = Timer::GoesOn;
+        Ok(())
+    }
+
+    /// Receives frames one behind another, the octets of all, of which each has so many, up to one that is refused.
+    /// Answers how many were taken, and the number of the refusal, 0 where there is none.
+    ///
+    /// 34 where the octets of the next aren't there, 70, and else as `Station::receive`.
+    pub(crate) fn receive_all(&mut self, octets: &[u8], counts: &[usize]) -> (usize, u32)
+        ensures { ReceivesAll octets.now counts.now self.old self.new result.0 result.1 }
+    {
+        self.begin();
+        self.station.reuse(&mut self.step);
+        self.step.timer = Timer::GoesOn;
+        let mut at = 0;
+        for place in 0..counts.len() {
+            let count = counts[place];
+            if count > octets.len() - at {
+                return (place, BAD_PARAMETER);
+            }
+            if self.keep().is_err() {
+                return (place, NO_MEMORY);
+            }
+            match self.go_on(Happening::Comes(&octets[at..at + count])) {
+                Ok(()) => at += count,
+                Err(error) => {
+                    self.step.timer = Timer::GoesOn;
+                    return (place, u32::from(error.number()));
+                }
+            }
+        }
+        (counts.len(), 0)
+    }
+
+    pub(crate) fn frames(&self) -> usize
+        ensures { result ≡ length (frames_of self.now) }
+    {
+        self.earlier.frames.len() + self.step.frames.len()
+    }
+
+    pub(crate) fn entries(&self) -> usize
+        ensures { result ≡ length (entries_of self.now) }
+    {
+        self.earlier.entries.len() + self.step.entries.len()
+    }
+
+    pub(crate) fn timer(&self) -> Timer
+        ensures { result ≡ timer_of self.now }
+    {
+        then(self.earlier.timer, self.step.timer)
+    }
+
     pub(crate) fn frame(&self, i: usize) -> &[u8]
         ensures { result.now ≡ in_place (frames_of self.now) i }
     {
-        match self.step.frames.get(i) {
+        match in_both(&self.earlier.frames, &self.step.frames, i) {
             Some(frame) => frame.as_slice(),
             None => &[],
         }
@@ -114,30 +214,23 @@ impl Held {
     fn later_item(&self, i: usize) -> Option<Item<'_>>
         ensures { option_map plain_item result ≡ slice_get (later_items self.now) i }
     {
-        if i < self.step.entries.len() {
-            return Some(Item::Entry(&self.step.entries[i]));
+        let count = self.entries();
+        if i == count {
+            return Some(Item::Timer(self.timer()));
         }
-        if i == self.step.entries.len() {
-            return Some(Item::Timer(self.step.timer));
+        match in_both(&self.earlier.entries, &self.step.entries, i) {
+            Some(entry) => Some(Item::Entry(entry)),
+            None => None,
         }
-        None
-    }
-
-    // Frame `i` as an item.
-    fn frame_item(&self, i: usize) -> Item<'_>
-        requires { i < length self.now.step.frames.items }
-        ensures { slice_get (map a_frame (frames_of self.now)) i ≡ Some (plain_item result) }
-    {
-        Item::Frame(self.step.frames[i].as_slice())
     }
 
     /// Item `i` of the answer.
     pub(crate) fn item(&self, i: usize) -> Option<Item<'_>>
         ensures { option_map plain_item result ≡ slice_get (items_of self.now) i }
     {
-        let frames = self.step.frames.len();
+        let frames = self.frames();
         if i < frames {
-            return Some(self.frame_item(i));
+            return Some(Item::Frame(self.frame(i)));
         }
         self.later_item(i - frames)
     }
@@ -157,11 +250,12 @@ impl Held {
         ensures line { OnOk result (self.new.line ≡ in_place (lines_of self.old) i) }
         ensures station { self.new.station ≡ self.old.station }
         ensures step { self.new.step ≡ self.old.step }
+        ensures earlier { self.new.earlier ≡ self.old.earlier }
         ensures end { self.new.end ≡ self.old.end }
         ensures waits { self.new.waits ≡ self.old.waits }
     {
         self.line.clear();
-        match self.step.entries.get(i) {
+        match in_both(&self.earlier.entries, &self.step.entries, i) {
             Some(entry) => push_entry(self.end, entry, &mut self.line),
             None => Ok(()),
         }

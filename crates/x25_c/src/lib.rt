@@ -3,6 +3,7 @@
 //! A C program keeps a `Slot`, of which all zeros hold no station, and hands its address to each call.
 #![tactic(auto)]
 
+mod answers;
 mod copying;
 mod dialing;
 mod event;
@@ -17,9 +18,10 @@ mod settings;
 mod sizes;
 mod slot;
 mod stretch_name;
+mod taking;
 mod unboxed;
 
-ghost use Rattle.std.specs.Prelude.{◌≡◌, ◌≢◌, false, None, IfSome, IfNone, length, slice_get, unwrap_or};
+ghost use Rattle.std.specs.Prelude.{◌≡◌, ◌≢◌, [], false, None, IfSome, IfNone, drop, length, slice_get, unwrap_or};
 ghost use Rattle.x25_circuit.specs.Calling.{Accepts, Clears, Interrupts, Resets, SaysNotReady, SaysReady, Sends};
 ghost use Rattle.x25_circuit.specs.Params.{default_params, in_brief};
 ghost use Rattle.x25_layer.specs.Calls.{Asks as OnChannel, Dials, PullsAll, Restarts};
@@ -28,17 +30,17 @@ ghost use Rattle.x25_station.specs.Command.{Connects, Disconnects, Probes, Relin
 ghost use Rattle.x25_station.specs.Command.{command_of};
 ghost use Rattle.x25_station.specs.Config.{Settings as StationSettings};
 ghost use Rattle.x25_station.specs.Station.{Station as State};
-ghost use Rattle.x25_station.specs.Station.Told.{is_idle, stretch};
+ghost use Rattle.x25_station.specs.Station.Told.{is_idle, room, stretch};
 ghost use Rattle.x25_station.specs.laws.TimerLaw.{Asks, Comes, Fires};
 ghost use Rattle.x25_station.specs.code.FitsStation.{FitsStation};
 ghost use Rattle.x25_c.specs.Copying.{Copies};
 ghost use Rattle.x25_c.specs.Dialing.{dialed};
-ghost use Rattle.x25_c.specs.Held.{AreSame, channel_of, frames_of, in_place, lines_of};
-ghost use Rattle.x25_c.specs.Item.{Takes, called_at, calling_at, facilities_at, items_of, of_item};
+ghost use Rattle.x25_c.specs.Held.{AreSame, channel_of, frames_of, in_place, lines_of, timer_of};
+ghost use Rattle.x25_c.specs.Item.{Takes, TakesAll, called_at, calling_at, facilities_at, items_of, of_item};
 ghost use Rattle.x25_c.specs.RefusalText.{text_of};
 ghost use Rattle.x25_c.specs.Settings.{cfg_in};
 ghost use Rattle.x25_c.specs.Sizes.{params_in};
-ghost use Rattle.x25_c.specs.Slot.{Answers, Commands, Makes, number_of_timer};
+ghost use Rattle.x25_c.specs.Slot.{Answers, AnswersAll, Commands, Makes, number_of_timer};
 ghost use Rattle.x25_c.specs.StretchName.{Names};
 
 use crate::copying::copy;
@@ -46,12 +48,13 @@ use crate::dialing::dialed;
 use crate::event::Event;
 use crate::happening::Happening;
 use crate::making::make;
-use crate::numbers::{number_of, timer_number};
+use crate::numbers::{NO_MEMORY, number_of, timer_number};
 use crate::refusal_text::refusal_text;
 use crate::settings::Settings;
 use crate::sizes::Sizes;
 use crate::slot::Slot;
 use crate::stretch_name::{StretchName, tell_name};
+use crate::taking::take_all;
 use std::alloc::Global;
 use x25_station::Cmd;
 
@@ -69,9 +72,6 @@ const IN_USE: u32 = 17;
 
 /// A text spells no command.
 const NO_COMMAND: u32 = 60;
-
-/// Memory was refused.
-const NO_MEMORY: u32 = 70;
 
 // Asks for something, and pulls behind it.
 fn ask(alloc: Global, slot: &mut Slot, command: Cmd<'_>) -> u32
@@ -174,9 +174,16 @@ pub extern "C" fn x25_relink(alloc: Global, slot: &mut Slot) -> u32
 /// 16 where the slot holds no station, else as `Station::command` of `Cmd::Restart`. The station is as before then.
 #[unsafe(no_mangle)]
 pub extern "C" fn x25_restart(alloc: Global, slot: &mut Slot) -> u32
-    ensures { Answers slot.old.handle.held slot.new.handle.held result (Asks (Requests Restarts)) }
+    ensures { Answers slot.old.handle.held slot.new.handle.held result (Asks (Requests (Restarts 0 0))) }
 {
-    ask(alloc, slot, Cmd::Restart)
+    ask(
+        alloc,
+        slot,
+        Cmd::Restart {
+            cause: 0,
+            diagnostic: 0,
+        },
+    )
 }
 
 /// Calls the other end on a free channel, with addresses in digits, and packet sizes and windows where some are named;
@@ -234,9 +241,18 @@ pub extern "C" fn x25_accept(alloc: Global, slot: &mut Slot, channel: u16, sizes
 /// 16 where the slot holds no station, else as `Station::command` of `Cmd::Clear`. The station is as before then.
 #[unsafe(no_mangle)]
 pub extern "C" fn x25_clear(alloc: Global, slot: &mut Slot, channel: u16) -> u32
-    ensures { Answers slot.old.handle.held slot.new.handle.held result (Asks (Requests (OnChannel channel Clears))) }
+    ensures { Answers slot.old.handle.held slot.new.handle.held result
+        (Asks (Requests (OnChannel channel (Clears 0 0)))) }
 {
-    ask(alloc, slot, Cmd::Clear { channel })
+    ask(
+        alloc,
+        slot,
+        Cmd::Clear {
+            channel,
+            cause: 0,
+            diagnostic: 0,
+        },
+    )
 }
 
 /// Resets a call.
@@ -244,9 +260,18 @@ pub extern "C" fn x25_clear(alloc: Global, slot: &mut Slot, channel: u16) -> u32
 /// 16 where the slot holds no station, else as `Station::command` of `Cmd::Reset`. The station is as before then.
 #[unsafe(no_mangle)]
 pub extern "C" fn x25_reset(alloc: Global, slot: &mut Slot, channel: u16) -> u32
-    ensures { Answers slot.old.handle.held slot.new.handle.held result (Asks (Requests (OnChannel channel Resets))) }
+    ensures { Answers slot.old.handle.held slot.new.handle.held result
+        (Asks (Requests (OnChannel channel (Resets 0 0)))) }
 {
-    ask(alloc, slot, Cmd::Reset { channel })
+    ask(
+        alloc,
+        slot,
+        Cmd::Reset {
+            channel,
+            cause: 0,
+            diagnostic: 0,
+        },
+    )
 }
 
 /// Sends an interrupt of 1 to 32 octets.
@@ -319,6 +344,33 @@ pub extern "C" fn x25_receive(alloc: Global, slot: &mut Slot, octets: &[u8]) -> 
     let answer = held.happen(Happening::Comes(octets));
     slot.put(held);
     number_of(answer)
+}
+
+/// Receives frames, one behind another, as `x25_receive` does each, up to one that is refused: `octets` are those of
+/// all, and `counts` says how many each has. `taken` becomes how many were taken, and what is answered to all of them
+/// is one answer.
+///
+/// 16 where the slot holds no station, 34 where the octets of the next aren't there, else as `Station::receive`; the
+/// station is as those that were taken left it.
+#[unsafe(no_mangle)]
+pub extern "C" fn x25_receive_all(
+    alloc: Global,
+    slot: &mut Slot,
+    octets: &[u8],
+    counts: &[usize],
+    taken: &mut usize,
+) -> u32
+    ensures all { AnswersAll octets.now counts.now slot.old.handle.held slot.new.handle.held taken.new result }
+    ensures none { IfNone slot.old.handle.held (taken.new ≡ 0) }
+{
+    *taken = 0;
+    let Some(mut held) = slot.take(alloc) else {
+        return NO_STATION;
+    };
+    let received = held.receive_all(octets, counts);
+    slot.put(held);
+    *taken = received.0;
+    received.1
 }
 
 /// Sends a message on a channel, and pulls behind it.
@@ -394,6 +446,31 @@ pub extern "C" fn x25_take(
     is_there
 }
 
+/// Takes items of the last answer from `first` on, as `x25_take` does, each to a place of `events`, and its octets to
+/// `room`, behind those of the items before. Answers how many were taken: as many as there are, or as fit.
+///
+/// 0 where the slot holds no station.
+#[unsafe(no_mangle)]
+pub extern "C" fn x25_take_all(
+    alloc: Global,
+    slot: &mut Slot,
+    first: usize,
+    events: &mut [Event],
+    room: &mut [u8],
+) -> usize
+    ensures kept { slot.new.handle.held ≡ slot.old.handle.held }
+    ensures taken { IfSome slot.old.handle.held
+        (λ h. TakesAll first (drop first (items_of h)) result events.old events.new room.old room.new) }
+    ensures none { IfNone slot.old.handle.held (TakesAll first [] result events.old events.new room.old room.new) }
+{
+    let Some(held) = slot.take(alloc) else {
+        return 0;
+    };
+    let count = take_all(&held, first, events, room);
+    slot.put(held);
+    count
+}
+
 /// Copies the address that is called, in digits, of item `i` of the last answer, as `x25_frame` does; 0 where it has
 /// none.
 #[unsafe(no_mangle)]
@@ -466,7 +543,7 @@ pub extern "C" fn x25_frames(alloc: Global, slot: &mut Slot) -> usize
     let Some(held) = slot.take(alloc) else {
         return 0;
     };
-    let count = held.step.frames.len();
+    let count = held.frames();
     slot.put(held);
     count
 }
@@ -498,7 +575,7 @@ pub extern "C" fn x25_entries(alloc: Global, slot: &mut Slot) -> usize
     let Some(held) = slot.take(alloc) else {
         return 0;
     };
-    let count = held.step.entries.len();
+    let count = held.entries();
     slot.put(held);
     count
 }
@@ -541,13 +618,13 @@ pub extern "C" fn x25_entry(
 #[unsafe(no_mangle)]
 pub extern "C" fn x25_timer(alloc: Global, slot: &mut Slot) -> u32
     ensures kept { slot.new.handle.held ≡ slot.old.handle.held }
-    ensures timer { IfSome slot.old.handle.held (λ h. result ≡ number_of_timer h.step.timer) }
+    ensures timer { IfSome slot.old.handle.held (λ h. result ≡ number_of_timer (timer_of h)) }
     ensures none { IfNone slot.old.handle.held (result ≡ 0) }
 {
     let Some(held) = slot.take(alloc) else {
         return 0;
     };
-    let number = timer_number(held.step.timer);
+    let number = timer_number(held.timer());
     slot.put(held);
     number
 }
@@ -581,6 +658,22 @@ pub extern "C" fn x25_idle(alloc: Global, slot: &mut Slot) -> bool
     let is_idle = held.station.idle();
     slot.put(held);
     is_idle
+}
+
+/// How many messages more `x25_send` takes on a channel.
+#[unsafe(no_mangle)]
+pub extern "C" fn x25_room(alloc: Global, slot: &mut Slot, channel: u16) -> usize
+    ensures kept { slot.new.handle.held ≡ slot.old.handle.held }
+    ensures room { (c : StationSettings) (s : State) →
+        IfSome slot.old.handle.held (λ h. FitsStation c h.station s → result ≡ room c s channel) }
+    ensures none { IfNone slot.old.handle.held (result ≡ 0) }
+{
+    let Some(held) = slot.take(alloc) else {
+        return 0;
+    };
+    let count = held.station.room(channel);
+    slot.put(held);
+    count
 }
 
 /// Whether a stretch is open on a channel; then its name is written to `name`, which else is as before.

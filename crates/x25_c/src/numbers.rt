@@ -4,6 +4,12 @@ ghost use Rattle.x25_c.specs.Slot.{number_in, number_of_timer};
 
 use x25_station::{StationError, Timer};
 
+/// The octets of a frame aren't there.
+pub(crate) const BAD_PARAMETER: u32 = 34;
+
+/// Memory was refused.
+pub(crate) const NO_MEMORY: u32 = 70;
+
 /// The number of how a call ended: 0, or that of its error.
 pub(crate) fn number_of(answer: Result<(), StationError>) -> u32
     ensures { result ≡ number_in answer }

@@ -33,15 +33,14 @@ impl Slot {
             (λ b. self.old.handle.held ≡ Some b.value) }
         ensures left { self.new.handle.held ≡ None }
     {
+        if !self.is_open {
+            return None;
+        }
         let empty = Slot {
             handle: Handle::empty(alloc),
             is_open: false,
         };
-        let Slot { handle, is_open } = replace(self, empty);
-        if is_open {
-            Some(handle.release().into_box())
-        } else {
-            None
-        }
+        let Slot { handle, .. } = replace(self, empty);
+        Some(handle.release().into_box())
     }
 }

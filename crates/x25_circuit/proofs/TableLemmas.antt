@@ -5,17 +5,17 @@ use Rattle.x25_bits.specs.declared.role.Role.{Role}
 use Rattle.x25_bits.specs.declared.role.Role.TheVariants.{Dte, Dce}
 use Rattle.x25_packet.specs.declared.error.PacketError.{PacketError}
 use Rattle.x25_packet.specs.Error.{diagnostic_of}
-use Rattle.x25_packet.specs.Packet.{PlainPacket, accept, clear, clear_conf}
+use Rattle.x25_packet.specs.Packet.{PlainPacket, accept, clear_conf}
 use Rattle.x25_circuit.specs.declared.state.State.{State}
 use Rattle.x25_circuit.specs.declared.state.State.TheVariants.{Free, Calling, Arriving, Collision, Open, Resetting, Clearing}
 use Rattle.x25_circuit.specs.declared.params.Params.{Params}
-use Rattle.x25_circuit.specs.Params.{Proposal, default_params, may_answer, field_for, said_in}
+use Rattle.x25_circuit.specs.Params.{Proposal, may_answer, field_for, said_in}
 use Rattle.x25_circuit.specs.Circuit.{Settings, Circuit, outgoing, waits}
 use Rattle.x25_circuit.specs.code.Changes.{with_rest}
 use Rattle.x25_circuit.specs.Message.{cut}
 use Rattle.x25_circuit.specs.declared.error.CircuitError.TheVariants as error
 use Rattle.x25_circuit.specs.Notice.{CallRequest, cleared, collided, connected, incoming}
-use Rattle.x25_circuit.specs.Calling.{Refused, keeps_on, does, call_in, accept_in, accept_with, clear_in, ready_in, ready_open, send_in, send_open}
+use Rattle.x25_circuit.specs.Calling.{Refused, keeps_on, does, call_in, accept_in, accept_with, clear_in, clear_with, ready_in, ready_open, send_in, send_open}
 use Rattle.x25_circuit.specs.Hearing.{goes, collides, connects, clears_for, clears_to, unexpected, cause_of, row_call, row_accept, row_clear, row_clear_conf, row_reset, row_reset_conf, row_data, row_undecoded}
 
 pub collides_at_dte : (r : Role) (x : Circuit) (request : CallRequest) → r ≡ Dte → collides r x request ≡ goes x Collision x.params true None []
@@ -118,14 +118,14 @@ undecoded_clears c x Open e f g h = absurd (f refl)
 undecoded_clears c x Resetting e f g h = absurd (g refl)
 undecoded_clears c x Clearing e f g h = absurd (h refl)
 
-pub clear_done : (x : Circuit) (s : State) → s ≢ Free → s ≢ Clearing → clear_in x s ≡ does x Clearing default_params false (clear 1 0 0)
-clear_done x Free f g = absurd (f refl)
-clear_done x Calling f g = refl
-clear_done x Arriving f g = refl
-clear_done x Collision f g = refl
-clear_done x Open f g = refl
-clear_done x Resetting f g = refl
-clear_done x Clearing f g = absurd (g refl)
+pub clear_done : (c : Settings) (x : Circuit) (s : State) (cause diagnostic : ℕ) → s ≢ Free → s ≢ Clearing → clear_in c x s cause diagnostic ≡ clear_with c x cause diagnostic
+clear_done c x Free cause diagnostic f g = absurd (f refl)
+clear_done c x Calling cause diagnostic f g = refl
+clear_done c x Arriving cause diagnostic f g = refl
+clear_done c x Collision cause diagnostic f g = refl
+clear_done c x Open cause diagnostic f g = refl
+clear_done c x Resetting cause diagnostic f g = refl
+clear_done c x Clearing cause diagnostic f g = absurd (g refl)
 
 pub ready_at : (x : Circuit) (s : State) (b : Bool) → s ≡ Open → ready_in x s b ≡ ready_open x x.talk b
 ready_at x s b e = ap (λ (r : State). ready_in x r b) e

@@ -1,5 +1,5 @@
 -- The calls of the user of a circuit, and which data packet may be sent. ITU-T X.25 (10/96), sections 4.1, 4.3 and 4.4.
--- The refusals, the bounds on what waits, and cause and diagnostic 0 of the user's CLEAR and RESET are of the profile.
+-- The refusals and the bounds on what waits are of the profile.
 use Rattle.std.specs.Prelude.{ℕ, ◌+◌, ◌%◌, List, [], ◌∷◌, ◌++◌, length, Option, Some, None, Bool, true, false, nat_lt}
 use Rattle.std.specs.Prelude.{nat_le, ◌&&◌, if◌then◌else◌}
 use Rattle.std.specs.List.{list_all}
@@ -17,20 +17,22 @@ use Rattle.x25_circuit.specs.Message.{Piece, More, Last, cut}
 use Rattle.x25_circuit.specs.Circuit.{Settings, Talk, Circuit, entered, talking, outgoing, waits}
 use Rattle.x25_circuit.specs.Notice.{CallRequest}
 use Rattle.x25_circuit.specs.Hearing.{status}
+use Rattle.x25_circuit.specs.Cause.{may_clear_for, may_reset_for}
 
 -- the circuit after the call, and the packet to send, where there is one; or why it is refused
 pub data Outcome : Type 0 where
   Done : (next : Circuit) → (packet : Option PlainPacket) → Outcome
   Refused : (error : CircuitError) → Outcome
 
--- the addresses of a call are texts; an acceptance without packet sizes and windows accepts those that are proposed
+-- The addresses of a call are texts; an acceptance without packet sizes and windows accepts those that are proposed; a
+-- clear and a reset have a cause and a diagnostic.
 pub data Request : Type 0 where
   Calls : (called : List ℕ) → (calling : List ℕ) → (user : List ℕ) → (proposal : Proposal) → Request
   Accepts : (answer : Option Proposal) → Request
-  Clears : Request
+  Clears : (cause : ℕ) → (diagnostic : ℕ) → Request
   Sends : (q : Bool) → (user : List ℕ) → Request
   Interrupts : (user : List ℕ) → Request
-  Resets : Request
+  Resets : (cause : ℕ) → (diagnostic : ℕ) → Request
   SaysReady : Request
   SaysNotReady : Request
 
@@ -84,10 +86,14 @@ abbrev pub accept_in : Circuit → State → Option Proposal → Outcome
 accept_in x Arriving answer = accept_with x answer
 accept_in x state answer = Refused WrongState
 
-abbrev pub clear_in : Circuit → State → Outcome
-clear_in x Free = Refused WrongState
-clear_in x Clearing = Refused WrongState
-clear_in x state = does x Clearing default_params false (clear 1 0 0)
+abbrev pub clear_with : Settings → Circuit → ℕ → ℕ → Outcome
+clear_with c x cause diagnostic = if may_clear_for c.role cause
+    then does x Clearing default_params false (clear 1 cause diagnostic) else Refused BadParameter
+
+abbrev pub clear_in : Settings → Circuit → State → ℕ → ℕ → Outcome
+clear_in c x Free cause diagnostic = Refused WrongState
+clear_in c x Clearing cause diagnostic = Refused WrongState
+clear_in c x state cause diagnostic = clear_with c x cause diagnostic
 
 -- ---- in p4 with d1
 
@@ -149,9 +155,10 @@ interrupt_in x Open user = interrupt_open x x.talk user
 interrupt_in x state user = Refused WrongState
 
 -- section 4.4.3.1
-abbrev pub reset_in : Circuit → State → Outcome
-reset_in x Open = does x Resetting x.params x.calls (reset 1 0 0)
-reset_in x state = Refused WrongState
+abbrev pub reset_in : Settings → Circuit → State → ℕ → ℕ → Outcome
+reset_in c x Open cause diagnostic = if may_reset_for c.role cause
+    then does x Resetting x.params x.calls (reset 1 cause diagnostic) else Refused BadParameter
+reset_in c x state cause diagnostic = Refused WrongState
 
 abbrev pub ready_in : Circuit → State → Bool → Outcome
 ready_in x Open is_ready = ready_open x x.talk is_ready
@@ -162,10 +169,10 @@ ready_in x state is_ready = Refused WrongState
 abbrev pub outcome : Settings → Circuit → Request → Outcome
 outcome c x (Calls called calling user proposal) = call_in c x x.state called calling user proposal
 outcome c x (Accepts answer) = accept_in x x.state answer
-outcome c x Clears = clear_in x x.state
+outcome c x (Clears cause diagnostic) = clear_in c x x.state cause diagnostic
 outcome c x (Sends q user) = send_in c x x.state q user
 outcome c x (Interrupts user) = interrupt_in x x.state user
-outcome c x Resets = reset_in x x.state
+outcome c x (Resets cause diagnostic) = reset_in c x x.state cause diagnostic
 outcome c x SaysReady = ready_in x x.state true
 outcome c x SaysNotReady = ready_in x x.state false
 

@@ -5,6 +5,7 @@ pub mod Circuit
 pub mod Awaits
 pub mod Notice
 pub mod Hearing
+pub mod Cause
 pub mod Calling
 pub mod Queue
 pub mod Pulling

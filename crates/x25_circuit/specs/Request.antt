@@ -28,10 +28,10 @@ params_answered (Some answer) proposed = answer.params
 abbrev pub plain_request : declared.Request → Request
 plain_request (code.Call called calling user proposal) = Calls called.now calling.now user.now proposal.now
 plain_request (code.Accept answer) = Accepts (plain_answer answer)
-plain_request code.Clear = Clears
+plain_request (code.Clear cause diagnostic) = Clears cause diagnostic
 plain_request (code.Send q user) = Sends q user.now
 plain_request (code.Interrupt user) = Interrupts user.now
-plain_request code.Reset = Resets
+plain_request (code.Reset cause diagnostic) = Resets cause diagnostic
 plain_request code.Ready = SaysReady
 plain_request code.NotReady = SaysNotReady
 

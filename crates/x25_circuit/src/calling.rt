@@ -12,7 +12,6 @@ ghost use Rattle.x25_circuit.specs.Request.{plain_answer, params_answered, refus
 ghost use Rattle.x25_circuit.specs.code.FitsCircuit.{FitsCircuit, SendsBy};
 
 use crate::circuit::Circuit;
-use crate::codes::{ASKED_FOR, NO_DIAGNOSTIC};
 use crate::error::CircuitError;
 use crate::params::{FlowControl, Params};
 use crate::proposal::Proposal;
@@ -182,20 +181,25 @@ impl Circuit {
         }
     }
 
-    /// Clears the call, and drops everything. It answers CLEAR with cause and diagnostic 0.
+    /// Clears the call, and drops everything. It answers CLEAR.
     ///
-    /// 30 WrongState in p1 and where this end's CLEAR isn't confirmed yet.
-    pub(crate) fn clear<'a>(&mut self) -> Result<Packet<'a>, CircuitError>
-        ensures { SendsBy self.old self.new result (λ c x. outcome c x Clears) }
+    /// 30 WrongState in p1 and where this end's CLEAR isn't confirmed yet, then 34 BadParameter where the cause is none
+    /// that a user may give.
+    pub(crate) fn clear<'a>(
+        &mut self,
+        cause: u8,
+        diagnostic: u8,
+    ) -> Result<Packet<'a>, CircuitError>
+        ensures { SendsBy self.old self.new result (λ c x. outcome c x (Clears cause diagnostic)) }
     {
-        if let Some(error) = self.clear_refusal() {
+        if let Some(error) = self.clear_refusal(cause) {
             return Err(error);
         }
         self.end_call(State::Clearing);
         Ok(Packet::Clear {
             channel: 1,
-            cause: ASKED_FOR,
-            diagnostic: NO_DIAGNOSTIC,
+            cause,
+            diagnostic,
         })
     }
 }

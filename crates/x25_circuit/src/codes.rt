@@ -4,9 +4,6 @@
 /// At a DTE, in place of each cause of a DCE (profile).
 pub const DTE_FAULT: u8 = 128;
 
-/// Of a CLEAR or RESET that the user asked for.
-pub const ASKED_FOR: u8 = 0;
-
 /// Of a CLEAR: a facility is none, or is out of its range.
 pub const INVALID_FACILITY: u8 = 3;
 
@@ -15,6 +12,9 @@ pub const LOCAL_PROCEDURE_ERROR: u8 = 5;
 
 /// Of a CLEAR.
 pub const LOCAL_PROCEDURE_ERROR_OF_A_CALL: u8 = 19;
+
+/// Of a RESTART.
+pub const LOCAL_PROCEDURE_ERROR_OF_ALL: u8 = 1;
 
 /// The diagnostic that says nothing.
 pub const NO_DIAGNOSTIC: u8 = 0;

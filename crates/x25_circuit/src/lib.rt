@@ -3,6 +3,7 @@
 
 mod awaits;
 mod calling;
+mod cause;
 mod circuit;
 mod clearing;
 mod codes;
@@ -27,6 +28,7 @@ mod terms;
 mod transfer;
 
 pub use awaits::Awaits;
+pub use cause::may_restart_for;
 pub use circuit::Circuit;
 pub use error::CircuitError;
 pub use law::{messages_are_carried, values_are_agreed, what_waits_is_pulled};

@@ -1,5 +1,6 @@
 //! What the user of a circuit asks for, as one type.
-ghost use Rattle.std.specs.Prelude.{◌≡◌, ◌≢◌, ◌≤◌, ◌<◌, Bool, ℕ, List, false, OnErr, IfOk, IfSome, IfNone, Some, None};
+ghost use Rattle.std.specs.Prelude.{◌≡◌, ◌≢◌, ◌≤◌, ◌<◌, Bool, ℕ, List, true, false, OnErr, IfOk, IfSome, IfNone, Some};
+ghost use Rattle.std.specs.Prelude.{None};
 ghost use Rattle.std.specs.Prelude.{IsErrOf};
 ghost use Rattle.std.specs.Prelude.{length};
 ghost use Rattle.x25_packet.specs.Packet.{plain};
@@ -8,12 +9,14 @@ ghost use Rattle.x25_circuit.specs.Circuit.{Settings};
 ghost use Rattle.x25_circuit.specs.Circuit.{Circuit as Channel};
 ghost use Rattle.x25_circuit.specs.Calling.{outcome, Refused, Accepts, clear_in, send_in, interrupt_in, reset_in};
 ghost use Rattle.x25_circuit.specs.Calling.{ready_in};
+ghost use Rattle.x25_circuit.specs.Cause.{may_clear_for, may_reset_for};
 ghost use Rattle.x25_circuit.specs.code.FitsCircuit.{FitsCircuit, Sends, room_of, clears_of, resets_of};
 ghost use Rattle.x25_circuit.specs.Queue.{waiting};
 ghost use Rattle.x25_circuit.specs.Request.{plain_answer, plain_request, refusal_of, with_packet, AnswersRequest};
 ghost use Rattle.x25_circuit.specs.Request.{MayPut, MayLack};
 ghost use Rattle.x25_circuit.specs.code.Replies.{IsSendable, plain_sent};
 
+use crate::cause::{may_clear_for, may_reset_for};
 use crate::circuit::Circuit;
 use crate::error::CircuitError;
 use crate::octets::LONGEST_MESSAGE;
@@ -36,7 +39,10 @@ pub enum Request<'a> {
     Accept {
         answer: Option<&'a Proposal>,
     },
-    Clear,
+    Clear {
+        cause: u8,
+        diagnostic: u8,
+    },
     Send {
         q: bool,
         user: &'a [u8],
@@ -44,7 +50,10 @@ pub enum Request<'a> {
     Interrupt {
         user: &'a [u8],
     },
-    Reset,
+    Reset {
+        cause: u8,
+        diagnostic: u8,
+    },
     Ready,
     NotReady,
 }
@@ -66,8 +75,9 @@ impl Circuit {
     /// TooLong where it has more than 65,535 octets and 31 Full where 8 wait, of an interrupt 34 BadParameter where it
     /// hasn't 1 to 32 octets and 33 InterruptOutstanding, of a call 34 BadParameter where an address isn't 0 to 15
     /// digits, the user data is more than 16 octets (128 where it may be long), a packet size isn't 4 to 12 or a window
-    /// isn't 1 to 7, and of an acceptance 34 where a value isn't from the proposed one to the default. Else 70 alone,
-    /// and that for a message, which is copied. The circuit is as before then. No request changes a count.
+    /// isn't 1 to 7, of an acceptance 34 where a value isn't from the proposed one to the default, and of a clear or a
+    /// reset 34 where the cause is none that the user of this end may give. Else 70 alone, and that for a message,
+    /// which is copied. The circuit is as before then. No request changes a count.
     #[inline(always)]
     pub fn ask<'a>(&mut self, request: Request<'a>) -> Result<Option<Packet<'a>>, CircuitError>
         ensures outcome { (c : Settings) (x : Channel) → FitsCircuit c self.old x
@@ -88,13 +98,13 @@ impl Circuit {
                 proposal,
             } => with_packet(self.call(called, calling, user, proposal)),
             Request::Accept { answer } => with_packet(self.accept(answer)),
-            Request::Clear => with_packet(self.clear()),
+            Request::Clear { cause, diagnostic } => with_packet(self.clear(cause, diagnostic)),
             Request::Send { q, user } => {
                 self.send(q, user)?;
                 Ok(None)
             }
             Request::Interrupt { user } => with_packet(self.interrupt(user)),
-            Request::Reset => with_packet(self.reset()),
+            Request::Reset { cause, diagnostic } => with_packet(self.reset(cause, diagnostic)),
             Request::Ready => with_packet(self.say(true)),
             Request::NotReady => with_packet(self.say(false)),
         }
@@ -115,25 +125,46 @@ impl Circuit {
                 .call_fields(called, calling, user, proposal.params())
                 .err(),
             Request::Accept { answer } => self.accepted(*answer).err(),
-            Request::Clear => self.clear_refusal(),
+            Request::Clear { cause, .. } => self.clear_refusal(*cause),
             Request::Send { user, .. } => self.send_refusal(user.len()),
             Request::Interrupt { user } => self.interrupt_refusal(user),
-            Request::Reset | Request::Ready | Request::NotReady => self.closed(),
+            Request::Reset { cause, .. } => self.reset_refusal(*cause),
+            Request::Ready | Request::NotReady => self.closed(),
         }
     }
 
-    pub(crate) fn clear_refusal(&self) -> Option<CircuitError>
-        ensures refusal { (c : Settings) (x : Channel) → FitsCircuit c self.now x
-            → result ≡ refusal_of (clear_in x x.state) }
-        ensures refused { (c : Settings) (x : Channel) → FitsCircuit c self.now x
-            → IfSome result (λ e. clear_in x x.state ≡ Refused e) }
+    pub(crate) fn clear_refusal(&self, cause: u8) -> Option<CircuitError>
+        ensures refusal { (c : Settings) (x : Channel) (diagnostic : ℕ) → FitsCircuit c self.now x
+            → result ≡ refusal_of (clear_in c x x.state cause diagnostic) }
+        ensures refused { (c : Settings) (x : Channel) (diagnostic : ℕ) → FitsCircuit c self.now x
+            → IfSome result (λ e. clear_in c x x.state cause diagnostic ≡ Refused e) }
         ensures not_free { IfNone result (self.now.state ≢ State.Free) }
         ensures not_clearing { IfNone result (self.now.state ≢ State.Clearing) }
+        ensures given { IfNone result (may_clear_for self.now.role cause ≡ true) }
         ensures kinds { IfSome result (λ e. e ≢ CircuitError.NoMemory) }
     {
+        let may_give = may_clear_for(self.role, cause);
         match self.state {
             State::Free | State::Clearing => Some(CircuitError::WrongState),
-            _ => None,
+            _ if may_give => None,
+            _ => Some(CircuitError::BadParameter),
+        }
+    }
+
+    pub(crate) fn reset_refusal(&self, cause: u8) -> Option<CircuitError>
+        ensures refusal { (c : Settings) (x : Channel) (diagnostic : ℕ) → FitsCircuit c self.now x
+            → result ≡ refusal_of (reset_in c x x.state cause diagnostic) }
+        ensures refused { (c : Settings) (x : Channel) (diagnostic : ℕ) → FitsCircuit c self.now x
+            → IfSome result (λ e. reset_in c x x.state cause diagnostic ≡ Refused e) }
+        ensures open { IfNone result (self.now.state ≡ State.Open) }
+        ensures given { IfNone result (may_reset_for self.now.role cause ≡ true) }
+        ensures kinds { IfSome result (λ e. e ≢ CircuitError.NoMemory) }
+    {
+        let may_give = may_reset_for(self.role, cause);
+        match self.state {
+            State::Open if may_give => None,
+            State::Open => Some(CircuitError::BadParameter),
+            _ => Some(CircuitError::WrongState),
         }
     }
 
@@ -181,12 +212,8 @@ impl Circuit {
     // Where it isn't in p4 with d1.
     pub(crate) fn closed(&self) -> Option<CircuitError>
         ensures open { IfNone result (self.now.state ≡ State.Open) }
-        ensures no_reset { (c : Settings) (x : Channel) → FitsCircuit c self.now x
-            → IfSome result (λ e. reset_in x x.state ≡ Refused e) }
         ensures no_ready { (c : Settings) (x : Channel) (is_ready : Bool) → FitsCircuit c self.now x
             → IfSome result (λ e. ready_in x x.state is_ready ≡ Refused e) }
-        ensures reset { (c : Settings) (x : Channel) → FitsCircuit c self.now x
-            → result ≡ refusal_of (reset_in x x.state) }
         ensures ready { (c : Settings) (x : Channel) (is_ready : Bool) → FitsCircuit c self.now x
             → result ≡ refusal_of (ready_in x x.state is_ready) }
         ensures kinds { IfSome result (λ e. e ≢ CircuitError.NoMemory) }

@@ -8,7 +8,6 @@ ghost use Rattle.x25_circuit.specs.Request.{MayLack};
 ghost use Rattle.x25_circuit.specs.code.FitsCircuit.{FitsCircuit, Keeps, KeepsCounts, SendsBy};
 
 use crate::circuit::Circuit;
-use crate::codes::{ASKED_FOR, NO_DIAGNOSTIC};
 use crate::error::CircuitError;
 use crate::state::State;
 use x25_packet::Packet;
@@ -49,20 +48,24 @@ impl Circuit {
         Ok(Packet::Interrupt { channel: 1, user })
     }
 
-    /// Resets the call, and drops what waits and what came in part. It answers RESET with cause and diagnostic 0.
+    /// Resets the call, and drops what waits and what came in part. It answers RESET.
     ///
-    /// 30 WrongState outside of p4 with d1.
-    pub(crate) fn reset<'a>(&mut self) -> Result<Packet<'a>, CircuitError>
-        ensures { SendsBy self.old self.new result (λ c x. outcome c x Resets) }
+    /// 30 WrongState outside of p4 with d1, then 34 BadParameter where the cause is none that a user may give.
+    pub(crate) fn reset<'a>(
+        &mut self,
+        cause: u8,
+        diagnostic: u8,
+    ) -> Result<Packet<'a>, CircuitError>
+        ensures { SendsBy self.old self.new result (λ c x. outcome c x (Resets cause diagnostic)) }
     {
-        if let Some(error) = self.closed() {
+        if let Some(error) = self.reset_refusal(cause) {
             return Err(error);
         }
         self.begin_stretch(State::Resetting);
         Ok(Packet::Reset {
             channel: 1,
-            cause: ASKED_FOR,
-            diagnostic: NO_DIAGNOSTIC,
+            cause,
+            diagnostic,
         })
     }
 

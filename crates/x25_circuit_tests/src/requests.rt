@@ -26,7 +26,7 @@ impl Proposals {
         }
     }
 
-    /// The request of an index up to 11.
+    /// The request of an index up to 15.
     pub fn request(&self, index: usize) -> Request<'_> {
         match index {
             0 => self.call("2", &self.usual),
@@ -36,16 +36,20 @@ impl Proposals {
             4 => Request::Accept {
                 answer: Some(&self.usual),
             },
-            5 => Request::Clear,
+            5 => clear(0),
             6 => Request::Send {
                 q: false,
                 user: &[],
             },
             7 => Request::Interrupt { user: b"1" },
             8 => Request::Interrupt { user: &[] },
-            9 => Request::Reset,
+            9 => reset(0),
             10 => Request::Ready,
-            _ => Request::NotReady,
+            11 => Request::NotReady,
+            12 => clear(129),
+            13 => clear(9),
+            14 => reset(128),
+            _ => reset(255),
         }
     }
 
@@ -59,8 +63,23 @@ impl Proposals {
     }
 }
 
-/// Of each request, in order, the number of its refusal or 0: in p1, of a circuit that called, and in p4 with d1.
-static REFUSALS: [[u8; 3]; 12] = [
+fn clear<'a>(cause: u8) -> Request<'a> {
+    Request::Clear {
+        cause,
+        diagnostic: 7,
+    }
+}
+
+fn reset<'a>(cause: u8) -> Request<'a> {
+    Request::Reset {
+        cause,
+        diagnostic: 7,
+    }
+}
+
+/// Of each request of a DTE, in order, the number of its refusal or 0: in p1, of a circuit that called, and in p4 with
+/// d1.
+static REFUSALS: [[u8; 3]; 16] = [
     [0, 30, 30],
     [34, 30, 30],
     [34, 30, 30],
@@ -72,6 +91,10 @@ static REFUSALS: [[u8; 3]; 12] = [
     [30, 30, 34],
     [30, 30, 0],
     [30, 30, 0],
+    [30, 30, 0],
+    [30, 0, 0],
+    [30, 34, 34],
+    [30, 30, 34],
     [30, 30, 0],
 ];
 
@@ -124,6 +147,70 @@ fn a_request_is_refused_as_was_told(rt: HostRuntime) {
             let found = refusals_at(rt.alloc(), place, index);
             assert_eq!(rt; found, Ok((*number, *number)), "request {index} at {place}");
         }
+    }
+}
+
+/// Causes at their bounds, and whether a user of a DTE and of a DCE may give them with CLEAR and RESET.
+static CAUSES: [(u8, [bool; 4]); 10] = [
+    (0, [true, true, true, true]),
+    (1, [false, false, true, true]),
+    (3, [false, false, false, true]),
+    (5, [false, false, true, false]),
+    (9, [false, false, true, true]),
+    (19, [false, false, false, true]),
+    (127, [false, false, true, true]),
+    (128, [false, false, false, false]),
+    (129, [true, true, true, true]),
+    (255, [true, true, true, true]),
+];
+
+// The packet of a request of an open circuit, where it isn't refused: its cause and its diagnostic.
+fn sent(alloc: Global, role: Role, request: Request<'_>) -> Option<(u8, u8)> {
+    let mut circuit = circuit(alloc, role).ok()?;
+    goes_to(&mut circuit, 2).ok()?;
+    match circuit.ask(request) {
+        Ok(
+            Some(
+                Packet::Clear {
+                    cause,
+                    diagnostic,
+                    ..
+                },
+            ),
+        ) => Some((cause, diagnostic)),
+        Ok(
+            Some(
+                Packet::Reset {
+                    cause,
+                    diagnostic,
+                    ..
+                },
+            ),
+        ) => Some((cause, diagnostic)),
+        _ => None,
+    }
+}
+
+fn given(may_give: bool, cause: u8) -> Option<(u8, u8)> {
+    if may_give { Some((cause, 7)) } else { None }
+}
+
+#[test]
+fn causes_that_a_user_gives_are_sent(rt: HostRuntime) {
+    for &(cause, may) in CAUSES.iter() {
+        let found = (
+            sent(rt.alloc(), Role::Dte, clear(cause)),
+            sent(rt.alloc(), Role::Dte, reset(cause)),
+            sent(rt.alloc(), Role::Dce, clear(cause)),
+            sent(rt.alloc(), Role::Dce, reset(cause)),
+        );
+        let wanted = (
+            given(may[0], cause),
+            given(may[1], cause),
+            given(may[2], cause),
+            given(may[3], cause),
+        );
+        assert_eq!(rt; found, wanted, "{cause}");
     }
 }
 

@@ -1,5 +1,5 @@
 -- Deadlines stand for what is awaited.
-use Rattle.std.proofs.Common.{◌≡◌, ℕ, zero, suc, ◌+◌, ◌≤◌, ◌==◌, List, [], ◌∷◌, ◌++◌, map, Bool, true, false, not, ◌||◌, if◌then◌else◌, Option, Some, None, refl, sym, ap, subst, ◌∙◌, arith}
+use Rattle.std.proofs.Common.{◌≡◌, ℕ, zero, suc, ◌+◌, ◌==◌, List, [], ◌∷◌, ◌++◌, map, Bool, true, false, not, ◌||◌, if◌then◌else◌, Option, Some, None, refl, sym, ap, ◌∙◌, arith}
 use Rattle.std.proofs.lemmas.Bool.{true≢false}
 use Rattle.std.proofs.lemmas.Option.{none-some}
 use Rattle.x25_circuit.specs.declared.awaits.Awaits.{Awaits}
@@ -9,13 +9,12 @@ use Rattle.x25_layer.specs.Layer.{is_channel}
 use Rattle.x25_station.specs.Config.{Settings, layer_settings}
 use Rattle.x25_station.specs.Station.{Station, new_station}
 use Rattle.x25_station.specs.Station.Told.{is_at_rest}
-use Rattle.x25_station.specs.Step.{Step, Outcome, Did, Refused}
-use Rattle.x25_station.specs.Timer.{runs, standing, tells_link, is_acknowledged, timer_of}
+use Rattle.x25_station.specs.Step.{Outcome, Did, Refused}
+use Rattle.x25_station.specs.Timer.{runs, tells_link, is_acknowledged, timer_of}
 use Rattle.x25_station.specs.laws.TimerLaw as timer
-use Rattle.x25_station.specs.declared.timer.Timer.{Timer}
 use Rattle.x25_clock.specs.declared.times.Times.{Times}
 use Rattle.x25_clock.specs.declared.wait.Wait.{Wait}
-use Rattle.x25_clock.specs.Clock.{Deadlines, Seen, nothing_awaited, channels_from, deadline, time_of, number_of, running, is_past, t1_after, wait_after, heeded, renewed, overdue_of, renewed_on, after_due}
+use Rattle.x25_clock.specs.Clock.{Deadlines, nothing_awaited, channels_from, deadline, time_of, number_of, running, is_past, t1_after, wait_after, renewed, overdue_of, renewed_on, after_due}
 use Rattle.x25_clock.specs.laws.ClockLaw.{Moment, Happens, IsDue, Watched, seen_of, heeds, watched_by, watched_from, IsSince, Stands, IsAwaited, AreAwaited, AreTrue, DeadlinesAreTrue}
 
 -- ---- a deadline
@@ -128,7 +127,7 @@ module _ (c : Settings) (times : Times) where
   abbrev awaited_by : Station → ℕ → Awaits
   awaited_by s h = awaited_at (layer_settings c) s.layer h
 
-  happens_true : (w : Watched) (more : ℕ) (event : timer.Event) (o : Outcome) → AreTrue c times w → AreTrue c times (heeds c times (w.now + more) event o w)
+  pub happens_true : (w : Watched) (more : ℕ) (event : timer.Event) (o : Outcome) → AreTrue c times w → AreTrue c times (heeds c times (w.now + more) event o w)
   happens_true w more event (Did step) h = record {
     t1 = t1_runs times w.now more (runs w.station) (runs step.near) (timer.is_firing event || (tells_link step.entries || is_acknowledged w.station.link step.near.link)) w.deadlines.t1 h.t1;
     idle = runs_on w.now more times.t3 (is_at_rest w.station) (is_at_rest step.near) (seen_of c w.station event (Did step)).come w.deadlines.idle h.idle;
@@ -149,7 +148,7 @@ module _ (c : Settings) (times : Times) where
   anew now more time true until past h = record { on = λ e. begins (now + more) time; off = λ e. false_true (sym e) }
   anew now more time false until past h = false_true (sym (ap (is_past (now + more)) (h.off refl)) ∙ past)
 
-  due_true : (w : Watched) (more : ℕ) → AreTrue c times w → AreTrue c times (record w { deadlines = after_due times (w.now + more) w.deadlines; now = w.now + more })
+  pub due_true : (w : Watched) (more : ℕ) → AreTrue c times w → AreTrue c times (record w { deadlines = after_due times (w.now + more) w.deadlines; now = w.now + more })
   due_true w more h = by (is_past now d.t1) refl
     where
       d : Deadlines

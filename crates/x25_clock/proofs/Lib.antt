@@ -1,2 +1,6 @@
 pub mod ListLemmas
 pub mod ClockLemmas
+pub mod DeadlineLemmas
+pub mod WaitLemmas
+pub mod SilenceLemmas
+pub mod RowLemmas

@@ -1,5 +1,5 @@
 -- A list whose elements are changed one after another, from the front.
-use Rattle.std.proofs.Common.{◌≡◌, ℕ, zero, suc, ◌+◌, ◌<◌, ◌≤◌, List, [], ◌∷◌, ◌++◌, length, map, slice_set, slice_index_or, take, drop, refl, sym, ap, subst, ◌∙◌, arith, append-nil}
+use Rattle.std.proofs.Common.{◌≡◌, ℕ, zero, suc, ◌+◌, ◌<◌, ◌≤◌, List, [], ◌∷◌, ◌++◌, length, map, slice_set, slice_index_or, take, drop, refl, sym, ap, ◌∙◌, arith, append-nil}
 
 -- those from a place on changed
 abbrev pub left_mapped : {A : Type 0} → (A → A) → ℕ → List A → List A

@@ -10,6 +10,6 @@ use Rattle.x25_clock.specs.declared.due.Due.TheVariants as due
 abbrev pub command_for : Due → Option Command
 command_for due.T1 = None
 command_for due.Probe = Some Probes
-command_for (due.Clear h) = Some (Requests (Asks h Clears))
-command_for (due.Restart h) = Some (Requests Restarts)
+command_for (due.Clear h) = Some (Requests (Asks h (Clears 0 0)))
+command_for (due.Restart h) = Some (Requests (Restarts 0 0))
 command_for due.Relink = Some Relinks

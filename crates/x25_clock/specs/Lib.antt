@@ -2,3 +2,4 @@ pub mod Times
 pub mod Due
 pub mod Clock
 pub mod laws
+pub mod rows

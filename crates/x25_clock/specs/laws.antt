@@ -1,2 +1,4 @@
 -- What the laws of this crate say (src/law.rt).
 pub mod ClockLaw
+pub mod WaitLaw
+pub mod SilenceLaw

@@ -27,8 +27,15 @@ impl Due {
         match self {
             Due::T1 => None,
             Due::Probe => Some(Cmd::Probe),
-            Due::Clear { channel } => Some(Cmd::Clear { channel }),
-            Due::Restart { .. } => Some(Cmd::Restart),
+            Due::Clear { channel } => Some(Cmd::Clear {
+                channel,
+                cause: 0,
+                diagnostic: 0,
+            }),
+            Due::Restart { .. } => Some(Cmd::Restart {
+                cause: 0,
+                diagnostic: 0,
+            }),
             Due::Relink => Some(Cmd::Relink),
         }
     }

@@ -1,5 +1,10 @@
-//! What deadlines stand for: a law, the contract of a function that does nothing.
+//! What deadlines stand for, and what they are good for: laws, each the contract of a function that does nothing.
 ghost use Rattle.x25_clock.specs.laws.ClockLaw.{DeadlinesAreTrue};
+ghost use Rattle.x25_clock.specs.laws.SilenceLaw.{IdleIsAsked, SilenceEnds};
+ghost use Rattle.x25_clock.specs.laws.WaitLaw.{NothingWaits};
+ghost use Rattle.x25_clock.specs.rows.SilentRows.{SilentPeerIsLeft};
+
+use x25_station::{silence_is_asked, stations_ask_or_rest, ways_out_lead_on};
 
 /// Over any events of a station at any times, each of them heeded, and with what is due asked for at any moments: the
 /// deadline of T1 stands exactly while T1 runs, that of an idle link while it is at rest, that of a restart while one
@@ -7,4 +12,31 @@ ghost use Rattle.x25_clock.specs.laws.ClockLaw.{DeadlinesAreTrue};
 /// is so, or none where that is for ever.
 pub fn awaited_deadlines_are_true()
     ensures { DeadlinesAreTrue }
+{}
+
+/// No silence of the other end leaves a channel waiting. One who heeds each event, lets no moment pass at which
+/// something is due, and asks at once what is: then, whatever comes and whatever else is asked, a channel awaits an
+/// answer no longer than T21 for a call or T22 for a reset, T23 and T20 together, or hears of LinkUp or LinkDown
+/// before. None of these times is for ever, and 256 packets don't wait in the link where something is due.
+pub fn nothing_waits_for_ever()
+    ensures { NothingWaits }
+{
+    ways_out_lead_on();
+}
+
+/// Nor does a dead line stay unnoticed. One who obeys his clock so polls a link at rest of which no octets come after
+/// T3 at the latest; and while UA is awaited, or no octets come of a link that is up, LinkUp or LinkDown is told after
+/// N2 times T1 and once more at the latest, where T1 doesn't run after T3 and that. Neither T1 nor T3 is for ever.
+pub fn silence_is_told()
+    ensures ends { SilenceEnds }
+    ensures idle { IdleIsAsked }
+{
+    silence_is_asked();
+    stations_ask_or_rest();
+}
+
+/// A worked row: beside a peer whose packet layer is silent a DTE calls, clears, restarts, and sets the link up anew,
+/// each when it is due, and the last at the very moment up to which `nothing_waits_for_ever` lets it wait.
+pub fn silent_peer_is_left()
+    ensures { SilentPeerIsLeft }
 {}

@@ -10,5 +10,7 @@ mod wait;
 
 pub use clock::Clock;
 pub use due::Due;
-pub use law::awaited_deadlines_are_true;
+pub use law::{
+    awaited_deadlines_are_true, nothing_waits_for_ever, silence_is_told, silent_peer_is_left,
+};
 pub use times::Times;

@@ -43,8 +43,19 @@ fn is_asked(due: Due) -> u8 {
     match due.command() {
         None => 0,
         Some(Cmd::Probe) => 1,
-        Some(Cmd::Clear { channel: 2 }) => 2,
-        Some(Cmd::Restart) => 3,
+        Some(
+            Cmd::Clear {
+                channel: 2,
+                cause: 0,
+                diagnostic: 0,
+            },
+        ) => 2,
+        Some(
+            Cmd::Restart {
+                cause: 0,
+                diagnostic: 0,
+            },
+        ) => 3,
         Some(Cmd::Relink) => 4,
         Some(_) => 5,
     }

@@ -83,7 +83,11 @@ pub fn station_command<'a>(command: &Command<'a>, user: &'a [u8]) -> Cmd<'a>
             channel: *channel,
             params: *params,
         },
-        Command::Clear { channel } => Cmd::Clear { channel: *channel },
+        Command::Clear { channel } => Cmd::Clear {
+            channel: *channel,
+            cause: 0,
+            diagnostic: 0,
+        },
         Command::Send { channel, q, .. } => Cmd::Send {
             channel: *channel,
             q: *q,
@@ -93,10 +97,17 @@ pub fn station_command<'a>(command: &Command<'a>, user: &'a [u8]) -> Cmd<'a>
             channel: *channel,
             user,
         },
-        Command::Reset { channel } => Cmd::Reset { channel: *channel },
+        Command::Reset { channel } => Cmd::Reset {
+            channel: *channel,
+            cause: 0,
+            diagnostic: 0,
+        },
         Command::Ready { channel } => Cmd::Ready { channel: *channel },
         Command::NotReady { channel } => Cmd::NotReady { channel: *channel },
-        Command::Restart => Cmd::Restart,
+        Command::Restart => Cmd::Restart {
+            cause: 0,
+            diagnostic: 0,
+        },
         Command::Pull => Cmd::Pull,
         Command::Connect => Cmd::Connect,
         Command::Disconnect => Cmd::Disconnect,

@@ -1,5 +1,5 @@
 -- What a line of a user hands down is octets.
-use Rattle.std.proofs.Common.{◌≡◌, ℕ, nat_le, Bool, true, false, cond, List, length, Option, Some, None, refl}
+use Rattle.std.proofs.Common.{◌≡◌, ℕ, nat_le, Bool, true, false, cond, List, length, Option, Some, None, refl, arith, ◌<◌}
 use Rattle.x25_bits.specs.declared.role.Role.{Role}
 use Rattle.x25_bits.specs.declared.role.Role.TheVariants.{Dte, Dce}
 use Rattle.x25_station.specs.laws.TimerLaw.{Event, Asks, Fires}
@@ -17,18 +17,21 @@ abbrev pub AsksOctets : Option Event → Type 0
 AsksOctets (Some (Asks asked)) = CommandsOctets asked
 AsksOctets event = Unit {0}
 
+zeros : (0 < 256) × (0 < 256)
+zeros = (omega arith, omega arith)
+
 handed : (asked : PlainCommand) → AsksInOctets asked → CommandsOctets (command_asked asked)
 handed (call called calling user None) h = h
 handed (call called calling user (Some four)) h = h
 handed (accept channel None) h = tt
 handed (accept channel (Some four)) h = tt
-handed (clear channel) h = tt
+handed (clear channel) h = zeros
 handed (send channel q user) h = h
 handed (interrupt channel user) h = h
-handed (reset channel) h = tt
+handed (reset channel) h = zeros
 handed (ready channel) h = tt
 handed (not_ready channel) h = tt
-handed restart h = tt
+handed restart h = zeros
 handed pull h = tt
 handed connect h = tt
 handed disconnect h = tt

@@ -51,7 +51,7 @@ ups_channels (e ∷ es) = ups_channels es
 ups_asked : (c : LayerSettings) (l next : Layer) (request : LayerRequest) → ups_in (station_asked c l next request) ≡ 0
 ups_asked c l next (asked.Asks h request) = ups_channels (entries_asked c l next (asked.Asks h request))
 ups_asked c l next (asked.Dials called calling user proposal) = ups_channels (entries_asked c l next (asked.Dials called calling user proposal))
-ups_asked c l next asked.Restarts = refl
+ups_asked c l next (asked.Restarts cause diagnostic) = refl
 ups_asked c l next asked.PullsAll = refl
 
 ups_outcome : (c : LayerSettings) (l : Layer) (request : LayerRequest) (o : LayerOutcome) → ups_in (entries_of_outcome c l request o) ≡ 0
@@ -104,12 +104,12 @@ requests_ups c s request step is =
 pub said_octets : (says : Bool) (l : Layer) (request : LayerRequest) → RequestsOctets request → RequestsOctets (command.said_by says l request)
 said_octets says l (asked.Asks h (circuit.Calls called calling user proposal)) octets = octets
 said_octets says l (asked.Asks h (circuit.Accepts answer)) octets = octets
-said_octets says l (asked.Asks h circuit.Clears) octets = octets
+said_octets says l (asked.Asks h (circuit.Clears cause diagnostic)) octets = octets
 said_octets says l (asked.Asks h (circuit.Sends q user)) octets = octets
 said_octets says l (asked.Asks h (circuit.Interrupts user)) octets = octets
-said_octets says l (asked.Asks h circuit.Resets) octets = octets
+said_octets says l (asked.Asks h (circuit.Resets cause diagnostic)) octets = octets
 said_octets says l (asked.Asks h circuit.SaysReady) octets = octets
 said_octets says l (asked.Asks h circuit.SaysNotReady) octets = octets
 said_octets says l (asked.Dials called calling user proposal) octets = octets
-said_octets says l asked.Restarts octets = octets
+said_octets says l (asked.Restarts cause diagnostic) octets = octets
 said_octets says l asked.PullsAll octets = octets

@@ -5,6 +5,8 @@ use Rattle.x25_bits.specs.declared.role.Role.TheVariants.{Dte, Dce}
 use Rattle.x25_packet.specs.Packet.{PlainPacket, clear, restart, restart_conf}
 use Rattle.x25_packet.specs.Spelling.{channel_of}
 use Rattle.x25_circuit.specs.Params.{Proposal}
+use Rattle.x25_circuit.specs.declared.error.CircuitError.TheVariants as circuit_error
+use Rattle.x25_circuit.specs.Cause.{may_restart_for}
 use Rattle.x25_circuit.specs.Circuit.{Circuit}
 use Rattle.x25_circuit.specs.Notice.{PlainNotice}
 use Rattle.x25_circuit.specs.Hearing.{Answer, answers}
@@ -12,8 +14,8 @@ use Rattle.x25_circuit.specs.Calling.{Outcome, Done, Refused, Calls, outcome, pu
 use Rattle.x25_handshakes.specs.laws.Names.{Name}
 use Rattle.x25_layer.specs.declared.error.LayerError.{LayerError}
 use Rattle.x25_layer.specs.declared.error.LayerError.TheVariants as error
-use Rattle.x25_layer.specs.Layer.{LayerSettings, Layer, LayerNotice, LayerAnswer, is_channel, notices_on, is_ready, answers_on, drops, answers_ready, answers_restarting, answers_in, layer_answers}
-use Rattle.x25_layer.specs.Calls.{LayerRequest, Asks, Dials, Restarts, PullsAll, LayerOutcome, Accepted, Declined, free_channel, puts_at_once, where_room, if_at_once, outcome_on, dialled, outcome_ready, outcome_in, layer_outcome, layer_pulled}
+use Rattle.x25_layer.specs.Layer.{LayerSettings, Layer, LayerNotice, LayerAnswer, is_channel, notices_on, is_ready, answers_on, drops, restarting_from, answers_ready, answers_restarting, answers_in, layer_answers}
+use Rattle.x25_layer.specs.Calls.{LayerRequest, Asks, Dials, Restarts, PullsAll, LayerOutcome, Accepted, Declined, free_channel, puts_at_once, where_room, if_at_once, outcome_on, dialled, restarted_for, outcome_ready, outcome_in, layer_outcome, layer_pulled}
 use Rattle.x25_layer.specs.laws.Transcript.{name_of}
 use Rattle.x25_layer.specs.laws.TwoLayers.{End, TwoLayers, Move, Requests, Pulls, HandsUp, GoesDown, requested, pulled_in, handed_up, moves_in, turned, settings_of, Event, happens, run, start}
 use Rattle.x25_layer.specs.laws.Law.{Always}
@@ -106,7 +108,9 @@ kept_ready c full l (Asks h request) =
     (kept_at_once l (puts_at_once request) full (outcome_on l.restarts l.circuits h (outcome c.circuit (l.circuits h) request))
     (kept_on l h (outcome c.circuit (l.circuits h) request) (outcome_keeps c.circuit (l.circuits h) request)))
 kept_ready c full l (Dials called calling user proposal) = kept_dial c full l (free_channel c.circuit.role l.circuits c.channels) called calling user proposal
-kept_ready c full l Restarts = kept_room l full _ (λ k. refl)
+kept_ready c full l (Restarts cause diagnostic) =
+    kept_room l full (restarted_for c.circuit.role l.restarts l.circuits cause diagnostic)
+    (kept_if l (may_restart_for c.circuit.role cause) (Accepted (restarting_from l.restarts l.circuits) (Some (restart cause diagnostic))) (error.Circuit circuit_error.BadParameter) (λ k. refl))
 kept_ready c full l PullsAll = λ k. refl
 
 names_kept : (c : LayerSettings) (full : Bool) (l : Layer) (request : LayerRequest) → KeepsNames l (layer_outcome c full l request)

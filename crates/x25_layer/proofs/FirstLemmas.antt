@@ -1,5 +1,5 @@
 -- Until a packet comes to an end, it gave its RESTART alone; and the first that comes in order is the other end's, which its user is told.
-use Rattle.std.proofs.Common.{◌≡◌, inl, inr, ℕ, List, [], ◌∷◌, ◌++◌, option_to_list, Bool, true, false, ◌==◌, if◌then◌else◌, refl, sym, ap, subst, ◌∙◌, append-nil}
+use Rattle.std.proofs.Common.{◌≡◌, ℕ, List, [], ◌∷◌, ◌++◌, option_to_list, Bool, true, false, ◌==◌, if◌then◌else◌, refl, sym, ap, subst, ◌∙◌, append-nil}
 use Rattle.x25_bits.specs.declared.role.Role.{Role}
 use Rattle.x25_bits.specs.declared.role.Role.TheVariants.{Dte, Dce}
 use Rattle.x25_packet.specs.Packet.{PlainPacket, restart}
@@ -80,8 +80,8 @@ all_wait c [] e h = h
 all_wait c (what ∷ own) e h = all_wait c own (own_moves c e what) (waits_in c e h what e.is_out refl)
 
 pub restart_is_quiet : (role : Role) (channels : ℕ) → AreQuiet channels (restart (restart_cause role) 0 ∷ [])
-restart_is_quiet Dte channels = ((inl refl, λ no_channel. absurd no_channel), tt)
-restart_is_quiet Dce channels = ((inr refl, λ no_channel. absurd no_channel), tt)
+restart_is_quiet Dte channels = ((refl, λ no_channel. absurd no_channel), tt)
+restart_is_quiet Dce channels = ((refl, λ no_channel. absurd no_channel), tt)
 
 pub begins_alone : BeginsAlone
 begins_alone c own none =

@@ -1,5 +1,5 @@
 -- Each answer of a layer, each accepted call and each pull is a step of the nested handshakes, where that is no error of procedure.
-use Rattle.std.proofs.Common.{◌≡◌, inl, ℕ, zero, suc, ◌≤◌, List, [], ◌∷◌, Option, Some, None, Bool, true, false, ◌==◌, if◌then◌else◌, option_to_list, refl, sym, ap, subst, ◌∙◌, arith}
+use Rattle.std.proofs.Common.{◌≡◌, ℕ, zero, suc, ◌≤◌, List, [], ◌∷◌, Option, Some, None, Bool, true, false, ◌==◌, ◌&&◌, ◌||◌, not, if◌then◌else◌, option_to_list, refl, sym, ap, subst, ◌∙◌, arith}
 use Rattle.std.proofs.lemmas.Option.{same_Some}
 use Rattle.std.proofs.lemmas.Bool.{eqb-true, le-leb}
 use Rattle.x25_bits.specs.declared.role.Role.{Role}
@@ -7,6 +7,8 @@ use Rattle.x25_bits.specs.declared.role.Role.TheVariants.{Dte, Dce}
 use Rattle.x25_packet.specs.Packet.{PlainPacket, call, accept, clear, clear_conf, user_data, rr, rnr, interrupt, interrupt_conf, reset, reset_conf, restart, restart_conf}
 use Rattle.x25_packet.specs.Spelling.{channel_of, HasChannel, moved_to}
 use Rattle.x25_circuit.specs.Params.{Proposal}
+use Rattle.x25_circuit.specs.declared.error.CircuitError.TheVariants as circuit_error
+use Rattle.x25_circuit.specs.Cause.{is_fault_of_restart, is_of_end}
 use Rattle.x25_circuit.specs.Circuit.{Circuit, begun, forgotten, is_free}
 use Rattle.x25_circuit.specs.Notice.{PlainNotice}
 use Rattle.x25_circuit.specs.Hearing.{Answer, answers}
@@ -17,8 +19,9 @@ use Rattle.x25_handshakes.specs.laws.Channel.{ChannelStep, channel_takes, channe
 use Rattle.x25_handshakes.specs.laws.Layers.{LayerPacket, On, Restart, Channels, put, addressed, on_channel, ready, restarting, all_fresh, LayerStep, layer_takes, layer_side_takes, layer_acts, layer_side_acts, OnChannel}
 use Rattle.x25_handshakes.specs.laws.Names.{both, same_name}
 use Rattle.x25_layer.specs.Layer.{LayerSettings, Layer, LayerAnswer, is_channel, put_at, packet_on, notices_on, is_ready, answers_on, drops, answers_ready, answers_restarting, answers_in, layer_answers}
+use Rattle.x25_layer.specs.declared.error.LayerError.TheVariants as layer_error
 use Rattle.x25_layer.specs.Layer as flat
-use Rattle.x25_layer.specs.Calls.{LayerRequest, Asks, Dials, Restarts, PullsAll, LayerOutcome, Accepted, Declined, first_of, lowest_free, highest_free, free_channel, puts_at_once, where_room, if_at_once, outcome_on, dialled, outcome_ready, outcome_in, layer_outcome, LayerPulled, layer_pulled}
+use Rattle.x25_layer.specs.Calls.{LayerRequest, Asks, Dials, Restarts, PullsAll, LayerOutcome, Accepted, Declined, first_of, lowest_free, highest_free, free_channel, puts_at_once, where_room, if_at_once, outcome_on, dialled, restarted_for, outcome_ready, outcome_in, layer_outcome, LayerPulled, layer_pulled}
 use Rattle.x25_handshakes.specs.laws.PeerLayers.{found, layer_found}
 use Rattle.x25_layer.specs.laws.PeerJoined.{IsConfigured}
 use Rattle.x25_layer.specs.laws.Bare.{bare, bare_layer, bare_layers}
@@ -261,14 +264,22 @@ asked_ready laws c full e l x (Asks h request) does each =
     (circuit_asked laws c e l.circuits x h request is each l (Asks h request) (λ n. refl)))
 asked_ready laws c full e l x (Dials called calling user proposal) does each = dial laws c full e l.circuits x called calling user proposal each l refl
 asked_ready laws c full e l x PullsAll does each = absurd does
-asked_ready laws c full e l x Restarts does each =
-    room c l Restarts full (Accepted (flat.restarting_from e l.circuits) (Some (restart 0 0))) (ready e x) (record { next = restarting e x; out = Restart ∷ []; error = None })
-    (record {
+asked_ready laws c full e l x (Restarts cause diagnostic) does each =
+    room c l (Restarts cause diagnostic) full (restarted_for c.circuit.role e l.circuits cause diagnostic) (ready e x) restarts (given (is_fault_of_restart cause) refl (cause == 0 || is_of_end c.circuit.role cause))
+  where
+    restarts : LayerStep
+    restarts = record { next = restarting e x; out = Restart ∷ []; error = None }
+
+    given : (is_fault : Bool) → is_fault_of_restart cause ≡ is_fault → (b : Bool)
+        → HeedsLayer c l (Restarts cause diagnostic) (if not is_fault && b then Accepted (flat.restarting_from e l.circuits) (Some (restart cause diagnostic)) else Declined (layer_error.Circuit circuit_error.BadParameter)) (ready e x) restarts
+    given true is b = tt
+    given false is false = tt
+    given false is true = record {
       next = record { restarting = refl; restarts = refl; circuits = λ k. ap forgotten (each k).is };
       put = refl;
-      quiet = ((inl refl, λ no. absurd no), tt);
+      quiet = ((is, λ no. absurd no), tt);
       step = quiet_step (ready e x) (restarting e x) refl (λ k. still (x k));
-    })
+    }
 
 -- A call of the user.
 pub layer_heeds : ParamsLaws → (c : LayerSettings) (full : Bool) (l : Layer) (z : At Channels) (r : LayerRequest) → DoesItself r → SeesLayer l z

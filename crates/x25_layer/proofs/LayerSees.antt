@@ -62,7 +62,7 @@ dial_act (Some h) called calling user proposal = OnChannel h (act_of (Calls call
 abbrev pub layer_act : LayerSettings → (ℕ → Circuit) → LayerRequest → LayerAct
 layer_act c circuits (Asks h request) = OnChannel h (act_of request)
 layer_act c circuits (Dials called calling user proposal) = dial_act (free_channel c.circuit.role circuits c.channels) called calling user proposal
-layer_act c circuits Restarts = SendsRestart
+layer_act c circuits (Restarts cause diagnostic) = SendsRestart
 layer_act c circuits PullsAll = SendsRestart
 
 -- a request that does something itself

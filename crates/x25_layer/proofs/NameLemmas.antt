@@ -8,12 +8,13 @@ use Rattle.x25_circuit.specs.declared.error.CircuitError.TheVariants.{Full, TooL
 use Rattle.x25_circuit.specs.declared.state.State.{State}
 use Rattle.x25_circuit.specs.declared.state.State.TheVariants.{Free, Calling, Arriving, Collision, Open, Resetting, Clearing}
 use Rattle.x25_circuit.specs.declared.params.Params.{Params}
-use Rattle.x25_circuit.specs.Params.{Proposal, may_answer, field_for, said_in}
+use Rattle.x25_circuit.specs.Params.{Proposal, default_params, may_answer, field_for, said_in}
+use Rattle.x25_circuit.specs.Cause.{may_clear_for, may_reset_for}
 use Rattle.x25_circuit.specs.Message.{Piece, piece_of, no_part, joining, completed, cut}
 use Rattle.x25_circuit.specs.Circuit.{Settings, Talk, Circuit, outgoing, incoming as terms_in, is_free, is_free_in, waits}
 use Rattle.x25_circuit.specs.Notice.{CallRequest, PlainNotice, connected, deliveries}
 use Rattle.x25_circuit.specs.Hearing.{Answer, answers, goes, clears_for, request_in, collides, connects, row_call, row_accept, row_clear, row_clear_conf, row_reset, row_reset_conf, unless, takes, hears_status, confirms, row_open, row_data, data_ground, number_ground}
-use Rattle.x25_circuit.specs.Calling.{Outcome, Done, Refused, Request, Calls, Accepts, Clears, Sends, Interrupts, Resets, SaysReady, SaysNotReady, does, keeps_on, call_sent, may_call, call_in, accept_with, accept_in, clear_in, send_in, interrupt_in, reset_in, ready_in, outcome, Pulled, pull_open, pull_in, pulled}
+use Rattle.x25_circuit.specs.Calling.{Outcome, Done, Refused, Request, Calls, Accepts, Clears, Sends, Interrupts, Resets, SaysReady, SaysNotReady, does, keeps_on, call_sent, may_call, call_in, accept_with, accept_in, clear_with, clear_in, send_in, interrupt_in, reset_in, ready_in, outcome, Pulled, pull_open, pull_in, pulled}
 use Rattle.x25_handshakes.specs.laws.Names.{Name}
 use Rattle.x25_layer.specs.laws.NameLaw.{named_by}
 
@@ -182,14 +183,17 @@ module _ (c : Settings) (x : Circuit) where
   accept_keeps Resetting answer = tt
   accept_keeps Clearing answer = tt
 
-  clear_keeps : (s : State) → KeepsName x (clear_in x s)
-  clear_keeps Free = tt
-  clear_keeps Clearing = tt
-  clear_keeps Calling = λ e. refl
-  clear_keeps Arriving = λ e. refl
-  clear_keeps Collision = λ e. refl
-  clear_keeps Open = λ e. refl
-  clear_keeps Resetting = λ e. refl
+  clear_with_keeps : (cause diagnostic : ℕ) → KeepsName x (clear_with c x cause diagnostic)
+  clear_with_keeps cause diagnostic = keeps_if x (may_clear_for c.role cause) (does x Clearing default_params false (clear 1 cause diagnostic)) (Refused BadParameter) (λ e. refl) tt
+
+  clear_keeps : (s : State) (cause diagnostic : ℕ) → KeepsName x (clear_in c x s cause diagnostic)
+  clear_keeps Free cause diagnostic = tt
+  clear_keeps Clearing cause diagnostic = tt
+  clear_keeps Calling cause diagnostic = clear_with_keeps cause diagnostic
+  clear_keeps Arriving cause diagnostic = clear_with_keeps cause diagnostic
+  clear_keeps Collision cause diagnostic = clear_with_keeps cause diagnostic
+  clear_keeps Open cause diagnostic = clear_with_keeps cause diagnostic
+  clear_keeps Resetting cause diagnostic = clear_with_keeps cause diagnostic
 
   -- a message more waits; and an interrupt is out
   abbrev sends : Talk → Bool → List ℕ → Outcome
@@ -222,14 +226,14 @@ module _ (c : Settings) (x : Circuit) where
   interrupt_keeps Resetting user = tt
   interrupt_keeps Clearing user = tt
 
-  reset_keeps : (s : State) → KeepsName x (reset_in x s)
-  reset_keeps Open = λ e. refl
-  reset_keeps Free = tt
-  reset_keeps Calling = tt
-  reset_keeps Arriving = tt
-  reset_keeps Collision = tt
-  reset_keeps Resetting = tt
-  reset_keeps Clearing = tt
+  reset_keeps : (s : State) (cause diagnostic : ℕ) → KeepsName x (reset_in c x s cause diagnostic)
+  reset_keeps Open cause diagnostic = keeps_if x (may_reset_for c.role cause) (does x Resetting x.params x.calls (reset 1 cause diagnostic)) (Refused BadParameter) (λ e. refl) tt
+  reset_keeps Free cause diagnostic = tt
+  reset_keeps Calling cause diagnostic = tt
+  reset_keeps Arriving cause diagnostic = tt
+  reset_keeps Collision cause diagnostic = tt
+  reset_keeps Resetting cause diagnostic = tt
+  reset_keeps Clearing cause diagnostic = tt
 
   ready_keeps : (s : State) (is_ready : Bool) → KeepsName x (ready_in x s is_ready)
   ready_keeps Open is_ready = λ e. refl
@@ -243,10 +247,10 @@ module _ (c : Settings) (x : Circuit) where
   pub outcome_keeps : (request : Request) → KeepsName x (outcome c x request)
   outcome_keeps (Calls called calling user params) = call_keeps x.state called calling user params
   outcome_keeps (Accepts answer) = accept_keeps x.state answer
-  outcome_keeps Clears = clear_keeps x.state
+  outcome_keeps (Clears cause diagnostic) = clear_keeps x.state cause diagnostic
   outcome_keeps (Sends q user) = send_keeps x.state q user
   outcome_keeps (Interrupts user) = interrupt_keeps x.state user
-  outcome_keeps Resets = reset_keeps x.state
+  outcome_keeps (Resets cause diagnostic) = reset_keeps x.state cause diagnostic
   outcome_keeps SaysReady = ready_keeps x.state true
   outcome_keeps SaysNotReady = ready_keeps x.state false
 

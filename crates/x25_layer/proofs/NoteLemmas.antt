@@ -14,7 +14,8 @@ use Rattle.x25_circuit.specs.Params.{Proposal, Terms, may_answer, field_for, sai
 use Rattle.x25_circuit.specs.Circuit.{Settings, Circuit}
 use Rattle.x25_circuit.specs.Notice.{CallRequest, connected, deliveries}
 use Rattle.x25_circuit.specs.Hearing.{answers, unless, takes, hears_status, confirms, request_in, goes, clears_for, collides}
-use Rattle.x25_circuit.specs.Calling.{Outcome, Refused, Request, Calls, Accepts, Clears, Sends, Interrupts, does, call_sent, may_call, request_of, outcome}
+use Rattle.x25_circuit.specs.Calling.{Outcome, Refused, Request, Calls, Accepts, Clears, Sends, Interrupts, Resets, does, call_sent, may_call, request_of, outcome}
+use Rattle.x25_circuit.specs.Cause.{may_clear_for, may_reset_for}
 use Rattle.x25_handshakes.specs.laws.Handshake.{Side, Live, Left, At}
 use Rattle.x25_handshakes.specs.laws.Stretch.{Data, Call, Accept, Stretch, StretchStep, stretch_does, stretch_fails, by_ground, takes_data, takes_status, data_ground, ack_ground, pulls}
 use Rattle.x25_handshakes.specs.laws.Transfer.{d1, lifted}
@@ -201,6 +202,10 @@ if_both true true u v n f s w h p q = p
 if_both true false u v n f s w h p q = q
 if_both false b u v n f s w h p q = q
 
+given_notes : (b : Bool) (u : Outcome) (n m : At Connection) (h : Handed) → NotesOutcome u n m h → NotesOutcome (if b then u else Refused BadParameter) n m h
+given_notes true u n m h p = p
+given_notes false u n m h p = tt
+
 abbrev Asked : Settings → Agreed → At Connection → Request → Type 0
 Asked c g n request = NotesOutcome (outcome c (view g n) request) n (channel_acts n (act_of request)).next (asked_by request)
 
@@ -225,10 +230,12 @@ asked_open c g e m i s x (Calls called calling user params) = tt
 asked_open c g e m i s x (Accepts answer) = tt
 asked_open c g e m i s x (Sends q user) = asked_send c g e m i s x q user
 asked_open c g e m i s x (Interrupts user) = asked_interrupt c g e m i s x user
+asked_open c g e m i s x (Clears cause diagnostic) = given_notes (may_clear_for c.role cause) _ (in_open g e m i s x) _ _ (Adds refl refl (added_nothing (held_stretch m i x)) (inl (refl, refl)))
+asked_open c g e m i s x (Resets cause diagnostic) = given_notes (may_reset_for c.role cause) _ (in_open g e m i s x) _ _ (Adds refl refl (added_nothing (held_stretch m i x)) (inl (refl, refl)))
 asked_open c g e m i s x other = Adds refl refl (added_nothing (held_stretch m i x)) (inl (refl, refl))
 
 asked_resetting : (c : Settings) (g : Agreed) (e : ℕ) (m i : List CallRequest) (s : ℕ) (x : Stretch) (request : Request) → Asked c g (in_resetting g e m i s x) request
-asked_resetting c g e m i s x Clears = Adds refl refl (added_nothing (held_stretch m i x)) (inl (refl, refl))
+asked_resetting c g e m i s x (Clears cause diagnostic) = given_notes (may_clear_for c.role cause) _ (in_resetting g e m i s x) _ _ (Adds refl refl (added_nothing (held_stretch m i x)) (inl (refl, refl)))
 asked_resetting c g e m i s x other = tt
 
 asked_in_transfer : (c : Settings) (g : Agreed) (e : ℕ) (m i : List CallRequest) (s : ℕ) (x : Side Stretch) (request : Request) → Asked c g (in_talk g e m i (record { epoch = s; side = x })) request
@@ -267,13 +274,13 @@ asked_answer c g e m i theirs answer = test (may_answer theirs answer.params)
 asked_in_call : (c : Settings) (g : Agreed) (e : ℕ) (m i : List CallRequest) (a : Phase) (request : Request) → AreAgreedIn g a → Asked c g (in_call e m i a) request
 asked_in_call c g e m i Unused (Calls called calling user params) fits = asked_call c g e m i called calling user params
 asked_in_call c g e m i Unused other fits = tt
-asked_in_call c g e m i (Waiting mine) Clears fits = Adds refl refl (added_nothing (held_of (in_call e m i (Waiting mine)))) (inl (refl, refl))
+asked_in_call c g e m i (Waiting mine) (Clears cause diagnostic) fits = given_notes (may_clear_for c.role cause) _ (in_call e m i (Waiting mine)) _ _ (Adds refl refl (added_nothing (held_of (in_call e m i (Waiting mine)))) (inl (refl, refl)))
 asked_in_call c g e m i (Waiting mine) other fits = tt
 asked_in_call c g e m i (Offered theirs) (Accepts None) fits = Adds refl refl (added_nothing (held_of (in_call e m i (Offered theirs)))) (inl (refl, refl))
 asked_in_call c g e m i (Offered theirs) (Accepts (Some answer)) fits = asked_answer c g e m i theirs answer
-asked_in_call c g e m i (Offered theirs) Clears fits = Adds refl refl (added_nothing (held_of (in_call e m i (Offered theirs)))) (inl (refl, refl))
+asked_in_call c g e m i (Offered theirs) (Clears cause diagnostic) fits = given_notes (may_clear_for c.role cause) _ (in_call e m i (Offered theirs)) _ _ (Adds refl refl (added_nothing (held_of (in_call e m i (Offered theirs)))) (inl (refl, refl)))
 asked_in_call c g e m i (Offered theirs) other fits = tt
-asked_in_call c g e m i (Crossed mine) Clears fits = Adds refl refl (added_nothing (held_of (in_call e m i (Crossed mine)))) (inl (refl, refl))
+asked_in_call c g e m i (Crossed mine) (Clears cause diagnostic) fits = given_notes (may_clear_for c.role cause) _ (in_call e m i (Crossed mine)) _ _ (Adds refl refl (added_nothing (held_of (in_call e m i (Crossed mine)))) (inl (refl, refl)))
 asked_in_call c g e m i (Crossed mine) other fits = tt
 asked_in_call c g e m i (Talking t b at) request fits = on_terms (λ a. Asked c g (in_call e m i a) request) g t b at fits (asked_in_transfer c g e m i at.epoch at.side request)
 

@@ -152,10 +152,10 @@ begins long_data channels = record {
     far = (refl, record { restarting = refl; restarts = refl; circuits = λ k. refl });
     out = refl;
     back = refl;
-    out_quiet = ((inl refl, λ no_channel. absurd no_channel), tt);
-    back_quiet = ((inr refl, λ no_channel. absurd no_channel), tt);
-    near_quiet = record { given = ((inl refl, λ no_channel. absurd no_channel), tt); told = tt };
-    far_quiet = record { given = ((inr refl, λ no_channel. absurd no_channel), tt); told = tt };
+    out_quiet = ((refl, λ no_channel. absurd no_channel), tt);
+    back_quiet = ((refl, λ no_channel. absurd no_channel), tt);
+    near_quiet = record { given = ((refl, λ no_channel. absurd no_channel), tt); told = tt };
+    far_quiet = record { given = ((refl, λ no_channel. absurd no_channel), tt); told = tt };
     order = record { near = refl; far = refl };
   };
   messages = record { near = λ k m. refl; far = λ k m. refl };

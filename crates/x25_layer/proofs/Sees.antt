@@ -144,10 +144,10 @@ Heeds (Refused e) s = Unit {0}
 abbrev pub act_of : Request → ChannelAct
 act_of (Calls called calling user proposal) = Within (PlacesCall (request_of called calling user proposal.params))
 act_of (Accepts answer) = Within (AcceptsCall answer)
-act_of Clears = SendsClear
+act_of (Clears cause diagnostic) = SendsClear
 act_of (Sends q user) = Within (Talks (Inside (Send q user)))
 act_of (Interrupts user) = Within (Talks (Inside (Interrupt user)))
-act_of Resets = Within (Talks SendsReset)
+act_of (Resets cause diagnostic) = Within (Talks SendsReset)
 act_of SaysReady = Within (Talks (Inside Ready))
 act_of SaysNotReady = Within (Talks (Inside NotReady))
 

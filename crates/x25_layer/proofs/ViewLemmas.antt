@@ -1,5 +1,5 @@
 -- Each row of a circuit's table is a step of its channel in the nested handshakes, where that is no error of procedure.
-use Rattle.std.proofs.Common.{◌≡◌, ℕ, ◌+◌, ◌%◌, List, [], ◌∷◌, ◌++◌, length, Option, Some, None, Bool, true, false, nat_lt, nat_le, ◌&&◌, if◌then◌else◌, refl, sym, ap, subst, ◌∙◌}
+use Rattle.std.proofs.Common.{◌≡◌, ℕ, ◌+◌, ◌%◌, List, [], ◌∷◌, ◌++◌, length, Option, Some, None, Bool, true, false, nat_lt, nat_le, ◌==◌, ◌&&◌, ◌||◌, if◌then◌else◌, refl, sym, ap, subst, ◌∙◌}
 use Rattle.x25_bits.specs.declared.role.Role.{Role}
 use Rattle.x25_bits.specs.declared.role.Role.TheVariants.{Dte, Dce}
 use Rattle.x25_packet.specs.Packet.{PlainPacket, call, accept, clear, clear_conf, user_data, rr, rnr, interrupt, interrupt_conf, reset, reset_conf, restart, restart_conf}
@@ -14,6 +14,7 @@ use Rattle.x25_circuit.specs.Params.{Proposal, Terms, default_params, may_propos
 use Rattle.x25_circuit.specs.Circuit.{Settings, silent, Circuit, entered}
 use Rattle.x25_circuit.specs.Notice.{CallRequest, connected, deliveries}
 use Rattle.x25_circuit.specs.Hearing.{answers, unless, takes, hears_status, confirms, status, request_in, goes, clears_for, collides}
+use Rattle.x25_circuit.specs.Cause.{is_of_end, may_give, is_fault_of_clear, is_fault_of_reset}
 use Rattle.x25_circuit.specs.Calling.{Outcome, Refused, Request, Calls, Accepts, Clears, Sends, Interrupts, Resets, SaysReady, SaysNotReady, does, request_of, call_sent, may_call, outcome, Pulled, pulled, pull_open, data_packet}
 use Rattle.x25_handshakes.specs.laws.Handshake.{Side, Live, Left, At}
 use Rattle.x25_handshakes.specs.laws.Stretch.{Data, Call, Accept, Stretch, StretchStep, stretch_does, stretch_fails, Send, Interrupt, pulls, stretch_acts, by_ground, takes_data, takes_status, data_ground, ack_ground}
@@ -217,6 +218,15 @@ if_both true true u v f s w h g = h
 if_both true false u v f s w h g = g
 if_both false b u v f s w h g = g
 
+-- a clear or a reset goes where its cause may be given, and that is no cause of a fault
+given_heeds : (is_fault : Bool) (role : Role) (cause : ℕ) (u : Outcome) (s : ChannelStep) → (is_fault ≡ false → Heeds u s) → Heeds (if may_give is_fault role cause then u else Refused BadParameter) s
+given_heeds true role cause u s h = tt
+given_heeds false role cause u s h = test (cause == 0 || is_of_end role cause)
+  where
+    test : (b : Bool) → Heeds (if b then u else Refused BadParameter) s
+    test true = h refl
+    test false = tt
+
 abbrev Asked : Settings → Agreed → At Connection → Request → Type 0
 Asked c g n request = Heeds (outcome c (view g n) request) (channel_acts n (act_of request))
 
@@ -235,15 +245,15 @@ asked_interrupt c g e m i s x user =
 asked_open : (c : Settings) (g : Agreed) (e : ℕ) (m i : List CallRequest) (s : ℕ) (x : Stretch) (request : Request) → Asked c g (in_open g e m i s x) request
 asked_open c g e m i s x (Calls called calling user params) = tt
 asked_open c g e m i s x (Accepts answer) = tt
-asked_open c g e m i s x Clears = record { next = record { agreed = g; is = refl; fits = tt }; packet = refl; quiet = (refl, tt) }
+asked_open c g e m i s x (Clears cause diagnostic) = given_heeds (is_fault_of_clear cause) c.role cause _ _ (λ quiet. record { next = record { agreed = g; is = refl; fits = tt }; packet = refl; quiet = (quiet, tt) })
 asked_open c g e m i s x (Sends q user) = asked_send c g e m i s x q user
 asked_open c g e m i s x (Interrupts user) = asked_interrupt c g e m i s x user
-asked_open c g e m i s x Resets = record { next = record { agreed = g; is = refl; fits = (refl, refl) }; packet = refl; quiet = (refl, tt) }
+asked_open c g e m i s x (Resets cause diagnostic) = given_heeds (is_fault_of_reset cause) c.role cause _ _ (λ quiet. record { next = record { agreed = g; is = refl; fits = (refl, refl) }; packet = refl; quiet = (quiet, tt) })
 asked_open c g e m i s x SaysReady = record { next = record { agreed = g; is = refl; fits = (refl, refl) }; packet = refl; quiet = (tt, tt) }
 asked_open c g e m i s x SaysNotReady = record { next = record { agreed = g; is = refl; fits = (refl, refl) }; packet = refl; quiet = (tt, tt) }
 
 asked_resetting : (c : Settings) (g : Agreed) (e : ℕ) (m i : List CallRequest) (s : ℕ) (x : Stretch) (request : Request) → Asked c g (in_resetting g e m i s x) request
-asked_resetting c g e m i s x Clears = record { next = record { agreed = g; is = refl; fits = tt }; packet = refl; quiet = (refl, tt) }
+asked_resetting c g e m i s x (Clears cause diagnostic) = given_heeds (is_fault_of_clear cause) c.role cause _ _ (λ quiet. record { next = record { agreed = g; is = refl; fits = tt }; packet = refl; quiet = (quiet, tt) })
 asked_resetting c g e m i s x other = tt
 
 asked_in_transfer : (c : Settings) (g : Agreed) (e : ℕ) (m i : List CallRequest) (s : ℕ) (x : Side Stretch) (request : Request) → Asked c g (in_talk g e m i (record { epoch = s; side = x })) request
@@ -292,14 +302,14 @@ asked_answer laws c g e m i theirs answer allowed = test (may_answer theirs answ
 asked_in_call : ParamsLaws → (c : Settings) (g : Agreed) (e : ℕ) (m i : List CallRequest) (a : Phase) (request : Request) → AreAgreedIn g a → Asked c g (in_call e m i a) request
 asked_in_call laws c g e m i Unused (Calls called calling user params) fits = asked_call laws c g e m i called calling user params
 asked_in_call laws c g e m i Unused other fits = tt
-asked_in_call laws c g e m i (Waiting mine) Clears fits = record { next = record { agreed = g; is = refl; fits = tt }; packet = refl; quiet = (refl, tt) }
+asked_in_call laws c g e m i (Waiting mine) (Clears cause diagnostic) fits = given_heeds (is_fault_of_clear cause) c.role cause _ _ (λ quiet. record { next = record { agreed = g; is = refl; fits = tt }; packet = refl; quiet = (quiet, tt) })
 asked_in_call laws c g e m i (Waiting mine) other fits = tt
 asked_in_call laws c g e m i (Offered theirs) (Accepts None) fits =
     record { next = record { agreed = record { params = theirs; calls = false }; is = refl; fits = (refl, refl) }; packet = refl; quiet = (no_field, tt) }
 asked_in_call laws c g e m i (Offered theirs) (Accepts (Some answer)) fits = asked_answer laws c g e m i theirs answer fits
-asked_in_call laws c g e m i (Offered theirs) Clears fits = record { next = record { agreed = g; is = refl; fits = tt }; packet = refl; quiet = (refl, tt) }
+asked_in_call laws c g e m i (Offered theirs) (Clears cause diagnostic) fits = given_heeds (is_fault_of_clear cause) c.role cause _ _ (λ quiet. record { next = record { agreed = g; is = refl; fits = tt }; packet = refl; quiet = (quiet, tt) })
 asked_in_call laws c g e m i (Offered theirs) other fits = tt
-asked_in_call laws c g e m i (Crossed mine) Clears fits = record { next = record { agreed = g; is = refl; fits = tt }; packet = refl; quiet = (refl, tt) }
+asked_in_call laws c g e m i (Crossed mine) (Clears cause diagnostic) fits = given_heeds (is_fault_of_clear cause) c.role cause _ _ (λ quiet. record { next = record { agreed = g; is = refl; fits = tt }; packet = refl; quiet = (quiet, tt) })
 asked_in_call laws c g e m i (Crossed mine) other fits = tt
 asked_in_call laws c g e m i (Talking t b at) request fits = on_terms (λ a. Asked c g (in_call e m i a) request) g t b at fits (asked_in_transfer c g e m i at.epoch at.side request)
 

@@ -5,6 +5,8 @@ use Rattle.x25_bits.specs.declared.role.Role.TheVariants.{Dte, Dce}
 use Rattle.x25_packet.specs.Packet.{PlainPacket, restart}
 use Rattle.x25_circuit.specs.Params.{Proposal}
 use Rattle.x25_circuit.specs.Circuit.{Circuit, is_free}
+use Rattle.x25_circuit.specs.declared.error.CircuitError.TheVariants as circuit_error
+use Rattle.x25_circuit.specs.Cause.{may_restart_for}
 use Rattle.x25_circuit.specs.Calling.{Outcome, Done, Refused, Request, Calls, Sends, outcome, Pulled, pulled}
 use Rattle.x25_circuit.specs.Request.{is_message}
 use Rattle.x25_layer.specs.declared.error.LayerError.{LayerError}
@@ -12,11 +14,12 @@ use Rattle.x25_layer.specs.declared.error.LayerError.TheVariants as error
 use Rattle.x25_layer.specs.Layer.{LayerSettings, Layer, is_channel, put_at, packet_on, is_ready, restarting_from}
 
 -- a call of a circuit on a channel; a new call, which takes a free channel, with the packet sizes and windows that it
--- proposes; a restart; and that the data packets which wait be pulled, which puts no packet of its own
+-- proposes; a restart, with a cause and a diagnostic; and that the data packets which wait be pulled, which puts no
+-- packet of its own
 pub data LayerRequest : Type 0 where
   Asks : (channel : ℕ) → (request : Request) → LayerRequest
   Dials : (called : List ℕ) → (calling : List ℕ) → (user : List ℕ) → (proposal : Proposal) → LayerRequest
-  Restarts : LayerRequest
+  Restarts : (cause : ℕ) → (diagnostic : ℕ) → LayerRequest
   PullsAll : LayerRequest
 
 -- the layer after the call, and the packet to send, where there is one; or why it is refused
@@ -75,6 +78,12 @@ dialled c is_full restarts circuits (Some h) called calling user proposal =
     where_room is_full (outcome_on restarts circuits h
     (outcome c.circuit (circuits h) (Calls called calling user proposal)))
 
+abbrev pub restarted_for : Role → ℕ → (ℕ → Circuit) → ℕ → ℕ → LayerOutcome
+restarted_for role restarts circuits cause diagnostic =
+    if may_restart_for role cause
+    then Accepted (restarting_from restarts circuits) (Some (restart cause diagnostic))
+    else Declined (error.Circuit circuit_error.BadParameter)
+
 abbrev pub outcome_ready : LayerSettings → Bool → ℕ → (ℕ → Circuit) → LayerRequest → LayerOutcome
 outcome_ready c is_full restarts circuits (Asks h request) =
     if is_channel c.channels h
@@ -83,8 +92,8 @@ outcome_ready c is_full restarts circuits (Asks h request) =
     else Declined error.NoSuchChannel
 outcome_ready c is_full restarts circuits (Dials called calling user proposal) =
     dialled c is_full restarts circuits (free_channel c.circuit.role circuits c.channels) called calling user proposal
-outcome_ready c is_full restarts circuits Restarts = where_room is_full
-    (Accepted (restarting_from restarts circuits) (Some (restart 0 0)))
+outcome_ready c is_full restarts circuits (Restarts cause diagnostic) = where_room is_full
+    (restarted_for c.circuit.role restarts circuits cause diagnostic)
 outcome_ready c is_full restarts circuits PullsAll = Accepted (is_ready restarts circuits) None
 
 abbrev pub outcome_in : LayerSettings → Bool → Bool → ℕ → (ℕ → Circuit) → LayerRequest → LayerOutcome

@@ -18,6 +18,7 @@ use crate::error::LayerError;
 use crate::layer::Layer;
 use crate::report::Report;
 use x25_bits::Role;
+use x25_circuit::{CircuitError, may_restart_for};
 use x25_link::OrderedLink;
 use x25_packet::Packet;
 
@@ -86,14 +87,20 @@ impl Layer {
         Ok(())
     }
 
-    /// Restarts all channels of this end: each goes to p1, and RESTART with cause and diagnostic 0 is sent. The link
+    /// Restarts all channels of this end: each goes to p1, and RESTART with this cause and diagnostic is sent. The link
     /// takes packets of 4,099 octets.
     ///
-    /// 9 NotUp, then 40 Restarting, then 10 QueueFull where 256 packets wait, and else 70 alone, and that only where
-    /// memory for no packet is set aside. The layer and the link are as before then.
-    pub fn restart<L: OrderedLink>(&mut self, link: &mut L) -> Result<(), LayerError>
+    /// 9 NotUp, then 40 Restarting, then 10 QueueFull where 256 packets wait, then 34 BadParameter where the cause is
+    /// none that the user of this end may give, and else 70 alone, and that only where memory for no packet is set
+    /// aside. The layer and the link are as before then.
+    pub fn restart<L: OrderedLink>(
+        &mut self,
+        link: &mut L,
+        cause: u8,
+        diagnostic: u8,
+    ) -> Result<(), LayerError>
         requires { 4099 ≤ L.longest link.old }
-        ensures { Answers L.OrderedLink self.old link.old self.new link.new result 1 Restarts }
+        ensures { Answers L.OrderedLink self.old link.old self.new link.new result 1 (Restarts cause diagnostic) }
     {
         if let Some(error) = self.unready(link) {
             return Err(error);
@@ -101,8 +108,11 @@ impl Layer {
         if link.waiting() == 256 {
             return Err(LayerError::QueueFull);
         }
+        if !may_restart_for(self.role, cause) {
+            return Err(LayerError::Circuit(CircuitError::BadParameter));
+        }
         self.reserve_packets(link, 1)?;
-        self.send_restart(link, 0, 0);
+        self.send_restart(link, cause, diagnostic);
         Ok(())
     }
 

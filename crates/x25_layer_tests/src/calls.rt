@@ -51,12 +51,16 @@ pub fn up(layer: &mut Layer, link: &mut PlainLink) -> Result<(), LayerError> {
     layer.up(link)
 }
 
-/// Asks for a restart, over a link that takes packets of 4,099 octets, as all below.
-pub fn restart<L: OrderedLink>(layer: &mut Layer, link: &mut L) -> Result<(), LayerError> {
+/// Asks for a restart with a cause, and diagnostic 7, over a link that takes packets of 4,099 octets, as all below.
+pub fn restart<L: OrderedLink>(
+    layer: &mut Layer,
+    link: &mut L,
+    cause: u8,
+) -> Result<(), LayerError> {
     if link.limit() < 4099 {
         return Err(LayerError::BadConfig);
     }
-    layer.restart(link)
+    layer.restart(link, cause, 7)
 }
 
 pub fn pull(layer: &mut Layer, link: &mut PlainLink) -> Result<(), LayerError> {

@@ -10,13 +10,19 @@ use x25_link::OrderedLink;
 pub fn request(index: usize) -> Request<'static> {
     match index {
         0 => Request::Accept { answer: None },
-        1 => Request::Clear,
+        1 => Request::Clear {
+            cause: 0,
+            diagnostic: 0,
+        },
         2 => Request::Send {
             q: false,
             user: &[],
         },
         3 => Request::Interrupt { user: &[7] },
-        4 => Request::Reset,
+        4 => Request::Reset {
+            cause: 0,
+            diagnostic: 0,
+        },
         5 => Request::Ready,
         _ => Request::NotReady,
     }
@@ -25,7 +31,8 @@ pub fn request(index: usize) -> Request<'static> {
 /// What happens, and the number of its refusal or 0.
 #[derive(Clone, Copy)]
 enum Act {
-    Restart(u8),
+    /// With a cause.
+    Restart(u8, u8),
     /// So many packets are handed down to the link, by another than the layer.
     Fill(usize),
     /// Each request is asked on a channel, in order.
@@ -85,7 +92,7 @@ fn refusals_of_call<L: OrderedLink>(
 // Whether an act is refused as it says.
 fn happens<L: OrderedLink>(alloc: Global, layer: &mut Layer, link: &mut L, act: &Act) -> bool {
     match act {
-        Act::Restart(wanted) => number(restart(layer, link).err()) == *wanted,
+        Act::Restart(cause, wanted) => number(restart(layer, link, *cause).err()) == *wanted,
         Act::Fill(count) => fill(alloc, link, *count),
         Act::Ask(channel, numbers) => refuses_on(layer, link, *channel, numbers),
         Act::Call(called, calling, user, wanted) => {
@@ -118,7 +125,7 @@ fn odd_act_of(alloc: Global, channels: usize, acts: &[Act]) -> Option<Option<usi
 }
 
 static RESTARTING: [Act; 5] = [
-    Act::Restart(0),
+    Act::Restart(0, 0),
     Act::Fill(255),
     Act::Ask(4, [40; 7]),
     Act::Call("1", "2", &[], 40),
@@ -136,13 +143,13 @@ fn a_restart_refuses_all(rt: HostRuntime) {
 static DOWN: [Act; 3] = [
     Act::Ask(4, [9; 7]),
     Act::Call("1", "2", &[], 9),
-    Act::Restart(9),
+    Act::Restart(7, 9),
 ];
 
 // The layer awaits a confirmation of its RESTART.
 fn odd_act_of_down(alloc: Global) -> Option<Option<usize>> {
     let mut layer = layer(alloc, Role::Dte, 3).ok()?;
-    restart(&mut layer, &mut *plain_link(alloc)?).ok()?;
+    restart(&mut layer, &mut *plain_link(alloc)?, 0).ok()?;
     let mut link = link_down(alloc)?;
     Some(odd_act(alloc, &mut layer, &mut *link, DOWN.as_slice()))
 }
@@ -177,7 +184,7 @@ static FULL_QUEUE: [Act; 6] = [
     Act::Ask(1, [10, 10, 30, 10, 10, 10, 10]),
     Act::Call("1", "2", &[], 10),
     Act::Call("x", "", &[], 10),
-    Act::Restart(10),
+    Act::Restart(7, 10),
     Act::Waits(256),
 ];
 
@@ -185,6 +192,22 @@ static FULL_QUEUE: [Act; 6] = [
 fn a_full_queue_goes_before_the_circuit(rt: HostRuntime) {
     assert_eq!(rt;
         odd_act_of(rt.alloc(), 3, FULL_QUEUE.as_slice()),
+        Some(None)
+    );
+}
+
+// A DTE gives 0 or a cause with bit 8, but not the one by which it tells of an error of procedure.
+static CAUSES_OF_A_DTE: [Act; 4] = [
+    Act::Restart(7, 34),
+    Act::Restart(128, 34),
+    Act::Waits(0),
+    Act::Restart(129, 0),
+];
+
+#[test]
+fn a_restart_has_a_cause_of_its_end(rt: HostRuntime) {
+    assert_eq!(rt;
+        odd_act_of(rt.alloc(), 3, CAUSES_OF_A_DTE.as_slice()),
         Some(None)
     );
 }

@@ -379,7 +379,7 @@ fn happens(alloc: Global, layer: &mut Layer, link: &mut PlainLink, act: Act) -> 
             layer.down();
             OK
         }
-        Act::Restart => answered(restart(layer, link)),
+        Act::Restart => answered(restart(layer, link, 0)),
         Act::Pull => answered(pull(layer, link)),
         Act::Ask(channel, index) => answered(ask(layer, link, channel, request(index))),
         Act::Send(channel, count) => sends(alloc, layer, link, channel, count),

@@ -1,6 +1,6 @@
 -- The frames on a line where one of the two ends is busy: RNR may stand among them, and what is heard last tells whether the end is busy.
 use Rattle.std.proofs.Common.{◌≡◌, ℕ, List, [], ◌∷◌, ◌++◌, ◌⊎◌, inl, inr, Bool, true, false, refl, sym, ◌∙◌}
-use Rattle.x25_frame.specs.Frame.{PlainFrame, info, rr, rnr, rej, sabm, disc, ua, dm, frmr}
+use Rattle.x25_frame.specs.Frame.{PlainFrame, info, rr, rnr, rej}
 use Rattle.x25_link.specs.Station.{LinkStation, is_busy}
 use Rattle.x25_link.specs.laws.AnswerLaw.{says, AreNext}
 use Rattle.x25_link.specs.laws.BusyLaw.{said_last, says_free, NoInfo, Says}

@@ -1,7 +1,7 @@
 -- How the near end heals after its firing, where one of the two ends may be busy: its poll is on the line, then the answer; then what isn't
 -- acknowledged goes again, or waits until the other end is heard to be busy no more.
 use Rattle.std.proofs.Common.{◌≡◌, ℕ, ◌%◌, List, [], ◌∷◌, ◌++◌, ◌⊎◌, inl, inr, length, max, Bool, true, false, refl, sym, ap, ◌∙◌, subst, arith, append_assoc}
-use Rattle.x25_frame.specs.Frame.{PlainFrame, info, rr, rnr, rej, sabm, disc, ua, dm, frmr}
+use Rattle.x25_frame.specs.Frame.{PlainFrame, info, rr, rnr}
 use Rattle.x25_frame.specs.laws.ReadingLaw.{ReadsSpelled}
 use Rattle.x25_link.specs.Station.{Settings, is_up, is_busy, wanted}
 use Rattle.x25_link.specs.Hearing.{Step, other, is_taken}

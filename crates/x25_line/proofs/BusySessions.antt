@@ -22,14 +22,14 @@ module _ (reads : ReadsSpelled) (laws : HealingLaws) (busy_laws : BusyLaws) wher
   sessions_heal_busy c d joined begin is events timely no_out no_back near_may far_may free es are out_after back_after =
       sessions_rest reads laws c d joined begin is events timely no_out no_back near_may.up far_may.up es are out_after back_after (λ v sound drained alike after.
       let near_tries : HasTries c v.near = record {
-        up = ap (λ (s : LinkStation). is_up s.phase) alike.near ∙ near_may.up;
-        tries = subst (λ (s : LinkStation). timer_runs s.phase s ≡ true → s.tries < c.retries) (sym alike.near) near_may.tries;
+        up = ap (λ (s : LinkStation). is_up s.phase) alike.near.station ∙ near_may.up;
+        tries = subst (λ (s : LinkStation). timer_runs s.phase s ≡ true → s.tries < c.retries) (sym alike.near.station) near_may.tries;
       } in
       let far_tries : HasTries d v.far = record {
-        up = ap (λ (s : LinkStation). is_up s.phase) alike.far ∙ far_may.up;
-        tries = subst (λ (s : LinkStation). timer_runs s.phase s ≡ true → s.tries < d.retries) (sym alike.far) far_may.tries;
+        up = ap (λ (s : LinkStation). is_up s.phase) alike.far.station ∙ far_may.up;
+        tries = subst (λ (s : LinkStation). timer_runs s.phase s ≡ true → s.tries < d.retries) (sym alike.far.station) far_may.tries;
       } in
-      let one : OneIsFree v.near.station v.far.station = elim free [ inl f ↦ inl (ap is_busy alike.near ∙ f) | inr f ↦ inr (ap is_busy alike.far ∙ f) ] in
+      let one : OneIsFree v.near.station v.far.station = elim free [ inl f ↦ inl (ap is_busy alike.near.station ∙ f) | inr f ↦ inr (ap is_busy alike.far.station ∙ f) ] in
       let rest = settled reads laws busy_laws c d joined v sound drained near_tries far_tries one es are after in
       record { near = rest.near.rest; far = rest.far.rest; once = rest.once })
 

@@ -1,6 +1,6 @@
 -- Both ends fire, at once or in turn, and everything arrives; and the laws of healing.
-use Rattle.std.proofs.Common.{◌≡◌, ℕ, ◌%◌, ◌<◌, List, [], ◌∷◌, inl, inr, length, map, Bool, true, false, refl, sym, ap, ◌∙◌, subst, arith}
-use Rattle.x25_frame.specs.Frame.{PlainFrame, info, rr, rnr, rej, sabm, disc, ua, dm, frmr}
+use Rattle.std.proofs.Common.{◌≡◌, ℕ, ◌%◌, ◌<◌, List, [], ◌∷◌, inl, inr, length, Bool, true, false, refl, sym, ap, ◌∙◌, subst, arith}
+use Rattle.x25_frame.specs.Frame.{PlainFrame, rr}
 use Rattle.x25_frame.specs.laws.ReadingLaw.{ReadsSpelled}
 use Rattle.x25_link.specs.Station.{Settings, is_up, is_busy}
 use Rattle.x25_link.specs.Hearing.{other}

@@ -22,7 +22,7 @@ use Rattle.x25_line.specs.laws.StationClaims.{AreJoined, IsWhole}
 use Rattle.x25_line.specs.Healing.{AreDeliveries}
 use Rattle.x25_line.specs.laws.LawsBelow.{HealingLaws}
 use Rattle.x25_line.proofs.HealingOnce.{IsDrained, HasTries, IsAtRestOrOut}
-use Rattle.x25_line.proofs.StationSteps.{not_both}
+use Rattle.x25_line.proofs.StationSteps.{not_both, out_not_up}
 use Rattle.x25_line.proofs.StationRuns.{joined_swapped}
 use Rattle.x25_line.proofs.HealingLines.{Reads, reads_more}
 use Rattle.x25_line.proofs.HealingSteps.{up_is}
@@ -52,11 +52,6 @@ no_timer : (p : Phase) (s : LinkStation) → IsOut p → timer_runs p s ≡ fals
 no_timer Waiting s h = absurd h
 no_timer Up s h = absurd h
 no_timer p s h = refl
-
-pub out_not_up : (p : Phase) → IsOut p → is_up p ≡ false
-out_not_up Waiting h = absurd h
-out_not_up Up h = absurd h
-out_not_up p h = refl
 
 poll_whole : (n1 : ℕ) (busy : Bool) (n : ℕ) → n < 8 → IsWhole n1 [] (says busy true n true)
 poll_whole n1 true n small = record { in_range = small; carries = refl; within = tt; packet = tt }

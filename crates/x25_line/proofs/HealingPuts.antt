@@ -14,7 +14,7 @@ use Rattle.x25_link.specs.Link.{put_step, put_refusal}
 use Rattle.x25_link.specs.laws.RestLaw.{HasSaidAll}
 use Rattle.x25_link.specs.laws.AnswerLaw.{AreNext}
 use Rattle.x25_link.proofs.EndLemmas.{open_is, closed_is, with_packet, put_once}
-use Rattle.x25_line.specs.laws.Stations.{StationEnd, Stations, Put, Deliver, T1, Connect, Disconnect, Abandon, Lose, Damage, Event, Near, Far, after_step, acts, swapped, run}
+use Rattle.x25_line.specs.laws.Stations.{StationEnd, Stations, Put, Deliver, Event, Near, Far, after_step, acts, swapped, run}
 use Rattle.x25_line.specs.laws.StationClaims.{AreJoined, AreWhole}
 use Rattle.x25_line.specs.laws.WholeNumbers.{machine_acts}
 use Rattle.x25_line.specs.laws.HealingPuts.{AreDeliveriesAndPuts, AreFree}

@@ -1,5 +1,5 @@
 -- Over set-up and re-set-up, whatever the two ends are on a drained line: once both have fired and all has come, each is at rest or not Up.
-use Rattle.std.proofs.Common.{◌≡◌, List, [], ◌∷◌, ◌⊎◌, inl, false, refl, sym, ap, ◌∙◌, subst}
+use Rattle.std.proofs.Common.{◌≡◌, List, [], ◌∷◌, ◌⊎◌, inl, false, refl, sym, ap, ◌∙◌, subst, true}
 use Rattle.x25_frame.specs.laws.ReadingLaw.{ReadsSpelled}
 use Rattle.x25_link.specs.Station.{Settings, LinkStation, is_up}
 use Rattle.x25_link.specs.laws.RestLaw.{HasSaidAll, IsAtRest}
@@ -7,16 +7,16 @@ use Rattle.x25_line.specs.laws.Stations.{StationEnd, Stations, T1, Event, Near, 
 use Rattle.x25_line.specs.laws.Stations as one
 use Rattle.x25_line.specs.laws.Sessions.{SessionEnd, Sessions, from_nothing, from_set_up, AreTimely, swapped, run}
 use Rattle.x25_line.specs.laws.StationClaims.{AreJoined}
-use Rattle.x25_line.specs.laws.SessionNumbers.{Standing}
 use Rattle.x25_line.specs.laws.SessionClaims.{octets_of}
 use Rattle.x25_line.specs.Healing.{AreDeliveries, SessionHasTries, SessionsAreHealed, IsSessionAtRestOrOut}
 use Rattle.x25_line.specs.laws.LawsBelow.{HealingLaws}
+use Rattle.x25_link.specs.laws.WindowLaw.{IsRunning}
 use Rattle.x25_line.proofs.HealingOnce.{IsDrained, HasTries}
-use Rattle.x25_line.proofs.sessions.SessionActs.{in_session}
-use Rattle.x25_line.proofs.sessions.SessionHeld.{Held}
-use Rattle.x25_line.proofs.sessions.SessionRuns.{throughout, held_swapped}
+use Rattle.x25_line.proofs.StationRuns.{joined_swapped}
+use Rattle.x25_line.proofs.sessions.SessionSeenRuns.{Both, both_swapped, throughout_both}
+use Rattle.x25_line.proofs.sessions.TwoSessions.{running}
 use Rattle.x25_line.proofs.HealingSessions.{said_from}
-use Rattle.x25_line.proofs.HealingStands.{Alike, fired_alike, events_alike, deliveries_alone}
+use Rattle.x25_line.proofs.HealingStands.{Alike, fired_alike, events_alike}
 use Rattle.x25_line.proofs.HealingEnds.{IsInOrderIfUp, after_firings, RestOrOut, rest_or_out}
 
 -- an end as it stands, with no history
@@ -26,8 +26,8 @@ end_of e = record { station = e.station; down = []; up = []; reasons = []; came_
 abbrev RestsOrOut : LinkStation → Type 0
 RestsOrOut s = IsAtRest s ⊎ (is_up s.phase ≡ false)
 
-in_order : {stand : Standing} (c d : Settings) (w : Sessions) → Held stand c d w → HasSaidAll c.window w.near.station → IsInOrderIfUp c (end_of w.near)
-in_order c d w held said = record { sound = λ up. (in_session c d w held up).running.sound; said = λ _. said }
+in_order : (c : Settings) (e : SessionEnd) → (is_up e.station.phase ≡ true → IsRunning c.window e.station) → HasSaidAll c.window e.station → IsInOrderIfUp c (end_of e)
+in_order c e running said = record { sound = λ up. (running up).sound; said = λ _. said }
 
 has_tries : (c : Settings) (e : SessionEnd) → HasTries c (end_of e) → SessionHasTries c e
 has_tries c e h = record { up = h.up; tries = h.tries }
@@ -37,7 +37,7 @@ module _ (reads : ReadsSpelled) (laws : HealingLaws) where
   pub session_ends : (c d : Settings) → AreJoined c d → (begin : Sessions) → (begin ≡ from_nothing) ⊎ (begin ≡ from_set_up) → (events : List Event) → AreTimely c d events begin
       → (let w = run c d events begin in w.out ≡ [] → w.back ≡ [] → (es : List Event) → AreDeliveries es
       → (let u = run c d (Near T1 ∷ Far T1 ∷ es) w in u.out ≡ [] → u.back ≡ [] → (SessionHasTries c w.near → SessionHasTries d w.far → SessionsAreHealed w u) → IsSessionAtRestOrOut u.near × IsSessionAtRestOrOut u.far))
-  session_ends c d joined begin is events timely no_out no_back es are out_after back_after heals = (subst RestsOrOut alike.near ended.0, subst RestsOrOut alike.far ended.1)
+  session_ends c d joined begin is events timely no_out no_back es are out_after back_after heals = (subst RestsOrOut alike.near.station ended.0, subst RestsOrOut alike.far.station ended.1)
     where
       w : Sessions
       w = run c d events begin
@@ -45,11 +45,11 @@ module _ (reads : ReadsSpelled) (laws : HealingLaws) where
       u : Sessions
       u = run c d (Near T1 ∷ Far T1 ∷ es) w
 
-      stand : Standing
-      stand = (throughout reads laws.sessions c d joined begin is events timely).0
+      turn : AreJoined d c
+      turn = joined_swapped c d joined
 
-      held : Held stand c d w
-      held = (throughout reads laws.sessions c d joined begin is events timely).1
+      both : Both c d turn joined w
+      both = throughout_both reads laws.sessions c d joined begin is events timely
 
       said : HasSaidAll c.window w.near.station × HasSaidAll d.window w.far.station
       said = said_from laws c d joined begin is events
@@ -61,20 +61,20 @@ module _ (reads : ReadsSpelled) (laws : HealingLaws) where
       v = one.run c d es (after_firings c d v0)
 
       alike_first : Alike w.near.begun w.far.begun w v0
-      alike_first = record { near = refl; far = refl; out = sym (ap octets_of no_out); back = sym (ap octets_of no_back); begun = λ _. refl; far_begun = λ _. refl }
+      alike_first = record { near = record { station = refl; begun = λ _. refl }; far = record { station = refl; begun = λ _. refl }; out = sym (ap octets_of no_out); back = sym (ap octets_of no_back); sent = λ never. absurd never }
 
       alike : Alike w.near.begun w.far.begun u v
       alike =
           let n = w.near.begun in
           let m = w.far.begun in
-          events_alike c d n m es (run c d (Near T1 ∷ Far T1 ∷ []) w) (after_firings c d v0) (deliveries_alone es are) (fired_alike c d n m w v0 alike_first)
+          events_alike c d n m es (run c d (Near T1 ∷ Far T1 ∷ []) w) (after_firings c d v0) (fired_alike c d n m w v0 alike_first)
 
       drained : IsDrained v
       drained = record { out = alike.out ∙ ap octets_of out_after; back = alike.back ∙ ap octets_of back_after }
 
       ended : RestOrOut c d es (after_firings c d v0)
       ended =
-          let far_in = in_order d c (swapped w) (held_swapped c d joined w held) said.1 in
-          rest_or_out reads laws c d joined v0 (in_order c d w held said.0) far_in (record { out = refl; back = refl }) es are drained (λ near_has far_has.
+          let far_in = in_order d w.far (running reads laws.sessions d c joined turn (swapped w) (both_swapped c d turn joined w both)) said.1 in
+          rest_or_out reads laws c d joined v0 (in_order c w.near (running reads laws.sessions c d turn joined w both) said.0) far_in (record { out = refl; back = refl }) es are drained (λ near_has far_has.
           let healed = heals (has_tries c w.near near_has) (has_tries d w.far far_has) in
-          (inl (subst IsAtRest (sym alike.near) healed.near_rest), inl (subst IsAtRest (sym alike.far) healed.far_rest)))
+          (inl (subst IsAtRest (sym alike.near.station) healed.near_rest), inl (subst IsAtRest (sym alike.far.station) healed.far_rest)))

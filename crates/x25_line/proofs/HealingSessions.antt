@@ -1,22 +1,20 @@
 -- What rest shows over set-up and re-set-up, session by session.
-use Rattle.std.proofs.Common.{◌≡◌, ℕ, List, [], ◌⊎◌, inl, inr, true, false, refl, sym, subst, arith}
+use Rattle.std.proofs.Common.{◌≡◌, ℕ, List, [], ◌⊎◌, inl, inr, false, refl, sym, subst, arith, ◌≤◌}
 use Rattle.x25_frame.specs.laws.ReadingLaw.{ReadsSpelled}
 use Rattle.x25_link.specs.declared.phase.Phase.TheVariants.{Down}
-use Rattle.x25_link.specs.Station.{Settings, is_up, with_nothing}
+use Rattle.x25_link.specs.Station.{Settings, with_nothing, LinkStation}
 use Rattle.x25_link.specs.Link.{timer_runs}
 use Rattle.x25_link.specs.laws.RestLaw.{HasSaidAll, IsAtRest}
 use Rattle.x25_line.specs.laws.Stations.{StationEnd, Stations, Event, start}
 use Rattle.x25_line.specs.laws.StationClaims.{AreJoined}
 use Rattle.x25_line.specs.laws.Sessions.{Sessions, run, from_nothing, from_set_up, swapped}
-use Rattle.x25_line.specs.laws.SessionNumbers.{Standing}
 use Rattle.x25_line.specs.laws.SessionClaims.{Throughout, IsEndOf, AreStationsOf}
 use Rattle.x25_line.specs.Healing.{EachRestShows}
 use Rattle.x25_line.specs.laws.LawsBelow.{HealingLaws}
+use Rattle.x25_link.specs.laws.WindowLaw.{IsRunning}
 use Rattle.x25_line.proofs.StationRuns.{joined_swapped}
-use Rattle.x25_line.proofs.sessions.SessionActs.{in_session}
-use Rattle.x25_line.proofs.sessions.SessionHeld.{Held}
-use Rattle.x25_line.proofs.sessions.SessionRuns.{throughout, held_swapped}
-use Rattle.x25_line.proofs.sessions.SessionLatest.{idle_has_arrived}
+use Rattle.x25_line.proofs.sessions.SessionSeenRuns.{both_swapped, throughout_both}
+use Rattle.x25_line.proofs.sessions.TwoSessions.{running, idle_has_arrived}
 use Rattle.x25_line.proofs.sessions.SessionsForgotten.{sessions_are_links, set_up_is_the_start}
 use Rattle.x25_line.proofs.HealingRuns.{BothSaid, said_run, fresh_said}
 
@@ -53,20 +51,19 @@ module _ (laws : HealingLaws) where
       subst (λ (b : Sessions). let w = run c d events b in HasSaidAll c.window w.near.station × HasSaidAll d.window w.far.station) (sym is)
       (said_in c d joined from_set_up start set_up_is_the_start (fresh_said laws c.window, fresh_said laws d.window) events)
 
-  rests_near : {stand : Standing} (c d : Settings) → AreJoined c d → (w : Sessions) → Held stand c d w → HasSaidAll c.window w.near.station → is_up w.near.station.phase ≡ true
-      → timer_runs w.near.station.phase w.near.station ≡ false → IsAtRest w.near.station
-  rests_near c d joined w h said up stopped =
-      let i = in_session c d w h up in
-      record { idle = laws.rest.no_timer c.window w.near.station joined.near_low i.running.sound said up stopped; no_timer = stopped }
+  rests_near : (c : Settings) → 1 ≤ c.window → (s : LinkStation) → IsRunning c.window s → HasSaidAll c.window s → timer_runs s.phase s ≡ false → IsAtRest s
+  rests_near c low s running said stopped = record { idle = laws.rest.no_timer c.window s low running.sound said running.up stopped; no_timer = stopped }
 
 module _ (reads : ReadsSpelled) (laws : HealingLaws) where
   pub each_rest_shows : Throughout EachRestShows
   each_rest_shows c d joined begin is events timely =
       let w = run c d events begin in
-      let h = (throughout reads laws.sessions c d joined begin is events timely).1 in
+      let turn = joined_swapped c d joined in
+      let both = throughout_both reads laws.sessions c d joined begin is events timely in
       let said = said_from laws c d joined begin is events in
       let arrived = idle_has_arrived reads laws.sessions c d joined begin is events timely in
       record {
-        near = λ up stopped. (let rest = rests_near laws c d joined w h said.0 up stopped in (rest, arrived.near rest.idle));
-        far = λ up stopped. (let rest = rests_near laws d c (joined_swapped c d joined) (swapped w) (held_swapped c d joined w h) said.1 up stopped in (rest, arrived.far rest.idle));
+        near = λ up stopped. (let rest = rests_near laws c joined.near_low w.near.station (running reads laws.sessions c d turn joined w both up) said.0 stopped in (rest, arrived.near rest.idle));
+        far = λ up stopped.
+            (let rest = rests_near laws d joined.far_low w.far.station (running reads laws.sessions d c joined turn (swapped w) (both_swapped c d turn joined w both) up) said.1 stopped in (rest, arrived.far rest.idle));
       }

@@ -1,5 +1,5 @@
 -- An end that awaits UA: once its SABM has come, nothing but set-up is on the line, and each end that is Up has nothing to send.
-use Rattle.std.proofs.Common.{◌≡◌, ℕ, ◌%◌, ◌<◌, List, [], ◌∷◌, ◌++◌, ◌⊎◌, inl, inr, length, map, Bool, true, false, if◌then◌else◌, Result, Ok, refl, sym, ap, ◌∙◌, subst, arith, append-nil}
+use Rattle.std.proofs.Common.{◌≡◌, ℕ, ◌<◌, List, [], ◌∷◌, ◌++◌, ◌⊎◌, inl, inr, length, map, Bool, true, false, if◌then◌else◌, Result, Ok, refl, sym, ap, ◌∙◌, subst, arith, append-nil}
 use Rattle.std.specs.Prelude.{◌&&◌, nat_lt}
 use Rattle.std.proofs.lemmas.Bool.{leb-true, le-ltb, eq-eqb, and_parts}
 use Rattle.x25_bits.specs.declared.role.Role.{Role}
@@ -22,6 +22,7 @@ use Rattle.x25_line.specs.laws.Stations.{StationEnd, Stations, Act, Deliver, Eve
 use Rattle.x25_line.specs.laws.StationClaims.{AreJoined}
 use Rattle.x25_line.specs.Healing.{IsDeliver, AreDeliveries}
 use Rattle.x25_line.specs.laws.LawsBelow.{HealingLaws}
+use Rattle.x25_line.proofs.DrainWeights.{below_eight}
 use Rattle.x25_line.proofs.HealingOnce.{IsDrained, IsAtRestOrOut}
 use Rattle.x25_line.proofs.StationSteps.{not_both}
 use Rattle.x25_line.proofs.StationRuns.{joined_swapped}
@@ -107,9 +108,6 @@ calm_if false u v f g = g refl
 
 calm_sends : (f : PlainFrame) (t : Side) → IsOfSetUp f → IsCalm t → IsCalm (sends f t)
 calm_sends f t is h = record { near = h.near; out = set_up_more t.out (f ∷ []) h.out (is, tt) }
-
-below_eight : (n : ℕ) → n % 8 < 8
-below_eight n = omega arith
 
 blank_free : (s : LinkStation) → IsBlank s → is_busy s ≡ false
 blank_free s h = le-ltb 254 _ (omega (arith, ap length h.given))

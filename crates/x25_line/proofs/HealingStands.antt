@@ -1,37 +1,36 @@
 -- Healing over set-up and re-set-up: two sessions that stand on a drained line are, by themselves, two stations of a link set up once.
-use Rattle.std.proofs.Common.{◌≡◌, ◌<◌, ℕ, List, [], ◌∷◌, ◌++◌, ◌⊎◌, inl, inr, length, map, Bool, true, false, if◌then◌else◌, Option, Some, None, refl, sym, ap, ◌∙◌, subst, append-nil}
-use Rattle.std.specs.Prelude.{◌==◌, nat_le}
+use Rattle.std.proofs.Common.{◌≡◌, ◌<◌, ℕ, List, [], ◌∷◌, ◌++◌, ◌⊎◌, inl, inr, Bool, true, false, Option, Some, None, refl, sym, ap, ◌∙◌, subst}
 use Rattle.x25_bits.specs.declared.role.Role.{Role}
 use Rattle.x25_frame.specs.Frame.{PlainFrame}
-use Rattle.x25_frame.specs.Spelling.{spelling_of}
 use Rattle.x25_frame.specs.laws.ReadingLaw.{ReadsSpelled}
 use Rattle.x25_window.specs.laws.Window.{End}
 use Rattle.x25_link.specs.declared.error.LinkError.{LinkError}
 use Rattle.x25_link.specs.declared.phase.Phase.{Phase}
-use Rattle.x25_link.specs.declared.phase.Phase.TheVariants.{Down, Waiting, Up, Closed}
+use Rattle.x25_link.specs.declared.phase.Phase.TheVariants.{Up}
 use Rattle.x25_link.specs.Station.{Settings, LinkStation, is_up, is_busy}
 use Rattle.x25_link.specs.Hearing.{Step, other}
-use Rattle.x25_link.specs.Link.{take_step, put_step, put_refusal, timer_step, timer_runs, timer_refusal}
+use Rattle.x25_link.specs.Link.{take_step, timer_step, timer_runs, timer_refusal}
 use Rattle.x25_link.specs.laws.WindowMachine.{ShowAll}
 use Rattle.x25_link.specs.laws.RestLaw.{HasSaidAll, IsAtRest}
 use Rattle.x25_line.specs.laws.Line.{Line}
 use Rattle.x25_line.specs.laws.Stations.{StationEnd, Stations, Act, Put, Deliver, T1, Connect, Disconnect, Abandon, Lose, Damage, Event, Near, Far}
 use Rattle.x25_line.specs.laws.Stations as one
 use Rattle.x25_line.specs.laws.StationClaims.{AreJoined, IsSetUpOnce, numbered_on}
-use Rattle.x25_line.specs.laws.Sessions.{Entry, SessionEnd, Sessions, extended, begun_by, after_step, unless, delivered, acts, swapped, happens, run, from_nothing, from_set_up, IsTimely, AreTimely}
+use Rattle.x25_line.specs.laws.Sessions.{Entry, SessionEnd, Sessions, begun_by, after_step, unless, delivered, acts, swapped, happens, run, from_nothing, from_set_up, IsTimely, AreTimely}
 use Rattle.x25_line.specs.laws.Sessions.{Meeting}
 use Rattle.x25_line.specs.laws.SessionNumbers.{Standing}
 use Rattle.x25_line.specs.laws.SessionClaims.{octets_of, IdleHasArrived}
 use Rattle.x25_line.specs.Healing.{IsDeliver, AreDeliveries, SessionsAreHealed}
-use Rattle.x25_line.specs.laws.HealingPuts.{SessionMayHeal, IsDeliverOrPut, IsDeliveryOrPut, AreDeliveriesAndPuts, FreeAt, SessionsFreeThroughout, SessionsHaveArrived}
+use Rattle.x25_line.specs.laws.HealingPuts.{SessionMayHeal, IsDeliverOrPut, AreDeliveriesAndPuts, FreeAt, SessionsFreeThroughout, SessionsHaveArrived}
 use Rattle.x25_line.specs.laws.LawsBelow.{HealingLaws}
 use Rattle.x25_line.proofs.HealingOnce.{IsDrained, MayHeal, FreeThroughout}
 use Rattle.x25_line.proofs.StationSteps.{FitsEnd, MayBeAway, NotesOnce, Joint, not_both}
 use Rattle.x25_line.proofs.StationAway.{first_false, second_false}
-use Rattle.x25_line.proofs.sessions.SessionLines.{octets_append, octets_sent}
-use Rattle.x25_line.proofs.sessions.SessionHeld.{View, Live, Soon, Gone, IsView, IsHeard, Held}
+use Rattle.x25_line.proofs.sessions.SessionsForgotten as stands
+use Rattle.x25_line.proofs.sessions.SessionsForgotten.{Lasts}
+use Rattle.x25_line.proofs.sessions.SessionHeld.{View, Live, Soon, Gone, IsView, IsHeard, Held, extended_nil}
 use Rattle.x25_line.proofs.sessions.SessionRuns.{throughout}
-use Rattle.x25_line.proofs.sessions.SessionLatest.{idle_has_arrived}
+use Rattle.x25_line.proofs.sessions.TwoSessions.{idle_has_arrived}
 use Rattle.x25_line.proofs.HealingSteps.{Sound, deliver_is}
 use Rattle.x25_line.proofs.HealingBoth.{HealsBoth, both_settle}
 use Rattle.x25_line.proofs.HealingEnds.{after_firings}
@@ -95,89 +94,38 @@ emptied_joint c d v l h out back = record {
 
 -- ---- the same events do the same to the stations, and begin no session where these note no LinkUp
 
-pub record Alike (n m : ℕ) (w : Sessions) (v : Stations) : Type 0 where
-  pub near : v.near.station ≡ w.near.station
-  pub far : v.far.station ≡ w.far.station
-  pub out : v.out ≡ octets_of w.out
-  pub back : v.back ≡ octets_of w.back
-  pub begun : v.near.came_up ≡ false → w.near.begun ≡ n
-  pub far_begun : v.far.came_up ≡ false → w.far.begun ≡ m
+pub record IsStationOf (n : ℕ) (e : SessionEnd) (v : StationEnd) : Type 0 where
+  pub station : v.station ≡ e.station
+  pub begun : v.came_up ≡ false → e.begun ≡ n
 
-module _ (n m : ℕ) where
-  abbrev A : Sessions → Stations → Type 0
-  A w v = Alike n m w v
+stations_last : (n : ℕ) → Lasts (IsStationOf n)
+stations_last n = record {
+  station = λ e v h. h.station;
+  steps = λ e v h down step. record {
+    station = refl;
+    begun = λ off. ap (λ (b : Bool). begun_by b e.begun) (second_false v.came_up step.notes.up off) ∙ h.begun (first_false v.came_up step.notes.up off);
+  };
+}
 
-  step_alike : (c : Settings) (w : Sessions) (v : Stations) → A w v → (es : List Entry) (met : List Meeting) (down : List (List ℕ)) (step : Step)
-      → A (after_step c w es met down step) (one.after_step c v (octets_of es) down step)
-  step_alike c w v h es met down step = record {
-    near = refl;
-    far = h.far;
-    out = ap (λ (os : List (List ℕ)). os ++ map (spelling_of c.role) step.side.out) h.out
-        ∙ ap (λ (os : List (List ℕ)). octets_of w.out ++ os) (sym (octets_sent (begun_by step.notes.up w.near.begun) c.role step.side.out))
-        ∙ sym (octets_append w.out _);
-    back = refl;
-    begun = λ e. ap (λ (b : Bool). begun_by b w.near.begun) (second_false v.near.came_up step.notes.up e) ∙ h.begun (first_false v.near.came_up step.notes.up e);
-    far_begun = h.far_begun;
-  }
-
-  unless_alike : (o : Option LinkError) (w y : Sessions) (v z : Stations) → A w v → A y z → A (unless o w y) (one.unless o v z)
-  unless_alike (Some e) w y v z h k = h
-  unless_alike None w y v z h k = k
-
-  -- a step that takes nothing off the line, where it isn't refused
-  acts_alike : (c : Settings) (w : Sessions) (v : Stations) → A w v → (down : List (List ℕ)) (refusal : LinkStation → Option LinkError) (step : LinkStation → Step)
-      → A (unless (refusal w.near.station) w (after_step c w w.back w.met down (step w.near.station))) (one.unless (refusal v.near.station) v (one.after_step c v v.back down (step v.near.station)))
-  acts_alike c w v h down refusal step =
-      let s = w.near.station in
-      let next : Sessions = after_step c w w.back w.met down (step s) in
-      subst (λ (t : LinkStation). A (unless (refusal s) w next) (one.unless (refusal t) v (one.after_step c v v.back down (step t)))) (sym h.near)
-      (subst (λ (os : List (List ℕ)). A (unless (refusal s) w next) (one.unless (refusal s) v (one.after_step c v os down (step s)))) (sym h.back)
-      (unless_alike (refusal s) w next v _ h (step_alike c w v h w.back w.met down (step s))))
-
-  fires_alike : (c : Settings) (w : Sessions) (v : Stations) → A w v → A (acts c T1 w) (one.acts c T1 v)
-  fires_alike c w v h = acts_alike c w v h [] timer_refusal (timer_step c)
-
-  delivered_alike : (c : Settings) (w : Sessions) (v : Stations) → A w v → (es : List Entry) → A (delivered c es w) (one.delivered c (octets_of es) v)
-  delivered_alike c w v h [] = h
-  delivered_alike c w v h (e ∷ es) =
-      subst (λ (s : LinkStation). A (delivered c (e ∷ es) w) (one.after_step c v (octets_of es) [] (take_step c e.octets s))) (sym h.near) (step_alike c w v h es _ [] (take_step c e.octets w.near.station))
-
-  put_alike : (b : Bool) (w y : Sessions) (v z : Stations) → A w v → A y z → A (if b then y else w) (if b then z else v)
-  put_alike true w y v z h k = k
-  put_alike false w y v z h k = h
-
-  act_alike : (c : Settings) (a : Act) (w : Sessions) (v : Stations) → IsDeliverOrPut a → A w v → A (acts c a w) (one.acts c a v)
-  act_alike c (Put packet) w v is h = put_alike (nat_le (length packet) c.longest) w _ v _ h (acts_alike c w v h (packet ∷ []) put_refusal (put_step c packet))
-  act_alike c Deliver w v is h = subst (λ (os : List (List ℕ)). A (delivered c w.back w) (one.delivered c os v)) (sym h.back) (delivered_alike c w v h w.back)
-  act_alike c a w v is h = absurd is
-
-turned_alike : (n m : ℕ) (w : Sessions) (v : Stations) → Alike n m w v → Alike m n (swapped w) (one.swapped v)
-turned_alike n m w v h = record { near = h.far; far = h.near; out = h.back; back = h.out; begun = h.far_begun; far_begun = h.begun }
+abbrev pub Alike : ℕ → ℕ → Sessions → Stations → Type 0
+Alike n m w v = stands.Alike (IsStationOf n) (IsStationOf m) ⊥ w v
 
 -- both ends fire
 abbrev pub fired : Settings → Settings → Sessions → Sessions
 fired c d w = run c d (Near T1 ∷ Far T1 ∷ []) w
 
 module _ (c d : Settings) (n m : ℕ) where
+  pub events_alike : (es : List Event) (w : Sessions) (v : Stations) → Alike n m w v → Alike n m (run c d es w) (one.run c d es v)
+  events_alike es w v h = stands.runs_alike (IsStationOf n) (IsStationOf m) ⊥ (stations_last n) (stations_last m) c d es w v h
+
   pub fired_alike : (w : Sessions) (v : Stations) → Alike n m w v → Alike n m (fired c d w) (after_firings c d v)
-  fired_alike w v h =
-      let w1 : Sessions = acts c T1 w in
-      let v1 : Stations = one.acts c T1 v in
-      turned_alike m n (acts d T1 (swapped w1)) (one.acts d T1 (one.swapped v1)) (fires_alike m n d (swapped w1) (one.swapped v1) (turned_alike n m w1 v1 (fires_alike n m c w v h)))
+  fired_alike w v h = events_alike (Near T1 ∷ Far T1 ∷ []) w v h
 
-  event_alike : (e : Event) (w : Sessions) (v : Stations) → IsDeliveryOrPut e → Alike n m w v → Alike n m (happens c d e w) (one.happens c d e v)
-  event_alike (Near a) w v is h = act_alike n m c a w v is h
-  event_alike (Far a) w v is h = turned_alike m n (acts d a (swapped w)) (one.acts d a (one.swapped v)) (act_alike m n d a (swapped w) (one.swapped v) is (turned_alike n m w v h))
-
-  pub events_alike : (es : List Event) (w : Sessions) (v : Stations) → AreDeliveriesAndPuts es → Alike n m w v → Alike n m (run c d es w) (one.run c d es v)
-  events_alike [] w v are h = h
-  events_alike (e ∷ es) w v are h = events_alike es (happens c d e w) (one.happens c d e v) are.1 (event_alike e w v are.0 h)
-
-  pub free_alike : (es : List Event) (w : Sessions) (v : Stations) → AreDeliveriesAndPuts es → Alike n m w v → SessionsFreeThroughout c d es w → FreeThroughout c d es v
-  free_alike [] w v are h free = (ap is_busy h.near ∙ free.0, ap is_busy h.far ∙ free.1)
-  free_alike (e ∷ es) w v are h free = (
-    subst (λ (s : LinkStation). FreeAt e s v.far.station) (sym h.near) (subst (FreeAt e w.near.station) (sym h.far) free.0),
-    free_alike es (happens c d e w) (one.happens c d e v) are.1 (event_alike e w v are.0 h) free.1,
+  pub free_alike : (es : List Event) (w : Sessions) (v : Stations) → Alike n m w v → SessionsFreeThroughout c d es w → FreeThroughout c d es v
+  free_alike [] w v h free = (ap is_busy h.near.station ∙ free.0, ap is_busy h.far.station ∙ free.1)
+  free_alike (e ∷ es) w v h free = (
+    subst (λ (s : LinkStation). FreeAt e s v.far.station) (sym h.near.station) (subst (FreeAt e w.near.station) (sym h.far.station) free.0),
+    free_alike es (happens c d e w) (one.happens c d e v) (events_alike (e ∷ []) w v h) free.1,
   )
 
 -- ---- firings and deliveries hand nothing down
@@ -186,15 +134,8 @@ record HandNothingDown (w u : Sessions) : Type 0 where
   near : (n : ℕ) → u.near.down n ≡ w.near.down n
   far : (n : ℕ) → u.far.down n ≡ w.far.down n
 
-nothing_more : (lists : ℕ → List (List ℕ)) (session n : ℕ) → extended lists session [] n ≡ lists n
-nothing_more lists session n = by (n == session)
-  where
-    by : (b : Bool) → (if b then lists n ++ [] else lists n) ≡ lists n
-    by true = append-nil (lists n)
-    by false = refl
-
 step_hands : (c : Settings) (w : Sessions) (es : List Entry) (met : List Meeting) (step : Step) → HandNothingDown w (after_step c w es met [] step)
-step_hands c w es met step = record { near = nothing_more w.near.down (begun_by step.notes.up w.near.begun); far = λ _. refl }
+step_hands c w es met step = record { near = extended_nil w.near.down (begun_by step.notes.up w.near.begun); far = λ _. refl }
 
 fire_hands : (c : Settings) (w : Sessions) → HandNothingDown w (acts c T1 w)
 fire_hands c w = by (timer_refusal w.near.station)
@@ -285,10 +226,10 @@ module _ (reads : ReadsSpelled) (laws : HealingLaws) where
       → ((v : Stations) → Sound c d v → IsDrained v → Alike w.near.begun w.far.begun w v → (let x = one.run c d es (after_firings c d v) in IsDrained x → HaveComeToRest x)) → SessionsHaveArrived w u))
   sessions_arrive c d joined begin is events timely no_out no_back near_on far_on es are out_after back_after rests =
       let rest = rests v0 sound (record { out = refl; back = refl }) alike_first (record { out = alike.out ∙ ap octets_of out_after; back = alike.back ∙ ap octets_of back_after }) in
-      let near = alike.begun rest.once.near in
-      let far = alike.far_begun rest.once.far in
-      let near_rest : IsAtRest u.near.station = subst IsAtRest alike.near rest.near in
-      let far_rest : IsAtRest u.far.station = subst IsAtRest alike.far rest.far in
+      let near = alike.near.begun rest.once.near in
+      let far = alike.far.begun rest.once.far in
+      let near_rest : IsAtRest u.near.station = subst IsAtRest alike.near.station rest.near in
+      let far_rest : IsAtRest u.far.station = subst IsAtRest alike.far.station rest.far in
       let near_up = (laws.rest.only_then u.near.station near_rest).0 in
       let far_up = (laws.rest.only_then u.far.station far_rest).0 in
       record {
@@ -339,19 +280,18 @@ module _ (reads : ReadsSpelled) (laws : HealingLaws) where
 
       alike_first : Alike w.near.begun w.far.begun w v0
       alike_first = record {
-        near = near_in.station;
-        far = far_in.station;
+        near = record { station = near_in.station; begun = λ _. refl };
+        far = record { station = far_in.station; begun = λ _. refl };
         out = sym (ap octets_of no_out);
         back = sym (ap octets_of no_back);
-        begun = λ _. refl;
-        far_begun = λ _. refl;
+        sent = λ never. absurd never;
       }
 
       alike : Alike w.near.begun w.far.begun u (one.run c d es (after_firings c d v0))
       alike =
           let n = w.near.begun in
           let m = w.far.begun in
-          events_alike c d n m es (fired c d w) (after_firings c d v0) are (fired_alike c d n m w v0 alike_first)
+          events_alike c d n m es (fired c d w) (after_firings c d v0) (fired_alike c d n m w v0 alike_first)
 
       far_after : (acts c T1 w).far ≡ w.far
       far_after = far_stays (timer_refusal w.near.station) w (after_step c w w.back w.met [] (timer_step c w.near.station)) refl

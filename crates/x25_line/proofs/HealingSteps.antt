@@ -3,7 +3,7 @@ use Rattle.std.proofs.Common.{◌≡◌, ℕ, ◌+◌, ◌-◌, ◌*◌, ◌%◌
 use Rattle.std.specs.Prelude.{◌||◌}
 use Rattle.std.proofs.lemmas.Bool.{ltb-false, le-ltb, le-leb}
 use Rattle.x25_bits.specs.declared.role.Role.{Role}
-use Rattle.x25_frame.specs.Frame.{PlainFrame, info, rr, rnr, rej, sabm, disc, ua, dm, frmr}
+use Rattle.x25_frame.specs.Frame.{PlainFrame, info, rr, rnr, rej}
 use Rattle.x25_frame.specs.Spelling.{spelling_of}
 use Rattle.x25_frame.specs.Reading.{frame_of}
 use Rattle.x25_frame.specs.laws.ReadingLaw.{ReadsSpelled}
@@ -12,7 +12,7 @@ use Rattle.x25_window.specs.code.Modulo.{resolved}
 use Rattle.x25_window.specs.laws.Window.{Frame}
 use Rattle.x25_link.specs.declared.phase.Notes.{Notes}
 use Rattle.x25_link.specs.declared.phase.Phase.{Phase}
-use Rattle.x25_link.specs.declared.phase.Phase.TheVariants.{Down, Waiting, Up, Closed}
+use Rattle.x25_link.specs.declared.phase.Phase.TheVariants.{Up}
 use Rattle.x25_link.specs.Station.{Settings, LinkStation, is_up, is_busy, wanted}
 use Rattle.x25_link.specs.Hearing.{Step, other, is_valid, is_taken}
 use Rattle.x25_link.specs.Link.{take_step}
@@ -20,7 +20,7 @@ use Rattle.x25_link.specs.laws.WindowMachine.{Window, Shows, ShowAll}
 use Rattle.x25_link.specs.laws.RestLaw.{HasSaidAll}
 use Rattle.x25_link.specs.laws.AnswerLaw.{says, AreNext, weight_of, weight_if, Outcome, Answers, heard, goes_on_from, once_taken, busy_after, passed_over}
 use Rattle.x25_line.specs.laws.Line.{Line, swapped as line_swapped}
-use Rattle.x25_line.specs.laws.Stations.{Stations, Act, Put, Deliver, T1, Connect, Disconnect, Abandon, Lose, Damage, after_step, delivered, acts, swapped}
+use Rattle.x25_line.specs.laws.Stations.{Stations, Act, Deliver, after_step, delivered, acts, swapped}
 use Rattle.x25_line.specs.laws.StationClaims.{AreJoined, number_in, numbered_on, AreWhole}
 use Rattle.x25_line.specs.laws.WholeNumbers.{machine_acts}
 use Rattle.x25_line.specs.Healing.{IsDeliver}

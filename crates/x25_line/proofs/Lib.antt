@@ -38,3 +38,4 @@ pub mod BusyPhases
 pub mod BusyRuns
 pub mod BusySessions
 pub mod sessions
+pub mod ends

@@ -1,5 +1,5 @@
 -- A station and any peer keep the way in both directions, whatever happens, and that says the claims.
-use Rattle.std.proofs.Common.{◌≡◌, ℕ, zero, suc, ◌≤◌, List, [], ◌∷◌, ◌++◌, inl, inr, length, take, remove, true, false, Option, None, refl, sym, ap, ◌∙◌, subst, arith}
+use Rattle.std.proofs.Common.{◌≡◌, ℕ, zero, suc, ◌≤◌, List, [], ◌∷◌, ◌++◌, inl, length, take, remove, true, false, Option, None, refl, sym, ap, ◌∙◌, subst, arith}
 use Rattle.x25_bits.specs.declared.role.Role.{Role}
 use Rattle.x25_frame.specs.Reading.{frame_of}
 use Rattle.x25_frame.specs.laws.ReadingLaw.{ReadsSpelled}
@@ -16,9 +16,9 @@ use Rattle.x25_line.specs.laws.PeerJoined.{Joined, our_end, with_peer, Happens, 
 use Rattle.x25_line.specs.laws.PeerJoined as joined
 use Rattle.x25_line.specs.laws.PeerClaims.{WithAnyPeer, WithAnyLapbPeer, KeepsOrder, FindsNoFault}
 use Rattle.x25_line.specs.laws.StationPeers.{seen, IsPeer}
+use Rattle.x25_line.proofs.sessions.Letters.{visible_said}
 use Rattle.x25_line.proofs.Kept.{Way}
 use Rattle.x25_line.proofs.Order.{Told, only, only_append, Left, left_front, left_deeper, Hold, starts, hold_turned, handed, says, left, makes, in_order as peers_in_order, valid_front, by_frmr, no_fault}
-use Rattle.x25_line.proofs.StationLines.{visible_reads}
 use Rattle.x25_line.proofs.StationRuns.{noted_before}
 use Rattle.x25_line.proofs.StationEvents.{each_hands_one}
 use Rattle.x25_line.proofs.StationClaimLemmas.{in_order}
@@ -48,12 +48,9 @@ module _ (from : Role) (n1 : ℕ) where
   tolds_removed (o ∷ os) zero = left_front (said (frame_of from n1 o)) (tolds os)
   tolds_removed (o ∷ os) (suc i) = left_deeper (said (frame_of from n1 o)) (tolds os) (tolds (remove os i)) (tolds_removed os i)
 
-  visible_said : (o : List ℕ) → is_visible o ≡ true → said (frame_of from n1 o) ≡ Else
-  visible_said o visible = elim (visible_reads from n1 o visible) [ inl short ↦ ap said short | inr bad ↦ ap said bad ]
-
   tolds_replaced : (o : List ℕ) → is_visible o ≡ true → (os : List (List ℕ)) (i : ℕ) → Left (tolds os) (tolds (replaced os i o))
   tolds_replaced o visible [] i = (None, refl)
-  tolds_replaced o visible (x ∷ os) zero = subst (λ (s : Said). Left (tolds (x ∷ os)) (only s (tolds os))) (sym (visible_said o visible)) (left_front (said (frame_of from n1 x)) (tolds os))
+  tolds_replaced o visible (x ∷ os) zero = subst (λ (s : Said). Left (tolds (x ∷ os)) (only s (tolds os))) (sym (visible_said from n1 o visible)) (left_front (said (frame_of from n1 x)) (tolds os))
   tolds_replaced o visible (x ∷ os) (suc i) = left_deeper (said (frame_of from n1 x)) (tolds os) (tolds (replaced os i o)) (tolds_replaced o visible os i)
 
   odd_push : (os : List (List ℕ)) (o : List ℕ) → NoneOdd from n1 os → (said (frame_of from n1 o) ≡ OddSaid → ⊥) → NoneOdd from n1 (os ++ o ∷ [])
@@ -68,7 +65,7 @@ module _ (from : Role) (n1 : ℕ) where
 
   odd_replaced : (o : List ℕ) → is_visible o ≡ true → (os : List (List ℕ)) (i : ℕ) → NoneOdd from n1 os → NoneOdd from n1 (replaced os i o)
   odd_replaced o visible [] i h = tt
-  odd_replaced o visible (x ∷ os) zero h = (λ is. never (sym (visible_said o visible) ∙ is), h.1)
+  odd_replaced o visible (x ∷ os) zero h = (λ is. never (sym (visible_said from n1 o visible) ∙ is), h.1)
     where
       never : Else ≡ OddSaid → ⊥
       never k = cc
@@ -84,8 +81,8 @@ module _ (Odd : Type 0) (c : Settings) (q : Peer) where
 
   station_may : MayDo c (Odd → ⊥) IsWith
   station_may = record {
-    handed = λ os p out packet h. record { hold = handed p q (tolds c.role c.longest out) (tolds (other c.role) c.longest os) packet h.hold; lapb = h.lapb };
-    sends = λ os p r out octets may h. record {
+    handed = λ os p out packet short h. record { hold = handed p q (tolds c.role c.longest out) (tolds (other c.role) c.longest os) packet h.hold; lapb = h.lapb };
+    sends = λ os p r out octets may next h. record {
       hold = subst (λ (xs : List Told). Hold r q xs (tolds (other c.role) c.longest os)) (sym (tolds_push c.role c.longest out octets))
           (says p q (tolds c.role c.longest out) (tolds (other c.role) c.longest os) ⊥ (said (frame_of c.role c.longest octets)) r may h.hold);
       lapb = h.lapb;

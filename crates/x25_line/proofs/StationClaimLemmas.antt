@@ -33,7 +33,7 @@ acked_begins a down up begins le =
     let same : take a down ≡ take a up = sym (ap (take a) begins ∙ take_of_take a (length up) down le) in
     (drop a up, ap (λ (ys : List (List ℕ)). ys ++ drop a up) same ∙ take-append-drop a up)
 
-idle_all : (s : LinkStation) → is_idle s ≡ true → s.outgoing.sent ≤ length s.outgoing.given → s.outgoing.acked ≡ length s.outgoing.given
+pub idle_all : (s : LinkStation) → is_idle s ≡ true → s.outgoing.sent ≤ length s.outgoing.given → s.outgoing.acked ≡ length s.outgoing.given
 idle_all s idle high =
     let outer = and_parts (is_up s.phase) (waits s.outgoing == 0 && s.outgoing.acked == s.outgoing.sent) idle in
     let inner = and_parts (waits s.outgoing == 0) (s.outgoing.acked == s.outgoing.sent) outer.1 in

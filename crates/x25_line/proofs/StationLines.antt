@@ -5,11 +5,11 @@ use Rattle.std.specs.List.{Contains}
 use Rattle.std.proofs.lemmas.List.Elements.{Contains-append_left, Contains-append_right, Contains-append_cases}
 use Rattle.x25_bits.specs.FrameCheck.Sealed.{is_sealed}
 use Rattle.x25_bits.specs.declared.role.Role.{Role}
-use Rattle.x25_frame.specs.Frame.{PlainFrame, info, rr, rnr, rej, sabm, disc, ua, dm, frmr}
+use Rattle.x25_frame.specs.Frame.{PlainFrame, info, sabm, disc, ua, dm, frmr}
 use Rattle.x25_frame.specs.Spelling.{spelling_of, information_of, IsInRange, MayCarry, IsWithin}
 use Rattle.x25_frame.specs.Reading.{frame_of, addressed_frame}
 use Rattle.x25_frame.specs.declared.error.FrameError.{FrameError}
-use Rattle.x25_frame.specs.declared.error.FrameError.TheVariants.{Short, BadFcs, BadAddress, Undefined, NoInfoAllowed, TooLong}
+use Rattle.x25_frame.specs.declared.error.FrameError.TheVariants.{Short, BadFcs, Undefined, NoInfoAllowed, TooLong}
 use Rattle.x25_window.specs.laws.Window.{Numbered, Frame}
 use Rattle.x25_frame.specs.laws.ReadingLaw.{ReadsSpelled}
 use Rattle.x25_link.specs.laws.WindowMachine.{ShowsItem, Shows, ShowAll}
@@ -52,7 +52,6 @@ carried_of ns x (Some q) h = record { item = q; is = refl; number = h.0; same = 
 abbrev pub IsOrderly : Type 0 → Result PlainFrame FrameError → Type 0
 IsOrderly MayAsk (Ok (sabm p)) = MayAsk
 IsOrderly MayAsk (Ok (frmr f why)) = ⊥
-IsOrderly MayAsk (Err BadAddress) = ⊥
 IsOrderly MayAsk (Err (Undefined control)) = ⊥
 IsOrderly MayAsk (Err (NoInfoAllowed control)) = ⊥
 IsOrderly MayAsk (Err TooLong) = ⊥
@@ -62,7 +61,6 @@ IsOrderly MayAsk read = Unit {0}
 pub orderly_where : (A B : Type 0) (r : Result PlainFrame FrameError) → ((p : Bool) → r ≡ Ok (sabm p) → A → B) → IsOrderly A r → IsOrderly B r
 orderly_where A B (Ok (sabm p)) more h = more p refl h
 orderly_where A B (Ok (frmr f why)) more h = absurd h
-orderly_where A B (Err BadAddress) more h = absurd h
 orderly_where A B (Err (Undefined control)) more h = absurd h
 orderly_where A B (Err (NoInfoAllowed control)) more h = absurd h
 orderly_where A B (Err TooLong) more h = absurd h

@@ -291,7 +291,7 @@ module _ (d : Settings) (high : d.window ≤ 7) (reads : ReadsSpelled) (laws : L
       (rw (no_packet_of (hands_down packet) step.packet (window_of d.window w.near.station) (λ y never. never) stays.hands_up)
       (record {
         peer = p;
-        reached = does.handed w.back h.peer w.out packet h.reached;
+        reached = does.handed w.back h.peer w.out packet short h.reached;
         is = ap (λ (z : Window). after z (HandDown packet)) (sym u.same);
         room = h.room;
         told = h.told;
@@ -368,8 +368,8 @@ IsPeerOf c near os p out = IsReached ⊥ c (record { near = near; peer = p; out 
 
 peer_may : (c d : Settings) → AreJoined c d → (near : StationEnd) → MayDo d ⊥ (IsPeerOf c near)
 peer_may c d joined near = record {
-  handed = λ os p out packet h. goes_on _ _ h (HandsDown packet);
-  sends = λ os p q out octets may h. goes_on _ _ h (Sends octets q (subst (λ (r : Result PlainFrame FrameError). MaySend ⊥ p r q) (there octets) may));
+  handed = λ os p out packet short h. goes_on _ _ h (HandsDown packet);
+  sends = λ os p q out octets may next h. goes_on _ _ h (Sends octets q (subst (λ (r : Result PlainFrame FrameError). MaySend ⊥ p r q) (there octets) may));
   hears = λ o os p q out may h. goes_on _ _ h (Hears o os q refl (subst (λ (r : Result PlainFrame FrameError). MayHear p r q) (here o) may));
   loses = λ os p out i h. goes_on _ _ h (Loses i);
   damages = λ os p out i octets visible h. goes_on _ _ h (Damages i octets visible);

@@ -97,10 +97,11 @@ frmr_free reads from n1 f why three = (record { reads = reads from n1 (frmr f wh
 
 -- ---- what an end may do, as what is known of it goes on
 
--- What is known of it: the line to it, the peer that it is, and the line from it. `Fine` holds where no fault is to be found.
+-- What is known of it: the line to it, the peer that it is, and the line from it. It is handed down no packet that is too long, and sends
+-- numbers one by one where they go for the first time. `Fine` holds where no fault is to be found.
 pub record MayDo (d : Settings) (Fine : Type 0) (R : List (List ℕ) → Peer → List (List ℕ) → Type 0) : Type 0 where
-  pub handed : (os : List (List ℕ)) (p : Peer) (out : List (List ℕ)) (packet : List ℕ) → R os p out → R os (record p { given = p.given ++ packet ∷ [] }) out
-  pub sends : (os : List (List ℕ)) (p q : Peer) (out : List (List ℕ)) (octets : List ℕ) → MaySend ⊥ p (frame_of d.role d.longest octets) q → R os p out → R os q (out ++ octets ∷ [])
+  pub handed : (os : List (List ℕ)) (p : Peer) (out : List (List ℕ)) (packet : List ℕ) → length packet ≤ d.longest → R os p out → R os (record p { given = p.given ++ packet ∷ [] }) out
+  pub sends : (os : List (List ℕ)) (p q : Peer) (out : List (List ℕ)) (octets : List ℕ) → MaySend ⊥ p (frame_of d.role d.longest octets) q → q.sent ≤ p.sent + 1 → R os p out → R os q (out ++ octets ∷ [])
   pub hears : (o : List ℕ) (os : List (List ℕ)) (p q : Peer) (out : List (List ℕ)) → MayHear p (frame_of (other d.role) d.longest o) q → R (o ∷ os) p out → R os q out
   pub loses : (os : List (List ℕ)) (p : Peer) (out : List (List ℕ)) (place : ℕ) → R os p out → R (remove os place) p out
   pub damages : (os : List (List ℕ)) (p : Peer) (out : List (List ℕ)) (place : ℕ) (octets : List ℕ) → is_visible octets ≡ true → R os p out → R (replaced os place octets) p out
@@ -110,15 +111,15 @@ pub record MayDo (d : Settings) (Fine : Type 0) (R : List (List ℕ) → Peer �
 
 module _ (d : Settings) (high : d.window ≤ 7) (reads : ReadsSpelled) (Fine : Type 0) (R : List (List ℕ) → Peer → List (List ℕ) → Type 0) (does : MayDo d Fine R) (os : List (List ℕ)) where
   -- one frame more
-  sent : (out : List (List ℕ)) (p q : Peer) (f : PlainFrame) → frame_of d.role d.longest (spelling_of d.role f) ≡ Ok f → MaySend ⊥ p (Ok f) q → R os p out → R os q (out ++ spelling_of d.role f ∷ [])
-  sent out p q f read may reached = does.sends os p q out (spelling_of d.role f) (subst (λ (r : Result PlainFrame FrameError). MaySend ⊥ p r q) (sym read) may) reached
+  sent : (out : List (List ℕ)) (p q : Peer) (f : PlainFrame) → frame_of d.role d.longest (spelling_of d.role f) ≡ Ok f → MaySend ⊥ p (Ok f) q → q.sent ≤ p.sent + 1 → R os p out → R os q (out ++ spelling_of d.role f ∷ [])
+  sent out p q f read may next reached = does.sends os p q out (spelling_of d.role f) (subst (λ (r : Result PlainFrame FrameError). MaySend ⊥ p r q) (sym read) may) next reached
 
   pub free_all : (out : List (List ℕ)) (p : Peer) (fs : List PlainFrame) → AllFree d.role d.longest fs → R os p out
       → R os p (out ++ map (spelling_of d.role) fs)
   free_all out p [] free reached = subst (λ (xs : List (List ℕ)). R os p xs) (sym (append-nil out)) reached
   free_all out p (f ∷ fs) free reached =
       subst (λ (xs : List (List ℕ)). R os p xs) (append_assoc out (spelling_of d.role f ∷ []) (map (spelling_of d.role) fs))
-      (free_all (out ++ spelling_of d.role f ∷ []) p fs free.1 (sent out p p f free.0.reads (free_sent p f free.0.none) reached))
+      (free_all (out ++ spelling_of d.role f ∷ []) p fs free.1 (sent out p p f free.0.reads (free_sent p f free.0.none) (omega arith) reached))
 
   -- the peer once it said all frames of a run, by which the station's end of the window machine became v
   pub record Said (out : List (List ℕ)) (p : Peer) (v : Window) (frames : List PlainFrame) : Type 0 where
@@ -147,7 +148,7 @@ module _ (d : Settings) (high : d.window ≤ 7) (reads : ReadsSpelled) (Fine : T
       record {
         peer = v;
         reached = subst (λ (es : List PlainFrame). R os v (out ++ map (spelling_of d.role) (before ++ es))) (sym single.is)
-            (push out v before f (sent (out ++ map (spelling_of d.role) before) q v f (good_reads reads d.role d.longest f (tell_good d.longest w f single.shows)) (tell_sent d.window q told f single.shows) reached));
+            (push out v before f (sent (out ++ map (spelling_of d.role) before) q v f (good_reads reads d.role d.longest f (tell_good d.longest w f single.shows)) (tell_sent d.window q told f single.shows) (omega arith) reached));
         is = refl;
         room = room;
         told = omega arith;
@@ -165,7 +166,7 @@ module _ (d : Settings) (high : d.window ≤ 7) (reads : ReadsSpelled) (Fine : T
         peer = v;
         reached = subst (λ (es : List PlainFrame). R os v (out ++ map (spelling_of d.role) (before ++ es))) (sym single.is)
             (push out v before f (sent (out ++ map (spelling_of d.role) before) q v f (good_reads reads d.role d.longest f (send_good d.longest n w item f single.shows))
-            (item_sent d.window n q high room told may d.longest item f single.shows) reached));
+            (item_sent d.window n q high room told may d.longest item f single.shows) (omega (arith, inside)) reached));
         is = refl;
         room = omega arith;
         told = omega arith;

@@ -4,17 +4,17 @@ use Rattle.std.specs.Prelude.{◌≤◌, option_to_list, replicate, drop, ◌||�
 use Rattle.std.proofs.lemmas.Bool.{le-leb}
 use Rattle.std.proofs.lemmas.List.{replicate_more}
 use Rattle.x25_bits.specs.declared.role.Role.{Role}
-use Rattle.x25_frame.specs.Frame.{PlainFrame, info, rr, rnr, rej, sabm, disc, ua, dm, frmr}
+use Rattle.x25_frame.specs.Frame.{PlainFrame, info, rr, rnr, rej, disc, ua, dm}
 use Rattle.x25_frame.specs.Spelling.{spelling_of}
 use Rattle.x25_frame.specs.laws.ReadingLaw.{ReadsSpelled}
 use Rattle.x25_frame.specs.declared.error.FrameError.{FrameError}
-use Rattle.x25_frame.specs.declared.error.FrameError.TheVariants.{Short, BadFcs, BadAddress, Undefined, NoInfoAllowed, TooLong}
+use Rattle.x25_frame.specs.declared.error.FrameError.TheVariants.{Short, BadFcs, BadAddress}
 use Rattle.x25_window.specs.laws.Window.{End, Numbered, Frame, after}
 use Rattle.x25_window.specs.laws.Window.Step.{Hear, Take}
 use Rattle.x25_link.specs.declared.phase.Phase.{Phase}
-use Rattle.x25_link.specs.declared.phase.Phase.TheVariants.{Down, Waiting, Up, Closed}
+use Rattle.x25_link.specs.declared.phase.Phase.TheVariants.{Waiting, Up}
 use Rattle.x25_link.specs.declared.phase.Reason.{Reason}
-use Rattle.x25_link.specs.declared.phase.Reason.TheVariants.{Retries, Disc, Dm, FrmrSent, FrmrGot, Reset, Local, Counts}
+use Rattle.x25_link.specs.declared.phase.Reason.TheVariants.{Retries, Disc, Dm, FrmrSent, Reset}
 use Rattle.x25_link.specs.declared.phase.Notes.{Notes}
 use Rattle.x25_link.specs.OrderedLink.{no_packets}
 use Rattle.x25_link.specs.laws.NoteLaw.{IsQuiet, Tells}
@@ -46,6 +46,11 @@ pub out_is_away : (MayAsk : Type 0) (p : Phase) → IsOut p → MayBeAway MayAsk
 out_is_away MayAsk Waiting h = absurd h
 out_is_away MayAsk Up h = absurd h
 out_is_away MayAsk p h = tt
+
+pub out_not_up : (p : Phase) → IsOut p → is_up p ≡ false
+out_not_up Waiting h = absurd h
+out_not_up Up h = absurd h
+out_not_up p h = refl
 
 pub not_both : {A : Type 0} (b : Bool) → b ≡ true → b ≡ false → A
 not_both b e f = absurd (never (sym e ∙ f))
@@ -182,7 +187,7 @@ quiet_notes MayAsk c w back down step h quiet same =
     }
 
 -- LinkUp is noted by a station that begins afresh
-not_afresh : (s : LinkStation) (step : Step) → Tells s step → is_up step.side.near.phase ≡ false → step.notes.up ≡ false
+pub not_afresh : (s : LinkStation) (step : Step) → Tells s step → is_up step.side.near.phase ≡ false → step.notes.up ≡ false
 not_afresh s step tells off = go step.notes.up refl
   where
     go : (b : Bool) → step.notes.up ≡ b → step.notes.up ≡ false
@@ -554,6 +559,7 @@ module _ (MayAsk : Type 0) (c d : Settings) (joined : AreJoined c d) (reads : Re
   read_joint w l h u (Ok (dm f)) os step good orderly shows tells follows = ends_joint w l h u.up os step Dm tt shows orderly tells follows
   read_joint w l h u (Err Short) os step good orderly shows tells follows = quiet_joint w l h u os orderly shows nothing step refl (λ y k. k) follows
   read_joint w l h u (Err BadFcs) os step good orderly shows tells follows = quiet_joint w l h u os orderly shows nothing step refl (λ y k. k) follows
+  read_joint w l h u (Err BadAddress) os step good orderly shows tells follows = quiet_joint w l h u os orderly shows nothing step refl (λ y k. k) follows
   read_joint w l h u r os step good orderly shows tells follows = absurd good
 
   -- ---- what comes to an end that isn't Up

@@ -2,3 +2,4 @@
 pub mod StationRowLemmas
 pub mod SessionRowLemmas
 pub mod PeerRowLemmas
+pub mod PeerSessionRowLemmas

@@ -1,6 +1,8 @@
 -- What the laws of this crate say (src/law.rt), and the machines that they are about.
 pub mod InWindow
 pub mod LawsBelow
+pub mod Ends
+pub mod EndClaims
 pub mod StationClaims
 pub mod StationPeers
 pub mod SessionClaims
@@ -9,9 +11,12 @@ pub mod Line
 pub mod Peer
 pub mod PeerClaims
 pub mod PeerJoined
+pub mod PeerSessions
+pub mod PeerSessionClaims
 pub mod Said
 pub mod SessionEvents
 pub mod SessionNumbers
+pub mod SessionPeers
 pub mod Sessions
 pub mod Stations
 pub mod Tape

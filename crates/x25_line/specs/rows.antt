@@ -2,3 +2,4 @@
 pub mod StationRows
 pub mod SessionRows
 pub mod PeerRows
+pub mod PeerSessionRows

@@ -4,8 +4,8 @@ ghost use Rattle.x25_peer.specs.laws.BesideSessionClaims.{FindsNoError};
 ghost use Rattle.x25_peer.specs.rows.BesideSessionRows.{DamagedUaIsMissing, LeavingPeerAsks, LostSabmGoesAgain};
 
 use x25_layer::any_peer_keeps_transcripts;
+use x25_line::any_peer_keeps_sessions;
 use x25_link::{notes_what_changes, sets_up_by_rows};
-use x25_sessions::any_peer_keeps_sessions;
 use x25_station::{puts_beside_peers_are_readable, steps_are_joined, steps_keep_bounds};
 
 /// A station, by the definition that it meets call by call, and any peer that keeps the rules of docs/PEER.md, link

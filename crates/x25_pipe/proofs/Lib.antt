@@ -5,3 +5,5 @@ pub mod LeaveLemmas
 pub mod StreamLemmas
 pub mod LineLemmas
 pub mod PipeLemmas
+pub mod MomentLemmas
+pub mod TimedLemmas

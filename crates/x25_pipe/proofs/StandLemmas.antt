@@ -1,10 +1,13 @@
 -- How it stands after a turn.
-use Rattle.std.proofs.Common.{◌≡◌, ◌∙◌, ◌==◌, ℕ, Bool, true, false, List, [], ◌∷◌, ◌++◌, map, Option, Ok, ap, sym, subst, refl, inl, inr}
+use Rattle.std.proofs.Common.{◌≡◌, ◌∙◌, ◌==◌, ℕ, Bool, true, false, List, [], ◌∷◌, ◌++◌, map, Option, Some, None, Result, Ok, MatchResult, ap, sym, subst, refl, inl, inr}
+use Rattle.std.proofs.lemmas.Result.{MatchResult-weaker}
 use Rattle.std.specs.Prelude.{◌||◌}
 use Rattle.std.proofs.lemmas.List.{append-nil, map-append}
 use Rattle.std.proofs.Math.Bool.{or-false, or-true}
 use Rattle.x25_bits.specs.declared.role.Role.{Role}
+use Rattle.x25_clock.specs.laws.ClockLaw.{comes}
 use Rattle.x25_io.specs.code.Written.{AppendsPrefix, Tells}
+use Rattle.x25_io.specs.declared.fault.Fault.{Fault}
 use Rattle.x25_layer.specs.Calls.{PullsAll, LayerOutcome, Accepted, Declined, layer_outcome}
 use Rattle.x25_layer.specs.Rounds.{Answered, Went, Refuses, calls}
 use Rattle.x25_frame.specs.Frame.{PlainFrame}
@@ -17,7 +20,7 @@ use Rattle.x25_station.specs.declared.step.Step as code_step
 use Rattle.x25_station.specs.Entry.{StationEntry}
 use Rattle.x25_station.specs.declared.timer.Timer.{Timer}
 use Rattle.x25_station.specs.Pulling.{pulled, pulled_of}
-use Rattle.x25_station.specs.Timer.{timer_pulled}
+use Rattle.x25_station.specs.Timer.{standing, timer_pulled}
 use Rattle.x25_station.specs.laws.TimerLaw as timer
 use Rattle.x25_station.specs.laws.TimerLaw.{Event}
 use Rattle.x25_station.specs.code.Pulls.{Pulls}
@@ -31,7 +34,8 @@ use Rattle.x25_station.specs.Step.{Step, Outcome, Did, Refused, did, requests, e
 use Rattle.x25_console.specs.Telling.{nothing_line, refusal_line}
 use Rattle.x25_io.proofs.ToldLemmas.{prefix_more}
 use Rattle.x25_pipe.specs.Pipe.{Saying, enters, sends, refuses, reads_nothing, saying_line, sayings_text, has_refusal, Turn, and_then, said, step_told, pulled_behind, and_pulls, with_pulls, timer_with_pulls}
-use Rattle.x25_pipe.specs.code.Stands.{Stands, IsStep, IsError, answer_told}
+use Rattle.x25_pipe.specs.Pipe.{Act, act_of, asked_act, asked_turn, event_act, event_in, event_turn, mark_turn, marked, nothing_act, turn}
+use Rattle.x25_pipe.specs.code.Stands.{Acted, IsActed, Stands, Stood, Turns, IsStep, IsError, answer_told}
 use Rattle.x25_pipe.specs.declared.pipe.Pipe.{Pipe}
 use Rattle.x25_pipe.proofs.SayingLemmas.{parts_text, parts_refused}
 
@@ -135,6 +139,61 @@ pub is_step : (c : Settings) (v : code.Station) (step : code_step.Step) (P : Out
     → (o : Outcome) → IsStep c v step o → P o
 is_step c v step P f (Did plain) h = f plain h
 is_step c v step P f (Refused e) h = absurd h.accepted
+
+-- ---- what comes of a line, but for its mark
+
+module _ (c : Settings) (old now : Option (List ℕ)) (q : Pipe) (s : Station) (told : List ℕ) (refused : Bool) (result : Result Unit Fault) where
+  -- what was refused, or asks for nothing
+  acted_quiet : (line : List ℕ) (x : Saying) (come : Bool) → has_refusal (x ∷ []) ≡ true → line ≡ saying_line c.role x
+      → MatchResult result (λ _. Tells old now q.output (told ++ line)) (λ _. AppendsPrefix old now (told ++ line))
+      → FitsStation c q.station s → q.end ≡ c.role → q.is_refused ≡ true → q.step.timer ≡ standing s → q.step.entries.items ≡ [] → q.has_come ≡ come
+      → Acted c old now q told refused result (record { next = s; sayings = x ∷ []; timer = standing s; entries = []; has_come = come })
+  acted_quiet line x come is same tells fits role status timer empty comes = MatchResult-weaker result tells
+      (λ _ t. record { stands = stands_refused c old now q s told line refused x is same fits role status t; timer = timer; entries = ap (map plain_entry) empty; has_come = comes })
+      (λ _ b. begins_told c old now s told line x same b)
+
+  pub acted_nothing : MatchResult result (λ _. Tells old now q.output (told ++ nothing_line)) (λ _. AppendsPrefix old now (told ++ nothing_line))
+      → FitsStation c q.station s → q.end ≡ c.role → q.is_refused ≡ true → q.step.timer ≡ standing s → q.step.entries.items ≡ [] → q.has_come ≡ false
+      → Acted c old now q told refused result (nothing_act s)
+  acted_nothing tells fits role status timer empty comes = acted_quiet nothing_line reads_nothing false refl (nothing_said c.role) tells fits role status timer empty comes
+
+  pub acted_refused : (event : Event) (error : StationError) (o : Outcome) → o ≡ Refused error
+      → MatchResult result (λ _. Tells old now q.output (told ++ refusal_line (number_of error))) (λ _. AppendsPrefix old now (told ++ refusal_line (number_of error)))
+      → FitsStation c q.station s → q.end ≡ c.role → q.is_refused ≡ true → q.step.timer ≡ standing s → q.step.entries.items ≡ [] → q.has_come ≡ comes event
+      → Acted c old now q told refused result (act_of c s event o)
+  acted_refused event error o is tells fits role status timer empty come = subst (λ o. Acted c old now q told refused result (act_of c s event o)) (sym is)
+      (acted_quiet (refusal_line (number_of error)) (refuses error) (comes event) refl (refusal_said c.role error) tells fits role status timer empty come)
+
+-- ---- and with it
+
+act_marked : (c : Settings) (s : Station) (asked : Option Event) → let a = asked_act c s asked in asked_turn c s asked ≡ marked c a.timer a.next a.sayings
+unfolding event_turn event_act
+act_marked c s None = refl
+act_marked c s (Some event) = refl
+
+turn_marked : (c : Settings) (line : List ℕ) (s : Station) → let a = asked_act c s (event_in c.role line) in turn c line s ≡ marked c a.timer a.next a.sayings
+unfolding turn
+turn_marked c line s = act_marked c s (event_in c.role line)
+
+module _ (c : Settings) (old now next : Option (List ℕ)) (told : List ℕ) (refused : Bool) (line : List ℕ) (s : Station) where
+  abbrev here : Act
+  here = asked_act c s (event_in c.role line)
+
+  pub marks_behind : (q u : Pipe) (result : Result Unit Fault) → IsActed c old now q told refused here → Turns c old now next q u result (mark_turn c q.step.timer)
+      → Stood c old next u told refused result (turn c line s)
+  marks_behind q u result h mark =
+      subst (Stood c old next u told refused result) (sym (turn_marked c line s))
+      (MatchResult-weaker result
+      (subst (λ (t : Timer). Stood c old next u (told ++ sayings_text c.role here.sayings) (refused || has_refusal here.sayings) result (mark_turn c t here.next)) h.timer
+      (mark here.next (told ++ sayings_text c.role here.sayings) (refused || has_refusal here.sayings) h.stands))
+      (λ _ t. stands_behind c old next told refused (mark_turn c here.timer) (said here.next here.sayings) u t)
+      (λ _ b. begins_behind c old next told refused (mark_turn c here.timer) (said here.next here.sayings) b))
+
+pub begins_marked : (c : Settings) (old now : Option (List ℕ)) (told : List ℕ) (refused : Bool) (line : List ℕ) (s : Station)
+    → AppendsPrefix old now (told ++ sayings_text c.role (asked_act c s (event_in c.role line)).sayings) → BeginsAt c old now told (turn c line s)
+begins_marked c old now told refused line s b =
+    let a = asked_act c s (event_in c.role line) in
+    subst (BeginsAt c old now told) (sym (turn_marked c line s)) (begins_before c old now told refused (mark_turn c a.timer) (said a.next a.sayings) b)
 
 -- ---- what is pulled behind it
 

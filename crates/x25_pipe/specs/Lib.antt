@@ -1,3 +1,4 @@
 pub mod Pipe
+pub mod Timed
 pub mod code
 pub mod rows

@@ -23,10 +23,8 @@ impl LineTaker for Pipe {
     ghost ended = { λ c old now lines input. WritesLines c old now lines (piped c input) };
 
     fn take_line<W: Sink>(&mut self, line: Option<&[u8]>, writer: &mut W) -> Result<(), Fault> {
-        match line {
-            Some(line) => self.obey(line, writer),
-            None => self.read_nothing(writer),
-        }
+        self.answer(line, writer)?;
+        self.mark(writer)
     }
 
     fn pass_over(&mut self) {}

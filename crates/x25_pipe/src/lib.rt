@@ -1,5 +1,6 @@
 //! One station of X.25 behind a pipe: lines of a trace that come to it and lines of a script of its user are answered
-//! by what it does and by what its timer T1 does, over any readers and writers.
+//! by what it does and by what its timer T1 does, or by when something is due of its timers, over any readers and
+//! writers.
 //!
 //! docs/MANUAL.md says how the lines are written. Profile.
 #![tactic(auto)]
@@ -9,8 +10,11 @@ mod law;
 mod pipe;
 mod running;
 mod telling;
+mod timed;
+mod timed_answerer;
 
 pub use law::answers_as_worked;
-pub use running::station;
+pub use running::{station, timed_station};
+pub use x25_clock::Times;
 pub use x25_io::{Device, Failed, Fault, Sink, Source};
 pub use x25_station::{Cfg, Role};

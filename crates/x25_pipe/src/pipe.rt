@@ -4,23 +4,25 @@ ghost use Rattle.x25_pipe.specs.Pipe.{is_same as are_same};
 
 use crate::telling::{tell_entries, tell_frames, tell_mark, tell_refusal};
 use std::alloc::Global;
+use x25_clock::Due;
 use x25_console::{read_user, station_command, tell_nothing};
 use x25_decode::read_sent;
 use x25_io::{Fault, Output, Sink};
 use x25_script::{Command, HexDigits, ScriptTaker, read_line};
-use x25_station::{Cfg, Role, Station, StationError, Step, Timer};
+use x25_station::{Cfg, Cmd, Role, Station, StationError, Step};
 use x25_text::MOST_OCTETS;
 
-/// The station at an end, what it answered last, the octets of a frame and of a command, and what waits to be
-/// written.
+/// The station at an end, what it answered last, whether octets came then, the octets of a frame and of a command, and
+/// what waits to be written.
 #[derive(Drop)]
 pub(crate) struct Pipe {
-    end: Role,
-    station: Station,
-    step: Step,
+    pub(crate) end: Role,
+    pub(crate) station: Station,
+    pub(crate) step: Step,
+    pub(crate) has_come: bool,
     octets: [u8; MOST_OCTETS],
     user: Vec<u8>,
-    output: Output,
+    pub(crate) output: Output,
     is_refused: bool,
 }
 
@@ -41,21 +43,24 @@ fn is_memory(error: StationError) -> bool
 }
 
 impl Pipe {
-    ghost use Rattle.std.specs.Prelude.{[], ◌∷◌, ℕ, Bool, true, false, List, Option, Some, None, OnOk, OnErr};
-    ghost use Rattle.std.specs.Prelude.{MatchResult, length, take};
+    ghost use Rattle.std.specs.Prelude.{[], ◌∷◌, ℕ, ◌<◌, Bool, true, false, List, Option, Some, None, OnOk, OnErr};
+    ghost use Rattle.std.specs.Prelude.{MatchOption, MatchResult, length, take};
+    ghost use Rattle.x25_clock.specs.Due.{command_for};
+    ghost use Rattle.x25_clock.specs.laws.ClockLaw.{comes};
     ghost use Rattle.x25_console.specs.Commands.{command_asked};
     ghost use Rattle.x25_io.specs.HeldLine.{most_line};
     ghost use Rattle.x25_io.specs.code.MarksFaults.{MarksFaults};
     ghost use Rattle.x25_io.specs.code.Written.{AppendsPrefix, Tells, TellsMore};
     ghost use Rattle.x25_script.specs.ScriptLine.{plain_command};
     ghost use Rattle.x25_station.specs.code.FitsStation.{FitsStation};
+    ghost use Rattle.x25_station.specs.Command.{command_of};
     ghost use Rattle.x25_station.specs.Config.{Settings, config_refusal, settings_from};
     ghost use Rattle.x25_station.specs.Station.{Station as State, new_station};
     ghost use Rattle.x25_station.specs.Step.{Outcome};
     ghost use Rattle.x25_station.specs.laws.TimerLaw.{Asks, Comes, Event, Fires, timer as timer_of};
-    ghost use Rattle.x25_pipe.specs.Pipe.{asked_turn, event_turn, mark_turn, pulling_turn, sayings_text, standing_turn};
-    ghost use Rattle.x25_pipe.specs.Pipe.{trace_event, turn, turn_of};
-    ghost use Rattle.x25_pipe.specs.code.Stands.{IsError, IsStep, Stands, Stood, Turns, answer_told};
+    ghost use Rattle.x25_pipe.specs.Pipe.{act_of, asked_act, event_act, event_for, event_in, mark_turn, nothing_act};
+    ghost use Rattle.x25_pipe.specs.Pipe.{sayings_text, standing_turn, trace_event};
+    ghost use Rattle.x25_pipe.specs.code.Stands.{Acted, Acts, IsError, IsStep, Stands, Turns, answer_told};
 
     /// A station that never was up, and nothing was told.
     pub(crate) fn new(alloc: Global, end: Role, cfg: Cfg) -> Result<Pipe, Fault>
@@ -74,6 +79,7 @@ impl Pipe {
             end,
             station,
             step: Step::new(alloc),
+            has_come: false,
             octets: [0; MOST_OCTETS],
             user: Vec::new(alloc),
             output,
@@ -100,7 +106,7 @@ impl Pipe {
     }
 
     /// Tells the mark of what T1 became, and writes what waits.
-    fn mark<W: Sink>(&mut self, writer: &mut W) -> Result<(), Fault>
+    pub(crate) fn mark<W: Sink>(&mut self, writer: &mut W) -> Result<(), Fault>
         ensures turns { (c : Settings) (old : Option (List ℕ))
             → Turns c old (W.contents writer.old) (W.contents writer.new)
             self.old self.new result (mark_turn c self.old.step.timer) }
@@ -113,7 +119,7 @@ impl Pipe {
         self.flush(writer)
     }
 
-    /// The mark that comes before anything is read, or behind what changed nothing.
+    /// The mark that comes before anything is read.
     pub(crate) fn mark_standing<W: Sink>(&mut self, writer: &mut W) -> Result<(), Fault>
         ensures turns { (c : Settings) (old : Option (List ℕ))
             → Turns c old (W.contents writer.old) (W.contents writer.new) self.old self.new result (standing_turn c) }
@@ -131,6 +137,7 @@ impl Pipe {
         ensures station { self.new.station ≡ self.old.station }
         ensures step { self.new.step ≡ self.old.step }
         ensures role { self.new.end ≡ self.old.end }
+        ensures has_come { self.new.has_come ≡ self.old.has_come }
         ensures is_refused { self.new.is_refused ≡ self.old.is_refused }
         ensures faults { MarksFaults W.Sink writer.old writer.new result }
     {
@@ -140,76 +147,60 @@ impl Pipe {
         tell_frames(self.end, frames, &mut self.output, writer)
     }
 
-    /// Tells a step of the station: its entries, its frames and its mark.
-    fn tell_step<W: Sink>(&mut self, writer: &mut W) -> Result<(), Fault>
-        ensures stood { (c : Settings) (old : Option (List ℕ)) (s : State) (o : Outcome) (told : List ℕ)
-            (refused : Bool)
-            → IsStep c self.old.station self.old.step o → self.old.end ≡ c.role
-            → Tells old (W.contents writer.old) self.old.output told → self.old.is_refused ≡ refused
-            → Stood c old (W.contents writer.new) self.new told refused result (turn_of c self.old.step.timer s o) }
-        ensures written { OnOk result (self.new.output ≡ []) }
-        ensures faults { MarksFaults W.Sink writer.old writer.new result }
-    {
-        self.tell_answer(writer)?;
-        self.mark(writer)
-    }
-
     /// Pulls what waits behind a step of the station, and tells both.
     fn follow_up<W: Sink>(&mut self, writer: &mut W) -> Result<(), Fault>
-        ensures stood { (c : Settings) (old : Option (List ℕ)) (s : State) (event : Event) (o : Outcome) (told : List ℕ)
+        ensures acted { (c : Settings) (old : Option (List ℕ)) (s : State) (event : Event) (o : Outcome) (told : List ℕ)
             (refused : Bool)
             → IsStep c self.old.station self.old.step o → self.old.step.timer ≡ timer_of s event o
-            → self.old.end ≡ c.role
+            → self.old.has_come ≡ comes event → self.old.end ≡ c.role
             → Tells old (W.contents writer.old) self.old.output told → self.old.is_refused ≡ refused
-            → Stood c old (W.contents writer.new) self.new told refused result (pulling_turn c s event o) }
-        ensures written { OnOk result (self.new.output ≡ []) }
+            → Acted c old (W.contents writer.new) self.new told refused result (act_of c s event o) }
         ensures faults { MarksFaults W.Sink writer.old writer.new result }
     {
         match self.station.pull(&mut self.step) {
-            Ok(()) => self.tell_step(writer),
+            Ok(()) => self.tell_answer(writer),
             Err(_) => Err(Fault::NoMemory),
         }
     }
 
     /// Tells that an event is refused; want of memory is a fault.
     fn refuse<W: Sink>(&mut self, error: StationError, writer: &mut W) -> Result<(), Fault>
-        ensures stood { (c : Settings) (old : Option (List ℕ)) (s : State) (event : Event) (o : Outcome) (told : List ℕ)
+        ensures acted { (c : Settings) (old : Option (List ℕ)) (s : State) (event : Event) (o : Outcome) (told : List ℕ)
             (refused : Bool)
-            → Stands c old (W.contents writer.old) self.old s told refused → IsError error o
-            → Stood c old (W.contents writer.new) self.new told refused result (pulling_turn c s event o) }
-        ensures written { OnOk result (self.new.output ≡ []) }
+            → Stands c old (W.contents writer.old) self.old s told refused → self.old.has_come ≡ comes event
+            → IsError error o
+            → Acted c old (W.contents writer.new) self.new told refused result (act_of c s event o) }
         ensures faults { MarksFaults W.Sink writer.old writer.new result }
     {
         if is_memory(error) {
             return Err(Fault::NoMemory);
         }
         self.is_refused = true;
-        tell_refusal(error, &mut self.output, writer)?;
-        self.mark_standing(writer)
+        self.station.reuse(&mut self.step);
+        tell_refusal(error, &mut self.output, writer)
     }
 
     /// Tells that a line asks for nothing.
     pub(crate) fn read_nothing<W: Sink>(&mut self, writer: &mut W) -> Result<(), Fault>
-        ensures turns { (c : Settings) (old : Option (List ℕ))
-            → Turns c old (W.contents writer.old) (W.contents writer.new) self.old self.new result
-            (λ s. asked_turn c s None) }
-        ensures written { OnOk result (self.new.output ≡ []) }
+        ensures acts { (c : Settings) (old : Option (List ℕ))
+            → Acts c old (W.contents writer.old) (W.contents writer.new) self.old self.new result nothing_act }
         ensures faults { MarksFaults W.Sink writer.old writer.new result }
     {
         self.is_refused = true;
-        tell_nothing(&mut self.output, writer)?;
-        self.mark_standing(writer)
+        self.has_come = false;
+        self.station.reuse(&mut self.step);
+        tell_nothing(&mut self.output, writer)
     }
 
     /// The first `count` octets of those read come.
     fn receive<W: Sink>(&mut self, count: usize, writer: &mut W) -> Result<(), Fault>
         requires { count ≤ length self.old.octets }
-        ensures turns { (c : Settings) (old : Option (List ℕ))
-            → Turns c old (W.contents writer.old) (W.contents writer.new) self.old self.new result
-            (λ s. event_turn c s (Comes (take count self.old.octets))) }
-        ensures written { OnOk result (self.new.output ≡ []) }
+        ensures acts { (c : Settings) (old : Option (List ℕ))
+            → Acts c old (W.contents writer.old) (W.contents writer.new) self.old self.new result
+            (λ s. event_act c s (Comes (take count self.old.octets))) }
         ensures faults { MarksFaults W.Sink writer.old writer.new result }
     {
+        self.has_come = true;
         let octets = &self.octets[..count];
         match self.station.receive(octets, &mut self.step) {
             Ok(()) => self.follow_up(writer),
@@ -220,10 +211,9 @@ impl Pipe {
     /// The first `count` octets of those read were sent by an end.
     fn hear<W: Sink>(&mut self, from: Role, count: usize, writer: &mut W) -> Result<(), Fault>
         requires { count ≤ length self.old.octets }
-        ensures turns { (c : Settings) (old : Option (List ℕ))
-            → Turns c old (W.contents writer.old) (W.contents writer.new) self.old self.new result
-            (λ s. asked_turn c s (trace_event self.old.end (from, take count self.old.octets))) }
-        ensures written { OnOk result (self.new.output ≡ []) }
+        ensures acts { (c : Settings) (old : Option (List ℕ))
+            → Acts c old (W.contents writer.old) (W.contents writer.new) self.old self.new result
+            (λ s. asked_act c s (trace_event self.old.end (from, take count self.old.octets))) }
         ensures faults { MarksFaults W.Sink writer.old writer.new result }
     {
         if is_same(self.end.other(), from) {
@@ -234,12 +224,12 @@ impl Pipe {
 
     /// The user of this end asks for something.
     fn ask<W: Sink>(&mut self, command: Command, writer: &mut W) -> Result<(), Fault>
-        ensures turns { (c : Settings) (old : Option (List ℕ))
-            → Turns c old (W.contents writer.old) (W.contents writer.new) self.old self.new result
-            (λ s. event_turn c s (Asks (command_asked (plain_command command.entry)))) }
-        ensures written { OnOk result (self.new.output ≡ []) }
+        ensures acts { (c : Settings) (old : Option (List ℕ))
+            → Acts c old (W.contents writer.old) (W.contents writer.new) self.old self.new result
+            (λ s. event_act c s (Asks (command_asked (plain_command command.entry)))) }
         ensures faults { MarksFaults W.Sink writer.old writer.new result }
     {
+        self.has_come = false;
         let count = read_user(&command, &mut self.user)?;
         let asked = station_command(&command, &self.user[..count]);
         match self.station.command(asked, &mut self.step) {
@@ -250,28 +240,73 @@ impl Pipe {
 
     /// T1 runs out.
     fn fire<W: Sink>(&mut self, writer: &mut W) -> Result<(), Fault>
-        ensures turns { (c : Settings) (old : Option (List ℕ))
-            → Turns c old (W.contents writer.old) (W.contents writer.new) self.old self.new result
-            (λ s. event_turn c s Fires) }
-        ensures written { OnOk result (self.new.output ≡ []) }
+        ensures acts { (c : Settings) (old : Option (List ℕ))
+            → Acts c old (W.contents writer.old) (W.contents writer.new) self.old self.new result
+            (λ s. event_act c s Fires) }
         ensures faults { MarksFaults W.Sink writer.old writer.new result }
     {
+        self.has_come = false;
         match self.station.t1(&mut self.step) {
             Ok(()) => self.follow_up(writer),
             Err(error) => self.refuse(error, writer),
         }
     }
 
-    /// What a line asks for happens.
-    pub(crate) fn obey<W: Sink>(&mut self, line: &[u8], writer: &mut W) -> Result<(), Fault>
-        ensures turns { length line.now ≤ most_line → (c : Settings) (old : Option (List ℕ))
-            → Turns c old (W.contents writer.old) (W.contents writer.new) self.old self.new result (turn c line.now) }
-        ensures written { OnOk result (self.new.output ≡ []) }
+    /// Something is asked for that no line says.
+    fn request<W: Sink>(&mut self, command: Cmd, writer: &mut W) -> Result<(), Fault>
+        ensures acts { (c : Settings) (old : Option (List ℕ))
+            → Acts c old (W.contents writer.old) (W.contents writer.new) self.old self.new result
+            (λ s. event_act c s (Asks (command_of command.entry))) }
+        ensures faults { MarksFaults W.Sink writer.old writer.new result }
+    {
+        self.has_come = false;
+        match self.station.command(command, &mut self.step) {
+            Ok(()) => self.follow_up(writer),
+            Err(error) => self.refuse(error, writer),
+        }
+    }
+
+    /// What is due is asked for.
+    pub(crate) fn insist<W: Sink>(&mut self, due: Due, writer: &mut W) -> Result<(), Fault>
+        ensures acts { (c : Settings) (old : Option (List ℕ))
+            → Acts c old (W.contents writer.old) (W.contents writer.new) self.old self.new result
+            (λ s. event_act c s (event_for (command_for due))) }
+        ensures faults { MarksFaults W.Sink writer.old writer.new result }
+    {
+        match due.command() {
+            None => self.fire(writer),
+            Some(command) => self.request(command, writer),
+        }
+    }
+
+    /// What a line of the trace or of the script asks for happens.
+    fn obey<W: Sink>(&mut self, line: &[u8], writer: &mut W) -> Result<(), Fault>
+        ensures acts { length line.now ≤ most_line → (c : Settings) (old : Option (List ℕ))
+            → Acts c old (W.contents writer.old) (W.contents writer.new) self.old self.new result
+            (λ s. asked_act c s (event_in c.role line.now)) }
         ensures faults { MarksFaults W.Sink writer.old writer.new result }
     {
         match read_sent(line, self.octets.as_mut_slice()) {
             Some((from, count)) => self.hear(from, count, writer),
             None => read_line(line, self, writer),
+        }
+    }
+
+    /// What a line asks for happens, which is nothing where it is longer than any that is held.
+    pub(crate) fn answer<W: Sink>(
+        &mut self,
+        line: Option<&[u8]>,
+        writer: &mut W,
+    ) -> Result<(), Fault>
+        ensures acts { (c : Settings) (old : Option (List ℕ)) (text : List ℕ)
+            → MatchOption line.entry (most_line < length text) (λ held. (held.now ≡ text) × (length text ≤ most_line))
+            → Acts c old (W.contents writer.old) (W.contents writer.new) self.old self.new result
+            (λ s. asked_act c s (event_in c.role text)) }
+        ensures faults { MarksFaults W.Sink writer.old writer.new result }
+    {
+        match line {
+            Some(line) => self.obey(line, writer),
+            None => self.read_nothing(writer),
         }
     }
 
@@ -285,18 +320,18 @@ impl Pipe {
 
 /// What a line of a script asks of this end happens; a line of the other end, or of the line between, asks for nothing.
 impl<W: Sink> ScriptTaker<W> for Pipe {
-    ghost use Rattle.std.specs.Prelude.{[], List, ℕ, OnOk, Option, option_and_then};
+    ghost use Rattle.std.specs.Prelude.{List, ℕ, Option, option_and_then};
     ghost use Rattle.x25_io.specs.code.MarksFaults.{MarksFaults};
     ghost use Rattle.x25_station.specs.Config.{Settings};
-    ghost use Rattle.x25_pipe.specs.Pipe.{asked_turn, script_event};
-    ghost use Rattle.x25_pipe.specs.code.Stands.{Turns};
+    ghost use Rattle.x25_pipe.specs.Pipe.{asked_act, script_event};
+    ghost use Rattle.x25_pipe.specs.code.Stands.{Acts};
 
     type Answer = Result<(), Fault>;
 
     ghost gives = { λ p was q is result asked. ((c : Settings) (old : Option (List ℕ))
-        → Turns c old (W.contents was) (W.contents is) p q result
-        (λ s. asked_turn c s (option_and_then (script_event p.end) asked)))
-        × OnOk result (q.output ≡ []) × MarksFaults W.Sink was is result };
+        → Acts c old (W.contents was) (W.contents is) p q result
+        (λ s. asked_act c s (option_and_then (script_event p.end) asked)))
+        × MarksFaults W.Sink was is result };
 
     fn command(&mut self, end: Role, asked: Command, writer: &mut W) -> Result<(), Fault> {
         if is_same(self.end, end) {

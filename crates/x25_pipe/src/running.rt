@@ -2,10 +2,13 @@
 ghost use Rattle.std.specs.Prelude.{◌≡◌, None};
 ghost use Rattle.x25_io.specs.code.Runs.{Runs};
 ghost use Rattle.x25_pipe.specs.code.Stream.{program};
+ghost use Rattle.x25_pipe.specs.code.TimedStream.{timed_program};
 ghost use Rattle.x25_station.specs.Config.{config_refusal, settings_from};
 
 use crate::pipe::Pipe;
+use crate::timed::TimedPipe;
 use std::alloc::Global;
+use x25_clock::Times;
 use x25_io::{Fault, HeldLine, LineByLine, Piece, Sink, Source, take_text};
 use x25_station::{Cfg, Role};
 
@@ -34,6 +37,34 @@ pub fn station<R: Source, W: Sink>(
     let mut pipe = Pipe::new(alloc, end, cfg)?;
     if let Err(fault) = pipe.mark_standing(writer) {
         // By one call: as its scope ends a body lets go of the station part by part, which the prover follows.
+        drop(pipe);
+        return Err(fault);
+    }
+    let lines = LineByLine::new(held, pipe);
+    take_text(lines, piece, reader, writer)
+}
+
+/// As `station`, with a clock: a line `@ MS` says the time in milliseconds, which is 0 before it is said. At it all
+/// that is due is asked for: T1 fires, or a command is asked as if by the user, behind a line `END timeout` and the
+/// timer's name, with the channel where it is of one. The time is that until it is said again; a line with an earlier
+/// one, or with a number of 2^64 or more, becomes `? 60`. A mark has the next moment at which something is due in the
+/// place of what T1 does, `-` for none. Profile.
+pub fn timed_station<R: Source, W: Sink>(
+    alloc: Global,
+    end: Role,
+    cfg: Cfg,
+    times: Times,
+    reader: &mut R,
+    writer: &mut W,
+) -> Result<u8, Fault>
+    requires range { config_refusal cfg ≡ None }
+    ensures { Runs R.Source W.Sink (timed_program (settings_from end cfg) times) reader.old reader.new
+        writer.old writer.new result }
+{
+    let piece = Piece::new(alloc)?;
+    let held = HeldLine::new(alloc)?;
+    let mut pipe = TimedPipe::new(alloc, end, cfg, times)?;
+    if let Err(fault) = pipe.mark(writer) {
         drop(pipe);
         return Err(fault);
     }

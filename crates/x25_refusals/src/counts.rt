@@ -59,7 +59,7 @@ impl Kind {
             Cmd::Reset { .. } => Kind::Reset,
             Cmd::Ready { .. } => Kind::Ready,
             Cmd::NotReady { .. } => Kind::NotReady,
-            Cmd::Restart => Kind::Restart,
+            Cmd::Restart { .. } => Kind::Restart,
             Cmd::Pull => Kind::Pull,
             Cmd::Connect => Kind::Connect,
             Cmd::Disconnect => Kind::Disconnect,

@@ -128,13 +128,30 @@ const ANSWERS: Act = Do(Command(
     },
 ));
 
-const CLEARS: Act = Do(Command(Dte, Cmd::Clear { channel: 1 }));
+const CLEAR: Cmd<'static> = Cmd::Clear {
+    channel: 1,
+    cause: 0,
+    diagnostic: 0,
+};
 
-const DCE_CLEARS: Act = Do(Command(Dce, Cmd::Clear { channel: 1 }));
+const CLEARS: Act = Do(Command(Dte, CLEAR));
 
-const RESETS: Act = Do(Command(Dte, Cmd::Reset { channel: 1 }));
+const DCE_CLEARS: Act = Do(Command(Dce, CLEAR));
 
-const RESTARTS: Act = Do(Command(Dte, Cmd::Restart));
+const RESET: Cmd<'static> = Cmd::Reset {
+    channel: 1,
+    cause: 0,
+    diagnostic: 0,
+};
+
+const RESETS: Act = Do(Command(Dte, RESET));
+
+const RESTART: Cmd<'static> = Cmd::Restart {
+    cause: 0,
+    diagnostic: 0,
+};
+
+const RESTARTS: Act = Do(Command(Dte, RESTART));
 
 const INTERRUPTS: Act = Do(Command(
     Dte,

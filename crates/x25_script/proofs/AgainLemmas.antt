@@ -11,7 +11,7 @@ use Rattle.x25_circuit.specs.declared.params.Params.{Params}
 use Rattle.x25_script.specs.ScriptLine.{PlainCommand, call, accept, clear, send, interrupt, reset, ready, not_ready, restart, pull, connect, disconnect, probe, relink, PlainLine, command, t1, deliver, lose, damage, drain, heal}
 use Rattle.x25_script.specs.Reading.Spelling.{end_text, direction_text, q_text, address_text, IsAddress, IsNumber, Writes, AreParams, params_text, SpellsCommand, Spells}
 use Rattle.x25_script.specs.Reading.{parts_of, number_in, octets_in, small_number_in, params_in, with_params_of, with_params_in, call_in, accept_in, send_in, interrupt_in, on_channel, with_fields, command_in, lose_in, damage_in, drain_in, line_in}
-use Rattle.x25_script.proofs.NumberLemmas.{next_at, number_found, own, number_again}
+use Rattle.x25_script.proofs.NumberLemmas.{number_found, own, number_again}
 use Rattle.x25_script.proofs.PartLemmas.{parts_again, whole_again, no_blank, octets_no_blank, digits_no_blank, address_no_blank, end_again, from_again, q_again, address_again, octets_again, octets_found}
 
 -- a step after one that reads

@@ -1,15 +1,11 @@
 -- A number and its decimal text.
-use Rattle.std.proofs.Common.{ℕ, zero, suc, ◌+◌, ◌-◌, ◌*◌, ◌^◌, ◌<◌, ◌≤◌, ◌≡◌, ◌∙◌, Bool, true, false, List, ◌∷◌, length, get_or, drop, Option, Some, None, nat_lt, refl, ap, sym, subst, arith, rules, add-one}
+use Rattle.std.proofs.Common.{ℕ, zero, suc, ◌^◌, ◌<◌, ◌≤◌, ◌≡◌, ◌∙◌, Bool, true, false, List, length, get_or, drop, Option, Some, None, nat_lt, refl, ap, sym, subst, arith, rules}
 use Rattle.std.specs.Prelude.{cond, decimal, ◌==◌, ◌&&◌, if◌then◌else◌}
-use Rattle.std.specs.Char.{digit_value, is_ascii_digit}
+use Rattle.std.specs.Char.{is_ascii_digit}
 use Rattle.std.specs.List.{list_all}
 use Rattle.std.specs.Str.{bytes_eq}
 use Rattle.std.specs.Str.Parse.{digits_value, digits_value_after}
-use Rattle.std.proofs.Math.Nat.{pow-suc}
-use Rattle.std.proofs.Math.Seq.{drop-cons}
 use Rattle.std.proofs.lemmas.Bool.{and_parts, and_from, ltb-true, lt-ltb}
-use Rattle.std.proofs.lemmas.Bool.Decides.{nat_tests}
-use Rattle.std.proofs.lemmas.List.{drop_all}
 use Rattle.std.proofs.lemmas.Fmt.{decimal_digit, decimal_nonempty, first_decimal, digits_decimal, digits_value-decimal, decimal-digits_value, length-decimal-le}
 use Rattle.std.proofs.lemmas.Slice.Eq.{bytes_eq-Decides}
 use Rattle.std.proofs.lemmas.Str.Parse.{IsNumeralModel, numerals_by_value}
@@ -94,56 +90,8 @@ number_valued text value some first digits is = go (nat_lt value 65536) refl
 
 -- ---- digit by digit
 
-digit_value_is : (c : ℕ) → is_ascii_digit c ≡ true → digit_value c ≡ c - 48
-digit_value_is c h = grind (arith, nat_tests, h)
-
-pub from_zero : (c : ℕ) → is_ascii_digit c ≡ true → 48 ≤ c
-from_zero c h = grind (arith, nat_tests, h)
-
-pub to_nine : (c : ℕ) → is_ascii_digit c ≡ true → c ≤ 57
-to_nine c h = grind (arith, nat_tests, h)
-
 -- what is left leads to the same number
 pub record Leads (i value : ℕ) (text : List ℕ) : Type 0 where
   pub small : value < 10 ^ i
   pub digits : list_all is_ascii_digit text ≡ list_all is_ascii_digit (drop i text)
   pub same : digits_value 10 text ≡ digits_value_after 10 value (drop i text)
-
-pub leads_none : (text : List ℕ) → Leads 0 0 text
-leads_none text = record { small = omega arith; digits = refl; same = refl }
-
-pub next_at : (i : ℕ) (text : List ℕ) → i < length text → drop i text ≡ get_or text i 0 ∷ drop (i + 1) text
-next_at i text within = drop-cons text i 0 within ∙ ap (λ n. get_or text i 0 ∷ drop n text) (sym (add-one i))
-
-pub leads_on : (i value : ℕ) (text : List ℕ) → Leads i value text → i < length text → is_ascii_digit (get_or text i 0) ≡ true
-    → Leads (i + 1) (10 * value + (get_or text i 0 - 48)) text
-leads_on i value text leads within digit =
-    let c = get_or text i 0 in
-    let high = to_nine c digit in
-    let more : 10 ^ (i + 1) ≡ 10 ^ i * 10 = ap (λ n. 10 ^ n) (add-one i) ∙ pow-suc 10 i in
-    let sum : value * 10 + (c - 48) ≡ 10 * value + (c - 48) = omega arith in
-    record {
-      small = omega (arith, leads.small, more, high);
-      digits = leads.digits ∙ ap (list_all is_ascii_digit) (next_at i text within) ∙ ap (λ b. b && list_all is_ascii_digit (drop (i + 1) text)) digit;
-      same =
-          leads.same ∙ ap (digits_value_after 10 value) (next_at i text within)
-          ∙ ap (λ n. digits_value_after 10 (value * 10 + n) (drop (i + 1) text)) (digit_value_is c digit)
-          ∙ ap (λ n. digits_value_after 10 n (drop (i + 1) text)) sum;
-    }
-
-pub leads_off : (i value : ℕ) (text : List ℕ) → Leads i value text → i < length text → is_ascii_digit (get_or text i 0) ≡ false → list_all is_ascii_digit text ≡ false
-leads_off i value text leads within other =
-    leads.digits ∙ ap (list_all is_ascii_digit) (next_at i text within) ∙ ap (λ b. b && list_all is_ascii_digit (drop (i + 1) text)) other
-
-pub leads_end : (i value : ℕ) (text : List ℕ) → Leads i value text → length text ≤ i → (list_all is_ascii_digit text ≡ true) × (digits_value 10 text ≡ value)
-leads_end i value text leads past =
-    (leads.digits ∙ ap (list_all is_ascii_digit) (drop_all i text past), leads.same ∙ ap (digits_value_after 10 value) (drop_all i text past))
-
--- before the last of five digits
-pub leads_few : (i value : ℕ) → value < 10 ^ i → i < 5 → value < 10000
-leads_few zero value h k = omega (arith, h)
-leads_few (suc zero) value h k = omega (arith, h)
-leads_few (suc (suc zero)) value h k = omega (arith, h)
-leads_few (suc (suc (suc zero))) value h k = omega (arith, h)
-leads_few (suc (suc (suc (suc zero)))) value h k = omega (arith, h)
-leads_few (suc (suc (suc (suc (suc i))))) value h k = absurd (omega arith)

@@ -1,5 +1,5 @@
 -- The words behind a command, one after another.
-use Rattle.std.proofs.Common.{◌≡◌, ◌∙◌, ◌≤◌, ℕ, Bool, true, false, List, [], ◌∷◌, Option, Some, None, ap, refl, sym, subst, arith, decimal}
+use Rattle.std.proofs.Common.{◌≡◌, ◌∙◌, ◌≤◌, ◌<◌, ℕ, Bool, true, false, List, [], ◌∷◌, Option, Some, None, ap, refl, sym, subst, arith, decimal}
 use Rattle.std.specs.Prelude.{cond, option_and_then, is_some, unwrap_or, IfSome}
 use Rattle.std.specs.List.{find, flat_map}
 use Rattle.std.specs.Str.{bytes_eq}
@@ -7,12 +7,12 @@ use Rattle.std.proofs.lemmas.Option.{same_Some}
 use Rattle.std.proofs.lemmas.Slice.Eq.{bytes_eq-Decides}
 use Rattle.x25_settings.specs.declared.options.Chosen.{Chosen}
 use Rattle.x25_settings.specs.declared.options.Flag.{Flag}
-use Rattle.x25_settings.specs.declared.options.Flag.TheVariants.{Down, Events, Long, Loose, Manners, SaySizes, Tap, Strict, Wide}
+use Rattle.x25_settings.specs.declared.options.Flag.TheVariants.{Clock, Down, Events, Long, Loose, Manners, SaySizes, Tap, Strict, Wide}
 use Rattle.x25_settings.specs.declared.options.Kind.{Kind}
 use Rattle.x25_settings.specs.declared.options.Numbered.{Numbered}
-use Rattle.x25_settings.specs.declared.options.Numbered.TheVariants.{Window, Tries, Channels}
-use Rattle.x25_settings.specs.Options.Choosing.{number_in, flags, flag_in, numbered_in, put_flag, put_fresh, put_read, put_text, put_number, chosen_in}
-use Rattle.x25_settings.specs.Options.{Choice, flag, number, flag_word, word_of, most_of, words_of, nothing, chosen_flag, with_flag, chosen_number, with_number, takes, has, IsInRange, IsOpen, Leads, settled, Choose, AreInRange}
+use Rattle.x25_settings.specs.declared.options.Numbered.TheVariants.{Window, Tries, Channels, T1, T3, T20, T21, T22, T23}
+use Rattle.x25_settings.specs.Options.Choosing.{number_in, flags, flag_in, numbers, numbered_in, put_flag, put_fresh, put_read, put_text, put_number, chosen_in}
+use Rattle.x25_settings.specs.Options.{Choice, flag, number, flag_word, word_of, least_of, most_of, words_of, nothing, chosen_flag, with_flag, chosen_number, with_number, takes, has, IsInRange, IsOpen, Leads, settled, Choose, AreInRange}
 use Rattle.x25_settings.proofs.NumberLemmas.{number_found, number_read}
 
 -- ---- a word among some
@@ -29,6 +29,7 @@ word_found {X} spell word (y ∷ ys) x e = go (bytes_eq word (spell y)) refl (wo
 -- ---- the words of options
 
 is_flag : (x : Flag) → flag_in (flag_word x) ≡ Some x
+is_flag Clock = refl
 is_flag Down = refl
 is_flag Events = refl
 is_flag Long = refl
@@ -43,18 +44,36 @@ no_flag : (x : Numbered) → flag_in (word_of x) ≡ None
 no_flag Window = refl
 no_flag Tries = refl
 no_flag Channels = refl
+no_flag T1 = refl
+no_flag T3 = refl
+no_flag T20 = refl
+no_flag T21 = refl
+no_flag T22 = refl
+no_flag T23 = refl
 
 is_numbered : (x : Numbered) → numbered_in (word_of x) ≡ Some x
 is_numbered Window = refl
 is_numbered Tries = refl
 is_numbered Channels = refl
+is_numbered T1 = refl
+is_numbered T3 = refl
+is_numbered T20 = refl
+is_numbered T21 = refl
+is_numbered T22 = refl
+is_numbered T23 = refl
 
-few : (x : Numbered) → most_of x ≤ 255
+few : (x : Numbered) → most_of x < 4294967296
 few Window = omega arith
 few Tries = omega arith
 few Channels = omega arith
+few T1 = omega arith
+few T3 = omega arith
+few T20 = omega arith
+few T21 = omega arith
+few T22 = omega arith
+few T23 = omega arith
 
-within : (x : Numbered) (o : Option ℕ) (default : ℕ) → 1 ≤ default → default ≤ most_of x → IfSome o (IsInRange x) → (1 ≤ unwrap_or o default) × (unwrap_or o default ≤ most_of x)
+within : (x : Numbered) (o : Option ℕ) (default : ℕ) → least_of x ≤ default → default ≤ most_of x → IfSome o (IsInRange x) → (least_of x ≤ unwrap_or o default) × (unwrap_or o default ≤ most_of x)
 within x None default low high h = (low, high)
 within x (Some n) default low high h = h
 
@@ -127,24 +146,24 @@ module _ (kind : Kind) where
   numbers_found : (c d : Chosen) (word text : List ℕ) → put_number kind c word text ≡ Some d → Numbers c d word text
   numbers_found c d word text e = by_option (numbered_in word) refl e
     where
-      by_before : (x : Numbered) (n : ℕ) (before : Option ℕ) → numbered_in word ≡ Some x → has kind x ≡ true → number_in (most_of x) text ≡ Some n → chosen_number c x ≡ before
-          → put_fresh c x n before ≡ Some d → Numbers c d word text
-      by_before x n None is there reads fresh e = let found = number_found (most_of x) text n reads in record {
+      by_before : (x : Numbered) (n : ℕ) (before : Option ℕ) → numbered_in word ≡ Some x → has kind x ≡ true → number_in (least_of x) (most_of x) text ≡ Some n
+          → chosen_number c x ≡ before → put_fresh c x n (is_some before) ≡ Some d → Numbers c d word text
+      by_before x n None is there reads fresh e = let found = number_found (least_of x) (most_of x) text n reads in record {
         option = x;
         value = n;
-        word_is = word_found word_of word (Window ∷ Tries ∷ Channels ∷ []) x is;
+        word_is = word_found word_of word numbers x is;
         text_is = found.2;
         is_open = (there, fresh, (found.0, found.1));
         gives = sym (same_Some _ _ e);
       }
       by_before x n (Some m) is there reads fresh e = absurd (cc)
 
-      by_read : (x : Numbered) (read : Option ℕ) → numbered_in word ≡ Some x → has kind x ≡ true → number_in (most_of x) text ≡ read → put_read c x read ≡ Some d → Numbers c d word text
+      by_read : (x : Numbered) (read : Option ℕ) → numbered_in word ≡ Some x → has kind x ≡ true → number_in (least_of x) (most_of x) text ≡ read → put_read c x read ≡ Some d → Numbers c d word text
       by_read x None is there reads e = absurd (cc)
       by_read x (Some n) is there reads e = by_before x n (chosen_number c x) is there reads refl e
 
-      by_command : (x : Numbered) (there : Bool) → numbered_in word ≡ Some x → has kind x ≡ there → cond there (put_read c x (number_in (most_of x) text)) None ≡ Some d → Numbers c d word text
-      by_command x true is there e = by_read x (number_in (most_of x) text) is there refl e
+      by_command : (x : Numbered) (there : Bool) → numbered_in word ≡ Some x → has kind x ≡ there → cond there (put_read c x (number_in (least_of x) (most_of x) text)) None ≡ Some d → Numbers c d word text
+      by_command x true is there e = by_read x (number_in (least_of x) (most_of x) text) is there refl e
       by_command x false is there e = absurd (cc)
 
       by_option : (o : Option Numbered) → numbered_in word ≡ o → put_text kind c text o ≡ Some d → Numbers c d word text
@@ -205,9 +224,9 @@ module _ (kind : Kind) where
   puts_number c x n fresh =
       let small = few x in
       ap (put_text kind c (decimal n)) (is_numbered x)
-      ∙ ap (λ b. cond b (put_read c x (number_in (most_of x) (decimal n))) None) fresh.0
-      ∙ ap (put_read c x) (number_read (most_of x) n (omega arith) fresh.2.0 fresh.2.1)
-      ∙ ap (put_fresh c x n) fresh.1
+      ∙ ap (λ b. cond b (put_read c x (number_in (least_of x) (most_of x) (decimal n))) None) fresh.0
+      ∙ ap (put_read c x) (number_read (least_of x) (most_of x) n small fresh.2.0 fresh.2.1)
+      ∙ ap (λ o. put_fresh c x n (is_some o)) fresh.1
 
   read_again : (choices : List Choice) (c end : Chosen) → Leads kind c choices end → chosen_in kind c (flat_map words_of choices) ≡ Some end
   read_again [] c end e = nothing_left c [] refl ∙ ap (λ d. Some d) (sym e)
@@ -232,6 +251,7 @@ module _ (kind : Kind) where
     channels : IfSome c.channels (IsInRange Channels)
 
   flag_keeps : (x : Flag) (c : Chosen) → IsKept c → IsKept (with_flag c x)
+  flag_keeps Clock c kept = record { k = kept.k; n2 = kept.n2; channels = kept.channels }
   flag_keeps Down c kept = record { k = kept.k; n2 = kept.n2; channels = kept.channels }
   flag_keeps Events c kept = record { k = kept.k; n2 = kept.n2; channels = kept.channels }
   flag_keeps Long c kept = record { k = kept.k; n2 = kept.n2; channels = kept.channels }
@@ -246,6 +266,12 @@ module _ (kind : Kind) where
   number_keeps Window n c range kept = record { k = range; n2 = kept.n2; channels = kept.channels }
   number_keeps Tries n c range kept = record { k = kept.k; n2 = range; channels = kept.channels }
   number_keeps Channels n c range kept = record { k = kept.k; n2 = kept.n2; channels = range }
+  number_keeps T1 n c range kept = record { k = kept.k; n2 = kept.n2; channels = kept.channels }
+  number_keeps T3 n c range kept = record { k = kept.k; n2 = kept.n2; channels = kept.channels }
+  number_keeps T20 n c range kept = record { k = kept.k; n2 = kept.n2; channels = kept.channels }
+  number_keeps T21 n c range kept = record { k = kept.k; n2 = kept.n2; channels = kept.channels }
+  number_keeps T22 n c range kept = record { k = kept.k; n2 = kept.n2; channels = kept.channels }
+  number_keeps T23 n c range kept = record { k = kept.k; n2 = kept.n2; channels = kept.channels }
 
   keeps : (choices : List Choice) (c end : Chosen) → IsKept c → Leads kind c choices end → IsKept end
   keeps [] c end kept e = subst IsKept (sym e) kept

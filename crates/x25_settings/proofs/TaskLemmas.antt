@@ -1,6 +1,6 @@
 -- What the words of the command line say.
 use Rattle.std.proofs.Common.{◌≡◌, ◌∙◌, ℕ, Bool, true, false, List, [], ◌∷◌, Option, Some, None, ap, refl, sym, subst, codes}
-use Rattle.std.specs.Prelude.{cond, option_map}
+use Rattle.std.specs.Prelude.{cond, option_and_then, option_map}
 use Rattle.std.specs.Str.{bytes_eq}
 use Rattle.std.proofs.lemmas.Slice.Eq.{bytes_eq-Decides}
 use Rattle.std.proofs.lemmas.Option.{same_Some}
@@ -13,8 +13,8 @@ use Rattle.x25_settings.specs.declared.options.Place.{Place}
 use Rattle.x25_settings.specs.declared.options.Simulation.{Simulation}
 use Rattle.x25_settings.specs.declared.words.Task.{Task}
 use Rattle.x25_settings.specs.declared.words.Task.TheVariants.{Decode, Vectors, Sim, Station, Judge, Deframe, Frame}
-use Rattle.x25_settings.specs.Options.Choosing.{chosen_in, read_decoding, read_framing, read_judging, read_place, read_simulation, place_behind, end_in, deframe_in, vectors_in, task_behind, task_in}
-use Rattle.x25_settings.specs.Options.{nothing, decoded, judged, placed, simulated, settled, end_word, JudgingIsInRange}
+use Rattle.x25_settings.specs.Options.Choosing.{chosen_in, read_decoding, read_framing, read_judging, read_place, read_simulation, place_behind, place_of, end_in, deframe_in, vectors_in, task_behind, task_in}
+use Rattle.x25_settings.specs.Options.{nothing, decoded, fits_clock, judged, placed, simulated, settled, end_word, JudgingIsInRange}
 use Rattle.x25_settings.specs.Options as options
 use Rattle.x25_settings.specs.Words.{AreInRange, ChooseBehind, Say}
 use Rattle.x25_settings.proofs.ChoiceLemmas.{found, in_range, read, word_found}
@@ -46,8 +46,9 @@ again words (Decode d) say = again_behind (λ rest. codes "decode" ∷ rest) kin
 again words Vectors e = ap task_in e
 again words (Sim s) say = again_behind (λ rest. codes "sim" ∷ rest) kind.Sim words simulated (λ s. Sim s) s (λ rest. refl) say
 again words (Station p) say =
-    again_behind (λ rest. codes "station" ∷ end_word p.end ∷ rest) kind.Station words (placed p.end) (λ p. Station p) p
-    (λ rest. ap (λ o. option_map (λ p. Station p) (place_behind rest o)) (again_end p.end)) say
+    ap task_in say.words_are ∙ ap (λ o. option_map (λ p. Station p) (place_behind say.rest o)) (again_end p.end)
+    ∙ ap (λ o. option_map (λ p. Station p) (option_and_then (place_of p.end) o)) (read kind.Station say.rest say.end say.choose)
+    ∙ ap (λ b. option_map (λ p. Station p) (cond b (Some (placed p.end say.end)) None)) say.is.1 ∙ ap (λ p. Some (Station p)) (sym say.is.0)
 again words (Judge g) say = again_behind (λ rest. codes "judge" ∷ rest) kind.Judge words judged (λ g. Judge g) g (λ rest. refl) say
 again words (Deframe end) e = ap task_in e ∙ ap (option_map (λ end. Deframe end)) (again_end end)
 again words (Frame loose) say = again_behind (λ rest. codes "frame" ∷ rest) kind.Frame words (λ (c : Chosen). c.loose) (λ loose. Frame loose) loose (λ rest. refl) say
@@ -92,19 +93,21 @@ found_station word (next ∷ rest) task is e = by_end (end_in next) refl e
 
     by_end : (o : Option End) → end_in next ≡ o → option_map (λ p. Station p) (place_behind rest o) ≡ Some task → Say (word ∷ next ∷ rest) task
     by_end None reads e = absurd (cc)
-    by_end (Some end) reads e = found_behind_front (front end) kind.Station (word ∷ next ∷ rest) rest (placed end) (λ p. Station p) task (placed_says end)
-        (ap (λ w. w ∷ next ∷ rest) is ∙ ap (λ n. codes "station" ∷ n ∷ rest) (end_found next end reads)) (chosen_in kind.Station nothing rest) refl e
+    by_end (Some end) reads e =
+        by_chosen (chosen_in kind.Station nothing rest) refl e
       where
-        placed_says : (end : End) (p : Place) → ChooseBehind (front end) kind.Station (word ∷ next ∷ rest) (λ c. p ≡ placed end c) → Say (word ∷ next ∷ rest) (Station p)
-        placed_says end p say =
-            let same : end ≡ p.end = sym (ap (λ (p : Place). p.end) say.is) in
-            record {
-              rest = say.rest;
-              end = say.end;
-              words_are = say.words_are ∙ ap (λ (end : End). front end say.rest) same;
-              choose = say.choose;
-              is = say.is ∙ ap (λ (end : End). placed end say.end) same;
-            }
+        words_are : word ∷ next ∷ rest ≡ front end rest
+        words_are = ap (λ w. w ∷ next ∷ rest) is ∙ ap (λ n. codes "station" ∷ n ∷ rest) (end_found next end reads)
+
+        by_clock : (c : Chosen) (fits : Bool) → chosen_in kind.Station nothing rest ≡ Some c → fits_clock c ≡ fits → option_map (λ p. Station p) (cond fits (Some (placed end c)) None) ≡ Some task
+            → Say (word ∷ next ∷ rest) task
+        by_clock c true reads fits e =
+            given (word ∷ next ∷ rest) (Station (placed end c)) task e (record { rest = rest; end = c; words_are = words_are; choose = found kind.Station rest c reads; is = (refl, fits) })
+        by_clock c false reads fits e = absurd (cc)
+
+        by_chosen : (o : Option Chosen) → chosen_in kind.Station nothing rest ≡ o → option_map (λ p. Station p) (option_and_then (place_of end) o) ≡ Some task → Say (word ∷ next ∷ rest) task
+        by_chosen None reads e = absurd (cc)
+        by_chosen (Some c) reads e = by_clock c (fits_clock c) reads refl e
 
 found_judge : (word : List ℕ) (words : List (List ℕ)) (task : Task) → word ≡ codes "judge" → option_map (λ g. Judge g) (read_judging words) ≡ Some task → Say (word ∷ words) task
 found_judge word words task is e =
@@ -155,7 +158,7 @@ pub within : (words : List (List ℕ)) (task : Task) → Say words task → AreI
 within words (Decode d) say = tt
 within words Vectors say = tt
 within words (Sim s) say = subst (λ (s : Simulation). options.AreInRange s.station) (sym say.is) (in_range kind.Sim say.rest say.end say.choose)
-within words (Station p) say = subst (λ (p : Place). options.AreInRange p.station) (sym say.is) (in_range kind.Station say.rest say.end say.choose)
+within words (Station p) say = subst (λ (p : Place). options.AreInRange p.station) (sym say.is.0) (in_range kind.Station say.rest say.end say.choose)
 within words (Judge g) say = subst JudgingIsInRange (sym say.is) (in_range kind.Judge say.rest say.end say.choose).0
 within words (Deframe end) say = tt
 within words (Frame loose) say = tt

@@ -1,6 +1,6 @@
 -- The commands that have options, the words behind them, and what plain ones say (profile).
-use Rattle.std.specs.Prelude.{◌≡◌, ◌≤◌, ℕ, Bool, true, false, List, [], ◌∷◌, Option, Some, None, unwrap_or, codes}
-use Rattle.std.specs.Prelude.{decimal}
+use Rattle.std.specs.Prelude.{◌≡◌, ◌≤◌, ℕ, Bool, true, false, ◌||◌, not, List, [], ◌∷◌, Option, Some, None, unwrap_or}
+use Rattle.std.specs.Prelude.{is_some, if◌then◌else◌, codes, decimal}
 use Rattle.std.specs.List.{flat_map}
 use Rattle.x25_settings.specs.declared.options.Decoding.{Decoding}
 use Rattle.x25_settings.specs.declared.options.Simulation.{Simulation}
@@ -9,17 +9,20 @@ use Rattle.x25_settings.specs.declared.options.End.{End}
 use Rattle.x25_settings.specs.declared.options.End.TheVariants.{Dte, Dce}
 use Rattle.x25_settings.specs.declared.options.Judging.{Judging}
 use Rattle.x25_settings.specs.declared.options.Place.{Place}
+use Rattle.x25_settings.specs.declared.options.GivenTimes.{GivenTimes}
 use Rattle.x25_settings.specs.declared.options.Chosen.{Chosen}
 use Rattle.x25_settings.specs.declared.options.Flag.{Flag}
-use Rattle.x25_settings.specs.declared.options.Flag.TheVariants.{Down, Events, Long, Loose, Manners, SaySizes, Tap}
-use Rattle.x25_settings.specs.declared.options.Flag.TheVariants.{Strict, Wide}
+use Rattle.x25_settings.specs.declared.options.Flag.TheVariants.{Clock, Down, Events, Long, Loose, Manners}
+use Rattle.x25_settings.specs.declared.options.Flag.TheVariants.{SaySizes, Tap, Strict, Wide}
 use Rattle.x25_settings.specs.declared.options.Kind.{Kind}
 use Rattle.x25_settings.specs.declared.options.Kind.TheVariants.{Decode, Sim, Station, Judge, Frame}
 use Rattle.x25_settings.specs.declared.options.Numbered.{Numbered}
-use Rattle.x25_settings.specs.declared.options.Numbered.TheVariants.{Window, Tries, Channels}
+use Rattle.x25_settings.specs.declared.options.Numbered.TheVariants.{Window, Tries, Channels, T1, T3, T20, T21}
+use Rattle.x25_settings.specs.declared.options.Numbered.TheVariants.{T22, T23}
 pub mod Choosing
 
 abbrev pub flag_word : Flag → List ℕ
+flag_word Clock = codes "--clock"
 flag_word Down = codes "--down"
 flag_word Events = codes "--events"
 flag_word Long = codes "--long"
@@ -34,6 +37,12 @@ abbrev pub word_of : Numbered → List ℕ
 word_of Window = codes "--k"
 word_of Tries = codes "--n2"
 word_of Channels = codes "--channels"
+word_of T1 = codes "--t1"
+word_of T3 = codes "--t3"
+word_of T20 = codes "--t20"
+word_of T21 = codes "--t21"
+word_of T22 = codes "--t22"
+word_of T23 = codes "--t23"
 
 -- which command has which option
 abbrev pub takes : Kind → Flag → Bool
@@ -41,9 +50,11 @@ takes Decode Long = true
 takes Decode Loose = true
 takes Decode Wide = true
 takes Decode flag = false
+takes Sim Clock = false
 takes Sim Manners = false
 takes Sim Strict = false
 takes Sim flag = true
+takes Station Clock = true
 takes Station Long = true
 takes Station SaySizes = true
 takes Station Wide = true
@@ -59,24 +70,28 @@ takes Frame flag = false
 
 abbrev pub has : Kind → Numbered → Bool
 has Decode option = false
-has Sim option = true
+has Sim Window = true
+has Sim Tries = true
+has Sim Channels = true
+has Sim option = false
 has Station option = true
 has Judge Window = true
-has Judge Tries = false
-has Judge Channels = false
+has Judge option = false
 has Frame option = false
 
--- the most that it may be; the least is 1
+-- the least that it may be; a time of 0 is for ever
+abbrev pub least_of : Numbered → ℕ
+least_of Window = 1
+least_of Tries = 1
+least_of Channels = 1
+least_of time = 0
+
+-- the most that it may be; of a time, in milliseconds, a day
 abbrev pub most_of : Numbered → ℕ
 most_of Window = 7
 most_of Tries = 255
 most_of Channels = 16
-
--- what it is where nothing is said
-abbrev pub default_of : Numbered → ℕ
-default_of Window = 7
-default_of Tries = 10
-default_of Channels = 1
+most_of time = 86400000
 
 -- an option, with its number where it has one
 pub data Choice : Type 0 where
@@ -87,8 +102,12 @@ abbrev pub words_of : Choice → List (List ℕ)
 words_of (flag x) = flag_word x ∷ []
 words_of (number x n) = word_of x ∷ decimal n ∷ []
 
+abbrev pub no_times : GivenTimes
+no_times = record { t1 = None; t3 = None; t20 = None; t21 = None; t22 = None; t23 = None }
+
 abbrev pub nothing : Chosen
 nothing = record {
+  clock = false;
   down = false;
   events = false;
   long = false;
@@ -101,14 +120,22 @@ nothing = record {
   k = None;
   n2 = None;
   channels = None;
+  times = no_times;
 }
 
 abbrev pub chosen_number : Chosen → Numbered → Option ℕ
 chosen_number c Window = c.k
 chosen_number c Tries = c.n2
 chosen_number c Channels = c.channels
+chosen_number c T1 = c.times.t1
+chosen_number c T3 = c.times.t3
+chosen_number c T20 = c.times.t20
+chosen_number c T21 = c.times.t21
+chosen_number c T22 = c.times.t22
+chosen_number c T23 = c.times.t23
 
 abbrev pub chosen_flag : Chosen → Flag → Bool
+chosen_flag c Clock = c.clock
 chosen_flag c Down = c.down
 chosen_flag c Events = c.events
 chosen_flag c Long = c.long
@@ -120,6 +147,7 @@ chosen_flag c Strict = c.strict
 chosen_flag c Wide = c.wide
 
 abbrev pub with_flag : Chosen → Flag → Chosen
+with_flag c Clock = record c { clock = true }
 with_flag c Down = record c { down = true }
 with_flag c Events = record c { events = true }
 with_flag c Long = record c { long = true }
@@ -134,13 +162,19 @@ abbrev pub with_number : Chosen → Numbered → ℕ → Chosen
 with_number c Window n = record c { k = Some n }
 with_number c Tries n = record c { n2 = Some n }
 with_number c Channels n = record c { channels = Some n }
+with_number c T1 n = record c { times = record c.times { t1 = Some n } }
+with_number c T3 n = record c { times = record c.times { t3 = Some n } }
+with_number c T20 n = record c { times = record c.times { t20 = Some n } }
+with_number c T21 n = record c { times = record c.times { t21 = Some n } }
+with_number c T22 n = record c { times = record c.times { t22 = Some n } }
+with_number c T23 n = record c { times = record c.times { t23 = Some n } }
 
 abbrev pub with_choice : Chosen → Choice → Chosen
 with_choice c (flag x) = with_flag c x
 with_choice c (number x n) = with_number c x n
 
 abbrev pub IsInRange : Numbered → ℕ → Type 0
-IsInRange x n = (1 ≤ n) × (n ≤ most_of x)
+IsInRange x n = (least_of x ≤ n) × (n ≤ most_of x)
 
 -- the command has the option, it wasn't chosen before, and its number is in its range
 abbrev pub IsOpen : Kind → Chosen → Choice → Type 0
@@ -152,18 +186,15 @@ abbrev pub Leads : Kind → Chosen → List Choice → Chosen → Type 0
 Leads kind c [] end = end ≡ c
 Leads kind c (choice ∷ choices) end = IsOpen kind c choice × Leads kind (with_choice c choice) choices end
 
-abbrev pub chosen_or_default : Chosen → Numbered → ℕ
-chosen_or_default c x = unwrap_or (chosen_number c x) (default_of x)
-
 -- the defaults for the rest
 abbrev pub settled : Chosen → StationOptions
 settled c = record {
   long = c.long;
   say_sizes = c.say_sizes;
   wide = c.wide;
-  k = chosen_or_default c Window;
-  n2 = chosen_or_default c Tries;
-  channels = chosen_or_default c Channels;
+  k = unwrap_or c.k 7;
+  n2 = unwrap_or c.n2 10;
+  channels = unwrap_or c.channels 1;
 }
 
 abbrev pub simulated : Chosen → Simulation
@@ -172,8 +203,18 @@ simulated c = record { down = c.down; tap = c.tap; events = c.events; loose = c.
 abbrev pub decoded : Chosen → Decoding
 decoded c = record { long = c.long; loose = c.loose; wide = c.wide }
 
+abbrev pub has_times : GivenTimes → Bool
+has_times x = is_some x.t1 || (is_some x.t3 || (is_some x.t20 || (is_some x.t21 || (is_some x.t22 || is_some x.t23))))
+
+-- times are given with a clock alone
+abbrev pub fits_clock : Chosen → Bool
+fits_clock c = c.clock || not (has_times c.times)
+
+abbrev pub clock_of : Chosen → Option GivenTimes
+clock_of c = if c.clock then Some c.times else None
+
 abbrev pub placed : End → Chosen → Place
-placed end c = record { end = end; station = settled c }
+placed end c = record { end = end; station = settled c; clock = clock_of c }
 
 abbrev pub judged : Chosen → Judging
 judged c = record {
@@ -182,7 +223,7 @@ judged c = record {
   manners = c.manners;
   strict = c.strict;
   wide = c.wide;
-  k = chosen_or_default c Window;
+  k = unwrap_or c.k 7;
 }
 
 -- these words choose this behind a command

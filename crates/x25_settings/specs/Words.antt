@@ -1,11 +1,12 @@
 -- The plain words of the command line, and what they say (profile).
-use Rattle.std.specs.Prelude.{◌≡◌, ℕ, List, [], ◌∷◌, codes}
+use Rattle.std.specs.Prelude.{◌≡◌, ℕ, true, List, [], ◌∷◌, codes}
 use Rattle.x25_settings.specs.declared.options.Chosen.{Chosen}
 use Rattle.x25_settings.specs.declared.options.Kind.{Kind}
 use Rattle.x25_settings.specs.declared.options.Kind.TheVariants as kind
 use Rattle.x25_settings.specs.declared.words.Task.{Task}
 use Rattle.x25_settings.specs.declared.words.Task.TheVariants.{Decode, Vectors, Sim, Station, Judge, Deframe, Frame}
-use Rattle.x25_settings.specs.Options.{Choose, decoded, end_word, judged, placed, simulated, JudgingIsInRange}
+use Rattle.x25_settings.specs.Options.{Choose, decoded, end_word, fits_clock, judged, placed, simulated}
+use Rattle.x25_settings.specs.Options.{JudgingIsInRange}
 use Rattle.x25_settings.specs.Options as options
 pub mod SettingsError
 
@@ -24,7 +25,7 @@ Say words (Decode d) = ChooseBehind (λ rest. codes "decode" ∷ rest) kind.Deco
 Say words Vectors = words ≡ codes "vectors" ∷ []
 Say words (Sim s) = ChooseBehind (λ rest. codes "sim" ∷ rest) kind.Sim words (λ c. s ≡ simulated c)
 Say words (Station p) = ChooseBehind (λ rest. codes "station" ∷ end_word p.end ∷ rest) kind.Station words
-    (λ c. p ≡ placed p.end c)
+    (λ c. (p ≡ placed p.end c) × (fits_clock c ≡ true))
 Say words (Judge g) = ChooseBehind (λ rest. codes "judge" ∷ rest) kind.Judge words (λ c. g ≡ judged c)
 Say words (Deframe end) = words ≡ codes "deframe" ∷ end_word end ∷ []
 Say words (Frame loose) = ChooseBehind (λ rest. codes "frame" ∷ rest) kind.Frame words (λ c. loose ≡ c.loose)

@@ -1,11 +1,13 @@
 //! The commands that have options, and the words behind them.
-ghost use Rattle.std.specs.Prelude.{◌≡◌, ◌<◌, ◌↔◌, ◌∷◌, [], IfSome, MatchOption, IsTrue, decimal, map, length};
+ghost use Rattle.std.specs.Prelude.{◌≡◌, ◌≤◌, ◌<◌, ◌↔◌, ◌∷◌, [], IfSome, MatchOption, IsTrue, decimal, is_some};
+ghost use Rattle.std.specs.Prelude.{map, length};
 ghost use Rattle.std.specs.Str.{bytes_eq};
 ghost use Rattle.x25_settings.specs.Options.Choosing.{chosen_in, end_in, flag_in, number_in, numbered_in, put_flag};
 ghost use Rattle.x25_settings.specs.Options.Choosing.{put_number, read_decoding, read_framing};
 ghost use Rattle.x25_settings.specs.Options.Choosing.{read_judging as judging_in};
 ghost use Rattle.x25_settings.specs.Options.Choosing.{read_place as place_in, read_simulation as simulation_in};
-ghost use Rattle.x25_settings.specs.Options.{default_of, has, most_of, nothing, settled, takes};
+ghost use Rattle.x25_settings.specs.Options.{chosen_number, clock_of, fits_clock as clock_fits, has, has_times};
+ghost use Rattle.x25_settings.specs.Options.{least_of, most_of, nothing, settled, takes, with_number};
 
 use itoa::Buffer;
 use std::convert::AsStr;
@@ -60,12 +62,25 @@ pub enum End {
     Dce,
 }
 
+/// The timers of a clock, in milliseconds, 0 for never; `None` is as long as is usual at that end.
+#[derive(Clone, Copy, Debug, PartialEq, Eq)]
+pub struct GivenTimes {
+    pub t1: Option<u32>,
+    pub t3: Option<u32>,
+    pub t20: Option<u32>,
+    pub t21: Option<u32>,
+    pub t22: Option<u32>,
+    pub t23: Option<u32>,
+}
+
 /// What `station` is run with.
 #[derive(Clone, Copy, Debug, PartialEq, Eq)]
 pub struct Place {
     /// The end at which the station is.
     pub end: End,
     pub station: StationOptions,
+    /// The station has a clock, and what its timers are.
+    pub clock: Option<GivenTimes>,
 }
 
 /// What `judge` is run with.
@@ -98,6 +113,7 @@ pub(crate) enum Kind {
 /// The options that are one word.
 #[derive(Clone, Copy)]
 enum Flag {
+    Clock,
     Down,
     Events,
     Long,
@@ -115,7 +131,20 @@ pub(crate) enum Numbered {
     Window,
     Tries,
     Channels,
+    T1,
+    T3,
+    T20,
+    T21,
+    T22,
+    T23,
 }
+
+/// What is so where no option says it: the window, the tries and the channels.
+const WINDOW: u8 = 7;
+
+const TRIES: u8 = 10;
+
+const CHANNELS: u8 = 1;
 
 impl Kind {
     /// Whether the command has an option that is one word.
@@ -123,6 +152,7 @@ impl Kind {
         ensures { result ≡ takes self flag }
     {
         match flag {
+            Flag::Clock => matches!(self, Kind::Station),
             Flag::Down | Flag::Events | Flag::Tap => matches!(self, Kind::Sim),
             Flag::Long | Flag::Wide => !matches!(self, Kind::Frame),
             Flag::Loose => !matches!(self, Kind::Station),
@@ -138,6 +168,7 @@ impl Kind {
         match option {
             Numbered::Window => matches!(self, Kind::Sim | Kind::Station | Kind::Judge),
             Numbered::Tries | Numbered::Channels => matches!(self, Kind::Sim | Kind::Station),
+            _ => matches!(self, Kind::Station),
         }
     }
 }
@@ -149,44 +180,66 @@ impl Numbered {
             Numbered::Window => "k",
             Numbered::Tries => "n2",
             Numbered::Channels => "channels",
+            Numbered::T1 => "t1",
+            Numbered::T3 => "t3",
+            Numbered::T20 => "t20",
+            Numbered::T21 => "t21",
+            Numbered::T22 => "t22",
+            Numbered::T23 => "t23",
         }
     }
 
-    /// The most that the number may be; the least is 1.
-    pub(crate) fn most(self) -> u8
+    /// The least that the number may be.
+    pub(crate) fn least(self) -> u32
+        ensures { result ≡ least_of self }
+    {
+        match self {
+            Numbered::Window | Numbered::Tries | Numbered::Channels => 1,
+            _ => 0,
+        }
+    }
+
+    /// The most that it may be.
+    pub(crate) fn most(self) -> u32
         ensures { result ≡ most_of self }
     {
         match self {
             Numbered::Window => 7,
             Numbered::Tries => 255,
             Numbered::Channels => 16,
+            _ => 86_400_000,
         }
     }
 
-    /// The number where the option isn't there.
-    fn usual(self) -> u8
-        ensures { result ≡ default_of self }
+    /// The number where the option isn't there, in decimal; none where the end decides.
+    pub(crate) fn usual_text<'a>(self) -> Option<&'a str> {
+        match self {
+            Numbered::Window => Some("7"),
+            Numbered::Tries => Some("10"),
+            Numbered::Channels => Some("1"),
+            _ => None,
+        }
+    }
+}
+
+impl GivenTimes {
+    /// Whether one is given.
+    fn are_given(self) -> bool
+        ensures { result ≡ has_times self }
     {
-        match self {
-            Numbered::Window => 7,
-            Numbered::Tries => 10,
-            Numbered::Channels => 1,
-        }
-    }
-
-    /// The same in decimal.
-    pub(crate) fn usual_text<'a>(self) -> &'a str {
-        match self {
-            Numbered::Window => "7",
-            Numbered::Tries => "10",
-            Numbered::Channels => "1",
-        }
+        self.t1.is_some()
+            || self.t3.is_some()
+            || self.t20.is_some()
+            || self.t21.is_some()
+            || self.t22.is_some()
+            || self.t23.is_some()
     }
 }
 
 /// What was chosen so far.
 #[derive(Clone, Copy)]
 struct Chosen {
+    clock: bool,
     down: bool,
     events: bool,
     long: bool,
@@ -199,6 +252,7 @@ struct Chosen {
     k: Option<u8>,
     n2: Option<u8>,
     channels: Option<u8>,
+    times: GivenTimes,
 }
 
 pub(crate) fn is(text: &str, word: &str) -> bool
@@ -210,7 +264,9 @@ pub(crate) fn is(text: &str, word: &str) -> bool
 fn flag_option(word: &str) -> Option<Flag>
     ensures { result ≡ flag_in word.now }
 {
-    if is(word, "--down") {
+    if is(word, "--clock") {
+        Some(Flag::Clock)
+    } else if is(word, "--down") {
         Some(Flag::Down)
     } else if is(word, "--events") {
         Some(Flag::Events)
@@ -242,6 +298,18 @@ fn numbered_option(word: &str) -> Option<Numbered>
         Some(Numbered::Tries)
     } else if is(word, "--channels") {
         Some(Numbered::Channels)
+    } else if is(word, "--t1") {
+        Some(Numbered::T1)
+    } else if is(word, "--t3") {
+        Some(Numbered::T3)
+    } else if is(word, "--t20") {
+        Some(Numbered::T20)
+    } else if is(word, "--t21") {
+        Some(Numbered::T21)
+    } else if is(word, "--t22") {
+        Some(Numbered::T22)
+    } else if is(word, "--t23") {
+        Some(Numbered::T23)
     } else {
         None
     }
@@ -260,19 +328,20 @@ pub(crate) fn end_word(word: &str) -> Option<End>
 }
 
 /// Whether the text writes the number in decimal without leading zeros.
-fn is_decimal(n: u8, text: &str) -> bool
+fn is_decimal(n: u32, text: &str) -> bool
     ensures { IsTrue result ↔ (decimal n ≡ text.now) }
 {
     let mut buffer = Buffer::new();
     buffer.format(n) == text
 }
 
-/// The number from 1 to `most` that the text writes in decimal without leading zeros.
-fn number(text: &str, most: u8) -> Option<u8>
-    ensures { result ≡ number_in most text.now }
+/// The number from `least` to `most` that the text writes in decimal without leading zeros.
+fn number(text: &str, least: u32, most: u32) -> Option<u32>
+    ensures number { result ≡ number_in least most text.now }
+    ensures range { IfSome result (λ n. n ≤ most) }
 {
-    let n = text.parse::<u8>().ok()?;
-    if 1 <= n && n <= most && is_decimal(n, text) {
+    let n = text.parse::<u32>().ok()?;
+    if least <= n && n <= most && is_decimal(n, text) {
         Some(n)
     } else {
         None
@@ -288,6 +357,10 @@ impl Chosen {
             return None;
         }
         match flag {
+            Flag::Clock if !self.clock => Some(Chosen {
+                clock: true,
+                ..self
+            }),
             Flag::Down if !self.down => Some(Chosen { down: true, ..self }),
             Flag::Events if !self.events => Some(Chosen {
                 events: true,
@@ -316,6 +389,76 @@ impl Chosen {
         }
     }
 
+    /// Whether an option that has a number was chosen.
+    fn has_number(self, option: Numbered) -> bool
+        ensures { result ≡ is_some (chosen_number self option) }
+    {
+        match option {
+            Numbered::Window => self.k.is_some(),
+            Numbered::Tries => self.n2.is_some(),
+            Numbered::Channels => self.channels.is_some(),
+            Numbered::T1 => self.times.t1.is_some(),
+            Numbered::T3 => self.times.t3.is_some(),
+            Numbered::T20 => self.times.t20.is_some(),
+            Numbered::T21 => self.times.t21.is_some(),
+            Numbered::T22 => self.times.t22.is_some(),
+            Numbered::T23 => self.times.t23.is_some(),
+        }
+    }
+
+    /// With the number of an option, which is in its range.
+    fn numbered(self, option: Numbered, n: u32) -> Chosen
+        requires { n ≤ most_of option }
+        ensures { result ≡ with_number self option n }
+    {
+        let times = self.times;
+        match option {
+            Numbered::Window => Chosen {
+                k: Some(n as u8),
+                ..self
+            },
+            Numbered::Tries => Chosen {
+                n2: Some(n as u8),
+                ..self
+            },
+            Numbered::Channels => Chosen {
+                channels: Some(n as u8),
+                ..self
+            },
+            Numbered::T1 => self.with_times(GivenTimes {
+                t1: Some(n),
+                ..times
+            }),
+            Numbered::T3 => self.with_times(GivenTimes {
+                t3: Some(n),
+                ..times
+            }),
+            Numbered::T20 => self.with_times(GivenTimes {
+                t20: Some(n),
+                ..times
+            }),
+            Numbered::T21 => self.with_times(GivenTimes {
+                t21: Some(n),
+                ..times
+            }),
+            Numbered::T22 => self.with_times(GivenTimes {
+                t22: Some(n),
+                ..times
+            }),
+            Numbered::T23 => self.with_times(GivenTimes {
+                t23: Some(n),
+                ..times
+            }),
+        }
+    }
+
+    /// With other times.
+    fn with_times(self, times: GivenTimes) -> Chosen
+        ensures { result ≡ record self { times = times } }
+    {
+        Chosen { times, ..self }
+    }
+
     /// With an option of a command and its number, where it wasn't chosen before.
     fn with_number(self, kind: Kind, word: &str, text: &str) -> Option<Chosen>
         ensures { result ≡ put_number kind self word.now text.now }
@@ -324,26 +467,11 @@ impl Chosen {
         if !kind.has(option) {
             return None;
         }
-        let n = number(text, option.most())?;
-        match option {
-            Numbered::Window => match self.k {
-                None => Some(Chosen { k: Some(n), ..self }),
-                Some(_) => None,
-            },
-            Numbered::Tries => match self.n2 {
-                None => Some(Chosen {
-                    n2: Some(n),
-                    ..self
-                }),
-                Some(_) => None,
-            },
-            Numbered::Channels => match self.channels {
-                None => Some(Chosen {
-                    channels: Some(n),
-                    ..self
-                }),
-                Some(_) => None,
-            },
+        let n = number(text, option.least(), option.most())?;
+        if self.has_number(option) {
+            None
+        } else {
+            Some(self.numbered(option, n))
         }
     }
 
@@ -355,10 +483,24 @@ impl Chosen {
             long: self.long,
             say_sizes: self.say_sizes,
             wide: self.wide,
-            k: self.k.unwrap_or(Numbered::Window.usual()),
-            n2: self.n2.unwrap_or(Numbered::Tries.usual()),
-            channels: self.channels.unwrap_or(Numbered::Channels.usual()),
+            k: self.k.unwrap_or(WINDOW),
+            n2: self.n2.unwrap_or(TRIES),
+            channels: self.channels.unwrap_or(CHANNELS),
         }
+    }
+
+    /// Whether times are given with a clock alone.
+    fn fits_clock(self) -> bool
+        ensures { result ≡ clock_fits self }
+    {
+        self.clock || !self.times.are_given()
+    }
+
+    /// The times of the clock, where there is one.
+    fn clock(self) -> Option<GivenTimes>
+        ensures { result ≡ clock_of self }
+    {
+        if self.clock { Some(self.times) } else { None }
     }
 }
 
@@ -379,6 +521,7 @@ fn choose<S: AsStr>(kind: Kind, words: &[S]) -> Option<Chosen>
     ensures { result ≡ chosen_in kind nothing (map S.text words.now) }
 {
     let mut chosen = Chosen {
+        clock: false,
         down: false,
         events: false,
         long: false,
@@ -391,6 +534,14 @@ fn choose<S: AsStr>(kind: Kind, words: &[S]) -> Option<Chosen>
         k: None,
         n2: None,
         channels: None,
+        times: GivenTimes {
+            t1: None,
+            t3: None,
+            t20: None,
+            t21: None,
+            t22: None,
+            t23: None,
+        },
     };
     let mut rest = words;
     while let Some((word, after)) = split_word(rest) {
@@ -462,8 +613,12 @@ pub(crate) fn read_place<S: AsStr>(words: &[S]) -> Option<Place>
     let (word, behind) = split_word(words)?;
     let end = end_word(word)?;
     let chosen = choose(Kind::Station, behind)?;
+    if !chosen.fits_clock() {
+        return None;
+    }
     Some(Place {
         end,
         station: chosen.with_defaults(),
+        clock: chosen.clock(),
     })
 }

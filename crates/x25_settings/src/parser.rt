@@ -60,6 +60,38 @@ const CHANNELS: Word = Word::Number(
     "The number of logical channels: 1 to 16",
 );
 
+const CLOCK: Word = Word::Flag(
+    "clock",
+    "Read the time in lines `@ MS`, in milliseconds, and ask for what is due then",
+);
+
+const T1: Word = Word::Number(
+    Numbered::T1,
+    "With a clock, what T1 is, in milliseconds as all of these: 0 (never) to 86400000 [default: 3000]",
+);
+
+const T3: Word = Word::Number(Numbered::T3, "T3 [default: 60000]");
+
+const T20: Word = Word::Number(
+    Numbered::T20,
+    "T20, of a DCE T10 [default: 180000, of a DCE 60000]",
+);
+
+const T21: Word = Word::Number(
+    Numbered::T21,
+    "T21, of a DCE T11 [default: 200000, of a DCE 180000]",
+);
+
+const T22: Word = Word::Number(
+    Numbered::T22,
+    "T22, of a DCE T12 [default: 180000, of a DCE 60000]",
+);
+
+const T23: Word = Word::Number(
+    Numbered::T23,
+    "T23, of a DCE T13 [default: 180000, of a DCE 60000]",
+);
+
 static COMMANDS: [Row; 7] = [
     Row {
         name: "decode",
@@ -119,6 +151,13 @@ static COMMANDS: [Row; 7] = [
             WINDOW,
             TRIES,
             CHANNELS,
+            CLOCK,
+            T1,
+            T3,
+            T20,
+            T21,
+            T22,
+            T23,
         ],
     },
     Row {
@@ -165,40 +204,61 @@ static COMMANDS: [Row; 7] = [
 /// The words for an end.
 const ENDS: &[&str] = &["dte", "dce"];
 
-/// An option with a number.
-fn number_option<'a>(alloc: Global, option: Numbered) -> Arg<'a> {
-    Arg::new(alloc, option.name())
+/// An option with a number; one that the end decides else is a time of a clock.
+fn number_option<'a>(alloc: Global, option: Numbered) -> Result<Arg<'a>, AllocError> {
+    let range = i64::from(option.least())..=i64::from(option.most());
+    let arg = Arg::new(alloc, option.name())
         .long(option.name())
-        .value_name("N")
-        .value_parser(value_parser!(u8).range(1..=i64::from(option.most())))
-        .default_value(option.usual_text())
+        .value_parser(value_parser!(u32).range(range));
+    match option.usual_text() {
+        Some(text) => Ok(arg.value_name("N").default_value(text)),
+        None => arg.value_name("MS").requires_arg("clock"),
+    }
 }
 
 impl Word {
     /// The same for the parser.
-    fn arg<'a>(self, alloc: Global) -> Arg<'a> {
+    fn arg<'a>(self, alloc: Global) -> Result<Arg<'a>, AllocError> {
         match self {
-            Word::Flag(name, help) => Arg::new(alloc, name)
-                .long(name)
-                .action(ArgAction::SetTrue)
-                .help(help),
-            Word::Number(option, help) => number_option(alloc, option).help(help),
-            Word::End(help) => Arg::new(alloc, "END")
-                .required(true)
-                .value_parser(ENDS)
-                .help(help),
+            Word::Flag(name, help) => Ok(
+                Arg::new(alloc, name)
+                    .long(name)
+                    .action(ArgAction::SetTrue)
+                    .help(help),
+            ),
+            Word::Number(option, help) => Ok(number_option(alloc, option)?.help(help)),
+            Word::End(help) => Ok(
+                Arg::new(alloc, "END")
+                    .required(true)
+                    .value_parser(ENDS)
+                    .help(help),
+            ),
         }
     }
 }
 
-/// A command that was made, with one more word. What is left over at a refusal, here and below, is let go of by one
-/// call: as its scope ends a body does it part by part, which the prover follows.
+/// A command, with one more word where that was made. What is left over at a refusal, here and below, is let go of by
+/// one call: as its scope ends a body does it part by part, which the prover follows.
+fn with_word<'a>(
+    command: Command<'a>,
+    arg: Result<Arg<'a>, AllocError>,
+) -> Result<Command<'a>, AllocError> {
+    match arg {
+        Ok(arg) => command.arg(arg),
+        Err(error) => {
+            drop(command);
+            Err(error)
+        }
+    }
+}
+
+/// A command that was made, with one more word.
 fn with_arg<'a>(
     command: Result<Command<'a>, AllocError>,
-    arg: Arg<'a>,
+    arg: Result<Arg<'a>, AllocError>,
 ) -> Result<Command<'a>, AllocError> {
     match command {
-        Ok(command) => command.arg(arg),
+        Ok(command) => with_word(command, arg),
         Err(error) => {
             drop(arg);
             Err(error)

@@ -1,6 +1,7 @@
 use std::test::Fail;
 use x25_settings::{
-    Decoding, End, Judging, Place, SettingsError, Simulation, StationOptions, Task, settings,
+    Decoding, End, GivenTimes, Judging, Place, SettingsError, Simulation, StationOptions, Task,
+    settings,
 };
 
 const DEFAULTS: StationOptions = StationOptions {
@@ -38,12 +39,34 @@ fn simulation(down: bool, tap: bool, station: StationOptions) -> Task {
 }
 
 fn place(end: End, station: StationOptions) -> Task {
-    Task::Station(Place { end, station })
+    Task::Station(Place {
+        end,
+        station,
+        clock: None,
+    })
+}
+
+const USUAL_TIMES: GivenTimes = GivenTimes {
+    t1: None,
+    t3: None,
+    t20: None,
+    t21: None,
+    t22: None,
+    t23: None,
+};
+
+/// A station with a clock.
+fn timed(end: End, times: GivenTimes) -> Task {
+    Task::Station(Place {
+        end,
+        station: DEFAULTS,
+        clock: Some(times),
+    })
 }
 
 #[test]
 fn takes_plain_words_alone(rt: HostRuntime) {
-    let plain: [(&[&str], Task); 31] = [
+    let plain: [(&[&str], Task); 34] = [
         (&["decode"], Task::Decode(PLAIN_DECODING)),
         (
             &["decode", "--long"],
@@ -255,6 +278,34 @@ fn takes_plain_words_alone(rt: HostRuntime) {
                 },
             ),
         ),
+        (&["station", "dce", "--clock"], timed(End::Dce, USUAL_TIMES)),
+        (
+            &["station", "dte", "--t1", "0", "--clock", "--t3", "86400000"],
+            timed(
+                End::Dte,
+                GivenTimes {
+                    t1: Some(0),
+                    t3: Some(86_400_000),
+                    ..USUAL_TIMES
+                },
+            ),
+        ),
+        (
+            &[
+                "station", "dte", "--clock", "--t23", "23", "--t22", "22", "--t21", "21", "--t20",
+                "20",
+            ],
+            timed(
+                End::Dte,
+                GivenTimes {
+                    t20: Some(20),
+                    t21: Some(21),
+                    t22: Some(22),
+                    t23: Some(23),
+                    ..USUAL_TIMES
+                },
+            ),
+        ),
     ];
     for (words, task) in plain {
         let Ok(answer) = settings(rt.alloc(), words) else {
@@ -267,7 +318,7 @@ fn takes_plain_words_alone(rt: HostRuntime) {
 
 #[test]
 fn takes_no_other_words(rt: HostRuntime) {
-    let others: [&[&str]; 61] = [
+    let others: [&[&str]; 67] = [
         &[],
         &["dec"],
         &["decode", "decode"],
@@ -329,6 +380,12 @@ fn takes_no_other_words(rt: HostRuntime) {
         &["decode", "--k", "3"],
         &["vectors", "--loose"],
         &["deframe", "dte", "--loose"],
+        &["station", "dte", "--t1", "5"],
+        &["station", "dte", "--clock", "--clock"],
+        &["station", "dte", "--clock", "--t1", "86400001"],
+        &["station", "dte", "--clock", "--t1", "1", "--t1", "1"],
+        &["station", "dte", "--clock", "--t21", "-1"],
+        &["sim", "--clock"],
     ];
     for words in others {
         let is_usage = matches!(settings(rt.alloc(), words), Err(SettingsError::Usage(_)));

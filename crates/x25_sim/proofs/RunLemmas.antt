@@ -1,5 +1,5 @@
 -- What is written for a script is the transcript of a run.
-use Rattle.std.proofs.Common.{◌≡◌, ◌∙◌, inl, inr, ℕ, zero, suc, nat_lt, nat_le, Bool, true, false, List, [], ◌∷◌, ◌++◌, length, drop, map, remove, Option, Some, None, append_assoc, ap, sym, subst, refl}
+use Rattle.std.proofs.Common.{◌≡◌, ◌∙◌, inl, inr, ℕ, zero, suc, nat_lt, nat_le, Bool, true, false, List, [], ◌∷◌, ◌++◌, length, drop, map, remove, Option, Some, None, append_assoc, ap, sym, subst, refl, arith, ◌<◌}
 use Rattle.std.proofs.lemmas.List.{append-nil}
 use Rattle.std.proofs.Math.Seq.{drop-append_seam}
 use Rattle.std.specs.Prelude.{cond, ◌&&◌}
@@ -125,18 +125,21 @@ no_frames_marked false e = refl
 
 -- ---- what users hand down is octets
 
+zeros : (0 < 256) × (0 < 256)
+zeros = (omega arith, omega arith)
+
 handed : (asked : PlainCommand) → AsksInOctets asked → ActsInOctets (Commands (command_asked asked))
 handed (call called calling user None) h = h
 handed (call called calling user (Some four)) h = h
 handed (accept channel None) h = tt
 handed (accept channel (Some four)) h = tt
-handed (clear channel) h = tt
+handed (clear channel) h = zeros
 handed (send channel q user) h = h
 handed (interrupt channel user) h = h
-handed (reset channel) h = tt
+handed (reset channel) h = zeros
 handed (ready channel) h = tt
 handed (not_ready channel) h = tt
-handed restart h = tt
+handed restart h = zeros
 handed pull h = tt
 handed connect h = tt
 handed disconnect h = tt

@@ -1,17 +1,19 @@
 -- What a station answers to a command, by what its layer answers.
 use Rattle.std.proofs.Common.{◌≡◌, ℕ, List, [], map, Option, Some, None, Result, Ok, Err, Bool, true, false, ◌==◌, if◌then◌else◌, inl, refl, ap, sym, subst, ◌∙◌}
 use Rattle.x25_circuit.specs.Params.{Proposal}
-use Rattle.x25_packet.specs.Packet.{PlainPacket}
+use Rattle.x25_packet.specs.Packet.{PlainPacket, restart}
 use Rattle.x25_link.specs.Station.{Settings as LinkSettings, LinkStation, Side}
 use Rattle.x25_link.specs.Link.{alone}
 use Rattle.x25_link.specs.code.FitsLink.{ShownLink, LinkState, FitsWhole, FitsLink, up_at, waits_of, after_put_to}
+use Rattle.x25_circuit.specs.declared.error.CircuitError.TheVariants as circuit_error
+use Rattle.x25_circuit.specs.Cause.{may_restart_for}
 use Rattle.x25_circuit.specs.Circuit.{Circuit}
 use Rattle.x25_circuit.specs.Calling as circuit
 use Rattle.x25_layer.specs.declared.layer.Layer as layer_code
 use Rattle.x25_layer.specs.declared.error.LayerError.{LayerError}
 use Rattle.x25_layer.specs.declared.error.LayerError.TheVariants as layer_error
-use Rattle.x25_layer.specs.Layer.{LayerSettings, Layer, is_channel}
-use Rattle.x25_layer.specs.Calls.{LayerRequest, Asks, Dials, Restarts, PullsAll, LayerOutcome, Accepted, Declined, layer_outcome, outcome_in, outcome_ready, outcome_on, where_room, if_at_once, puts_at_once, dialled, free_channel}
+use Rattle.x25_layer.specs.Layer.{LayerSettings, Layer, is_channel, restarting_from}
+use Rattle.x25_layer.specs.Calls.{LayerRequest, Asks, Dials, Restarts, PullsAll, LayerOutcome, Accepted, Declined, layer_outcome, outcome_in, outcome_ready, outcome_on, where_room, if_at_once, puts_at_once, dialled, restarted_for, free_channel}
 use Rattle.x25_layer.specs.Rounds.{LinkView, Putting, Answered, Went, Refuses, went, calls, refusal_of}
 use Rattle.x25_layer.specs.code.OverLink as over
 use Rattle.x25_layer.specs.code.OverLink.{after_all, LayerGives, LinkGives}
@@ -111,7 +113,11 @@ ready_named c full restarts circuits (Asks h request) = test (is_channel c.chann
     test true = at_once_named (puts_at_once request) full _ (on_named restarts circuits h (circuit.outcome c.circuit (circuits h) request))
     test false = refl
 ready_named c full restarts circuits (Dials called calling user proposal) = dialled_named c full restarts circuits (free_channel c.circuit.role circuits c.channels) called calling user proposal
-ready_named c full restarts circuits Restarts = room_named full _ tt
+ready_named c full restarts circuits (Restarts cause diagnostic) = room_named full (restarted_for c.circuit.role restarts circuits cause diagnostic) (test (may_restart_for c.circuit.role cause))
+  where
+    test : (b : Bool) → IsNamedOutcome (if b then Accepted (restarting_from restarts circuits) (Some (restart cause diagnostic)) else Declined (layer_error.Circuit circuit_error.BadParameter))
+    test true = tt
+    test false = refl
 ready_named c full restarts circuits PullsAll = tt
 
 outcome_named : (c : LayerSettings) (full busy : Bool) (restarts : ℕ) (circuits : ℕ → Circuit) (request : LayerRequest) → IsNamedOutcome (outcome_in c full busy restarts circuits request)

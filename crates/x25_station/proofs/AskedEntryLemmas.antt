@@ -82,8 +82,9 @@ dialled_entry view c l h called calling user proposal p is free =
     of_dial : Layer → Option ℕ → List StationEntry
     of_dial next o = of_channels (entry_of_dial next o (circuit.Calls called calling user proposal))
 
-pub restart_entry : (view : LinkView) (c : LayerSettings) (l : Layer) (p : Putting) → calls view c l Restarts ≡ Went p → entries_of_outcome c l Restarts (layer_outcome c (view.waits [] == 256) l Restarts) ≡ restart_asked ∷ []
-restart_entry view c l p is = entries_are view c l Restarts p (accepted view c l Restarts p is)
+pub restart_entry : (view : LinkView) (c : LayerSettings) (l : Layer) (cause diagnostic : ℕ) (p : Putting) → calls view c l (Restarts cause diagnostic) ≡ Went p
+    → entries_of_outcome c l (Restarts cause diagnostic) (layer_outcome c (view.waits [] == 256) l (Restarts cause diagnostic)) ≡ restart_asked cause diagnostic ∷ []
+restart_entry view c l cause diagnostic p is = entries_are view c l (Restarts cause diagnostic) p (accepted view c l (Restarts cause diagnostic) p is)
 
 pub pull_entry : (view : LinkView) (c : LayerSettings) (l : Layer) (p : Putting) → calls view c l PullsAll ≡ Went p → entries_of_outcome c l PullsAll (layer_outcome c (view.waits [] == 256) l PullsAll) ≡ []
 pull_entry view c l p is = entries_are view c l PullsAll p (accepted view c l PullsAll p is)

@@ -22,7 +22,8 @@ use Rattle.x25_circuit.specs.laws.ParamsLaws.{FieldIsAllowed, SaidIsAllowed, Ans
 use Rattle.x25_circuit.specs.Circuit.{Settings, Talk, Circuit, talking, outgoing, incoming, waits}
 use Rattle.x25_circuit.specs.Notice.{CallRequest, connected}
 use Rattle.x25_circuit.specs.Hearing as table
-use Rattle.x25_circuit.specs.Calling.{Outcome, Done, Refused, Request, Calls, Accepts, Clears, Sends, Interrupts, Resets, SaysReady, SaysNotReady, does, is_address_text, call_sent, may_call, call_in, accept_with, accept_in, clear_in, send_in, interrupt_in, reset_in, ready_in, outcome, Pulled, pulls_nothing, data_packet, pull_open, pull_in, pulled}
+use Rattle.x25_circuit.specs.Cause.{may_clear_for, may_reset_for}
+use Rattle.x25_circuit.specs.Calling.{Outcome, Done, Refused, Request, Calls, Accepts, Clears, Sends, Interrupts, Resets, SaysReady, SaysNotReady, does, is_address_text, call_sent, may_call, call_in, accept_with, accept_in, clear_with, clear_in, send_in, interrupt_in, reset_in, ready_in, outcome, Pulled, pulls_nothing, data_packet, pull_open, pull_in, pulled}
 use Rattle.x25_station.specs.laws.ReadLaw.{AreOctets, AsksOctets}
 use Rattle.x25_station.proofs.FieldLemmas.{Fits}
 
@@ -311,17 +312,17 @@ module _ (long_data : Bool) where
   accept_in_fits laws x Resetting answer f = tt
   accept_in_fits laws x Clearing answer f = tt
 
-  zeros : (0 < 256) × (0 < 256)
-  zeros = (omega arith, omega arith)
+  clear_with_fits : (c : Settings) (x : Circuit) (cause diagnostic : ℕ) → (cause < 256) × (diagnostic < 256) → OutcomeFits (clear_with c x cause diagnostic)
+  clear_with_fits c x cause diagnostic octets = outcome_if (may_clear_for c.role cause) (does x Clearing default_params false (clear 1 cause diagnostic)) (Refused error.BadParameter) (λ may. ((tt, refl), (tt, octets))) tt
 
-  clear_in_fits : (x : Circuit) (s : State) → OutcomeFits (clear_in x s)
-  clear_in_fits x Free = tt
-  clear_in_fits x Clearing = tt
-  clear_in_fits x Calling = ((tt, refl), (tt, zeros))
-  clear_in_fits x Arriving = ((tt, refl), (tt, zeros))
-  clear_in_fits x Collision = ((tt, refl), (tt, zeros))
-  clear_in_fits x Open = ((tt, refl), (tt, zeros))
-  clear_in_fits x Resetting = ((tt, refl), (tt, zeros))
+  clear_in_fits : (c : Settings) (x : Circuit) (s : State) (cause diagnostic : ℕ) → (cause < 256) × (diagnostic < 256) → OutcomeFits (clear_in c x s cause diagnostic)
+  clear_in_fits c x Free cause diagnostic octets = tt
+  clear_in_fits c x Clearing cause diagnostic octets = tt
+  clear_in_fits c x Calling cause diagnostic octets = clear_with_fits c x cause diagnostic octets
+  clear_in_fits c x Arriving cause diagnostic octets = clear_with_fits c x cause diagnostic octets
+  clear_in_fits c x Collision cause diagnostic octets = clear_with_fits c x cause diagnostic octets
+  clear_in_fits c x Open cause diagnostic octets = clear_with_fits c x cause diagnostic octets
+  clear_in_fits c x Resetting cause diagnostic octets = clear_with_fits c x cause diagnostic octets
 
   -- of the data packets that an end sends
   outgoing_is : (x : Circuit) → AreTerms (called_terms x.params) × AreTerms (calling_terms x.params) → AreTerms (outgoing x)
@@ -364,14 +365,14 @@ module _ (long_data : Bool) where
   interrupt_in_fits x Resetting user f octets = tt
   interrupt_in_fits x Clearing user f octets = tt
 
-  reset_in_fits : (x : Circuit) (s : State) → CircuitFits x → OutcomeFits (reset_in x s)
-  reset_in_fits x Open f = ((tt, f.1), (tt, zeros))
-  reset_in_fits x Free f = tt
-  reset_in_fits x Calling f = tt
-  reset_in_fits x Arriving f = tt
-  reset_in_fits x Collision f = tt
-  reset_in_fits x Resetting f = tt
-  reset_in_fits x Clearing f = tt
+  reset_in_fits : (c : Settings) (x : Circuit) (s : State) (cause diagnostic : ℕ) → CircuitFits x → (cause < 256) × (diagnostic < 256) → OutcomeFits (reset_in c x s cause diagnostic)
+  reset_in_fits c x Open cause diagnostic f octets = outcome_if (may_reset_for c.role cause) (does x Resetting x.params x.calls (reset 1 cause diagnostic)) (Refused error.BadParameter) (λ may. ((tt, f.1), (tt, octets))) tt
+  reset_in_fits c x Free cause diagnostic f octets = tt
+  reset_in_fits c x Calling cause diagnostic f octets = tt
+  reset_in_fits c x Arriving cause diagnostic f octets = tt
+  reset_in_fits c x Collision cause diagnostic f octets = tt
+  reset_in_fits c x Resetting cause diagnostic f octets = tt
+  reset_in_fits c x Clearing cause diagnostic f octets = tt
 
   ready_in_fits : (x : Circuit) (s : State) (b : Bool) → CircuitFits x → OutcomeFits (ready_in x s b)
   ready_in_fits x Open b f = (f, status_gives b (length x.talk.taken))
@@ -385,10 +386,10 @@ module _ (long_data : Bool) where
   pub outcome_fits : Agreed → (c : Settings) → c.long_data ≡ long_data → (x : Circuit) (request : Request) → CircuitFits x → AsksOctets request → OutcomeFits (outcome c x request)
   outcome_fits laws c same x (Calls called calling user proposal) f octets = call_in_fits laws c same x x.state called calling user proposal octets
   outcome_fits laws c same x (Accepts answer) f octets = accept_in_fits laws x x.state answer f
-  outcome_fits laws c same x Clears f octets = clear_in_fits x x.state
+  outcome_fits laws c same x (Clears cause diagnostic) f octets = clear_in_fits c x x.state cause diagnostic octets
   outcome_fits laws c same x (Sends q user) f octets = send_in_fits laws c x x.state q user f octets
   outcome_fits laws c same x (Interrupts user) f octets = interrupt_in_fits x x.state user f octets
-  outcome_fits laws c same x Resets f octets = reset_in_fits x x.state f
+  outcome_fits laws c same x (Resets cause diagnostic) f octets = reset_in_fits c x x.state cause diagnostic f octets
   outcome_fits laws c same x SaysReady f octets = ready_in_fits x x.state true f
   outcome_fits laws c same x SaysNotReady f octets = ready_in_fits x x.state false f
 

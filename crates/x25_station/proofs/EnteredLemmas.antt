@@ -52,9 +52,9 @@ dialled_enters c l y z s r h called calling user proposal fits layers free enter
     entered p.layer (went_fits h c z _ p (layer_gives (Ok h) c l y z s request fits layers) is) (free_is_channel c.role s.layer.circuits c.channels h free)
     ∙ sym (dialled_entry view lc s.layer h called calling user proposal p is free))
 
-pub restart_enters : (c : Settings) (s : Station) (r : code_step.Step) → map plain_entry r.entries.items ≡ restart_asked ∷ [] → Enters {T = Unit} r (Ok tt) (requests c s Restarts)
-restart_enters c s r entered =
-    enters_did c s.link r (entries_by c s Restarts) (answered_by c s Restarts) (λ p is. entered ∙ sym (restart_entry (view_of (link_settings c) s.link) (layer_settings c) s.layer p is))
+pub restart_enters : (c : Settings) (s : Station) (cause diagnostic : ℕ) (r : code_step.Step) → map plain_entry r.entries.items ≡ restart_asked cause diagnostic ∷ [] → Enters {T = Unit} r (Ok tt) (requests c s (Restarts cause diagnostic))
+restart_enters c s cause diagnostic r entered =
+    enters_did c s.link r (entries_by c s (Restarts cause diagnostic)) (answered_by c s (Restarts cause diagnostic)) (λ p is. entered ∙ sym (restart_entry (view_of (link_settings c) s.link) (layer_settings c) s.layer cause diagnostic p is))
 
 pub pull_enters : (c : Settings) (s : Station) (r : code_step.Step) → map plain_entry r.entries.items ≡ [] → Enters {T = Unit} r (Ok tt) (requests c s PullsAll)
 pull_enters c s r entered =

@@ -42,7 +42,7 @@ asked_entries c l next (Dials called calling user proposal) = by (free_channel c
     by : (o : Option ℕ) → layer_entries (of_channels (entry_of_dial next o (Calls called calling user proposal))) ≡ entry_of_dial next o (Calls called calling user proposal)
     by None = refl
     by (Some h) = refl
-asked_entries c l next Restarts = refl
+asked_entries c l next (Restarts cause diagnostic) = refl
 asked_entries c l next PullsAll = refl
 
 pub asked_notices : (c : LayerSettings) (l next : Layer) (request : LayerRequest) → layer_notices (station_asked c l next request) ≡ []
@@ -52,5 +52,5 @@ asked_notices c l next (Dials called calling user proposal) = by (free_channel c
     by : (o : Option ℕ) → layer_notices (of_channels (entry_of_dial next o (Calls called calling user proposal))) ≡ []
     by None = refl
     by (Some h) = refl
-asked_notices c l next Restarts = refl
+asked_notices c l next (Restarts cause diagnostic) = refl
 asked_notices c l next PullsAll = refl

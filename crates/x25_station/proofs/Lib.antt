@@ -27,7 +27,11 @@ pub mod RoomLemmas
 pub mod ResultLemmas
 pub mod OutcomeLemmas
 pub mod TimerLemmas
+pub mod AwaitLemmas
+pub mod StillLemmas
 pub mod WayOutLemmas
+pub mod UnheardLemmas
+pub mod SettledLemmas
 pub mod DoesLemmas
 pub mod PullLemmas
 pub mod ClockLemmas

@@ -6,11 +6,13 @@ use Rattle.x25_bits.specs.declared.role.Role.TheVariants.{Dte, Dce}
 use Rattle.x25_packet.specs.Packet.{PlainPacket, call, accept, clear, clear_conf, user_data, rr, rnr, interrupt, interrupt_conf, reset, reset_conf, restart, restart_conf}
 use Rattle.x25_packet.specs.laws.ReadingLaw.{ReadsWhatIsSpelled}
 use Rattle.x25_wide.specs.laws.TakingLaw.{TakesWhatIsWritten}
+use Rattle.x25_circuit.specs.declared.error.CircuitError.TheVariants as circuit_error
+use Rattle.x25_circuit.specs.Cause.{may_restart_for}
 use Rattle.x25_circuit.specs.Circuit.{Circuit, begun}
 use Rattle.x25_circuit.specs.Hearing.{answers, cause_at}
 use Rattle.x25_circuit.specs.Calling.{Outcome, Done, Refused, Calls, outcome, pulled}
 use Rattle.x25_layer.specs.Layer.{LayerSettings, Layer, LayerAnswer, is_channel, put_at, packet_on, restarting_from, answers_on, drops, answers_ready, answers_restarting, answers_in, layer_answers, goes_up, restart_cause}
-use Rattle.x25_layer.specs.Calls.{LayerRequest, Asks, Dials, Restarts, PullsAll, LayerOutcome, Accepted, Declined, highest_free, lowest_free, first_of, free_channel, where_room, if_at_once, puts_at_once, outcome_on, dialled, outcome_ready, outcome_in, layer_outcome, layer_pulled}
+use Rattle.x25_layer.specs.Calls.{LayerRequest, Asks, Dials, Restarts, PullsAll, LayerOutcome, Accepted, Declined, highest_free, lowest_free, first_of, free_channel, where_room, if_at_once, puts_at_once, outcome_on, dialled, restarted_for, outcome_ready, outcome_in, layer_outcome, layer_pulled}
 use Rattle.x25_layer.specs.declared.error.LayerError.TheVariants as error
 use Rattle.x25_layer.specs.laws.TwoLayers.{End, TwoLayers, Move, Requests, Pulls, HandsUp, GoesDown, Event, requested, pulled_in, handed_up, moves_in, moves, turned, settings_of, happens, run, started, start}
 use Rattle.x25_layer.specs.laws.PeerJoined.{Joined, our_end, Happens, Ours, Does, Hears, HearsChannel}
@@ -190,7 +192,11 @@ module _ (long_data : Bool) where
           room_fits full (outcome_on restarts circuits h (outcome c.circuit (circuits h) (Calls called calling user proposal)))
           (outcome_on_fits restarts circuits h (outcome c.circuit (circuits h) (Calls called calling user proposal)) (r.0, omega (arith, r.1, few)) all
           (outcome_fits long_data laws c.circuit same (circuits h) (Calls called calling user proposal) (all h) octets))
-  outcome_ready_fits laws c same full restarts circuits Restarts few all octets = room_fits full (Accepted (restarting_from restarts circuits) (Some (restart 0 0))) (begun_fits, (((omega arith, omega arith), on_restart 0 0), tt))
+  outcome_ready_fits laws c same full restarts circuits (Restarts cause diagnostic) few all octets = room_fits full (restarted_for c.circuit.role restarts circuits cause diagnostic) (test (may_restart_for c.circuit.role cause))
+    where
+      test : (b : Bool) → LayerOutcomeFits (if b then Accepted (restarting_from restarts circuits) (Some (restart cause diagnostic)) else Declined (error.Circuit circuit_error.BadParameter))
+      test true = (begun_fits, ((octets, on_restart cause diagnostic), tt))
+      test false = tt
   outcome_ready_fits laws c same full restarts circuits PullsAll few all octets = (all, tt)
 
   layer_outcome_fits : Agreed → (c : LayerSettings) → c.circuit.long_data ≡ long_data → (full : Bool) (l : Layer) (request : LayerRequest) → c.channels ≤ 16 → ChannelsFit l.circuits → RequestsOctets request

@@ -60,9 +60,9 @@ asks_none : (c : LayerSettings) (restarts : ℕ) (circuits : ℕ → Circuit) (h
 asks_none c restarts circuits h (Sends q user) = on_none restarts circuits h (outcome c.circuit (circuits h) (Sends q user)) (send_none c.circuit (circuits h) q user)
 asks_none c restarts circuits h (Calls called calling user proposal) = tt
 asks_none c restarts circuits h (Accepts answer) = tt
-asks_none c restarts circuits h Clears = tt
+asks_none c restarts circuits h (Clears cause diagnostic) = tt
 asks_none c restarts circuits h (Interrupts user) = tt
-asks_none c restarts circuits h Resets = tt
+asks_none c restarts circuits h (Resets cause diagnostic) = tt
 asks_none c restarts circuits h SaysReady = tt
 asks_none c restarts circuits h SaysNotReady = tt
 
@@ -74,7 +74,7 @@ ready_none c restarts circuits (Dials called calling user proposal) = by (free_c
     by : (o : Option ℕ) → PutsNone (dialled c true restarts circuits o called calling user proposal)
     by None = tt
     by (Some h) = tt
-ready_none c restarts circuits Restarts = tt
+ready_none c restarts circuits (Restarts cause diagnostic) = tt
 ready_none c restarts circuits PullsAll = tt
 
 full_none : (c : LayerSettings) (l : Layer) (request : LayerRequest) → PutsNone (layer_outcome c true l request)

@@ -14,10 +14,10 @@ use Rattle.x25_station.specs.code.PlainEntry.{plain_asked}
 pub same_shown : (x y : Circuit) (request : circuit.Request) → x.params ≡ y.params → shown x request ≡ shown y request
 same_shown x y (circuit.Calls called calling user proposal) same = refl
 same_shown x y (circuit.Accepts answer) same = ap (λ (q : Params). circuit.Accepts (Some (in_brief q))) same
-same_shown x y circuit.Clears same = refl
+same_shown x y (circuit.Clears cause diagnostic) same = refl
 same_shown x y (circuit.Sends q user) same = refl
 same_shown x y (circuit.Interrupts user) same = refl
-same_shown x y circuit.Resets same = refl
+same_shown x y (circuit.Resets cause diagnostic) same = refl
 same_shown x y circuit.SaysReady same = refl
 same_shown x y circuit.SaysNotReady same = refl
 
@@ -29,9 +29,9 @@ in_force configured o p q is same = ap (λ (x : Option Params). unwrap_or x q) (
 pub as_asked : (x : Circuit) (a : Asked) → ((p : Params) → a ≡ asked.Accept p → ⊥) → plain_asked a ≡ shown x (plain_asked a)
 as_asked x (asked.Call called calling user params) other = refl
 as_asked x (asked.Accept params) other = absurd (other params refl)
-as_asked x asked.Clear other = refl
+as_asked x (asked.Clear cause diagnostic) other = refl
 as_asked x (asked.Send q user) other = refl
 as_asked x (asked.Interrupt user) other = refl
-as_asked x asked.Reset other = refl
+as_asked x (asked.Reset cause diagnostic) other = refl
 as_asked x asked.Ready other = refl
 as_asked x asked.NotReady other = refl

@@ -256,7 +256,7 @@ told_link : (entries : List StationEntry) → TellsLink entries → tells_link e
 told_link [] told = absurd told
 told_link (link_up ∷ entries) told = refl
 told_link (of_channel entry ∷ entries) told = told_link entries told
-told_link (restart_asked ∷ entries) told = told_link entries told
+told_link (restart_asked cause diagnostic ∷ entries) told = told_link entries told
 told_link (connect_asked ∷ entries) told = told_link entries told
 told_link (disconnect_asked ∷ entries) told = told_link entries told
 told_link (relink_asked ∷ entries) told = told_link entries told

@@ -1,23 +1,21 @@
 -- What leads on where the other end doesn't answer.
-use Rattle.std.proofs.Common.{◌≡◌, ℕ, zero, suc, ◌+◌, List, [], ◌∷◌, ◌++◌, Bool, true, false, if◌then◌else◌, nat_lt, Option, Some, None, refl, sym, ap, subst, ◌∙◌, arith}
+use Rattle.std.proofs.Common.{◌≡◌, zero, suc, [], ◌∷◌, Bool, true, false, if◌then◌else◌, nat_lt, Option, Some, None, refl, sym, ap, ◌∙◌, arith}
 use Rattle.std.proofs.lemmas.Bool.{true≢false, lt-ltb, le-ltb}
-use Rattle.x25_frame.specs.Frame.{PlainFrame, sabm}
 use Rattle.x25_link.specs.declared.error.LinkError.{LinkError}
 use Rattle.x25_link.specs.declared.error.LinkError.TheVariants as error
 use Rattle.x25_link.specs.declared.phase.Phase.{Phase}
 use Rattle.x25_link.specs.declared.phase.Phase.TheVariants.{Down, Waiting, Up, Closed}
-use Rattle.x25_link.specs.declared.phase.Reason.{Reason}
-use Rattle.x25_link.specs.declared.phase.Reason.TheVariants.{Local, Retries}
+use Rattle.x25_link.specs.declared.phase.Reason.TheVariants.{Retries}
 use Rattle.x25_link.specs.Station.{LinkStation, Side, is_up, with_nothing}
 use Rattle.x25_link.specs.Hearing.{Step as LinkStep}
-use Rattle.x25_link.specs.Link.{timer_runs, timer_step, relink_refusal, relink_step, connect_step}
-use Rattle.x25_link.specs.laws.SetUp.{Is, ConnectWaits, TimerWaits, RelinkIsTwoSteps}
+use Rattle.x25_link.specs.Link.{timer_runs, timer_step, relink_refusal, relink_step}
+use Rattle.x25_link.specs.laws.SetUp.{ConnectWaits, TimerWaits, RelinkIsTwoSteps}
 use Rattle.x25_station.specs.Config.{Settings, link_settings}
-use Rattle.x25_station.specs.Entry.{StationEntry, relink_asked, entries_down}
+use Rattle.x25_station.specs.Entry.{relink_asked, entries_down}
 use Rattle.x25_station.specs.Station.{Station}
-use Rattle.x25_station.specs.Step.{Step, Outcome, Did, layer_down, unless, follows, led_by, fires}
-use Rattle.x25_station.specs.laws.WayOutLaw.{IsLeftBehind, RelinkLeadsOn, Fired, once, again, GivesUp, FiringLeadsOn}
-use Rattle.x25_station.proofs.DownLemmas.{downs, relink_down, timer_down}
+use Rattle.x25_station.specs.Step.{Step, Did, unless, follows, led_by, fires}
+use Rattle.x25_station.specs.laws.WayOutLaw.{RelinkLeadsOn, once, again, FiringLeadsOn}
+use Rattle.x25_station.proofs.DownLemmas.{relink_down, timer_down}
 
 refused_none : (p : Phase) → is_up p ≡ true → relink_refusal p ≡ None
 refused_none Down e = absurd (true≢false (sym e))

@@ -28,13 +28,13 @@ abbrev pub command_of : Cmd → Command
 command_of (code.Call called calling user params) =
     Requests (Dials called.now calling.now user.now (in_brief (unwrap_or params default_params)))
 command_of (code.Accept channel params) = Requests (Asks channel (Accepts (answer_in_brief params)))
-command_of (code.Clear channel) = Requests (Asks channel Clears)
+command_of (code.Clear channel cause diagnostic) = Requests (Asks channel (Clears cause diagnostic))
 command_of (code.Send channel q user) = Requests (Asks channel (Sends q user.now))
 command_of (code.Interrupt channel user) = Requests (Asks channel (Interrupts user.now))
-command_of (code.Reset channel) = Requests (Asks channel Resets)
+command_of (code.Reset channel cause diagnostic) = Requests (Asks channel (Resets cause diagnostic))
 command_of (code.Ready channel) = Requests (Asks channel SaysReady)
 command_of (code.NotReady channel) = Requests (Asks channel SaysNotReady)
-command_of code.Restart = Requests Restarts
+command_of (code.Restart cause diagnostic) = Requests (Restarts cause diagnostic)
 command_of code.Pull = Requests PullsAll
 command_of code.Connect = Connects
 command_of code.Disconnect = Disconnects
@@ -58,5 +58,5 @@ request_said says x request = request
 abbrev pub said_by : Bool → Layer → LayerRequest → LayerRequest
 said_by says l (Asks h request) = Asks h (request_said says (l.circuits h) request)
 said_by says l (Dials called calling user proposal) = Dials called calling user (proposal_said says proposal)
-said_by says l Restarts = Restarts
+said_by says l (Restarts cause diagnostic) = Restarts cause diagnostic
 said_by says l PullsAll = PullsAll

@@ -13,7 +13,7 @@ use Rattle.x25_layer.specs.laws.TwoLayers.{entries_asked}
 pub data StationEntry : Type 0 where
   -- what a channel's user asked or was told, under the name of the stretch
   of_channel : (entry : Entry) → StationEntry
-  restart_asked : StationEntry
+  restart_asked : (cause : ℕ) → (diagnostic : ℕ) → StationEntry
   connect_asked : StationEntry
   disconnect_asked : StationEntry
   relink_asked : StationEntry
@@ -85,7 +85,7 @@ abbrev pub station_asked : LayerSettings → Layer → Layer → LayerRequest �
 station_asked c l next (Asks h request) = of_channels (entries_asked c l next (Asks h request))
 station_asked c l next (Dials called calling user proposal) = of_channels
     (entries_asked c l next (Dials called calling user proposal))
-station_asked c l next Restarts = restart_asked ∷ []
+station_asked c l next (Restarts cause diagnostic) = restart_asked cause diagnostic ∷ []
 station_asked c l next PullsAll = []
 
 -- ---- the entries that the layer's own transcript has, and what its user was told

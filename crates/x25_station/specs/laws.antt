@@ -6,3 +6,5 @@ pub mod HoldLaw
 pub mod OctetLaw
 pub mod TimerLaw
 pub mod WayOutLaw
+pub mod UnheardLaw
+pub mod SettledLaw

@@ -128,7 +128,10 @@ fn asked_of(
         Request::Accept { .. } => Ok(Asked::Accept {
             params: Params::default(),
         }),
-        Request::Clear => Ok(Asked::Clear),
+        Request::Clear { cause, diagnostic } => Ok(Asked::Clear {
+            cause: *cause,
+            diagnostic: *diagnostic,
+        }),
         Request::Send { q, user } => Ok(Asked::Send {
             q: *q,
             user: copied_message(alloc, messages, user)?,
@@ -136,7 +139,10 @@ fn asked_of(
         Request::Interrupt { user } => Ok(Asked::Interrupt {
             user: copied(alloc, user)?,
         }),
-        Request::Reset => Ok(Asked::Reset),
+        Request::Reset { cause, diagnostic } => Ok(Asked::Reset {
+            cause: *cause,
+            diagnostic: *diagnostic,
+        }),
         Request::Ready => Ok(Asked::Ready),
         Request::NotReady => Ok(Asked::NotReady),
     }
@@ -186,8 +192,9 @@ impl Station {
     /// with 13 where it is closed, and `Relink` with 12 where it is being set up. The others are refused with 9 where
     /// the link isn't up, then with 40 while a restart is under way; one with a channel then with 42 where it isn't
     /// configured and a call with 41 where no channel is free; then, but for a message, with 10 where 256 packets wait;
-    /// and then as the circuit refuses it, with 30 to 34. Else 70 alone, and 70 may come in place of each of these but
-    /// those of `Pull`. The station is as before then.
+    /// and then as the circuit refuses it, with 30 to 34, and `Restart` with 34 where the user of this end may not give
+    /// its cause. Else 70 alone, and 70 may come in place of each of these but those of `Pull`. The station is as
+    /// before then.
     #[inline(always)]
     pub fn command(&mut self, command: Cmd<'_>, out: &mut Step) -> Result<(), StationError>
         ensures does { Does self.old self.new out.new result (λ c s. commands c s (command_of command.entry)) }
@@ -213,7 +220,18 @@ impl Station {
     {
         match command {
             Cmd::Accept { channel, params } => self.accept(*channel, *params, out),
-            Cmd::Clear { channel } => self.ask(*channel, Request::Clear, out),
+            Cmd::Clear {
+                channel,
+                cause,
+                diagnostic,
+            } => self.ask(
+                *channel,
+                Request::Clear {
+                    cause: *cause,
+                    diagnostic: *diagnostic,
+                },
+                out,
+            ),
             Cmd::Send { channel, q, user } => self.ask(
                 *channel,
                 Request::Send { q: *q, user },
@@ -224,7 +242,18 @@ impl Station {
                 Request::Interrupt { user },
                 out,
             ),
-            Cmd::Reset { channel } => self.ask(*channel, Request::Reset, out),
+            Cmd::Reset {
+                channel,
+                cause,
+                diagnostic,
+            } => self.ask(
+                *channel,
+                Request::Reset {
+                    cause: *cause,
+                    diagnostic: *diagnostic,
+                },
+                out,
+            ),
             Cmd::Ready { channel } => self.ask(*channel, Request::Ready, out),
             Cmd::NotReady { channel } => self.ask(*channel, Request::NotReady, out),
             Cmd::Call {
@@ -236,7 +265,7 @@ impl Station {
                 let params = params.unwrap_or(Params::default());
                 self.call(called, calling, user, params, out)
             }
-            Cmd::Restart => self.restart(out),
+            Cmd::Restart { cause, diagnostic } => self.restart(*cause, *diagnostic, out),
             Cmd::Pull => self.pull_asked(out),
             Cmd::Connect => self.connect_asked(out),
             Cmd::Disconnect => self.disconnect(out),
@@ -402,16 +431,17 @@ impl Station {
     }
 
     // A restart of the packet layer.
-    fn restart(&mut self, out: &mut Step) -> Result<(), StationError>
+    fn restart(&mut self, cause: u8, diagnostic: u8, out: &mut Step) -> Result<(), StationError>
         requires { IsEmpty out.old }
-        ensures { Does self.old self.new out.new result (λ c s. requests c s Restarts) }
+        ensures { Does self.old self.new out.new result (λ c s. requests c s (Restarts cause diagnostic)) }
     {
         steps_keep_bounds();
         holds_few();
         out.reserve()?;
-        match self.layer.restart(&mut self.link) {
+        match self.layer.restart(&mut self.link, cause, diagnostic) {
             Ok(()) => {
-                out.entries.push_reserved(Entry::RestartAsked);
+                out.entries
+                    .push_reserved(Entry::RestartAsked { cause, diagnostic });
                 self.link.swap_frames(&mut out.frames);
                 Ok(())
             }

@@ -18,9 +18,11 @@ pub enum Cmd<'a> {
         channel: u16,
         params: Option<Params>,
     },
-    /// Clears a call.
+    /// Clears a call, with a cause that its end may give and any diagnostic.
     Clear {
         channel: u16,
+        cause: u8,
+        diagnostic: u8,
     },
     /// Sends a message of at most 65,535 octets, with the qualifier `q`.
     Send {
@@ -33,9 +35,11 @@ pub enum Cmd<'a> {
         channel: u16,
         user: &'a [u8],
     },
-    /// Resets a call.
+    /// Resets a call, as above.
     Reset {
         channel: u16,
+        cause: u8,
+        diagnostic: u8,
     },
     /// Tells the other end that this one takes data packets.
     Ready {
@@ -45,8 +49,11 @@ pub enum Cmd<'a> {
     NotReady {
         channel: u16,
     },
-    /// Restarts the packet layer: all calls are cleared.
-    Restart,
+    /// Restarts the packet layer, as above: all calls are cleared.
+    Restart {
+        cause: u8,
+        diagnostic: u8,
+    },
     /// Hands the data packets that wait in the circuits down to the link, as far as that has room: `Station::pull`. It
     /// has no entry.
     Pull,

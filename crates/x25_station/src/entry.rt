@@ -14,7 +14,10 @@ pub enum Entry {
         said: Said,
     },
     /// The user asked for a restart.
-    RestartAsked,
+    RestartAsked {
+        cause: u8,
+        diagnostic: u8,
+    },
     /// The user asked that the link be set up.
     ConnectAsked,
     /// The user asked that the link be disconnected.
@@ -74,7 +77,10 @@ pub enum Asked {
         params: Params,
     },
     /// That the call be cleared.
-    Clear,
+    Clear {
+        cause: u8,
+        diagnostic: u8,
+    },
     /// That a message be sent: its qualifier, and at most 65,535 octets.
     Send {
         q: bool,
@@ -85,7 +91,10 @@ pub enum Asked {
         user: Vec<u8>,
     },
     /// That the call be reset.
-    Reset,
+    Reset {
+        cause: u8,
+        diagnostic: u8,
+    },
     /// That the other end send data packets.
     Ready,
     /// That the other end send no data packets for now.

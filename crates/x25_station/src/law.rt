@@ -8,11 +8,14 @@ ghost use Rattle.x25_station.specs.laws.HoldLaw.{FewWait, FewStand, FewMessages,
 ghost use Rattle.x25_station.specs.laws.OctetLaw.{FewOctets, FewOctetsInAll};
 ghost use Rattle.x25_station.specs.laws.TimerLaw.{BeginsWhereDue, BeginsBehindPull, DeadlineIsTrue, FiringIsTaken};
 ghost use Rattle.x25_station.specs.laws.TimerLaw.{OffIsRefused, PullIsHeeded};
-ghost use Rattle.x25_station.specs.laws.WayOutLaw.{FiringLeadsOn, RelinkLeadsOn};
+ghost use Rattle.x25_station.specs.laws.SettledLaw.{NewIsSettled, SettledAsks, StaysSettled};
+ghost use Rattle.x25_station.specs.laws.UnheardLaw.{UnheardAsksOn};
+ghost use Rattle.x25_station.specs.laws.WayOutLaw.{ClearLeadsOn, FiringLeadsOn, NothingLeadsBack, RelinkLeadsOn};
+ghost use Rattle.x25_station.specs.laws.WayOutLaw.{RestartLeadsOn};
 
 use x25_circuit::values_are_agreed;
 use x25_layer::calls_are_runs;
-use x25_link::{holds_few, notes_what_changes, sets_up_by_rows};
+use x25_link::{comes_to_rest, follows_the_window, holds_few, notes_what_changes, sets_up_by_rows};
 use x25_packet::reading_is_the_grammar;
 use x25_wide::taking_keeps_octets;
 
@@ -93,12 +96,42 @@ pub fn deadlines_are_true()
     ensures due_pulled { BeginsBehindPull }
 {}
 
-/// Where the other end doesn't answer, two steps lead on, whatever it does. A link that is up may be set up anew by
-/// `Relink`, whatever is awaited and whatever waits: LinkDown is told, and UA is awaited, with all tries left. Where UA
-/// is awaited, N2 firings of T1 and one more at most lead to Down, and LinkDown is told.
+/// Where the other end doesn't answer, four steps lead on, whatever it does. A call or a reset that isn't answered may
+/// be cleared, and where clearing isn't confirmed all may be restarted, while fewer than 256 packets wait in the link.
+/// A link that is up may be set up anew by `Relink`, whatever is awaited and whatever waits: LinkDown is told, and UA
+/// is awaited, with all tries left. Where UA is awaited, N2 firings of T1 and one more at most lead to Down, and
+/// LinkDown is told. And no step leads back, whatever comes and whatever is asked: until LinkUp or LinkDown is told,
+/// what a channel awaits is what it did, or fewer of these steps are left.
 pub fn ways_out_lead_on()
+    ensures clear { ClearLeadsOn }
+    ensures restart { RestartLeadsOn }
     ensures relink { RelinkLeadsOn }
     ensures firing { FiringLeadsOn }
+    ensures back { NothingLeadsBack }
 {
+    sets_up_by_rows();
+    notes_what_changes();
+}
+
+/// While nothing is heard of the other end, as no octets come or UA is awaited, T1 runs on, whatever is asked: each
+/// firing of it and each poll takes one of N2 tries, no more is acknowledged, and it runs after each. So at most N2
+/// firings and one more lead to LinkDown, which ends that, as LinkUp does.
+pub fn silence_is_asked()
+    ensures { UnheardAsksOn }
+{
+    sets_up_by_rows();
+}
+
+/// A station whose link is up asks, or its link is at rest: from a new station on, whatever comes and whatever is
+/// asked, nothing is left that its link may send, and the window is sound. So where the link is up T1 runs, or it is at
+/// rest.
+pub fn stations_ask_or_rest()
+    ensures new { NewIsSettled }
+    ensures stays { StaysSettled }
+    ensures asks { SettledAsks }
+{
+    comes_to_rest();
+    follows_the_window();
+    notes_what_changes();
     sets_up_by_rows();
 }

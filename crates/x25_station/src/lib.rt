@@ -22,8 +22,8 @@ pub use config::Cfg;
 pub use entry::{Asked, Entry, Said, Told};
 pub use error::StationError;
 pub use law::{
-    deadlines_are_true, puts_are_readable, puts_beside_peers_are_readable, stations_hold_few,
-    steps_are_joined, steps_keep_bounds, ways_out_lead_on,
+    deadlines_are_true, puts_are_readable, puts_beside_peers_are_readable, silence_is_asked,
+    stations_ask_or_rest, stations_hold_few, steps_are_joined, steps_keep_bounds, ways_out_lead_on,
 };
 pub use station::Station;
 pub use step::{MOST_ENTRIES, MOST_FRAMES, Step};

@@ -96,6 +96,13 @@ impl Station {
         self.link.idle() && !self.link.timer_runs()
     }
 
+    /// Whether it takes packets in all their forms (`Cfg::wide`).
+    pub fn is_wide(&self) -> bool
+        ensures { (c : Settings) (s : State) → FitsStation c self.now s → result ≡ c.wide }
+    {
+        self.manner.wide
+    }
+
     /// Whether the link is being set up: a SABM was sent, and its UA is awaited.
     pub fn awaits_ua(&self) -> bool
         ensures { (c : Settings) (s : State) → FitsStation c self.now s → result ≡ awaits_ua s.link.phase }

@@ -125,7 +125,7 @@ const RR_1: &[u8] = &[0x01, 0x21, 0x14, 0x26];
 const RR_2: &[u8] = &[0x01, 0x41, 0x12, 0x45];
 
 // Nine packets are sent and wait, and a message waits in its circuit behind them until it is pulled.
-static DTE: [Row; 30] = [
+static DTE: [Row; 31] = [
     (1, Act::Nothing, (0, 0, 0, OFF), DOWN),
     (1, Act::T1, (11, 0, 0, OFF), DOWN),
     (1, Act::Pull, (0, 0, 0, OFF), DOWN),
@@ -141,6 +141,7 @@ static DTE: [Row; 30] = [
     (1, Act::T1, (11, 0, 0, OFF), IDLE),
     (1, Act::Take(&[]), (0, 0, 0, OFF), IDLE),
     (1, Act::Ask(BAD_CALL), (34, 0, 0, OFF), IDLE),
+    (1, Act::Ask(BAD_RESTART), (34, 0, 0, OFF), IDLE),
     (1, Act::Ask(CALL), (0, 1, 1, BEGINS), BUSY),
     (1, Act::Take(ACCEPTED), (0, 1, 1, OFF), IDLE_IN_A_CALL),
     (15, Act::Ask(READY), (0, 0, 1, GOES_ON), BUSY_IN_A_CALL),
@@ -157,6 +158,12 @@ static DTE: [Row; 30] = [
     (1, Act::Connect, (13, 0, 0, OFF), DOWN),
     (1, Act::Ask(Cmd::Connect), (13, 0, 0, OFF), DOWN),
 ];
+
+// 7 is a cause of a network.
+const BAD_RESTART: Cmd<'static> = Cmd::Restart {
+    cause: 7,
+    diagnostic: 0,
+};
 
 // Frames of the DTE: SABM, RESTART, CALL, DATA with M=1, RESET and RESET CONFIRMATION.
 
@@ -181,7 +188,11 @@ static DCE: [Row; 12] = [
     (1, Act::Take(RESETS), (0, 2, 1, BEGINS), BUSY_BEHIND_A_RESET),
     (
         1,
-        Act::Ask(Cmd::Reset { channel: 1 }),
+        Act::Ask(Cmd::Reset {
+            channel: 1,
+            cause: 0,
+            diagnostic: 0,
+        }),
         (0, 1, 1, GOES_ON),
         BUSY,
     ),
@@ -241,6 +252,16 @@ fn odd_row(station: &mut Station, out: &mut Step, rows: &[Row]) -> Option<usize>
 fn odd_row_of(alloc: Global, role: Role, rows: &[Row]) -> Result<Option<usize>, StationError> {
     let mut station = station(alloc, role, SETTINGS)?;
     Ok(odd_row(&mut station, &mut Step::new(alloc), rows))
+}
+
+fn is_wide(alloc: Global, wide: bool) -> Result<bool, StationError> {
+    Ok(station(alloc, Role::Dte, Cfg { wide, ..SETTINGS })?.is_wide())
+}
+
+#[test]
+fn says_what_it_takes(rt: HostRuntime) {
+    assert_eq!(rt; is_wide(rt.alloc(), false), Ok(false));
+    assert_eq!(rt; is_wide(rt.alloc(), true), Ok(true));
 }
 
 #[test]

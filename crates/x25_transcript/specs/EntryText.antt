@@ -66,6 +66,13 @@ params_text p =
     else (codes " size=" ++ pair_text p.size_called p.size_calling)
     ++ (codes " win=" ++ pair_text p.win_called p.win_calling)
 
+-- a cause and a diagnostic that were given, each where it isn't 0
+abbrev pub given_number : List ℕ → ℕ → List ℕ
+given_number label n = if n == 0 then [] else label ++ decimal n
+
+abbrev pub given_text : ℕ → ℕ → List ℕ
+given_text cause diagnostic = given_number (codes " cause=") cause ++ given_number (codes " diag=") diagnostic
+
 -- what its user asked
 abbrev pub request_text : ℕ → Name → Request → List ℕ
 request_text channel name (Calls called calling user proposal) = codes "call" ++ stretch_text channel name
@@ -73,11 +80,13 @@ request_text channel name (Calls called calling user proposal) = codes "call" ++
     ++ (codes " calling=" ++ address_text calling) ++ user_text user ++ params_text proposal.params
 request_text channel name (Accepts None) = codes "accept" ++ channel_text channel
 request_text channel name (Accepts (Some answer)) = codes "accept" ++ channel_text channel ++ params_text answer.params
-request_text channel name Clears = codes "clear" ++ channel_text channel
+request_text channel name (Clears cause diagnostic) = codes "clear" ++ channel_text channel
+    ++ given_text cause diagnostic
 request_text channel name (Sends q user) = codes "send" ++ stretch_text channel name ++ (codes " q=" ++ decimal (bit q))
     ++ user_text user
 request_text channel name (Interrupts user) = codes "int" ++ stretch_text channel name ++ user_text user
-request_text channel name Resets = codes "reset" ++ channel_text channel
+request_text channel name (Resets cause diagnostic) = codes "reset" ++ channel_text channel
+    ++ given_text cause diagnostic
 request_text channel name SaysReady = codes "ready" ++ channel_text channel
 request_text channel name SaysNotReady = codes "notready" ++ channel_text channel
 
@@ -119,7 +128,7 @@ down_text Counts = codes "counts"
 
 abbrev pub entry_text : StationEntry → List ℕ
 entry_text (of_channel e) = said_text e.channel e.name e.said
-entry_text restart_asked = codes "restart"
+entry_text (restart_asked cause diagnostic) = codes "restart" ++ given_text cause diagnostic
 entry_text connect_asked = codes "connect"
 entry_text disconnect_asked = codes "disconnect"
 entry_text relink_asked = codes "relink"

@@ -1,7 +1,7 @@
 //! Entries of a transcript as text.
 ghost use Rattle.std.specs.Prelude.{◌≡◌, ◌++◌, [], IfOk, OnOk, OnErr, codes, decimal, string_bytes};
 ghost use Rattle.x25_transcript.specs.EntryText.{address_text, channel_text, digits_text, end_text, name_text};
-ghost use Rattle.x25_transcript.specs.EntryText.{params_text};
+ghost use Rattle.x25_transcript.specs.EntryText.{given_number, given_text, params_text};
 ghost use Rattle.x25_transcript.specs.EntryText.{down_text, entry_line as line_of, entry_text, notice_text};
 ghost use Rattle.x25_transcript.specs.EntryText.{request_text};
 ghost use Rattle.x25_transcript.specs.EntryText.{said_text, stretch_text, user_text};
@@ -91,6 +91,24 @@ fn push_reason(cause: u8, diagnostic: u8, text: &mut Text) -> Result<(), AllocEr
     text.try_push_number(b" diag=", u64::from(diagnostic))
 }
 
+/// Appends a number, where it isn't 0.
+fn push_given_number(label: &[u8], number: u8, text: &mut Text) -> Result<(), AllocError>
+    ensures { OnOk result (text.new ≡ text.old ++ given_number label.now number) }
+{
+    if number == 0 {
+        return Ok(());
+    }
+    text.try_push_number(label, u64::from(number))
+}
+
+/// Appends a cause and a diagnostic that were given, each where it isn't 0.
+fn push_given(cause: u8, diagnostic: u8, text: &mut Text) -> Result<(), AllocError>
+    ensures { OnOk result (text.new ≡ text.old ++ given_text cause diagnostic) }
+{
+    push_given_number(b" cause=", cause, text)?;
+    push_given_number(b" diag=", diagnostic, text)
+}
+
 /// Appends the packet sizes and windows, where one of them isn't the default.
 fn push_params(params: Params, text: &mut Text) -> Result<(), AllocError>
     ensures { OnOk result (text.new ≡ text.old ++ params_text params) }
@@ -152,13 +170,19 @@ fn push_asked(
             push_params(*params, text)
         }
         Asked::Accept { params } => push_agreed(b"accept", channel, *params, text),
-        Asked::Clear => push_at(b"clear", channel, text),
+        Asked::Clear { cause, diagnostic } => {
+            push_at(b"clear", channel, text)?;
+            push_given(*cause, *diagnostic, text)
+        }
         Asked::Send { q, user } => push_message(b"send", channel, name, *q, user.as_slice(), text),
         Asked::Interrupt { user } => {
             push_under(b"int", channel, name, text)?;
             push_user(user.as_slice(), text)
         }
-        Asked::Reset => push_at(b"reset", channel, text),
+        Asked::Reset { cause, diagnostic } => {
+            push_at(b"reset", channel, text)?;
+            push_given(*cause, *diagnostic, text)
+        }
         Asked::Ready => push_at(b"ready", channel, text),
         Asked::NotReady => push_at(b"notready", channel, text),
     }
@@ -267,7 +291,10 @@ fn push_entry_text(entry: &Entry, text: &mut Text) -> Result<(), AllocError>
             name,
             said,
         } => push_said(*channel, name, said, text),
-        Entry::RestartAsked => text.try_push(b"restart"),
+        Entry::RestartAsked { cause, diagnostic } => {
+            text.try_push(b"restart")?;
+            push_given(*cause, *diagnostic, text)
+        }
         Entry::ConnectAsked => text.try_push(b"connect"),
         Entry::DisconnectAsked => text.try_push(b"disconnect"),
         Entry::RelinkAsked => text.try_push(b"relink"),

@@ -30,12 +30,16 @@ fn are_lines(
 }
 
 fn are_link_up_and_restart(alloc: Global, lines: &[u8]) -> Result<bool, AllocError> {
-    are_lines(alloc, &Entry::LinkUp, &Entry::RestartAsked, lines)
+    let restart = Entry::RestartAsked {
+        cause: 0,
+        diagnostic: 7,
+    };
+    are_lines(alloc, &Entry::LinkUp, &restart, lines)
 }
 
 #[test]
 fn stands_behind_what_was_pushed(rt: HostRuntime) {
-    let lines = b"dce linkup\ndte restart\n".as_slice();
+    let lines = b"dce linkup\ndte restart diag=7\n".as_slice();
     assert_eq!(rt; are_link_up_and_restart(rt.alloc(), lines), Ok(true));
 }
 

@@ -45,20 +45,22 @@ struct Circuit {
 }
 
 impl Circuit {
+    fn reads(&self, room: usize) -> bool {
+        self.is_up && self.read.is_empty() && !self.has_ended && room > 0
+    }
+
     /// Reads and writes what the connection gives and takes.
-    fn move_octets(&mut self) {
+    fn move_octets(&mut self, room: usize) {
+        let reads = self.reads(room);
         let Some(connection) = &mut self.connection else { return };
         match connection.write(&self.came) {
             Ok(count) => drop(self.came.drain(..count)),
             Err(error) if error.kind() == ErrorKind::WouldBlock => (),
             Err(_) => self.came.clear(),
         }
-        let mut room = [0; 4096];
-        if !self.is_up || !self.read.is_empty() || self.has_ended {
-            return;
-        }
-        match connection.read(&mut room) {
-            Ok(count) => (self.read, self.has_ended) = (room[..count].to_vec(), count == 0),
+        let mut piece = [0; 4096];
+        match connection.read(if reads { &mut piece } else { return }) {
+            Ok(count) => (self.read, self.has_ended) = (piece[..count].to_vec(), count == 0),
             Err(error) => self.has_ended = error.kind() != ErrorKind::WouldBlock,
         }
     }
@@ -69,7 +71,7 @@ impl Circuit {
             self.connection = UnixStream::connect(path).and_then(|it| it.set_nonblocking(true).map(|_| it)).ok();
             (self.is_up, self.has_ended) = (true, self.connection.is_none());
         }
-        self.move_octets();
+        self.move_octets(port.station.room(channel));
         if !self.is_up || self.is_gone {
             return;
         }
@@ -129,8 +131,7 @@ fn main() -> Result<()> {
         let mut files = vec![PollFd(port.line.as_raw_fd(), 1, 0), PollFd(accepts, 1, 0)];
         for (channel, circuit) in &mut circuits {
             circuit.go_on(&mut port, *channel, path, listens);
-            let reads = circuit.is_up && circuit.read.is_empty() && !circuit.has_ended;
-            let events = i16::from(reads) | 4 * i16::from(!circuit.came.is_empty());
+            let events = i16::from(circuit.reads(port.station.room(*channel))) | 4 * i16::from(!circuit.came.is_empty());
             files.extend(circuit.connection.iter().filter(|_| events != 0).map(|it| PollFd(it.as_raw_fd(), events, 0)));
         }
         circuits.retain(|_, circuit| !circuit.is_gone || !circuit.came.is_empty());

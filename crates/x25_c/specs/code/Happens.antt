@@ -18,6 +18,7 @@ use Rattle.x25_station.specs.laws.TimerLaw.{Event, Comes, Asks, Fires, outcome}
 use Rattle.x25_c.specs.declared.happening.Happening as code
 use Rattle.x25_c.specs.declared.happening.Happening.TheVariants as variant
 use Rattle.x25_c.specs.declared.held.Held.{Held}
+use Rattle.x25_c.specs.Held.{IsAlone}
 use Rattle.x25_c.specs.Happening.{rest_of, happens, timer_of_rest, timer_at_both}
 
 abbrev pub event_of : code.Happening → Event
@@ -69,7 +70,7 @@ abbrev pub GivesAnswer : Held → Held → Option (Result Unit StationError) →
 GivesAnswer old new None None = new ≡ old
 GivesAnswer old new None (Some asked) = ⊥
 GivesAnswer old new (Some r) None = ⊥
-GivesAnswer old new (Some r) (Some asked) = Happens old new r (Asks (command_asked asked))
+GivesAnswer old new (Some r) (Some asked) = Happens old new r (Asks (command_asked asked)) × IsAlone new
 
 -- a station as it is made: at this end, with these settings, and nothing was answered
 pub record IsNew (at : Role) (cfg : Cfg) (h : Held) : Type 0 where
@@ -78,3 +79,4 @@ pub record IsNew (at : Role) (cfg : Cfg) (h : Held) : Type 0 where
   pub empty : IsEmpty h.step
   pub timer : h.step.timer ≡ Off
   pub waits : h.waits ≡ false
+  pub alone : IsAlone h

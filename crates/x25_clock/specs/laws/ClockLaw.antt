@@ -6,7 +6,7 @@ use Rattle.x25_layer.specs.code.FitsLayer.{awaited_at}
 use Rattle.x25_station.specs.Config.{Settings, layer_settings}
 use Rattle.x25_station.specs.Station.{Station, new_station}
 use Rattle.x25_station.specs.Station.Told.{is_at_rest}
-use Rattle.x25_station.specs.Step.{Step, Outcome, Did, Refused}
+use Rattle.x25_station.specs.Step.{Outcome, Did, Refused}
 use Rattle.x25_station.specs.Timer.{runs, standing, tells_link}
 use Rattle.x25_station.specs.laws.TimerLaw as timer
 use Rattle.x25_station.specs.laws.TimerLaw.{Comes, Asks, Fires}

@@ -19,7 +19,7 @@ use Rattle.x25_link.specs.Station.{pumped}
 use Rattle.x25_line.specs.laws.Sessions.{Entry, Meeting}
 use Rattle.x25_line.specs.laws.Peer.{Peer, fresh_peer, numbered_to, told_to, taking, hearing}
 use Rattle.x25_line.specs.laws.Peer as once
-use Rattle.x25_sessions.specs.laws.PeerSessions.{PeerEnd, begins, now, with_now, hears, numbered, takes_sabm}
+use Rattle.x25_line.specs.laws.PeerSessions.{PeerEnd, begins, now, with_now, hears, numbered, takes_sabm}
 use Rattle.x25_handshakes.specs.laws.PeerCalls.{PlacesCall}
 use Rattle.x25_handshakes.specs.laws.PeerChannel.{InCall}
 use Rattle.x25_handshakes.specs.laws.Handshake.{At}

@@ -6,7 +6,7 @@ use Rattle.x25_bits.specs.Role.{other}
 use Rattle.x25_link.specs.declared.phase.Phase.TheVariants.{Waiting}
 use Rattle.x25_line.specs.laws.Peer.{fresh_peer}
 use Rattle.x25_line.specs.laws.Sessions.{Entry, Meeting}
-use Rattle.x25_sessions.specs.laws.PeerSessions.{PeerEnd, Out, IsDue}
+use Rattle.x25_line.specs.laws.PeerSessions.{PeerEnd, Out, IsDue}
 use Rattle.x25_station.specs.Config.{Settings, link_settings}
 use Rattle.x25_station.specs.Step.{abandons}
 use Rattle.x25_station.specs.laws.TimerLaw.{Event, Fires}

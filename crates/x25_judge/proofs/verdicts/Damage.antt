@@ -7,7 +7,7 @@ use Rattle.x25_bits.specs.declared.role.Role.TheVariants.{Dte, Dce}
 use Rattle.x25_bits.specs.Role.{other}
 use Rattle.x25_frame.specs.Frame.{PlainFrame}
 use Rattle.x25_line.specs.laws.Peer.{Peer}
-use Rattle.x25_sessions.specs.laws.PeerSessions.{Stand}
+use Rattle.x25_line.specs.laws.PeerSessions.{Stand}
 use Rattle.x25_judge.specs.Judge.{sides_of, held_of}
 use Rattle.x25_judge.specs.Sides as sides
 use Rattle.x25_judge.specs.Way as way

@@ -3,7 +3,7 @@ use Rattle.std.proofs.Common.{◌≡◌, ◌==◌, inl, inr, ℕ, ◌+◌, ◌�
 use Rattle.std.proofs.lemmas.Bool.{eqb-true, and_parts, both_ways, cond_both}
 use Rattle.x25_frame.specs.Frame.{PlainFrame, info, rr, rnr, rej, sabm, disc, ua, dm, frmr}
 use Rattle.x25_line.specs.laws.Peer.{Peer, fresh_peer}
-use Rattle.x25_sessions.specs.laws.PeerSessions.{Stand}
+use Rattle.x25_line.specs.laws.PeerSessions.{Stand}
 use Rattle.x25_judge.specs.Sides as sides
 use Rattle.x25_judge.specs.Way as way
 use Rattle.x25_judge.specs.declared.rule.Rule.TheVariants.{UaUnasked}

@@ -3,7 +3,7 @@ use Rattle.std.proofs.Common.{◌≡◌, inl, inr, ℕ, ◌+◌, ◌≤◌, arit
 use Rattle.std.proofs.lemmas.Bool.{both_ways}
 use Rattle.x25_frame.specs.Frame.{PlainFrame, dm}
 use Rattle.x25_line.specs.laws.Peer.{Peer, fresh_peer}
-use Rattle.x25_sessions.specs.laws.PeerSessions.{Stand, Out, Asking, In}
+use Rattle.x25_line.specs.laws.PeerSessions.{Stand, Out, Asking, In}
 use Rattle.x25_judge.specs.Sides as sides
 use Rattle.x25_judge.specs.Way as way
 use Rattle.x25_judge.specs.declared.sides.End.{End}

@@ -7,7 +7,7 @@ use Rattle.x25_bits.specs.Role.{other}
 use Rattle.x25_decode.specs.declared.answer.Reading.{Reading}
 use Rattle.x25_frame.specs.Frame.{PlainFrame, info, rr, rnr, rej, sabm, disc, ua, dm, frmr}
 use Rattle.x25_line.specs.laws.Peer.{Peer, fresh_peer, MayAcknowledge, told_to, numbered_to}
-use Rattle.x25_sessions.specs.laws.PeerSessions.{Stand, Out, Asking, In}
+use Rattle.x25_line.specs.laws.PeerSessions.{Stand, Out, Asking, In}
 use Rattle.x25_judge.specs.Held.{is_same}
 use Rattle.x25_judge.specs.Judge.{sides_of, held_of, seen_by, answer_to}
 use Rattle.x25_judge.specs.Judge as judge

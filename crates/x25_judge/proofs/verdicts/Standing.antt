@@ -4,7 +4,7 @@ use Rattle.std.specs.Prelude.{nat_lt, ◌-◌, ◌&&◌, ◌||◌, not}
 use Rattle.std.proofs.lemmas.Bool.{eqb-true, ltb-true, both_ways, or_parts, cond_both, cond-true, cond-false}
 use Rattle.x25_frame.specs.Frame.{PlainFrame, info, rr, rnr, rej, sabm, disc, ua, dm, frmr}
 use Rattle.x25_line.specs.laws.Peer.{Peer, fresh_peer}
-use Rattle.x25_sessions.specs.laws.PeerSessions.{Stand, Out, Asking, In}
+use Rattle.x25_line.specs.laws.PeerSessions.{Stand, Out, Asking, In}
 use Rattle.x25_judge.specs.Sides as sides
 use Rattle.x25_judge.specs.Way as way
 use Rattle.x25_judge.specs.declared.sides.End.{End}

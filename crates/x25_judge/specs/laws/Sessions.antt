@@ -1,6 +1,6 @@
 -- An end that keeps the rules of docs/PEER.md over any number of set-ups, beside one that does what it likes, in a
 -- trace from its first line on: where the end stands, what it may send there, and what may still come to it. Its rules
--- of set-up are those of `PeerSessions` of x25_sessions, and of frames with numbers those of `Keeping`. ITU-T X.25
+-- of set-up are those of `PeerSessions` of x25_line, and of frames with numbers those of `Keeping`. ITU-T X.25
 -- (10/96), sections 2.4.4 and 2.4.5.
 use Rattle.std.specs.Prelude.{◌≡◌, ℕ, ◌≤◌, Bool, List, [], ◌∷◌, ◌++◌, Ok}
 use Rattle.x25_bits.specs.declared.role.Role.{Role}
@@ -11,7 +11,7 @@ use Rattle.x25_judge.specs.declared.judge.Judge.{Judge}
 use Rattle.x25_judge.specs.declared.judge.Strictness.{Strictness}
 use Rattle.x25_line.specs.laws.Peer.{Peer, fresh_peer, MayHear}
 use Rattle.x25_link.specs.Hearing.{other}
-use Rattle.x25_sessions.specs.laws.PeerSessions.{Stand, Out, Asking, In}
+use Rattle.x25_line.specs.laws.PeerSessions.{Stand, Out, Asking, In}
 use Rattle.x25_judge.specs.laws.Keeping.{MaySend}
 use Rattle.x25_judge.specs.laws.Session.{Shows, IsDamaged}
 

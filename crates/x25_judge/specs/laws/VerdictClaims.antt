@@ -18,7 +18,7 @@ use Rattle.x25_line.specs.laws.InWindow.{IsPrefix}
 use Rattle.x25_line.specs.laws.Peer.{Peer}
 use Rattle.x25_link.specs.Hearing.{other}
 use Rattle.x25_link.specs.Station.{Settings}
-use Rattle.x25_sessions.specs.laws.PeerSessions.{Stand}
+use Rattle.x25_line.specs.laws.PeerSessions.{Stand}
 use Rattle.x25_judge.specs.laws.Explaining.{IsQuiet, IsKept, IsUntold, Carries}
 use Rattle.x25_judge.specs.laws.Keeping.{MaySend, MayBe}
 use Rattle.x25_judge.specs.laws.Sessions.{MaySay, MayStand}

@@ -1,19 +1,20 @@
 -- No error of procedure: packets and notices that tell of none.
-use Rattle.std.specs.Prelude.{◌≡◌, ◌⊎◌, ℕ, List, [], ◌∷◌, true}
+use Rattle.std.specs.Prelude.{◌≡◌, ℕ, List, [], ◌∷◌, true, false}
 use Rattle.x25_packet.specs.Packet.{PlainPacket, call, accept, clear, reset, restart}
 use Rattle.x25_packet.specs.Spelling.{channel_of, HasChannel}
 use Rattle.x25_packet.specs.Facilities.{IsFacilityField}
 use Rattle.x25_circuit.specs.Notice.{PlainNotice, fault}
+use Rattle.x25_circuit.specs.Cause.{is_fault_of_clear, is_fault_of_reset, is_fault_of_restart}
 use Rattle.x25_layer.specs.Layer.{is_channel, LayerNotice, on_channel, layer_fault}
 
--- A CLEAR or RESET has the cause 0 of the user, and a RESTART 0 or 7, network operational; the facilities of a CALL and
--- of its acceptance are packet sizes and windows that are allowed.
+-- The cause of a CLEAR, RESET or RESTART is none by which a station tells of an error of procedure; the facilities of a
+-- CALL and of its acceptance are packet sizes and windows that are allowed.
 abbrev pub IsQuiet : PlainPacket → Type 0
 IsQuiet (call channel called calling facilities user) = IsFacilityField facilities
 IsQuiet (accept channel facilities) = IsFacilityField facilities
-IsQuiet (clear channel cause diagnostic) = cause ≡ 0
-IsQuiet (reset channel cause diagnostic) = cause ≡ 0
-IsQuiet (restart cause diagnostic) = (cause ≡ 0) ⊎ (cause ≡ 7)
+IsQuiet (clear channel cause diagnostic) = is_fault_of_clear cause ≡ false
+IsQuiet (reset channel cause diagnostic) = is_fault_of_reset cause ≡ false
+IsQuiet (restart cause diagnostic) = is_fault_of_restart cause ≡ false
 IsQuiet packet = Unit {0}
 
 -- each of them but RESTART and its confirmation is of a configured channel

@@ -58,7 +58,7 @@ abbrev pub entries_asked : LayerSettings → Layer → Layer → LayerRequest �
 entries_asked c l next (Asks h request) = entry_of_request next h request
 entries_asked c l next (Dials called calling user proposal) = entry_of_dial next
     (free_channel c.circuit.role l.circuits c.channels) (Calls called calling user proposal)
-entries_asked c l next Restarts = []
+entries_asked c l next (Restarts cause diagnostic) = []
 entries_asked c l next PullsAll = []
 
 abbrev pub entries_told : Layer → List LayerNotice → List Entry

@@ -1,10 +1,9 @@
 -- What is done at the near end keeps what holds of two stations over sessions: packets handed down, timer T1, connect, disconnect
 -- and abandon.
-use Rattle.std.proofs.Common.{◌≡◌, ◌≤◌, ℕ, suc, ◌+◌, List, [], ◌∷◌, length, Bool, true, false, if◌then◌else◌, Option, Some, None, Err, refl, sym, ap, ◌∙◌, subst, arith}
+use Rattle.std.proofs.Common.{◌≡◌, ◌≤◌, ℕ, suc, ◌+◌, List, [], ◌∷◌, length, Bool, true, false, if◌then◌else◌, Option, Some, None, refl, sym, ap, ◌∙◌, subst, arith}
 use Rattle.std.specs.Prelude.{nat_lt}
-use Rattle.x25_frame.specs.Frame.{sabm, disc}
+use Rattle.x25_frame.specs.Frame.{PlainFrame, sabm, disc}
 use Rattle.x25_frame.specs.laws.ReadingLaw.{ReadsSpelled}
-use Rattle.x25_frame.specs.declared.error.FrameError.TheVariants.{Short}
 use Rattle.x25_link.specs.declared.error.LinkError.TheVariants as error
 use Rattle.x25_link.specs.declared.phase.Phase.{Phase}
 use Rattle.x25_link.specs.declared.phase.Phase.TheVariants.{Down, Waiting, Up, Closed}
@@ -19,16 +18,17 @@ use Rattle.x25_link.specs.laws.WindowLaw.{IsRunning, IsSound, IsOut, Ends}
 use Rattle.x25_line.specs.laws.Stations as one
 use Rattle.x25_line.specs.laws.StationClaims.{AreJoined}
 use Rattle.x25_line.specs.laws.SessionNumbers.{Standing}
-use Rattle.x25_line.specs.laws.Sessions.{Entry, Meeting, Sessions, sabm_in, ua_in, disc_in, how_many, begun_by, after_step}
+use Rattle.x25_line.specs.laws.Sessions.{Entry, Meeting, Sessions, sabm_in, ua_in, how_many, begun_by, after_step}
 use Rattle.x25_line.specs.laws.LawsBelow.{Laws}
+use Rattle.x25_line.proofs.sessions.SessionSeenActs.{by_disc, by_reset, by_neither}
 use Rattle.x25_line.proofs.StationLines.{AreParting}
 use Rattle.x25_line.proofs.StationSteps.{AsUp, Leads, not_both, ends_joint}
 use Rattle.x25_line.proofs.StationRuns.{put_up, timer_by}
 use Rattle.x25_line.proofs.StationClaimLemmas.{up_of}
 use Rattle.x25_line.proofs.sessions.SessionLines.{count}
-use Rattle.x25_line.proofs.sessions.SessionHeld.{OwesAfter, View, Live, Soon, Gone, IsView, IsHeard, Comes, Owes, Held, near_high}
+use Rattle.x25_line.proofs.sessions.SessionHeld.{OnLine, View, Live, Soon, Gone, IsView, IsHeard, Comes, Owes, Held, near_high}
 use Rattle.x25_line.proofs.sessions.SessionSteps.{stepped, went_by, apart_held}
-use Rattle.x25_line.proofs.sessions.SessionUp.{MayAnswer, stays_answers, ends_answers, follows_answers, stays_no_packet, follows_no_packet, by_reason, none_reason, live_goes_on}
+use Rattle.x25_line.proofs.sessions.SessionUp.{stays_answers, follows_answers, live_goes_on}
 
 -- what holds of a step in which no LinkUp is noted
 pub quiet_held : {stand : Standing} (c d : Settings) (w : Sessions) (es : List Entry) (met : List Meeting) (down : List (List ℕ)) (step : Step) → step.notes.up ≡ false
@@ -67,10 +67,6 @@ closed_is_waiting p e f = absurd (never (sym e ∙ f))
     never : Closed ≡ Waiting → ⊥
     never k = cc
 
-retries_answer : (b : Bool) (far : Phase) (reason : Reason) → (let o : Option Reason = if b then None else Some Retries in o) ≡ Some reason → MayAnswer reason far
-retries_answer true far reason e = none_reason reason e
-retries_answer false far reason e = by_reason far Retries reason tt e
-
 module _ (c d : Settings) (joined : AreJoined c d) (reads : ReadsSpelled) (laws : Laws) where
   -- ---- in Up
 
@@ -79,11 +75,10 @@ module _ (c d : Settings) (joined : AreJoined c d) (reads : ReadsSpelled) (laws 
   put_held {stand} w h up packet short =
       let i = in_session c d w h up in
       let stays = laws.window.put c packet w.near.station i.running in
-      live_goes_on c d joined reads w h i.view w.back h.alone.back (packet ∷ []) (put_step c packet w.near.station) None
+      live_goes_on c d joined reads w h i.view w.back h.alone.back w.met (packet ∷ []) (put_step c packet w.near.station) None
       (subst (λ (s : LinkStation). Leads ⊥ c d h.alone stand.machine stand.machine.back (one.after_step c h.alone h.alone.back (packet ∷ []) (put_step c packet s))) i.view.1
       (put_up ⊥ c d joined reads laws h.alone stand.machine packet h.holds i.machine short))
-      i.comes h.line (stays_answers w c.window (hands_down packet) w.near.station (put_step c packet w.near.station) stays)
-      (stays_no_packet c.window (hands_down packet) w.near.station (put_step c packet w.near.station) (λ v y k. k) stays)
+      i.comes (stays_answers w c.window (hands_down packet) w.near.station (put_step c packet w.near.station) stays)
 
   pub timer_up_held : {stand : Standing} (w : Sessions) → Held stand c d w → is_up w.near.station.phase ≡ true → Held (went_by c (timer_step c w.near.station) None stand) c d (after_step c w w.back w.met [] (timer_step c w.near.station))
   timer_up_held {stand} w h up =
@@ -93,25 +88,24 @@ module _ (c d : Settings) (joined : AreJoined c d) (reads : ReadsSpelled) (laws 
       let step = timer_step c s in
       let o : Option Reason = if nat_lt s.tries c.retries then None else Some Retries in
       let follows = laws.window.timer c s i.running in
-      live_goes_on c d joined reads w h i.view w.back h.alone.back [] step None
+      live_goes_on c d joined reads w h i.view w.back h.alone.back w.met [] step None
       (subst (λ (z : LinkStation). Leads ⊥ c d h.alone stand.machine stand.machine.back (one.after_step c h.alone h.alone.back [] (timer_step c z))) i.view.1
       (timer_by ⊥ c d joined reads laws h.alone stand.machine h.holds i.machine (nat_lt t.tries c.retries) (timer_step c t) (laws.timer_tells c t)
       (laws.window.timer c t (record { up = i.machine.up; sound = i.machine.sound }))))
-      i.comes h.line (follows_answers w o c.window nothing s step (λ reason e. retries_answer (nat_lt s.tries c.retries) w.far.station.phase reason e) follows)
-      (follows_no_packet o c.window (Err Short) s step refl follows)
+      i.comes (follows_answers w o c.window nothing s step (λ one. (let none = by_neither by_disc None (Some Retries) refl refl (nat_lt s.tries c.retries) in absurd (omega (arith, one, none)))) (by_neither by_reset None (Some Retries) refl refl (nat_lt s.tries c.retries)) follows)
 
-  leaves_held : {stand : Standing} (w : Sessions) (h : Held stand c d w) → InSession stand c d w h → (reason : Reason) → MayAnswer reason w.far.station.phase → (f : LinkStation → Step)
+  leaves_held : {stand : Standing} (w : Sessions) (h : Held stand c d w) → InSession stand c d w h → (reason : Reason) → by_disc (Some reason) ≡ 0 → by_reset (Some reason) ≡ 0 → (f : LinkStation → Step)
       → Leads ⊥ c d h.alone stand.machine stand.machine.back (one.after_step c h.alone h.alone.back [] (f h.alone.near.station)) → Ends reason (f w.near.station) → Held (went_by c (f w.near.station) None stand) c d (after_step c w w.back w.met [] (f w.near.station))
-  leaves_held {stand} w h i reason may f holds ends =
-      live_goes_on c d joined reads w h i.view w.back h.alone.back [] (f w.near.station) None
+  leaves_held {stand} w h i reason by_own stays f holds ends =
+      live_goes_on c d joined reads w h i.view w.back h.alone.back w.met [] (f w.near.station) None
       (subst (λ (z : LinkStation). Leads ⊥ c d h.alone stand.machine stand.machine.back (one.after_step c h.alone h.alone.back [] (f z))) i.view.1 holds)
-      i.comes h.line (ends_answers w reason (f w.near.station) may ends) ends.packet
+      i.comes (follows_answers w (Some reason) c.window nothing w.near.station (f w.near.station) (λ one. absurd (omega (arith, one, by_own))) stays ends)
 
   pub disconnect_up_held : {stand : Standing} (w : Sessions) → Held stand c d w → is_up w.near.station.phase ≡ true → Held (went_by c (disconnect_step c w.near.station) None stand) c d (after_step c w w.back w.met [] (disconnect_step c w.near.station))
   disconnect_up_held {stand} w h up =
       let i = in_session c d w h up in
       let t = h.alone.near.station in
-      leaves_held w h i Local tt (disconnect_step c)
+      leaves_held w h i Local refl refl (disconnect_step c)
       (ends_joint ⊥ c d joined reads h.alone stand.machine h.holds i.machine.up h.alone.back (disconnect_step c t) Local tt h.holds.back h.holds.back_orderly (laws.disconnect_tells c t)
       (laws.window.disconnect c t (record { up = i.machine.up; sound = i.machine.sound })))
       (laws.window.disconnect c w.near.station i.running)
@@ -120,63 +114,44 @@ module _ (c d : Settings) (joined : AreJoined c d) (reads : ReadsSpelled) (laws 
   abandon_held {stand} w h up =
       let i = in_session c d w h up in
       let t = h.alone.near.station in
-      leaves_held w h i Counts tt (abandon_step c)
+      leaves_held w h i Counts refl refl (abandon_step c)
       (ends_joint ⊥ c d joined reads h.alone stand.machine h.holds i.machine.up h.alone.back (abandon_step c t) Counts tt h.holds.back h.holds.back_orderly (laws.abandon_tells c t)
       (laws.window.abandon c t (record { up = i.machine.up; sound = i.machine.sound })))
       (laws.window.abandon c w.near.station i.running)
 
   -- ---- SABM and DISC
 
-  -- a SABM goes where none of this end, and no UA to it, is on the line
-  asks_held : {stand : Standing} (w : Sessions) → Held stand c d w → (near : LinkStation) (ends : Option Reason) (step : Step) → near.phase ≡ Waiting → Is near (sabm true ∷ []) ends false step
-      → how_many sabm_in (other d.role) d.longest w.out + how_many ua_in (other c.role) c.longest w.back ≡ 0 → how_many disc_in (other d.role) d.longest w.out ≡ 0
-      → Held (went_by c step None stand) c d (after_step c w w.back w.met [] step)
-  asks_held {stand} w h near ends step phase i none no_disc =
-      let waiting : step.side.near.phase ≡ Waiting = ap (λ (s : LinkStation). s.phase) i.near ∙ phase in
-      let sabms = ap (count sabm_in) i.out in
-      let discs = ap (count disc_in) i.out in
+  -- an end that is out, to which no UA comes
+  out_held : {stand : Standing} (w : Sessions) → Held stand c d w → (near : LinkStation) (frames : List PlainFrame) (ends : Option Reason) (step : Step) → Is near frames ends false step → is_up near.phase ≡ false
+      → (near.phase ≡ Waiting → how_many ua_in (other c.role) c.longest w.back ≡ 0) → AreParting (Unit {0}) frames → count ua_in frames ≡ 0 → Held (went_by c step None stand) c d (after_step c w w.back w.met [] step)
+  out_held {stand} w h near frames ends step i off none parting no_ua =
+      let same : step.side.near.phase ≡ near.phase = ap (λ (s : LinkStation). s.phase) i.near in
       quiet_held c d w w.back w.met [] step i.up
-      (apart_held c d joined reads w h w.back w.near.begun step Gone i.packet (omega arith) (ap is_up waiting, near_high c d w h) (λ _. omega (arith, none)) (subst (AreParting (Unit {0})) (sym i.out) (tt, tt)) (ap (count ua_in) i.out) h.line
-      (subst (λ (p : Phase). OwesAfter c d p w.out step.side.out w.back) (sym waiting) (omega (arith, sabms, none), omega (arith, discs, no_disc))))
-
-  -- nothing is sent, and nothing is awaited any more
-  gives_up_held : {stand : Standing} (w : Sessions) → Held stand c d w → (near : LinkStation) (ends : Option Reason) (step : Step) → near.phase ≡ Down → Is near [] ends false step
-      → how_many sabm_in (other d.role) d.longest w.out + how_many ua_in (other c.role) c.longest w.back ≡ 0 → how_many disc_in (other d.role) d.longest w.out ≡ 0
-      → Held (went_by c step None stand) c d (after_step c w w.back w.met [] step)
-  gives_up_held {stand} w h near ends step phase i none no_disc =
-      let down : step.side.near.phase ≡ Down = ap (λ (s : LinkStation). s.phase) i.near ∙ phase in
-      let sabms = ap (count sabm_in) i.out in
-      let discs = ap (count disc_in) i.out in
-      quiet_held c d w w.back w.met [] step i.up
-      (apart_held c d joined reads w h w.back w.near.begun step Gone i.packet (omega arith) (ap is_up down, near_high c d w h) (λ _. omega (arith, none)) (subst (AreParting (Unit {0})) (sym i.out) tt) (ap (count ua_in) i.out) h.line
-      (subst (λ (p : Phase). OwesAfter c d p w.out step.side.out w.back) (sym down) (omega (arith, sabms, none), omega (arith, discs, no_disc))))
+      (apart_held c d joined reads w h w.back w.met w.near.begun step Gone i.packet (ap is_up same ∙ off, near_high c d w h) (λ waiting. none (sym same ∙ waiting))
+      (subst (AreParting (Unit {0})) (sym i.out) parting) (ap (count ua_in) i.out ∙ no_ua))
 
   closes_held : {stand : Standing} (w : Sessions) → Held stand c d w → (step : Step) → step.side.near.phase ≡ Closed → step.side.out ≡ disc true ∷ [] → step.packet ≡ None → step.notes.up ≡ false
       → Held (went_by c step None stand) c d (after_step c w w.back w.met [] step)
   closes_held {stand} w h step closed sent none quiet =
       quiet_held c d w w.back w.met [] step quiet
-      (apart_held c d joined reads w h w.back w.near.begun step Gone none (omega arith) (ap is_up closed, near_high c d w h) (λ waiting. closed_is_waiting step.side.near.phase closed waiting)
-      (subst (AreParting (Unit {0})) (sym sent) tt) (ap (count ua_in) sent) h.line
-      (subst (λ (p : Phase). OwesAfter c d p w.out step.side.out w.back) (sym closed) tt))
+      (apart_held c d joined reads w h w.back w.met w.near.begun step Gone none (ap is_up closed, near_high c d w h) (λ waiting. closed_is_waiting step.side.near.phase closed waiting)
+      (subst (AreParting (Unit {0})) (sym sent) tt) (ap (count ua_in) sent))
 
-  pub connect_held : {stand : Standing} (w : Sessions) → Held stand c d w → w.near.station.phase ≡ Down → Held (went_by c (connect_step c w.near.station) None stand) c d (after_step c w w.back w.met [] (connect_step c w.near.station))
-  connect_held {stand} w h down =
-      let owed = down_owes w.near.station.phase _ _ down h.line.near_owes in
-      asks_held w h (record w.near.station { phase = Waiting; tries = 0 }) None (connect_step c w.near.station) refl (laws.set_up.connects c w.near.station down) owed.0 owed.1
+  pub connect_held : {stand : Standing} (w : Sessions) → Held stand c d w → OnLine c d w → w.near.station.phase ≡ Down → Held (went_by c (connect_step c w.near.station) None stand) c d (after_step c w w.back w.met [] (connect_step c w.near.station))
+  connect_held {stand} w h line down =
+      let owed = down_owes w.near.station.phase _ _ down line.near_owes in
+      out_held w h (record w.near.station { phase = Waiting; tries = 0 }) (sabm true ∷ []) None (connect_step c w.near.station) (laws.set_up.connects c w.near.station down) refl (λ _. omega (arith, owed.0)) (tt, tt) refl
 
   -- timer T1 while UA is awaited: none of the end's SABMs, and no UA to it, is on the line
   pub timer_waiting_held : {stand : Standing} (w : Sessions) → Held stand c d w → w.near.station.phase ≡ Waiting → how_many sabm_in (other d.role) d.longest w.out + how_many ua_in (other c.role) c.longest w.back ≡ 0
       → Held (went_by c (timer_step c w.near.station) None stand) c d (after_step c w w.back w.met [] (timer_step c w.near.station))
   timer_waiting_held {stand} w h waiting none = by (nat_lt w.near.station.tries c.retries) (timer_step c w.near.station) (laws.set_up.timer c w.near.station waiting)
     where
-      no_disc : how_many disc_in (other d.role) d.longest w.out ≡ 0
-      no_disc = (waiting_owes w.near.station.phase _ _ waiting h.line.near_owes).1
-
       by : (b : Bool) (step : Step)
           → (let s = w.near.station in Is (if b then record s { tries = suc s.tries } else with_nothing Down s.tries) (if b then sabm true ∷ [] else []) (if b then None else Some Retries) false step)
           → Held (went_by c step None stand) c d (after_step c w w.back w.met [] step)
-      by true step i = asks_held w h (record w.near.station { tries = suc w.near.station.tries }) None step waiting i none no_disc
-      by false step i = gives_up_held w h (with_nothing Down w.near.station.tries) (Some Retries) step refl i none no_disc
+      by true step i = out_held w h (record w.near.station { tries = suc w.near.station.tries }) (sabm true ∷ []) None step i (ap is_up waiting) (λ _. omega (arith, none)) (tt, tt) refl
+      by false step i = out_held w h (with_nothing Down w.near.station.tries) [] (Some Retries) step i refl (λ _. omega (arith, none)) tt refl
 
   pub disconnect_held : {stand : Standing} (w : Sessions) → Held stand c d w → disconnect_refusal w.near.station.phase ≡ None → Held (went_by c (disconnect_step c w.near.station) None stand) c d (after_step c w w.back w.met [] (disconnect_step c w.near.station))
   disconnect_held {stand} w h accepted = by w.near.station.phase refl accepted

@@ -21,7 +21,7 @@ use Rattle.x25_line.proofs.sessions.SessionActs.{waiting_owes}
 use Rattle.x25_line.proofs.StationSteps.{Joint, Leads, counted_fits, nothing_put, stands_still, not_both}
 use Rattle.x25_line.proofs.StationRuns.{taken_off}
 use Rattle.x25_line.proofs.sessions.SessionLines.{of_ua, numbers, carried, carried_numbers, carried_orderly, Change, nothing, lost, damaged, further, removes, replaces, change_many, change_of, change_place, place_removes, place_replaces, change_behind_ua, behind_removes, behind_replaces, change_shows}
-use Rattle.x25_line.proofs.sessions.SessionHeld.{View, Live, Soon, Gone, IsView, IsHeard, Comes, AfterUa, choose, line_changed, Held, counted_view, with_machine, standing_after_is}
+use Rattle.x25_line.proofs.sessions.SessionHeld.{View, Live, Soon, Gone, IsView, IsHeard, Comes, AfterUa, choose, OnLine, Held, counted_view, with_machine, standing_after_is}
 
 -- ---- which frame of the session that stands is gone
 
@@ -139,10 +139,8 @@ module _ (c d : Settings) (joined : AreJoined c d) (reads : ReadsSpelled) (laws 
         far = h.far;
         back = heard;
         out = h.out;
-        line = line_changed c d w.near.station.phase w.far.station.phase w.near.begun w.far.begun w.out w.back es change h.line;
         near_lists = h.near_lists;
         far_lists = h.far_lists;
-        meetings = h.meetings;
         no_frmr = h.no_frmr;
         whole = h.whole;
       })
@@ -156,15 +154,15 @@ module _ (c d : Settings) (joined : AreJoined c d) (reads : ReadsSpelled) (laws 
           (left.2.out ∙ ap (λ (put : List (List ℕ)). stand.machine.out ++ given left.0.near.acked (length left.0.near.taken) stand.machine.near.sent (numbered_on c.role c.longest put)) (nothing_put h.alone.out))
           left.2.back
 
-  by_view : {stand : Standing} (v : View) (w : Sessions) (h : Held stand c d w) (es : List Entry) (change : Change (other c.role) c.longest w.back es) → IsView v w.near h.alone.near.station stand.near
+  by_view : {stand : Standing} (v : View) (w : Sessions) (h : Held stand c d w) (line : OnLine c d w) (es : List Entry) (change : Change (other c.role) c.longest w.back es) → IsView v w.near h.alone.near.station stand.near
       → IsHeard v (other c.role) c.longest w.near.station.phase w.back h.alone.back stand.far
       → Held (standing_after c w.near.station [] (change_heard w.near.station.phase (other c.role) c.longest w.back es change) stand) c d (record w { back = es })
-  by_view {stand} Live w h es change view heard =
+  by_view {stand} Live w h line es change view heard =
       let left = comes_change h.alone stand.machine h.holds stand.far w.back es change heard in
       subst (λ (gone : Option ℕ). Held (standing_after c w.near.station [] gone stand) c d (record w { back = es })) (sym (heard_up w.near.station.phase (other c.role) c.longest w.back es change view.0))
       (kept_by w h es change (carried (other c.role) c.longest es) (change_place (other c.role) c.longest w.back es change) left.0 Live view left.1)
-  by_view {stand} Soon w h es change view heard =
-      let owes = waiting_owes w.near.station.phase _ _ view.0 h.line.near_owes in
+  by_view {stand} Soon w h line es change view heard =
+      let owes = waiting_owes w.near.station.phase _ _ view.0 line.near_owes in
       let few : how_many ua_in (other c.role) c.longest w.back ≤ 1 = omega (arith, owes.0) in
       subst (λ (gone : Option ℕ). Held (standing_after c w.near.station [] gone stand) c d (record w { back = es })) (sym (heard_waiting w.near.station.phase (other c.role) c.longest w.back es change view.0))
       (go (soon_change h.alone stand.machine h.holds stand.far w.back es change few heard))
@@ -175,7 +173,7 @@ module _ (c d : Settings) (joined : AreJoined c d) (reads : ReadsSpelled) (laws 
       go (inr none) =
           subst (λ (gone : Option ℕ). Held (standing_after c w.near.station [] gone stand) c d (record w { back = es })) (sym none.1)
           (kept_by w h es change h.alone.back None (none_gone h.alone stand.machine h.holds) Gone (ap is_up view.0, omega (arith, view.2)) (λ waiting. none.0))
-  by_view {stand} Gone w h es change view heard =
+  by_view {stand} Gone w h line es change view heard =
       subst (λ (gone : Option ℕ). Held (standing_after c w.near.station [] gone stand) c d (record w { back = es })) (sym none)
       (kept_by w h es change h.alone.back None (none_gone h.alone stand.machine h.holds) Gone view
       (λ waiting. (let less = change_many (other c.role) c.longest ua_in of_ua w.back es change in let before = heard waiting in omega (arith, less, before))))
@@ -184,6 +182,6 @@ module _ (c d : Settings) (joined : AreJoined c d) (reads : ReadsSpelled) (laws 
       none = heard_out_of w.near.station.phase (other c.role) c.longest w.back es change view.0 (λ waiting. none_behind_ua w.back es change (heard waiting))
 
   -- a frame on the line to the near end is lost or damaged
-  pub change_held : {stand : Standing} (w : Sessions) → Held stand c d w → (es : List Entry) (change : Change (other c.role) c.longest w.back es)
+  pub change_held : {stand : Standing} (w : Sessions) → Held stand c d w → OnLine c d w → (es : List Entry) (change : Change (other c.role) c.longest w.back es)
       → Held (standing_after c w.near.station [] (change_heard w.near.station.phase (other c.role) c.longest w.back es change) stand) c d (record w { back = es })
-  change_held {stand} w h es change = by_view h.near_view w h es change h.near h.back
+  change_held {stand} w h line es change = by_view h.near_view w h line es change h.near h.back

@@ -1,7 +1,7 @@
 -- What one event does to the sessions of two link stations, by cases of the event.
-use Rattle.std.proofs.Common.{◌≡◌, ◌<◌, ◌⊎◌, ℕ, suc, List, [], ◌∷◌, length, map, inl, inr, Bool, true, false, if◌then◌else◌, Option, Some, None, Ok, Err, refl, sym, ap, ◌∙◌, subst, arith, append-nil}
+use Rattle.std.proofs.Common.{◌≡◌, ◌<◌, ◌⊎◌, ℕ, suc, List, [], ◌∷◌, length, map, inl, inr, Bool, true, false, if◌then◌else◌, Option, Some, None, Ok, refl, sym, ap, ◌∙◌, subst, arith, append-nil}
 use Rattle.std.specs.Prelude.{nat_le, option_to_list}
-use Rattle.x25_frame.specs.Frame.{PlainFrame, info, rr, rnr, rej, sabm, disc, ua, dm, frmr}
+use Rattle.x25_frame.specs.Frame.{PlainFrame, info, rr, rnr, rej}
 use Rattle.x25_frame.specs.laws.ReadingLaw.{ReadsSpelled}
 use Rattle.x25_link.specs.declared.error.LinkError.{LinkError}
 use Rattle.x25_link.specs.declared.phase.Notes.{Notes}
@@ -15,21 +15,20 @@ use Rattle.x25_link.specs.laws.WindowMachine.{Window, Input}
 use Rattle.x25_link.specs.laws.WindowLaw.{window_of, brought_by, ending_of, Follows}
 use Rattle.x25_line.specs.laws.Stations.{Act, Put, Deliver, T1, Connect, Disconnect, Abandon, Probe, Lose, Damage, Near, Far, is_visible}
 use Rattle.x25_line.specs.laws.StationClaims.{AreJoined, number_in}
-use Rattle.x25_line.specs.laws.Sessions.{Entry, SessionEnd, Meeting, Sessions, turned, swapped, begun_by, after_step, unless, heard, delivered, replaced, acts, run}
-use Rattle.x25_line.specs.laws.SessionNumbers.{Standing}
+use Rattle.x25_line.specs.laws.Sessions.{Entry, SessionEnd, Meeting, Sessions, turned, swapped, begun_by, after_step, unless, heard, delivered, replaced, acts}
 use Rattle.x25_line.specs.laws.SessionClaims.{Throughout, AllOf}
 use Rattle.x25_line.specs.laws.SessionEvents.{NextBegins, GoesOn, HandsInSession, EachEventHandsInSession, latest, BeginsAfresh, MeetsNone, MeetsOne, EachEventMeetsLatest}
 use Rattle.x25_line.specs.laws.LawsBelow.{SessionLaws}
-use Rattle.x25_line.proofs.StationSteps.{not_both}
+use Rattle.x25_line.proofs.StationSteps.{not_both, not_afresh}
 use Rattle.x25_line.proofs.StationEvents.{timer_packet, timer_up}
 use Rattle.x25_line.proofs.sessions.SessionLines.{Read, none_is_some}
-use Rattle.x25_line.proofs.sessions.SessionHeld.{Held, extended_same, extended_other}
+use Rattle.x25_line.proofs.sessions.SessionHeld.{extended_same, extended_other}
 use Rattle.x25_line.proofs.sessions.SessionSteps.{end_after, nothing_handed}
 use Rattle.x25_line.proofs.sessions.SessionUp.{follows_no_packet}
-use Rattle.x25_line.proofs.sessions.SessionActs.{in_session}
-use Rattle.x25_line.proofs.sessions.SessionTakes.{heard_out, read_of}
-use Rattle.x25_line.proofs.sessions.SessionRuns.{held_swapped, throughout}
-use Rattle.x25_line.proofs.sessions.SessionLatest.{hears_latest}
+use Rattle.x25_line.proofs.sessions.SessionTakes.{read_of}
+use Rattle.x25_line.proofs.sessions.SessionSeenRuns.{Both, both_swapped}
+use Rattle.x25_line.proofs.sessions.TwoSessions.{hears_latest, running, throughout_of}
+use Rattle.x25_line.proofs.ends.Meetings.{twice_turned}
 
 -- ---- a step
 
@@ -58,7 +57,7 @@ quiet_goes e step none low = subst (λ (o : Option (List ℕ)). GoesOn [] (optio
 
 step_begins : (e : SessionEnd) (step : Step) → step.packet ≡ None → step.notes.up ≡ true → NextBegins e (end_by e [] step)
 step_begins e step none high =
-    let same = nothing_handed e (suc e.begun) step none (omega arith) in
+    let same = nothing_handed e (suc e.begun) step none in
     subst (λ (b : Bool). NextBegins e (end_after e (begun_by b e.begun) [] step)) (sym high) (record { begun = refl; down = same.down; up = same.up })
 
 -- as LinkUp is noted nothing is handed up
@@ -142,16 +141,9 @@ each_hands_in_session hands_up c d (Far act) w = acts_hands hands_up d act (swap
 
 -- ---- no LinkUp is noted where a frame with a number comes
 
-ends_quiet : (s : LinkStation) (step : Step) → Tells s step → is_up step.side.near.phase ≡ false → step.notes.up ≡ false
-ends_quiet s step tells off = go step.notes.up refl
-  where
-    go : (b : Bool) → step.notes.up ≡ b → step.notes.up ≡ false
-    go true high = not_both (is_up step.side.near.phase) (ap (λ (t : LinkStation). is_up t.phase) (tells.fresh_up high)) off
-    go false low = low
-
 valid_quiet : (b : Bool) (k : ℕ) (input : Input) (s : LinkStation) (step : Step) → Tells s step → (let o : Option Reason = if b then None else Some FrmrSent in Follows o k input s step) → step.notes.up ≡ false
 valid_quiet true k input s step tells stay = ap (λ (n : Notes). n.up) stay.quiet
-valid_quiet false k input s step tells end = ends_quiet s step tells (ap is_up end.phase)
+valid_quiet false k input s step tells end = not_afresh s step tells (ap is_up end.phase)
 
 number_quiet : (r : Read) (f : PlainFrame) (k : ℕ) (v : Window) (s : LinkStation) (step : Step) → number_in r ≡ Some f → Tells s step → Follows (ending_of r v) k (brought_by r) s step → step.notes.up ≡ false
 number_quiet (Ok (info ns nr p x)) f k v s step some tells h = valid_quiet _ k _ s step tells h
@@ -177,18 +169,23 @@ afresh old new later next =
     record { begins = next; down = ap new.down next.begun ∙ next.down (suc old.begun) ∙ none.0; up = ap new.up next.begun ∙ next.up (suc old.begun) ∙ none.1 }
 
 -- nothing is handed up
-step_meets_none : {stand : Standing} (c d : Settings) (w : Sessions) → Held stand c d w → (step : Step) (now : List Meeting) → step.packet ≡ None → now ≡ w.met → MeetsNone w.near (end_by w.near [] step) w.met now
-step_meets_none {stand} c d w h step now none same = record { met = same; nothing_up = by step.notes.up refl }
+step_meets_none : (w : Sessions) → ((n : ℕ) → w.near.begun < n → (w.near.down n ≡ []) × (w.near.up n ≡ [])) → (step : Step) (now : List Meeting) → step.packet ≡ None → now ≡ w.met → MeetsNone w.near (end_by w.near [] step) w.met now
+step_meets_none w later step now none same = record { met = same; nothing_up = by step.notes.up refl }
   where
     by : (b : Bool) → step.notes.up ≡ b → BeginsAfresh w.near (end_by w.near [] step) ⊎ GoesOn [] [] w.near (end_by w.near [] step)
-    by true high = inl (afresh w.near (end_by w.near [] step) h.near_lists.later (step_begins w.near step none high))
+    by true high = inl (afresh w.near (end_by w.near [] step) later (step_begins w.near step none high))
     by false low = inr (quiet_goes w.near step none low)
 
-module _ (rests : SessionLaws) (hands_up : TakeHandsUp) where
-  deliver_meets : {stand : Standing} (c d : Settings) (w : Sessions) → Held stand c d w → (es : List Entry) → w.back ≡ es
+-- an end that isn't Up hears none
+heard_out : (b : Bool) (f : Option PlainFrame) (m : Meeting) (met : List Meeting) → b ≡ false → heard b f m met ≡ met
+heard_out true f m met off = not_both true refl off
+heard_out false f m met off = refl
+
+module _ (reads : ReadsSpelled) (rests : SessionLaws) (hands_up : TakeHandsUp) where
+  deliver_meets : (c d : Settings) (near_joined : AreJoined d c) (far_joined : AreJoined c d) (w : Sessions) → Both c d near_joined far_joined w → (es : List Entry) → w.back ≡ es
       → MeetsOne Deliver (latest w) w.near (delivered c es w).near w.met (delivered c es w).met
-  deliver_meets {stand} c d w h [] is = inr (record { met = refl; nothing_up = inr (stays w.near) })
-  deliver_meets {stand} c d w h (e ∷ es) is = by (is_up w.near.station.phase) refl
+  deliver_meets c d near_joined far_joined w h [] is = inr (record { met = refl; nothing_up = inr (stays w.near) })
+  deliver_meets c d near_joined far_joined w h (e ∷ es) is = by (is_up w.near.station.phase) refl
     where
       step : Step
       step = take_step c e.octets w.near.station
@@ -200,11 +197,11 @@ module _ (rests : SessionLaws) (hands_up : TakeHandsUp) where
       pair = record { near = w.near.begun; far = e.session }
 
       follows : is_up w.near.station.phase ≡ true → Follows (ending_of (read_of c e) (window_of c.window w.near.station)) c.window (brought_by (read_of c e)) w.near.station step
-      follows up = rests.laws.window.take c e.octets w.near.station (in_session c d w h up).running (read_of c e) refl
+      follows up = rests.laws.window.take c e.octets w.near.station (running reads rests c d near_joined far_joined w h up) (read_of c e) refl
 
       -- the front was sent in the far end's latest session, where it carries a number
       front_latest : is_up w.near.station.phase ≡ true → (number_in (read_of c e) ≡ None) ⊎ (e.session ≡ w.far.begun)
-      front_latest up = (subst (λ (xs : List Entry). AllOf (other c.role) c.longest w.far.begun xs) is (hears_latest c d w h up)).0
+      front_latest up = (subst (λ (xs : List Entry). AllOf (other c.role) c.longest w.far.begun xs) is (hears_latest reads rests c d near_joined far_joined w h up)).0
 
       heard_up : is_up w.near.station.phase ≡ true → (o : Option PlainFrame) → number_in (read_of c e) ≡ o → met ≡ heard true o pair w.met
       heard_up up o number =
@@ -213,7 +210,7 @@ module _ (rests : SessionLaws) (hands_up : TakeHandsUp) where
       goes : is_up w.near.station.phase ≡ true → (o : Option PlainFrame) → number_in (read_of c e) ≡ o → (number_in (read_of c e) ≡ None) ⊎ (e.session ≡ w.far.begun)
           → MeetsOne Deliver (latest w) w.near (end_by w.near [] step) w.met met
       goes up None none of =
-          inr (step_meets_none c d w h step met (follows_no_packet (ending_of (read_of c e) (window_of c.window w.near.station)) c.window (read_of c e) w.near.station step none (follows up)) (heard_up up None none))
+          inr (step_meets_none w h.near.later step met (follows_no_packet (ending_of (read_of c e) (window_of c.window w.near.station)) c.window (read_of c e) w.near.station step none (follows up)) (heard_up up None none))
       goes up (Some f) some (inl none) = none_is_some f (sym none ∙ some)
       goes up (Some f) some (inr session) =
           inl (record {
@@ -226,35 +223,31 @@ module _ (rests : SessionLaws) (hands_up : TakeHandsUp) where
       by : (b : Bool) → is_up w.near.station.phase ≡ b → MeetsOne Deliver (latest w) w.near (end_by w.near [] step) w.met met
       by true up = goes up (number_in (read_of c e)) refl (front_latest up)
       by false off =
-          inr (step_meets_none c d w h step met (out_empty w.near.station step (hands_up c e.octets w.near.station) off) (heard_out (is_up w.near.station.phase) (number_in (read_of c e)) pair w.met off))
+          inr (step_meets_none w h.near.later step met (out_empty w.near.station step (hands_up c e.octets w.near.station) off) (heard_out (is_up w.near.station.phase) (number_in (read_of c e)) pair w.met off))
 
-  acts_meet : {stand : Standing} (c d : Settings) (a : Act) (w : Sessions) → Held stand c d w → MeetsOne a (latest w) w.near (acts c a w).near w.met (acts c a w).met
-  acts_meet {stand} c d (Put packet) w h =
+  acts_meet : (c d : Settings) (near_joined : AreJoined d c) (far_joined : AreJoined c d) (a : Act) (w : Sessions) → Both c d near_joined far_joined w → MeetsOne a (latest w) w.near (acts c a w).near w.met (acts c a w).met
+  acts_meet c d near_joined far_joined (Put packet) w h =
       let done = after_step c w w.back w.met (packet ∷ []) (put_step c packet w.near.station) in
       met_if (nat_le (length packet) c.longest) w (unless (put_refusal w.near.station) w done) (met_unless (put_refusal w.near.station) w done refl)
-  acts_meet {stand} c d Deliver w h = deliver_meets c d w h w.back refl
-  acts_meet {stand} c d T1 w h = met_unless (timer_refusal w.near.station) w (after_step c w w.back w.met [] (timer_step c w.near.station)) refl
-  acts_meet {stand} c d Connect w h = met_unless (connect_refusal w.near.station.phase) w (after_step c w w.back w.met [] (connect_step c w.near.station)) refl
-  acts_meet {stand} c d Disconnect w h = met_unless (disconnect_refusal w.near.station.phase) w (after_step c w w.back w.met [] (disconnect_step c w.near.station)) refl
-  acts_meet {stand} c d Abandon w h = met_if (is_up w.near.station.phase) w (after_step c w w.back w.met [] (abandon_step c w.near.station)) refl
-  acts_meet {stand} c d Probe w h = met_if (is_up w.near.station.phase) w (after_step c w w.back w.met [] (timer_step c w.near.station)) refl
-  acts_meet {stand} c d (Lose i) w h = refl
-  acts_meet {stand} c d (Damage i octets) w h = met_if (is_visible octets) w (record w { back = replaced w.back i octets }) refl
+  acts_meet c d near_joined far_joined Deliver w h = deliver_meets c d near_joined far_joined w h w.back refl
+  acts_meet c d near_joined far_joined T1 w h = met_unless (timer_refusal w.near.station) w (after_step c w w.back w.met [] (timer_step c w.near.station)) refl
+  acts_meet c d near_joined far_joined Connect w h = met_unless (connect_refusal w.near.station.phase) w (after_step c w w.back w.met [] (connect_step c w.near.station)) refl
+  acts_meet c d near_joined far_joined Disconnect w h = met_unless (disconnect_refusal w.near.station.phase) w (after_step c w w.back w.met [] (disconnect_step c w.near.station)) refl
+  acts_meet c d near_joined far_joined Abandon w h = met_if (is_up w.near.station.phase) w (after_step c w w.back w.met [] (abandon_step c w.near.station)) refl
+  acts_meet c d near_joined far_joined Probe w h = met_if (is_up w.near.station.phase) w (after_step c w w.back w.met [] (timer_step c w.near.station)) refl
+  acts_meet c d near_joined far_joined (Lose i) w h = refl
+  acts_meet c d near_joined far_joined (Damage i octets) w h = met_if (is_visible octets) w (record w { back = replaced w.back i octets }) refl
 
   -- ---- the other end
 
-  turned_twice : (met : List Meeting) → map turned (map turned met) ≡ met
-  turned_twice [] = refl
-  turned_twice (m ∷ ms) = ap (λ (xs : List Meeting). m ∷ xs) (turned_twice ms)
-
   turned_back : (now before : List Meeting) → now ≡ map turned before → map turned now ≡ before
-  turned_back now before same = ap (map turned) same ∙ turned_twice before
+  turned_back now before same = ap (map turned) same ∙ twice_turned before
 
   meets_turned : (a : Act) (pair : Meeting) (old new : SessionEnd) (before now : List Meeting) → MeetsOne a pair old new (map turned before) now
       → MeetsOne a (turned pair) old new before (map turned now)
   meets_turned (Put packet) pair old new before now h = turned_back now before h
   meets_turned Deliver pair old new before now h = elim h [
-    | inl m ↦ inl (record { met = ap (map turned) m.met ∙ ap (λ (xs : List Meeting). turned pair ∷ xs) (turned_twice before); packet = m.packet; goes_on = m.goes_on })
+    | inl m ↦ inl (record { met = ap (map turned) m.met ∙ ap (λ (xs : List Meeting). turned pair ∷ xs) (twice_turned before); packet = m.packet; goes_on = m.goes_on })
     | inr m ↦ inr (record { met = turned_back now before m.met; nothing_up = m.nothing_up })
   ]
   meets_turned T1 pair old new before now h = turned_back now before h
@@ -262,11 +255,11 @@ module _ (rests : SessionLaws) (hands_up : TakeHandsUp) where
 
   -- ---- the claim
 
-  event_meets : {stand : Standing} (c d : Settings) → AreJoined c d → (w : Sessions) → Held stand c d w → EachEventMeetsLatest c d w
-  event_meets {stand} c d joined w h (Near act) = acts_meet c d act w h
-  event_meets {stand} c d joined w h (Far act) =
+  event_meets : (c d : Settings) (near_joined : AreJoined d c) (far_joined : AreJoined c d) (w : Sessions) → Both c d near_joined far_joined w → EachEventMeetsLatest c d w
+  event_meets c d near_joined far_joined w h (Near act) = acts_meet c d near_joined far_joined act w h
+  event_meets c d near_joined far_joined w h (Far act) =
       let v = acts d act (swapped w) in
-      meets_turned act (latest (swapped w)) w.far v.near w.met v.met (acts_meet d c act (swapped w) (held_swapped c d joined w h))
+      meets_turned act (latest (swapped w)) w.far v.near w.met v.met (acts_meet d c far_joined near_joined act (swapped w) (both_swapped c d near_joined far_joined w h))
 
-  pub each_event_meets_latest : ReadsSpelled → Throughout EachEventMeetsLatest
-  each_event_meets_latest reads c d joined begin is events timely = event_meets c d joined (run c d events begin) (throughout reads rests c d joined begin is events timely).1
+  pub each_event_meets_latest : Throughout EachEventMeetsLatest
+  each_event_meets_latest = throughout_of reads rests EachEventMeetsLatest event_meets

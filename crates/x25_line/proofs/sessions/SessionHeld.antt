@@ -1,5 +1,5 @@
 -- What holds of two stations over set-up and re-set-up at any moment.
-use Rattle.std.proofs.Common.{◌≡◌, ◌≤◌, ◌<◌, ◌==◌, ℕ, zero, suc, ◌+◌, List, [], ◌∷◌, ◌++◌, ◌⊎◌, inl, inr, Bool, true, false, if◌then◌else◌, length, Option, None, refl, sym, ap, ◌∙◌, subst, arith, append-nil}
+use Rattle.std.proofs.Common.{◌≡◌, ◌≤◌, ◌==◌, ℕ, zero, suc, ◌+◌, List, [], ◌∷◌, ◌++◌, ◌⊎◌, inl, inr, Bool, true, false, if◌then◌else◌, length, Option, None, refl, sym, ap, ◌∙◌, subst, arith, append-nil}
 use Rattle.std.specs.List.{Contains}
 use Rattle.std.proofs.lemmas.Bool.{eq-eqb, eqb-true}
 use Rattle.std.proofs.lemmas.List.Elements.{Contains-append_left, Contains-append_right, Contains-append_cases}
@@ -8,20 +8,19 @@ use Rattle.x25_frame.specs.Frame.{PlainFrame}
 use Rattle.x25_frame.specs.Reading.{frame_of}
 use Rattle.x25_window.specs.laws.Window.{End, Frame}
 use Rattle.x25_link.specs.declared.phase.Phase.{Phase}
-use Rattle.x25_link.specs.declared.phase.Phase.TheVariants.{Down, Waiting, Up, Closed}
+use Rattle.x25_link.specs.declared.phase.Phase.TheVariants.{Waiting, Closed}
 use Rattle.x25_link.specs.Station.{Settings, LinkStation, is_up, fresh}
 use Rattle.x25_link.specs.Hearing.{other}
-use Rattle.x25_line.specs.laws.InWindow.{IsPrefix}
 use Rattle.x25_line.specs.laws.Stations.{StationEnd, Stations}
 use Rattle.x25_line.specs.laws.StationClaims.{NoFrmr, AreWhole, numbered_on}
-use Rattle.x25_line.specs.laws.Sessions.{Entry, SessionEnd, Meeting, Sessions, sabm_in, ua_in, disc_in, how_many, extended}
+use Rattle.x25_line.specs.laws.Sessions.{Entry, SessionEnd, Sessions, sabm_in, ua_in, disc_in, how_many, extended}
 use Rattle.x25_line.specs.laws.Line.{Line}
 use Rattle.x25_line.specs.laws.WholeNumbers.{given, taken_out, counted}
 use Rattle.x25_line.specs.laws.SessionNumbers.{Standing, standing_after}
-use Rattle.x25_line.specs.laws.SessionClaims.{AllMet, SomeMet, IsAbove, InStep, IsInOrder, octets_of, AllOf, AreWholeIn}
-use Rattle.x25_line.proofs.StationLines.{AreOrderly, numbered_append, AreParting, whole_more, whole_append, parting_whole}
+use Rattle.x25_line.specs.laws.SessionClaims.{AllOf, AreWholeIn}
+use Rattle.x25_line.proofs.StationLines.{numbered_append, AreParting, whole_more, whole_append, parting_whole, IsOrderly}
 use Rattle.x25_line.proofs.StationSteps.{Joint, FitsEnd, counted_off, counted_fits, none_put, not_both}
-use Rattle.x25_line.proofs.sessions.SessionLines.{count, of_sabm, of_ua, of_disc, AllBegun, numbers, numbers_append, quiet_tail, quiet_of, of_append, many_append, Behind, Change, change_many, change_behind, change_begun, change_orderly}
+use Rattle.x25_line.proofs.sessions.SessionLines.{numbers, numbers_append, quiet_tail, quiet_of, of_append, many_append}
 
 -- ---- the session that stands, and how an end is in it
 
@@ -72,195 +71,33 @@ Owes Waiting asked closed = (asked ≤ 1) × (closed ≡ 0)
 Owes Closed asked closed = Unit {0}
 Owes phase asked closed = (asked ≡ 0) × (closed ≡ 0)
 
--- the same once frames were sent behind `out`
-abbrev pub OwesAfter : Settings → Settings → Phase → List Entry → List PlainFrame → List Entry → Type 0
-OwesAfter c d phase out frames back =
-    Owes phase (how_many sabm_in (other d.role) d.longest out + count sabm_in frames + how_many ua_in (other c.role) c.longest back) (how_many disc_in (other d.role) d.longest out + count disc_in frames)
-
 pub owes_less : (p : Phase) (n m a b : ℕ) → a ≤ n → b ≤ m → Owes p n m → Owes p a b
 owes_less Closed n m a b f g h = tt
 owes_less p n m a b f g h = (omega (arith, f, h.0), omega (arith, g, h.1))
 
-pub owes_none : (p : Phase) (n m : ℕ) → n ≡ 0 → m ≡ 0 → Owes p n m
-owes_none Waiting n m f g = (omega (arith, f), g)
-owes_none Closed n m f g = tt
-owes_none p n m f g = (f, g)
-
-pub record OnLine (c d : Settings) (near far : Phase) (near_begun far_begun : ℕ) (out back : List Entry) : Type 0 where
-  pub near_owes : Owes near (how_many sabm_in (other d.role) d.longest out + how_many ua_in (other c.role) c.longest back) (how_many disc_in (other d.role) d.longest out)
-  pub far_owes : Owes far (how_many sabm_in (other c.role) c.longest back + how_many ua_in (other d.role) d.longest out) (how_many disc_in (other c.role) c.longest back)
-  pub out_behind : Behind (other d.role) d.longest out
-  pub back_behind : Behind (other c.role) c.longest back
-  pub out_begun : AllBegun near_begun out
-  pub back_begun : AllBegun far_begun back
-  pub out_orderly : AreOrderly (Unit {0}) (other d.role) d.longest (octets_of out)
-  pub back_orderly : AreOrderly (Unit {0}) (other c.role) c.longest (octets_of back)
-
-pub line_changed : (c d : Settings) (near far : Phase) (near_begun far_begun : ℕ) (out back es : List Entry) → Change (other c.role) c.longest back es
-    → OnLine c d near far near_begun far_begun out back → OnLine c d near far near_begun far_begun out es
-line_changed c d near far near_begun far_begun out back es change h =
-    let sabms = change_many (other c.role) c.longest sabm_in of_sabm back es change in
-    let uas = change_many (other c.role) c.longest ua_in of_ua back es change in
-    let discs = change_many (other c.role) c.longest disc_in of_disc back es change in
-    record {
-      near_owes = owes_less near _ _ _ _ (omega (arith, uas)) (omega arith) h.near_owes;
-      far_owes = owes_less far _ _ _ _ (omega (arith, sabms)) discs h.far_owes;
-      out_behind = h.out_behind;
-      back_behind = change_behind (other c.role) c.longest back es change h.back_behind;
-      out_begun = h.out_begun;
-      back_begun = change_begun (other c.role) c.longest far_begun back es change h.back_begun;
-      out_orderly = h.out_orderly;
-      back_orderly = change_orderly (other c.role) c.longest (Unit {0}) back es change h.back_orderly;
-    }
+-- what the rules of both ends say
+pub record OnLine (c d : Settings) (w : Sessions) : Type 0 where
+  pub near_owes : Owes w.near.station.phase (how_many sabm_in (other d.role) d.longest w.out + how_many ua_in (other c.role) c.longest w.back) (how_many disc_in (other d.role) d.longest w.out)
+  pub far_owes : Owes w.far.station.phase (how_many sabm_in (other c.role) c.longest w.back + how_many ua_in (other d.role) d.longest w.out) (how_many disc_in (other c.role) c.longest w.back)
+  pub quiet : (e : Entry) (es : List Entry) → w.back ≡ e ∷ es → sabm_in (frame_of (other c.role) c.longest e.octets) ≡ 1 → numbers (other c.role) c.longest es ≡ []
+  pub fine : (e : Entry) (es : List Entry) → w.back ≡ e ∷ es → IsOrderly (Unit {0}) (frame_of (other c.role) c.longest e.octets)
+  -- the next session of each has no lists
+  pub near_next : (w.near.down (suc w.near.begun) ≡ []) × (w.near.up (suc w.near.begun) ≡ [])
+  pub far_next : (w.far.down (suc w.far.begun) ≡ []) × (w.far.up (suc w.far.begun) ≡ [])
 
 -- ---- lists
 
--- those of the session that stands, and none of a session that isn't begun
+-- those of the session that stands
 pub record HasLists (e : SessionEnd) (session : ℕ) (v : StationEnd) : Type 0 where
   pub down : e.down session ≡ v.down
   pub up : e.up session ≡ v.up
-  pub later : (n : ℕ) → e.begun < n → (e.down n ≡ []) × (e.up n ≡ [])
 
 pub record SameLists (e f : SessionEnd) : Type 0 where
   pub down : (n : ℕ) → f.down n ≡ e.down n
   pub up : (n : ℕ) → f.up n ≡ e.up n
-  pub begun : e.begun ≤ f.begun
 
 pub lists_same : (e f : SessionEnd) (session : ℕ) (v : StationEnd) → SameLists e f → HasLists e session v → HasLists f session v
-lists_same e f session v same h =
-    record {
-      down = same.down session ∙ h.down;
-      up = same.up session ∙ h.up;
-      later = λ n more. (let le = same.begun in let old = h.later n (omega (arith, more, le)) in (same.down n ∙ old.0, same.up n ∙ old.1));
-    }
-
--- ---- meetings
-
--- it is the two sessions that stand, or an earlier one of each end
-abbrev pub IsPaired : ℕ → ℕ → Meeting → Type 0
-IsPaired p q m = ((m.near ≡ p) × (m.far ≡ q)) ⊎ ((m.near < p) × (m.far < q))
-
-abbrev pub IsBegun : ℕ → ℕ → Meeting → Type 0
-IsBegun p q m = (m.near ≤ p) × (m.far ≤ q)
-
-pub record Meetings (near far : SessionEnd) (p q : ℕ) (met : List Meeting) : Type 0 where
-  pub begun : AllMet (IsBegun near.begun far.begun) met
-  pub paired : AllMet (IsPaired p q) met
-  pub in_step : InStep met
-  pub in_order : AllMet (IsInOrder near far) met
-  pub near_unmet : (n : ℕ) → (near.up n ≡ []) ⊎ SomeMet (λ (m : Meeting). m.near ≡ n) met
-  pub far_unmet : (n : ℕ) → (far.up n ≡ []) ⊎ SomeMet (λ (m : Meeting). m.far ≡ n) met
-
-pub begun_later : (near far p q : ℕ) (met : List Meeting) → near ≤ p → far ≤ q → AllMet (IsBegun near far) met → AllMet (IsBegun p q) met
-begun_later near far p q [] f g h = tt
-begun_later near far p q (m ∷ ms) f g h = ((omega (arith, h.0.0, f), omega (arith, h.0.1, g)), begun_later near far p q ms f g h.1)
-
-pub paired_anew : (near far p q : ℕ) (met : List Meeting) → near < p → far < q → AllMet (IsBegun near far) met → AllMet (IsPaired p q) met
-paired_anew near far p q [] f g h = tt
-paired_anew near far p q (m ∷ ms) f g h = (inr (omega (arith, h.0.0, f), omega (arith, h.0.1, g)), paired_anew near far p q ms f g h.1)
-
-order_same : (e f far : SessionEnd) → SameLists e f → (met : List Meeting) → AllMet (IsInOrder e far) met → AllMet (IsInOrder f far) met
-order_same e f far same [] h = tt
-order_same e f far same (m ∷ ms) h = (
-  record {
-    there = subst (IsPrefix (far.up m.far)) (sym (same.down m.near)) h.0.there;
-    back = subst (λ (x : List (List ℕ)). IsPrefix x (far.down m.far)) (sym (same.up m.near)) h.0.back;
-  },
-  order_same e f far same ms h.1,
-)
-
-pub meetings_same : (e f far : SessionEnd) (p q : ℕ) (met : List Meeting) → SameLists e f → Meetings e far p q met → Meetings f far p q met
-meetings_same e f far p q met same h =
-    record {
-      begun = begun_later e.begun far.begun f.begun far.begun met same.begun (omega arith) h.begun;
-      paired = h.paired;
-      in_step = h.in_step;
-      in_order = order_same e f far same met h.in_order;
-      near_unmet = λ n. elim (h.near_unmet n) [ inl empty ↦ inl (same.up n ∙ empty) | inr some ↦ inr some ];
-      far_unmet = h.far_unmet;
-    }
-
--- two sessions begin that are later at both ends
-pub meetings_anew : (e far : SessionEnd) (p q a b : ℕ) (met : List Meeting) → e.begun < a → far.begun < b → Meetings e far p q met → Meetings e far a b met
-meetings_anew e far p q a b met f g h =
-    record {
-      begun = h.begun;
-      paired = paired_anew e.begun far.begun a b met f g h.begun;
-      in_step = h.in_step;
-      in_order = h.in_order;
-      near_unmet = h.near_unmet;
-      far_unmet = h.far_unmet;
-    }
-
--- what was handed down and up in the near end's session that stands, and no other, has grown
-pub record Grows (e f : SessionEnd) (p : ℕ) : Type 0 where
-  pub begun : f.begun ≡ e.begun
-  pub down : (n : ℕ) → (n ≡ p → ⊥) → f.down n ≡ e.down n
-  pub up : (n : ℕ) → (n ≡ p → ⊥) → f.up n ≡ e.up n
-
-orders : (e f far : SessionEnd) (p q : ℕ) → Grows e f p → IsInOrder f far (record { near = p; far = q }) → (met : List Meeting) → AllMet (IsPaired p q) met → AllMet (IsInOrder e far) met
-    → AllMet (IsInOrder f far) met
-orders e f far p q grows now [] paired h = tt
-orders e f far p q grows now (m ∷ ms) paired h = (
-  elim paired.0 [
-    | inl same ↦ at_pair same.0 same.1
-    | inr less ↦ record {
-      there = subst (IsPrefix (far.up m.far)) (sym (grows.down m.near (λ (is : m.near ≡ p). omega (arith, is, less.0)))) h.0.there;
-      back = subst (λ (x : List (List ℕ)). IsPrefix x (far.down m.far)) (sym (grows.up m.near (λ (is : m.near ≡ p). omega (arith, is, less.0)))) h.0.back;
-    }
-  ],
-  orders e f far p q grows now ms paired.1 h.1,
-)
-  where
-    at_pair : m.near ≡ p → m.far ≡ q → IsInOrder f far m
-    at_pair a b =
-        record {
-          there = subst (λ (n : ℕ). IsPrefix (far.up m.far) (f.down n)) (sym a) (subst (λ (n : ℕ). IsPrefix (far.up n) (f.down p)) (sym b) now.there);
-          back = subst (λ (n : ℕ). IsPrefix (f.up n) (far.down m.far)) (sym a) (subst (λ (n : ℕ). IsPrefix (f.up p) (far.down n)) (sym b) now.back);
-        }
-
-pub above_paired : (p q : ℕ) (met : List Meeting) → AllMet (IsPaired p q) met → IsAbove (record { near = p; far = q }) met
-above_paired p q [] h = tt
-above_paired p q (m ∷ ms) h = h.0
-
--- nothing was handed up
-pub meetings_go_on : (e f far : SessionEnd) (p q : ℕ) (met : List Meeting) → Grows e f p → IsInOrder f far (record { near = p; far = q }) → f.up p ≡ e.up p → Meetings e far p q met → Meetings f far p q met
-meetings_go_on e f far p q met grows now same h =
-    let le = grows.begun in
-    record {
-      begun = begun_later e.begun far.begun f.begun far.begun met (omega (arith, le)) (omega arith) h.begun;
-      paired = h.paired;
-      in_step = h.in_step;
-      in_order = orders e f far p q grows now met h.paired h.in_order;
-      near_unmet = λ n. unmet n (n == p) refl;
-      far_unmet = h.far_unmet;
-    }
-  where
-    unmet : (n : ℕ) (b : Bool) → (n == p) ≡ b → (f.up n ≡ []) ⊎ SomeMet (λ (m : Meeting). m.near ≡ n) met
-    unmet n true is =
-        let here = eqb-true n p is in
-        elim (h.near_unmet n) [ inl empty ↦ inl (ap f.up here ∙ same ∙ ap e.up (sym here) ∙ empty) | inr some ↦ inr some ]
-    unmet n false is =
-        elim (h.near_unmet n) [ inl empty ↦ inl (grows.up n (λ (here : n ≡ p). not_both (n == p) (eq-eqb n p here) is) ∙ empty) | inr some ↦ inr some ]
-
--- a frame of the far end's session that stands was heard
-pub meetings_hear : (e f far : SessionEnd) (p q : ℕ) (met : List Meeting) → Grows e f p → IsInOrder f far (record { near = p; far = q }) → p ≤ e.begun → q ≤ far.begun → Meetings e far p q met
-    → Meetings f far p q (record { near = p; far = q } ∷ met)
-meetings_hear e f far p q met grows now near_le far_le h =
-    let le = grows.begun in
-    record {
-      begun = ((omega (arith, le, near_le), far_le), begun_later e.begun far.begun f.begun far.begun met (omega (arith, le)) (omega arith) h.begun);
-      paired = (inl (refl, refl), h.paired);
-      in_step = (above_paired p q met h.paired, h.in_step);
-      in_order = (now, orders e f far p q grows now met h.paired h.in_order);
-      near_unmet = λ n. unmet n (n == p) refl;
-      far_unmet = λ n. elim (h.far_unmet n) [ inl empty ↦ inl empty | inr some ↦ inr (inr some) ];
-    }
-  where
-    unmet : (n : ℕ) (b : Bool) → (n == p) ≡ b → (f.up n ≡ []) ⊎ SomeMet (λ (m : Meeting). m.near ≡ n) (record { near = p; far = q } ∷ met)
-    unmet n true is = inr (inl (sym (eqb-true n p is)))
-    unmet n false is =
-        elim (h.near_unmet n) [ inl empty ↦ inl (grows.up n (λ (here : n ≡ p). not_both (n == p) (eq-eqb n p here) is) ∙ empty) | inr some ↦ inr (inr some) ]
+lists_same e f session v same h = record { down = same.down session ∙ h.down; up = same.up session ∙ h.up }
 
 -- ---- what holds
 
@@ -275,10 +112,8 @@ pub record Held (stand : Standing) (c d : Settings) (w : Sessions) : Type 0 wher
   pub far : IsView far_view w.far alone.far.station stand.far
   pub back : IsHeard near_view (other c.role) c.longest w.near.station.phase w.back alone.back stand.far
   pub out : IsHeard far_view (other d.role) d.longest w.far.station.phase w.out alone.out stand.near
-  pub line : OnLine c d w.near.station.phase w.far.station.phase w.near.begun w.far.begun w.out w.back
   pub near_lists : HasLists w.near stand.near alone.near
   pub far_lists : HasLists w.far stand.far alone.far
-  pub meetings : Meetings w.near w.far stand.near stand.far w.met
   pub no_frmr : NoFrmr w.sent
   pub whole : AreWholeIn d.longest w.near w.far w.sent
 
@@ -321,9 +156,6 @@ up_begun Gone e s session h up = not_both (is_up e.station.phase) up h.0
 -- no end began a session later than the one that stands
 pub near_high : {stand : Standing} (c d : Settings) (w : Sessions) (h : Held stand c d w) → w.near.begun ≤ stand.near
 near_high {stand} c d w h = view_begun h.near_view w.near h.alone.near.station stand.near h.near
-
-pub far_high : {stand : Standing} (c d : Settings) (w : Sessions) (h : Held stand c d w) → w.far.begun ≤ stand.far
-far_high {stand} c d w h = view_begun h.far_view w.far h.alone.far.station stand.far h.far
 
 -- ---- lists by sessions
 

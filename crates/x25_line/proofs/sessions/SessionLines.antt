@@ -1,6 +1,6 @@
 -- The line between two stations, with the sessions of its frames: the numbers on it, how many there are of a kind, and what
 -- sending, loss and damage change of these.
-use Rattle.std.proofs.Common.{◌≡◌, ◌≤◌, ℕ, zero, suc, ◌+◌, List, [], ◌∷◌, ◌++◌, ◌⊎◌, inl, inr, map, remove, Bool, true, Option, Some, None, Result, Ok, Err, refl, sym, ap, ◌∙◌, subst, arith}
+use Rattle.std.proofs.Common.{◌≡◌, ◌≤◌, ℕ, zero, suc, ◌+◌, List, [], ◌∷◌, ◌++◌, ◌⊎◌, inl, inr, map, remove, true, Option, Some, None, Result, Ok, Err, refl, sym, ap, ◌∙◌, subst, arith}
 use Rattle.std.proofs.lemmas.Option.{none-some}
 use Rattle.x25_bits.specs.declared.role.Role.{Role}
 use Rattle.x25_frame.specs.Frame.{PlainFrame, info, rr, rnr, rej, sabm, disc, ua, dm, frmr}
@@ -22,11 +22,6 @@ use Rattle.x25_line.proofs.StationLines.{IsOrderly, AreOrderly, consed, numbered
 abbrev pub Read : Type 0
 Read = Result PlainFrame FrameError
 
--- each entry is of a session that was begun
-abbrev pub AllBegun : ℕ → List Entry → Type 0
-AllBegun n [] = Unit {0}
-AllBegun n (e ∷ es) = (e.session ≤ n) × AllBegun n es
-
 -- ---- lists of entries
 
 pub octets_append : (xs ys : List Entry) → octets_of (xs ++ ys) ≡ octets_of xs ++ octets_of ys
@@ -36,18 +31,6 @@ octets_append (e ∷ xs) ys = ap (λ (os : List (List ℕ)). e.octets ∷ os) (o
 pub octets_sent : (s : ℕ) (from : Role) (fs : List PlainFrame) → octets_of (sent_in s from fs) ≡ map (spelling_of from) fs
 octets_sent s from [] = refl
 octets_sent s from (f ∷ fs) = ap (λ (os : List (List ℕ)). spelling_of from f ∷ os) (octets_sent s from fs)
-
-pub begun_append : (n : ℕ) (xs ys : List Entry) → AllBegun n xs → AllBegun n ys → AllBegun n (xs ++ ys)
-begun_append n [] ys f g = g
-begun_append n (e ∷ xs) ys f g = (f.0, begun_append n xs ys f.1 g)
-
-pub begun_more : (n m : ℕ) (xs : List Entry) → n ≤ m → AllBegun n xs → AllBegun m xs
-begun_more n m [] le h = tt
-begun_more n m (e ∷ xs) le h = (omega (arith, le, h.0), begun_more n m xs le h.1)
-
-pub begun_sent : (n : ℕ) (from : Role) (fs : List PlainFrame) → AllBegun n (sent_in n from fs)
-begun_sent n from [] = tt
-begun_sent n from (f ∷ fs) = (omega arith, begun_sent n from fs)
 
 -- ---- kinds
 
@@ -85,11 +68,6 @@ error_kind kind of_sabm e = refl
 error_kind kind of_ua e = refl
 error_kind kind of_disc e = refl
 
-pub dm_kind : (kind : Read → ℕ) → IsKind kind → (f : Bool) → kind (Ok (dm f)) ≡ 0
-dm_kind kind of_sabm f = refl
-dm_kind kind of_ua f = refl
-dm_kind kind of_disc f = refl
-
 -- how many frames of a kind are sent
 abbrev pub count : (Read → ℕ) → List PlainFrame → ℕ
 count kind [] = 0
@@ -105,26 +83,6 @@ numbered_count kind k (f ∷ fs) h =
     let here = number_kind kind k (Ok f) f h.0 in
     let there = numbered_count kind k fs h.1 in
     omega (arith, here, there)
-
--- a SABM among frames that are no SABM
-pub orderly_count : (from : Role) (n1 : ℕ) (es : List Entry) → AreOrderly ⊥ from n1 (octets_of es) → how_many sabm_in from n1 es ≡ 0
-orderly_count from n1 [] h = refl
-orderly_count from n1 (e ∷ es) h =
-    let here = no_sabm (frame_of from n1 e.octets) h.0 in
-    let there = orderly_count from n1 es h.1 in
-    omega (arith, here, there)
-  where
-    no_sabm : (r : Read) → IsOrderly ⊥ r → sabm_in r ≡ 0
-    no_sabm (Ok (info ns nr p x)) k = refl
-    no_sabm (Ok (rr command nr pf)) k = refl
-    no_sabm (Ok (rnr command nr pf)) k = refl
-    no_sabm (Ok (rej command nr pf)) k = refl
-    no_sabm (Ok (sabm p)) k = absurd k
-    no_sabm (Ok (disc p)) k = refl
-    no_sabm (Ok (ua f)) k = refl
-    no_sabm (Ok (dm f)) k = refl
-    no_sabm (Ok (frmr f why)) k = refl
-    no_sabm (Err x) k = refl
 
 quiet_rest : (m : Option PlainFrame) (fs : List PlainFrame) → consed m fs ≡ [] → (m ≡ None) × (fs ≡ [])
 quiet_rest None fs e = (refl, e)
@@ -143,9 +101,6 @@ module _ (from : Role) (n1 : ℕ) where
   pub quiet_tail : (e : Entry) (es : List Entry) → numbers (e ∷ es) ≡ [] → numbers es ≡ []
   quiet_tail e es h = (quiet_rest (number_in (frame_of from n1 e.octets)) (numbers es) h).1
 
-  pub quiet_append : (xs ys : List Entry) → numbers xs ≡ [] → numbers ys ≡ [] → numbers (xs ++ ys) ≡ []
-  quiet_append xs ys f g = numbers_append xs ys ∙ ap (λ (fs : List PlainFrame). fs ++ numbers ys) f ∙ g
-
   pub quiet_of : (s : ℕ) (es : List Entry) → numbers es ≡ [] → AllOf from n1 s es
   quiet_of s [] h = tt
   quiet_of s (e ∷ es) h = (inl (quiet_rest (number_in (frame_of from n1 e.octets)) (numbers es) h).0, quiet_of s es (quiet_tail e es h))
@@ -161,32 +116,6 @@ module _ (from : Role) (n1 : ℕ) where
   pub many_append : (kind : Read → ℕ) (xs ys : List Entry) → how_many kind from n1 (xs ++ ys) ≡ how_many kind from n1 xs + how_many kind from n1 ys
   many_append kind [] ys = omega arith
   many_append kind (e ∷ xs) ys = omega (arith, many_append kind xs ys)
-
-  -- ---- behind a SABM no frame carries a number
-
-  abbrev pub Behind : List Entry → Type 0
-  Behind [] = Unit {0}
-  Behind (e ∷ es) = ((sabm_in (frame_of from n1 e.octets) ≡ 0) ⊎ (numbers es ≡ [])) × Behind es
-
-  pub quiet_behind : (es : List Entry) → numbers es ≡ [] → Behind es
-  quiet_behind [] h = tt
-  quiet_behind (e ∷ es) h = (inr (quiet_tail e es h), quiet_behind es (quiet_tail e es h))
-
-  pub none_behind : (es : List Entry) → how_many sabm_in from n1 es ≡ 0 → Behind es
-  none_behind [] h = tt
-  none_behind (e ∷ es) h =
-      let here : sabm_in (frame_of from n1 e.octets) ≡ 0 = omega (arith, h) in
-      (inl here, none_behind es (omega (arith, h)))
-
-  pub behind_quiet : (xs ys : List Entry) → Behind xs → numbers ys ≡ [] → Behind (xs ++ ys)
-  behind_quiet [] ys f none = quiet_behind ys none
-  behind_quiet (e ∷ xs) ys f none = (elim f.0 [ inl free ↦ inl free | inr quiet ↦ inr (quiet_append xs ys quiet none) ], behind_quiet xs ys f.1 none)
-
-  pub behind_none : (xs ys : List Entry) → how_many sabm_in from n1 xs ≡ 0 → Behind ys → Behind (xs ++ ys)
-  behind_none [] ys none k = k
-  behind_none (e ∷ xs) ys none k =
-      let here : sabm_in (frame_of from n1 e.octets) ≡ 0 = omega (arith, none) in
-      (inl here, behind_none xs ys (omega (arith, none)) k)
 
   -- ---- the octets that carry a number
 
@@ -250,46 +179,17 @@ module _ (from : Role) (n1 : ℕ) where
   damaged_number : (r : Read) → IsDamaged r → number_in r ≡ None
   damaged_number r h = elim h [ inl e ↦ ap number_in e | inr e ↦ ap number_in e ]
 
-  damaged_orderly : (MayAsk : Type 0) (r : Read) → IsDamaged r → IsOrderly MayAsk r
-  damaged_orderly MayAsk r h = elim h [ inl e ↦ subst (IsOrderly MayAsk) (sym e) tt | inr e ↦ subst (IsOrderly MayAsk) (sym e) tt ]
-
   pub change_many : (kind : Read → ℕ) → IsKind kind → (es fs : List Entry) → Change es fs → how_many kind from n1 fs ≤ how_many kind from n1 es
   change_many kind k es fs (nothing xs) = omega arith
   change_many kind k es fs (lost e xs) = omega arith
   change_many kind k es fs (damaged e xs octets bad) = (let none = damaged_kind kind k (frame_of from n1 octets) bad in omega (arith, none))
   change_many kind k es fs (further e xs ys h) = (let less = change_many kind k xs ys h in omega (arith, less))
 
-  pub change_quiet : (es fs : List Entry) → Change es fs → numbers es ≡ [] → numbers fs ≡ []
-  change_quiet es fs (nothing xs) none = none
-  change_quiet es fs (lost e xs) none = quiet_tail e xs none
-  change_quiet es fs (damaged e xs octets bad) none = ap (λ (m : Option PlainFrame). consed m (numbers xs)) (damaged_number (frame_of from n1 octets) bad) ∙ quiet_tail e xs none
-  change_quiet es fs (further e xs ys h) none =
-      let two = quiet_rest (number_in (frame_of from n1 e.octets)) (numbers xs) none in
-      ap (λ (m : Option PlainFrame). consed m (numbers ys)) two.0 ∙ change_quiet xs ys h two.1
-
-  pub change_behind : (es fs : List Entry) → Change es fs → Behind es → Behind fs
-  change_behind es fs (nothing xs) h = h
-  change_behind es fs (lost e xs) h = h.1
-  change_behind es fs (damaged e xs octets bad) h = (inl (damaged_kind sabm_in of_sabm (frame_of from n1 octets) bad), h.1)
-  change_behind es fs (further e xs ys c) h = (elim h.0 [ inl free ↦ inl free | inr quiet ↦ inr (change_quiet xs ys c quiet) ], change_behind xs ys c h.1)
-
   pub change_of : (s : ℕ) (es fs : List Entry) → Change es fs → AllOf from n1 s es → AllOf from n1 s fs
   change_of s es fs (nothing xs) h = h
   change_of s es fs (lost e xs) h = h.1
   change_of s es fs (damaged e xs octets bad) h = (inl (damaged_number (frame_of from n1 octets) bad), h.1)
   change_of s es fs (further e xs ys c) h = (h.0, change_of s xs ys c h.1)
-
-  pub change_begun : (n : ℕ) (es fs : List Entry) → Change es fs → AllBegun n es → AllBegun n fs
-  change_begun n es fs (nothing xs) h = h
-  change_begun n es fs (lost e xs) h = h.1
-  change_begun n es fs (damaged e xs octets bad) h = h
-  change_begun n es fs (further e xs ys c) h = (h.0, change_begun n xs ys c h.1)
-
-  pub change_orderly : (MayAsk : Type 0) (es fs : List Entry) → Change es fs → AreOrderly MayAsk from n1 (octets_of es) → AreOrderly MayAsk from n1 (octets_of fs)
-  change_orderly MayAsk es fs (nothing xs) h = h
-  change_orderly MayAsk es fs (lost e xs) h = h.1
-  change_orderly MayAsk es fs (damaged e xs octets bad) h = (damaged_orderly MayAsk (frame_of from n1 octets) bad, h.1)
-  change_orderly MayAsk es fs (further e xs ys c) h = (h.0, change_orderly MayAsk xs ys c h.1)
 
   -- which of the numbered frames goes, where one does
   pub change_place : (es fs : List Entry) → Change es fs → Option ℕ

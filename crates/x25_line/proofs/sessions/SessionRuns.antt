@@ -1,5 +1,5 @@
 -- Each event keeps what holds of two stations over sessions, so each run does, and what holds says the claims.
-use Rattle.std.proofs.Common.{◌≡◌, ℕ, List, [], ◌∷◌, ◌++◌, ◌⊎◌, inl, inr, length, map, drop, remove, Bool, true, false, not, if◌then◌else◌, Option, Some, None, refl, sym, ap, ◌∙◌, subst, arith}
+use Rattle.std.proofs.Common.{◌≡◌, ℕ, List, [], ◌∷◌, ◌++◌, ◌⊎◌, inl, inr, length, map, drop, remove, Bool, true, false, if◌then◌else◌, Option, Some, None, refl, sym, ap, ◌∙◌, subst, arith}
 use Rattle.std.specs.Prelude.{nat_le}
 use Rattle.std.proofs.lemmas.Bool.{leb-true}
 use Rattle.x25_bits.specs.declared.role.Role.{Role}
@@ -7,29 +7,31 @@ use Rattle.x25_frame.specs.Frame.{PlainFrame}
 use Rattle.x25_frame.specs.Spelling.{spelling_of}
 use Rattle.x25_frame.specs.laws.ReadingLaw.{ReadsSpelled}
 use Rattle.x25_link.specs.declared.error.LinkError.{LinkError}
-use Rattle.x25_link.specs.declared.error.LinkError.TheVariants as error
 use Rattle.x25_link.specs.declared.phase.Phase.{Phase}
 use Rattle.x25_link.specs.declared.phase.Phase.TheVariants.{Down, Waiting, Up}
-use Rattle.x25_link.specs.Station.{Settings, LinkStation, is_up}
+use Rattle.x25_link.specs.Station.{Settings, is_up}
 use Rattle.x25_link.specs.Hearing.{Step, other}
 use Rattle.x25_link.specs.Link.{take_step, put_step, put_refusal, timer_step, timer_refusal, timer_runs, connect_step, connect_refusal, disconnect_step, disconnect_refusal, abandon_step}
 use Rattle.x25_line.specs.laws.Stations.{Stations, Act, Put, Deliver, T1, Connect, Disconnect, Abandon, Probe, Lose, Damage, Event, Near, Far, is_visible, start}
 use Rattle.x25_line.specs.laws.Stations as one
-use Rattle.x25_line.specs.laws.StationClaims.{AreJoined, AreWhole, number_in}
-use Rattle.x25_line.specs.laws.Sessions.{Entry, SessionEnd, Meeting, Sessions, turned, swapped, begun_by, sent_in, after_step, unless, heard, delivered, replaced, acts, happens, run, from_nothing, from_set_up, IsTimely, IsTimelyAt, AreTimely}
+use Rattle.x25_line.specs.laws.StationClaims.{AreJoined, AreWhole}
+use Rattle.x25_line.specs.laws.Sessions.{Entry, Meeting, Sessions, swapped, begun_by, sent_in, after_step, unless, delivered, replaced, acts, happens, run, from_nothing, from_set_up, IsTimely, IsTimelyAt, AreTimely}
 use Rattle.x25_line.specs.laws.SessionNumbers.{Standing, turned as other_way, is_set_up, front_sets_up, anew, place_to_hear, gone_at, standing_after, same_two, standing_acts, standing_happens, standing_run, standing_at, StandsWith, EachUpStandsWith, StandingGoesAlong}
-use Rattle.x25_line.specs.laws.SessionClaims.{Throughout, octets_of, AllOf, AllMet, SomeMet, IsAbove, InStep, IsInOrder, MeetInStep, MetAreInOrder, UnmetHandNothingUp, OnlyBegunHaveLists, IsSession, Stands, EachUpStands, NoSessionSendsFrmr, AllSessionsSendWhole}
+use Rattle.x25_line.specs.laws.SessionClaims.{Throughout, octets_of, AllOf, IsSession, Stands, EachUpStands, NoSessionSendsFrmr, AllSessionsSendWhole}
 use Rattle.x25_line.specs.laws.LawsBelow.{SessionLaws}
 use Rattle.x25_line.proofs.StationSteps.{Holds}
 use Rattle.x25_line.proofs.StationAway.{connects_from}
 use Rattle.x25_line.proofs.StationRuns.{joined_swapped, joint_swapped, start_machine}
 use Rattle.x25_line.proofs.StationClaimLemmas.{is_behind, holds_order, holds_lists, holds_window, holds_whole}
 use Rattle.x25_line.proofs.sessions.SessionLines.{octets_sent, removes, replaces}
-use Rattle.x25_line.proofs.sessions.SessionHeld.{Live, Gone, OnLine, IsPaired, IsBegun, Held, counted_view, stays_on, up_begun}
+use Rattle.x25_line.proofs.sessions.SessionHeld.{Live, Gone, OnLine, Held, counted_view, stays_on, up_begun}
 use Rattle.x25_line.proofs.sessions.SessionSteps.{went_by}
 use Rattle.x25_line.proofs.sessions.SessionChanges.{heard_removes, heard_replaces, change_held}
 use Rattle.x25_line.proofs.sessions.SessionActs.{in_session, put_held, timer_up_held, abandon_held, connect_held, timer_waiting_held, disconnect_held}
-use Rattle.x25_line.proofs.sessions.SessionTakes.{read_of, take_held}
+use Rattle.x25_line.proofs.sessions.SessionTakes.{read_of, heard_by, take_held}
+use Rattle.x25_line.proofs.sessions.SessionSeenSteps.{put_accepted}
+use Rattle.x25_line.proofs.sessions.SessionSeenRuns.{Both, both_swapped, event_both, begin_both}
+use Rattle.x25_line.proofs.sessions.TwoSessions.{on_line}
 
 -- with what stands once `w` is `v`, by the definition
 abbrev HeldNow : Standing → Settings → Settings → Option ℕ → Sessions → Sessions → Type 0
@@ -68,17 +70,6 @@ now_if : {stand : Standing} (c d : Settings) (b : Bool) (w v : Sessions) → Hel
 now_if {stand} c d true w v h g = g refl
 now_if {stand} c d false w v h g = stays_now c d w h
 
--- a packet is accepted in Up alone
-pub put_accepted : (s : LinkStation) → put_refusal s ≡ None → is_up s.phase ≡ true
-put_accepted s accepted = go (is_up s.phase) _ accepted
-  where
-    go : (b : Bool) (o : Option LinkError) → (let z : Option LinkError = if not b then Some error.NotUp else o in z) ≡ None → b ≡ true
-    go true o e = refl
-    go false o e = absurd (never e)
-      where
-        never : Some error.NotUp ≡ None → ⊥
-        never k = cc
-
 module _ (c d : Settings) (joined : AreJoined c d) (reads : ReadsSpelled) (rests_on : SessionLaws) where
   -- what stands once the front is taken off the line
   abbrev delivered_by : Sessions → List Entry → Standing → Standing
@@ -89,9 +80,9 @@ module _ (c d : Settings) (joined : AreJoined c d) (reads : ReadsSpelled) (rests
   none_heard Down = refl
   none_heard p = refl
 
-  deliver_held : {stand : Standing} (w : Sessions) → Held stand c d w → (es : List Entry) → w.back ≡ es → Held (delivered_by w es stand) c d (delivered c es w)
-  deliver_held {stand} w h [] is = subst (λ (gone : Option ℕ). HeldNow stand c d gone w w) (sym (none_heard w.near.station.phase)) (stays_now c d w h)
-  deliver_held {stand} w h (e ∷ es) is = by (is_set_up w.near.station.phase (read_of c e)) (take_held c d joined reads rests_on.laws rests_on.continues w h e es is)
+  deliver_held : {stand : Standing} (w : Sessions) → Held stand c d w → OnLine c d w → (es : List Entry) → w.back ≡ es → Held (delivered_by w es stand) c d (delivered c es w)
+  deliver_held {stand} w h line [] is = subst (λ (gone : Option ℕ). HeldNow stand c d gone w w) (sym (none_heard w.near.station.phase)) (stays_now c d w h)
+  deliver_held {stand} w h line (e ∷ es) is = by (is_set_up w.near.station.phase (read_of c e)) (take_held c d joined reads rests_on.laws w h line e es is)
     where
       v : Sessions
       v = delivered c (e ∷ es) w
@@ -102,7 +93,7 @@ module _ (c d : Settings) (joined : AreJoined c d) (reads : ReadsSpelled) (rests
       by : (b : Bool) → Held (if b then anew c d w else went_by c (take_step c e.octets w.near.station) gone stand) c d v → Held (if b then anew c d w else same_two c gone w v stand) c d v
       by true k = k
       by false k =
-          step_now stand c d w es (heard (is_up w.near.station.phase) (number_in (read_of c e)) (record { near = w.near.begun; far = e.session }) w.met) [] (take_step c e.octets w.near.station) gone k
+          step_now stand c d w es (heard_by c w e) [] (take_step c e.octets w.near.station) gone k
 
   timer_held : {stand : Standing} (w : Sessions) → Held stand c d w → IsTimely c d T1 w
       → HeldNow stand c d None w (unless (timer_refusal w.near.station) w (after_step c w w.back w.met [] (timer_step c w.near.station)))
@@ -120,37 +111,37 @@ module _ (c d : Settings) (joined : AreJoined c d) (reads : ReadsSpelled) (rests
           (λ _. step_now stand c d w w.back w.met [] (timer_step c w.near.station) None (timer_up_held c d joined reads rests_on.laws w h (ap is_up is)))
       by phase is = rw (ap (λ (p : Phase). timer_runs p w.near.station) is) (stays_now c d w h)
 
-  acts_held : {stand : Standing} (a : Act) (w : Sessions) → IsTimely c d a w → Held stand c d w → Held (standing_acts c d a w stand) c d (acts c a w)
-  acts_held {stand} (Put packet) w timely h =
+  acts_held : {stand : Standing} (a : Act) (w : Sessions) → IsTimely c d a w → OnLine c d w → Held stand c d w → Held (standing_acts c d a w stand) c d (acts c a w)
+  acts_held {stand} (Put packet) w timely line h =
       let step = put_step c packet w.near.station in
       let done = after_step c w w.back w.met (packet ∷ []) step in
       now_if c d (nat_le (length packet) c.longest) w (unless (put_refusal w.near.station) w done) h
       (λ short. now_unless c d (put_refusal w.near.station) w done h
       (λ accepted. step_now stand c d w w.back w.met (packet ∷ []) step None (put_held c d joined reads rests_on.laws w h (put_accepted w.near.station accepted) packet (leb-true _ _ short))))
-  acts_held {stand} Deliver w timely h = deliver_held w h w.back refl
-  acts_held {stand} T1 w timely h = timer_held w h timely
-  acts_held {stand} Connect w timely h =
+  acts_held {stand} Deliver w timely line h = deliver_held w h line w.back refl
+  acts_held {stand} T1 w timely line h = timer_held w h timely
+  acts_held {stand} Connect w timely line h =
       let step = connect_step c w.near.station in
       now_unless c d (connect_refusal w.near.station.phase) w (after_step c w w.back w.met [] step) h
-      (λ accepted. step_now stand c d w w.back w.met [] step None (connect_held c d joined reads rests_on.laws w h (connects_from w.near.station.phase accepted)))
-  acts_held {stand} Disconnect w timely h =
+      (λ accepted. step_now stand c d w w.back w.met [] step None (connect_held c d joined reads rests_on.laws w h line (connects_from w.near.station.phase accepted)))
+  acts_held {stand} Disconnect w timely line h =
       let step = disconnect_step c w.near.station in
       now_unless c d (disconnect_refusal w.near.station.phase) w (after_step c w w.back w.met [] step) h
       (λ accepted. step_now stand c d w w.back w.met [] step None (disconnect_held c d joined reads rests_on.laws w h accepted))
-  acts_held {stand} Abandon w timely h =
+  acts_held {stand} Abandon w timely line h =
       let step = abandon_step c w.near.station in
       now_if c d (is_up w.near.station.phase) w (after_step c w w.back w.met [] step) h
       (λ up. step_now stand c d w w.back w.met [] step None (abandon_held c d joined reads rests_on.laws w h up))
-  acts_held {stand} Probe w timely h =
+  acts_held {stand} Probe w timely line h =
       let step = timer_step c w.near.station in
       now_if c d (is_up w.near.station.phase) w (after_step c w w.back w.met [] step) h
       (λ up. step_now stand c d w w.back w.met [] step None (timer_up_held c d joined reads rests_on.laws w h up))
-  acts_held {stand} (Lose i) w timely h =
+  acts_held {stand} (Lose i) w timely line h =
       let v : Sessions = record w { back = remove w.back i } in
       still_now stand c d w v (gone_at c w (Some i)) refl
       (subst (λ (gone : Option ℕ). Held (standing_after c w.near.station [] gone stand) c d v) (heard_removes (other c.role) c.longest w.near.station.phase w.back i)
-      (change_held c d joined reads rests_on.laws w h (remove w.back i) (removes (other c.role) c.longest w.back i)))
-  acts_held {stand} (Damage i octets) w timely h = by (is_visible octets) refl
+      (change_held c d joined reads rests_on.laws w h line (remove w.back i) (removes (other c.role) c.longest w.back i)))
+  acts_held {stand} (Damage i octets) w timely line h = by (is_visible octets) refl
     where
       v : Sessions
       v = record w { back = replaced w.back i octets }
@@ -159,38 +150,10 @@ module _ (c d : Settings) (joined : AreJoined c d) (reads : ReadsSpelled) (rests
       by true visible =
           still_now stand c d w v (gone_at c w (Some i)) refl
           (subst (λ (gone : Option ℕ). Held (standing_after c w.near.station [] gone stand) c d v) (heard_replaces (other c.role) c.longest w.near.station.phase octets visible w.back i)
-          (change_held c d joined reads rests_on.laws w h (replaced w.back i octets) (replaces (other c.role) c.longest octets visible w.back i)))
+          (change_held c d joined reads rests_on.laws w h line (replaced w.back i octets) (replaces (other c.role) c.longest octets visible w.back i)))
       by false hidden = stays_now c d w h
 
 -- ---- the other end
-
-pub begun_turned : (p q : ℕ) (met : List Meeting) → AllMet (IsBegun p q) met → AllMet (IsBegun q p) (map turned met)
-begun_turned p q [] h = tt
-begun_turned p q (m ∷ ms) h = ((h.0.1, h.0.0), begun_turned p q ms h.1)
-
-pub paired_turned : (p q : ℕ) (met : List Meeting) → AllMet (IsPaired p q) met → AllMet (IsPaired q p) (map turned met)
-paired_turned p q [] h = tt
-paired_turned p q (m ∷ ms) h = (elim h.0 [ inl same ↦ inl (same.1, same.0) | inr less ↦ inr (less.1, less.0) ], paired_turned p q ms h.1)
-
-above_turned : (m : Meeting) (met : List Meeting) → IsAbove m met → IsAbove (turned m) (map turned met)
-above_turned m [] h = tt
-above_turned m (n ∷ ms) h = elim h [ inl same ↦ inl (same.1, same.0) | inr less ↦ inr (less.1, less.0) ]
-
-pub in_step_turned : (met : List Meeting) → InStep met → InStep (map turned met)
-in_step_turned [] h = tt
-in_step_turned (m ∷ ms) h = (above_turned m ms h.0, in_step_turned ms h.1)
-
-pub in_order_turned : (near far : SessionEnd) (met : List Meeting) → AllMet (IsInOrder near far) met → AllMet (IsInOrder far near) (map turned met)
-in_order_turned near far [] h = tt
-in_order_turned near far (m ∷ ms) h = (record { there = h.0.back; back = h.0.there }, in_order_turned near far ms h.1)
-
-pub near_turned : (n : ℕ) (met : List Meeting) → SomeMet (λ (m : Meeting). m.near ≡ n) met → SomeMet (λ (m : Meeting). m.far ≡ n) (map turned met)
-near_turned n [] h = h
-near_turned n (m ∷ ms) h = elim h [ inl here ↦ inl here | inr there ↦ inr (near_turned n ms there) ]
-
-pub far_turned : (n : ℕ) (met : List Meeting) → SomeMet (λ (m : Meeting). m.far ≡ n) met → SomeMet (λ (m : Meeting). m.near ≡ n) (map turned met)
-far_turned n [] h = h
-far_turned n (m ∷ ms) h = elim h [ inl here ↦ inl here | inr there ↦ inr (far_turned n ms there) ]
 
 pub held_swapped : {stand : Standing} (c d : Settings) → AreJoined c d → (w : Sessions) → Held stand c d w → Held (other_way stand) d c (swapped w)
 held_swapped {stand} c d joined w h =
@@ -203,26 +166,8 @@ held_swapped {stand} c d joined w h =
       far = h.near;
       back = h.out;
       out = h.back;
-      line = record {
-        near_owes = h.line.far_owes;
-        far_owes = h.line.near_owes;
-        out_behind = h.line.back_behind;
-        back_behind = h.line.out_behind;
-        out_begun = h.line.back_begun;
-        back_begun = h.line.out_begun;
-        out_orderly = h.line.back_orderly;
-        back_orderly = h.line.out_orderly;
-      };
       near_lists = h.far_lists;
       far_lists = h.near_lists;
-      meetings = record {
-        begun = begun_turned w.near.begun w.far.begun w.met h.meetings.begun;
-        paired = paired_turned stand.near stand.far w.met h.meetings.paired;
-        in_step = in_step_turned w.met h.meetings.in_step;
-        in_order = in_order_turned w.near w.far w.met h.meetings.in_order;
-        near_unmet = λ n. elim (h.meetings.far_unmet n) [ inl empty ↦ inl empty | inr some ↦ inr (far_turned n w.met some) ];
-        far_unmet = λ n. elim (h.meetings.near_unmet n) [ inl empty ↦ inl empty | inr some ↦ inr (near_turned n w.met some) ];
-      };
       no_frmr = h.no_frmr;
       whole = record {
         given = h.whole.given;
@@ -233,12 +178,12 @@ held_swapped {stand} c d joined w h =
 
 -- ---- runs
 
-event_held : {stand : Standing} (c d : Settings) → AreJoined c d → ReadsSpelled → SessionLaws → (e : Event) (w : Sessions) → IsTimelyAt c d e w → Held stand c d w
-    → Held (standing_happens c d e w stand) c d (happens c d e w)
-event_held {stand} c d joined reads rests_on (Near act) w timely h = acts_held c d joined reads rests_on act w timely h
-event_held {stand} c d joined reads rests_on (Far act) w timely h =
-    let turn = joined_swapped c d joined in
-    held_swapped d c turn (acts d act (swapped w)) (acts_held d c turn reads rests_on act (swapped w) timely (held_swapped c d joined w h))
+event_held : {stand : Standing} (c d : Settings) (near_joined : AreJoined d c) (joined : AreJoined c d) → ReadsSpelled → SessionLaws → (e : Event) (w : Sessions) → IsTimelyAt c d e w → Both c d near_joined joined w
+    → Held stand c d w → Held (standing_happens c d e w stand) c d (happens c d e w)
+event_held {stand} c d near_joined joined reads rests_on (Near act) w timely both h = acts_held c d joined reads rests_on act w timely (on_line reads rests_on c d near_joined joined w both) h
+event_held {stand} c d near_joined joined reads rests_on (Far act) w timely both h =
+    held_swapped d c near_joined (acts d act (swapped w))
+    (acts_held d c near_joined reads rests_on act (swapped w) timely (on_line reads rests_on d c joined near_joined (swapped w) (both_swapped c d near_joined joined w both)) (held_swapped c d joined w h))
 
 -- what each event keeps is so after a run
 run_keeps : (P : Standing → Sessions → Type 0) (c d : Settings) → ((e : Event) (w : Sessions) (stand : Standing) → IsTimelyAt c d e w → P stand w → P (standing_happens c d e w stand) (happens c d e w))
@@ -247,15 +192,6 @@ run_keeps P c d keeps [] w stand timely h = h
 run_keeps P c d keeps (e ∷ es) w stand timely h = run_keeps P c d keeps es (happens c d e w) (standing_happens c d e w stand) timely.1 (keeps e w stand timely.0 h)
 
 -- ---- how a run begins
-
-clear_line : (c d : Settings) (p : Phase) → (p ≡ Down) ⊎ (p ≡ Up) → (n : ℕ) → OnLine c d p p n n [] []
-clear_line c d p is n =
-    elim is [
-      | inl down ↦ subst (λ (z : Phase). OnLine c d z z n n [] []) (sym down)
-          (record { near_owes = (omega arith, refl); far_owes = (omega arith, refl); out_behind = tt; back_behind = tt; out_begun = tt; back_begun = tt; out_orderly = tt; back_orderly = tt })
-      | inr up ↦ subst (λ (z : Phase). OnLine c d z z n n [] []) (sym up)
-          (record { near_owes = (omega arith, refl); far_owes = (omega arith, refl); out_behind = tt; back_behind = tt; out_begun = tt; back_begun = tt; out_orderly = tt; back_orderly = tt })
-    ]
 
 nothing_held : (c d : Settings) → AreJoined c d → Held (standing_at c d from_nothing) c d from_nothing
 nothing_held c d joined =
@@ -268,10 +204,8 @@ nothing_held c d joined =
       far = (refl, omega arith);
       back = λ waiting. refl;
       out = λ waiting. refl;
-      line = clear_line c d Down (inl refl) 0;
-      near_lists = record { down = refl; up = refl; later = λ n less. (refl, refl) };
-      far_lists = record { down = refl; up = refl; later = λ n less. (refl, refl) };
-      meetings = record { begun = tt; paired = tt; in_step = tt; in_order = tt; near_unmet = λ n. inl refl; far_unmet = λ n. inl refl };
+      near_lists = record { down = refl; up = refl };
+      far_lists = record { down = refl; up = refl };
       no_frmr = tt;
       whole = record { given = []; handed_down = λ x there. absurd (omega (arith, there.1)); whole = tt };
     }
@@ -287,10 +221,8 @@ set_up_held c d joined =
       far = (refl, refl, refl);
       back = (refl, tt);
       out = (refl, tt);
-      line = clear_line c d Up (inr refl) 1;
-      near_lists = record { down = refl; up = refl; later = λ n less. (refl, refl) };
-      far_lists = record { down = refl; up = refl; later = λ n less. (refl, refl) };
-      meetings = record { begun = tt; paired = tt; in_step = tt; in_order = tt; near_unmet = λ n. inl refl; far_unmet = λ n. inl refl };
+      near_lists = record { down = refl; up = refl };
+      far_lists = record { down = refl; up = refl };
       no_frmr = tt;
       whole = record { given = []; handed_down = λ x there. absurd (omega (arith, there.1)); whole = tt };
     }
@@ -350,29 +282,16 @@ module _ (reads : ReadsSpelled) (rests_on : SessionLaws) where
   pub goes_along : (c d : Settings) → AreJoined c d → (begin : Sessions) → (begin ≡ from_nothing) ⊎ (begin ≡ from_set_up) → (events : List Event) → AreTimely c d events begin
       → Held (standing_run c d events begin (standing_at c d begin)) c d (run c d events begin)
   goes_along c d joined begin is events timely =
-      run_keeps (λ (stand : Standing) (w : Sessions). Held stand c d w) c d (λ e w stand at h. event_held c d joined reads rests_on e w at h) events begin (standing_at c d begin) timely (begin_held c d joined begin is)
+      let turn = joined_swapped c d joined in
+      (run_keeps (λ (stand : Standing) (w : Sessions). Held stand c d w × Both c d turn joined w) c d
+      (λ e w stand at h. (event_held c d turn joined reads rests_on e w at h.1 h.0, event_both reads rests_on c d turn joined e w at h.1))
+      events begin (standing_at c d begin) timely (begin_held c d joined begin is, begin_both reads rests_on c d joined begin is)).0
 
   pub throughout : Throughout HeldOf
   throughout c d joined begin is events timely = (standing_run c d events begin (standing_at c d begin), goes_along c d joined begin is events timely)
 
   pub standing_goes_along : StandingGoesAlong
   standing_goes_along c d joined begin is events timely = each_stands_with c d joined (run c d events begin) (goes_along c d joined begin is events timely)
-
-  pub meet_in_step : Throughout MeetInStep
-  meet_in_step c d joined begin is events timely = (throughout c d joined begin is events timely).1.meetings.in_step
-
-  pub met_in_order : Throughout MetAreInOrder
-  met_in_order c d joined begin is events timely = (throughout c d joined begin is events timely).1.meetings.in_order
-
-  pub unmet_nothing : Throughout UnmetHandNothingUp
-  unmet_nothing c d joined begin is events timely =
-      let h = (throughout c d joined begin is events timely).1 in
-      record { near = h.meetings.near_unmet; far = h.meetings.far_unmet }
-
-  pub only_begun : Throughout OnlyBegunHaveLists
-  only_begun c d joined begin is events timely =
-      let h = (throughout c d joined begin is events timely).1 in
-      record { met = h.meetings.begun; near = h.near_lists.later; far = h.far_lists.later }
 
   pub each_stands : Throughout EachUpStands
   each_stands c d joined begin is events timely =

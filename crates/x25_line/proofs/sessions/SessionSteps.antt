@@ -1,29 +1,28 @@
 -- Steps of the near end keep what holds of two stations over sessions: of an end that is in the session, of one that is out of it,
 -- and where sessions begin.
-use Rattle.std.proofs.Common.{◌≡◌, ◌≤◌, ℕ, ◌+◌, List, [], ◌∷◌, ◌++◌, ◌⊎◌, inl, inr, map, length, true, false, Option, None, refl, sym, ap, ◌∙◌, subst, arith, append-nil}
+use Rattle.std.proofs.Common.{◌≡◌, ◌≤◌, ℕ, List, [], ◌∷◌, ◌++◌, ◌⊎◌, inl, inr, map, length, Option, None, refl, sym, ap, ◌∙◌, subst, arith, append-nil}
 use Rattle.std.specs.Prelude.{option_to_list}
 use Rattle.std.specs.List.{Contains}
 use Rattle.std.proofs.lemmas.List.Elements.{Contains-append_cases}
 use Rattle.x25_bits.specs.declared.role.Role.{Role}
-use Rattle.x25_frame.specs.Frame.{PlainFrame, info, rr, rnr, rej, sabm, disc, ua, dm, frmr}
+use Rattle.x25_frame.specs.Frame.{PlainFrame, frmr}
 use Rattle.x25_frame.specs.Spelling.{spelling_of}
-use Rattle.x25_frame.specs.Reading.{frame_of}
 use Rattle.x25_frame.specs.laws.ReadingLaw.{ReadsSpelled}
 use Rattle.x25_link.specs.declared.phase.Phase.{Phase}
-use Rattle.x25_link.specs.declared.phase.Phase.TheVariants.{Down, Waiting, Up, Closed}
-use Rattle.x25_link.specs.Station.{Settings, is_up}
+use Rattle.x25_link.specs.declared.phase.Phase.TheVariants.{Waiting, Closed}
+use Rattle.x25_link.specs.Station.{Settings}
 use Rattle.x25_link.specs.Hearing.{Step, other}
 use Rattle.x25_line.specs.laws.Stations.{Stations, start}
 use Rattle.x25_line.specs.laws.Stations as one
 use Rattle.x25_line.specs.laws.StationClaims.{AreJoined, NoFrmr, AreWhole, numbered_on}
-use Rattle.x25_line.specs.laws.Sessions.{Entry, SessionEnd, Meeting, Sessions, sabm_in, ua_in, disc_in, how_many, sent_in, extended}
+use Rattle.x25_line.specs.laws.Sessions.{Entry, SessionEnd, Meeting, Sessions, ua_in, how_many, sent_in, extended}
 use Rattle.x25_line.specs.laws.WholeNumbers.{given, taken_out}
 use Rattle.x25_line.specs.laws.SessionNumbers.{Standing, standing_after}
-use Rattle.x25_line.specs.laws.SessionClaims.{octets_of, AllOf}
-use Rattle.x25_line.proofs.StationLines.{IsOrderly, orderly_where, AreOrderly, orderly_append, AreParting, no_frmr_append, parting_no_frmr, parting_numbered, parting_orderly, parting_whole}
-use Rattle.x25_line.proofs.StationSteps.{MayBeAway, away_is_not_up, Leads, put_behind, FitsEnd, not_both}
-use Rattle.x25_line.proofs.sessions.SessionLines.{Read, octets_append, octets_sent, begun_append, begun_more, begun_sent, count, orderly_count, numbers, quiet_of, of_sent, many_append, none_behind, behind_quiet, behind_none, many_sent}
-use Rattle.x25_line.proofs.sessions.SessionHeld.{OwesAfter, View, Live, Gone, IsView, IsHeard, Comes, Owes, owes_less, owes_none, OnLine, HasLists, SameLists, lists_same, Meetings, meetings_same, Grows, Held, counted_view, with_machine, standing_after_is, stays_on, extended_nil, extended_same, extended_other, extended_more, whole_on, whole_apart, heard_more}
+use Rattle.x25_line.specs.laws.SessionClaims.{AllOf}
+use Rattle.x25_line.proofs.StationLines.{AreParting, no_frmr_append, parting_no_frmr, parting_numbered, parting_whole}
+use Rattle.x25_line.proofs.StationSteps.{MayBeAway, away_is_not_up, Leads, put_behind, FitsEnd}
+use Rattle.x25_line.proofs.sessions.SessionLines.{Read, octets_sent, count, numbers, quiet_of, of_sent, many_sent}
+use Rattle.x25_line.proofs.sessions.SessionHeld.{View, Live, Gone, IsView, IsHeard, Comes, Owes, HasLists, SameLists, lists_same, Held, counted_view, with_machine, standing_after_is, stays_on, extended_nil, extended_same, extended_more, whole_on, whole_apart, heard_more}
 
 -- ---- the end, and both, after a step, in which its session is n
 
@@ -44,22 +43,9 @@ stepped c w es met down n step = record {
 abbrev pub went_by : Settings → Step → Option ℕ → Standing → Standing
 went_by c step gone stand = standing_after c step.side.near (map (spelling_of c.role) step.side.out) gone stand
 
-pub nothing_handed : (e : SessionEnd) (n : ℕ) (step : Step) → step.packet ≡ None → e.begun ≤ n → SameLists e (end_after e n [] step)
-nothing_handed e n step none le =
-    record {
-      down = λ m. extended_nil e.down n m;
-      up = λ m. ap (λ (o : Option (List ℕ)). extended e.up n (option_to_list o) m) none ∙ extended_nil e.up n m;
-      begun = le;
-    }
-
--- what was handed down and up in its session
-pub grown : (e : SessionEnd) (down : List (List ℕ)) (step : Step) (p : ℕ) → e.begun ≡ p → Grows e (end_after e e.begun down step) p
-grown e down step p is =
-    record {
-      begun = refl;
-      down = λ n never. extended_other e.down e.begun n down (λ (here : n ≡ e.begun). never (here ∙ is));
-      up = λ n never. extended_other e.up e.begun n (option_to_list step.packet) (λ (here : n ≡ e.begun). never (here ∙ is));
-    }
+pub nothing_handed : (e : SessionEnd) (n : ℕ) (step : Step) → step.packet ≡ None → SameLists e (end_after e n [] step)
+nothing_handed e n step none =
+    record { down = λ m. extended_nil e.down n m; up = λ m. ap (λ (o : Option (List ℕ)). extended e.up n (option_to_list o) m) none ∙ extended_nil e.up n m }
 
 pub live_lists : (c : Settings) (e : SessionEnd) (p : ℕ) (v : Stations) (os down : List (List ℕ)) (step : Step) → e.begun ≡ p → HasLists e p v.near
     → HasLists (end_after e e.begun down step) p (one.after_step c v os down step).near
@@ -68,17 +54,9 @@ live_lists c e p v os down step is h =
       down = ap (extended e.down e.begun down) (sym is) ∙ extended_same e.down e.begun down ∙ ap (λ (x : List (List ℕ)). x ++ down) (ap e.down is ∙ h.down);
       up = ap (extended e.up e.begun (option_to_list step.packet)) (sym is) ∙ extended_same e.up e.begun (option_to_list step.packet)
           ∙ ap (λ (x : List (List ℕ)). x ++ option_to_list step.packet) (ap e.up is ∙ h.up);
-      later = λ n less. (let old = h.later n less in (
-        extended_other e.down e.begun n down (λ (same : n ≡ e.begun). omega (arith, same, less)) ∙ old.0,
-        extended_other e.up e.begun n (option_to_list step.packet) (λ (same : n ≡ e.begun). omega (arith, same, less)) ∙ old.1,
-      ));
     }
 
 -- ---- what stands behind
-
-orderly_behind : (MayAsk : Type 0) (from : Role) (n1 : ℕ) (xs ys : List (List ℕ)) → AreOrderly MayAsk from n1 (xs ++ ys) → AreOrderly MayAsk from n1 ys
-orderly_behind MayAsk from n1 [] ys h = h
-orderly_behind MayAsk from n1 (o ∷ xs) ys h = orderly_behind MayAsk from n1 xs ys h.1
 
 whole_behind : (n1 : ℕ) (given : List (List ℕ)) (xs ys : List PlainFrame) → AreWhole n1 given (xs ++ ys) → AreWhole n1 given ys
 whole_behind n1 given [] ys h = h
@@ -89,14 +67,6 @@ no_frmr_behind [] ys h = h
 no_frmr_behind (frmr g why ∷ xs) ys h = absurd h
 no_frmr_behind (frame ∷ xs) ys h = no_frmr_behind xs ys h
 
--- SABM or not
-ask_or_not : (from : Role) (n1 : ℕ) (os : List (List ℕ)) → AreOrderly ⊥ from n1 os → AreOrderly (Unit {0}) from n1 os
-ask_or_not from n1 [] h = tt
-ask_or_not from n1 (o ∷ os) h = (ask_one (frame_of from n1 o) h.0, ask_or_not from n1 os h.1)
-  where
-    ask_one : (r : Read) → IsOrderly ⊥ r → IsOrderly (Unit {0}) r
-    ask_one r k = orderly_where ⊥ (Unit {0}) r (λ p is never. tt) k
-
 pub waiting_is_closed : {A : Type 0} (p : Phase) → p ≡ Waiting → p ≡ Closed → A
 waiting_is_closed p e f = absurd (never (sym e ∙ f))
   where
@@ -106,21 +76,15 @@ waiting_is_closed p e f = absurd (never (sym e ∙ f))
 waiting_away : {A : Type 0} (p : Phase) → p ≡ Waiting → MayBeAway ⊥ p → A
 waiting_away p e h = absurd (subst (MayBeAway ⊥) e h)
 
-pub owes_up : (p : Phase) (n m : ℕ) → is_up p ≡ true → Owes p n m → (n ≡ 0) × (m ≡ 0)
-owes_up Waiting n m up h = not_both false up refl
-owes_up Closed n m up h = not_both false up refl
-owes_up p n m up h = h
-
 -- who has a SABM on the line waits, or is Closed
 pub asked_by : (p : Phase) (n m : ℕ) → 1 ≤ n → Owes p n m → ((p ≡ Waiting) × (n ≤ 1) × (m ≡ 0)) ⊎ (p ≡ Closed)
 asked_by Waiting n m h g = inl (refl, g.0, g.1)
 asked_by Closed n m h g = inr refl
 asked_by p n m h g = absurd (omega (arith, h, g.0))
 
--- DISC is sent by an end that is Closed then, and UA to one that is Closed
-pub record Answers (w : Sessions) (step : Step) : Type 0 where
-  pub disc : (step.side.near.phase ≡ Closed) ⊎ (count disc_in step.side.out ≡ 0)
-  pub ua : (w.far.station.phase ≡ Closed) ⊎ (count ua_in step.side.out ≡ 0)
+-- UA is sent to an end that is Closed
+abbrev pub Answers : Sessions → Step → Type 0
+Answers w step = (w.far.station.phase ≡ Closed) ⊎ (count ua_in step.side.out ≡ 0)
 
 module _ (c d : Settings) (joined : AreJoined c d) (reads : ReadsSpelled) where
   pub many_out : (kind : Read → ℕ) (s : ℕ) (given : List (List ℕ)) (fs : List PlainFrame) → AreWhole d.longest given fs → how_many kind (other d.role) d.longest (sent_in s c.role fs) ≡ count kind fs
@@ -131,9 +95,8 @@ module _ (c d : Settings) (joined : AreJoined c d) (reads : ReadsSpelled) where
 
   pub live_held : {stand : Standing} (w : Sessions) (h : Held stand c d w) → IsView Live w.near h.alone.near.station stand.near → (es : List Entry) (os : List (List ℕ)) (met : List Meeting) (down : List (List ℕ)) (step : Step) (gone : Option ℕ)
       → Leads ⊥ c d h.alone stand.machine (taken_out gone stand.machine.back) (one.after_step c h.alone os down step) → Comes (other c.role) c.longest es os stand.far
-      → OnLine c d w.near.station.phase w.far.station.phase w.near.begun w.far.begun w.out es → Answers w step
-      → Meetings (end_after w.near w.near.begun down step) w.far stand.near stand.far met → Held (went_by c step gone stand) c d (stepped c w es met down w.near.begun step)
-  live_held {stand} w h near es os met down step gone holds comes line answers meetings = subst (λ (z : Standing). Held z c d (stepped c w es met down w.near.begun step)) is_on (go holds.1.near)
+      → Answers w step → Held (went_by c step gone stand) c d (stepped c w es met down w.near.begun step)
+  live_held {stand} w h near es os met down step gone holds comes answers = subst (λ (z : Standing). Held z c d (stepped c w es met down w.near.begun step)) is_on (go holds.1.near)
     where
       fs : List PlainFrame
       fs = step.side.out
@@ -144,50 +107,11 @@ module _ (c d : Settings) (joined : AreJoined c d) (reads : ReadsSpelled) where
       now : Stations
       now = one.after_step c h.alone os down step
 
-      before : (how_many sabm_in (other d.role) d.longest w.out + how_many ua_in (other c.role) c.longest es ≡ 0) × (how_many disc_in (other d.role) d.longest w.out ≡ 0)
-      before = owes_up w.near.station.phase _ _ near.0 line.near_owes
-
-      many : (kind : Read → ℕ) → how_many kind (other d.role) d.longest (w.out ++ more) ≡ how_many kind (other d.role) d.longest w.out + count kind fs
-      many kind =
-          many_append (other d.role) d.longest kind w.out more
-          ∙ ap (λ (n : ℕ). how_many kind (other d.role) d.longest w.out + n)
-          (many_out kind w.near.begun (now.near.down ++ now.far.down) fs (whole_behind d.longest (now.near.down ++ now.far.down) h.alone.sent fs holds.1.whole))
-
-      orderly : AreOrderly ⊥ (other d.role) d.longest (octets_of more)
-      orderly =
-          subst (AreOrderly ⊥ (other d.role) d.longest) (sym (octets_sent w.near.begun c.role fs))
-          (orderly_behind ⊥ (other d.role) d.longest h.alone.out (map (spelling_of c.role) fs) holds.1.out_orderly)
-
-      no_sabm : how_many sabm_in (other d.role) d.longest more ≡ 0
-      no_sabm = orderly_count (other d.role) d.longest more orderly
-
-      none_asked : count sabm_in fs ≡ 0
-      none_asked = sym (many_out sabm_in w.near.begun (now.near.down ++ now.far.down) fs (whole_behind d.longest (now.near.down ++ now.far.down) h.alone.sent fs holds.1.whole)) ∙ no_sabm
-
-      near_owes : Owes step.side.near.phase (how_many sabm_in (other d.role) d.longest (w.out ++ more) + how_many ua_in (other c.role) c.longest es) (how_many disc_in (other d.role) d.longest (w.out ++ more))
-      near_owes =
-          let sabms = many sabm_in in
-          let discs = many disc_in in
-          elim answers.disc [
-            | inl closed ↦ subst (λ (p : Phase). Owes p (how_many sabm_in (other d.role) d.longest (w.out ++ more) + how_many ua_in (other c.role) c.longest es) (how_many disc_in (other d.role) d.longest (w.out ++ more))) (sym closed) tt
-            | inr none ↦ owes_none step.side.near.phase _ _ (omega (arith, sabms, none_asked, before.0)) (omega (arith, discs, none, before.1))
-          ]
-
-      far_owes : Owes w.far.station.phase (how_many sabm_in (other c.role) c.longest es + how_many ua_in (other d.role) d.longest (w.out ++ more)) (how_many disc_in (other c.role) c.longest es)
-      far_owes =
-          let uas = many ua_in in
-          elim answers.ua [
-            | inl closed ↦ subst (λ (p : Phase). Owes p (how_many sabm_in (other c.role) c.longest es + how_many ua_in (other d.role) d.longest (w.out ++ more)) (how_many disc_in (other c.role) c.longest es)) (sym closed) tt
-            | inr none ↦ owes_less w.far.station.phase _ _ _ _ (omega (arith, uas, none)) (omega arith) line.far_owes
-          ]
-
       none_to : w.far.station.phase ≡ Waiting → how_many ua_in (other d.role) d.longest more ≡ 0
       none_to waiting =
-          let all = many_append (other d.role) d.longest ua_in w.out more in
-          let uas = many ua_in in
-          elim answers.ua [
+          elim answers [
             | inl closed ↦ waiting_is_closed w.far.station.phase waiting closed
-            | inr none ↦ omega (arith, all, uas, none)
+            | inr none ↦ many_out ua_in w.near.begun (now.near.down ++ now.far.down) fs (whole_behind d.longest (now.near.down ++ now.far.down) h.alone.sent fs holds.1.whole) ∙ none
           ]
 
       same : numbers (other d.role) d.longest more ≡ numbered_on (other d.role) d.longest (map (spelling_of c.role) fs)
@@ -218,20 +142,8 @@ module _ (c d : Settings) (joined : AreJoined c d) (reads : ReadsSpelled) where
             far = h.far;
             back = back;
             out = heard_more (other d.role) d.longest h.far_view w.far.station.phase w.out more h.alone.out (map (spelling_of c.role) fs) stand.near same of none_to h.out;
-            line = record {
-              near_owes = near_owes;
-              far_owes = far_owes;
-              out_behind = behind_none (other d.role) d.longest w.out more (omega (arith, before.0)) (none_behind (other d.role) d.longest more no_sabm);
-              back_behind = line.back_behind;
-              out_begun = begun_append w.near.begun w.out more line.out_begun (begun_sent w.near.begun c.role fs);
-              back_begun = line.back_begun;
-              out_orderly = subst (AreOrderly (Unit {0}) (other d.role) d.longest) (sym (octets_append w.out more))
-                  (orderly_append (Unit {0}) (other d.role) d.longest (octets_of w.out) (octets_of more) line.out_orderly (ask_or_not (other d.role) d.longest (octets_of more) orderly));
-              back_orderly = line.back_orderly;
-            };
             near_lists = live_lists c w.near stand.near h.alone os down step near.2 h.near_lists;
             far_lists = h.far_lists;
-            meetings = meetings;
             no_frmr = no_frmr_append w.sent fs h.no_frmr (no_frmr_behind h.alone.sent fs holds.1.no_frmr);
             whole = whole_on d.longest w.near (end_after w.near w.near.begun down step) w.far (now.near.down ++ now.far.down) w.sent fs (λ n x old. extended_more w.near.down w.near.begun n down x old)
                 handed (whole_behind d.longest (now.near.down ++ now.far.down) h.alone.sent fs holds.1.whole) h.whole;
@@ -249,15 +161,13 @@ module _ (c d : Settings) (joined : AreJoined c d) (reads : ReadsSpelled) where
 
   -- ---- an end that is out of the session, or goes into it
 
-  pub apart_held : {stand : Standing} (w : Sessions) (h : Held stand c d w) (es : List Entry) (n : ℕ) (step : Step) (v : View) → step.packet ≡ None → w.near.begun ≤ n
+  pub apart_held : {stand : Standing} (w : Sessions) (h : Held stand c d w) (es : List Entry) (met : List Meeting) (n : ℕ) (step : Step) (v : View) → step.packet ≡ None
       → IsView v (end_after w.near n [] step) h.alone.near.station stand.near → IsHeard v (other c.role) c.longest step.side.near.phase es h.alone.back stand.far
       → AreParting (Unit {0}) step.side.out → count ua_in step.side.out ≡ 0
-      → OnLine c d w.near.station.phase w.far.station.phase w.near.begun w.far.begun w.out es
-      → OwesAfter c d step.side.near.phase w.out step.side.out es
-      → Held (went_by c step None stand) c d (stepped c w es w.met [] n step)
-  apart_held {stand} w h es n step v none le view heard parting no_ua line owes =
-      let same = nothing_handed w.near n step none le in
-      subst (λ (z : Standing). Held z c d (stepped c w es w.met [] n step)) is_on (record {
+      → Held (went_by c step None stand) c d (stepped c w es met [] n step)
+  apart_held {stand} w h es met n step v none view heard parting no_ua =
+      let same = nothing_handed w.near n step none in
+      subst (λ (z : Standing). Held z c d (stepped c w es met [] n step)) is_on (record {
         alone = h.alone;
         holds = h.holds;
         near_view = v;
@@ -267,21 +177,8 @@ module _ (c d : Settings) (joined : AreJoined c d) (reads : ReadsSpelled) where
         back = heard;
         out = subst (λ (os : List (List ℕ)). IsHeard h.far_view (other d.role) d.longest w.far.station.phase (w.out ++ more) os stand.near) (append-nil h.alone.out)
             (heard_more (other d.role) d.longest h.far_view w.far.station.phase w.out more h.alone.out [] stand.near quiet (quiet_of (other d.role) d.longest stand.near more quiet) (λ waiting. many ua_in ∙ no_ua) h.out);
-        line = record {
-          near_owes = subst (λ (a : ℕ). Owes step.side.near.phase a (how_many disc_in (other d.role) d.longest (w.out ++ more))) asked_is
-              (subst (λ (b : ℕ). Owes step.side.near.phase (how_many sabm_in (other d.role) d.longest w.out + count sabm_in fs + how_many ua_in (other c.role) c.longest es) b) (sym (all disc_in)) owes);
-          far_owes = (let uas = all ua_in in owes_less w.far.station.phase _ _ _ _ (omega (arith, uas, no_ua)) (omega arith) line.far_owes);
-          out_behind = behind_quiet (other d.role) d.longest w.out more line.out_behind quiet;
-          back_behind = line.back_behind;
-          out_begun = begun_append n w.out more (begun_more w.near.begun n w.out le line.out_begun) (begun_sent n c.role fs);
-          back_begun = line.back_begun;
-          out_orderly = subst (AreOrderly (Unit {0}) (other d.role) d.longest) (sym (octets_append w.out more))
-              (orderly_append (Unit {0}) (other d.role) d.longest (octets_of w.out) (octets_of more) line.out_orderly orderly);
-          back_orderly = line.back_orderly;
-        };
         near_lists = lists_same w.near (end_after w.near n [] step) stand.near h.alone.near same h.near_lists;
         far_lists = h.far_lists;
-        meetings = meetings_same w.near (end_after w.near n [] step) w.far stand.near stand.far w.met same h.meetings;
         no_frmr = no_frmr_append w.sent fs h.no_frmr (parting_no_frmr (Unit {0}) fs parting);
         whole = whole_apart d.longest w.near (end_after w.near n [] step) w.far w.sent fs same parting h.whole;
       })
@@ -297,20 +194,8 @@ module _ (c d : Settings) (joined : AreJoined c d) (reads : ReadsSpelled) where
           ap (numbered_on (other d.role) d.longest) (octets_sent n c.role step.side.out)
           ∙ subst (λ (r : Role). numbered_on r d.longest (map (spelling_of c.role) step.side.out) ≡ []) (sym joined.near_role) (parting_numbered reads c.role d.longest (Unit {0}) step.side.out parting)
 
-      orderly : AreOrderly (Unit {0}) (other d.role) d.longest (octets_of more)
-      orderly =
-          subst (AreOrderly (Unit {0}) (other d.role) d.longest) (sym (octets_sent n c.role step.side.out))
-          (subst (λ (r : Role). AreOrderly (Unit {0}) r d.longest (map (spelling_of c.role) step.side.out)) (sym joined.near_role) (parting_orderly reads c.role d.longest (Unit {0}) step.side.out parting))
-
       many : (kind : Read → ℕ) → how_many kind (other d.role) d.longest more ≡ count kind step.side.out
       many kind = many_out kind n [] step.side.out (parting_whole (Unit {0}) d.longest [] step.side.out parting)
-
-      all : (kind : Read → ℕ) → how_many kind (other d.role) d.longest (w.out ++ more) ≡ how_many kind (other d.role) d.longest w.out + count kind step.side.out
-      all kind = many_append (other d.role) d.longest kind w.out more ∙ ap (λ (k : ℕ). how_many kind (other d.role) d.longest w.out + k) (many kind)
-
-      asked_is : how_many sabm_in (other d.role) d.longest w.out + count sabm_in step.side.out + how_many ua_in (other c.role) c.longest es
-          ≡ how_many sabm_in (other d.role) d.longest (w.out ++ more) + how_many ua_in (other c.role) c.longest es
-      asked_is = ap (λ (k : ℕ). k + how_many ua_in (other c.role) c.longest es) (sym (all sabm_in))
 
       is_on : stand ≡ went_by c step None stand
       is_on =

@@ -1,32 +1,27 @@
--- What an end does that is Up, over sessions: what it sends, and which sessions meet.
-use Rattle.std.proofs.Common.{◌≡◌, ◌≤◌, ℕ, List, [], ◌∷◌, ◌++◌, inl, inr, Bool, true, false, if◌then◌else◌, Option, Some, None, Ok, Err, refl, sym, ap, ◌∙◌, subst, arith}
-use Rattle.std.proofs.lemmas.Option.{none-some, same_Some}
-use Rattle.x25_frame.specs.Frame.{PlainFrame, info, rr, rnr, rej, sabm, disc, ua, dm, frmr}
-use Rattle.x25_frame.specs.declared.error.FrameError.TheVariants.{Short, BadFcs, BadAddress, Undefined, NoInfoAllowed, TooLong}
+-- What an end does that is Up, over sessions, and what it sends.
+use Rattle.std.proofs.Common.{◌≡◌, ℕ, List, [], ◌∷◌, ◌++◌, inl, inr, Bool, false, Option, Some, None, Ok, refl, sym, ap, subst, arith}
+use Rattle.x25_frame.specs.Frame.{PlainFrame, info, rr, rnr, rej}
 use Rattle.x25_frame.specs.laws.ReadingLaw.{ReadsSpelled}
 use Rattle.x25_window.specs.laws.Window.{Frame, frames_of}
-use Rattle.x25_link.specs.declared.phase.Phase.{Phase}
 use Rattle.x25_link.specs.declared.phase.Phase.TheVariants.{Closed}
 use Rattle.x25_link.specs.declared.phase.Reason.{Reason}
-use Rattle.x25_link.specs.declared.phase.Reason.TheVariants.{Retries, Disc, Dm, FrmrSent, FrmrGot, Reset, Local, Counts}
+use Rattle.x25_link.specs.declared.phase.Reason.TheVariants.{Disc, FrmrSent, Reset}
 use Rattle.x25_link.specs.Station.{Settings, LinkStation}
 use Rattle.x25_link.specs.Hearing.{Step, other}
 use Rattle.x25_link.specs.laws.WindowMachine.{Window, Input, Runs, rests, goes_on, Shows, ShowAll}
-use Rattle.x25_link.specs.laws.WindowLaw.{brought_by, MayHandUp, InputMayHandUp, ending_of, Stays, Ends, Follows}
-use Rattle.x25_line.specs.laws.InWindow.{IsPrefix}
+use Rattle.x25_link.specs.laws.WindowLaw.{brought_by, MayHandUp, InputMayHandUp, Stays, Follows}
 use Rattle.x25_line.specs.laws.Stations.{Stations}
 use Rattle.x25_line.specs.laws.Stations as one
 use Rattle.x25_line.specs.laws.StationClaims.{AreJoined, number_in}
-use Rattle.x25_line.specs.laws.Sessions.{Entry, Meeting, Sessions, ua_in, disc_in, begun_by, after_step}
+use Rattle.x25_line.specs.laws.Sessions.{Entry, Meeting, Sessions, ua_in, begun_by, after_step}
 use Rattle.x25_line.specs.laws.SessionNumbers.{Standing}
-use Rattle.x25_line.specs.laws.SessionClaims.{IsInOrder}
 use Rattle.x25_line.specs.laws.WholeNumbers.{taken_out}
+use Rattle.x25_line.proofs.sessions.SessionSeenActs.{by_disc, by_reset}
 use Rattle.x25_line.proofs.StationSteps.{Holds, Leads}
 use Rattle.x25_line.proofs.StationAway.{second_false}
-use Rattle.x25_line.proofs.StationClaimLemmas.{holds_order}
-use Rattle.x25_line.proofs.sessions.SessionLines.{Read, of_ua, of_disc, none_is_some, count, AllNumbered, numbered_count}
-use Rattle.x25_line.proofs.sessions.SessionHeld.{Live, IsView, Comes, OnLine, Meetings, meetings_go_on, meetings_hear, Held, extended_nil}
-use Rattle.x25_line.proofs.sessions.SessionSteps.{end_after, stepped, grown, live_lists, went_by, Answers, live_held}
+use Rattle.x25_line.proofs.sessions.SessionLines.{Read, of_ua, none_is_some, count, AllNumbered, numbered_count}
+use Rattle.x25_line.proofs.sessions.SessionHeld.{Live, IsView, Comes, Held}
+use Rattle.x25_line.proofs.sessions.SessionSteps.{stepped, went_by, Answers, live_held}
 
 -- ---- a run that only sends, sends frames that carry a number
 
@@ -52,28 +47,16 @@ runs_numbered v z fs (goes_on w before step frames runs sent allowed shows) = nu
 
 -- ---- what is sent where Up is left
 
--- UA is sent to an end that is Closed
-abbrev pub MayAnswer : Reason → Phase → Type 0
-MayAnswer Disc far = far ≡ Closed
-MayAnswer Reset far = ⊥
-MayAnswer other far = Unit {0}
-
-pub ends_answers : (w : Sessions) (reason : Reason) (step : Step) → MayAnswer reason w.far.station.phase → Ends reason step → Answers w step
-ends_answers w Disc step may h = record { disc = inr (ap (count disc_in) h.frames.1); ua = inl may }
-ends_answers w FrmrSent step may h = record { disc = inr (ap (count disc_in) h.frames.2); ua = inr (ap (count ua_in) h.frames.2) }
-ends_answers w Reset step may h = absurd may
-ends_answers w Local step may h = record { disc = inl h.phase; ua = inr (ap (count ua_in) h.frames) }
-ends_answers w reason step may h = record { disc = inr (ap (count disc_in) h.frames); ua = inr (ap (count ua_in) h.frames) }
-
 pub stays_answers : (w : Sessions) (k : ℕ) (input : Input) (s : LinkStation) (step : Step) → Stays k input s step → Answers w step
-stays_answers w k input s step h =
-    let all = runs_numbered _ _ step.side.out h.sends in
-    record { disc = inr (numbered_count disc_in of_disc step.side.out all); ua = inr (numbered_count ua_in of_ua step.side.out all) }
+stays_answers w k input s step h = inr (numbered_count ua_in of_ua step.side.out (runs_numbered _ _ step.side.out h.sends))
 
-pub follows_answers : (w : Sessions) (o : Option Reason) (k : ℕ) (input : Input) (s : LinkStation) (step : Step) → ((reason : Reason) → o ≡ Some reason → MayAnswer reason w.far.station.phase)
-    → Follows o k input s step → Answers w step
-follows_answers w None k input s step may h = stays_answers w k input s step h
-follows_answers w (Some reason) k input s step may h = ends_answers w reason step (may reason refl) h
+-- where it leaves by DISC that came, and not by SABM
+pub follows_answers : (w : Sessions) (o : Option Reason) (k : ℕ) (input : Input) (s : LinkStation) (step : Step) → (by_disc o ≡ 1 → w.far.station.phase ≡ Closed) → by_reset o ≡ 0 → Follows o k input s step → Answers w step
+follows_answers w None k input s step closed stays h = stays_answers w k input s step h
+follows_answers w (Some Disc) k input s step closed stays h = inl (closed refl)
+follows_answers w (Some FrmrSent) k input s step closed stays h = inr (ap (count ua_in) h.frames.2)
+follows_answers w (Some Reset) k input s step closed stays h = absurd (omega (arith, stays))
+follows_answers w (Some reason) k input s step closed stays h = inr (ap (count ua_in) h.frames)
 
 -- ---- a packet is handed up where a frame with a number comes
 
@@ -92,75 +75,14 @@ pub follows_no_packet : (o : Option Reason) (k : ℕ) (r : Read) (s : LinkStatio
 follows_no_packet None k r s step none h = stays_no_packet k (brought_by r) s step (λ v y up. never_up r v none y up) h
 follows_no_packet (Some reason) k r s step none h = h.packet
 
--- ---- why Up is left, by what comes
-
-pub valid_answers : (b : Bool) (far : Phase) (reason : Reason) → (let o : Option Reason = if b then None else Some FrmrSent in o) ≡ Some reason → MayAnswer reason far
-valid_answers true far reason e = absurd (none-some reason e)
-valid_answers false far reason e = subst (λ (z : Reason). MayAnswer z far) (same_Some FrmrSent reason e) tt
-
-pub by_reason : (far : Phase) (known reason : Reason) → MayAnswer known far → Some known ≡ Some reason → MayAnswer reason far
-by_reason far known reason may e = subst (λ (z : Reason). MayAnswer z far) (same_Some known reason e) may
-
-pub none_reason : {A : Type 0} (reason : Reason) → None ≡ Some reason → A
-none_reason reason e = absurd (none-some reason e)
-
--- whoever sent DISC is Closed, and no SABM comes
-pub ending_answers : (r : Read) (v : Window) (far : Phase) → ((p : Bool) → r ≡ Ok (sabm p) → ⊥) → ((p : Bool) → r ≡ Ok (disc p) → far ≡ Closed) → (reason : Reason) → ending_of r v ≡ Some reason
-    → MayAnswer reason far
-ending_answers (Ok (sabm p)) v far no_sabm closed reason e = absurd (no_sabm p refl)
-ending_answers (Ok (disc p)) v far no_sabm closed reason e = by_reason far Disc reason (closed p refl) e
-ending_answers (Ok (ua f)) v far no_sabm closed reason e = none_reason reason e
-ending_answers (Ok (dm f)) v far no_sabm closed reason e = by_reason far Dm reason tt e
-ending_answers (Ok (frmr f why)) v far no_sabm closed reason e = by_reason far FrmrGot reason tt e
-ending_answers (Err Short) v far no_sabm closed reason e = none_reason reason e
-ending_answers (Err BadFcs) v far no_sabm closed reason e = none_reason reason e
-ending_answers (Err BadAddress) v far no_sabm closed reason e = none_reason reason e
-ending_answers (Ok frame) v far no_sabm closed reason e = valid_answers _ far reason e
-ending_answers (Err error) v far no_sabm closed reason e = by_reason far FrmrSent reason tt e
-
 module _ (c d : Settings) (joined : AreJoined c d) (reads : ReadsSpelled) where
   -- no LinkUp is noted in the session alone
   quiet_up : (v : Stations) (os down : List (List ℕ)) (step : Step) → Holds ⊥ c d (one.after_step c v os down step) → step.notes.up ≡ false
   quiet_up v os down step holds = second_false v.near.came_up step.notes.up holds.1.near_notes.once
 
-  in_pair : {stand : Standing} (w : Sessions) (h : Held stand c d w) → IsView Live w.near h.alone.near.station stand.near → (os down : List (List ℕ)) (step : Step) → Holds ⊥ c d (one.after_step c h.alone os down step)
-      → IsInOrder (end_after w.near w.near.begun down step) w.far (record { near = stand.near; far = stand.far })
-  in_pair {stand} w h near os down step holds =
-      let v : Stations = one.after_step c h.alone os down step in
-      let order = holds_order ⊥ c d v holds in
-      let lists = live_lists c w.near stand.near h.alone os down step near.2 h.near_lists in
-      let e = end_after w.near w.near.begun down step in
-      record {
-        there = subst (λ (x : List (List ℕ)). IsPrefix x (e.down stand.near)) (sym h.far_lists.up) (subst (IsPrefix h.alone.far.up) (sym lists.down) order.0.begins);
-        back = subst (λ (x : List (List ℕ)). IsPrefix x (w.far.down stand.far)) (sym lists.up) (subst (IsPrefix v.near.up) (sym h.far_lists.down) order.1.begins);
-      }
-
-  -- a step that hands nothing up
-  pub live_goes_on : {stand : Standing} (w : Sessions) (h : Held stand c d w) → IsView Live w.near h.alone.near.station stand.near → (es : List Entry) (os down : List (List ℕ)) (step : Step) (gone : Option ℕ)
+  pub live_goes_on : {stand : Standing} (w : Sessions) (h : Held stand c d w) → IsView Live w.near h.alone.near.station stand.near → (es : List Entry) (os : List (List ℕ)) (met : List Meeting) (down : List (List ℕ)) (step : Step) (gone : Option ℕ)
       → Leads ⊥ c d h.alone stand.machine (taken_out gone stand.machine.back) (one.after_step c h.alone os down step) → Comes (other c.role) c.longest es os stand.far
-      → OnLine c d w.near.station.phase w.far.station.phase w.near.begun w.far.begun w.out es → Answers w step → step.packet ≡ None → Held (went_by c step gone stand) c d (after_step c w es w.met down step)
-  live_goes_on {stand} w h near es os down step gone leads comes line answers none =
-      let e = end_after w.near w.near.begun down step in
-      let same : e.up stand.near ≡ w.near.up stand.near = ap (λ (o : Option (List ℕ)). (end_up w o) stand.near) none ∙ extended_nil w.near.up w.near.begun stand.near in
-      subst (λ (n : ℕ). Held (went_by c step gone stand) c d (stepped c w es w.met down n step)) (sym (ap (λ (b : Bool). begun_by b w.near.begun) (quiet_up h.alone os down step (leads.0, leads.1))))
-      (live_held c d joined reads w h near es os w.met down step gone leads comes line answers
-      (meetings_go_on w.near e w.far stand.near stand.far w.met (grown w.near down step stand.near near.2) (in_pair w h near os down step (leads.0, leads.1)) same h.meetings))
-    where
-      end_up : Sessions → Option (List ℕ) → ℕ → List (List ℕ)
-      end_up z o = (end_after z.near z.near.begun [] (record step { packet = o })).up
-
-  -- a step by a frame with a number
-  pub live_hears : {stand : Standing} (w : Sessions) (h : Held stand c d w) → IsView Live w.near h.alone.near.station stand.near → (es : List Entry) (os down : List (List ℕ)) (step : Step) (gone : Option ℕ)
-      → Leads ⊥ c d h.alone stand.machine (taken_out gone stand.machine.back) (one.after_step c h.alone os down step) → Comes (other c.role) c.longest es os stand.far
-      → OnLine c d w.near.station.phase w.far.station.phase w.near.begun w.far.begun w.out es → Answers w step → (session : ℕ) → session ≡ stand.far → session ≤ w.far.begun
-      → Held (went_by c step gone stand) c d (after_step c w es (record { near = w.near.begun; far = session } ∷ w.met) down step)
-  live_hears {stand} w h near es os down step gone leads comes line answers session is begun =
-      let e = end_after w.near w.near.begun down step in
-      let pair : Meeting = record { near = stand.near; far = stand.far } in
-      let meetings : Meetings e w.far stand.near stand.far (pair ∷ w.met) =
-      meetings_hear w.near e w.far stand.near stand.far w.met (grown w.near down step stand.near near.2) (in_pair w h near os down step (leads.0, leads.1)) (omega (arith, near.2)) (omega (arith, is, begun)) h.meetings in
-      subst (λ (n : ℕ). Held (went_by c step gone stand) c d (stepped c w es (record { near = w.near.begun; far = session } ∷ w.met) down n step))
-      (sym (ap (λ (b : Bool). begun_by b w.near.begun) (quiet_up h.alone os down step (leads.0, leads.1))))
-      (subst (λ (n : ℕ). Held (went_by c step gone stand) c d (stepped c w es (record { near = n; far = session } ∷ w.met) down w.near.begun step)) (sym near.2)
-      (subst (λ (n : ℕ). Held (went_by c step gone stand) c d (stepped c w es (record { near = stand.near; far = n } ∷ w.met) down w.near.begun step)) (sym is)
-      (live_held c d joined reads w h near es os (pair ∷ w.met) down step gone leads comes line answers meetings)))
+      → Answers w step → Held (went_by c step gone stand) c d (after_step c w es met down step)
+  live_goes_on {stand} w h near es os met down step gone leads comes answers =
+      subst (λ (n : ℕ). Held (went_by c step gone stand) c d (stepped c w es met down n step)) (sym (ap (λ (b : Bool). begun_by b w.near.begun) (quiet_up h.alone os down step (leads.0, leads.1))))
+      (live_held c d joined reads w h near es os met down step gone leads comes answers)

@@ -11,7 +11,7 @@ use Rattle.x25_link.specs.Link.{take_step, timer_step, connect_step}
 use Rattle.x25_line.specs.laws.Sessions.{Entry}
 use Rattle.x25_line.specs.laws.Peer.{Peer, taking, hearing}
 use Rattle.x25_line.specs.laws.Peer as once
-use Rattle.x25_sessions.specs.laws.PeerSessions.{PeerEnd, Out, Asking, begins, stands, now, with_now, entry, asks, passes_over, hears, takes_ua, takes_sabm}
+use Rattle.x25_line.specs.laws.PeerSessions.{PeerEnd, Out, Asking, begins, stands, now, with_now, entry, asks, passes_over, hears, takes_ua, takes_sabm}
 use Rattle.x25_station.specs.Config.{link_settings}
 use Rattle.x25_station.specs.Entry.{connect_asked}
 use Rattle.x25_peer.specs.laws.BesideSessions.{BesideSessions, start, followed, heard_here, Connects, Fires, Receives, Damages, LosesThere, Leaves, Sends, Hears, AnswersByUa, IsReached, at_start, goes_on}

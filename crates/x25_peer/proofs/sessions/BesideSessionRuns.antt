@@ -5,7 +5,7 @@ use Rattle.x25_packet.specs.Packet.{PlainPacket}
 use Rattle.x25_link.specs.Station.{is_up}
 use Rattle.x25_line.specs.laws.Sessions.{Meeting}
 use Rattle.x25_line.specs.laws.SessionClaims.{SomeMet}
-use Rattle.x25_sessions.specs.laws.PeerSessions.{PeerSessions, In, now, at_start}
+use Rattle.x25_line.specs.laws.PeerSessions.{PeerSessions, In, now, at_start}
 use Rattle.x25_handshakes.specs.laws.Handshake.{At}
 use Rattle.x25_handshakes.specs.laws.PeerLayer.{PeerChannels}
 use Rattle.x25_layer.specs.Layer.{Layer, goes_up}

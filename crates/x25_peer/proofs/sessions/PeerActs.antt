@@ -16,8 +16,8 @@ use Rattle.x25_line.specs.laws.Stations.{is_visible}
 use Rattle.x25_line.specs.laws.StationClaims.{number_in}
 use Rattle.x25_line.specs.laws.Sessions.{Entry, Meeting, Sessions, acts, replaced}
 use Rattle.x25_line.specs.laws.Peer.{Peer, fresh_peer}
-use Rattle.x25_sessions.specs.laws.PeerSessions.{PeerEnd, PeerSessions, Out, In, is_in, now, with_now, begins, stands, entry, heard_by, MaySend, numbered, asks, closes, free, MayHear, passes_over, hears, takes_ua, MayAnswer, takes_sabm, waits_on, takes_disc, IsReached, goes_on, Ours, HandsDown, both_ends, with_peer}
-use Rattle.x25_sessions.specs.laws.PeerSessions as peers
+use Rattle.x25_line.specs.laws.PeerSessions.{PeerEnd, PeerSessions, Out, In, is_in, now, with_now, begins, stands, entry, heard_by, MaySend, numbered, asks, closes, free, MayHear, passes_over, hears, takes_ua, MayAnswer, takes_sabm, waits_on, takes_disc, IsReached, goes_on, Ours, HandsDown, both_ends, with_peer}
+use Rattle.x25_line.specs.laws.PeerSessions as peers
 use Rattle.x25_handshakes.specs.laws.Handshake.{Live}
 use Rattle.x25_handshakes.specs.laws.Layers.{On}
 use Rattle.x25_handshakes.specs.laws.PeerLayer.{PeerChannels, LayerDeed, MayDoLayer, does_layer, layer_packet_of, layer_taking, ready_taking}

@@ -13,7 +13,7 @@ use Rattle.x25_link.specs.Link.{put_refusal, put_step}
 use Rattle.x25_link.specs.laws.NoteLaw.{PutTells}
 use Rattle.x25_line.specs.laws.Stations as line
 use Rattle.x25_line.specs.laws.Sessions.{Entry, Meeting, Sessions, acts, after_step, sent_in, extended, begun_by}
-use Rattle.x25_sessions.specs.laws.PeerSessions.{PeerEnd, PeerSessions, IsReached, goes_on, Ours, IsTimely, both_ends, with_peer}
+use Rattle.x25_line.specs.laws.PeerSessions.{PeerEnd, PeerSessions, IsReached, goes_on, Ours, IsTimely, both_ends, with_peer}
 use Rattle.x25_station.specs.Station.{put_on, all_put}
 use Rattle.x25_station.specs.laws.JoinLaw.{AreAccepted}
 use Rattle.x25_station.specs.laws.ReadLaw.{AreReadable}

@@ -1,4 +1,4 @@
--- What stands of a station and a peer over sessions: their links are joined as `x25_sessions` has it, and the layers of each session of the one and
+-- What stands of a station and a peer over sessions: their links are joined as `x25_line` has it, and the layers of each session of the one and
 -- each of the other that it met, or may meet yet, as `x25_layer` has it.
 use Rattle.std.proofs.Common.{◌≡◌, ℕ, ◌==◌, ◌≤◌, ◌<◌, inl, inr, List, [], ◌++◌, length, drop, Bool, true, false, if◌then◌else◌, refl, sym, ap, subst, ◌∙◌, append_assoc, eq-eqb, arith}
 use Rattle.std.proofs.lemmas.Bool.{eqb-true}
@@ -12,8 +12,8 @@ use Rattle.x25_line.specs.laws.InWindow.{IsPrefix}
 use Rattle.x25_line.specs.laws.Peer.{Peer}
 use Rattle.x25_line.specs.laws.Sessions.{Entry, Meeting, extended}
 use Rattle.x25_line.specs.laws.SessionClaims.{MeetInStep, MetAreInOrder, UnmetHandNothingUp, IsInOrder}
-use Rattle.x25_sessions.specs.laws.PeerSessions.{PeerEnd, PeerSessions, as_end}
-use Rattle.x25_sessions.specs.laws.PeerSessionClaims.{WithAnyPeer, OfBothEnds, EachMeetsLatest, IdleHasArrived}
+use Rattle.x25_line.specs.laws.PeerSessions.{PeerEnd, PeerSessions, as_end}
+use Rattle.x25_line.specs.laws.PeerSessionClaims.{WithAnyPeer, OfBothEnds, EachMeetsLatest, IdleHasArrived}
 use Rattle.x25_layer.specs.Layer.{Layer, goes_up}
 use Rattle.x25_layer.specs.laws.TwoLayers.{End, started}
 use Rattle.x25_station.specs.Config.{Settings, link_settings, layer_settings}

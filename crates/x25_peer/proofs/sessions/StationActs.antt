@@ -19,7 +19,7 @@ use Rattle.x25_line.specs.laws.Sessions as links
 use Rattle.x25_line.specs.laws.Sessions.{Entry, Meeting, Sessions, acts, after_step, heard, sent_in, extended, begun_by}
 use Rattle.x25_line.specs.laws.SessionClaims.{SomeMet, InStep}
 use Rattle.x25_line.specs.laws.InWindow.{IsPrefix}
-use Rattle.x25_sessions.specs.laws.PeerSessions.{PeerEnd, PeerSessions, goes_on, Ours, IsTimely, IsDue, both_ends, with_peer}
+use Rattle.x25_line.specs.laws.PeerSessions.{PeerEnd, PeerSessions, goes_on, Ours, IsTimely, IsDue, both_ends, with_peer}
 use Rattle.x25_layer.specs.Layer.{Layer}
 use Rattle.x25_layer.specs.Calls.{LayerRequest, layer_outcome}
 use Rattle.x25_layer.specs.Rounds.{LinkView, Refuses, went}

@@ -4,7 +4,7 @@ use Rattle.x25_link.specs.Station.{is_up}
 use Rattle.x25_link.specs.Link.{is_idle}
 use Rattle.x25_line.specs.laws.Sessions.{Meeting}
 use Rattle.x25_line.specs.laws.SessionClaims.{AllMet, SomeMet, InStep}
-use Rattle.x25_sessions.specs.laws.PeerSessions.{In, now}
+use Rattle.x25_line.specs.laws.PeerSessions.{In, now}
 use Rattle.x25_handshakes.specs.laws.Handshake.{At}
 use Rattle.x25_handshakes.specs.laws.PeerLayer.{PeerChannels}
 use Rattle.x25_layer.specs.laws.Transcript.{name_of}

@@ -20,8 +20,8 @@ use Rattle.x25_line.specs.laws.Stations.{is_visible}
 use Rattle.x25_line.specs.laws.StationClaims.{number_in}
 use Rattle.x25_line.specs.laws.Sessions.{Entry, Meeting, heard, replaced, sent_in, begun_by, no_lists}
 use Rattle.x25_line.specs.laws.Peer.{fresh_peer}
-use Rattle.x25_sessions.specs.laws.PeerSessions.{PeerEnd, PeerSessions, Out, In, now, with_now, stands, entry, heard_by}
-use Rattle.x25_sessions.specs.laws.PeerSessions.{IsDue, MaySend, MayHear, MayAnswer}
+use Rattle.x25_line.specs.laws.PeerSessions.{PeerEnd, PeerSessions, Out, In, now, with_now, stands, entry, heard_by}
+use Rattle.x25_line.specs.laws.PeerSessions.{IsDue, MaySend, MayHear, MayAnswer}
 use Rattle.x25_handshakes.specs.laws.Handshake.{At, Live}
 use Rattle.x25_handshakes.specs.laws.Layers.{On}
 use Rattle.x25_handshakes.specs.laws.PeerLayer.{PeerChannels, peer_fresh, peer_ready, LayerDeed, MayDoLayer, does_layer}

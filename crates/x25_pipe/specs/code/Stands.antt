@@ -10,7 +10,7 @@ use Rattle.x25_station.specs.code.PlainEntry.{plain_entry}
 use Rattle.x25_station.specs.Config.{Settings}
 use Rattle.x25_station.specs.Station.{Station}
 use Rattle.x25_station.specs.Step.{Outcome}
-use Rattle.x25_pipe.specs.Pipe.{Saying, enters, sends, Turn, sayings_text, has_refusal}
+use Rattle.x25_pipe.specs.Pipe.{Saying, enters, sends, Act, Turn, sayings_text, has_refusal}
 use Rattle.x25_pipe.specs.declared.pipe.Pipe.{Pipe}
 
 -- The writer held `old` at first and holds `now`.
@@ -35,6 +35,26 @@ abbrev pub Turns : Settings → Option (List ℕ) → Option (List ℕ) → Opti
 Turns c old now next p q result turn = (s : Station) (told : List ℕ) (refused : Bool)
     → Stands c old now p s told refused
     → Stood c old next q told refused result (turn s)
+
+-- ---- what comes of a line, but for its mark
+
+-- it is told, and the step has what it answered
+pub record IsActed (c : Settings) (old now : Option (List ℕ)) (p : Pipe) (told : List ℕ) (refused : Bool)
+    (a : Act) : Type 0 where
+  pub stands : Stands c old now p a.next (told ++ sayings_text c.role a.sayings) (refused || has_refusal a.sayings)
+  pub timer : p.step.timer ≡ a.timer
+  pub entries : map plain_entry p.step.entries.items ≡ a.entries
+  pub has_come : p.has_come ≡ a.has_come
+
+abbrev pub Acted : Settings → Option (List ℕ) → Option (List ℕ) → Pipe → List ℕ → Bool → Result Unit Fault → Act
+    → Type 0
+Acted c old now p told refused result a = MatchResult result (λ _. IsActed c old now p told refused a)
+    (λ _. AppendsPrefix old now (told ++ sayings_text c.role a.sayings))
+
+abbrev pub Acts : Settings → Option (List ℕ) → Option (List ℕ) → Option (List ℕ) → Pipe → Pipe → Result Unit Fault
+    → (Station → Act) → Type 0
+Acts c old now next p q result act = (s : Station) (told : List ℕ) (refused : Bool) → Stands c old now p s told refused
+    → Acted c old next q told refused result (act s)
 
 -- ---- what a call of the station answered
 

@@ -9,33 +9,38 @@ use Rattle.x25_settings.specs.declared.options.Decoding.{Decoding}
 use Rattle.x25_settings.specs.declared.options.End.{End}
 use Rattle.x25_settings.specs.declared.options.End.TheVariants.{Dte, Dce}
 use Rattle.x25_settings.specs.declared.options.Flag.{Flag}
-use Rattle.x25_settings.specs.declared.options.Flag.TheVariants.{Down, Events, Long, Loose, Manners, SaySizes, Tap}
-use Rattle.x25_settings.specs.declared.options.Flag.TheVariants.{Strict, Wide}
+use Rattle.x25_settings.specs.declared.options.Flag.TheVariants.{Clock, Down, Events, Long, Loose, Manners}
+use Rattle.x25_settings.specs.declared.options.Flag.TheVariants.{SaySizes, Tap, Strict, Wide}
 use Rattle.x25_settings.specs.declared.options.Kind.{Kind}
 use Rattle.x25_settings.specs.declared.options.Kind.TheVariants as kind
 use Rattle.x25_settings.specs.declared.options.Numbered.{Numbered}
-use Rattle.x25_settings.specs.declared.options.Numbered.TheVariants.{Window, Tries, Channels}
+use Rattle.x25_settings.specs.declared.options.Numbered.TheVariants.{Window, Tries, Channels, T1, T3, T20, T21}
+use Rattle.x25_settings.specs.declared.options.Numbered.TheVariants.{T22, T23}
 use Rattle.x25_settings.specs.declared.options.Judging.{Judging}
 use Rattle.x25_settings.specs.declared.options.Place.{Place}
 use Rattle.x25_settings.specs.declared.options.Simulation.{Simulation}
 use Rattle.x25_settings.specs.declared.words.Task.{Task}
 use Rattle.x25_settings.specs.declared.words.Task.TheVariants.{Decode, Vectors, Sim, Station, Judge, Deframe, Frame}
-use Rattle.x25_settings.specs.Options.{chosen_flag, chosen_number, decoded, end_word, flag_word, has, judged, most_of}
-use Rattle.x25_settings.specs.Options.{nothing, placed, simulated, takes, with_flag, with_number, word_of}
+use Rattle.x25_settings.specs.Options.{chosen_flag, chosen_number, decoded, end_word, fits_clock, flag_word, has}
+use Rattle.x25_settings.specs.Options.{judged, least_of, most_of, nothing, placed, simulated, takes, with_flag}
+use Rattle.x25_settings.specs.Options.{with_number, word_of}
 
 abbrev pub flags : List Flag
-flags = Down ∷ Events ∷ Long ∷ Loose ∷ Manners ∷ SaySizes ∷ Tap ∷ Strict ∷ Wide ∷ []
+flags = Clock ∷ Down ∷ Events ∷ Long ∷ Loose ∷ Manners ∷ SaySizes ∷ Tap ∷ Strict ∷ Wide ∷ []
 
 abbrev pub flag_in : List ℕ → Option Flag
 flag_in word = find (λ x. bytes_eq word (flag_word x)) flags
 
+abbrev pub numbers : List Numbered
+numbers = Window ∷ Tries ∷ Channels ∷ T1 ∷ T3 ∷ T20 ∷ T21 ∷ T22 ∷ T23 ∷ []
+
 abbrev pub numbered_in : List ℕ → Option Numbered
-numbered_in word = find (λ x. bytes_eq word (word_of x)) (Window ∷ Tries ∷ Channels ∷ [])
+numbered_in word = find (λ x. bytes_eq word (word_of x)) numbers
 
 -- the number that the text writes, without leading zeros and in its range
-unfoldable pub number_in : ℕ → List ℕ → Option ℕ
-number_in most text = let n = digits_value 10 text in
-    if nat_le 1 n && nat_le n most && bytes_eq (decimal n) text then Some n else None
+unfoldable pub number_in : ℕ → ℕ → List ℕ → Option ℕ
+number_in least most text = let n = digits_value 10 text in
+    if nat_le least n && nat_le n most && bytes_eq (decimal n) text then Some n else None
 
 abbrev pub put_flag : Kind → Chosen → Flag → Option Chosen
 put_flag kind c flag = if takes kind flag then (if chosen_flag c flag then None else Some (with_flag c flag)) else None
@@ -44,17 +49,16 @@ put_flag kind c flag = if takes kind flag then (if chosen_flag c flag then None 
 abbrev pub put_word : Kind → Chosen → List ℕ → Option Chosen
 put_word kind c word = option_and_then (put_flag kind c) (flag_in word)
 
-abbrev pub put_fresh : Chosen → Numbered → ℕ → Option ℕ → Option Chosen
-put_fresh c x n None = Some (with_number c x n)
-put_fresh c x n (Some before) = None
+abbrev pub put_fresh : Chosen → Numbered → ℕ → Bool → Option Chosen
+put_fresh c x n before = if before then None else Some (with_number c x n)
 
 abbrev pub put_read : Chosen → Numbered → Option ℕ → Option Chosen
 put_read c x None = None
-put_read c x (Some n) = put_fresh c x n (chosen_number c x)
+put_read c x (Some n) = put_fresh c x n (is_some (chosen_number c x))
 
 abbrev pub put_text : Kind → Chosen → List ℕ → Option Numbered → Option Chosen
 put_text kind c text None = None
-put_text kind c text (Some x) = if has kind x then put_read c x (number_in (most_of x) text) else None
+put_text kind c text (Some x) = if has kind x then put_read c x (number_in (least_of x) (most_of x) text) else None
 
 -- an option and its number
 abbrev pub put_number : Kind → Chosen → List ℕ → List ℕ → Option Chosen
@@ -83,9 +87,12 @@ read_framing words = option_map (λ c. c.loose) (chosen_in kind.Frame nothing wo
 abbrev pub end_in : List ℕ → Option End
 end_in word = find (λ x. bytes_eq word (end_word x)) (Dte ∷ Dce ∷ [])
 
+abbrev pub place_of : End → Chosen → Option Place
+place_of end c = if fits_clock c then Some (placed end c) else None
+
 abbrev pub place_behind : List (List ℕ) → Option End → Option Place
 place_behind words None = None
-place_behind words (Some end) = option_map (placed end) (chosen_in kind.Station nothing words)
+place_behind words (Some end) = option_and_then (place_of end) (chosen_in kind.Station nothing words)
 
 abbrev pub read_place : List (List ℕ) → Option Place
 read_place [] = None

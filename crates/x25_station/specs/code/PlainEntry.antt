@@ -27,10 +27,10 @@ abbrev pub plain_asked : Asked → Request
 plain_asked (asked.Call called calling user params) = Calls (string_bytes called)
     (string_bytes calling) user.items (in_brief params)
 plain_asked (asked.Accept params) = Accepts (Some (in_brief params))
-plain_asked asked.Clear = Clears
+plain_asked (asked.Clear cause diagnostic) = Clears cause diagnostic
 plain_asked (asked.Send q user) = Sends q user.items
 plain_asked (asked.Interrupt user) = Interrupts user.items
-plain_asked asked.Reset = Resets
+plain_asked (asked.Reset cause diagnostic) = Resets cause diagnostic
 plain_asked asked.Ready = SaysReady
 plain_asked asked.NotReady = SaysNotReady
 
@@ -55,7 +55,7 @@ plain_said (said.Told what) = layer.Told (plain_told what)
 abbrev pub plain_entry : Entry → StationEntry
 plain_entry (code.OnChannel channel name what) = of_channel
     (record { channel = channel; name = plain_name name; said = plain_said what })
-plain_entry code.RestartAsked = restart_asked
+plain_entry (code.RestartAsked cause diagnostic) = restart_asked cause diagnostic
 plain_entry code.ConnectAsked = connect_asked
 plain_entry code.DisconnectAsked = disconnect_asked
 plain_entry code.RelinkAsked = relink_asked

@@ -4,7 +4,7 @@ use Rattle.std.specs.Prelude.{◌≡◌, Bool, ℕ, ◌<◌, ◌≤◌, List, []
 use Rattle.x25_packet.specs.Packet.{PlainPacket}
 use Rattle.x25_packet.specs.Spelling.{spelling_of, longest_user}
 use Rattle.x25_wide.specs.Taking.{read_in}
-use Rattle.x25_circuit.specs.Calling.{Request, Calls, Sends, Interrupts}
+use Rattle.x25_circuit.specs.Calling.{Request, Calls, Clears, Sends, Interrupts, Resets}
 use Rattle.x25_layer.specs.Calls.{LayerRequest, Asks, Dials, Restarts, PullsAll}
 use Rattle.x25_layer.specs.laws.TwoLayers.{TwoLayers, Move, Requests, Event, run, start}
 use Rattle.x25_bits.specs.declared.role.Role.{Role}
@@ -27,14 +27,16 @@ AreReadable long_data (packet ∷ packets) = IsReadable long_data packet × AreR
 
 abbrev pub AsksOctets : Request → Type 0
 AsksOctets (Calls called calling user proposal) = AreOctets user
+AsksOctets (Clears cause diagnostic) = (cause < 256) × (diagnostic < 256)
 AsksOctets (Sends q user) = AreOctets user
 AsksOctets (Interrupts user) = AreOctets user
+AsksOctets (Resets cause diagnostic) = (cause < 256) × (diagnostic < 256)
 AsksOctets request = Unit {0}
 
 abbrev pub RequestsOctets : LayerRequest → Type 0
 RequestsOctets (Asks h request) = AsksOctets request
 RequestsOctets (Dials called calling user proposal) = AreOctets user
-RequestsOctets Restarts = Unit {0}
+RequestsOctets (Restarts cause diagnostic) = (cause < 256) × (diagnostic < 256)
 RequestsOctets PullsAll = Unit {0}
 
 abbrev pub MovesOctets : Move → Type 0

@@ -94,7 +94,7 @@ none_met n here there (of_channel e ∷ entries) none = none_met n here there en
     by : (said : Said) → notice_of e.channel said ++ layer_notices entries ≡ [] → layer_notices entries ≡ []
     by (Asked request) none = none
     by (Told notice) none = something (on_channel e.channel notice) (layer_notices entries) none
-none_met n here there (restart_asked ∷ entries) none = none_met n here there entries none
+none_met n here there (restart_asked cause diagnostic ∷ entries) none = none_met n here there entries none
 none_met n here there (connect_asked ∷ entries) none = none_met n here there entries none
 none_met n here there (disconnect_asked ∷ entries) none = none_met n here there entries none
 none_met n here there (relink_asked ∷ entries) none = none_met n here there entries none
@@ -119,7 +119,7 @@ ArePlain (e ∷ entries) = IsPlain e × ArePlain entries
 
 plain_after : (p : Progress) (e : StationEntry) → IsPlain e → after_entry p e ≡ p
 plain_after p (of_channel e) h = refl
-plain_after p restart_asked h = refl
+plain_after p (restart_asked cause diagnostic) h = refl
 plain_after p connect_asked h = refl
 plain_after p disconnect_asked h = refl
 plain_after p relink_asked h = refl
@@ -154,7 +154,7 @@ restart_met n here there (of_channel e ∷ entries) plain is begins = restart_me
     by : (said : Said) → BeginsRestarted (notice_of e.channel said ++ layer_notices entries) → BeginsRestarted (layer_notices entries)
     by (Asked request) begins = begins
     by (Told notice) begins = absurd begins
-restart_met n here there (restart_asked ∷ entries) plain is begins = restart_met n here there entries plain.1 is begins
+restart_met n here there (restart_asked cause diagnostic ∷ entries) plain is begins = restart_met n here there entries plain.1 is begins
 restart_met n here there (connect_asked ∷ entries) plain is begins = restart_met n here there entries plain.1 is begins
 restart_met n here there (disconnect_asked ∷ entries) plain is begins = restart_met n here there entries plain.1 is begins
 restart_met n here there (relink_asked ∷ entries) plain is begins = restart_met n here there entries plain.1 is begins
@@ -175,7 +175,7 @@ elsewhere_met n here there (e ∷ entries) plain out =
   where
     at_one : (e : StationEntry) → IsPlain e → met_at n here there e ≡ None
     at_one (of_channel e) h = refl
-    at_one restart_asked h = refl
+    at_one (restart_asked cause diagnostic) h = refl
     at_one connect_asked h = refl
     at_one disconnect_asked h = refl
     at_one relink_asked h = refl
@@ -196,7 +196,7 @@ channel_plain (e ∷ es) = (tt, channel_plain es)
 pub outcome_plain : (c : LayerSettings) (l : Layer) (request : LayerRequest) (o : LayerOutcome) → ArePlain (entries_of_outcome c l request o)
 outcome_plain c l (Asks h request) (Accepted next packet) = channel_plain (entries_asked c l next (Asks h request))
 outcome_plain c l (Dials called calling user params) (Accepted next packet) = channel_plain (entries_asked c l next (Dials called calling user params))
-outcome_plain c l Restarts (Accepted next packet) = (tt, tt)
+outcome_plain c l (Restarts cause diagnostic) (Accepted next packet) = (tt, tt)
 outcome_plain c l PullsAll (Accepted next packet) = tt
 outcome_plain c l request (Declined e) = tt
 

@@ -153,7 +153,7 @@ loses_one = event Dce (Loses 0)
 -- after a set-up the DTE asks for a restart, which is lost twice, so that it leaves; and asks for set-up
 abbrev pub told_twice : List AtEnd
 told_twice =
-    told_of_set_up ++ record { at = Dte; entry = restart_asked } ∷ record { at = Dte; entry = link_down Retries }
+    told_of_set_up ++ record { at = Dte; entry = restart_asked 0 0 } ∷ record { at = Dte; entry = link_down Retries }
     ∷ record { at = Dte; entry = connect_asked }
     ∷ record { at = Dce; entry = link_down Reset } ∷ told_of_set_up
 
@@ -161,7 +161,7 @@ told_twice =
 abbrev pub SecondMeet : Type 0
 SecondMeet =
     ((run one_try (delivers 2
-    ++ asks Dte Restarts ∷ loses_one ∷ event Dte Fires ∷ loses_one ∷ event Dte Fires ∷ connects Dte ∷ delivers 2)
+    ++ asks Dte (Restarts 0 0) ∷ loses_one ∷ event Dte Fires ∷ loses_one ∷ event Dte Fires ∷ connects Dte ∷ delivers 2)
     (established one_try)).transcript ≡ told_twice)
     × (meets Dte 1 told_twice ≡ Some 1) × (meets Dce 1 told_twice ≡ Some 1) × (meets Dte 2 told_twice ≡ Some 2)
     × (meets Dce 2 told_twice ≡ Some 2)

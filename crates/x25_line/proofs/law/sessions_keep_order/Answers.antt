@@ -1,5 +1,5 @@
-use Rattle.x25_line.proofs.sessions.SessionRuns.{meet_in_step, met_in_order, unmet_nothing, only_begun, each_stands, standing_goes_along, never_frmr, send_whole}
-use Rattle.x25_line.proofs.sessions.SessionLatest.{each_hears_latest, each_meets_latest, idle_has_arrived}
+use Rattle.x25_line.proofs.sessions.TwoSessions.{meet_in_step, met_in_order, unmet_nothing, only_begun, each_hears_latest, each_meets_latest, idle_has_arrived}
+use Rattle.x25_line.proofs.sessions.SessionRuns.{each_stands, standing_goes_along, never_frmr, send_whole}
 use Rattle.x25_line.proofs.sessions.SessionEvents.{each_event_meets_latest}
 use Rattle.x25_line.proofs.law.sessions_keep_order.Goals as goal
 
@@ -16,7 +16,7 @@ returns c =
       machine = standing_goes_along below.reads laws;
       latest = each_hears_latest below.reads laws;
       agree = each_meets_latest below.reads laws;
-      meets = each_event_meets_latest laws below.hands_up below.reads;
+      meets = each_event_meets_latest below.reads laws below.hands_up;
       idle = idle_has_arrived below.reads laws;
       no_frmr = never_frmr below.reads laws;
       whole = send_whole below.reads laws;

@@ -1,10 +1,12 @@
-use Rattle.std.proofs.Common.{rules, sym, refl}
+use Rattle.std.proofs.Common.{rules, ◌≡◌, true, sym, subst, refl}
+use Rattle.x25_bits.specs.declared.role.Role.{Role}
+use Rattle.x25_circuit.specs.Cause.{may_clear_for}
 use Rattle.x25_circuit.proofs.TableLemmas.{clear_done}
 use Rattle.x25_circuit.proofs.circuit.Circuit.clear.Goals as goal
 
 pub returns-in-Some : goal.returns-in-Some
 returns-in-Some c = record {
-  outcome = λ d x fits. rw (c.in-Some.ensures.refused d x fits) refl;
+  outcome = λ d x fits. rw (c.in-Some.ensures.refused d x c.args.diagnostic fits) refl;
   range = search rules;
   keeps = search rules;
   unchanged = search rules;
@@ -13,7 +15,9 @@ returns-in-Some c = record {
 
 pub returns : goal.returns
 returns c = record {
-  outcome = λ d x fits. rw (sym fits.state, clear_done x _ c.in_default.ensures.not_free c.in_default.ensures.not_clearing) ((c.end_call.ensures.fits d x fits, refl));
+  outcome = λ d x fits.
+      rw (sym fits.state, clear_done d x _ c.args.cause c.args.diagnostic c.in_default.ensures.not_free c.in_default.ensures.not_clearing, subst (λ (r : Role). may_clear_for r c.args.cause ≡ true) fits.role c.in_default.ensures.given)
+      ((c.end_call.ensures.fits d x fits, refl));
   range = search rules;
   keeps = search rules;
   unchanged = search rules;

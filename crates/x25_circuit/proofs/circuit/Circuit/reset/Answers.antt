@@ -1,9 +1,11 @@
-use Rattle.std.proofs.Common.{rules, sym, ◌∙◌, refl}
+use Rattle.std.proofs.Common.{rules, ◌≡◌, ◌∙◌, true, sym, subst, refl}
+use Rattle.x25_bits.specs.declared.role.Role.{Role}
+use Rattle.x25_circuit.specs.Cause.{may_reset_for}
 use Rattle.x25_circuit.proofs.circuit.Circuit.reset.Goals as goal
 
 pub returns-in-Some : goal.returns-in-Some
 returns-in-Some c = record {
-  outcome = λ d x fits. rw (c.in-Some.ensures.no_reset d x fits) refl;
+  outcome = λ d x fits. rw (c.in-Some.ensures.refused d x c.args.diagnostic fits) refl;
   range = search rules;
   keeps = search rules;
   unchanged = search rules;
@@ -12,7 +14,7 @@ returns-in-Some c = record {
 
 pub returns : goal.returns
 returns c = record {
-  outcome = λ d x fits. rw (sym fits.state ∙ c.in_default.ensures.open) ((c.begin_stretch.ensures.fits d x fits, refl));
+  outcome = λ d x fits. rw (sym fits.state ∙ c.in_default.ensures.open, subst (λ (r : Role). may_reset_for r c.args.cause ≡ true) fits.role c.in_default.ensures.given) ((c.begin_stretch.ensures.fits d x fits, refl));
   range = search rules;
   keeps = search rules;
   unchanged = search rules;

@@ -1,4 +1,4 @@
-use Rattle.std.proofs.Common.{◌≡◌, ◌∙◌, ◌+◌, vec_len, vec_capacity, arith}
+use Rattle.std.proofs.Common.{◌∙◌, arith}
 use Rattle.x25_clock.proofs.ClockLemmas.{one_channel_more}
 use Rattle.x25_clock.proofs.clock.Clock.new.Goals as goal
 

@@ -1,4 +1,4 @@
-use Rattle.std.proofs.Common.{◌≡◌, ◌∙◌, ◌+◌, ◌<◌, ◌≤◌, length, map, slice_set, List, ap, refl, arith}
+use Rattle.std.proofs.Common.{◌≡◌, ◌∙◌, ◌+◌, ◌≤◌, length, map, slice_set, ap, refl, arith}
 use Rattle.x25_clock.specs.declared.wait.Wait.{Wait}
 use Rattle.x25_clock.specs.Clock.{renewed}
 use Rattle.x25_clock.proofs.ListLemmas.{left_mapped, changed_more, written_back}

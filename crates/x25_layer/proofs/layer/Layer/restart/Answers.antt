@@ -2,6 +2,8 @@ use Rattle.std.proofs.Common.{rules, ◌≡◌, ◌∙◌, Ok, sym, subst, true,
 use Rattle.x25_layer.specs.code.OverLink.{view_of, LayerGives, LinkGives}
 use Rattle.x25_layer.specs.Rounds.{Answered, LinkView}
 use Rattle.x25_layer.proofs.FitLemmas.{on_err}
+use Rattle.x25_bits.specs.declared.role.Role.{Role}
+use Rattle.x25_circuit.specs.Cause.{may_restart_for}
 use Rattle.x25_layer.specs.Calls.{Restarts}
 use Rattle.x25_layer.proofs.CallLemmas.{refuses_all}
 use Rattle.x25_layer.proofs.SettleLemmas.{restart_goes}
@@ -23,7 +25,7 @@ returns-in_err-reserve_packets g c = record {
 
 pub returns-in-Some : goal.returns-in-Some
 returns-in-Some g c = refuses_all _ g.L.OrderedLink c.args.self.now c.args.link.now c.in-Some.error 1 _ _ c.in-Some.ensures.kinds
-    (λ s l x fits link. c.in-Some.ensures.refused s l x Restarts fits link)
+    (λ s l x fits link. c.in-Some.ensures.refused s l x (Restarts c.args.cause c.args.diagnostic) fits link)
 
 pub returns : goal.returns
 returns g c = record {
@@ -36,7 +38,8 @@ returns g c = record {
       let up : g.L.OrderedLink.up_in x ≡ true = search rules in
       let at_l : l.restarting ≡ false = sym fits.restarting ∙ c.in_default.ensures.ready in
       let free : g.L.OrderedLink.waits_in x ≡ 256 → ⊥ = λ full. grind (arith, full, waits_law, c.waiting.ensures.value, c.if-waiting-eq256.false) in
-      subst (λ (a : Answered). LayerGives s c.send_restart.new.self (Ok tt) a) (sym (restart_goes view s l up at_l free))
+      let given : may_restart_for s.circuit.role c.args.cause ≡ true = subst (λ (r : Role). may_restart_for r c.args.cause ≡ true) fits.role (sym c.may_restart_for.ensures ∙ c.if-not-may_restart_for.false) in
+      subst (λ (a : Answered). LayerGives s c.send_restart.new.self (Ok tt) a) (sym (restart_goes view s l c.args.cause c.args.diagnostic up at_l free given))
       (c.send_restart.ensures.layer s l before);
   link = λ s l x fits link.
       let view : LinkView = view_of g.L.OrderedLink.up_in g.L.OrderedLink.waits_in g.L.OrderedLink.after_put x in
@@ -46,7 +49,8 @@ returns g c = record {
       let up : g.L.OrderedLink.up_in x ≡ true = search rules in
       let at_l : l.restarting ≡ false = sym fits.restarting ∙ c.in_default.ensures.ready in
       let free : g.L.OrderedLink.waits_in x ≡ 256 → ⊥ = λ full. grind (arith, full, waits_law, c.waiting.ensures.value, c.if-waiting-eq256.false) in
-      subst (λ (a : Answered). LinkGives (g.L.OrderedLink.fits c.send_restart.new.link) g.L.OrderedLink.after_put x (Ok tt) a) (sym (restart_goes view s l up at_l free))
+      let given : may_restart_for s.circuit.role c.args.cause ≡ true = subst (λ (r : Role). may_restart_for r c.args.cause ≡ true) fits.role (sym c.may_restart_for.ensures ∙ c.if-not-may_restart_for.false) in
+      subst (λ (a : Answered). LinkGives (g.L.OrderedLink.fits c.send_restart.new.link) g.L.OrderedLink.after_put x (Ok tt) a) (sym (restart_goes view s l c.args.cause c.args.diagnostic up at_l free given))
       (c.send_restart.ensures.link x (c.reserve_packets.ensures.link x link));
   layer_stays = search rules;
   link_stays = search rules;

@@ -1,0 +1,17 @@
+-- The worked row, by computing.
+use Rattle.std.proofs.Common.{refl, arith}
+use Rattle.x25_link.specs.Station.{pumped}
+use Rattle.x25_clock.specs.rows.SilentRows.{SilentPeerIsLeft}
+
+pub silent_peer_is_left : SilentPeerIsLeft
+unfolding pumped
+silent_peer_is_left = record {
+  obeys = (
+    (refl, omega arith),
+    omega arith,
+    ((refl, omega arith), omega arith, ((refl, omega arith), omega arith, tt)),
+  );
+  awaits = (omega arith, refl, (omega arith, refl, omega arith));
+  now = refl;
+  phase = refl;
+}

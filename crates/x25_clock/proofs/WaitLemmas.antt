@@ -1,0 +1,524 @@
+-- An answer is awaited no longer than the times say, where what is due is asked at once.
+use Rattle.std.proofs.Common.{◌≡◌, ℕ, zero, suc, ◌+◌, ◌^◌, ◌<◌, ◌≤◌, ◌==◌, ◌⊎◌, inl, inr, List, [], ◌∷◌, map, Bool, true, false, not, nat_le, if◌then◌else◌, Option, Some, None, refl, sym, ap, subst, ◌∙◌, arith}
+use Rattle.std.proofs.lemmas.Bool.{true≢false, eqb-true, eq-eqb, leb-true, and_parts}
+use Rattle.std.proofs.lemmas.Option.{none-some}
+use Rattle.x25_link.specs.declared.phase.Phase.{Phase}
+use Rattle.x25_link.specs.declared.phase.Phase.TheVariants.{Down, Waiting, Up, Closed}
+use Rattle.x25_link.specs.Outgoing.{waits}
+use Rattle.x25_link.specs.Station.{is_up}
+use Rattle.x25_circuit.specs.declared.awaits.Awaits.{Awaits}
+use Rattle.x25_circuit.specs.declared.awaits.Awaits.TheVariants.{Nothing, Acceptance, ResetConfirmation, ClearConfirmation}
+use Rattle.x25_circuit.specs.declared.state.State.{State}
+use Rattle.x25_circuit.specs.Awaits.{awaited_in}
+use Rattle.x25_layer.specs.Layer.{is_channel}
+use Rattle.x25_layer.specs.code.FitsLayer.{awaited_at}
+use Rattle.x25_station.specs.Config.{Settings, layer_settings}
+use Rattle.x25_station.specs.Station.{Station}
+use Rattle.x25_station.specs.Step.{Step, Outcome, Did, Refused}
+use Rattle.x25_station.specs.Timer.{tells_link}
+use Rattle.x25_station.specs.laws.TimerLaw as timer
+use Rattle.x25_station.specs.laws.WayOutLaw.{rank_in, rank_of, rank, AwaitsStill, LeadsOn, ClearLeadsOn, RestartLeadsOn, RelinkLeadsOn, NothingLeadsBack}
+use Rattle.x25_clock.specs.declared.due.Due.{Due}
+use Rattle.x25_clock.specs.declared.due.Due.TheVariants as due
+use Rattle.x25_clock.specs.declared.times.Times.{Times}
+use Rattle.x25_clock.specs.declared.wait.Wait.{Wait}
+use Rattle.x25_clock.specs.Clock.{Deadlines, channels_from, deadline, is_past, sooner, number_of, time_of, running, wait_after, heeded, next_of, overdue_of, asked_for, due_on, unless_on, due_of, renewed, renewed_on, after_due}
+use Rattle.x25_clock.specs.laws.ClockLaw.{Watched, seen_of, heeds, watched, IsSince, AreAwaited, AreTrue}
+use Rattle.x25_clock.specs.laws.WaitLaw.{Deed, Happens, IsAsked, later_by, event_of, found_by, outcome_of, done, all_done, IsFounded, IsNotPast, AreObeyed, tells, AwaitsAll, longest_wait, AreSet, NothingWaits}
+use Rattle.x25_clock.proofs.ClockLemmas.{happens_true, due_true, deadlines_are_true}
+use Rattle.x25_clock.proofs.DeadlineLemmas.{AreNotPast, waits_past, restart_past, or_t1, Ends, begins_at, end_in_time}
+
+-- ---- what is asked, and the deadlines behind it
+
+record AsksNone (d e : Deadlines) : Type 0 where
+  restart : e.restart ≡ d.restart
+  waits : e.waits ≡ d.waits
+
+record AsksRelink (d e : Deadlines) (what : Due) : Type 0 where
+  is : what ≡ due.Relink
+  waits : e.waits ≡ d.waits
+
+record AsksOn (times : Times) (now : ℕ) (d e : Deadlines) (what : Due) : Type 0 where
+  wait : Wait
+  found : overdue_of now d.waits ≡ Some wait
+  is : due_on wait ≡ Some what
+  restart : e.restart ≡ d.restart
+  waits : e.waits ≡ map (renewed times now wait.channel) d.waits
+
+abbrev or_wait : Wait → Option Wait → Wait
+or_wait w None = w
+or_wait w (Some x) = x
+
+module _ (times : Times) (now : ℕ) (d : Deadlines) (what : Due) where
+  abbrev due_by : Bool → Bool → Option Wait → Bool → Option Due
+  due_by t1 restart o idle = if t1 then Some due.T1 else if restart then Some due.Relink else unless_on o (if idle then Some due.Probe else None)
+
+  abbrev after_by : Bool → Bool → Option Wait → Bool → Deadlines
+  after_by t1 restart o idle = if t1 then record d { t1 = deadline now times.t1 } else if restart then record d { restart = deadline now times.t20 } else renewed_on times now o idle d
+
+  abbrev WhatIsAsked : Deadlines → Type 0
+  WhatIsAsked e = AsksNone d e ⊎ (AsksRelink d e what ⊎ AsksOn times now d e what)
+
+  asked_by : (t1 restart : Bool) (o : Option Wait) (idle : Bool) → overdue_of now d.waits ≡ o → due_by t1 restart o idle ≡ Some what → WhatIsAsked (after_by t1 restart o idle)
+  asked_by true restart o idle found is = inl (record { restart = refl; waits = refl })
+  asked_by false true o idle found is = inr (inl (record { is = sym (ap or_t1 is); waits = refl }))
+  asked_by false false (Some x) idle found is = inr (inr (record { wait = x; found = found; is = is; restart = refl; waits = refl }))
+  asked_by false false None true found is = inl (record { restart = refl; waits = refl })
+  asked_by false false None false found is = absurd (none-some what is)
+
+  what_is_asked : due_of now d ≡ Some what → WhatIsAsked (after_due times now d)
+  what_is_asked is = asked_by (is_past now d.t1) (is_past now d.restart) (overdue_of now d.waits) (is_past now d.idle) refl is
+
+-- the first channel on which an answer is due awaits what it is said to
+overdue_is : (times : Times) (before now : ℕ) (f : ℕ → Awaits) (ws : List Wait) (x : Wait) → AreAwaited times before f ws → overdue_of now ws ≡ Some x → x.awaits ≡ f x.channel
+overdue_is times before now f [] x are is = absurd (none-some x is)
+overdue_is times before now f (w ∷ ws) x are is = by (overdue_is times before now f ws x are.1) (is_past now w.until) is
+  where
+    by : (overdue_of now ws ≡ Some x → x.awaits ≡ f x.channel) → (b : Bool) → (if b then Some w else overdue_of now ws) ≡ Some x → x.awaits ≡ f x.channel
+    by rest true e = subst (λ (y : Wait). y.awaits ≡ f y.channel) (ap (or_wait w) e) are.0.awaits
+    by rest false e = rest e
+
+-- ---- the list has each channel once
+
+abbrev Has : ℕ → List ℕ → Type 0
+Has h [] = ⊥
+Has h (k ∷ ks) = (k ≡ h) ⊎ Has h ks
+
+abbrev channel_in : Wait → ℕ
+channel_in w = w.channel
+
+has_channel : (h n first : ℕ) → first ≤ h → h < first + n → Has h (map channel_in (channels_from first n))
+has_channel h zero first low high = absurd (omega (arith, low, high))
+has_channel h (suc n) first low high = test (λ more. has_channel h n (first + 1) more (omega (arith, high))) (first == h) refl
+  where
+    test : (first + 1 ≤ h → Has h (map channel_in (channels_from (first + 1) n))) → (b : Bool) → (first == h) ≡ b → (first ≡ h) ⊎ Has h (map channel_in (channels_from (first + 1) n))
+    test rest true is = inl (eqb-true first h is)
+    test rest false is = inr (rest (omega (arith, low, (λ (same : first ≡ h). true≢false (sym (eq-eqb first h same) ∙ is)))))
+
+-- ---- a wait that isn't renewed
+
+if_wait : (h : ℕ) (b : Bool) (u v : Wait) → u.channel ≡ h → v.channel ≡ h → (let w : Wait = if b then u else v in w.channel) ≡ h
+if_wait h true u v p q = p
+if_wait h false u v p q = q
+
+after_channel : (times : Times) (now : ℕ) (a : Awaits) (w : Wait) → (wait_after times now a w).channel ≡ w.channel
+after_channel times now a w = if_wait w.channel (number_of w.awaits == number_of a) _ _ refl refl
+
+renewed_channel : (times : Times) (now k : ℕ) (w : Wait) → (renewed times now k w).channel ≡ w.channel
+renewed_channel times now k w = if_wait w.channel (not (w.channel == k)) _ _ refl refl
+
+same_after : (times : Times) (now : ℕ) (a : Awaits) (w : Wait) → w.awaits ≡ a → wait_after times now a w ≡ w
+same_after times now a w is = ap (λ (b : Bool). let x : Wait = if b then w else record { channel = w.channel; awaits = a; until = deadline now (time_of times a) } in x) (eq-eqb (number_of w.awaits) (number_of a) (ap number_of is))
+
+not_renewed : (times : Times) (now k : ℕ) (w : Wait) → (w.channel == k) ≡ false → renewed times now k w ≡ w
+not_renewed times now k w is = ap (λ (b : Bool). let x : Wait = if not b then w else record { channel = w.channel; awaits = w.awaits; until = deadline now (time_of times w.awaits) } in x) is
+
+-- ---- what a rank says
+
+low_one : {A : Type 0} (n : ℕ) → n ≤ 1 → 2 ≤ n → A
+low_one n low high = absurd (omega (arith, low, high))
+
+is_up_high : (p : Phase) (r : Bool) (a : Awaits) → 2 ≤ rank_of p r a → is_up p ≡ true
+is_up_high Down r a high = low_one 0 (omega arith) high
+is_up_high Waiting r a high = low_one 1 (omega arith) high
+is_up_high Up r a high = refl
+is_up_high Closed r a high = low_one 0 (omega arith) high
+
+is_configured : (p : Phase) (b : Bool) (s : State) → 2 ≤ rank_of p false (if b then awaited_in s else Nothing) → b ≡ true
+is_configured p true s high = refl
+is_configured Down false s high = low_one 0 (omega arith) high
+is_configured Waiting false s high = low_one 1 (omega arith) high
+is_configured Up false s high = low_one 0 (omega arith) high
+is_configured Closed false s high = low_one 0 (omega arith) high
+
+rank_up : (p : Phase) (r : Bool) (a : Awaits) → is_up p ≡ true → rank_of p r a ≡ rank_of Up r a
+rank_up Down r a up = absurd (true≢false (sym up))
+rank_up Waiting r a up = absurd (true≢false (sym up))
+rank_up Up r a up = refl
+rank_up Closed r a up = absurd (true≢false (sym up))
+
+-- a call or a reset that was cleared
+record IsCleared (rest_a rest : ℕ) (a b : Awaits) : Type 0 where
+  old : rest_a ≡ rest
+  new : b ≡ ClearConfirmation
+  differ : (number_of a == number_of ClearConfirmation) ≡ false
+
+abbrev pub asks : Due → timer.Event
+asks what = event_of (IsAsked 0 what)
+
+-- what is due is asked, and the rank is lower
+record Falls (c : Settings) (h : ℕ) (s : Station) (what : Due) : Type 0 where
+  step : Step
+  is : timer.outcome c s (asks what) ≡ Did step
+  low : rank c step.near h < rank c s h
+
+-- the laws of the station that are used
+record Laws : Type 0 where
+  clear : ClearLeadsOn
+  restart : RestartLeadsOn
+  relink : RelinkLeadsOn
+  back : NothingLeadsBack
+
+module _ (c : Settings) (times : Times) (h bound : ℕ) (set : AreSet times) (small : bound < 2 ^ 64) where
+  -- what may still follow
+  abbrev left : Awaits → ℕ
+  left Nothing = 0
+  left Acceptance = times.t23 + times.t20
+  left ResetConfirmation = times.t23 + times.t20
+  left ClearConfirmation = times.t20
+
+  abbrev OnChannel : List Wait → Type 0
+  OnChannel [] = Unit {0}
+  OnChannel (w ∷ ws) = (w.channel ≡ h → Ends bound w.until (left w.awaits)) × OnChannel ws
+
+  -- the restart, or what is awaited on the channel
+  abbrev IsBy : Bool → Option ℕ → List Wait → Type 0
+  IsBy true restart ws = Ends bound restart 0
+  IsBy false restart ws = OnChannel ws
+
+  abbrev InTime : Bool → Awaits → ℕ → Type 0
+  InTime true a now = now ≤ bound
+  InTime false a now = now + left a ≤ bound
+
+  abbrev awaited : Station → Awaits
+  awaited s = awaited_at (layer_settings c) s.layer h
+
+  -- ---- no deadline is past
+
+  channel_in_time : (before now : ℕ) (f : ℕ → Awaits) (ws : List Wait) → Has h (map channel_in ws) → AreAwaited times before f ws → OnChannel ws → AreNotPast now ws → now + left (f h) ≤ bound
+  channel_in_time before now f [] has are on past = absurd has
+  channel_in_time before now f (w ∷ ws) (inl is) are on past =
+      subst (λ (a : Awaits). now + left a ≤ bound) (are.0.awaits ∙ ap f is) (end_in_time bound now w.until (left w.awaits) (on.0 is) past.0)
+  channel_in_time before now f (w ∷ ws) (inr has) are on past = channel_in_time before now f ws has are.1 on.1 past.1
+
+  has_it : (w : Watched) → c.channels ≤ 16 → AreTrue c times w → is_channel c.channels h ≡ true → Has h (map channel_in w.deadlines.waits)
+  has_it w few true_now is =
+      let both = and_parts (nat_le 1 h) (nat_le h c.channels) is in
+      let low : 1 ≤ h = leb-true 1 h both.0 in
+      let high : h ≤ c.channels = leb-true h c.channels both.1 in
+      subst (Has h) (sym true_now.channels) (has_channel h 16 1 low (omega (arith, high, few)))
+
+  in_time : (w : Watched) (now : ℕ) → c.channels ≤ 16 → AreTrue c times w → 2 ≤ rank c w.station h → IsNotPast now (next_of w.deadlines) → IsBy w.station.layer.restarting w.deadlines.restart w.deadlines.waits
+      → InTime w.station.layer.restarting (awaited w.station) now
+  in_time w now few true_now high past by = on w.station.layer.restarting refl by
+    where
+      d : Deadlines
+      d = w.deadlines
+
+      on : (r : Bool) → w.station.layer.restarting ≡ r → IsBy r d.restart d.waits → InTime r (awaited w.station) now
+      on true is by = let low : now + 0 ≤ bound = end_in_time bound now d.restart 0 by (restart_past now d past) in omega (arith, low)
+      on false is by =
+          let two : 2 ≤ rank_of w.station.link.phase false (awaited w.station) = subst (λ (r : Bool). 2 ≤ rank_of w.station.link.phase r (awaited w.station)) is high in
+          channel_in_time w.now now (λ k. awaited_at (layer_settings c) w.station.layer k) d.waits
+          (has_it w few true_now (is_configured w.station.link.phase (is_channel c.channels h) (w.station.layer.circuits h).state two)) true_now.waits by (waits_past now d.waits (sooner (sooner d.t1 d.idle) d.restart) past)
+
+  now_in_time : (r : Bool) (a : Awaits) (now : ℕ) → InTime r a now → now ≤ bound
+  now_in_time true a now low = low
+  now_in_time false a now low = omega (arith, low)
+
+  -- ---- behind a step
+
+  -- the waits behind it
+  abbrev heeded_waits : ℕ → (ℕ → Awaits) → List Wait → List Wait
+  heeded_waits now f ws = map (λ w. wait_after times now (f w.channel) w) ws
+
+  -- what is awaited is what was
+  waits_stay : (before now : ℕ) (old new : ℕ → Awaits) (ws : List Wait) → new h ≡ old h → AreAwaited times before old ws → OnChannel ws → OnChannel (heeded_waits now new ws)
+  waits_stay before now old new [] same are on = tt
+  waits_stay before now old new (w ∷ ws) same are on = (first, waits_stay before now old new ws same are.1 on.1)
+    where
+      first : (wait_after times now (new w.channel) w).channel ≡ h → (let x : Wait = wait_after times now (new w.channel) w in Ends bound x.until (left x.awaits))
+      first is =
+          let at_h : w.channel ≡ h = sym (after_channel times now (new w.channel) w) ∙ is in
+          let unchanged : wait_after times now (new w.channel) w ≡ w = same_after times now (new w.channel) w (are.0.awaits ∙ ap old at_h ∙ sym same ∙ ap new (sym at_h)) in
+          subst (λ (x : Wait). Ends bound x.until (left x.awaits)) (sym unchanged) (on.0 at_h)
+
+  not_less : {A : Type 0} (m n : ℕ) → n ≤ m → m < n → A
+  not_less m n low high = absurd (omega (arith, low, high))
+
+  is_cleared : (a b : Awaits) → 2 ≤ rank_in b → rank_in b < rank_in a → IsCleared (left a) (times.t23 + times.t20) a b
+  is_cleared a Nothing two low = low_one 0 (omega arith) two
+  is_cleared Nothing Acceptance two low = not_less 4 0 (omega arith) low
+  is_cleared Acceptance Acceptance two low = not_less 4 4 (omega arith) low
+  is_cleared ResetConfirmation Acceptance two low = not_less 4 4 (omega arith) low
+  is_cleared ClearConfirmation Acceptance two low = not_less 4 3 (omega arith) low
+  is_cleared Nothing ResetConfirmation two low = not_less 4 0 (omega arith) low
+  is_cleared Acceptance ResetConfirmation two low = not_less 4 4 (omega arith) low
+  is_cleared ResetConfirmation ResetConfirmation two low = not_less 4 4 (omega arith) low
+  is_cleared ClearConfirmation ResetConfirmation two low = not_less 4 3 (omega arith) low
+  is_cleared Nothing ClearConfirmation two low = not_less 3 0 (omega arith) low
+  is_cleared Acceptance ClearConfirmation two low = record { old = refl; new = refl; differ = refl }
+  is_cleared ResetConfirmation ClearConfirmation two low = record { old = refl; new = refl; differ = refl }
+  is_cleared ClearConfirmation ClearConfirmation two low = not_less 3 3 (omega arith) low
+
+  -- it was cleared
+  waits_fall : (before now : ℕ) (old new : ℕ → Awaits) (ws : List Wait) → IsCleared (left (old h)) (times.t23 + times.t20) (old h) (new h) → now + left (old h) ≤ bound → AreAwaited times before old ws → OnChannel (heeded_waits now new ws)
+  waits_fall before now old new [] gone late are = tt
+  waits_fall before now old new (w ∷ ws) gone late are = (first, waits_fall before now old new ws gone late are.1)
+    where
+      first : (wait_after times now (new w.channel) w).channel ≡ h → (let x : Wait = wait_after times now (new w.channel) w in Ends bound x.until (left x.awaits))
+      first is =
+          let at_h : w.channel ≡ h = sym (after_channel times now (new w.channel) w) ∙ is in
+          let cleared : new w.channel ≡ ClearConfirmation = ap new at_h ∙ gone.new in
+          let other : (number_of w.awaits == number_of ClearConfirmation) ≡ false = ap (λ (a : Awaits). number_of a == number_of ClearConfirmation) (are.0.awaits ∙ ap old at_h) ∙ gone.differ in
+          let changed : wait_after times now (new w.channel) w ≡ record { channel = w.channel; awaits = ClearConfirmation; until = deadline now times.t23 } =
+          ap (λ (a : Awaits). wait_after times now a w) cleared
+          ∙ ap (λ (b : Bool). let x : Wait = if b then w else record { channel = w.channel; awaits = ClearConfirmation; until = deadline now times.t23 } in x) other in
+          let more : now + (times.t23 + times.t20) ≤ bound = subst (λ (n : ℕ). now + n ≤ bound) gone.old late in
+          subst (λ (x : Wait). Ends bound x.until (left x.awaits)) (sym changed) (begins_at bound small now times.t23 times.t20 set.t23 more)
+
+  -- an answer that is awaited leaves time for a restart
+  left_some : (a : Awaits) → 2 ≤ rank_in a → times.t20 ≤ left a
+  left_some Nothing two = low_one 0 (omega arith) two
+  left_some Acceptance two = omega arith
+  left_some ResetConfirmation two = omega arith
+  left_some ClearConfirmation two = omega arith
+
+  restart_stays : (now : ℕ) (restart : Option ℕ) → Ends bound restart 0 → Ends bound (running true false restart (deadline now times.t20)) 0
+  restart_stays now None ends = absurd ends
+  restart_stays now (Some moment) ends = ends
+
+  -- of a station between these two, of which the link is up, and of its deadlines
+  module _ (before now : ℕ) (s next : Station) (high : 2 ≤ rank_of Up s.layer.restarting (awaited s)) (higher : 2 ≤ rank_of Up next.layer.restarting (awaited next))
+      (restart : Option ℕ) (ws : List Wait) (off : s.layer.restarting ≡ false → restart ≡ None) (are : AreAwaited times before (λ k. awaited_at (layer_settings c) s.layer k) ws) where
+    abbrev Heeded : Bool → Bool → Type 0
+    Heeded r noted = IsBy r (running r noted restart (deadline now times.t20)) (heeded_waits now (λ k. awaited_at (layer_settings c) next.layer k) ws)
+
+    stays_by : (r n : Bool) → n ≡ r → awaited next ≡ awaited s → IsBy r restart ws → Heeded n false
+    stays_by true true is same by = restart_stays now restart by
+    stays_by true false is same by = absurd (true≢false (sym is))
+    stays_by false true is same by = absurd (true≢false is)
+    stays_by false false is same by = waits_stay before now (λ k. awaited_at (layer_settings c) s.layer k) (λ k. awaited_at (layer_settings c) next.layer k) ws same are by
+
+    falls_by : (r n : Bool) → s.layer.restarting ≡ r → 2 ≤ rank_of Up r (awaited s) → 2 ≤ rank_of Up n (awaited next) → rank_of Up n (awaited next) < rank_of Up r (awaited s) → InTime r (awaited s) now → Heeded n false
+    falls_by true n is two three low late = not_less (rank_of Up n (awaited next)) 2 three low
+    falls_by false true is two three low late =
+        let some : times.t20 ≤ left (awaited s) = left_some (awaited s) two in
+        let more : now + (times.t20 + 0) ≤ bound = omega (arith, late, some) in
+        subst (λ (o : Option ℕ). Ends bound (running true false o (deadline now times.t20)) 0) (sym (off is)) (begins_at bound small now times.t20 0 set.t20 more)
+    falls_by false false is two three low late =
+        waits_fall before now (λ k. awaited_at (layer_settings c) s.layer k) (λ k. awaited_at (layer_settings c) next.layer k) ws (is_cleared (awaited s) (awaited next) three low) late are
+
+    fallen : rank_of Up next.layer.restarting (awaited next) < rank_of Up s.layer.restarting (awaited s) → InTime s.layer.restarting (awaited s) now → Heeded next.layer.restarting false
+    fallen low late = falls_by s.layer.restarting next.layer.restarting refl high higher low late
+
+    stayed : AwaitsStill c s next h → IsBy s.layer.restarting restart ws → Heeded next.layer.restarting false
+    stayed still by = stays_by s.layer.restarting next.layer.restarting still.restarting still.awaits by
+
+  -- of a station whose link is up, and of deadlines that are true of it
+  module _ (before now : ℕ) (s : Station) (high : 2 ≤ rank c s h) (d : Deadlines) (off : s.layer.restarting ≡ false → d.restart ≡ None)
+      (are : AreAwaited times before (λ k. awaited_at (layer_settings c) s.layer k) d.waits) where
+    up : is_up s.link.phase ≡ true
+    up = is_up_high s.link.phase s.layer.restarting (awaited s) high
+
+    up_rank : rank c s h ≡ rank_of Up s.layer.restarting (awaited s)
+    up_rank = rank_up s.link.phase s.layer.restarting (awaited s) up
+
+    high_up : 2 ≤ rank_of Up s.layer.restarting (awaited s)
+    high_up = subst (λ (n : ℕ). 2 ≤ n) up_rank high
+
+    abbrev Behind : timer.Event → Outcome → Type 0
+    Behind event o = IsBy (timer.after s o).layer.restarting (heeded times now (seen_of c s event o) d).restart (heeded times now (seen_of c s event o) d).waits
+
+    -- what a step tells of the link
+    noted : (event : timer.Event) (step : Step) → tells_link step.entries ≡ false
+        → IsBy step.near.layer.restarting (running step.near.layer.restarting false d.restart (deadline now times.t20)) (heeded_waits now (λ k. awaited_at (layer_settings c) step.near.layer k) d.waits) → Behind event (Did step)
+    noted event step quiet by =
+        subst (λ (b : Bool). IsBy step.near.layer.restarting (running step.near.layer.restarting b d.restart (deadline now times.t20)) (heeded_waits now (λ k. awaited_at (layer_settings c) step.near.layer k) d.waits)) (sym quiet) by
+
+    higher_up : (next : Station) → 2 ≤ rank c next h → (rank c next h ≡ rank_of Up next.layer.restarting (awaited next)) × (2 ≤ rank_of Up next.layer.restarting (awaited next))
+    higher_up next higher =
+        let is : rank c next h ≡ rank_of Up next.layer.restarting (awaited next) = rank_up next.link.phase next.layer.restarting (awaited next) (is_up_high next.link.phase next.layer.restarting (awaited next) higher) in
+        (is, subst (λ (n : ℕ). 2 ≤ n) is higher)
+
+    -- its rank is lower
+    fallen_by : (event : timer.Event) (step : Step) → tells_link step.entries ≡ false → 2 ≤ rank c step.near h → rank c step.near h < rank c s h → InTime s.layer.restarting (awaited s) now → Behind event (Did step)
+    fallen_by event step quiet higher low late =
+        let new = higher_up step.near higher in
+        let less : rank_of Up step.near.layer.restarting (awaited step.near) < rank_of Up s.layer.restarting (awaited s) = subst (λ (n : ℕ). n < rank_of Up s.layer.restarting (awaited s)) new.0 (subst (λ (n : ℕ). rank c step.near h < n) up_rank low) in
+        noted event step quiet (fallen before now s step.near high_up new.1 d.restart d.waits off are less late)
+
+    event_by : (event : timer.Event) (o : Outcome) → LeadsOn c s h o → tells o ≡ false → 2 ≤ rank c (timer.after s o) h → IsBy s.layer.restarting d.restart d.waits → InTime s.layer.restarting (awaited s) now → Behind event o
+    event_by event (Did step) leads quiet higher by late = on (leads quiet)
+      where
+        on : AwaitsStill c s step.near h ⊎ (rank c step.near h < rank c s h) → Behind event (Did step)
+        on (inl still) = noted event step quiet (stayed before now s step.near high_up (higher_up step.near higher).1 d.restart d.waits off are still by)
+        on (inr low) = fallen_by event step quiet higher low late
+    event_by event (Refused e) leads quiet higher by late = stayed before now s s high_up high_up d.restart d.waits off are (record { up = up; restarting = refl; awaits = refl }) by
+
+  -- ---- what is due is asked
+
+  renewed_on_others : (now k : ℕ) (ws : List Wait) → (k == h) ≡ false → OnChannel ws → OnChannel (map (renewed times now k) ws)
+  renewed_on_others now k [] other on = tt
+  renewed_on_others now k (w ∷ ws) other on = (first, renewed_on_others now k ws other on.1)
+    where
+      first : (renewed times now k w).channel ≡ h → (let x : Wait = renewed times now k w in Ends bound x.until (left x.awaits))
+      first is =
+          let at_h : w.channel ≡ h = sym (renewed_channel times now k w) ∙ is in
+          let differ : (w.channel == k) ≡ false = not_same (w.channel == k) refl at_h in
+          subst (λ (x : Wait). Ends bound x.until (left x.awaits)) (sym (not_renewed times now k w differ)) (on.0 at_h)
+        where
+          not_same : (b : Bool) → (w.channel == k) ≡ b → w.channel ≡ h → b ≡ false
+          not_same false same at_h = refl
+          not_same true same at_h = absurd (true≢false (sym (eq-eqb k h (sym (eqb-true w.channel k same) ∙ at_h)) ∙ other))
+
+  cleared : Laws → (s : Station) (what : Due) → rank c s h ≡ 4 → what ≡ due.Clear h → waits s.link.outgoing < 256 → Falls c h s what
+  cleared laws s what four is low =
+      let found = laws.clear c s h four low in
+      let three : rank c found.0.near h ≡ 3 = found.2 in
+      record { step = found.0; is = ap (λ (x : Due). timer.outcome c s (asks x)) is ∙ found.1; low = omega (arith, three, four) }
+
+  restarted : Laws → (s : Station) (what : Due) → rank c s h ≡ 3 → is_up s.link.phase ≡ true → s.layer.restarting ≡ false → what ≡ due.Restart h → waits s.link.outgoing < 256 → Falls c h s what
+  restarted laws s what three up ready is low =
+      let found = laws.restart c s up ready low in
+      let two : rank c found.0.near h ≡ 2 = found.2 h in
+      record { step = found.0; is = ap (λ (x : Due). timer.outcome c s (asks x)) is ∙ found.1; low = omega (arith, two, three) }
+
+  asked_falls : Laws → (s : Station) (what : Due) (a : Awaits) → rank c s h ≡ rank_in a → 2 ≤ rank c s h → is_up s.link.phase ≡ true → s.layer.restarting ≡ false → asked_for h a ≡ Some what → waits s.link.outgoing < 256 → Falls c h s what
+  asked_falls laws s what Nothing is high linked ready asked low = absurd (none-some what asked)
+  asked_falls laws s what Acceptance is high linked ready asked low = cleared laws s what is (sym (ap or_t1 asked)) low
+  asked_falls laws s what ResetConfirmation is high linked ready asked low = cleared laws s what is (sym (ap or_t1 asked)) low
+  asked_falls laws s what ClearConfirmation is high linked ready asked low = restarted laws s what is linked ready (sym (ap or_t1 asked)) low
+
+  relink_told : Laws → (s : Station) (what : Due) → is_up s.link.phase ≡ true → what ≡ due.Relink → tells (timer.outcome c s (asks what)) ≡ false → ⊥
+  relink_told laws s what up is quiet =
+      let found = laws.relink c s up in
+      true≢false (sym (ap (λ (x : Due). tells (timer.outcome c s (asks x))) is ∙ ap tells found.1 ∙ ap tells_link found.2.entries) ∙ quiet)
+
+  -- a moment at which what is due is asked
+  asked_deed : Laws → (w : Watched) (later : ℕ) (what : Due) → AreTrue c times w → 2 ≤ rank c w.station h → IsFounded (IsAsked later what) w → (let o : Outcome = outcome_of c (IsAsked later what) w in tells o ≡ false → 2 ≤ rank c (timer.after w.station o) h)
+      → (let o : Outcome = outcome_of c (IsAsked later what) w in tells o ≡ false) → IsBy w.station.layer.restarting w.deadlines.restart w.deadlines.waits → InTime w.station.layer.restarting (awaited w.station) (w.now + later)
+      → (let v : Watched = done c times (IsAsked later what) w in IsBy v.station.layer.restarting v.deadlines.restart v.deadlines.waits)
+  asked_deed laws w later what true_now high founded higher quiet by late = on (what_is_asked times now d what founded.0)
+    where
+      s : Station
+      s = w.station
+
+      d : Deadlines
+      d = w.deadlines
+
+      now : ℕ
+      now = w.now + later
+
+      e : Deadlines
+      e = after_due times now d
+
+      then_true : AreTrue c times (record w { deadlines = e; now = now })
+      then_true = due_true c times w later true_now
+
+      event : timer.Event
+      event = asks what
+
+      o : Outcome
+      o = timer.outcome c s event
+
+      goes : IsBy s.layer.restarting e.restart e.waits → Behind now now s high e then_true.restart.off then_true.waits event o
+      goes by_then = event_by now now s high e then_true.restart.off then_true.waits event o (laws.back c s h event high) quiet (higher quiet) by_then late
+
+      is_up_now : is_up s.link.phase ≡ true
+      is_up_now = is_up_high s.link.phase s.layer.restarting (awaited s) high
+
+      relinked : AsksRelink d e what → (r : Bool) → s.layer.restarting ≡ r → IsBy r d.restart d.waits → IsBy r e.restart e.waits
+      relinked asked true is by = absurd (relink_told laws s what is_up_now asked.is quiet)
+      relinked asked false is by = subst (λ (ws : List Wait). OnChannel ws) (sym asked.waits) by
+
+      other : (asked : AsksOn times now d e what) → (asked.wait.channel == h) ≡ false → (r : Bool) → IsBy r d.restart d.waits → IsBy r e.restart e.waits
+      other asked differ true by = subst (λ (x : Option ℕ). Ends bound x 0) (sym asked.restart) by
+      other asked differ false by = subst (λ (ws : List Wait). OnChannel ws) (sym asked.waits) (renewed_on_others now asked.wait.channel d.waits differ by)
+
+      falls : Falls c h s what → Behind now now s high e then_true.restart.off then_true.waits event o
+      falls f =
+          subst (λ (x : Outcome). Behind now now s high e then_true.restart.off then_true.waits event x) (sym f.is)
+          (fallen_by now now s high e then_true.restart.off then_true.waits event f.step (ap tells (sym f.is) ∙ quiet) (subst (λ (x : Outcome). 2 ≤ rank c (timer.after s x) h) f.is (higher quiet)) f.low late)
+
+      itself : (asked : AsksOn times now d e what) → asked.wait.channel ≡ h → (r : Bool) → s.layer.restarting ≡ r → IsBy r d.restart d.waits → Behind now now s high e then_true.restart.off then_true.waits event o
+      itself asked at_h true is by = goes (subst (λ (r : Bool). IsBy r e.restart e.waits) (sym is) (subst (λ (x : Option ℕ). Ends bound x 0) (sym asked.restart) by))
+      itself asked at_h false is by =
+          let awaits : asked.wait.awaits ≡ awaited s = overdue_is times w.now now (λ k. awaited_at (layer_settings c) s.layer k) d.waits asked.wait true_now.waits asked.found ∙ ap (λ (k : ℕ). awaited_at (layer_settings c) s.layer k) at_h in
+          let asks_it : asked_for h (awaited s) ≡ Some what = sym (ap (λ (k : ℕ). asked_for k asked.wait.awaits) at_h ∙ ap (asked_for h) awaits) ∙ asked.is in
+          let same : rank c s h ≡ rank_in (awaited s) = rank_up s.link.phase s.layer.restarting (awaited s) is_up_now ∙ ap (λ (r : Bool). rank_of Up r (awaited s)) is in
+          falls (asked_falls laws s what (awaited s) same high is_up_now is asks_it founded.1)
+
+      on_wait : (asked : AsksOn times now d e what) (b : Bool) → (asked.wait.channel == h) ≡ b → Behind now now s high e then_true.restart.off then_true.waits event o
+      on_wait asked true is = itself asked (eqb-true asked.wait.channel h is) s.layer.restarting refl by
+      on_wait asked false is = goes (other asked is s.layer.restarting by)
+
+      none : AsksNone d e → (r : Bool) → IsBy r d.restart d.waits → IsBy r e.restart e.waits
+      none asked true by = subst (λ (x : Option ℕ). Ends bound x 0) (sym asked.restart) by
+      none asked false by = subst (λ (ws : List Wait). OnChannel ws) (sym asked.waits) by
+
+      on : WhatIsAsked times now d what e → Behind now now s high e then_true.restart.off then_true.waits event o
+      on (inl asked) = goes (none asked s.layer.restarting by)
+      on (inr (inl asked)) = goes (relinked asked s.layer.restarting refl by)
+      on (inr (inr asked)) = on_wait asked (asked.wait.channel == h) refl
+
+  deed_by : Laws → (w : Watched) (deed : Deed) → AreTrue c times w → 2 ≤ rank c w.station h → IsFounded deed w → tells (outcome_of c deed w) ≡ false → 2 ≤ rank c (done c times deed w).station h
+      → IsBy w.station.layer.restarting w.deadlines.restart w.deadlines.waits → InTime w.station.layer.restarting (awaited w.station) (w.now + later_by deed)
+      → (let v : Watched = done c times deed w in IsBy v.station.layer.restarting v.deadlines.restart v.deadlines.waits)
+  deed_by laws w (Happens later event) true_now high founded quiet higher by late =
+      event_by w.now (w.now + later) w.station high w.deadlines true_now.restart.off true_now.waits event (timer.outcome c w.station event) (laws.back c w.station h event high) quiet higher by late
+  deed_by laws w (IsAsked later what) true_now high founded quiet higher by late = asked_deed laws w later what true_now high founded (λ q. higher) quiet by late
+
+  -- ---- deed after deed
+
+  deed_true : (w : Watched) (deed : Deed) → AreTrue c times w → AreTrue c times (done c times deed w)
+  deed_true w (Happens later event) true_now = happens_true c times w later event (timer.outcome c w.station event) true_now
+  deed_true w (IsAsked later what) true_now =
+      let found : Watched = found_by times (IsAsked later what) w in
+      let nothing : found.now + 0 ≡ found.now = omega arith in
+      subst (λ (n : ℕ). AreTrue c times (heeds c times n (asks what) (timer.outcome c w.station (asks what)) found)) nothing
+      (happens_true c times found 0 (asks what) (timer.outcome c w.station (asks what)) (due_true c times w later true_now))
+
+  higher_next : (deeds : List Deed) (w : Watched) → AwaitsAll c times h deeds w → 2 ≤ rank c w.station h
+  higher_next [] w all = all
+  higher_next (deed ∷ deeds) w all = all.0
+
+  all_by : Laws → c.channels ≤ 16 → (deeds : List Deed) (w : Watched) → AreTrue c times w → AreObeyed c times deeds w → AwaitsAll c times h deeds w → w.now ≤ bound
+      → IsBy w.station.layer.restarting w.deadlines.restart w.deadlines.waits → (all_done c times deeds w).now ≤ bound
+  all_by laws few [] w true_now obeyed all low by = low
+  all_by laws few (deed ∷ deeds) w true_now obeyed all low by =
+      let late : InTime w.station.layer.restarting (awaited w.station) (w.now + later_by deed) = in_time w (w.now + later_by deed) few true_now all.0 obeyed.1 by in
+      let v : Watched = done c times deed w in
+      all_by laws few deeds v (deed_true w deed true_now) obeyed.2 all.2 (now_in_time w.station.layer.restarting (awaited w.station) (w.now + later_by deed) late)
+      (deed_by laws w deed true_now all.0 obeyed.0 all.1 (higher_next deeds v all.2) by late)
+
+-- ---- where it begins
+
+module _ (c : Settings) (times : Times) (h : ℕ) (set : AreSet times) where
+  ends_by : (bound now time more : ℕ) (until : Option ℕ) → (few : bound < 2 ^ 64) → 0 < time → now + (time + more) ≤ bound → IsSince now time until → Ends bound until more
+  ends_by bound now time more until few positive low since =
+      let past : since.since ≤ now = since.past in
+      subst (λ (o : Option ℕ). Ends bound o more) (sym since.is) (begins_at bound few since.since time more positive (omega (arith, low, past)))
+
+  first_on : (bound now : ℕ) (few : bound < 2 ^ 64) (f : ℕ → Awaits) (ws : List Wait) → bound ≡ now + longest_wait times false (f h) → 2 ≤ rank_in (f h) → AreAwaited times now f ws → OnChannel c times h bound set few ws
+  first_on bound now few f [] is high are = tt
+  first_on bound now few f (w ∷ ws) is high are = (first, first_on bound now few f ws is high are.1)
+    where
+      at : (a : Awaits) → bound ≡ now + longest_wait times false a → 2 ≤ rank_in a → IsSince now (time_of times a) w.until → Ends bound w.until (left c times h bound set few a)
+      at Nothing is high since = low_one 0 (omega arith) high
+      at Acceptance is high since = ends_by bound now times.t21 (times.t23 + times.t20) w.until few set.t21 (omega (arith, is)) since
+      at ResetConfirmation is high since = ends_by bound now times.t22 (times.t23 + times.t20) w.until few set.t22 (omega (arith, is)) since
+      at ClearConfirmation is high since = ends_by bound now times.t23 times.t20 w.until few set.t23 (omega (arith, is)) since
+
+      first : w.channel ≡ h → Ends bound w.until (left c times h bound set few w.awaits)
+      first at_h =
+          let same : w.awaits ≡ f h = are.0.awaits ∙ ap f at_h in
+          at w.awaits (is ∙ ap (λ (a : Awaits). now + longest_wait times false a) (sym same)) (subst (λ (a : Awaits). 2 ≤ rank_in a) (sym same) high) are.0.until
+
+  first_by : (bound : ℕ) (w : Watched) (few : bound < 2 ^ 64) (r : Bool) → w.station.layer.restarting ≡ r → bound ≡ w.now + longest_wait times r (awaited_at (layer_settings c) w.station.layer h) → 2 ≤ rank c w.station h → AreTrue c times w
+      → IsBy c times h bound set few r w.deadlines.restart w.deadlines.waits
+  first_by bound w few true is same high true_now = ends_by bound w.now times.t20 0 w.deadlines.restart few set.t20 (omega (arith, same)) (true_now.restart.on is)
+  first_by bound w few false is same high true_now =
+      let a : Awaits = awaited_at (layer_settings c) w.station.layer h in
+      let up : is_up w.station.link.phase ≡ true = is_up_high w.station.link.phase w.station.layer.restarting a high in
+      let two : rank c w.station h ≡ rank_in a = rank_up w.station.link.phase w.station.layer.restarting a up ∙ ap (λ (r : Bool). rank_of Up r a) is in
+      first_on bound w.now few (λ k. awaited_at (layer_settings c) w.station.layer k) w.deadlines.waits same (subst (λ (n : ℕ). 2 ≤ n) two high) true_now.waits
+
+pub nothing_waits : ClearLeadsOn → RestartLeadsOn → RelinkLeadsOn → NothingLeadsBack → NothingWaits
+nothing_waits clear restart relink back c times h moments deeds few set small obeyed all =
+    let w : Watched = watched c times moments in
+    let r : Bool = w.station.layer.restarting in
+    let bound : ℕ = w.now + longest_wait times r (awaited_at (layer_settings c) w.station.layer h) in
+    let true_now : AreTrue c times w = deadlines_are_true c times moments in
+    all_by c times h bound set small (record { clear = clear; restart = restart; relink = relink; back = back }) few deeds w true_now obeyed all (omega arith)
+    (first_by c times h set bound w small r refl refl (higher_next c times h bound set small deeds w all) true_now)

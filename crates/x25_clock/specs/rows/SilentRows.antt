@@ -1,0 +1,55 @@
+-- A worked row of one who obeys his clock: a peer whose link lives and whose packet layer is silent.
+use Rattle.std.specs.Prelude.{◌≡◌, ◌+◌, false, List, [], ◌∷◌, ◌++◌}
+use Rattle.x25_bits.specs.declared.role.Role.TheVariants.{Dte}
+use Rattle.x25_link.specs.declared.phase.Phase.TheVariants.{Waiting}
+use Rattle.x25_link.specs.Station.{fresh}
+use Rattle.x25_circuit.specs.Params.{default_params, in_brief}
+use Rattle.x25_layer.specs.Layer.{at_rest}
+use Rattle.x25_layer.specs.Calls.{Dials}
+use Rattle.x25_layer.specs.code.FitsLayer.{awaited_at}
+use Rattle.x25_station.specs.Command.{Requests}
+use Rattle.x25_station.specs.Config.{Settings, layer_settings}
+use Rattle.x25_station.specs.laws.TimerLaw.{Asks}
+use Rattle.x25_clock.specs.declared.due.Due.TheVariants as due
+use Rattle.x25_clock.specs.declared.times.Times.{Times}
+use Rattle.x25_clock.specs.Clock.{nothing_awaited}
+use Rattle.x25_clock.specs.laws.ClockLaw.{Watched}
+use Rattle.x25_clock.specs.laws.WaitLaw.{Deed, Happens, IsAsked, done, all_done, AreObeyed, AwaitsAll, longest_wait}
+
+-- a DTE with one channel
+abbrev pub dte : Settings
+dte = record {
+  role = Dte;
+  window = 7;
+  retries = 2;
+  channels = 1;
+  long_data = false;
+  say_sizes = false;
+  wide = false;
+}
+
+-- T1 and T3 are for ever, so that the link of the peer may be left out
+abbrev pub times : Times
+times = record { t1 = 0; t3 = 0; t20 = 5; t21 = 3; t22 = 2; t23 = 4 }
+
+-- its link is up and in r1, and it calls at once
+abbrev pub before : Watched
+before = record { station = record { link = fresh; layer = at_rest }; deadlines = nothing_awaited; now = 7 }
+
+abbrev pub called : Watched
+called = done dte times (Happens 0 (Asks (Requests (Dials [] [] [] (in_brief default_params))))) before
+
+-- nothing comes: the call is cleared, all is restarted
+abbrev pub asked : List Deed
+asked = IsAsked 3 (due.Clear 1) ∷ IsAsked 4 (due.Restart 1) ∷ []
+
+-- and the link is set up anew, at the last moment that the law allows
+abbrev pub last : Deed
+last = IsAsked 5 due.Relink
+
+pub record SilentPeerIsLeft : Type 0 where
+  pub obeys : AreObeyed dte times (asked ++ last ∷ []) called
+  pub awaits : AwaitsAll dte times 1 asked called
+  pub now : (all_done dte times (asked ++ last ∷ []) called).now ≡ called.now
+      + longest_wait times false (awaited_at (layer_settings dte) called.station.layer 1)
+  pub phase : (all_done dte times (asked ++ last ∷ []) called).station.link.phase ≡ Waiting

@@ -1,0 +1,222 @@
+-- The lines between two ends over sessions, and what is said of them.
+use Rattle.std.proofs.Common.{◌≡◌, ◌≤◌, ◌<◌, ◌+◌, ◌⊎◌, inl, inr, ℕ, zero, suc, List, [], ◌∷◌, ◌++◌, remove, refl, sym, subst, arith}
+use Rattle.x25_line.specs.laws.Said.{Said, Tells, Sabm, Else}
+use Rattle.x25_line.proofs.sessions.SessionHeld.{choose, choose_map}
+use Rattle.x25_line.specs.laws.Ends.{Letter, letter, spoilt, sabm_in, ua_in, how_many, OfSabm, OfTells, AreOf}
+
+pub count_push : (k : Said → ℕ) (es : List Letter) (e : Letter) → how_many k (es ++ e ∷ []) ≡ how_many k es + k e.said
+count_push k [] e = omega arith
+count_push k (x ∷ es) e = (let rest = count_push k es e in omega (arith, rest))
+
+-- one letter at most is gone
+pub data Less : List Letter → List Letter → Type 0 where
+  whole : (es : List Letter) → Less es es
+  gone : (e : Letter) (es : List Letter) → Less (e ∷ es) es
+  hurt : (e : Letter) (es : List Letter) → Less (e ∷ es) (letter e.session Else ∷ es)
+  deeper : (e : Letter) (es fs : List Letter) → Less es fs → Less (e ∷ es) (e ∷ fs)
+
+pub less_removes : (es : List Letter) (i : ℕ) → Less es (remove es i)
+less_removes [] zero = whole []
+less_removes [] (suc i) = whole []
+less_removes (e ∷ es) zero = gone e es
+less_removes (e ∷ es) (suc i) = deeper e es (remove es i) (less_removes es i)
+
+pub less_spoils : (es : List Letter) (i : ℕ) → Less es (spoilt es i)
+less_spoils [] i = whole []
+less_spoils (e ∷ es) zero = hurt e es
+less_spoils (e ∷ es) (suc i) = deeper e es (spoilt es i) (less_spoils es i)
+
+pub count_less : (k : Said → ℕ) → k Else ≡ 0 → (es fs : List Letter) → Less es fs → how_many k fs ≤ how_many k es
+count_less k quiet es fs (whole xs) = omega arith
+count_less k quiet es fs (gone e xs) = omega arith
+count_less k quiet es fs (hurt e xs) = omega (arith, quiet)
+count_less k quiet es fs (deeper e xs ys h) = (let rest = count_less k quiet xs ys h in omega (arith, rest))
+
+-- each with an N(R) is of such a session
+abbrev pub AllTold : (ℕ → Type 0) → List Letter → Type 0
+AllTold P [] = Unit {0}
+AllTold P (e ∷ es) = OfTells e.said (P e.session) × AllTold P es
+
+abbrev pub AllTags : ℕ → List Letter → Type 0
+AllTags b [] = Unit {0}
+AllTags b (e ∷ es) = (e.session ≤ b) × AllTags b es
+
+pub tags_push : (b : ℕ) (es : List Letter) (e : Letter) → AllTags b es → e.session ≤ b → AllTags b (es ++ e ∷ [])
+tags_push b [] e h k = (k, tt)
+tags_push b (x ∷ es) e h k = (h.0, tags_push b es e h.1 k)
+
+pub tags_more : (b c : ℕ) (es : List Letter) → b ≤ c → AllTags b es → AllTags c es
+tags_more b c [] le h = tt
+tags_more b c (x ∷ es) le h = (let here = h.0 in (omega (arith, le, here), tags_more b c es le h.1))
+
+pub tags_less : (b : ℕ) (es fs : List Letter) → Less es fs → AllTags b es → AllTags b fs
+tags_less b es fs (whole xs) h = h
+tags_less b es fs (gone e xs) h = h.1
+tags_less b es fs (hurt e xs) h = h
+tags_less b es fs (deeper e xs ys l) h = (h.0, tags_less b xs ys l h.1)
+
+pub told_push : (P : ℕ → Type 0) (es : List Letter) (e : Letter) → AllTold P es → OfTells e.said (P e.session) → AllTold P (es ++ e ∷ [])
+told_push P [] e h k = (k, tt)
+told_push P (x ∷ es) e h k = (h.0, told_push P es e h.1 k)
+
+pub told_less : (P : ℕ → Type 0) (es fs : List Letter) → Less es fs → AllTold P es → AllTold P fs
+told_less P es fs (whole xs) h = h
+told_less P es fs (gone e xs) h = h.1
+told_less P es fs (hurt e xs) h = (tt, h.1)
+told_less P es fs (deeper e xs ys l) h = (h.0, told_less P xs ys l h.1)
+
+pub of_tells : (s : Said) (P Q : Type 0) → (P → Q) → OfTells s P → OfTells s Q
+of_tells (Tells c n) P Q f h = f h
+of_tells s P Q f h = tt
+
+pub told_map : (P Q : ℕ → Type 0) → ((n : ℕ) → P n → Q n) → (es : List Letter) → AllTold P es → AllTold Q es
+told_map P Q f [] h = tt
+told_map P Q f (e ∷ es) h = (of_tells e.said (P e.session) (Q e.session) (f e.session) h.0, told_map P Q f es h.1)
+
+abbrev pub Never : ℕ → Type 0
+Never n = ⊥
+
+abbrev pub Of : ℕ → ℕ → Type 0
+Of q n = n ≡ q
+
+of_sabm : (s : Said) (P Q : Type 0) → (P → Q) → OfSabm s P → OfSabm s Q
+of_sabm Sabm P Q f h = f h
+of_sabm s P Q f h = tt
+
+pub sabm_free : (s : Said) (P : Type 0) → sabm_in s ≡ 0 → OfSabm s P
+sabm_free Sabm P h = absurd (omega (arith, h))
+sabm_free s P h = tt
+
+pub are_none : (b : ℕ) (es : List Letter) → how_many sabm_in es ≡ 0 → AreOf b es
+are_none b [] h = tt
+are_none b (e ∷ es) h = (sabm_free e.said (e.session ≡ b) (omega (arith, h)), are_none b es (omega (arith, h)))
+
+pub are_push : (b : ℕ) (es : List Letter) (e : Letter) → AreOf b es → OfSabm e.said (e.session ≡ b) → AreOf b (es ++ e ∷ [])
+are_push b [] e h k = (k, tt)
+are_push b (x ∷ es) e h k = (h.0, are_push b es e h.1 k)
+
+pub are_less : (b : ℕ) (es fs : List Letter) → Less es fs → AreOf b es → AreOf b fs
+are_less b es fs (whole xs) h = h
+are_less b es fs (gone e xs) h = h.1
+are_less b es fs (hurt e xs) h = (tt, h.1)
+are_less b es fs (deeper e xs ys l) h = (h.0, are_less b xs ys l h.1)
+
+-- ---- behind the first UA
+
+-- all is of session q, and no SABM is of an earlier session than b
+abbrev pub Clean : ℕ → ℕ → List Letter → Type 0
+Clean q b es = AllTold (Of q) es × AreOf b es
+
+abbrev pub AfterUa : ℕ → ℕ → List Letter → Type 0
+AfterUa q b [] = Unit {0}
+AfterUa q b (e ∷ es) = choose (ua_in e.said) (AfterUa q b es) (Clean q b es)
+
+pub after_none : (q b : ℕ) (es : List Letter) → how_many ua_in es ≡ 0 → AfterUa q b es
+after_none q b [] h = tt
+after_none q b (e ∷ es) h =
+    let here : ua_in e.said ≡ 0 = omega (arith, h) in
+    subst (λ (n : ℕ). choose n (AfterUa q b es) (Clean q b es)) (sym here) (after_none q b es (omega (arith, h)))
+
+both : (n : ℕ) (P Q : Type 0) → P → Q → choose n P Q
+both zero P Q p q = p
+both (suc n) P Q p q = q
+
+pub after_clean : (q b : ℕ) (es : List Letter) → Clean q b es → AfterUa q b es
+after_clean q b [] h = tt
+after_clean q b (e ∷ es) h = (let rest : Clean q b es = (h.0.1, h.1.1) in both (ua_in e.said) (AfterUa q b es) (Clean q b es) (after_clean q b es rest) rest)
+
+pub after_push : (q b : ℕ) (es : List Letter) (e : Letter) → AfterUa q b es → OfTells e.said (e.session ≡ q) → OfSabm e.said (e.session ≡ b) → AfterUa q b (es ++ e ∷ [])
+after_push q b [] e h t s = both (ua_in e.said) (Unit {0}) (Clean q b []) tt (tt, tt)
+after_push q b (x ∷ es) e h t s =
+    choose_map (ua_in x.said) (AfterUa q b es) (Clean q b es) (AfterUa q b (es ++ e ∷ [])) (Clean q b (es ++ e ∷ [])) (λ k. after_push q b es e k t s)
+    (λ k. (told_push (Of q) es e k.0 t, are_push b es e k.1 s)) h
+
+after_rest : (q b : ℕ) (e : Letter) (es : List Letter) → how_many ua_in (e ∷ es) ≤ 1 → AfterUa q b (e ∷ es) → AfterUa q b es
+after_rest q b e es few h = go (ua_in e.said) refl h
+  where
+    go : (n : ℕ) → ua_in e.said ≡ n → choose n (AfterUa q b es) (Clean q b es) → AfterUa q b es
+    go zero is k = k
+    go (suc n) is k = after_none q b es (omega (arith, few, is))
+
+pub after_less : (q b : ℕ) (es fs : List Letter) → Less es fs → how_many ua_in es ≤ 1 → AfterUa q b es → AfterUa q b fs
+after_less q b es fs (whole xs) few h = h
+after_less q b es fs (gone e xs) few h = after_rest q b e xs few h
+after_less q b es fs (hurt e xs) few h = after_rest q b e xs few h
+after_less q b es fs (deeper e xs ys l) few h =
+    choose_map (ua_in e.said) (AfterUa q b xs) (Clean q b xs) (AfterUa q b ys) (Clean q b ys) (λ k. after_less q b xs ys l (omega (arith, few)) k)
+    (λ k. (told_less (Of q) xs ys l k.0, are_less b xs ys l k.1)) h
+
+-- without a SABM the session that it is of is any
+pub after_base : (q b c : ℕ) (es : List Letter) → how_many sabm_in es ≡ 0 → AfterUa q b es → AfterUa q c es
+after_base q b c [] none h = tt
+after_base q b c (e ∷ es) none h =
+    choose_map (ua_in e.said) (AfterUa q b es) (Clean q b es) (AfterUa q c es) (Clean q c es) (λ k. after_base q b c es (omega (arith, none)) k) (λ k. (k.0, are_none c es (omega (arith, none)))) h
+
+-- ---- SABMs
+
+-- One of the present session, where its end isn't in one and told nothing since; or an older one, where `Older` holds and all
+-- behind it is of session q.
+abbrev pub IsAsked : Type 0 → Type 0 → ℕ → ℕ → Letter → List Letter → Type 0
+IsAsked Now Older b q e es = (Now × (e.session ≡ b) × AllTold Never es) ⊎ (Older × (e.session < b) × AllTold (Of q) es)
+
+abbrev pub AllAsked : Type 0 → Type 0 → ℕ → ℕ → List Letter → Type 0
+AllAsked Now Older b q [] = Unit {0}
+AllAsked Now Older b q (e ∷ es) = OfSabm e.said (IsAsked Now Older b q e es) × AllAsked Now Older b q es
+
+pub asked_none : (N O : Type 0) (b q : ℕ) (es : List Letter) → how_many sabm_in es ≡ 0 → AllAsked N O b q es
+asked_none N O b q [] h = tt
+asked_none N O b q (e ∷ es) h = (sabm_free e.said (IsAsked N O b q e es) (omega (arith, h)), asked_none N O b q es (omega (arith, h)))
+
+pub asked_map : (N O M P : Type 0) (b q : ℕ) → (N → M) → (O → P) → (es : List Letter) → AllAsked N O b q es → AllAsked M P b q es
+asked_map N O M P b q f g [] h = tt
+asked_map N O M P b q f g (e ∷ es) h = (
+  of_sabm e.said (IsAsked N O b q e es) (IsAsked M P b q e es) (λ k. elim k [ inl now ↦ inl (f now.0, now.1, now.2) | inr old ↦ inr (g old.0, old.1, old.2) ]) h.0,
+  asked_map N O M P b q f g es h.1,
+)
+
+-- none is older
+pub asked_now : (N O P : Type 0) (b q r : ℕ) → (es : List Letter) → AreOf b es → AllAsked N O b q es → AllAsked N P b r es
+asked_now N O P b q r [] a h = tt
+asked_now N O P b q r (e ∷ es) a h = (here e.said a.0 h.0, asked_now N O P b q r es a.1 h.1)
+  where
+    here : (s : Said) → OfSabm s (e.session ≡ b) → OfSabm s (IsAsked N O b q e es) → OfSabm s (IsAsked N P b r e es)
+    here Sabm x y = elim y [ inl now ↦ inl now | inr old ↦ (let less = old.1 in absurd (omega (arith, x, less))) ]
+    here s x y = tt
+
+-- none can be older: of any other pair
+pub asked_never : (N O P : Type 0) (b q r : ℕ) → (O → ⊥) → (es : List Letter) → AllAsked N O b q es → AllAsked N P b r es
+asked_never N O P b q r never [] h = tt
+asked_never N O P b q r never (e ∷ es) h = (
+  of_sabm e.said (IsAsked N O b q e es) (IsAsked N P b r e es) (λ k. elim k [ inl now ↦ inl now | inr old ↦ absurd (never old.0) ]) h.0,
+  asked_never N O P b q r never es h.1,
+)
+
+-- the end begins a session: all are older
+pub asked_begins : (N O M P : Type 0) (b q r : ℕ) → P → (O → ⊥) → (es : List Letter) → AllAsked N O b q es → AllAsked M P (suc b) r es
+asked_begins N O M P b q r p never [] h = tt
+asked_begins N O M P b q r p never (e ∷ es) h = (
+  of_sabm e.said (IsAsked N O b q e es) (IsAsked M P (suc b) r e es)
+      (λ k. elim k [ inl now ↦ (let is = now.1 in inr (p, omega (arith, is), told_map Never (Of r) (λ n none. absurd none) es now.2)) | inr old ↦ absurd (never old.0) ]) h.0,
+  asked_begins N O M P b q r p never es h.1,
+)
+
+pub asked_push : (N O : Type 0) (b q : ℕ) (es : List Letter) (e : Letter) → AllAsked N O b q es → OfTells e.said ((N → ⊥) × (e.session ≡ q)) → OfSabm e.said (N × (e.session ≡ b)) → AllAsked N O b q (es ++ e ∷ [])
+asked_push N O b q [] e h t s = (of_sabm e.said (N × (e.session ≡ b)) (IsAsked N O b q e []) (λ k. inl (k.0, k.1, tt)) s, tt)
+asked_push N O b q (x ∷ es) e h t s = (
+  of_sabm x.said (IsAsked N O b q x es) (IsAsked N O b q x (es ++ e ∷ []))
+      (λ k. elim k [
+        | inl now ↦ inl (now.0, now.1, told_push Never es e now.2 (of_tells e.said ((N → ⊥) × (e.session ≡ q)) ⊥ (λ u. u.0 now.0) t))
+        | inr old ↦ inr (old.0, old.1, told_push (Of q) es e old.2 (of_tells e.said ((N → ⊥) × (e.session ≡ q)) (e.session ≡ q) (λ u. u.1) t))
+      ]) h.0,
+  asked_push N O b q es e h.1 t s,
+)
+
+pub asked_less : (N O : Type 0) (b q : ℕ) (es fs : List Letter) → Less es fs → AllAsked N O b q es → AllAsked N O b q fs
+asked_less N O b q es fs (whole xs) h = h
+asked_less N O b q es fs (gone e xs) h = h.1
+asked_less N O b q es fs (hurt e xs) h = (tt, h.1)
+asked_less N O b q es fs (deeper e xs ys l) h = (
+  of_sabm e.said (IsAsked N O b q e xs) (IsAsked N O b q e ys)
+      (λ k. elim k [ inl now ↦ inl (now.0, now.1, told_less Never xs ys l now.2) | inr old ↦ inr (old.0, old.1, told_less (Of q) xs ys l old.2) ]) h.0,
+  asked_less N O b q xs ys l h.1,
+)

@@ -1,0 +1,69 @@
+-- Which sessions meet: one to one, and in order at both ends; and the same as the other end has it.
+use Rattle.std.proofs.Common.{◌≡◌, ◌≤◌, ◌<◌, ℕ, List, [], ◌∷◌, ◌⊎◌, inl, inr, map, refl, ap, arith}
+use Rattle.x25_line.specs.laws.Sessions.{Meeting, turned}
+use Rattle.x25_line.specs.laws.SessionClaims.{AllMet, SomeMet, IsAbove, InStep}
+
+-- it is the two sessions that stand, or an earlier one of each end
+abbrev pub IsPaired : ℕ → ℕ → Meeting → Type 0
+IsPaired p q m = ((m.near ≡ p) × (m.far ≡ q)) ⊎ ((m.near < p) × (m.far < q))
+
+abbrev pub IsBegun : ℕ → ℕ → Meeting → Type 0
+IsBegun p q m = (m.near ≤ p) × (m.far ≤ q)
+
+pub begun_later : (near far p q : ℕ) (met : List Meeting) → near ≤ p → far ≤ q → AllMet (IsBegun near far) met → AllMet (IsBegun p q) met
+begun_later near far p q [] f g h = tt
+begun_later near far p q (m ∷ ms) f g h = ((omega (arith, h.0.0, f), omega (arith, h.0.1, g)), begun_later near far p q ms f g h.1)
+
+pub paired_anew : (near far p q : ℕ) (met : List Meeting) → near < p → far < q → AllMet (IsBegun near far) met → AllMet (IsPaired p q) met
+paired_anew near far p q [] f g h = tt
+paired_anew near far p q (m ∷ ms) f g h = (inr (omega (arith, h.0.0, f), omega (arith, h.0.1, g)), paired_anew near far p q ms f g h.1)
+
+pub above_paired : (p q : ℕ) (met : List Meeting) → AllMet (IsPaired p q) met → IsAbove (record { near = p; far = q }) met
+above_paired p q [] h = tt
+above_paired p q (m ∷ ms) h = h.0
+
+-- ---- as the other end has it
+
+pub twice_turned : (met : List Meeting) → map turned (map turned met) ≡ met
+twice_turned [] = refl
+twice_turned (m ∷ ms) = ap (λ (xs : List Meeting). m ∷ xs) (twice_turned ms)
+
+pub begun_turned : (p q : ℕ) (met : List Meeting) → AllMet (IsBegun p q) met → AllMet (IsBegun q p) (map turned met)
+begun_turned p q [] h = tt
+begun_turned p q (m ∷ ms) h = ((h.0.1, h.0.0), begun_turned p q ms h.1)
+
+pub paired_turned : (p q : ℕ) (met : List Meeting) → AllMet (IsPaired p q) met → AllMet (IsPaired q p) (map turned met)
+paired_turned p q [] h = tt
+paired_turned p q (m ∷ ms) h = (elim h.0 [ inl same ↦ inl (same.1, same.0) | inr less ↦ inr (less.1, less.0) ], paired_turned p q ms h.1)
+
+above_turned : (m : Meeting) (met : List Meeting) → IsAbove m met → IsAbove (turned m) (map turned met)
+above_turned m [] h = tt
+above_turned m (n ∷ ms) h = elim h [ inl same ↦ inl (same.1, same.0) | inr less ↦ inr (less.1, less.0) ]
+
+pub in_step_turned : (met : List Meeting) → InStep met → InStep (map turned met)
+in_step_turned [] h = tt
+in_step_turned (m ∷ ms) h = (above_turned m ms h.0, in_step_turned ms h.1)
+
+pub near_turned : (n : ℕ) (met : List Meeting) → SomeMet (λ (m : Meeting). m.near ≡ n) met → SomeMet (λ (m : Meeting). m.far ≡ n) (map turned met)
+near_turned n [] h = h
+near_turned n (m ∷ ms) h = elim h [ inl here ↦ inl here | inr there ↦ inr (near_turned n ms there) ]
+
+pub far_turned : (n : ℕ) (met : List Meeting) → SomeMet (λ (m : Meeting). m.far ≡ n) met → SomeMet (λ (m : Meeting). m.near ≡ n) (map turned met)
+far_turned n [] h = h
+far_turned n (m ∷ ms) h = elim h [ inl here ↦ inl here | inr there ↦ inr (far_turned n ms there) ]
+
+-- ---- the latest
+
+-- who meets the near end's session that stands is the latest
+pub meets : (p q near far : ℕ) (m : Meeting) → near ≡ p → far ≤ q → IsBegun near far m → IsPaired p q m → m.near ≡ near → (m.far ≡ far) × (q ≡ far)
+meets p q near far m is high begun (inl same) here = (omega (arith, same.1, begun.1, high), omega (arith, same.1, begun.1, high))
+meets p q near far m is high begun (inr less) here = absurd (omega (arith, less.0, is, here))
+
+pub all_meet : (p q near far : ℕ) (met : List Meeting) → near ≡ p → far ≤ q → AllMet (IsBegun near far) met → AllMet (IsPaired p q) met → AllMet (λ (m : Meeting). m.near ≡ near → m.far ≡ far) met
+all_meet p q near far [] is high begun paired = tt
+all_meet p q near far (m ∷ ms) is high begun paired = (λ here. (meets p q near far m is high begun.0 paired.0 here).0, all_meet p q near far ms is high begun.1 paired.1)
+
+pub some_meets : (p q near far : ℕ) (met : List Meeting) → near ≡ p → far ≤ q → AllMet (IsBegun near far) met → AllMet (IsPaired p q) met → SomeMet (λ (m : Meeting). m.near ≡ near) met → q ≡ far
+some_meets p q near far [] is high begun paired some = absurd some
+some_meets p q near far (m ∷ ms) is high begun paired some =
+    elim some [ inl here ↦ (meets p q near far m is high begun.0 paired.0 here).1 | inr there ↦ some_meets p q near far ms is high begun.1 paired.1 there ]

@@ -1,0 +1,117 @@
+-- What the rules look at in the octets on a line.
+use Rattle.std.proofs.Common.{◌≡◌, ◌⊎◌, inl, inr, ℕ, zero, suc, List, [], ◌∷◌, ◌++◌, map, remove, true, Option, Some, None, Ok, Err, refl, sym, ap, ◌∙◌, arith}
+use Rattle.x25_bits.specs.declared.role.Role.{Role}
+use Rattle.x25_frame.specs.Frame.{PlainFrame, sabm, disc, ua}
+use Rattle.x25_frame.specs.Reading.{frame_of}
+use Rattle.x25_frame.specs.declared.error.FrameError.TheVariants.{Short}
+use Rattle.x25_link.specs.declared.phase.Phase.{Phase}
+use Rattle.x25_link.specs.declared.phase.Phase.TheVariants.{Up}
+use Rattle.x25_link.specs.Station.{is_up}
+use Rattle.x25_line.specs.laws.Stations.{is_visible}
+use Rattle.x25_line.specs.laws.StationClaims.{number_in}
+use Rattle.x25_line.specs.laws.Said.{Said, Else, said}
+use Rattle.x25_line.specs.laws.Sessions.{Entry, Meeting, turned, sabm_in, ua_in, disc_in, how_many, heard, replaced}
+use Rattle.x25_line.proofs.StationLines.{visible_reads}
+use Rattle.x25_line.proofs.ends.Meetings.{twice_turned}
+use Rattle.x25_line.proofs.sessions.SessionLines.{Read}
+use Rattle.x25_line.specs.laws.PeerSessions.{Stand, In, is_in, AllAskedIn}
+use Rattle.x25_line.specs.laws.Ends.{Letter, letter, OfSabm, AreOf, meets, spoilt}
+use Rattle.x25_line.specs.laws.Ends as ends
+use Rattle.x25_line.proofs.sessions.SessionMay.{entry, stand_of}
+
+-- ---- one of them
+
+sabm_said : (r : Read) → sabm_in r ≡ ends.sabm_in (said r)
+sabm_said (Ok (sabm p)) = refl
+sabm_said (Ok f) = refl
+sabm_said (Err Short) = refl
+sabm_said (Err e) = refl
+
+ua_said : (r : Read) → ua_in r ≡ ends.ua_in (said r)
+ua_said (Ok (ua f)) = refl
+ua_said (Ok f) = refl
+ua_said (Err Short) = refl
+ua_said (Err e) = refl
+
+disc_said : (r : Read) → disc_in r ≡ ends.disc_in (said r)
+disc_said (Ok (disc p)) = refl
+disc_said (Ok f) = refl
+disc_said (Err Short) = refl
+disc_said (Err e) = refl
+
+meets_said : (r : Read) (m : Meeting) (met : List Meeting) → heard true (number_in r) m met ≡ meets (said r) m met
+meets_said (Ok (sabm p)) m met = refl
+meets_said (Ok f) m met = refl
+meets_said (Err Short) m met = refl
+meets_said (Err e) m met = refl
+
+-- who meets whom, as an end hears it
+pub heard_said : (p : Phase) (b t : ℕ) (r : Read) (met : List Meeting) → heard (is_up p) (number_in r) (record { near = b; far = t }) met ≡ ends.heard (stand_of p) b (letter t (said r)) met
+heard_said Up b t r met = meets_said r (record { near = b; far = t }) met
+heard_said p b t r met = refl
+
+-- and as the other end does
+pub heard_turned : (s : Stand) (b t : ℕ) (r : Read) (met : List Meeting) → map turned (ends.heard s b (letter t (said r)) (map turned met)) ≡ heard (is_in s) (number_in r) (record { near = t; far = b }) met
+heard_turned In b t r met = ap (map turned) (sym (meets_said r (record { near = b; far = t }) (map turned met))) ∙ go (number_in r)
+  where
+    go : (o : Option PlainFrame) → map turned (heard true o (record { near = b; far = t }) (map turned met)) ≡ heard true o (record { near = t; far = b }) met
+    go None = twice_turned met
+    go (Some g) = ap (λ (xs : List Meeting). record { near = t; far = b } ∷ xs) (twice_turned met)
+heard_turned s b t r met = twice_turned met
+
+-- ---- all on a line
+
+module _ (from : Role) (n1 : ℕ) where
+  abbrev pub letters : List Entry → List Letter
+  letters [] = []
+  letters (e ∷ es) = letter e.session (said (frame_of from n1 e.octets)) ∷ letters es
+
+  pub letters_push : (es : List Entry) (b : ℕ) (octets : List ℕ) (r : Read) → frame_of from n1 octets ≡ r → letters (es ++ entry b octets ∷ []) ≡ letters es ++ letter b (said r) ∷ []
+  letters_push [] b octets r read = ap (λ (x : Read). letter b (said x) ∷ []) read
+  letters_push (e ∷ es) b octets r read = ap (λ (xs : List Letter). letter e.session (said (frame_of from n1 e.octets)) ∷ xs) (letters_push es b octets r read)
+
+  pub letters_removed : (es : List Entry) (i : ℕ) → letters (remove es i) ≡ remove (letters es) i
+  letters_removed [] zero = refl
+  letters_removed [] (suc i) = refl
+  letters_removed (e ∷ es) zero = refl
+  letters_removed (e ∷ es) (suc i) = ap (λ (xs : List Letter). letter e.session (said (frame_of from n1 e.octets)) ∷ xs) (letters_removed es i)
+
+  pub visible_said : (o : List ℕ) → is_visible o ≡ true → said (frame_of from n1 o) ≡ Else
+  visible_said o visible = elim (visible_reads from n1 o visible) [ inl short ↦ ap said short | inr bad ↦ ap said bad ]
+
+  pub letters_replaced : (o : List ℕ) → is_visible o ≡ true → (es : List Entry) (i : ℕ) → letters (replaced es i o) ≡ spoilt (letters es) i
+  letters_replaced o visible [] i = refl
+  letters_replaced o visible (e ∷ es) zero = ap (λ (s : Said). letter e.session s ∷ letters es) (visible_said o visible)
+  letters_replaced o visible (e ∷ es) (suc i) = ap (λ (xs : List Letter). letter e.session (said (frame_of from n1 e.octets)) ∷ xs) (letters_replaced o visible es i)
+
+  pub sabms : (es : List Entry) → how_many sabm_in from n1 es ≡ ends.how_many ends.sabm_in (letters es)
+  sabms [] = refl
+  sabms (e ∷ es) = (let here = sabm_said (frame_of from n1 e.octets) in let there = sabms es in omega (arith, here, there))
+
+  pub uas : (es : List Entry) → how_many ua_in from n1 es ≡ ends.how_many ends.ua_in (letters es)
+  uas [] = refl
+  uas (e ∷ es) = (let here = ua_said (frame_of from n1 e.octets) in let there = uas es in omega (arith, here, there))
+
+  pub discs : (es : List Entry) → how_many disc_in from n1 es ≡ ends.how_many ends.disc_in (letters es)
+  discs [] = refl
+  discs (e ∷ es) = (let here = disc_said (frame_of from n1 e.octets) in let there = discs es in omega (arith, here, there))
+
+  -- no SABM is of an earlier session
+  pub asked_letters : (b : ℕ) (es : List Entry) → AllAskedIn from n1 b es → AreOf b (letters es)
+  asked_letters b [] h = tt
+  asked_letters b (e ∷ es) h = (one (frame_of from n1 e.octets) h.0, asked_letters b es h.1)
+    where
+      one : (r : Read) → (sabm_in r ≡ 0) ⊎ (e.session ≡ b) → OfSabm (said r) (e.session ≡ b)
+      one (Ok (sabm p)) k = elim k [ inl none ↦ absurd (omega (arith, none)) | inr is ↦ is ]
+      one (Ok f) k = tt
+      one (Err Short) k = tt
+      one (Err x) k = tt
+
+  pub letters_asked : (b : ℕ) (es : List Entry) → AreOf b (letters es) → AllAskedIn from n1 b es
+  letters_asked b [] h = tt
+  letters_asked b (e ∷ es) h = (one (frame_of from n1 e.octets) h.0, letters_asked b es h.1)
+    where
+      one : (r : Read) → OfSabm (said r) (e.session ≡ b) → (sabm_in r ≡ 0) ⊎ (e.session ≡ b)
+      one (Ok (sabm p)) k = inr k
+      one (Ok f) k = inl refl
+      one (Err x) k = inl refl

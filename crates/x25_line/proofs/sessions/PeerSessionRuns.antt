@@ -1,0 +1,167 @@
+-- What a station and a peer reach are two ends that keep the rules, and that says the claims.
+use Rattle.std.proofs.Common.{◌≡◌, inl, inr, ◌≤◌, ℕ, List, [], ◌∷◌, map, length, true, false, refl, sym, ap, ◌∙◌, subst, arith}
+use Rattle.std.proofs.lemmas.Bool.{and_parts}
+use Rattle.x25_frame.specs.laws.ReadingLaw.{ReadsSpelled}
+use Rattle.x25_link.specs.Station.{Settings, is_up}
+use Rattle.x25_link.specs.Hearing.{other}
+use Rattle.x25_link.specs.Link.{is_idle}
+use Rattle.x25_link.specs.laws.WindowMachine.{Window}
+use Rattle.x25_line.specs.laws.Stations.{Act, T1}
+use Rattle.x25_line.specs.laws.InWindow.{IsPrefix}
+use Rattle.x25_line.specs.laws.Sessions.{Meeting, turned, acts, from_nothing, from_set_up}
+use Rattle.x25_line.specs.laws.SessionClaims.{AllMet, IsInOrder, MeetInStep, MetAreInOrder, UnmetHandNothingUp}
+use Rattle.x25_line.specs.laws.LawsBelow.{SessionLaws}
+use Rattle.x25_line.specs.laws.Peer.{fresh_peer}
+use Rattle.x25_line.proofs.StationClaimLemmas.{idle_all}
+use Rattle.x25_line.proofs.StationAway.{is_up_phase}
+use Rattle.x25_line.proofs.sessions.SessionHeld.{View, Live, Soon, Gone}
+use Rattle.x25_line.specs.laws.PeerSessions.{PeerSessions, PeerEnd, Out, In, both_ends, as_end, with_peer, begin_with, IsReached, at_start, set_up, goes_on}
+use Rattle.x25_line.specs.laws.PeerSessions as sessions
+use Rattle.x25_line.specs.laws.PeerSessionClaims.{WithAnyPeer, WithAnyLapbPeer, OfBothEnds, IdleHasArrived, EachMeetsLatest, SendsNoFrmr}
+use Rattle.x25_line.specs.laws.Ends.{Ends, ends_swapped}
+use Rattle.x25_line.specs.laws.Ends as ends
+use Rattle.x25_line.specs.laws.EndClaims.{MetInOrder, KeepSessions}
+use Rattle.x25_line.proofs.sessions.SessionMay.{stand_of}
+use Rattle.x25_line.proofs.sessions.SessionSeen.{Seen}
+use Rattle.x25_line.proofs.sessions.SessionSeenSteps.{IsTimely, station_acts}
+use Rattle.x25_line.proofs.sessions.SessionWith.{outs, backs, at, IsWith, station_may, Kept}
+use Rattle.x25_line.proofs.sessions.PeerMoves.{peer_held}
+use Rattle.x25_line.proofs.ends.Held.{ViewIs, NotIn}
+use Rattle.x25_line.proofs.ends.Sessions.{All, all_turned, reached_all, keep_sessions, latest, some_stands, all_taken}
+
+-- what holds of a station and a peer
+abbrev Joined : Type 0 → Settings → PeerSessions → Type 0
+Joined Odd c w = Seen c (IsWith Odd c w.peer) (both_ends w)
+
+start_joined : (Odd : Type 0) (c : Settings) → Joined Odd c (begin_with Out from_nothing)
+start_joined Odd c = record {
+  all = λ n. fresh_peer;
+  reached = record { reached = ends.at_start; kept = record { owes = (refl, refl); present = tt; frmr = λ lapb. refl; lapb = λ lapb. tt } };
+  up = λ up. absurd (never up);
+  given = λ n. refl;
+  taken = λ n. refl;
+  later = λ n less. (refl, refl);
+  tags = tt;
+}
+  where
+    never : false ≡ true → ⊥
+    never k = cc
+
+set_up_joined : (Odd : Type 0) (c : Settings) → Joined Odd c (begin_with In from_set_up)
+set_up_joined Odd c = record {
+  all = λ n. fresh_peer;
+  reached = record { reached = ends.set_up; kept = record { owes = (refl, refl); present = tt; frmr = λ lapb. refl; lapb = λ lapb. tt } };
+  up = λ up. record { same = refl; sound = record { place_low = omega arith; place_high = omega arith; sent_high = omega arith; room = omega arith }; room = omega arith; told = omega arith; within = tt };
+  given = λ n. refl;
+  taken = λ n. refl;
+  later = λ n less. (refl, refl);
+  tags = tt;
+}
+
+module _ (reads : ReadsSpelled) (rests : SessionLaws) where
+  station_timely : (Odd : Type 0) (c : Settings) (high : c.window ≤ 7) (w : PeerSessions) (act : Act) → sessions.IsTimely c act w
+      → IsTimely c high reads rests (λ es. sessions.AllAskedIn (other c.role) c.longest w.peer.begun es) (IsWith Odd c w.peer) (station_may Odd c w.peer) act (both_ends w)
+  station_timely Odd c high w T1 timely = λ waiting. (let due = timely waiting in (due.sabm, due.ua, due.crossing))
+  station_timely Odd c high w act timely = tt
+
+  station_held : (Odd : Type 0) (c : Settings) (high : c.window ≤ 7) (w : PeerSessions) → Joined Odd c w → (act : Act) → sessions.IsTimely c act w → Joined Odd c (with_peer w.peer (acts c act (both_ends w)))
+  station_held Odd c high w h act timely =
+      let k = station_acts c high reads rests (λ es. sessions.AllAskedIn (other c.role) c.longest w.peer.begun es) (IsWith Odd c w.peer) (station_may Odd c w.peer) act (both_ends w)
+      (station_timely Odd c high w act timely) h.reached.kept.owes h in
+      record { all = k.all; reached = k.reached; up = k.up; given = k.given; taken = k.taken; later = k.later; tags = k.tags }
+
+  reached_joined : (Odd : Type 0) (c : Settings) → c.window ≤ 7 → (w : PeerSessions) → IsReached Odd c w → Joined Odd c w
+  reached_joined Odd c high w at_start = start_joined Odd c
+  reached_joined Odd c high w set_up = set_up_joined Odd c
+  reached_joined Odd c high w (goes_on v u reached event) =
+      let h = reached_joined Odd c high v reached in
+      peer_held Odd c v h w event (station_held Odd c high v h)
+
+  -- ---- the claims
+
+  module _ (Odd : Type 0) (c : Settings) (high : c.window ≤ 7) (w : PeerSessions) (reached : IsReached Odd c w) where
+    pub h : Joined Odd c w
+    h = reached_joined Odd c high w reached
+
+    abbrev pub two : Ends
+    two = at Odd c w.peer (backs Odd c w.back) w.met (stand_of w.near.station.phase) w.near.begun h.all (outs Odd c w.out)
+
+    pub all_of : All two
+    all_of = reached_all two h.reached.reached
+
+    keeps : KeepSessions two
+    keeps = keep_sessions two h.reached.reached
+
+    -- what is kept of the lines
+    pub lines : Kept Odd c w.peer.begun w.near.station.phase w.back w.out
+    lines = h.reached.kept
+
+    in_order : (m : Meeting) → MetInOrder h.all w.peer.of_session m → IsInOrder w.near (as_end w.peer) m
+    in_order m k = record {
+      there = subst (λ (xs : List (List ℕ)). IsPrefix (w.peer.of_session m.far).taken xs) (h.given m.near) k.0.begins;
+      back = subst (λ (xs : List (List ℕ)). IsPrefix xs (w.peer.of_session m.far).given) (h.taken m.near) k.1.begins;
+    }
+
+    all_in_order : (ms : List Meeting) → AllMet (MetInOrder h.all w.peer.of_session) ms → AllMet (IsInOrder w.near (as_end w.peer)) ms
+    all_in_order [] k = tt
+    all_in_order (m ∷ ms) k = (in_order m k.0, all_in_order ms k.1)
+
+    -- all is acknowledged to an idle station
+    idle_acked : is_idle w.near.station ≡ true → (h.all w.near.begun).acked ≡ length (h.all w.near.begun).given
+    idle_acked idle =
+        let f = h.up (and_parts _ _ idle).0 in
+        ap (λ (z : Window). z.acked) f.same ∙ idle_all w.near.station idle f.sound.sent_high ∙ sym (ap (λ (z : Window). length z.given) f.same)
+
+    pub up_in : is_up w.near.station.phase ≡ true → stand_of w.near.station.phase ≡ In
+    up_in up = ap stand_of (is_up_phase w.near.station.phase up)
+
+    peer_latest : (ms : List Meeting) → AllMet (λ (m : Meeting). m.near ≡ w.peer.begun → m.far ≡ w.near.begun) (map turned ms) → AllMet (λ (m : Meeting). m.far ≡ w.peer.begun → m.near ≡ w.near.begun) ms
+    peer_latest [] k = tt
+    peer_latest (m ∷ ms) k = (k.0, peer_latest ms k.1)
+
+    pub step_is : MeetInStep c c (both_ends w)
+    step_is = keeps.step
+
+    pub order_is : MetAreInOrder c c (both_ends w)
+    order_is = all_in_order w.met keeps.order
+
+    pub unmet_is : UnmetHandNothingUp c c (both_ends w)
+    unmet_is = record { near = λ n. elim (keeps.near_unmet n) [ inl none ↦ inl (sym (h.taken n) ∙ none) | inr some ↦ inr some ]; far = keeps.far_unmet }
+
+    pub idle_is : IdleHasArrived c w
+    idle_is idle which =
+        let on = up_in (and_parts _ _ idle).0 in
+        let stands : all_of.held.q ≡ w.peer.begun = elim which [
+          | inl is ↦ sym (in_now all_of.held.far_view is all_of.held.far.view)
+          | inr some ↦ some_stands two all_of on some
+        ] in
+        all_taken two all_of on stands (idle_acked idle) ∙ h.given w.near.begun
+      where
+        in_now : (v : View) → w.peer.stand ≡ In → ViewIs v w.peer.stand w.peer.begun all_of.held.q → w.peer.begun ≡ all_of.held.q
+        in_now Live is k = k.1
+        in_now Soon is k = absurd (subst NotIn is k.0)
+        in_now Gone is k = absurd (subst NotIn is k.0)
+
+    pub latest_is : EachMeetsLatest c w
+    latest_is = record {
+      near = λ up. keeps.latest (up_in up);
+      peer = λ is. peer_latest w.met (latest (ends_swapped two) (all_turned two all_of) is);
+    }
+
+  pub meet_in_step : WithAnyPeer (OfBothEnds MeetInStep)
+  meet_in_step c low high w reached = step_is (Unit {0}) c high w reached
+
+  pub met_in_order : WithAnyPeer (OfBothEnds MetAreInOrder)
+  met_in_order c low high w reached = order_is (Unit {0}) c high w reached
+
+  pub unmet_nothing : WithAnyPeer (OfBothEnds UnmetHandNothingUp)
+  unmet_nothing c low high w reached = unmet_is (Unit {0}) c high w reached
+
+  pub idle_arrived : WithAnyPeer IdleHasArrived
+  idle_arrived c low high w reached = idle_is (Unit {0}) c high w reached
+
+  pub meets_latest : WithAnyPeer EachMeetsLatest
+  meets_latest c low high w reached = latest_is (Unit {0}) c high w reached
+
+  pub sends_no_frmr : WithAnyLapbPeer SendsNoFrmr
+  sends_no_frmr c low high w reached = (reached_joined ⊥ c high w reached).reached.kept.frmr (λ never. never)

@@ -1,0 +1,83 @@
+-- What an end over sessions may do, as what is known of it goes on: the rules of a peer, of an end that is in one of our phases.
+use Rattle.std.proofs.Common.{◌≡◌, ℕ, suc, List, [], ◌∷◌, ◌++◌, Bool, true, Some, Ok, remove}
+use Rattle.x25_frame.specs.Frame.{PlainFrame, sabm, disc, ua, dm, frmr}
+use Rattle.x25_frame.specs.Reading.{frame_of}
+use Rattle.x25_link.specs.declared.phase.Phase.{Phase}
+use Rattle.x25_link.specs.declared.phase.Phase.TheVariants.{Down, Waiting, Up, Closed}
+use Rattle.x25_link.specs.declared.phase.Reason.TheVariants.{FrmrSent}
+use Rattle.x25_link.specs.Station.{Settings, is_up}
+use Rattle.x25_link.specs.Hearing.{other}
+use Rattle.x25_link.specs.laws.SetUp.{TakesPart}
+use Rattle.x25_link.specs.laws.WindowLaw.{ending_of}
+use Rattle.x25_line.specs.laws.Stations.{is_visible}
+use Rattle.x25_line.specs.laws.StationClaims.{number_in}
+use Rattle.x25_line.specs.laws.Sessions.{Entry, Meeting, sabm_in, ua_in, disc_in, how_many, heard, replaced}
+use Rattle.x25_line.specs.laws.Peer.{Peer, fresh_peer, MaySend, MayHear}
+use Rattle.x25_line.proofs.StationSays.{machine_of}
+use Rattle.x25_line.proofs.sessions.SessionLines.{Read}
+use Rattle.x25_line.specs.laws.PeerSessions.{Stand, Out, Asking, In, put_for}
+
+abbrev pub stand_of : Phase → Stand
+stand_of Waiting = Asking
+stand_of Up = In
+stand_of phase = Out
+
+-- what is read of octets that it sends, and of those that come to it
+abbrev pub sends_read : Settings → List ℕ → Read
+sends_read d octets = frame_of d.role d.longest octets
+
+abbrev pub hears_read : Settings → List ℕ → Read
+hears_read d octets = frame_of (other d.role) d.longest octets
+
+abbrev pub entry : ℕ → List ℕ → Entry
+entry session octets = record { session = session; octets = octets }
+
+-- who meets whom, as the front comes to it
+abbrev pub heard_in : Settings → Phase → ℕ → Entry → List Meeting → List Meeting
+heard_in d p b e met = heard (is_up p) (number_in (hears_read d e.octets)) (record { near = b; far = e.session }) met
+
+-- no SABM and no DISC of it, and no UA to it, is on the line
+pub record IsClear (d : Settings) (es out : List Entry) : Type 0 where
+  pub sabm : how_many sabm_in d.role d.longest out ≡ 0
+  pub disc : how_many disc_in d.role d.longest out ≡ 0
+  pub ua : how_many ua_in (other d.role) d.longest es ≡ 0
+
+-- it asks out of a session, or once more, where more is due of the line to it
+abbrev pub MayAsk : Phase → Type 0 → Type 0
+MayAsk Down Due = Unit {0}
+MayAsk Waiting Due = Due
+MayAsk phase Due = ⊥
+
+-- What is known of it: the line to it, who met whom, its phase, how many sessions it began, what it is in each, and the line from it.
+-- This goes on as each thing happens that it may do; `Due` is what is due of the line to it as T1 runs out while UA is awaited.
+pub record MayDo (d : Settings) (Due : List Entry → Type 0) (R : List Entry → List Meeting → Phase → ℕ → (ℕ → Peer) → List Entry → Type 0) : Type 0 where
+  pub handed : (es : List Entry) (met : List Meeting) (b : ℕ) (all : ℕ → Peer) (out : List Entry) (packet : List ℕ) → R es met Up b all out
+      → R es met Up b (put_for b (record (all b) { given = (all b).given ++ packet ∷ [] }) all) out
+  pub tells : (es : List Entry) (met : List Meeting) (b : ℕ) (all : ℕ → Peer) (out : List Entry) (octets : List ℕ) (f : PlainFrame) (q : Peer) → sends_read d octets ≡ Ok f → number_in (Ok f) ≡ Some f
+      → MaySend ⊥ (all b) (Ok f) q → R es met Up b all out → R es met Up b (put_for b q all) (out ++ entry b octets ∷ [])
+  pub declines : (es : List Entry) (met : List Meeting) (p : Phase) (b : ℕ) (all : ℕ → Peer) (out : List Entry) (octets : List ℕ) (f : Bool) → sends_read d octets ≡ Ok (dm f)
+      → R es met p b all out → R es met p b all (out ++ entry b octets ∷ [])
+  pub asks : (es : List Entry) (met : List Meeting) (p : Phase) (b : ℕ) (all : ℕ → Peer) (out : List Entry) (octets : List ℕ) (pf : Bool) → sends_read d octets ≡ Ok (sabm pf) → MayAsk p (Due es) → IsClear d es out
+      → R es met p b all out → R es met Waiting b all (out ++ entry b octets ∷ [])
+  pub closes : (es : List Entry) (met : List Meeting) (p : Phase) (b : ℕ) (all : ℕ → Peer) (out : List Entry) (octets : List ℕ) (pf : Bool) → sends_read d octets ≡ Ok (disc pf)
+      → R es met p b all out → R es met Closed b all (out ++ entry b octets ∷ [])
+  pub leaves : (es : List Entry) (met : List Meeting) (b : ℕ) (all : ℕ → Peer) (out : List Entry) → R es met Up b all out → R es met Down b all out
+  pub gives_up : (es : List Entry) (met : List Meeting) (b : ℕ) (all : ℕ → Peer) (out : List Entry) → Due es → IsClear d es out → R es met Waiting b all out → R es met Down b all out
+  -- what comes
+  pub passes : (e : Entry) (es : List Entry) (met : List Meeting) (p : Phase) (b : ℕ) (all : ℕ → Peer) (out : List Entry) → R (e ∷ es) met p b all out → R es (heard_in d p b e met) p b all out
+  pub hears : (e : Entry) (es : List Entry) (met : List Meeting) (b : ℕ) (all : ℕ → Peer) (out : List Entry) (q : Peer) → MayHear (all b) (hears_read d e.octets) q
+      → R (e ∷ es) met Up b all out → R es (heard_in d Up b e met) Up b (put_for b q all) out
+  pub takes_ua : (e : Entry) (es : List Entry) (met : List Meeting) (b : ℕ) (all : ℕ → Peer) (out : List Entry) → hears_read d e.octets ≡ Ok (ua true)
+      → R (e ∷ es) met Waiting b all out → R es met Up (suc b) (put_for (suc b) fresh_peer all) out
+  pub takes_sabm : (e : Entry) (es : List Entry) (met : List Meeting) (p : Phase) (b : ℕ) (all : ℕ → Peer) (out : List Entry) (octets : List ℕ) (pf f : Bool) → hears_read d e.octets ≡ Ok (sabm pf) → sends_read d octets ≡ Ok (ua f)
+      → TakesPart p → R (e ∷ es) met p b all out → R es met Up (suc b) (put_for (suc b) fresh_peer all) (out ++ entry (suc b) octets ∷ [])
+  pub waits_on : (e : Entry) (es : List Entry) (met : List Meeting) (b : ℕ) (all : ℕ → Peer) (out : List Entry) (octets : List ℕ) (pf f : Bool) → hears_read d e.octets ≡ Ok (sabm pf) → sends_read d octets ≡ Ok (ua f)
+      → R (e ∷ es) met Waiting b all out → R es met Waiting b all (out ++ entry b octets ∷ [])
+  pub takes_disc : (e : Entry) (es : List Entry) (met : List Meeting) (b : ℕ) (all : ℕ → Peer) (out : List Entry) (octets : List ℕ) (pf f : Bool) → hears_read d e.octets ≡ Ok (disc pf) → sends_read d octets ≡ Ok (ua f)
+      → R (e ∷ es) met Up b all out → R es met Down b all (out ++ entry b octets ∷ [])
+  -- it finds a fault, which it answers by FRMR
+  pub faults : (e : Entry) (es : List Entry) (met : List Meeting) (b : ℕ) (all : ℕ → Peer) (out : List Entry) (octets : List ℕ) (f : Bool) (why : List ℕ) → ending_of (hears_read d e.octets) (machine_of d.window (all b)) ≡ Some FrmrSent
+      → sends_read d octets ≡ Ok (frmr f why) → R (e ∷ es) met Up b all out → R es (heard_in d Up b e met) Down b all (out ++ entry b octets ∷ [])
+  pub loses : (es : List Entry) (met : List Meeting) (p : Phase) (b : ℕ) (all : ℕ → Peer) (out : List Entry) (place : ℕ) → R es met p b all out → R (remove es place) met p b all out
+  pub damages : (es : List Entry) (met : List Meeting) (p : Phase) (b : ℕ) (all : ℕ → Peer) (out : List Entry) (place : ℕ) (octets : List ℕ) → is_visible octets ≡ true
+      → R es met p b all out → R (replaced es place octets) met p b all out

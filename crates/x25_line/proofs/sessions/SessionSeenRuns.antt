@@ -1,0 +1,323 @@
+-- Each of two stations over sessions is a peer of the other, after each list of events.
+use Rattle.std.proofs.Common.{◌≡◌, ◌<◌, ℕ, ◌+◌, List, [], ◌∷◌, ◌++◌, ◌⊎◌, inl, inr, length, map, Bool, true, false, if◌then◌else◌, Option, Some, None, Ok, refl, sym, ap, ◌∙◌, subst, arith}
+use Rattle.std.specs.Prelude.{nat_le}
+use Rattle.x25_bits.specs.declared.role.Role.{Role}
+use Rattle.x25_frame.specs.Frame.{PlainFrame, ua}
+use Rattle.x25_frame.specs.Reading.{frame_of}
+use Rattle.x25_frame.specs.laws.ReadingLaw.{ReadsSpelled}
+use Rattle.x25_link.specs.declared.error.LinkError.{LinkError}
+use Rattle.x25_link.specs.declared.phase.Phase.{Phase}
+use Rattle.x25_link.specs.declared.phase.Phase.TheVariants.{Down, Waiting, Up}
+use Rattle.x25_link.specs.Station.{Settings, is_up}
+use Rattle.x25_link.specs.Hearing.{other}
+use Rattle.x25_link.specs.Link.{put_step, put_refusal, timer_refusal, connect_refusal, disconnect_refusal}
+use Rattle.x25_line.specs.laws.Stations.{Act, Put, Deliver, T1, Connect, Disconnect, Abandon, Probe, Lose, Damage, Event, Near, Far, is_visible}
+use Rattle.x25_line.specs.laws.StationClaims.{AreJoined, number_in}
+use Rattle.x25_line.specs.laws.Sessions.{Entry, SessionEnd, Meeting, Sessions, turned, swapped, sabm_in, ua_in, disc_in, how_many, after_step, unless, heard, delivered, replaced, acts, happens, run, from_nothing, from_set_up, IsTimely, IsTimelyAt, AreTimely}
+use Rattle.x25_line.specs.laws.SessionClaims.{Throughout}
+use Rattle.x25_line.specs.laws.LawsBelow.{SessionLaws}
+use Rattle.x25_line.specs.laws.Peer.{Peer, fresh_peer}
+use Rattle.x25_line.specs.laws.Peer as once
+use Rattle.x25_line.proofs.StationRuns.{joined_swapped}
+use Rattle.x25_line.proofs.sessions.SessionLines.{Read}
+use Rattle.x25_line.proofs.sessions.SessionHeld.{Owes}
+use Rattle.x25_line.specs.laws.PeerSessions.{Stand, Out, Asking, In, PeerEnd, PeerSessions, is_in, both_ends, with_peer, with_now, begins, stands, AllAskedIn, IsFree, IsReached, goes_on}
+use Rattle.x25_line.specs.laws.PeerSessions as sessions
+use Rattle.x25_line.specs.laws.SessionPeers.{IsPeer, AreBothPeers}
+use Rattle.x25_line.proofs.sessions.EntryLines.{Less, whole, gone, less_removes, less_replaces, asked_fewer}
+use Rattle.x25_line.proofs.sessions.SessionMay.{stand_of, sends_read, hears_read, heard_in, MayDo}
+use Rattle.x25_line.proofs.ends.Meetings.{twice_turned}
+use Rattle.x25_line.proofs.sessions.SessionSeen.{UpFacts, Seen}
+use Rattle.x25_line.proofs.sessions.SessionSeenSteps as own
+use Rattle.x25_line.proofs.sessions.PeerSessionRuns.{lines}
+
+-- ---- a station is known as a peer
+
+stands_in : (p : Phase) → is_in (stand_of p) ≡ is_up p
+stands_in Down = refl
+stands_in p = refl
+
+turned_heard : (b : Bool) (m : Option PlainFrame) (pair : Meeting) (met : List Meeting) → map turned (heard b m pair met) ≡ heard b m (turned pair) (map turned met)
+turned_heard true None pair met = refl
+turned_heard true (Some f) pair met = refl
+turned_heard false m pair met = refl
+
+-- the near end, with settings d, as a peer of the far end, with settings c
+module _ (c d : Settings) (joined : AreJoined c d) (far : SessionEnd) where
+  abbrev at : List Entry → List Meeting → PeerEnd → List Entry → PeerSessions
+  at es met p out = record { near = far; peer = p; out = es; back = out; met = map turned met }
+
+  abbrev pub end : Phase → ℕ → (ℕ → Peer) → PeerEnd
+  end p b all = record { stand = stand_of p; begun = b; of_session = all }
+
+  abbrev pub IsPeerOf : List Entry → List Meeting → Phase → ℕ → (ℕ → Peer) → List Entry → Type 0
+  IsPeerOf es met p b all out = IsReached ⊥ c (at es met (end p b all) out)
+
+  there : (octets : List ℕ) → sends_read d octets ≡ frame_of (other c.role) c.longest octets
+  there octets = ap (λ (from : Role). frame_of from d.longest octets) (sym joined.far_role) ∙ ap (λ (n1 : ℕ). frame_of (other c.role) n1 octets) (sym joined.longest)
+
+  here : (octets : List ℕ) → hears_read d octets ≡ frame_of c.role c.longest octets
+  here octets = ap (λ (from : Role). frame_of from d.longest octets) joined.near_role ∙ ap (λ (n1 : ℕ). frame_of c.role n1 octets) (sym joined.longest)
+
+  sent_many : (kind : Read → ℕ) (es : List Entry) → how_many kind d.role d.longest es ≡ how_many kind (other c.role) c.longest es
+  sent_many kind es = ap (λ (r : Role). how_many kind r d.longest es) (sym joined.far_role) ∙ ap (λ (n1 : ℕ). how_many kind (other c.role) n1 es) (sym joined.longest)
+
+  heard_many : (kind : Read → ℕ) (es : List Entry) → how_many kind (other d.role) d.longest es ≡ how_many kind c.role c.longest es
+  heard_many kind es = ap (λ (r : Role). how_many kind r d.longest es) joined.near_role ∙ ap (λ (n1 : ℕ). how_many kind c.role n1 es) (sym joined.longest)
+
+  -- who meets whom, as the far end has it
+  same_met : (p : Phase) (b : ℕ) (e : Entry) (met : List Meeting) → sessions.heard_by (end p b (λ n. fresh_peer)) (frame_of c.role c.longest e.octets) e (map turned met) ≡ map turned (heard_in d p b e met)
+  same_met p b e met =
+      ap (λ (x : Bool). heard x (number_in (frame_of c.role c.longest e.octets)) (record { near = e.session; far = b }) (map turned met)) (stands_in p)
+      ∙ ap (λ (x : Read). heard (is_up p) (number_in x) (record { near = e.session; far = b }) (map turned met)) (sym (here e.octets))
+      ∙ sym (turned_heard (is_up p) (number_in (hears_read d e.octets)) (record { near = b; far = e.session }) met)
+
+  comes : (e : Entry) (es : List Entry) (met : List Meeting) (p : Phase) (b : ℕ) (all : ℕ → Peer) (out : List Entry) (q : PeerEnd) → sessions.MayHear (end p b all) (frame_of c.role c.longest e.octets) q
+      → IsPeerOf (e ∷ es) met p b all out → IsReached ⊥ c (at es (heard_in d p b e met) q out)
+  comes e es met p b all out q may h =
+      subst (λ (xs : List Meeting). IsReached ⊥ c (record { near = far; peer = q; out = es; back = out; met = xs })) (same_met p b e met) (goes_on _ _ h (sessions.Hears e es q refl may))
+
+  sends : (es : List Entry) (met : List Meeting) (p q : PeerEnd) (out : List Entry) (octets : List ℕ) → sessions.MaySend ⊥ c (at es met p out) (sends_read d octets) q → IsReached ⊥ c (at es met p out)
+      → IsReached ⊥ c (at es met q (out ++ sessions.entry q octets ∷ []))
+  sends es met p q out octets may h = goes_on _ _ h (sessions.Sends octets q (subst (λ (r : Read). sessions.MaySend ⊥ c (at es met p out) r q) (there octets) may))
+
+  answers : (e : Entry) (es : List Entry) (met : List Meeting) (p q : PeerEnd) (out : List Entry) (octets : List ℕ) (f : Bool) → sends_read d octets ≡ Ok (ua f) → sessions.MayAnswer p (hears_read d e.octets) q
+      → IsReached ⊥ c (at (e ∷ es) met p out) → IsReached ⊥ c (at es met q (out ++ sessions.entry q octets ∷ []))
+  answers e es met p q out octets f read may h =
+      goes_on _ _ h (sessions.Answers e es octets f q refl (sym (there octets) ∙ read) (subst (λ (r : Read). sessions.MayAnswer p r q) (here e.octets) may))
+
+  pub peer_may : MayDo d (λ es. Unit {0}) IsPeerOf
+  peer_may = record {
+    handed = λ es met b all out packet h. goes_on _ _ h (sessions.HandsDown packet refl);
+    tells = λ es met b all out octets f q read number may h.
+        sends es met (end Up b all) (with_now q (end Up b all)) out octets
+        (sessions.numbered f q (ap number_in read ∙ number) refl (subst (λ (r : Read). once.MaySend ⊥ (all b) r q) (sym read) may)) h;
+    declines = λ es met p b all out octets f read h. sends es met (end p b all) (end p b all) out octets (sessions.free (subst (IsFree ⊥) (sym read) tt)) h;
+    asks = λ es met p b all out octets pf read due clear h.
+        (let sabms = sent_many sabm_in out in let discs = sent_many disc_in out in let uas = heard_many ua_in es in let sabm = clear.sabm in let disc = clear.disc in let ua = clear.ua in
+        sends es met (end p b all) (stands Asking (end p b all)) out octets
+        (sessions.asks pf read (record { sabm = omega (arith, sabm, sabms); disc = omega (arith, disc, discs); ua = omega (arith, ua, uas) })) h);
+    closes = λ es met p b all out octets pf read h. sends es met (end p b all) (stands Out (end p b all)) out octets (sessions.closes pf read) h;
+    leaves = λ es met b all out h. goes_on _ _ h sessions.Leaves;
+    gives_up = λ es met b all out due clear h. goes_on _ _ h sessions.Leaves;
+    passes = λ e es met p b all out h. comes e es met p b all out (end p b all) sessions.passes_over h;
+    hears = λ e es met b all out q may h.
+        comes e es met Up b all out (with_now q (end Up b all)) (sessions.hears q refl (subst (λ (r : Read). once.MayHear (all b) r q) (here e.octets) may)) h;
+    takes_ua = λ e es met b all out read h. goes_on _ _ h (sessions.Hears e es (begins (end Waiting b all)) refl (sessions.takes_ua refl (sym (here e.octets) ∙ read)));
+    takes_sabm = λ e es met p b all out octets pf f read sent part h.
+        answers e es met (end p b all) (begins (end p b all)) out octets f sent (sessions.takes_sabm pf read) h;
+    waits_on = λ e es met b all out octets pf f read sent h. answers e es met (end Waiting b all) (end Waiting b all) out octets f sent (sessions.waits_on pf read refl) h;
+    takes_disc = λ e es met b all out octets pf f read sent h.
+        goes_on _ _ (answers e es met (end Up b all) (end Up b all) out octets f sent (sessions.takes_disc pf read) h) sessions.Leaves;
+    faults = λ e es met b all out octets f why ending read h.
+        sends es (heard_in d Up b e met) (end Down b all) (end Down b all) out octets (sessions.free (subst (IsFree ⊥) (sym read) tt))
+        (goes_on _ _ (comes e es met Up b all out (end Up b all) sessions.passes_over h) sessions.Leaves);
+    loses = λ es met p b all out i h. goes_on _ _ h (sessions.Loses i);
+    damages = λ es met p b all out i octets visible h. goes_on _ _ h (sessions.Damages i octets visible);
+  }
+
+-- ---- what the other end does
+
+-- an act looks at nothing of the other end
+alike_unless : (p : PeerEnd) (o : Option LinkError) (w v x y : Sessions) → with_peer p w ≡ with_peer p x → with_peer p v ≡ with_peer p y → with_peer p (unless o w v) ≡ with_peer p (unless o x y)
+alike_unless p (Some e) w v x y same done = same
+alike_unless p None w v x y same done = done
+
+alike_if : (p : PeerEnd) (b : Bool) (w v x y : Sessions) → with_peer p w ≡ with_peer p x → with_peer p v ≡ with_peer p y → with_peer p (if b then v else w) ≡ with_peer p (if b then y else x)
+alike_if p true w v x y same done = done
+alike_if p false w v x y same done = same
+
+alike_delivered : (c : Settings) (p : PeerEnd) (w : Sessions) (es : List Entry) → with_peer p (delivered c es w) ≡ with_peer p (delivered c es (both_ends (with_peer p w)))
+alike_delivered c p w [] = refl
+alike_delivered c p w (e ∷ es) = refl
+
+alike : (c : Settings) (p : PeerEnd) (a : Act) (w : Sessions) → with_peer p (acts c a w) ≡ with_peer p (acts c a (both_ends (with_peer p w)))
+alike c p (Put packet) w =
+    let x = both_ends (with_peer p w) in
+    alike_if p (nat_le (length packet) c.longest) w _ x _ refl
+    (alike_unless p (put_refusal w.near.station) w (after_step c w w.back w.met (packet ∷ []) (put_step c packet w.near.station)) x (after_step c x w.back w.met (packet ∷ []) (put_step c packet w.near.station)) refl refl)
+alike c p Deliver w = alike_delivered c p w w.back
+alike c p T1 w = alike_unless p (timer_refusal w.near.station) w _ (both_ends (with_peer p w)) _ refl refl
+alike c p Connect w = alike_unless p (connect_refusal w.near.station.phase) w _ (both_ends (with_peer p w)) _ refl refl
+alike c p Disconnect w = alike_unless p (disconnect_refusal w.near.station.phase) w _ (both_ends (with_peer p w)) _ refl refl
+alike c p Abandon w = alike_if p (is_up w.near.station.phase) w _ (both_ends (with_peer p w)) _ refl refl
+alike c p Probe w = alike_if p (is_up w.near.station.phase) w _ (both_ends (with_peer p w)) _ refl refl
+alike c p (Lose i) w = refl
+alike c p (Damage i octets) w = alike_if p (is_visible octets) w _ (both_ends (with_peer p w)) _ refl refl
+
+-- it stays as it was, and something is taken off the line to the end that acts, or nothing
+record Still (w v : Sessions) : Type 0 where
+  pub far : v.far ≡ w.far
+  pub less : Less w.back v.back
+
+still_unless : (o : Option LinkError) (w v : Sessions) → Still w v → Still w (unless o w v)
+still_unless (Some e) w v h = record { far = refl; less = whole w.back }
+still_unless None w v h = h
+
+still_if : (b : Bool) (w v : Sessions) → Still w v → Still w (if b then v else w)
+still_if true w v h = h
+still_if false w v h = record { far = refl; less = whole w.back }
+
+still_delivered : (c : Settings) (w : Sessions) (es : List Entry) → w.back ≡ es → Still w (delivered c es w)
+still_delivered c w [] is = record { far = refl; less = whole w.back }
+still_delivered c w (e ∷ es) is = record { far = refl; less = subst (λ (xs : List Entry). Less xs es) (sym is) (gone e es) }
+
+acts_still : (c : Settings) (a : Act) (w : Sessions) → Still w (acts c a w)
+acts_still c (Put packet) w = still_if (nat_le (length packet) c.longest) w _ (still_unless (put_refusal w.near.station) w (after_step c w w.back w.met (packet ∷ []) (put_step c packet w.near.station)) (record { far = refl; less = whole w.back }))
+acts_still c Deliver w = still_delivered c w w.back refl
+acts_still c T1 w = still_unless (timer_refusal w.near.station) w _ (record { far = refl; less = whole w.back })
+acts_still c Connect w = still_unless (connect_refusal w.near.station.phase) w _ (record { far = refl; less = whole w.back })
+acts_still c Disconnect w = still_unless (disconnect_refusal w.near.station.phase) w _ (record { far = refl; less = whole w.back })
+acts_still c Abandon w = still_if (is_up w.near.station.phase) w _ (record { far = refl; less = whole w.back })
+acts_still c Probe w = still_if (is_up w.near.station.phase) w _ (record { far = refl; less = whole w.back })
+acts_still c (Lose i) w = record { far = refl; less = less_removes w.back i }
+acts_still c (Damage i octets) w = by (is_visible octets) refl
+  where
+    by : (b : Bool) → is_visible octets ≡ b → Still w (if b then record w { back = replaced w.back i octets } else w)
+    by true visible = record { far = refl; less = less_replaces octets visible w.back i }
+    by false hidden = record { far = refl; less = whole w.back }
+
+-- a station, with settings d, as a peer of the other end of these sessions
+abbrev pub SeenAt : (c d : Settings) → AreJoined c d → Sessions → Type 0
+SeenAt c d joined w = Seen d (IsPeerOf c d joined w.far) w
+
+module _ (c d : Settings) (joined : AreJoined c d) (reads : ReadsSpelled) (rests : SessionLaws) where
+  abbrev S : Sessions → Type 0
+  S w = SeenAt c d joined w
+
+  -- ---- the other end acts, which sees it as its peer
+
+  pub tags_there : (b : ℕ) (es : List Entry) → AllAskedIn d.role d.longest b es → AllAskedIn (other c.role) c.longest b es
+  tags_there b es h = subst (λ (n1 : ℕ). AllAskedIn (other c.role) n1 b es) (sym joined.longest) (subst (λ (r : Role). AllAskedIn r d.longest b es) (sym joined.far_role) h)
+
+  station_timely : (a : Act) (w : Sessions) (p : PeerEnd) → AllAskedIn d.role d.longest p.begun w.back → IsTimely c d a w → sessions.IsTimely c a (with_peer p w)
+  station_timely T1 w p tags timely = λ waiting.
+      (let none = timely waiting in let same = heard_many c d joined w.far sabm_in w.out in record { sabm = omega (arith, none, same); ua = omega (arith, none); crossing = tags_there p.begun w.back tags })
+  station_timely a w p tags timely = tt
+
+  other_acts : (a : Act) (w : Sessions) → IsTimely c d a w → S (swapped w) → S (swapped (acts c a w))
+  other_acts a w timely h = record {
+    all = h.all;
+    reached = reached;
+    up = λ up. subst (λ (e : SessionEnd). UpFacts d e.station (h.all e.begun)) (sym still.far) (h.up (subst (λ (e : SessionEnd). is_up e.station.phase ≡ true) still.far up));
+    given = λ n. h.given n ∙ ap (λ (e : SessionEnd). e.down n) (sym still.far);
+    taken = λ n. h.taken n ∙ ap (λ (e : SessionEnd). e.up n) (sym still.far);
+    later = subst (λ (e : SessionEnd). (n : ℕ) → e.begun < n → (e.down n ≡ []) × (e.up n ≡ [])) (sym still.far) h.later;
+    tags = subst (λ (e : SessionEnd). AllAskedIn d.role d.longest e.begun v.back) (sym still.far) (asked_fewer d.role d.longest w.far.begun w.back v.back still.less h.tags);
+  }
+    where
+      v : Sessions
+      v = acts c a w
+
+      still : Still w v
+      still = acts_still c a w
+
+      p : PeerEnd
+      p = end c d joined w.near w.far.station.phase w.far.begun h.all
+
+      met_with : Sessions → List Meeting → PeerSessions
+      met_with x met = record { near = x.near; peer = p; out = x.out; back = x.back; met = met }
+
+      before : IsReached ⊥ c (with_peer p w)
+      before = subst (λ (met : List Meeting). IsReached ⊥ c (met_with w met)) (twice_turned w.met) h.reached
+
+      acted : IsReached ⊥ c (with_peer p v)
+      acted = subst (IsReached ⊥ c) (sym (alike c p a w)) (sessions.goes_on (with_peer p w) (with_peer p (acts c a (both_ends (with_peer p w)))) before (sessions.Ours a (station_timely a w p h.tags timely)))
+
+      reached : IsPeerOf c d joined v.near v.out (map turned v.met) v.far.station.phase v.far.begun h.all v.back
+      reached =
+          subst (λ (e : SessionEnd). IsReached ⊥ c (record { near = v.near; peer = record { stand = stand_of e.station.phase; begun = e.begun; of_session = h.all }; out = v.out; back = v.back; met = map turned (map turned v.met) })) (sym still.far)
+          (subst (λ (met : List Meeting). IsReached ⊥ c (met_with v met)) (sym (twice_turned v.met)) acted)
+
+  -- ---- it acts
+
+  own_timely : (a : Act) (w : Sessions) → IsTimely d c a w → own.IsTimely d joined.far_high reads rests (λ es. Unit {0}) (IsPeerOf c d joined w.far) (peer_may c d joined w.far) a w
+  own_timely T1 w timely = λ waiting. (let none = timely waiting in let same = sent_many c d joined w.far sabm_in w.out in (omega (arith, none, same), omega (arith, none), tt))
+  own_timely a w timely = tt
+
+  own_acts : (a : Act) (w : Sessions) → IsTimely d c a w
+      → Owes w.near.station.phase (how_many sabm_in d.role d.longest w.out + how_many ua_in (other d.role) d.longest w.back) (how_many disc_in d.role d.longest w.out) → S w → S (acts d a w)
+  own_acts a w timely owed h =
+      subst (λ (far : SessionEnd). Seen d (IsPeerOf c d joined far) (acts d a w)) (sym (acts_still d a w).far)
+      (own.station_acts d joined.far_high reads rests (λ es. Unit {0}) (IsPeerOf c d joined w.far) (peer_may c d joined w.far) a w (own_timely a w timely) owed h)
+
+  -- the other end, which sees it as its peer, with what that has on the line
+  other_owes : (w : Sessions) → S w → Owes w.far.station.phase (how_many sabm_in c.role c.longest w.back + how_many ua_in (other c.role) c.longest w.out) (how_many disc_in c.role c.longest w.back)
+  other_owes w h = (lines reads rests ⊥ c joined.near_high (at c d joined w.far w.back w.met (end c d joined w.far w.near.station.phase w.near.begun h.all) w.out) h.reached).owes
+
+-- ---- both ends
+
+pub record Both (c d : Settings) (near_joined : AreJoined d c) (far_joined : AreJoined c d) (w : Sessions) : Type 0 where
+  pub near : SeenAt d c near_joined w
+  pub far : SeenAt c d far_joined (swapped w)
+
+seen_twice : (c d : Settings) (joined : AreJoined c d) (w : Sessions) → SeenAt c d joined w → SeenAt c d joined (swapped (swapped w))
+seen_twice c d joined w h =
+    subst (λ (met : List Meeting). SeenAt c d joined (record { near = w.near; far = w.far; out = w.out; back = w.back; met = met; sent = w.sent })) (sym (twice_turned w.met)) h
+
+-- as the far end has it
+pub both_swapped : (c d : Settings) (near_joined : AreJoined d c) (far_joined : AreJoined c d) (w : Sessions) → Both c d near_joined far_joined w → Both d c far_joined near_joined (swapped w)
+both_swapped c d near_joined far_joined w h = record { near = h.far; far = seen_twice d c near_joined w h.near }
+
+module _ (reads : ReadsSpelled) (rests : SessionLaws) where
+  act_both : (c d : Settings) (near_joined : AreJoined d c) (far_joined : AreJoined c d) (a : Act) (w : Sessions) → IsTimely c d a w → Both c d near_joined far_joined w → Both c d near_joined far_joined (acts c a w)
+  act_both c d near_joined far_joined a w timely h = record {
+    near = own_acts d c near_joined reads rests a w timely (other_owes c d far_joined reads rests (swapped w) h.far) h.near;
+    far = other_acts c d far_joined reads rests a w timely h.far;
+  }
+
+  pub event_both : (c d : Settings) (near_joined : AreJoined d c) (far_joined : AreJoined c d) (e : Event) (w : Sessions) → IsTimelyAt c d e w → Both c d near_joined far_joined w
+      → Both c d near_joined far_joined (happens c d e w)
+  event_both c d near_joined far_joined (Near act) w timely h = act_both c d near_joined far_joined act w timely h
+  event_both c d near_joined far_joined (Far act) w timely h =
+      both_swapped d c far_joined near_joined (acts d act (swapped w)) (act_both d c far_joined near_joined act (swapped w) timely (both_swapped c d near_joined far_joined w h))
+
+  start_seen : (c d : Settings) (joined : AreJoined c d) → SeenAt c d joined from_nothing
+  start_seen c d joined = record {
+    all = λ n. fresh_peer;
+    reached = sessions.at_start;
+    up = λ up. absurd (never up);
+    given = λ n. refl;
+    taken = λ n. refl;
+    later = λ n less. (refl, refl);
+    tags = tt;
+  }
+    where
+      never : false ≡ true → ⊥
+      never k = cc
+
+  set_up_seen : (c d : Settings) (joined : AreJoined c d) → SeenAt c d joined from_set_up
+  set_up_seen c d joined = record {
+    all = λ n. fresh_peer;
+    reached = sessions.set_up;
+    up = λ up. record { same = refl; sound = record { place_low = omega arith; place_high = omega arith; sent_high = omega arith; room = omega arith }; room = omega arith; told = omega arith; within = tt };
+    given = λ n. refl;
+    taken = λ n. refl;
+    later = λ n less. (refl, refl);
+    tags = tt;
+  }
+
+  pub begin_both : (c d : Settings) (joined : AreJoined c d) (begin : Sessions) → (begin ≡ from_nothing) ⊎ (begin ≡ from_set_up) → Both c d (joined_swapped c d joined) joined begin
+  begin_both c d joined begin is = elim is [
+    | inl down ↦ subst (Both c d (joined_swapped c d joined) joined) (sym down) (record { near = start_seen d c (joined_swapped c d joined); far = start_seen c d joined })
+    | inr up ↦ subst (Both c d (joined_swapped c d joined) joined) (sym up) (record { near = set_up_seen d c (joined_swapped c d joined); far = set_up_seen c d joined })
+  ]
+
+  -- ---- runs
+
+  run_both : (c d : Settings) (near_joined : AreJoined d c) (far_joined : AreJoined c d) (es : List Event) (w : Sessions) → AreTimely c d es w → Both c d near_joined far_joined w → Both c d near_joined far_joined (run c d es w)
+  run_both c d near_joined far_joined [] w timely h = h
+  run_both c d near_joined far_joined (e ∷ es) w timely h = run_both c d near_joined far_joined es (happens c d e w) timely.1 (event_both c d near_joined far_joined e w timely.0 h)
+
+  pub throughout_both : (c d : Settings) (joined : AreJoined c d) (begin : Sessions) → (begin ≡ from_nothing) ⊎ (begin ≡ from_set_up) → (events : List Event) → AreTimely c d events begin
+      → Both c d (joined_swapped c d joined) joined (run c d events begin)
+  throughout_both c d joined begin is events timely = run_both c d (joined_swapped c d joined) joined events begin timely (begin_both c d joined begin is)
+
+  is_peer : (c d : Settings) (joined : AreJoined c d) (w : Sessions) → SeenAt c d joined w → IsPeer c w
+  is_peer c d joined w h = record { peer = end c d joined w.far w.near.station.phase w.near.begun h.all; reached = h.reached; begun = refl; given = h.given; taken = h.taken }
+
+  pub both_peers : Throughout AreBothPeers
+  both_peers c d joined begin is events timely =
+      let both = throughout_both c d joined begin is events timely in
+      let w = run c d events begin in
+      (is_peer d c (joined_swapped c d joined) w both.near, is_peer c d joined (swapped w) both.far)

@@ -1,0 +1,181 @@
+-- Two ends of any kind, set up and set up again by either at any moment: the rules of docs/PEER.md, the same for both.
+-- A letter on the line is what the rules look at in a frame, and the session in which it was sent, which no end reads.
+-- Each move is of the near end, or of the line to it. The far end's moves are those of the two swapped.
+use Rattle.std.specs.Prelude.{◌≡◌, ◌+◌, ℕ, zero, suc, Bool, true, false, List, [], ◌∷◌, ◌++◌, map, remove}
+use Rattle.std.specs.Prelude.{Option}
+use Rattle.x25_line.specs.laws.Said.{Said, Carried, Tells, Sabm, Disc, Ua, Else, Odd}
+use Rattle.x25_line.specs.laws.Sessions.{Meeting, turned}
+use Rattle.x25_line.specs.laws.Peer.{Peer, fresh_peer, MaySay, MayMake}
+use Rattle.x25_line.specs.laws.PeerSessions.{Stand, Out, Asking, In, put_for}
+
+-- where an end stands, and how many sessions it began
+pub record Stander : Type 0 where
+  pub stand : Stand
+  pub begun : ℕ
+
+pub record Letter : Type 0 where
+  pub session : ℕ
+  pub said : Said
+
+abbrev pub letter : ℕ → Said → Letter
+letter session said = record { session = session; said = said }
+
+-- The ends; the line from the near end and the line to it, front first; and who heard whom, the latest first.
+pub record Two : Type 0 where
+  pub near : Stander
+  pub far : Stander
+  pub out : List Letter
+  pub back : List Letter
+  pub met : List Meeting
+
+abbrev pub swapped : Two → Two
+swapped w = record { near = w.far; far = w.near; out = w.back; back = w.out; met = map turned w.met }
+
+-- ---- what is on a line
+
+abbrev pub sabm_in : Said → ℕ
+sabm_in Sabm = 1
+sabm_in said = 0
+
+abbrev pub ua_in : Said → ℕ
+ua_in Ua = 1
+ua_in said = 0
+
+abbrev pub disc_in : Said → ℕ
+disc_in Disc = 1
+disc_in said = 0
+
+abbrev pub how_many : (Said → ℕ) → List Letter → ℕ
+how_many kind [] = 0
+how_many kind (e ∷ es) = kind e.said + how_many kind es
+
+abbrev pub OfSabm : Said → Type 0 → Type 0
+OfSabm Sabm P = P
+OfSabm said P = Unit {0}
+
+abbrev pub OfTells : Said → Type 0 → Type 0
+OfTells (Tells carried nr) P = P
+OfTells said P = Unit {0}
+
+-- each SABM on the line was sent in this session, or since it ended
+abbrev pub AreOf : ℕ → List Letter → Type 0
+AreOf session [] = Unit {0}
+AreOf session (e ∷ es) = OfSabm e.said (e.session ≡ session) × AreOf session es
+
+-- an end that is in a session meets the one in which the N(R) that it hears was sent
+abbrev pub meets : Said → Meeting → List Meeting → List Meeting
+meets (Tells carried nr) m met = m ∷ met
+meets said m met = met
+
+abbrev pub heard : Stand → ℕ → Letter → List Meeting → List Meeting
+heard In begun e met = meets e.said (record { near = begun; far = e.session }) met
+heard stand begun e met = met
+
+-- octets that read as no frame come in the place of others
+abbrev pub spoilt : List Letter → ℕ → List Letter
+spoilt [] i = []
+spoilt (e ∷ es) zero = letter e.session Else ∷ es
+spoilt (e ∷ es) (suc i) = e ∷ spoilt es i
+
+-- ---- set-up
+
+-- Patient, of any two ends: as an end sends SABM, no SABM and no DISC of its own and no UA to it is on the line; and
+-- each SABM of the other end there was sent in the other's present session, or since it ended. (The last follows where
+-- the other end never begins a session by a SABM that crossed its own.)
+pub record IsPatient (w : Two) : Type 0 where
+  pub sabm : how_many sabm_in w.out ≡ 0
+  pub disc : how_many disc_in w.out ≡ 0
+  pub ua : how_many ua_in w.back ≡ 0
+  pub crossing : AreOf w.far.begun w.back
+
+-- What the near end may do without an N(R), or the line to it; and what it hears or passes over.
+pub data Moves (w : Two) : Two → Type 0 where
+  -- DM, FRMR, octets that are passed over; and what is answered by FRMR
+  free : Moves w (record w { out = w.out ++ letter w.near.begun Else ∷ [] })
+  odd : Moves w (record w { out = w.out ++ letter w.near.begun Odd ∷ [] })
+  asks : IsPatient w → Moves w (record w {
+    near = record { stand = Asking; begun = w.near.begun };
+    out = w.out ++ letter w.near.begun Sabm ∷ [];
+  })
+  closes : Moves w (record w {
+    near = record { stand = Out; begun = w.near.begun };
+    out = w.out ++ letter w.near.begun Disc ∷ [];
+  })
+  leaves : Moves w (record w { near = record { stand = Out; begun = w.near.begun } })
+  hears : (e : Letter) (rest : List Letter) → w.back ≡ e ∷ rest
+      → Moves w (record w { back = rest; met = heard w.near.stand w.near.begun e w.met })
+  takes_ua : (s : ℕ) (rest : List Letter) → w.back ≡ letter s Ua ∷ rest → w.near.stand ≡ Asking
+      → Moves w (record w { near = record { stand = In; begun = suc w.near.begun }; back = rest })
+  takes_sabm : (s : ℕ) (rest : List Letter) → w.back ≡ letter s Sabm ∷ rest
+      → Moves w (record w {
+        near = record { stand = In; begun = suc w.near.begun };
+        out = w.out ++ letter (suc w.near.begun) Ua ∷ [];
+        back = rest;
+      })
+  waits_on : (s : ℕ) (rest : List Letter) → w.back ≡ letter s Sabm ∷ rest → w.near.stand ≡ Asking
+      → Moves w (record w { out = w.out ++ letter w.near.begun Ua ∷ []; back = rest })
+  takes_disc : (s : ℕ) (rest : List Letter) → w.back ≡ letter s Disc ∷ rest
+      → Moves w (record w { out = w.out ++ letter w.near.begun Ua ∷ []; back = rest })
+  loses : (place : ℕ) → Moves w (record w { back = remove w.back place })
+  damages : (place : ℕ) → Moves w (record w { back = spoilt w.back place })
+
+-- the near end begins a session by it, with all numbers 0 and all lists empty
+abbrev pub begins : {w v : Two} → Moves w v → Bool
+begins (takes_ua s rest is asking) = true
+begins (takes_sabm s rest is) = true
+begins m = false
+
+-- ---- with what each end was handed down, sent and took in each session, by its number
+
+pub record Ends : Type 0 where
+  pub two : Two
+  pub near_of : ℕ → Peer
+  pub far_of : ℕ → Peer
+
+abbrev pub ends_swapped : Ends → Ends
+ends_swapped w = record { two = swapped w.two; near_of = w.far_of; far_of = w.near_of }
+
+abbrev pub near_now : Ends → Peer
+near_now w = w.near_of w.two.near.begun
+
+abbrev pub with_near : Peer → Ends → ℕ → Peer
+with_near p w = put_for w.two.near.begun p w.near_of
+
+abbrev pub fresh_where : Bool → ℕ → (ℕ → Peer) → ℕ → Peer
+fresh_where true session all = put_for (suc session) fresh_peer all
+fresh_where false session all = all
+
+pub data Does (w : Ends) : Ends → Type 0 where
+  is_handed : (packet : List ℕ) → w.two.near.stand ≡ In
+      → Does w (record w { near_of = with_near (record (near_now w) { given = (near_now w).given ++ packet ∷ [] }) w })
+  sends : (carried : Option Carried) (nr : ℕ) (q : Peer) → w.two.near.stand ≡ In
+      → MaySay ⊥ (near_now w) (Tells carried nr) q
+      → Does w (record w {
+        two = record w.two { out = w.two.out ++ letter w.two.near.begun (Tells carried nr) ∷ [] };
+        near_of = with_near q w;
+      })
+  listens : (e : Letter) (rest : List Letter) (q : Peer) → w.two.back ≡ e ∷ rest → w.two.near.stand ≡ In
+      → MayMake (near_now w) e.said q
+      → Does w (record w {
+        two = record w.two { back = rest; met = heard w.two.near.stand w.two.near.begun e w.two.met };
+        near_of = with_near q w;
+      })
+  moves : (v : Two) (m : Moves w.two v)
+      → Does w (record w { two = v; near_of = fresh_where (begins m) w.two.near.begun w.near_of })
+
+-- both ends, of which each began so many sessions
+abbrev pub begin_at : Stand → ℕ → Ends
+begin_at stand begun =
+    let e : Stander = record { stand = stand; begun = begun } in
+    record {
+      two = record { near = e; far = e; out = []; back = []; met = [] };
+      near_of = λ n. fresh_peer;
+      far_of = λ n. fresh_peer;
+    }
+
+-- from nothing, or from a link just set up, event by event
+pub data IsReached : Ends → Type 0 where
+  at_start : IsReached (begin_at Out 0)
+  set_up : IsReached (begin_at In 1)
+  near_does : (w v : Ends) → IsReached w → Does w v → IsReached v
+  far_does : (w v : Ends) → IsReached w → Does (ends_swapped w) v → IsReached (ends_swapped v)

@@ -1,0 +1,45 @@
+-- What holds of a station and any peer over set-up and re-set-up at any moment.
+use Rattle.std.specs.Prelude.{◌≡◌, ◌≤◌, ◌⊎◌, ℕ, true, Result, Ok, Err}
+use Rattle.x25_frame.specs.Frame.{PlainFrame, frmr}
+use Rattle.x25_frame.specs.declared.error.FrameError.{FrameError}
+use Rattle.x25_link.specs.Station.{Settings, is_up}
+use Rattle.x25_link.specs.Link.{is_idle}
+use Rattle.x25_line.specs.laws.Sessions.{Meeting, Sessions, how_many}
+use Rattle.x25_line.specs.laws.SessionClaims.{AllMet, SomeMet}
+use Rattle.x25_line.specs.laws.PeerSessions.{PeerSessions, IsReached, In, now, both_ends}
+
+-- whatever happens, with any peer that keeps the rules of `Peer` and of set-up
+abbrev pub WithAnyPeer : (Settings → PeerSessions → Type 0) → Type 0
+WithAnyPeer Holds =
+    (c : Settings) → 1 ≤ c.window → c.window ≤ 7 → (w : PeerSessions) → IsReached (Unit {0}) c w → Holds c w
+
+-- the same with one that sends nothing that is answered by FRMR
+abbrev pub WithAnyLapbPeer : (Settings → PeerSessions → Type 0) → Type 0
+WithAnyLapbPeer Holds =
+    (c : Settings) → 1 ≤ c.window → c.window ≤ 7 → (w : PeerSessions) → IsReached ⊥ c w → Holds c w
+
+-- the same of both ends, as the claims on two stations say it
+abbrev pub OfBothEnds : (Settings → Settings → Sessions → Type 0) → Settings → PeerSessions → Type 0
+OfBothEnds Holds c w = Holds c c (both_ends w)
+
+-- Where the station is idle, and the peer is in a session or met the station's, all that was handed down in this
+-- session was taken in the peer's latest.
+abbrev pub IdleHasArrived : Settings → PeerSessions → Type 0
+IdleHasArrived c w = is_idle w.near.station ≡ true
+    → (w.peer.stand ≡ In) ⊎ SomeMet (λ (m : Meeting). m.near ≡ w.near.begun) w.met
+    → (now w.peer).taken ≡ w.near.down w.near.begun
+
+-- the session of an end that is in one meets no other than the latest of the other end
+pub record EachMeetsLatest (c : Settings) (w : PeerSessions) : Type 0 where
+  pub near : is_up w.near.station.phase ≡ true
+      → AllMet (λ (m : Meeting). m.near ≡ w.near.begun → m.far ≡ w.peer.begun) w.met
+  pub peer : w.peer.stand ≡ In → AllMet (λ (m : Meeting). m.far ≡ w.peer.begun → m.near ≡ w.near.begun) w.met
+
+abbrev pub frmr_in : Result PlainFrame FrameError → ℕ
+frmr_in (Ok (frmr f why)) = 1
+frmr_in (Ok frame) = 0
+frmr_in (Err e) = 0
+
+-- No FRMR is ever on the line to the peer, so that the station sends none.
+abbrev pub SendsNoFrmr : Settings → PeerSessions → Type 0
+SendsNoFrmr c w = how_many frmr_in c.role c.longest w.out ≡ 0

@@ -1,0 +1,20 @@
+use Rattle.std.proofs.Common.{◌∙◌, ◌++◌, ap}
+use Rattle.std.proofs.lemmas.Result.{err_from_is_err_and}
+use Rattle.x25_io.proofs.ToldLemmas.{more_waits, prefix_more, told_more}
+use Rattle.x25_pipe.specs.Timed.{next_line}
+use Rattle.x25_pipe.proofs.telling.tell_next.Goals as goal
+
+pub returns-in_err-make_room-clause-tells : goal.returns-in_err-make_room-clause-tells
+returns-in_err-make_room-clause-tells g c = λ old told h.
+    let p = err_from_is_err_and c.from_residual.result c.from_residual.ensures.1 in
+    rw p.1 (prefix_more _ _ told _ (c.in_err-make_room.ensures.tells old told h))
+
+pub returns-in_err-push_next-clause-tells : goal.returns-in_err-push_next-clause-tells
+returns-in_err-push_next-clause-tells g c = λ old told h.
+    let p = err_from_is_err_and c.from_residual-in_err-push_next.result c.from_residual-in_err-push_next.ensures.1 in
+    rw p.1 (told_more _ _ _ told _ (c.in_ok-make_room.ensures.tells old told h))
+
+pub returns-clause-tells : goal.returns-clause-tells
+returns-clause-tells g c = λ old told h.
+    more_waits old _ c.make_room.new.self _ told _ (c.in_ok-make_room.ensures.tells old told h)
+    (c.in_ok-push_next.ensures ∙ ap (λ waits. waits ++ next_line c.args.next c.args.is_idle c.args.is_due) c.text.ensures.value)

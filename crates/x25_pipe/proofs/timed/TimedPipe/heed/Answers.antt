@@ -1,0 +1,32 @@
+use Rattle.std.proofs.Common.{◌≡◌, ◌∙◌, Bool, map, ap, ap₂}
+use Rattle.x25_clock.specs.Clock.{Seen, seen}
+use Rattle.x25_layer.specs.code.FitsLayer.{awaited_at}
+use Rattle.x25_station.specs.code.PlainEntry.{plain_entry}
+use Rattle.x25_station.specs.Config.{layer_settings}
+use Rattle.x25_station.specs.Station.Told.{is_at_rest}
+use Rattle.x25_station.specs.Timer.{tells_link}
+use Rattle.x25_station.specs.declared.timer.Timer.{Timer}
+use Rattle.x25_pipe.specs.Timed.{seen_at}
+use Rattle.x25_pipe.proofs.TimedLemmas.{heeded_alike}
+use Rattle.x25_pipe.proofs.timed.TimedPipe.heed.Goals as goal
+
+pub returns : goal.returns
+returns c = λ k times old now w told refused a h deadlines is_times time.
+    let step = c.args.self.now.pipe.step in
+    let by : Timer → Bool → Bool → Seen = λ t noted come. record {
+      timer = t;
+      at_rest = is_at_rest a.next;
+      restarting = a.next.layer.restarting;
+      noted = noted;
+      come = come;
+      awaited = λ h. awaited_at (layer_settings k) a.next.layer h;
+    } in
+    let same : seen k a.next step c.args.self.now.pipe.has_come ≡ seen_at k a =
+    ap (λ t. by t (tells_link (map plain_entry step.entries.items)) c.args.self.now.pipe.has_come) h.timer
+    ∙ ap₂ (λ entries come. by a.timer (tells_link entries) come) h.entries h.has_come in
+    record {
+      pipe = h.stands;
+      deadlines = c.heed.ensures.heeds k a.next h.stands.fits ∙ heeded_alike _ times _ w.now _ (seen_at k a) _ w.deadlines is_times time same deadlines;
+      timers = c.heed.ensures.times ∙ is_times;
+      time = time;
+    }

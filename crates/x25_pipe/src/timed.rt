@@ -1,0 +1,222 @@
+//! A station that has a clock, and what is told of both.
+ghost use Rattle.std.specs.Prelude.{◌≡◌, ◌≤◌, ◌<◌, ◌↔◌, ℕ, List, IsTrue, MatchOption, decimal, length};
+ghost use Rattle.x25_io.specs.HeldLine.{most_line};
+ghost use Rattle.x25_pipe.specs.Timed.{moment_in, time_in, time_said};
+
+use crate::pipe::Pipe;
+use crate::telling::{channel_of, tell_next, tell_timeout};
+use itoa::Buffer;
+use std::alloc::Global;
+use std::str;
+use x25_clock::{Clock, Due, Times};
+use x25_io::{Fault, Sink};
+use x25_station::{Cfg, Role};
+
+/// The most that is due at one moment: T1, an idle link, a restart, and 16 channels.
+const MOST_DUE: u8 = 19;
+
+/// A station behind a pipe, its clock, and the time that was said last.
+#[derive(Drop)]
+pub(crate) struct TimedPipe {
+    pub(crate) pipe: Pipe,
+    clock: Clock,
+    now: u64,
+}
+
+/// Whether the text writes the number in decimal without leading zeros.
+fn is_decimal(number: u64, text: &str) -> bool
+    ensures { IsTrue result ↔ (decimal number ≡ text.now) }
+{
+    let mut buffer = Buffer::new();
+    buffer.format(number) == text
+}
+
+/// The moment that the figures write.
+fn moment(figures: &[u8]) -> Option<u64>
+    ensures { result ≡ moment_in figures.now }
+{
+    let text = str::from_utf8(figures).ok()?;
+    let number = text.parse::<u64>().ok()?;
+    if is_decimal(number, text) {
+        Some(number)
+    } else {
+        None
+    }
+}
+
+/// The time that a line says, in milliseconds.
+fn time_of(line: &[u8]) -> Option<u64>
+    ensures { result ≡ time_in line.now }
+{
+    let [b'@', b' ', figures @ ..] = line else {
+        return None;
+    };
+    moment(figures)
+}
+
+/// The time that a line says, which is none where it is longer than any that is held.
+fn time_said_in(line: Option<&[u8]>) -> Option<u64>
+    ensures { (text : List ℕ)
+        → MatchOption line.entry (most_line < length text) (λ held. (held.now ≡ text) × (length text ≤ most_line))
+        → result ≡ time_said text }
+{
+    match line {
+        Some(line) => time_of(line),
+        None => None,
+    }
+}
+
+impl TimedPipe {
+    ghost use Rattle.std.specs.Prelude.{[], ◌≤◌, ◌<◌, ℕ, Bool, false, List, Option, None, IfErr, IfOk, OnOk};
+    ghost use Rattle.std.specs.Prelude.{MatchOption, length};
+    ghost use Rattle.x25_clock.specs.Clock.{nothing_awaited, plain};
+    ghost use Rattle.x25_io.specs.HeldLine.{most_line};
+    ghost use Rattle.x25_io.specs.code.MarksFaults.{MarksFaults};
+    ghost use Rattle.x25_station.specs.Config.{Settings, config_refusal, settings_from};
+    ghost use Rattle.x25_station.specs.Station.{new_station};
+    ghost use Rattle.x25_station.specs.code.FitsStation.{FitsStation};
+    ghost use Rattle.x25_pipe.specs.Pipe.{Act, asked_act, event_in, nothing_act};
+    ghost use Rattle.x25_pipe.specs.Timed.{Timed, act_turn, answer_turn, due_turns, insist_turn, mark_turn, most_due};
+    ghost use Rattle.x25_pipe.specs.Timed.{time_said};
+    ghost use Rattle.x25_pipe.specs.code.Stands.{IsActed};
+    ghost use Rattle.x25_pipe.specs.code.TimedStands.{StandsTimedAt, TurnsTimed};
+
+    /// A station that never was up, a clock by which nothing is awaited, and nothing was told.
+    pub(crate) fn new(alloc: Global, end: Role, cfg: Cfg, times: Times) -> Result<TimedPipe, Fault>
+        requires range { config_refusal cfg ≡ None }
+        ensures fits { IfOk result (λ p. FitsStation (settings_from end cfg) p.pipe.station new_station) }
+        ensures role { IfOk result (λ p. p.pipe.end ≡ end) }
+        ensures empty { IfOk result (λ p. p.pipe.output ≡ []) }
+        ensures is_refused { IfOk result (λ p. p.pipe.is_refused ≡ false) }
+        ensures clock { IfOk result (λ p. plain p.clock ≡ nothing_awaited) }
+        ensures times { IfOk result (λ p. p.clock.times ≡ times) }
+        ensures now { IfOk result (λ p. p.now ≡ 0) }
+        ensures memory { IfErr result (λ fault. fault ≡ Fault.NoMemory) }
+    {
+        let clock = Clock::new(alloc, times)?;
+        let pipe = Pipe::new(alloc, end, cfg)?;
+        Ok(TimedPipe {
+            pipe,
+            clock,
+            now: 0,
+        })
+    }
+
+    /// Tells the mark of what is due next, and writes what waits.
+    pub(crate) fn mark<W: Sink>(&mut self, writer: &mut W) -> Result<(), Fault>
+        ensures turns { (c : Settings) (times : Times) (old : Option (List ℕ))
+            → TurnsTimed c times old (W.contents writer.old) (W.contents writer.new) self.old self.new result
+            (mark_turn c) }
+        ensures written { OnOk result (self.new.pipe.output ≡ []) }
+        ensures faults { MarksFaults W.Sink writer.old writer.new result }
+    {
+        let next = self.clock.next();
+        let is_idle = self.pipe.station.idle();
+        let is_due = self.pipe.station.awaits_answers();
+        tell_next(next, is_idle, is_due, &mut self.pipe.output, writer)?;
+        self.pipe.flush(writer)
+    }
+
+    /// The clock heeds what the station did.
+    fn heed(&mut self)
+        ensures { (c : Settings) (times : Times) (old now : Option (List ℕ)) (w : Timed) (told : List ℕ)
+            (refused : Bool) (a : Act)
+            → IsActed c old now self.old.pipe told refused a → plain self.old.clock ≡ w.deadlines
+            → self.old.clock.times ≡ times → self.old.now ≡ w.now
+            → StandsTimedAt c times old now self.new told refused (act_turn c times w a) }
+    {
+        let pipe = &self.pipe;
+        self.clock
+            .heed(self.now, &pipe.station, &pipe.step, pipe.has_come);
+    }
+
+    /// A line asks for nothing.
+    fn read_nothing<W: Sink>(&mut self, writer: &mut W) -> Result<(), Fault>
+        ensures turns { (c : Settings) (times : Times) (old : Option (List ℕ))
+            → TurnsTimed c times old (W.contents writer.old) (W.contents writer.new) self.old self.new result
+            (λ w. act_turn c times w (nothing_act w.station)) }
+        ensures faults { MarksFaults W.Sink writer.old writer.new result }
+    {
+        self.pipe.read_nothing(writer)?;
+        self.heed();
+        Ok(())
+    }
+
+    /// A line is answered as without a clock.
+    fn obey<W: Sink>(&mut self, line: Option<&[u8]>, writer: &mut W) -> Result<(), Fault>
+        ensures turns { (c : Settings) (times : Times) (old : Option (List ℕ)) (text : List ℕ)
+            → MatchOption line.entry (most_line < length text) (λ held. (held.now ≡ text) × (length text ≤ most_line))
+            → TurnsTimed c times old (W.contents writer.old) (W.contents writer.new) self.old self.new result
+            (λ w. act_turn c times w (asked_act c w.station (event_in c.role text))) }
+        ensures faults { MarksFaults W.Sink writer.old writer.new result }
+    {
+        self.pipe.answer(line, writer)?;
+        self.heed();
+        Ok(())
+    }
+
+    /// Tells which timer has passed, and asks for what is due.
+    fn insist<W: Sink>(&mut self, due: Due, writer: &mut W) -> Result<(), Fault>
+        ensures turns { (c : Settings) (times : Times) (old : Option (List ℕ))
+            → TurnsTimed c times old (W.contents writer.old) (W.contents writer.new) self.old self.new result
+            (insist_turn c times due) }
+        ensures faults { MarksFaults W.Sink writer.old writer.new result }
+    {
+        let awaits = self.pipe.station.awaits(channel_of(due));
+        tell_timeout(self.pipe.end, awaits, due, &mut self.pipe.output, writer)?;
+        self.pipe.insist(due, writer)?;
+        self.heed();
+        Ok(())
+    }
+
+    /// What is due is asked for, one after another.
+    fn ask_due<W: Sink>(&mut self, writer: &mut W) -> Result<(), Fault>
+        ensures turns { (c : Settings) (times : Times) (old : Option (List ℕ))
+            → TurnsTimed c times old (W.contents writer.old) (W.contents writer.new) self.old self.new result
+            (due_turns c times most_due) }
+        ensures faults { MarksFaults W.Sink writer.old writer.new result }
+    {
+        let mut left = MOST_DUE;
+        while left > 0 {
+            let Some(due) = self.clock.due(self.now) else {
+                return Ok(());
+            };
+            self.insist(due, writer)?;
+            left -= 1;
+        }
+        Ok(())
+    }
+
+    /// A line says the time, at which what is due is asked for; one before the time that was said last asks for
+    /// nothing.
+    fn pass<W: Sink>(&mut self, now: u64, writer: &mut W) -> Result<(), Fault>
+        ensures turns { (c : Settings) (times : Times) (old : Option (List ℕ)) (line : List ℕ)
+            → TurnsTimed c times old (W.contents writer.old) (W.contents writer.new) self.old self.new result
+            (λ w. answer_turn c times line w (Some now)) }
+        ensures faults { MarksFaults W.Sink writer.old writer.new result }
+    {
+        if now < self.now {
+            return self.read_nothing(writer);
+        }
+        self.now = now;
+        self.ask_due(writer)
+    }
+
+    /// What a line asks for happens.
+    pub(crate) fn answer<W: Sink>(
+        &mut self,
+        line: Option<&[u8]>,
+        writer: &mut W,
+    ) -> Result<(), Fault>
+        ensures turns { (c : Settings) (times : Times) (old : Option (List ℕ)) (text : List ℕ)
+            → MatchOption line.entry (most_line < length text) (λ held. (held.now ≡ text) × (length text ≤ most_line))
+            → TurnsTimed c times old (W.contents writer.old) (W.contents writer.new) self.old self.new result
+            (λ w. answer_turn c times text w (time_said text)) }
+        ensures faults { MarksFaults W.Sink writer.old writer.new result }
+    {
+        match time_said_in(line) {
+            Some(now) => self.pass(now, writer),
+            None => self.obey(line, writer),
+        }
+    }
+}

@@ -1,7 +1,0 @@
-use Rattle.x25_sessions.proofs.SessionSeenRuns.{both_peers}
-use Rattle.x25_sessions.proofs.law.stations_are_peers_over_sessions.Goals as goal
-
-pub returns : goal.returns
-returns c =
-    let below = c.laws_below.ensures in
-    both_peers below.reads below.link

@@ -1,2 +1,0 @@
--- Worked rows of a peer over sessions.
-pub mod PeerSessionRows
