@@ -13,7 +13,7 @@ _x25() {
             sim:--channels | station:--channels) words="1 2 3 4 5 6 7 8 9 10 11 12 13 14 15 16" ;;
             sim:*) words="--tap --events --down --loose --long --say-sizes --wide --k --n2 --channels --help" ;;
             station:station) words="dte dce --help" ;;
-            station:*) words="--long --say-sizes --wide --k --n2 --channels --help" ;;
+            station:*) words="--long --say-sizes --wide --k --n2 --channels --clock --t1 --t3 --t20 --t21 --t22 --t23 --help" ;;
             judge:*) words="--k --long --loose --wide --manners --strict --help" ;;
             deframe:deframe) words="dte dce --help" ;;
             deframe:*) words="--help" ;;

@@ -135,6 +135,13 @@ class Deadlines(unittest.TestCase):
 
 
 class Forms(unittest.TestCase):
+    def test_lines_of_the_other_end(self):
+        told = []
+        lines = wires.Lines("dce", told.append)
+        self.assertEqual([*lines.frames(b"# hello\r\n\r\n\n1.5\t> 013febdf\r\n> 01")], [bytes.fromhex("013febdf")])
+        self.assertEqual([*lines.frames(b"7fef\n")], [bytes.fromhex("017fef")])
+        self.assertEqual(told, ["the other end says 'hello'"])
+
     def test_lapbether(self):
         frame = bytes.fromhex("013f")
         octets = wires.ethernet_frame(bytes(6), frame)

@@ -101,7 +101,7 @@ class Lines:
         for line in (line.removesuffix(b"\r") for line in whole):
             if line.startswith(b"#"):
                 self._note(f"the other end says {x25lines.shown(line[1:].strip())}")
-            else:
+            elif line:
                 yield self._frame(line)
         if len(self._open) > x25lines.MOST_CHARACTERS:
             raise BadInput("the line brought more characters than a line of a trace may have")
