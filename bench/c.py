@@ -1,6 +1,6 @@
 #!/usr/bin/env python3
 """Times two stations in memory from C (`bench/two_stations.c`) and from Python: what a message takes of a processor, sent, delivered, read and
-acknowledged, and how often the one takes the time of the other.
+acknowledged, and how often the one takes the time of the other. Each is the least of nine runs.
 
     c.py [COUNT]
 
@@ -18,7 +18,7 @@ from timing import processor_time, rates
 sys.path.append(os.path.join(TOP, "bindings", "python"))
 import x25  # noqa: E402
 
-LENGTHS, READS = (3, 128, 1000, 4000), 1000
+LENGTHS, READS, RUNS = (3, 128, 1000, 4000), 1000, 9
 
 
 def talk(answer, near, far):
@@ -45,14 +45,19 @@ def python(count, length):
         return time.process_time() - start
 
 
+def least(run, *words):
+    """The least that some runs take."""
+    return min(run(*words) for _ in range(RUNS))
+
+
 def main(count):
     program = os.path.join(TOP, "build", "two_stations_c")
     source, library = os.path.join(TOP, "bench", "two_stations.c"), os.path.join(TOP, "build", "libx25.a")
     subprocess.run(["cc", "-O2", f"-I{TOP}/include", source, library, "-o", program], check=True)
     for length in LENGTHS:
-        one = processor_time([program, str(count), str(length)]) / count
-        more = processor_time([program, str(count // 10), str(length), str(READS)]) * 10 / count
-        other = python(max(count // 20, 1), length) / max(count // 20, 1)
+        one = least(processor_time, [program, str(count), str(length)]) / count
+        more = least(processor_time, [program, str(count // 10), str(length), str(READS)]) * 10 / count
+        other = least(python, max(count // 20, 1), length) / max(count // 20, 1)
         print(f"messages of {length} octets: {1e6 * one:.2f} us from C, of it {1e6 * (more - one) / (READS - 1):.3f} us to read it; "
               f"{1e6 * other:.1f} us from Python, {other / one:.1f} times as long")
     rates(program, "message", count)

@@ -59,6 +59,8 @@ class Lemmas(unittest.TestCase):
 
     CITED = {
         ("x25_wide", "x25_packet"): {"AddressLaws", "DigitLemmas"},
+        ("x25_given", "x25_packet"): {"AddressLaws"},
+        ("x25_given", "x25_wide"): {"AgainLaws", "FacilityLemmas"},
         ("x25_line", "x25_link"): {"EndLemmas"},
         ("x25_sim", "x25_world"): {"Established"},
         ("x25_judge", "x25_line"): {"StationLines", "StationPeers", "StationRuns", "StationSays", "StationSends"},

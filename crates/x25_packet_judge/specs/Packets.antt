@@ -4,7 +4,7 @@ use Rattle.x25_packet.specs.Packet.{PlainPacket, call, accept, clear, clear_conf
 use Rattle.x25_packet.specs.Packet.{interrupt_conf, reset, reset_conf, restart, restart_conf}
 use Rattle.x25_packet_judge.specs.Pair.{with_own, breaks, is_known, clears, confirms_clear, starts, starts_early}
 use Rattle.x25_packet_judge.specs.Pair.{is_awaiting, settles, finds, finds_call, hastens, clears_unknown, calls_unknown}
-use Rattle.x25_packet_judge.specs.Pair.{calls, accepts, may_talk, doubts, is_cleared_again}
+use Rattle.x25_packet_judge.specs.Pair.{calls, accepts, may_talk, unread, owes_more, is_cleared_again}
 use Rattle.x25_packet_judge.specs.Port as port
 use Rattle.x25_packet_judge.specs.Talking.{resets, confirms_reset, goes_on, hears, sends_data, interrupts}
 use Rattle.x25_packet_judge.specs.Talking.{confirms_interrupt, is_reset_again}
@@ -68,6 +68,9 @@ is_again (clear channel cause diagnostic) t = is_cleared_again t
 is_again (reset channel cause diagnostic) t = is_reset_again t
 is_again packet t = false
 
--- Right behind the answer it leaves open whether that has come.
+-- Right behind the answer it leaves open whether that has come; a CLEAR may be confirmed again.
+abbrev pub again : PlainPacket → Pair → Pair
+again packet t = if is_clearing packet then owes_more (unread t) else unread t
+
 abbrev pub follows : PlainPacket → Pair → Pair
-follows packet t = if t.reaches && (is_known t && is_again packet t) then doubts t else sends packet t
+follows packet t = if is_known t && is_again packet t then again packet t else sends packet t

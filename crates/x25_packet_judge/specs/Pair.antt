@@ -95,9 +95,12 @@ starts_early t = breaks ClearAwaited t
 abbrev pub reaching : Port → Pair → Pair
 reaching other t = if t.reaches then with_other other t else t
 
--- a packet that isn't read, which the other end may take where it reaches it
+-- a packet that isn't read, or a request that is sent again, which the other end may take where it reaches it
 abbrev pub unread : Pair → Pair
 unread t = with_own (port.doubtful (t.other.owed == 0) t.own) (reaching (port.doubtful (t.own.owed == 0) t.other) t)
+
+abbrev pub owes_more : Pair → Pair
+owes_more t = reaching (port.owing_clear true t.other) t
 
 -- `owed` is the most CLEARs of the other end that an end may still confirm. A CLEAR that may be the answer to one waits
 -- for none; what the other end sent waits for nothing behind it.
@@ -105,9 +108,13 @@ abbrev pub clears_unknown : Pair → Pair
 clears_unknown t = reaching (port.settled (port.owing_clear true t.other))
     (with_own (port.clears_unknown (t.own.owed == 0) t.own) t)
 
+-- two of its CLEARs are confirmed, of which it awaits one
+abbrev pub awaits_two : Pair → Pair
+awaits_two t = with_own (port.strayed true t.own) t
+
 -- One that is repeated while it waits leaves open what its confirmations answer.
 abbrev pub clears : Pair → Pair
-clears t = if is_awaiting t then clears_unknown (unknown t) else marks true t
+clears t = if is_awaiting t then awaits_two (clears_unknown (unknown t)) else marks true t
 
 abbrev pub is_doubtful : Pair → Bool
 is_doubtful t = t.own.is_doubtful || t.other.is_doubtful

@@ -138,12 +138,23 @@ impl Pair {
         }
     }
 
+    /// Behind a request that is sent again: a CLEAR may be confirmed again.
+    fn again(self, packet: &Packet) -> Pair
+        ensures { result ≡ definition.again (plain packet.now) self }
+    {
+        if is_clearing(packet) {
+            self.unread().owes_more()
+        } else {
+            self.unread()
+        }
+    }
+
     /// The same, but nothing is told of a request that is sent again, nor of what follows.
     pub(crate) fn follows(self, packet: &Packet) -> Pair
         ensures { result ≡ definition.follows (plain packet.now) self }
     {
-        if self.reaches && (self.is_known() && self.is_again(packet)) {
-            self.doubts()
+        if self.is_known() && self.is_again(packet) {
+            self.again(packet)
         } else {
             self.sends(packet)
         }

@@ -65,8 +65,8 @@ impl Pair {
             .with_other(self.other.unknown())
     }
 
-    /// Nothing may be said of the channel behind a fault, or a request that is sent again.
-    pub(crate) fn doubts(self) -> Pair
+    /// Nothing may be said of the channel behind a fault.
+    fn doubts(self) -> Pair
         ensures { result ≡ definition.doubts self }
     {
         self.with_own(self.own.doubtful(self.other.owed == 0))
@@ -147,10 +147,17 @@ impl Pair {
         ensures { result ≡ definition.clears self }
     {
         if self.is_awaiting() {
-            self.unknown().clears_unknown()
+            self.unknown().clears_unknown().awaits_two()
         } else {
             self.marks(true)
         }
+    }
+
+    /// Two of its CLEARs are confirmed, of which it awaits one.
+    fn awaits_two(self) -> Pair
+        ensures { result ≡ definition.awaits_two self }
+    {
+        self.with_own(self.own.strayed(true))
     }
 
     /// A confirmation may be on its way to the other end that none of its CLEARs waits for.
@@ -196,13 +203,20 @@ impl Pair {
         }
     }
 
-    /// A packet that isn't read, which the other end may take where it reaches it.
+    /// A packet that isn't read, or a request that is sent again, which the other end may take where it reaches it.
     pub(crate) fn unread(self) -> Pair
         ensures { result ≡ definition.unread self }
     {
         let own = self.own.doubtful(self.other.owed == 0);
         self.reaching(self.other.doubtful(self.own.owed == 0))
             .with_own(own)
+    }
+
+    /// One CLEAR of it more may be confirmed.
+    pub(crate) fn owes_more(self) -> Pair
+        ensures { result ≡ definition.owes_more self }
+    {
+        self.reaching(self.other.owing(true))
     }
 
     pub(crate) fn clears_unknown(self) -> Pair

@@ -8,22 +8,22 @@ use Rattle.x25_packet.specs.Spelling as packet
 use Rattle.x25_frame.specs.Frame.{PlainFrame, rr, rnr}
 use Rattle.x25_link.specs.Outgoing.{is_open, added}
 use Rattle.x25_link.specs.Station.{Settings as LinkSettings, LinkStation, Side, is_up, is_busy, with_near, sends, wanted, ready, send_next, next_frame, may_send, pumped, owes_ready, finished, ended}
-use Rattle.x25_link.specs.Link.{alone}
-use Rattle.x25_station.specs.Station.{put_on, all_put}
+use Rattle.x25_link.specs.Link.{alone, put_step}
+use Rattle.x25_station.specs.Station.{behind, put_on, all_put}
 
 -- the places left in the window, and one where RNR was said
-abbrev said : Bool → ℕ
+abbrev pub said : Bool → ℕ
 said true = 1
 said false = 0
 
-said_few : (b : Bool) → said b ≤ 1
+pub said_few : (b : Bool) → said b ≤ 1
 said_few true = omega arith
 said_few false = omega arith
 
-abbrev left_of : ℕ → LinkStation → ℕ
+abbrev pub left_of : ℕ → LinkStation → ℕ
 left_of k s = (s.outgoing.acked + k - s.outgoing.place) + said s.said_busy
 
-abbrev count_of : ℕ → Side → ℕ
+abbrev pub count_of : ℕ → Side → ℕ
 count_of k t = length t.out + left_of k t.near
 
 lower_if : (k : ℕ) (b : Bool) (u v t : Side) → (b ≡ true → count_of k u ≤ count_of k t) → count_of k v ≤ count_of k t → count_of k (if b then u else v) ≤ count_of k t
@@ -75,16 +75,16 @@ finished_lower k t = lower_if k (owes_ready t.near) (ready false false t) t t (�
 ended_lower : (k : ℕ) (t : Side) → count_of k (ended k t) ≤ count_of k t
 ended_lower k t = le_trans (finished_lower k (pumped 7 k t)) (pumped_lower 7 k t)
 
-put_lower : (c : LinkSettings) (p : PlainPacket) (t : Side) → count_of c.window (put_on c p t) ≤ count_of c.window t
-put_lower c p t =
-    let u : Side = with_near (alone t.near) (record t.near { outgoing = added (packet.spelling_of p) t.near.outgoing }) in
+pub put_lower : (c : LinkSettings) (octets : List ℕ) (t : Side) → count_of c.window (behind t (put_step c octets t.near).side) ≤ count_of c.window t
+put_lower c octets t =
+    let u : Side = with_near (alone t.near) (record t.near { outgoing = added octets t.near.outgoing }) in
     let lower : count_of c.window (ended c.window u) ≤ count_of c.window u = ended_lower c.window u in
     let more : length (t.out ++ (ended c.window u).out) ≡ length t.out + length (ended c.window u).out = length-append t.out (ended c.window u).out in
     omega (arith, lower, more)
 
-all_lower : (c : LinkSettings) (packets : List PlainPacket) (t : Side) → count_of c.window (all_put c packets t) ≤ count_of c.window t
+pub all_lower : (c : LinkSettings) (packets : List PlainPacket) (t : Side) → count_of c.window (all_put c packets t) ≤ count_of c.window t
 all_lower c [] t = omega arith
-all_lower c (p ∷ packets) t = le_trans (all_lower c packets (put_on c p t)) (put_lower c p t)
+all_lower c (p ∷ packets) t = le_trans (all_lower c packets (put_on c p t)) (put_lower c (packet.spelling_of p) t)
 
 pub few_put : (c : LinkSettings) (packets : List PlainPacket) (t : Side) → c.window ≤ 7 → t.near.outgoing.acked ≤ t.near.outgoing.place
     → length (all_put c packets t).out ≤ length t.out + 8

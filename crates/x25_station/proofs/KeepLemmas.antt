@@ -57,7 +57,7 @@ ended_lower k t =
     let below : waits (pumped 7 k t).near.outgoing ≤ waits t.near.outgoing = pumped_lower 7 k t in
     lower_if (owes_ready (pumped 7 k t).near) (ready false false (pumped 7 k t)) (pumped 7 k t) t (le_trans (ready_same (pumped 7 k t)) below) below
 
-put_few : (c : LinkSettings) (packet : List ℕ) (s : LinkStation) → waits s.outgoing < 256 → waits (put_step c packet s).side.near.outgoing ≤ 256
+pub put_few : (c : LinkSettings) (packet : List ℕ) (s : LinkStation) → waits s.outgoing < 256 → waits (put_step c packet s).side.near.outgoing ≤ 256
 put_few c packet s low =
     let t : Side = with_near (alone s) (record s { outgoing = added packet s.outgoing }) in
     let below : waits (ended c.window t).near.outgoing ≤ waits t.near.outgoing = ended_lower c.window t in
@@ -68,7 +68,7 @@ put_few c packet s low =
 none_some : {T : Type 0} (x : T) → Some x ≡ None → ⊥
 none_some x e = cc
 
-room_of : (s : LinkStation) → put_refusal s ≡ None → waits s.outgoing ≤ 256 → waits s.outgoing < 256
+pub room_of : (s : LinkStation) → put_refusal s ≡ None → waits s.outgoing ≤ 256 → waits s.outgoing < 256
 room_of s none few = up (is_up s.phase) none
   where
     full : (b : Bool) → (waits s.outgoing == 256) ≡ b → (let o : Option LinkError = if b then Some link_error.QueueFull else None in o) ≡ None → waits s.outgoing < 256
@@ -82,7 +82,7 @@ room_of s none few = up (is_up s.phase) none
     up false e = absurd (none_some link_error.NotUp e)
     up true e = full (waits s.outgoing == 256) refl e
 
-all_few : (c : LinkSettings) (packets : List PlainPacket) (t : Side) → AreAccepted c packets t → waits t.near.outgoing ≤ 256 → waits (all_put c packets t).near.outgoing ≤ 256
+pub all_few : (c : LinkSettings) (packets : List PlainPacket) (t : Side) → AreAccepted c packets t → waits t.near.outgoing ≤ 256 → waits (all_put c packets t).near.outgoing ≤ 256
 all_few c [] t all few = few
 all_few c (p ∷ packets) t all few = all_few c packets (put_on c p t) all.1 (put_few c (spelling_of p) t.near (room_of t.near all.0 few))
 
@@ -224,7 +224,7 @@ receive_kept laws c s octets kept = test (abandons c s)
     test true = follows_kept laws.put c s (abandon_step (link_settings c) s.link) kept (abandon_keeps laws (link_settings c) s.link)
     test false = follows_kept laws.put c s (take_step (link_settings c) octets s.link) kept (take_keeps laws (link_settings c) octets s.link kept.few)
 
-below : (n : ℕ) → n ≤ 256 → (n == 256) ≡ false → n < 256
+pub below : (n : ℕ) → n ≤ 256 → (n == 256) ≡ false → n < 256
 below n low differ = omega (arith, low, (λ (e : n ≡ 256). true_false (sym (eq-eqb n 256 e) ∙ differ)))
 
 pub request_kept : PutTells → RequestKeeps

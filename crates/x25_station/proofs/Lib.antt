@@ -17,6 +17,8 @@ pub mod EnteredLemmas
 pub mod TellLemmas
 pub mod ShortLemmas
 pub mod FrameLemmas
+pub mod GivenLemmas
+pub mod GivingLemmas
 pub mod TakeLemmas
 pub mod TookLemmas
 pub mod FollowLemmas

@@ -5,6 +5,7 @@ pub mod Beside
 pub mod Entry
 pub mod Station
 pub mod Step
+pub mod Giving
 pub mod Pulling
 pub mod Timer
 pub mod Receiving

@@ -8,3 +8,4 @@ pub mod TimerLaw
 pub mod WayOutLaw
 pub mod UnheardLaw
 pub mod SettledLaw
+pub mod GivenLaw

@@ -16,6 +16,8 @@ ghost use Rattle.x25_station.specs.code.FitsStation.{FitsStation, Does, IsEmpty,
 ghost use Rattle.x25_station.specs.code.PlainEntry.{plain_entry, plain_asked, plain_said};
 ghost use Rattle.x25_station.specs.Config.{Settings};
 ghost use Rattle.x25_station.specs.Station.{Station as State};
+ghost use Rattle.x25_given.specs.Given.{PlainGiven};
+ghost use Rattle.x25_station.specs.Giving.{gives, gives_said};
 ghost use Rattle.x25_station.specs.Step.{commands, requests};
 
 use crate::command::Cmd;
@@ -108,7 +110,7 @@ fn keep_asked(messages: &mut MessageMemory, asked: Asked)
 // What is asked of a channel, for an entry. Which packet sizes and windows an acceptance shows is known once it is
 // done.
 #[inline(always)]
-fn asked_of(
+pub(crate) fn asked_of(
     alloc: Global,
     messages: &mut MessageMemory,
     request: &Request<'_>,
@@ -149,7 +151,7 @@ fn asked_of(
 }
 
 // A call that is asked, for an entry.
-fn asked_call(
+pub(crate) fn asked_call(
     alloc: Global,
     called: &str,
     calling: &str,
@@ -172,7 +174,7 @@ fn asked_call(
 
 // An acceptance shows the packet sizes and windows in force on its channel.
 #[inline(always)]
-fn as_shown(layer: &Layer, channel: u16, asked: Asked) -> Asked
+pub(crate) fn as_shown(layer: &Layer, channel: u16, asked: Asked) -> Asked
     ensures { (c : LayerSettings) (l : LayerState) → FitsLayer c layer.now l → is_channel c.channels channel ≡ true
         → plain_asked result ≡ shown (l.circuits channel) (plain_asked asked) }
 {
@@ -317,10 +319,13 @@ impl Station {
     }
 
     // What an acceptance says, where it says anything.
-    fn answer(&self, channel: u16, params: Option<Params>) -> Option<Proposal>
-        ensures { (c : Settings) (s : State) → FitsStation c self.now s
+    pub(crate) fn answer(&self, channel: u16, params: Option<Params>) -> Option<Proposal>
+        ensures asked { (c : Settings) (s : State) → FitsStation c self.now s
             → commands c s (Requests (Asks channel (Accepts (answer_in_brief params))))
             ≡ requests c s (Asks channel (Accepts result)) }
+        ensures given { (c : Settings) (s : State) (g : PlainGiven) → FitsStation c self.now s
+            → gives_said c s g (Asks channel (Accepts (answer_in_brief params)))
+            ≡ gives c s g (Asks channel (Accepts result)) }
     {
         if let Some(params) = params {
             return Some(Proposal::new(params, self.manner.say_sizes));
@@ -352,7 +357,7 @@ impl Station {
     }
 
     // What a call says.
-    fn proposal(&self, params: Params) -> Proposal
+    pub(crate) fn proposal(&self, params: Params) -> Proposal
         ensures { (c : Settings) (s : State) → FitsStation c self.now s
             → proposal_said c.say_sizes (in_brief params) ≡ result }
     {

@@ -2,7 +2,9 @@
 //! does nothing.
 ghost use Rattle.x25_station.specs.laws.JoinLaw.{RequestIsJoined, ReceiveIsJoined, QuietIsJoined, DownIsJoined};
 ghost use Rattle.x25_station.specs.laws.JoinLaw.{UpIsJoined};
-ghost use Rattle.x25_station.specs.laws.KeepLaw.{ConnectKeeps, TimerKeeps, RequestKeeps, CommandKeeps, ReceiveKeeps};
+ghost use Rattle.x25_station.specs.laws.KeepLaw.{ConnectKeeps, TimerKeeps, RequestKeeps, CommandKeeps, GivenKeeps};
+ghost use Rattle.x25_station.specs.laws.KeepLaw.{ReceiveKeeps};
+ghost use Rattle.x25_station.specs.laws.GivenLaw.{GivenIsTold, GivenIsWritten};
 ghost use Rattle.x25_station.specs.laws.ReadLaw.{PutsAreReadable, PutsBesidePeersAreReadable};
 ghost use Rattle.x25_station.specs.laws.HoldLaw.{FewWait, FewStand, FewMessages, FewJoined, FewHeld, FewAside};
 ghost use Rattle.x25_station.specs.laws.OctetLaw.{FewOctets, FewOctetsInAll};
@@ -14,6 +16,7 @@ ghost use Rattle.x25_station.specs.laws.WayOutLaw.{ClearLeadsOn, FiringLeadsOn, 
 ghost use Rattle.x25_station.specs.laws.WayOutLaw.{RestartLeadsOn};
 
 use x25_circuit::values_are_agreed;
+use x25_given::what_is_written_is_read;
 use x25_layer::calls_are_runs;
 use x25_link::{comes_to_rest, follows_the_window, holds_few, notes_what_changes, sets_up_by_rows};
 use x25_packet::reading_is_the_grammar;
@@ -52,6 +55,17 @@ pub fn puts_beside_peers_are_readable()
     values_are_agreed();
 }
 
+/// What is given beside a packet the user of the other end is told, where that station reads packets in all their
+/// forms: the facility field, in which the station's own facilities come first, and user data, but that of a CALL,
+/// which is told with the call. Octets that are as without tell nothing.
+pub fn what_is_given_is_told()
+    ensures written { GivenIsWritten }
+    ensures told { GivenIsTold }
+{
+    reading_is_the_grammar();
+    what_is_written_is_read();
+}
+
 /// What each step of a station keeps, whatever comes: at most 256 packets wait in the link, and the packet layer is as
 /// LinkDown leaves it where the link isn't up.
 pub fn steps_keep_bounds()
@@ -59,6 +73,7 @@ pub fn steps_keep_bounds()
     ensures timer { TimerKeeps }
     ensures request { RequestKeeps }
     ensures command { CommandKeeps }
+    ensures given { GivenKeeps }
     ensures receive { ReceiveKeeps }
 {
     notes_what_changes();

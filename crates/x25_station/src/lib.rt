@@ -8,6 +8,7 @@ mod config;
 mod entering;
 mod entry;
 mod error;
+mod giving;
 mod law;
 mod linking;
 mod pulling;
@@ -21,13 +22,16 @@ pub use command::Cmd;
 pub use config::Cfg;
 pub use entry::{Asked, Entry, Said, Told};
 pub use error::StationError;
+pub use giving::CallCmd;
 pub use law::{
     deadlines_are_true, puts_are_readable, puts_beside_peers_are_readable, silence_is_asked,
     stations_ask_or_rest, stations_hold_few, steps_are_joined, steps_keep_bounds, ways_out_lead_on,
+    what_is_given_is_told,
 };
 pub use station::Station;
 pub use step::{MOST_ENTRIES, MOST_FRAMES, Step};
 pub use timer::Timer;
 pub use x25_bits::Role;
 pub use x25_frame::N1;
+pub use x25_given::Given;
 pub use x25_layer::Awaits;

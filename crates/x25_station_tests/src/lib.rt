@@ -7,6 +7,8 @@ mod calls;
 #[cfg(test)]
 mod errors;
 #[cfg(test)]
+mod given;
+#[cfg(test)]
 mod octets;
 #[cfg(test)]
 mod reused;

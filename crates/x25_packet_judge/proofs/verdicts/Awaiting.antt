@@ -9,7 +9,7 @@ use Rattle.x25_packet_judge.specs.Book as book
 use Rattle.x25_packet_judge.specs.Book.{other, layers_of, keeps, fills}
 use Rattle.x25_packet_judge.specs.Layers as layers
 use Rattle.x25_packet_judge.specs.Layer as layer
-use Rattle.x25_packet_judge.specs.Packets.{sends, follows}
+use Rattle.x25_packet_judge.specs.Packets.{sends, again, follows}
 use Rattle.x25_packet_judge.specs.Port as port
 use Rattle.x25_packet_judge.specs.declared.book.Book.{Book}
 use Rattle.x25_packet_judge.specs.declared.layer.Layer.{Layer}
@@ -29,7 +29,7 @@ use Rattle.x25_packet_judge.proofs.verdicts.Saying.{le_both}
 use Rattle.x25_packet_judge.proofs.verdicts.Parts.{layer_at, port_at, Left, takes_on_parts, takes_on_apart, kept_fills}
 use Rattle.x25_packet_judge.proofs.verdicts.Noting.{noted_dark}
 use Rattle.x25_packet_judge.proofs.verdicts.Ways.{has_restart, was_restarted, comes_due, count, number, ends_so, is_conf, has_conf, ends_tail, none_behind, less_none, less_one, comes_number, comes_still_due}
-use Rattle.x25_packet_judge.proofs.verdicts.KnownRestarts.{at_once, pair_at, On, and_turned, are_sure, are_counted, are_lost, Calm, Sealed, Fits, not_both, lost_fits, or_turned, at_ready, theirs, At, runs_calm, follows_far}
+use Rattle.x25_packet_judge.proofs.verdicts.KnownRestarts.{at_once, pair_at, On, and_turned, are_sure, are_counted, are_lost, Calm, Sealed, Fits, not_both, lost_fits, or_turned, at_ready, theirs, At, runs_calm, follows_either, dark_doubted, again_apart}
 
 -- ---- any run
 
@@ -366,7 +366,20 @@ module _ (from : Role) (P O : Layer) (p o : Port) (u : Unanswered P O p o) where
       go (inr k) = inr (shown_dark true packet (pair_at (other from) O P o p) k)
 
   un_follows : (packet : PlainPacket) → Unanswered P (at_ready O) (follows packet (pair_at (other from) O P o p)).other (follows packet (pair_at (other from) O P o p)).own
-  un_follows packet = subst (λ (q : Pair). Unanswered P (at_ready O) q.other q.own) (sym (follows_far packet (pair_at (other from) O P o p) (and_left (O.owed == 0) _ (ap (λ n. n == 0) u.one)))) (un_sent packet)
+  un_follows packet = follows_either packet (pair_at (other from) O P o p) (λ (q : Pair). Unanswered P (at_ready O) q.other q.own) un_again (un_sent packet)
+    where
+      v : Pair
+      v = pair_at (other from) O P o p
+
+      far : at_once O P ≡ false
+      far = and_left (O.owed == 0) _ (ap (λ n. n == 0) u.one)
+
+      go : Clean p o → Clean p (again packet v).own
+      go (inl (s, sure)) = inl (s, λ known. absurd (both_ways (again packet v).own.is_known (dark_doubted packet v).known known))
+      go (inr k) = inr k
+
+      un_again : Unanswered P (at_ready O) (again packet v).other (again packet v).own
+      un_again = record { sure = u.sure; found = u.found; counted = u.counted; begun = refl; known = u.known; none = u.none; one = u.one; clean = subst (λ x. Clean x (again packet v).own) (sym (again_apart packet v far)) (go u.clean) }
 
   un_apart : Unanswered P (at_ready O) p o
   un_apart = record { sure = u.sure; found = u.found; counted = u.counted; begun = refl; known = u.known; none = u.none; one = u.one; clean = u.clean }

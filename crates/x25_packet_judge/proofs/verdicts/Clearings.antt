@@ -230,8 +230,11 @@ module _ (v : Pair) where
   unknown_moved (reset channel cause diagnostic) free = settled_moved v
   unknown_moved (reset_conf channel) free = settled_moved v
 
+two_moved : (v w : Pair) → Moved v w → Moved v (pair.awaits_two w)
+two_moved v w h = record { free = h.free; less = h.less; clearing = h.clearing; known = h.known }
+
 clears_moved : (v : Pair) → Moved v (pair.clears v)
-clears_moved v = cond_both (pair.is_awaiting v) _ _ (Moved v) (λ _. both v (pair.unknown v) _ (unsaid v) (clears_unknown_moved (pair.unknown v))) (λ _. cleared_moved true v)
+clears_moved v = cond_both (pair.is_awaiting v) _ _ (Moved v) (λ _. both v (pair.unknown v) _ (unsaid v) (two_moved (pair.unknown v) (pair.clears_unknown (pair.unknown v)) (clears_unknown_moved (pair.unknown v)))) (λ _. cleared_moved true v)
 
 known_moved : (packet : PlainPacket) (v : Pair) → Moved v (sends_known packet v)
 unfolding sends_known
@@ -301,8 +304,11 @@ unfolding sends sends_known sends_unknown is_clearing
 freed (clear channel cause diagnostic) v is h = cond_both (not (pair.is_known v)) (pair.clears_unknown v) _ (λ (w : Pair). Free w.own w.other)
     (λ unknown. dark v unknown h.free)
     (λ _. subst (λ (w : Pair). Free w.own w.other) (sym (cond-false (pair.is_awaiting v && false) (sends_unknown (clear channel cause diagnostic) (pair.starts_early v)) (pair.clears v) (and_right (pair.is_awaiting v) false refl)))
-    (cond_both (pair.is_awaiting v) _ _ (λ (w : Pair). Free w.own w.other) (λ _. dark (pair.unknown v) refl refl) (λ _. record { free = h.free; still = λ _. and_right v.other.is_clearing _ (less_none v.own.owed h.few) })))
+    (cond_both (pair.is_awaiting v) _ _ (λ (w : Pair). Free w.own w.other) (λ _. two (pair.clears_unknown (pair.unknown v)) (dark (pair.unknown v) refl refl)) (λ _. record { free = h.free; still = λ _. and_right v.other.is_clearing _ (less_none v.own.owed h.few) })))
   where
+    two : (x : Pair) → Free x.own x.other → Free (pair.awaits_two x).own (pair.awaits_two x).other
+    two x f = record { free = f.free; still = f.still }
+
     dark : (x : Pair) → not (pair.is_known x) ≡ true → is_free x.other.call ≡ true → Free (pair.clears_unknown x).own (pair.clears_unknown x).other
     dark x unknown free = cond_both x.reaches _ _ (λ (w : Pair). Free w.own w.other) (λ _. record { free = refl; still = λ e. gone e }) (λ _. record { free = free; still = λ e. gone e })
       where

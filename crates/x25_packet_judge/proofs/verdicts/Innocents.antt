@@ -1,11 +1,11 @@
 -- An end that keeps the rules is told of by no rule, whatever the other end sends.
-use Rattle.std.proofs.Common.{◌≡◌, inl, inr, ℕ, ◌+◌, arith, false, List, [], ◌∷◌, ◌++◌, None, refl, sym, ap, ◌∙◌, subst}
+use Rattle.std.proofs.Common.{◌≡◌, inl, inr, ℕ, arith, false, List, [], ◌∷◌, ◌++◌, None, refl, sym, ap, ◌∙◌, subst}
 use Rattle.std.specs.Prelude.{nat_lt, ◌||◌, not}
 use Rattle.std.proofs.lemmas.Bool.{lt-ltb, and_left, and_right, both_ways, cond_both, cond-true, cond-false}
 use Rattle.x25_bits.specs.declared.role.Role.{Role}
 use Rattle.x25_bits.specs.declared.role.Role.TheVariants.{Dte, Dce}
 use Rattle.x25_packet.specs.Packet.{PlainPacket, call, accept, clear, clear_conf, user_data, rr, rnr, interrupt, interrupt_conf, reset, reset_conf, restart, restart_conf}
-use Rattle.x25_packet_judge.specs.Packets.{sends_known, is_clearing, sends_unknown, sends}
+use Rattle.x25_packet_judge.specs.Packets.{sends_known, sends_unknown, sends}
 use Rattle.x25_packet_judge.specs.Pair as pair
 use Rattle.x25_packet_judge.specs.Port as port
 use Rattle.x25_packet_judge.specs.Book.{other}
@@ -22,7 +22,7 @@ use Rattle.x25_packet_judge.proofs.verdicts.Reaching.{sends_from}
 use Rattle.x25_packet_judge.proofs.verdicts.Callings.{FarClear, begins_idle, far_tail, far_open}
 use Rattle.x25_packet_judge.proofs.verdicts.Stretches.{lots, Talking, with_tail, knows_if}
 use Rattle.x25_packet_judge.proofs.verdicts.OwnEnd.{Standing, Sound, sound_begins, clear_quiet, sound_does}
-use Rattle.x25_packet_judge.proofs.verdicts.OtherEnd.{v, standing_shown, r, standing_restarted}
+use Rattle.x25_packet_judge.proofs.verdicts.OtherEnd.{standing_shown, r, standing_restarted}
 
 -- ---- a packet comes to the end
 

@@ -10,7 +10,7 @@ use Rattle.x25_packet_judge.specs.Book.{other, layers_of, fills, pair_of}
 use Rattle.x25_packet_judge.specs.Layers as layers
 use Rattle.x25_packet_judge.specs.Layer as layer
 use Rattle.x25_packet_judge.specs.Pair as pair
-use Rattle.x25_packet_judge.specs.Packets.{sends, is_again, follows}
+use Rattle.x25_packet_judge.specs.Packets.{sends, is_clearing, is_again, again, follows}
 use Rattle.x25_packet_judge.specs.Port as port
 use Rattle.x25_packet_judge.specs.declared.book.Book.{Book}
 use Rattle.x25_packet_judge.specs.declared.layer.Layer.{Layer}
@@ -22,7 +22,6 @@ use Rattle.x25_packet_judge.specs.declared.port.Port.{Port}
 use Rattle.x25_packet_judge.specs.laws.Keeping.{Phase, Idles, Calls, WasCalled, Talks, Resets, WasReset, Clears, WasCleared, HasRestarted, WasRestarted, MayDo, MayEnd, IsOfChannel, IsFollowed, turned}
 use Rattle.x25_packet_judge.specs.laws.Tape.{AreApart, view}
 use Rattle.x25_packet_judge.proofs.verdicts.Standing.{bit, Dark, as_gone}
-use Rattle.x25_packet_judge.proofs.verdicts.Showing.{dark_broken}
 use Rattle.x25_packet_judge.proofs.verdicts.Restartings.{Still, still_fresh, still_noted, still_sent}
 use Rattle.x25_packet_judge.proofs.verdicts.OwnEnd.{Standing, sound_does, does_owed}
 use Rattle.x25_packet_judge.proofs.verdicts.Innocents.{does_quiet, sound_ends}
@@ -50,14 +49,54 @@ on_noted from s way P O p o h = noted_standing (pair_at from P O p o) from s way
 
 -- ---- CLEAR or RESET is sent again
 
-pub follows_far : (packet : PlainPacket) (t : Pair) → t.reaches ≡ false → follows packet t ≡ sends packet t
-follows_far packet t far = cond-false (t.reaches && (pair.is_known t && is_again packet t)) (pair.doubts t) (sends packet t) (and_left t.reaches _ far)
+-- either it is, or the packet is sent
+pub follows_either : (packet : PlainPacket) (t : Pair) (F : Pair → Type 0) → F (again packet t) → F (sends packet t) → F (follows packet t)
+follows_either packet t F repeated once = cond_both (pair.is_known t && is_again packet t) (again packet t) (sends packet t) F (λ _. repeated) (λ _. once)
+
+again_either : (packet : PlainPacket) (t : Pair) (F : Pair → Type 0) → F (pair.owes_more (pair.unread t)) → F (pair.unread t) → F (again packet t)
+again_either packet t F more same = cond_both (is_clearing packet) (pair.owes_more (pair.unread t)) (pair.unread t) F (λ _. more) (λ _. same)
+
+-- nothing is told
+again_quiet : (packet : PlainPacket) (t : Pair) → t.rule ≡ None → (again packet t).rule ≡ None
+again_quiet packet t none = again_either packet t (λ (v : Pair). v.rule ≡ None) (reached (port.owing_clear true (pair.unread t).other) (pair.unread t) unread) unread
+  where
+    reached : (x : Port) (v : Pair) → v.rule ≡ None → (pair.reaching x v).rule ≡ None
+    reached x v none = cond_both v.reaches (pair.with_other x v) v (λ (w : Pair). w.rule ≡ None) (λ _. none) (λ _. none)
+
+    unread : (pair.unread t).rule ≡ None
+    unread = reached (port.doubtful (t.own.owed == 0) t.other) t none
 
 follows_quiet : (packet : PlainPacket) (t : Pair) → t.rule ≡ None → (sends packet t).rule ≡ None → (follows packet t).rule ≡ None
-follows_quiet packet t none quiet = cond_both (t.reaches && (pair.is_known t && is_again packet t)) (pair.doubts t) (sends packet t) (λ (v : Pair). v.rule ≡ None) (λ _. none) (λ _. quiet)
+follows_quiet packet t none quiet = follows_either packet t (λ (v : Pair). v.rule ≡ None) (again_quiet packet t none) quiet
 
-dark_doubted : (shut : Bool) (v : Pair) → Dark shut (pair.doubts v).own
-dark_doubted shut v = record { known = refl; clearing = refl; call = and_right (shut || false) _ refl }
+-- the first end isn't known
+pub dark_doubted : (packet : PlainPacket) (v : Pair) → Dark true (again packet v).own
+dark_doubted packet v = again_either packet v (λ (w : Pair). Dark true w.own) (cond_both (pair.unread v).reaches _ _ (λ (w : Pair). Dark true w.own) (λ _. dark) (λ _. dark)) dark
+  where
+    dark : Dark true (pair.unread v).own
+    dark = record { known = refl; clearing = refl; call = refl }
+
+-- nor is the other one, where it is reached; else it is as it was
+again_other : (packet : PlainPacket) (v : Pair) → v.reaches ≡ true → Dark true (again packet v).other
+again_other packet v near = again_either packet v (λ (w : Pair). Dark true w.other) (cond_both (pair.unread v).reaches _ _ (λ (w : Pair). Dark true w.other) (λ _. record { known = dark.known; clearing = dark.clearing; call = more }) (λ _. dark)) dark
+  where
+    doubtful : (pair.unread v).other ≡ port.doubtful (v.own.owed == 0) v.other
+    doubtful = ap (λ (w : Pair). w.other) (cond-true v.reaches (pair.with_other (port.doubtful (v.own.owed == 0) v.other) v) v near)
+
+    dark : Dark true (pair.unread v).other
+    dark = subst (Dark true) (sym doubtful) (record { known = refl; clearing = refl; call = refl })
+
+    more : (true && (not (pair.unread v).other.is_doubtful && (min ((pair.unread v).other.owed + 1) 255 == 0))) ≡ false
+    more = and_left (not (pair.unread v).other.is_doubtful) _ (ap (λ (p : Port). not p.is_doubtful) doubtful)
+
+pub again_apart : (packet : PlainPacket) (v : Pair) → v.reaches ≡ false → (again packet v).other ≡ v.other
+again_apart packet v far = again_either packet v (λ (w : Pair). w.other ≡ v.other) (cond_both (pair.unread v).reaches _ _ (λ (w : Pair). w.other ≡ v.other) (λ near. absurd (both_ways (pair.unread v).reaches (ap (λ (w : Pair). w.reaches) kept ∙ far) near)) (λ _. same)) same
+  where
+    kept : pair.reaching (port.doubtful (v.own.owed == 0) v.other) v ≡ v
+    kept = cond-false v.reaches (pair.with_other (port.doubtful (v.own.owed == 0) v.other) v) v far
+
+    same : (pair.unread v).other ≡ v.other
+    same = ap (λ (w : Pair). w.other) kept
 
 -- where nothing is known an end stands in any phase
 dark_stands : (from : Role) (t u : Pair) (s : Phase) (way : List PlainPacket) → Standing from u s way → Dark true t.own → Standing from t s way
@@ -89,12 +128,12 @@ on_does from s r way P O p o packet may followed h =
 on_follows : (from : Role) (s r : Phase) (way : List PlainPacket) (P O : Layer) (p o : Port) (packet : PlainPacket) → MayDo s packet r → IsFollowed (pair_at from P O p o) packet → On from s way P O p o → Sent from r way P O (follows packet (pair_at from P O p o))
 on_follows from s r way P O p o packet may followed h =
     let k = on_does from s r way P O p o packet may followed h in
-    cond_both (at_once P O && (pair.is_known (pair_at from P O p o) && is_again packet (pair_at from P O p o))) (pair.doubts (pair_at from P O p o)) (sends packet (pair_at from P O p o)) (Sent from r way P O)
-    (λ _. record {
-      quiet = refl;
-      on = dark_stands from (pair_at from P O (pair.doubts (pair_at from P O p o)).own (pair.doubts (pair_at from P O p o)).other) (pair_at from P O (sends packet (pair_at from P O p o)).own (sends packet (pair_at from P O p o)).other) r way k.on (dark_doubted true (pair_at from P O p o));
+    follows_either packet (pair_at from P O p o) (Sent from r way P O)
+    (record {
+      quiet = again_quiet packet (pair_at from P O p o) refl;
+      on = dark_stands from (pair_at from P O (again packet (pair_at from P O p o)).own (again packet (pair_at from P O p o)).other) (pair_at from P O (sends packet (pair_at from P O p o)).own (sends packet (pair_at from P O p o)).other) r way k.on (dark_doubted packet (pair_at from P O p o));
     })
-    (λ _. k)
+    k
 
 on_quiet : (from : Role) (s r : Phase) (way : List PlainPacket) (P O : Layer) (p o : Port) (packet : PlainPacket) → MayDo s packet r → On from s way P O p o → (sends packet (pair_at from P O p o)).rule ≡ None
 on_quiet from s r way P O p o packet may h = does_quiet (pair_at from P O p o) s r way packet may (record { quiet = refl; stands = h })
@@ -114,13 +153,13 @@ on_shown from s way P O p o packet is h =
     (subst (λ b. Standing from (turned (sends packet (record { from = other from; reaches = b; own = o; other = p; rule = None }))) s (way ++ packet ∷ [])) (and_turned (P.owed == 0) (O.owed == 0))
     (standing_shown (pair_at from P O p o) packet is s way h)))
 
-on_shown_follows : (from : Role) (s : Phase) (way : List PlainPacket) (P O : Layer) (p o : Port) (packet : PlainPacket) → IsOfChannel packet → On from s way P O p o
+on_shown_follows : (from : Role) (s : Phase) (way : List PlainPacket) (P O : Layer) (p o : Port) (packet : PlainPacket) → IsOfChannel packet → at_once O P ≡ true → On from s way P O p o
     → On from s (way ++ packet ∷ []) P O (follows packet (pair_at (other from) O P o p)).other (follows packet (pair_at (other from) O P o p)).own
-on_shown_follows from s way P O p o packet is h =
+on_shown_follows from s way P O p o packet is near h =
     let k = on_shown from s way P O p o packet is h in
-    cond_both (at_once O P && (pair.is_known (pair_at (other from) O P o p) && is_again packet (pair_at (other from) O P o p))) (pair.doubts (pair_at (other from) O P o p)) (sends packet (pair_at (other from) O P o p)) (λ (q : Pair). On from s (way ++ packet ∷ []) P O q.other q.own)
-    (λ _. dark_stands from (pair_at from P O (pair.doubts (pair_at (other from) O P o p)).other (pair.doubts (pair_at (other from) O P o p)).own) (pair_at from P O (sends packet (pair_at (other from) O P o p)).other (sends packet (pair_at (other from) O P o p)).own) s (way ++ packet ∷ []) k (dark_broken true (pair_at (other from) O P o p)))
-    (λ _. k)
+    follows_either packet (pair_at (other from) O P o p) (λ (q : Pair). On from s (way ++ packet ∷ []) P O q.other q.own)
+    (dark_stands from (pair_at from P O (again packet (pair_at (other from) O P o p)).other (again packet (pair_at (other from) O P o p)).own) (pair_at from P O (sends packet (pair_at (other from) O P o p)).other (sends packet (pair_at (other from) O P o p)).own) s (way ++ packet ∷ []) k (again_other packet (pair_at (other from) O P o p) near))
+    k
 
 -- the other end restarts
 on_restarted : (from : Role) (s : Phase) (way : List PlainPacket) (P O P2 O2 : Layer) (p o : Port) (cause diagnostic : ℕ) → at_once P2 O2 ≡ false → On from s way P O p o → On from s (way ++ restart cause diagnostic ∷ []) P2 O2 p port.fresh
@@ -252,7 +291,7 @@ module _ (from : Role) (s : Phase) (way : List PlainPacket) (P O : Layer) (p o :
           none n due e = omega arith
 
   does_still : (r : Phase) (packet : PlainPacket) → MayDo s packet r → are_sure P O ≡ true → nat_lt 0 P.owed ≡ true → Still (follows packet (pair_at from P O p o)).other
-  does_still r packet may k e = subst (λ (q : Pair). Still q.other) (sym (follows_far packet (pair_at from P O p o) (apart_so e))) (still_sent packet (pair_at from P O p o) (apart_so e) (h.sealed k e).still (does_owed (pair_at from P O p o) s r way packet may (h.on k)) (on_quiet from s r way P O p o packet may (h.on k)))
+  does_still r packet may k e = follows_either packet (pair_at from P O p o) (λ (q : Pair). Still q.other) (subst Still (sym (again_apart packet (pair_at from P O p o) (apart_so e))) (h.sealed k e).still) (still_sent packet (pair_at from P O p o) (apart_so e) (h.sealed k e).still (does_owed (pair_at from P O p o) s r way packet may (h.on k)) (on_quiet from s r way P O p o packet may (h.on k)))
 
   does_fits : (r : Phase) (packet : PlainPacket) → MayDo s packet r → IsFollowed (pair_at from P O p o) packet → Fits from r way (at_ready P) O (follows packet (pair_at from P O p o)).own (follows packet (pair_at from P O p o)).other
   does_fits r packet may followed = fits_on r (follows packet (pair_at from P O p o)).own (follows packet (pair_at from P O p o)).other (does_due s r way packet may) (does_still_due s r way packet may) (does_number r packet may) (λ k. (on_follows from s r way P O p o packet may followed (h.on k)).on) (does_still r packet may)
@@ -265,12 +304,21 @@ module _ (from : Role) (s : Phase) (way : List PlainPacket) (P O : Layer) (p o :
   does_lost : (r : Phase) (p2 o2 : Port) → are_sure P O ≡ false → Fits from r way (at_ready P) O p2 o2
   does_lost r p2 o2 e = lost_fits from r way (at_ready P) O p2 o2 (λ e. absurd (both_ways false refl e), refl) h.begun e (h.uncounted e)
 
+  near : layers.runs_early (theirs P O) ≡ false → are_sure P O ≡ true → at_once O P ≡ true
+  near early k = rw (h.owed k, none_owed P.owed (false_from_ne_true (nat_lt 0 P.owed) (λ e. not_sealed early k e))) refl
+    where
+      none_owed : (n : ℕ) → nat_lt 0 n ≡ false → n ≡ 0
+      none_owed n e = zero n (ltb-false 0 n e)
+        where
+          zero : (n : ℕ) → n ≤ 0 → n ≡ 0
+          zero n le = omega arith
+
   shown_fits : layers.runs_early (theirs P O) ≡ false → (packet : PlainPacket) → IsOfChannel packet → Fits from s (way ++ packet ∷ []) P (at_ready O) (follows packet (pair_at (other from) O P o p)).other (follows packet (pair_at (other from) O P o p)).own
-  shown_fits early packet is = fits_theirs (way ++ packet ∷ []) (follows packet (pair_at (other from) O P o p)).other (follows packet (pair_at (other from) O P o p)).own early (conf_more way packet (channel_conf packet is)) (shown_due s way packet is) (shown_number packet is) (λ k. on_shown_follows from s way P O p o packet is (h.on k))
+  shown_fits early packet is = fits_theirs (way ++ packet ∷ []) (follows packet (pair_at (other from) O P o p)).other (follows packet (pair_at (other from) O P o p)).own early (conf_more way packet (channel_conf packet is)) (shown_due s way packet is) (shown_number packet is) (λ k. on_shown_follows from s way P O p o packet is (near early k) (h.on k))
 
   shown_noted : layers.runs_early (theirs P O) ≡ false → (packet : PlainPacket) → IsOfChannel packet → Fits from s (way ++ packet ∷ []) P (at_ready O) (port.noted (follows packet (pair_at (other from) O P o p)).other) (port.noted (follows packet (pair_at (other from) O P o p)).own)
   shown_noted early packet is = fits_theirs (way ++ packet ∷ []) (port.noted (follows packet (pair_at (other from) O P o p)).other) (port.noted (follows packet (pair_at (other from) O P o p)).own) early (conf_more way packet (channel_conf packet is)) (shown_due s way packet is) (shown_number packet is)
-      (λ k. on_noted from s (way ++ packet ∷ []) P O (follows packet (pair_at (other from) O P o p)).other (follows packet (pair_at (other from) O P o p)).own (on_shown_follows from s way P O p o packet is (h.on k)))
+      (λ k. on_noted from s (way ++ packet ∷ []) P O (follows packet (pair_at (other from) O P o p)).other (follows packet (pair_at (other from) O P o p)).own (on_shown_follows from s way P O p o packet is (near early k) (h.on k)))
 
   shown_lost : (way2 : List PlainPacket) (p2 o2 : Port) → are_sure P O ≡ false → Fits from s way2 P (at_ready O) p2 o2
   shown_lost way2 p2 o2 e = lost_fits from s way2 P (at_ready O) p2 o2 h.ready refl e (h.uncounted e)

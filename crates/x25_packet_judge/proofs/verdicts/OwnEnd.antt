@@ -8,7 +8,6 @@ use Rattle.x25_packet_judge.specs.Packets.{speaks, sends_known, is_clearing, sen
 use Rattle.x25_packet_judge.specs.Pair as pair
 use Rattle.x25_packet_judge.specs.Port as port
 use Rattle.x25_packet_judge.specs.Talking as talking
-use Rattle.x25_packet_judge.specs.Book.{other}
 use Rattle.x25_packet_judge.specs.Terms.{said, usual}
 use Rattle.x25_packet_judge.specs.declared.pair.Pair.{Pair}
 use Rattle.x25_packet_judge.specs.Message.{octets_of}
@@ -16,7 +15,7 @@ use Rattle.x25_packet_judge.specs.declared.port.Call.{Call}
 use Rattle.x25_packet_judge.specs.declared.port.Call.TheVariants.{Called, Calling, Collided}
 use Rattle.x25_packet_judge.specs.declared.port.Port.{Port}
 use Rattle.x25_packet_judge.specs.declared.terms.Terms.{Terms}
-use Rattle.x25_packet_judge.specs.laws.Keeping.{Given, Come, nothing_given, nothing_came, Phase, Idles, Calls, WasCalled, Talks, Resets, WasReset, Clears, WasCleared, HasRestarted, WasRestarted, fresh_phase, called_phase, MaySend, MayDo, IsFollowed, AreBegun, next}
+use Rattle.x25_packet_judge.specs.laws.Keeping.{Given, Come, nothing_given, nothing_came, Phase, Idles, Calls, WasCalled, Talks, Resets, WasReset, Clears, WasCleared, HasRestarted, WasRestarted, fresh_phase, called_phase, MaySend, MayDo, IsFollowed, AreBegun}
 use Rattle.x25_packet_judge.proofs.verdicts.Standing.{ahead, ahead_low, tail_of, bit, MayGo, Closing, Behind, Any, Level, Away, Dark, Gone, Stands}
 use Rattle.x25_packet_judge.proofs.verdicts.Saying.{before, awaits_none, enters, Goes, says_unknown, says}
 use Rattle.x25_packet_judge.proofs.verdicts.Callings.{Far, WasAsked, HasNone, Asks, HasCalled, calls_none, accepts_asked, calls_dark, accepts_dark}

@@ -250,7 +250,7 @@ module _ (window most : ℕ) (tail : List PlainPacket) (B : Behinds) (t : Pair) 
         });
       }
 
-  pub asked : c.confirmed ≡ g.interrupts → Level window most tail t.reaches t.own t.other g a ⊎ Away window most tail B t.reaches t.own t.other g a → Goes window most tail B (talking.interrupts t) (record g { interrupts = g.interrupts + 1 }) a
+  pub asked : g.interrupts ≤ c.confirmed → Level window most tail t.reaches t.own t.other g a ⊎ Away window most tail B t.reaches t.own t.other g a → Goes window most tail B (talking.interrupts t) (record g { interrupts = g.interrupts + 1 }) a
   asked none stands = cond_both t.own.talk.is_interrupting _ _ (λ (v : Pair). Goes window most tail B v (record g { interrupts = g.interrupts + 1 }) a)
       (λ out. absurd (never (own stands).interrupts out low.confirmed))
       (λ _. record { quiet = quiet; stands = go stands })
@@ -259,7 +259,7 @@ module _ (window most : ℕ) (tail : List PlainPacket) (B : Behinds) (t : Pair) 
       own (inl l) = l.own
       own (inr w) = w.own
 
-      over : (x y i : ℕ) → x ≡ i → 1 + y ≤ i → x ≤ y → ⊥
+      over : (x y i : ℕ) → i ≤ x → 1 + y ≤ i → x ≤ y → ⊥
       over x y i e le k = omega arith
 
       never : bit t.own.talk.is_interrupting + a.confirmed ≤ g.interrupts → t.own.talk.is_interrupting ≡ true → c.confirmed ≤ a.confirmed → ⊥

@@ -266,10 +266,13 @@ module _ (window most : ℕ) (t : Pair) (g : Given) (c : Come) (e : Even window 
         asked = e.asked;
       }
 
-      both : (talking.interrupts (going t)).rule ≡ None → (c.confirmed ≡ g.interrupts) × Even window most (talking.interrupts (going t)).reaches (talking.interrupts (going t)).own (talking.interrupts (going t)).other (record g { interrupts = g.interrupts + 1 }) c
-      both = cond_both t.own.talk.is_interrupting _ _ (λ (v : Pair). v.rule ≡ None → (c.confirmed ≡ g.interrupts) × Even window most v.reaches v.own v.other (record g { interrupts = g.interrupts + 1 }) c)
+      no_less : (x i : ℕ) → x ≡ i → i ≤ x
+      no_less x i same = omega arith
+
+      both : (talking.interrupts (going t)).rule ≡ None → (g.interrupts ≤ c.confirmed) × Even window most (talking.interrupts (going t)).reaches (talking.interrupts (going t)).own (talking.interrupts (going t)).other (record g { interrupts = g.interrupts + 1 }) c
+      both = cond_both t.own.talk.is_interrupting _ _ (λ (v : Pair). v.rule ≡ None → (g.interrupts ≤ c.confirmed) × Even window most v.reaches v.own v.other (record g { interrupts = g.interrupts + 1 }) c)
           (λ _ none. told_none _ (both_none t.rule _ none).1)
-          (λ idle _. (asks idle, goes idle))
+          (λ idle _. (no_less c.confirmed g.interrupts (asks idle), goes idle))
 
       go : (talking.interrupts (going t)).rule ≡ None → sends (interrupt channel user) t ≡ talking.interrupts (going t) → Kept window most t g c (interrupt channel user)
       go none is = record {

@@ -277,7 +277,7 @@ module _ (shut : Bool) (v : Pair) (known : v.other.is_known ≡ true) (others_kn
   pub closed_shown : (packet : PlainPacket) → IsOfChannel packet → Dark shut (sends packet v).other
   unfolding sends_known is_clearing
   closed_shown (clear channel cause diagnostic) is =
-      subst (λ (x : Pair). Dark shut x.other) (sym (closed_clearing (clear channel cause diagnostic) refl ∙ cond-true (pair.is_awaiting v) (pair.clears_unknown (pair.unknown v)) _ closed_awaits))
+      subst (λ (x : Pair). Dark shut x.other) (sym (closed_clearing (clear channel cause diagnostic) refl ∙ cond-true (pair.is_awaiting v) (pair.awaits_two (pair.clears_unknown (pair.unknown v))) _ closed_awaits))
       (cond_both v.reaches _ _ (λ (x : Pair). Dark shut x.other)
       (λ _. record { known = refl; clearing = refl; call = and_right (shut || false) _ (and_right (not v.other.is_doubtful) _ (more_not v.other.owed)) })
       (λ _. record { known = refl; clearing = refl; call = and_right (shut || false) _ (and_right (not v.other.is_doubtful) _ (ap (λ n. n == 0) once)) }))

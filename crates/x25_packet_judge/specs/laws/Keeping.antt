@@ -100,7 +100,7 @@ MaySend window most g c (user_data channel q m ps pr user) h =
 MaySend window most g c (rr channel pr) h = (t : ℕ) × MayAcknowledge g c pr t × (h ≡ record g { told = t })
 MaySend window most g c (rnr channel pr) h = (t : ℕ) × MayAcknowledge g c pr t × (h ≡ record g { told = t })
 MaySend window most g c (interrupt channel user) h =
-    (c.confirmed ≡ g.interrupts) × (h ≡ record g { interrupts = g.interrupts + 1 })
+    (g.interrupts ≤ c.confirmed) × (h ≡ record g { interrupts = g.interrupts + 1 })
 MaySend window most g c (interrupt_conf channel) h =
     (g.answered < c.asked) × (h ≡ record g { answered = g.answered + 1 })
 MaySend window most g c packet h = ⊥

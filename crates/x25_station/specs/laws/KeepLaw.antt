@@ -5,8 +5,10 @@ use Rattle.x25_link.specs.Outgoing.{waits}
 use Rattle.x25_link.specs.Station.{is_up}
 use Rattle.x25_layer.specs.Layer.{rested}
 use Rattle.x25_layer.specs.Calls.{LayerRequest}
+use Rattle.x25_given.specs.Given.{PlainGiven}
 use Rattle.x25_station.specs.Config.{Settings}
 use Rattle.x25_station.specs.Command.{Command}
+use Rattle.x25_station.specs.Giving.{gives}
 use Rattle.x25_station.specs.Station.{Station}
 use Rattle.x25_station.specs.Step.{Outcome, Did, Refused, connects, fires, receives, requests, commands}
 
@@ -30,6 +32,10 @@ RequestKeeps = (c : Settings) (s : Station) (request : LayerRequest) → IsKept 
 
 abbrev pub CommandKeeps : Type 0
 CommandKeeps = (c : Settings) (s : Station) (command : Command) → IsKept s → KeptBy (commands c s command)
+
+abbrev pub GivenKeeps : Type 0
+GivenKeeps = (c : Settings) (s : Station) (g : PlainGiven) (request : LayerRequest) → IsKept s
+    → KeptBy (gives c s g request)
 
 abbrev pub ReceiveKeeps : Type 0
 ReceiveKeeps = (c : Settings) (s : Station) (octets : List ℕ) → IsKept s → IsKept (receives c s octets).near

@@ -1,4 +1,5 @@
 use Rattle.x25_station.proofs.KeepLemmas.{LinkLaws, connect_kept, timer_kept, request_kept, command_kept, receive_kept}
+use Rattle.x25_station.proofs.GivingLemmas.{given_kept}
 use Rattle.x25_station.proofs.law.steps_keep_bounds.Goals as goal
 
 known : goal.After-notes_what_changes → LinkLaws
@@ -16,4 +17,4 @@ known c = record {
 }
 
 pub returns : goal.returns
-returns c = record { connect = connect_kept (known c); timer = timer_kept (known c); request = request_kept (known c).put; command = command_kept (known c); receive = receive_kept (known c) }
+returns c = record { connect = connect_kept (known c); timer = timer_kept (known c); request = request_kept (known c).put; command = command_kept (known c); given = given_kept (known c).put; receive = receive_kept (known c) }

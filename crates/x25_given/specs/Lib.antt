@@ -1,0 +1,5 @@
+pub mod Given
+pub mod Writing
+pub mod Through
+pub mod Asking
+pub mod laws

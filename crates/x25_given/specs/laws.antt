@@ -1,0 +1,2 @@
+pub mod ReadingLaw
+pub mod ThroughLaws

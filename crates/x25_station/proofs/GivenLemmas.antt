@@ -1,0 +1,55 @@
+-- What is given beside a packet the user of the other end is told.
+use Rattle.std.proofs.Common.{ℕ, ◌≡◌, ◌≢◌, ◌∙◌, List, ◌++◌, Some, Result, Ok, Err, true, false, inl, refl, sym, ap, arith}
+use Rattle.x25_packet.specs.Packet as packet
+use Rattle.x25_packet.specs.Packet.{PlainPacket}
+use Rattle.x25_packet.specs.Reading.{packet_of}
+use Rattle.x25_packet.specs.Spelling.{IsInRange, spelling_of}
+use Rattle.x25_packet.specs.declared.error.PacketError.{PacketError}
+use Rattle.x25_packet.specs.laws.ReadingLaw.{ReadsWhatIsSpelled}
+use Rattle.x25_wide.specs.Narrowing.{taken_of}
+use Rattle.x25_wide.specs.Packet as wide
+use Rattle.x25_wide.specs.Packet.{PlainWide}
+use Rattle.x25_wide.specs.Reading.{wide_of}
+use Rattle.x25_wide.specs.Taking.{or_taken}
+use Rattle.x25_given.specs.Given.{PlainGiven, may_give}
+use Rattle.x25_given.specs.Writing.{bare_block, call_block, fields, form_of, headed, written, written_read}
+use Rattle.x25_given.specs.laws.ReadingLaw.{MayGo, WrittenIsInForm, WrittenIsRead}
+use Rattle.x25_station.specs.Beside.{beside_in, beside_kind, beside_or_none, unless_written}
+use Rattle.x25_station.specs.laws.GivenLaw.{GivenIsTold, GivenIsWritten}
+use Rattle.x25_station.specs.laws.ReadLaw.{AreOctets}
+
+pub given_written : ReadsWhatIsSpelled → GivenIsWritten
+given_written reads g v range octets = ap (written_read g (spelling_of v)) ((reads 128 v (spelling_of v) octets).1 (record { in_range = range; spelling = refl }))
+
+ok_same : (u v : PlainPacket) → (let r : Result PlainPacket PacketError = Ok u in r ≡ Ok v) → u ≡ v
+ok_same u v e = cc
+
+-- octets that are no packet in the form that a station writes
+told_by : (o : List ℕ) (w : PlainWide) (r : Result PlainPacket PacketError) → packet_of 128 o ≡ r → ((u : PlainPacket) → packet_of 128 o ≡ Ok u → ⊥) → wide_of 128 o ≡ Ok w → unless_written r (beside_or_none (wide_of 128 o)) ≡ beside_kind w.kind
+told_by o w (Ok u) is none form = absurd (none u is)
+told_by o w (Err e) is none form = ap beside_or_none form
+
+told_as : ReadsWhatIsSpelled → WrittenIsRead → WrittenIsInForm → (g : PlainGiven) (v : PlainPacket) (w : PlainWide) → may_give g ≡ true → IsInRange 128 v → MayGo 128 g v → AreOctets (written g v) → written g v ≢ spelling_of v
+    → form_of g v ≡ Some w → beside_in true (written g v) ≡ beside_kind w.kind
+told_as reads read form g v w allowed range may octets other is = told_by (written g v) w (packet_of 128 (written g v)) refl none (form g 128 v w (omega arith) allowed range may is)
+  where
+    none : (u : PlainPacket) → packet_of 128 (written g v) ≡ Ok u → ⊥
+    none u found =
+        let taken = sym (ap (λ (r : Result PlainPacket PacketError). or_taken r (taken_of (wide_of 128 (written g v)))) found) ∙ read g 128 v (omega arith) allowed range may octets in
+        let same : u ≡ v = ok_same u v taken in
+        other (((reads 128 u (written g v) octets).0 found).spelling ∙ ap spelling_of same)
+
+pub given_told : ReadsWhatIsSpelled → WrittenIsRead → WrittenIsInForm → GivenIsTold
+given_told reads read form g (packet.call channel called calling field user) allowed range octets other = told_as reads read form g (packet.call channel called calling field user) (headed channel g.d (wide.call (call_block called calling (fields (field ++ g.facilities) user)))) allowed range (inl range.4) octets other refl
+given_told reads read form g (packet.accept channel field) allowed range octets other = told_as reads read form g (packet.accept channel field) (headed channel g.d (wide.accept (Some (bare_block (fields (field ++ g.facilities) g.user))))) allowed range tt octets other refl
+given_told reads read form g (packet.clear channel cause diagnostic) allowed range octets other = told_as reads read form g (packet.clear channel cause diagnostic) (headed channel false (wide.extended_clear cause diagnostic (bare_block (fields g.facilities g.user)))) allowed range tt octets other refl
+given_told reads read form g (packet.clear_conf channel) allowed range octets other = absurd (other refl)
+given_told reads read form g (packet.user_data channel q m ps pr user) allowed range octets other = absurd (other refl)
+given_told reads read form g (packet.rr channel pr) allowed range octets other = absurd (other refl)
+given_told reads read form g (packet.rnr channel pr) allowed range octets other = absurd (other refl)
+given_told reads read form g (packet.interrupt channel user) allowed range octets other = absurd (other refl)
+given_told reads read form g (packet.interrupt_conf channel) allowed range octets other = absurd (other refl)
+given_told reads read form g (packet.reset channel cause diagnostic) allowed range octets other = absurd (other refl)
+given_told reads read form g (packet.reset_conf channel) allowed range octets other = absurd (other refl)
+given_told reads read form g (packet.restart cause diagnostic) allowed range octets other = absurd (other refl)
+given_told reads read form g packet.restart_conf allowed range octets other = absurd (other refl)

@@ -1,0 +1,281 @@
+//! What the user asks of a call with something that he gives beside its packet.
+ghost use Rattle.std.specs.Prelude.{◌≡◌, ◌&&◌, ℕ, false};
+ghost use Rattle.x25_circuit.specs.Calling.{Accepts};
+ghost use Rattle.x25_circuit.specs.Params.{in_brief};
+ghost use Rattle.x25_circuit.specs.Request.{plain_request};
+ghost use Rattle.x25_given.specs.Given.{may_give, plain_given};
+ghost use Rattle.x25_layer.specs.Calls.{Asks, Dials};
+ghost use Rattle.x25_station.specs.Command.{answer_in_brief};
+ghost use Rattle.x25_station.specs.code.Clock.{TellsTimer};
+ghost use Rattle.x25_station.specs.code.FitsStation.{FitsStation, Does, IsEmpty};
+ghost use Rattle.x25_station.specs.Config.{Settings};
+ghost use Rattle.x25_station.specs.Giving.{gives, gives_said, request_of, suits};
+ghost use Rattle.x25_station.specs.Station.{Station as State};
+
+use crate::asking::{as_shown, asked_call, asked_of};
+use crate::entering::enter;
+use crate::entry::{Asked, Said};
+use crate::error::StationError;
+use crate::law::steps_keep_bounds;
+use crate::station::Station;
+use crate::step::Step;
+use x25_bits::Role;
+use x25_circuit::{CircuitError, Proposal, Request};
+use x25_frame::N1;
+use x25_given::{Given, Writing, ask_through, call_through};
+use x25_layer::{LayerError, Params};
+use x25_link::{Link, holds_few};
+
+/// What may not be given so.
+const NOT_TAKEN: StationError = StationError::Layer(LayerError::Circuit(
+    CircuitError::BadParameter,
+));
+
+/// What the user of a station asks of a call whose packet has facilities and user data.
+#[derive(Clone, Copy, Debug)]
+pub enum CallCmd<'a> {
+    /// As `Cmd::Call`.
+    Call {
+        called: &'a str,
+        calling: &'a str,
+        user: &'a [u8],
+        params: Option<Params>,
+    },
+    /// As `Cmd::Accept`.
+    Accept {
+        channel: u16,
+        params: Option<Params>,
+    },
+    /// As `Cmd::Clear`.
+    Clear {
+        channel: u16,
+        cause: u8,
+        diagnostic: u8,
+    },
+}
+
+// Whether this may be given beside what is asked: user data of a CALL stands in the command, and CLEAR has no D.
+fn suits(given: &Given<'_>, request: &Request<'_>) -> bool
+    ensures { (h : ℕ) → result ≡ suits (plain_given given.now) (Asks h (plain_request request.now)) }
+{
+    match request {
+        Request::Accept { .. } => true,
+        Request::Clear { .. } => !given.d,
+        _ => false,
+    }
+}
+
+impl Station {
+    /// Does what the user asks of a call, with what is given beside its packet: facilities, which go behind those that
+    /// the station writes itself, user data of an acceptance or a clearing, and the D bit of a call or an acceptance.
+    ///
+    /// Refused as `command` refuses it without; then with 34 where `Cfg::wide` isn't set, where that isn't allowed
+    /// (`Given::is_allowed`), where user data is given beside a call, which has its own, and where D is beside a
+    /// clearing. Else 70 alone, and 70 may come in place of each. The station is as before then.
+    pub fn give(
+        &mut self,
+        given: Given<'_>,
+        command: CallCmd<'_>,
+        out: &mut Step,
+    ) -> Result<(), StationError>
+        ensures does { Does self.old self.new out.new result
+            (λ c s. gives_said c s (plain_given given.entry) (request_of command.entry)) }
+        ensures timer { TellsTimer self.old out.new.timer result false
+            (λ c s. gives_said c s (plain_given given.entry) (request_of command.entry)) }
+    {
+        self.empty(out);
+        let before = self.clock();
+        let answer = self.give_all(&given, &command, out);
+        out.timer = self.timer_behind(before, false, out.entries.as_slice());
+        answer
+    }
+
+    // The same, into a step that is empty.
+    fn give_all(
+        &mut self,
+        given: &Given<'_>,
+        command: &CallCmd<'_>,
+        out: &mut Step,
+    ) -> Result<(), StationError>
+        requires { IsEmpty out.old }
+        ensures { Does self.old self.new out.new result
+            (λ c s. gives_said c s (plain_given given.now) (request_of command.now)) }
+    {
+        match command {
+            CallCmd::Call {
+                called,
+                calling,
+                user,
+                params,
+            } => {
+                let params = params.unwrap_or(Params::default());
+                self.call_given(given, called, calling, user, params, out)
+            }
+            CallCmd::Accept { channel, params } => {
+                self.accept_given(given, *channel, *params, out)
+            }
+            CallCmd::Clear {
+                channel,
+                cause,
+                diagnostic,
+            } => self.ask_given(
+                given,
+                *channel,
+                Request::Clear {
+                    cause: *cause,
+                    diagnostic: *diagnostic,
+                },
+                out,
+            ),
+        }
+    }
+
+    // A call, with these packet sizes and windows.
+    fn call_given(
+        &mut self,
+        given: &Given<'_>,
+        called: &str,
+        calling: &str,
+        user: &[u8],
+        params: Params,
+        out: &mut Step,
+    ) -> Result<(), StationError>
+        requires { IsEmpty out.old }
+        ensures { Does self.old self.new out.new result (λ c s. gives_said c s (plain_given given.now)
+            (Dials called.now calling.now user.now (in_brief params))) }
+    {
+        let proposal = self.proposal(params);
+        self.dial_given(given, called, calling, user, &proposal, out)
+    }
+
+    // An acceptance, with packet sizes and windows of its own, or with those proposed.
+    fn accept_given(
+        &mut self,
+        given: &Given<'_>,
+        channel: u16,
+        params: Option<Params>,
+        out: &mut Step,
+    ) -> Result<(), StationError>
+        requires { IsEmpty out.old }
+        ensures { Does self.old self.new out.new result (λ c s. gives_said c s (plain_given given.now)
+            (Asks channel (Accepts (answer_in_brief params)))) }
+    {
+        match self.answer(channel, params) {
+            Some(answer) => self.ask_given(
+                given,
+                channel,
+                Request::Accept {
+                    answer: Some(&answer),
+                },
+                out,
+            ),
+            None => self.ask_given(given, channel, Request::Accept { answer: None }, out),
+        }
+    }
+
+    // Whether what is given is taken, where it suits what is asked.
+    fn takes(&self, given: &Given<'_>, suits: bool) -> bool
+        ensures { result ≡ (self.now.manner.wide && (may_give (plain_given given.now) && suits)) }
+    {
+        self.manner.wide && (given.is_allowed() && suits)
+    }
+
+    // A call, on a channel that is free.
+    fn dial_given(
+        &mut self,
+        given: &Given<'_>,
+        called: &str,
+        calling: &str,
+        user: &[u8],
+        proposal: &Proposal,
+        out: &mut Step,
+    ) -> Result<(), StationError>
+        requires { IsEmpty out.old }
+        ensures { Does self.old self.new out.new result
+            (λ c s. gives c s (plain_given given.now) (Dials called.now calling.now user.now proposal.now)) }
+    {
+        steps_keep_bounds();
+        holds_few();
+        if let Some(error) = self
+            .layer
+            .call_refusal(&self.link, called, calling, user, proposal)
+        {
+            return Err(StationError::of_layer(error));
+        }
+        if !self.takes(given, given.user.is_empty()) {
+            return Err(NOT_TAKEN);
+        }
+        let Ok(blank) = Link::new(self.alloc, Role::Dte, 1, N1, 1) else {
+            return Err(StationError::NoMemory);
+        };
+        let Ok(form) = Writing::new(self.alloc, *given) else {
+            return Err(StationError::NoMemory);
+        };
+        let asked = asked_call(self.alloc, called, calling, user, proposal.params())?;
+        out.reserve()?;
+        match call_through(
+            &mut self.layer,
+            &mut self.link,
+            blank,
+            form,
+            called,
+            calling,
+            user,
+            proposal,
+        ) {
+            Ok(channel) => {
+                enter(&self.layer, &mut out.entries, channel, Said::Asked(asked));
+                self.link.swap_frames(&mut out.frames);
+                Ok(())
+            }
+            Err(error) => Err(StationError::of_layer(error)),
+        }
+    }
+
+    // What is asked of the circuit of a channel.
+    fn ask_given(
+        &mut self,
+        given: &Given<'_>,
+        channel: u16,
+        request: Request<'_>,
+        out: &mut Step,
+    ) -> Result<(), StationError>
+        requires { IsEmpty out.old }
+        ensures { Does self.old self.new out.new result
+            (λ c s. gives c s (plain_given given.now) (Asks channel (plain_request request.entry))) }
+    {
+        steps_keep_bounds();
+        holds_few();
+        let judged = request;
+        if let Some(error) = self.layer.refusal(&self.link, channel, &judged) {
+            return Err(StationError::of_layer(error));
+        }
+        if !self.takes(given, suits(given, &judged)) {
+            return Err(NOT_TAKEN);
+        }
+        let Ok(blank) = Link::new(self.alloc, Role::Dte, 1, N1, 1) else {
+            return Err(StationError::NoMemory);
+        };
+        let Ok(form) = Writing::new(self.alloc, *given) else {
+            return Err(StationError::NoMemory);
+        };
+        out.reserve()?;
+        let asked = asked_of(self.alloc, &mut self.messages, &request)?;
+        match ask_through(
+            &mut self.layer,
+            &mut self.link,
+            blank,
+            form,
+            channel,
+            request,
+        ) {
+            Ok(()) => {
+                let asked = as_shown(&self.layer, channel, asked);
+                enter(&self.layer, &mut out.entries, channel, Said::Asked(asked));
+                self.link.swap_frames(&mut out.frames);
+                Ok(())
+            }
+            Err(error) => Err(StationError::of_layer(error)),
+        }
+    }
+}

@@ -1,0 +1,211 @@
+//! What is given beside a call, its acceptance and its clearing: the packet that goes, and each refusal.
+
+use crate::calls::{connect, give, receive, station};
+use crate::steps::{CALLS, DCE_RESTARTS, DTE_RESTARTS, RR_1, SABM, SETTINGS, UA};
+use std::alloc::Global;
+use x25_layer::Params;
+use x25_station::{CallCmd, Cfg, Given, Role, Station, StationError, Step};
+
+const WIDE: Cfg = Cfg {
+    wide: true,
+    ..SETTINGS
+};
+
+/// Facilities, user data and D that are given beside what is asked, and what that brings: the number of a refusal or 0,
+/// and the octets of the packet.
+type Row = (
+    &'static [u8],
+    &'static [u8],
+    bool,
+    CallCmd<'static>,
+    u8,
+    &'static [u8],
+);
+
+const CALL: CallCmd<'static> = CallCmd::Call {
+    called: "1",
+    calling: "2",
+    user: &[0x68, 0x69],
+    params: None,
+};
+
+/// Packets of 256 octets, and the windows that stand without a facility.
+const SAYS_SIZES: CallCmd<'static> = CallCmd::Call {
+    called: "123",
+    calling: "",
+    user: &[],
+    params: Some(Params {
+        size_called: 8,
+        size_calling: 8,
+        win_called: 2,
+        win_calling: 2,
+    }),
+};
+
+const ACCEPT: CallCmd<'static> = CallCmd::Accept {
+    channel: 1,
+    params: None,
+};
+
+const CLEAR: CallCmd<'static> = CallCmd::Clear {
+    channel: 1,
+    cause: 0,
+    diagnostic: 0,
+};
+
+const CLEAR_2: CallCmd<'static> = CallCmd::Clear {
+    channel: 2,
+    cause: 0,
+    diagnostic: 0,
+};
+
+const BEHIND_A_MARKER: &[u8] = &[0x01, 0x01, 0x00, 0xFF, 0x42, 0x07, 0x07];
+
+// Packets, by ITU-T X.25 (10/96), sections 5.2.1 to 5.2.3.
+
+const SIZES_AND_FAST_SELECT: &[u8] = &[
+    0x10, 0x01, 0x0B, 0x03, 0x12, 0x30, 0x05, 0x42, 0x08, 0x08, 0x01, 0x80,
+];
+
+const CALLED_WITH_D: &[u8] = &[
+    0x50, 0x01, 0x0B, 0x11, 0x12, 0x07, 0x01, 0x01, 0x00, 0xFF, 0x42, 0x07, 0x07, 0x68, 0x69,
+];
+
+const ACCEPTED_WITH_ALL: &[u8] = &[0x50, 0x01, 0x0F, 0x00, 0x03, 0xC9, 0x01, 0xAA, 0x4F, 0x4B];
+
+const CLEARED_WITH_DATA: &[u8] = &[0x10, 0x01, 0x13, 0x00, 0x00, 0x00, 0x00, 0x01, 0x02];
+
+const CLEARED_AT_LENGTH: &[u8] = &[0x10, 0x01, 0x13, 0x00, 0x00, 0x00, 0x00];
+
+// Reverse charging, 52 times, is one facility too many.
+const FIFTY_TWO: &[u8] = &[0x01; 104];
+
+const LONG: &[u8] = &[0x55; 129];
+
+// A DTE whose link is up: refusals, each of which leaves it as it was, a call, and its clearing.
+static DTE: [Row; 13] = [
+    (&[0x01], &[], false, CALL, 34, &[]),
+    (&[0xC9, 0x02, 0xAA], &[], false, CALL, 34, &[]),
+    (FIFTY_TWO, &[], false, CALL, 34, &[]),
+    (&[0x42, 0x07, 0x07], &[], false, CALL, 34, &[]),
+    (&[0x01, 0x01, 0x43, 0x02, 0x02], &[], false, CALL, 34, &[]),
+    (&[], &[0x68], false, CALL, 34, &[]),
+    (&[], LONG, false, CALL, 34, &[]),
+    (&[], &[], false, CLEAR_2, 42, &[]),
+    (&[0x01], &[], false, ACCEPT, 30, &[]),
+    (
+        &[0x01, 0x80],
+        &[],
+        false,
+        SAYS_SIZES,
+        0,
+        SIZES_AND_FAST_SELECT,
+    ),
+    (&[], &[], false, CALL, 41, &[]),
+    (&[], &[], true, CLEAR, 34, &[]),
+    (&[], &[0x01, 0x02], false, CLEAR, 0, CLEARED_WITH_DATA),
+];
+
+// A DCE that is called.
+static DCE: [Row; 2] = [
+    (
+        &[0xC9, 0x01, 0xAA],
+        &[0x4F, 0x4B],
+        true,
+        ACCEPT,
+        0,
+        ACCEPTED_WITH_ALL,
+    ),
+    (&[], &[], false, CLEAR, 0, CLEARED_AT_LENGTH),
+];
+
+// A DTE that calls with D, and with packet sizes that a marker says are another's.
+static CALLS_WITH_D: [Row; 1] = [(BEHIND_A_MARKER, &[], true, CALL, 0, CALLED_WITH_D)];
+
+// A station that doesn't read packets in all their forms.
+static NARROW: [Row; 2] = [
+    (&[], &[], false, CALL, 34, &[]),
+    (&[], &[], false, CLEAR_2, 42, &[]),
+];
+
+fn number(answer: Result<(), StationError>) -> u8 {
+    match answer {
+        Ok(()) => 0,
+        Err(error) => error.number(),
+    }
+}
+
+// Whether the first frame of a step carries this packet; none where nothing is to be sent.
+fn carries(step: &Step, packet: &[u8]) -> bool {
+    match step.frames.first() {
+        None => packet.is_empty(),
+        Some(frame) => frame.get(2..packet.len() + 2) == Some(packet)
+            && frame.len() == packet.len() + 4,
+    }
+}
+
+// The first row that brings something else.
+fn odd_row(station: &mut Station, out: &mut Step, rows: &[Row]) -> Option<usize> {
+    for (row, &(facilities, user, d, command, refusal, packet)) in rows.iter().enumerate() {
+        let given = Given {
+            facilities,
+            user,
+            d,
+        };
+        if number(give(station, given, command, out)) != refusal || !carries(out, packet) {
+            return Some(row);
+        }
+    }
+    None
+}
+
+fn odd_row_of(
+    alloc: Global,
+    role: Role,
+    cfg: Cfg,
+    come: &[&'static [u8]],
+    rows: &[Row],
+) -> Result<Option<usize>, StationError> {
+    let mut station = station(alloc, role, cfg)?;
+    let mut out = Step::new(alloc);
+    if role == Role::Dte {
+        connect(&mut station, &mut out)?;
+    }
+    for octets in come {
+        receive(&mut station, octets, &mut out)?;
+    }
+    Ok(odd_row(&mut station, &mut out, rows))
+}
+
+#[test]
+fn a_dte_gives_facilities_and_user_data(rt: HostRuntime) {
+    let up = [UA, DCE_RESTARTS, RR_1];
+    let odd = odd_row_of(rt.alloc(), Role::Dte, WIDE, &up, DTE.as_slice());
+    assert_eq!(rt; odd, Ok(None));
+    let odd = odd_row_of(rt.alloc(), Role::Dte, WIDE, &up, CALLS_WITH_D.as_slice());
+    assert_eq!(rt; odd, Ok(None));
+}
+
+#[test]
+fn a_dce_gives_facilities_and_user_data(rt: HostRuntime) {
+    let odd = odd_row_of(
+        rt.alloc(),
+        Role::Dce,
+        WIDE,
+        &[SABM, DTE_RESTARTS, CALLS],
+        DCE.as_slice(),
+    );
+    assert_eq!(rt; odd, Ok(None));
+}
+
+#[test]
+fn without_wide_nothing_is_given(rt: HostRuntime) {
+    let odd = odd_row_of(
+        rt.alloc(),
+        Role::Dte,
+        SETTINGS,
+        &[UA, DCE_RESTARTS, RR_1],
+        NARROW.as_slice(),
+    );
+    assert_eq!(rt; odd, Ok(None));
+}
