@@ -2,11 +2,11 @@
 
     silent_runs.py [--program PROGRAM] [--from SEED] [RUNS]
 
-Either end is `x25 station`, with the timers of the bridge (T1, T3, T20 to T23) in time that is counted, not waited for. Of one end some kinds
-of answers never reach the packet layer of the other: in their frames stands RR on a channel that isn't there. The line loses frames besides.
-Whatever is left out, no answer may be awaited at the other end for longer than the times of a call, a clearing, a restart and a set-up add up
-to, and no timer may run without end. At the mark of the station stands `due` where the bridge awaits an answer, and only there. At the end all
-answers come again: a call has to be connected and cleared within the same time.
+Either end is `x25 station --clock`, in time that is counted, not waited for. Of one end some kinds of answers never reach the packet layer of
+the other: in their frames stands RR on a channel that isn't there. The line loses frames besides. Whatever is left out, no answer may be
+awaited at the other end for longer than the times of a call, a clearing, a restart and a set-up add up to, and no timer may run without end.
+At the mark of the station stands `due` where it awaits an answer, and only there. At the end all answers come again: a call has to be
+connected and cleared within the same time.
 
 Exit status: 0; 1 where a run fails, with its seed; 2 for bad words, or where there is no program.
 """
@@ -22,7 +22,6 @@ from runs import ACCEPTED, CLEAR, CLEAR_CONFIRMATION, RESET_CONFIRMATION, RESTAR
 
 from x25tools import piped  # where runs finds it
 from x25tools.circuits import Circuits
-from x25tools.overdue import Overdue
 from x25tools.x25lines import BadInput, fcs, is_sealed
 
 ENDS = ("dte", "dce")
@@ -31,12 +30,12 @@ DIRECTION = {"dte": ">", "dce": "<"}
 KINDS = (ACCEPTED, CLEAR, CLEAR_CONFIRMATION, RESET_CONFIRMATION, RESTART_CONFIRMATION)
 CALLS = {end: f"{end} call 12 34 -" for end in ENDS}
 CHANNELS, N2 = 3, 4
-T1, T3, LATENCY = 1.0, 7.0, 0.1
-# T20 to T23.
-TIMES = (20.0, 31.0, 24.0, 17.0)
+# All times are in milliseconds.
+LATENCY = 100
+TIMES = {"t1": 1000, "t3": 7000, "t20": 20_000, "t21": 31_000, "t22": 24_000, "t23": 17_000}
 # A chain: a call, its clearing, a restart, and a link that is set up, or isn't; what is lost is sent again by T1.
-BOUND = sum(TIMES) + 3 * (N2 + 1) * T1
-LASTS, LOSS = 600.0, 0.1
+BOUND = sum(TIMES[name] for name in ("t20", "t21", "t22", "t23")) + 3 * (N2 + 1) * TIMES["t1"]
+LASTS, LOSS = 600_000, 0.1
 # RR on a channel that the stations don't have.
 NOTHING = bytes([0x10, 0xFF, 0x01])
 
@@ -52,47 +51,55 @@ class Station(piped.Station):
 
 
 class End:
-    """A station, its timers, and since when it awaits what."""
+    """A station, when something is due of its timers, and since when it awaits what."""
 
-    def __init__(self, program, end):
-        self.name, self.circuits, self.overdue = end, Circuits(), Overdue(end, TIMES)
-        self.station = Station(program, end, ["--channels", str(CHANNELS), "--n2", str(N2)])
-        self.t1, self.last_came, self.since, self.entries = None, 0.0, {}, []
+    def __init__(self, program, end, times, n2):
+        self.name, self.circuits = end, Circuits()
+        words = [word for name, time in times.items() for word in (f"--{name}", str(time))]
+        self.station = Station(program, end, ["--channels", str(CHANNELS), "--n2", str(n2), "--clock", *words])
+        self.due, self.since, self.entries = None, {}, []
 
 
 class Run:
     """Two ends and the line between them. What `deaf` names doesn't come from the other end's packet layer."""
 
+    TIMES, N2, ACCEPTS = TIMES, N2, 0.9
+
     def __init__(self, program, seed):
         self.chance = random.Random(seed)
-        self.now, self.count, self.frames = 0.0, itertools.count(), 0
+        self.now, self.count, self.frames = 0, itertools.count(), 0
         self.deaf = self.chance.choice(ENDS)
-        self.kinds = set(self.chance.sample(KINDS, self.chance.choice([1, 1, 2, len(KINDS)])))
+        self.kinds = set(self.chance.sample(KINDS, self.chance.choice([0, 1, 1, 2, len(KINDS)])))
         self.loss = self.chance.choice([0, LOSS])
-        self.ends = {end: End(program, end) for end in ENDS}
+        self.ends = {end: End(program, end, self.TIMES, self.N2) for end in ENDS}
         self.line = []
 
     def ask(self, end, event):
-        """Asks a station; its frames go on the line, and its timers are set."""
-        answer = end.station.ask(event)
-        for notice in answer.notices:
-            end.entries.append(notice)
+        """Asks a station, behind what is due; answers its refusal."""
+        if end.due is not None and end.due <= self.now:
+            self.heed(end, end.station.ask(f"@ {self.now}"), "the time")
+        answer = end.station.ask(event, self.now)
+        self.heed(end, answer, event)
+        return answer.refusal
+
+    def heed(self, end, answer, event):
+        """The frames of an answer go on the line; what is awaited behind it is kept."""
         is_anew = False
         for notice in answer.notices:
+            end.entries.append(notice)
             word, channel = end.circuits.heed(notice)
             is_anew = is_anew or word.startswith("link")
-            if word == "incoming" and self.chance.random() < 0.9:
+            if word == "incoming" and self.chance.random() < self.ACCEPTS:
                 self.push(end, f"{end.name} accept {channel}")
         awaited = end.circuits.awaited()
-        end.overdue.heed(self.now, awaited, is_anew)
         end.since = {channel: self.now if is_anew else end.since.get(channel, self.now) for channel in awaited}
         for frame in answer.frames:
             self.sends(end, frame.octets)
-        if answer.t1 != "on":
-            end.t1 = self.now + T1 if answer.t1 == "start" else None
+        end.due = answer.due
+        if end.due is not None and end.due <= self.now:
+            raise Failed(f"{end.name}: something is due at {end.due} still, behind {event} at {self.now}")
         if end.station.work != "busy" and (end.station.work == "due") != bool(awaited):
             raise Failed(f"{end.name}: the mark says {end.station.work}, and awaited is {awaited}, behind {event}")
-        return answer.refusal
 
     def push(self, end, event):
         heapq.heappush(self.line, (self.now + LATENCY, next(self.count), end.name, event))
@@ -111,46 +118,29 @@ class Run:
     def step(self, until):
         """What comes next: a frame, or a timer; answers False where nothing does before that."""
         dues = [(self.line[0][0], 0, None)] if self.line else []
-        for place, end in enumerate(self.ends.values(), 1):
-            probing = end.last_came + T3 if end.circuits.is_up and end.t1 is None else None
-            for kind, at in (("t1", end.t1), ("overdue", end.overdue.due()), ("probe", probing)):
-                if at is not None:
-                    dues.append((max(at, self.now), place, (end, kind)))
-        when, _, what = min(dues, key=lambda due: due[:2], default=(until, 0, None))
+        dues += [(end.due, place, end) for place, end in enumerate(self.ends.values(), 1) if end.due is not None]
+        when, _, end = min(dues, key=lambda due: due[:2], default=(until, 0, None))
         if when >= until:
             self.now = until
             return False
         self.now = when
-        if what is None:
+        if end is None:
             _, _, name, event = heapq.heappop(self.line)
-            if not event.startswith(name):
-                self.ends[name].last_came = self.now
             self.ask(self.ends[name], event)
         else:
-            self.fire(*what)
+            self.heed(end, end.station.ask(f"@ {self.now}"), "the time")
         for end in self.ends.values():
             for channel, since in end.since.items():
                 if self.now - since > BOUND:
-                    raise Failed(f"{end.name} awaits {end.circuits.awaited()[channel]} on channel {channel} since {since:.1f}, at {self.now:.1f}")
+                    raise Failed(f"{end.name} awaits {end.circuits.awaited()[channel]} on channel {channel} since {since}, at {self.now}")
         return True
-
-    def fire(self, end, kind):
-        if kind == "t1":
-            self.ask(end, f"t1 {end.name}")
-        elif kind == "probe":
-            end.last_came = self.now
-            self.ask(end, f"{end.name} probe")
-        elif due := end.overdue.take(self.now):
-            for command in due.commands:
-                if self.ask(end, f"{end.name} {command}") is None:
-                    return
 
     def lasts(self, until):
         """As long as a time, or as it takes."""
         for _ in range(200_000):
             if not self.step(until):
                 return
-        raise Failed(f"the timers run without end, at {self.now:.1f}")
+        raise Failed(f"the timers run without end, at {self.now}")
 
     def command(self):
         """A command of either user."""
@@ -164,15 +154,18 @@ class Run:
         for end in self.ends.values():
             end.station.begin()
         try:
-            self.ask(self.ends["dte"], "dte connect")
-            while self.now < LASTS:
-                self.lasts(self.now + self.chance.expovariate(1 / 5))
-                self.command()
-            self.kinds, self.loss = set(), 0
-            self.recovers(self.ends[self.deaf])
+            return self.plays()
         finally:
             for end in self.ends.values():
                 end.station.__exit__()
+
+    def plays(self):
+        self.ask(self.ends["dte"], "dte connect")
+        while self.now < LASTS:
+            self.lasts(self.now + int(self.chance.expovariate(1 / 5000)))
+            self.command()
+        self.kinds, self.loss = set(), 0
+        self.recovers(self.ends[self.deaf])
 
     def recovers(self, end):
         """A call, once all answers come: what is awaited has to end, and a call to be connected and cleared."""
@@ -184,10 +177,10 @@ class Run:
         self.lasts(self.now + BOUND)
         end.entries.clear()
         refusal = self.ask(end, CALLS[end.name])
-        self.lasts(self.now + 2)
+        self.lasts(self.now + 2000)
         channel = next((entry.split("ch=")[1].split(" ")[0] for entry in end.entries if " call " in entry), None)
         self.ask(end, f"{end.name} clear {channel}")
-        self.lasts(self.now + 2)
+        self.lasts(self.now + 2000)
         events = [entry.split(" ")[1] for entry in end.entries]
         if "call" not in events or "cleardone" not in events and "cleared" not in events:
             raise Failed(f"{end.name} doesn't get on once answers come: {refusal}, {end.entries}")

@@ -27,14 +27,14 @@ class Joined(unittest.TestCase):
         return entries
 
     def test_a_call(self):
-        self.assertEqual([station.first for station in self.ends.values()], [([], [], None, "off", False)] * 2)
+        self.assertEqual([station.first for station in self.ends.values()], [([], [], None, "off", False, False, None)] * 2)
         up = self.told("dte", "dte connect")
         self.assertEqual(sorted(up[1:]), ["dce linkup", "dce restarted cause=0 diag=0", "dte linkup", "dte restarted cause=7 diag=0"])
         call = "ch=1 at 1.0.0 called=123 calling=4567 data=-"
         self.assertEqual(self.told("dte", "dte call 123 4567 -"), [f"dte call {call}", f"dce incoming {call}"])
         self.assertEqual(self.told("dce", "dce accept 1"), ["dce accept ch=1", "dte connected ch=1"])
         self.assertEqual(self.told("dte", "dte send 1 0 6869"), ["dte send ch=1 at 1.0.0 q=0 data=6869", "dce message ch=1 at 1.0.0 q=0 data=6869"])
-        self.assertEqual([station.ask("t1 " + end) for end, station in self.ends.items()], [([], [], "! 11", "off", True)] * 2)
+        self.assertEqual([station.ask("t1 " + end) for end, station in self.ends.items()], [([], [], "! 11", "off", True, False, None)] * 2)
 
     def test_the_end(self):
         """Nothing comes behind the last mark, and the status says that something was refused."""
