@@ -80,8 +80,7 @@ class Form(unittest.TestCase):
 class English(unittest.TestCase):
     """Sentences are short, and 'behind' is no word of time."""
 
-    # Those whose sentences are longer, and those that have whole numbers behind the N(S) and N(R) of frames.
-    LONGER = ("crates/x25_judge/README.md", "crates/x25_packet_judge/README.md")
+    # Those that have whole numbers behind the N(S) and N(R) of frames.
     WITH_NUMBERS = ("crates/x25_line/README.md", "crates/x25_world/README.md")
 
     def texts(self, *left_out):
@@ -90,14 +89,14 @@ class English(unittest.TestCase):
                 yield document, text_of(document)
 
     def test_sentences_have_few_words(self):
-        for document, text in self.texts(*self.LONGER):
+        for document, text in self.texts():
             _, mean, (most, line, worst) = english.measure(text)
             with self.subTest(document):
                 self.assertLessEqual(mean, 25)
                 self.assertLessEqual(most, 45, f"line {line}: {worst}")
 
     def test_what_comes_later_comes_after(self):
-        for document, text in self.texts(*self.LONGER, *self.WITH_NUMBERS):
+        for document, text in self.texts(*self.WITH_NUMBERS):
             with self.subTest(document):
                 self.assertEqual(re.findall(r"[^.\n]*(?<!')\b[Bb]ehind\b(?! a pipe)[^.\n]*", re.sub("`[^`]*`", "", text)), [])
 
