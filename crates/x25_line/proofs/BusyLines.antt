@@ -1,5 +1,5 @@
 -- The frames on a line where one of the two ends is busy: RNR may stand among them, and what is heard last tells whether the end is busy.
-use Rattle.std.proofs.Common.{◌≡◌, ℕ, List, [], ◌∷◌, ◌++◌, ◌⊎◌, inl, inr, Bool, true, false, refl, sym, ◌∙◌}
+use Rattle.std.proofs.Common.{◌≡◌, ℕ, List, [], ◌∷◌, ◌++◌, Bool, true, false, refl, sym, ◌∙◌}
 use Rattle.x25_frame.specs.Frame.{PlainFrame, info, rr, rnr, rej}
 use Rattle.x25_link.specs.Station.{LinkStation, is_busy}
 use Rattle.x25_link.specs.laws.AnswerLaw.{says, AreNext}
@@ -18,19 +18,6 @@ pub none_behind : (fs es : List PlainFrame) → NoInfo (fs ++ es) → NoInfo es
 none_behind [] es h = h
 none_behind (info ns nr p x ∷ fs) es h = absurd h
 none_behind (frame ∷ fs) es h = none_behind fs es h
-
--- nothing, or one poll
-abbrev pub AtMostAsks : List PlainFrame → Type 0
-AtMostAsks [] = Unit {0}
-AtMostAsks (rr true nr true ∷ []) = Unit {0}
-AtMostAsks (rnr true nr true ∷ []) = Unit {0}
-AtMostAsks fs = ⊥
-
-pub asks_or_not : (fs : List PlainFrame) → AtMostAsks fs → (fs ≡ []) ⊎ ((busy : Bool) × (nr : ℕ) × (fs ≡ says busy true nr true ∷ []))
-asks_or_not [] asks = inl refl
-asks_or_not (rr true nr true ∷ []) asks = inr (false, nr, refl)
-asks_or_not (rnr true nr true ∷ []) asks = inr (true, nr, refl)
-asks_or_not fs asks = absurd asks
 
 -- ---- what an end will hear of whether the other is busy
 

@@ -12,7 +12,7 @@ use Rattle.x25_line.specs.laws.LawsBelow.{HealingLaws}
 use Rattle.x25_line.proofs.HealingOnce.{HasTries}
 use Rattle.x25_line.proofs.HealingStands.{sessions_rest}
 use Rattle.x25_line.proofs.HealingSessionEnds.{session_ends}
-use Rattle.x25_line.proofs.BusyRuns.{settled}
+use Rattle.x25_line.proofs.HealingBoth.{settled}
 
 module _ (reads : ReadsSpelled) (laws : HealingLaws) (busy_laws : BusyLaws) where
   -- both have tries left

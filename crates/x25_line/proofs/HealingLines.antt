@@ -1,5 +1,5 @@
 -- The frames that stand on a line, and those among them that matter while an end heals.
-use Rattle.std.proofs.Common.{◌≡◌, ℕ, ◌+◌, ◌%◌, ◌≤◌, List, [], ◌∷◌, ◌++◌, map, false, Ok, refl, sym, subst, arith, length, ap}
+use Rattle.std.proofs.Common.{◌≡◌, ℕ, ◌+◌, ◌%◌, ◌≤◌, List, [], ◌∷◌, ◌++◌, map, false, Ok, refl, sym, subst, arith, length, ap, true}
 use Rattle.std.specs.Prelude.{◌&&◌, not}
 use Rattle.std.proofs.lemmas.Bool.{and_left, and_right}
 use Rattle.x25_bits.specs.declared.role.Role.{Role}
@@ -66,73 +66,74 @@ pub not_behind : (before : List PlainFrame) (f : PlainFrame) (fs : List PlainFra
 not_behind [] f fs e = one_frame f fs e
 not_behind (g ∷ gs) f fs e = one_frame g (gs ++ f ∷ fs) e
 
--- ---- frames to the other end: the I frames that are awaited, one after another, and nothing that asks; and RNR where `Rnr`, as an end may be busy
+-- ---- frames to the other end: the I frames that are awaited, one after another, and nothing that asks
 
-abbrev pub Ahead : Type 0 → ℕ → List PlainFrame → ℕ → Type 0
-Ahead Rnr n [] m = n ≡ m
-Ahead Rnr n (info ns nr p x ∷ fs) m = (ns ≡ n % 8) × (p ≡ false) × Ahead Rnr (n + 1) fs m
-Ahead Rnr n (rr command nr pf ∷ fs) m = ((command && pf) ≡ false) × Ahead Rnr n fs m
-Ahead Rnr n (rnr command nr pf ∷ fs) m = ((command && pf) ≡ false) × Ahead Rnr n fs m × Rnr
-Ahead Rnr n (rej command nr pf ∷ fs) m = (pf ≡ false) × Ahead Rnr n fs m
-Ahead Rnr n (f ∷ fs) m = ⊥
+abbrev pub Ahead : ℕ → List PlainFrame → ℕ → Type 0
+Ahead n [] m = n ≡ m
+Ahead n (info ns nr p x ∷ fs) m = (ns ≡ n % 8) × (p ≡ false) × Ahead (n + 1) fs m
+Ahead n (rr command nr pf ∷ fs) m = ((command && pf) ≡ false) × Ahead n fs m
+Ahead n (rnr command nr pf ∷ fs) m = ((command && pf) ≡ false) × Ahead n fs m
+Ahead n (rej command nr pf ∷ fs) m = (pf ≡ false) × Ahead n fs m
+Ahead n (f ∷ fs) m = ⊥
 
-pub ahead_low : (Rnr : Type 0) (n : ℕ) (fs : List PlainFrame) (m : ℕ) → Ahead Rnr n fs m → n ≤ m
-ahead_low Rnr n [] m h = omega (arith, h)
-ahead_low Rnr n (info ns nr p x ∷ fs) m h = omega (arith, ahead_low Rnr (n + 1) fs m h.2)
-ahead_low Rnr n (rr command nr pf ∷ fs) m h = ahead_low Rnr n fs m h.1
-ahead_low Rnr n (rej command nr pf ∷ fs) m h = ahead_low Rnr n fs m h.1
-ahead_low Rnr n (rnr command nr pf ∷ fs) m h = ahead_low Rnr n fs m h.1
-ahead_low Rnr n (frame ∷ fs) m h = absurd h
+pub ahead_low : (n : ℕ) (fs : List PlainFrame) (m : ℕ) → Ahead n fs m → n ≤ m
+ahead_low n [] m h = omega (arith, h)
+ahead_low n (info ns nr p x ∷ fs) m h = omega (arith, ahead_low (n + 1) fs m h.2)
+ahead_low n (rr command nr pf ∷ fs) m h = ahead_low n fs m h.1
+ahead_low n (rej command nr pf ∷ fs) m h = ahead_low n fs m h.1
+ahead_low n (rnr command nr pf ∷ fs) m h = ahead_low n fs m h.1
+ahead_low n (frame ∷ fs) m h = absurd h
 
-pub ahead_more : (Rnr : Type 0) (n m k : ℕ) (fs es : List PlainFrame) → Ahead Rnr n fs m → Ahead Rnr m es k → Ahead Rnr n (fs ++ es) k
-ahead_more Rnr n m k [] es h g = subst (λ (z : ℕ). Ahead Rnr z es k) (sym h) g
-ahead_more Rnr n m k (info ns nr p x ∷ fs) es h g = (h.0, h.1, ahead_more Rnr (n + 1) m k fs es h.2 g)
-ahead_more Rnr n m k (rr command nr pf ∷ fs) es h g = (h.0, ahead_more Rnr n m k fs es h.1 g)
-ahead_more Rnr n m k (rej command nr pf ∷ fs) es h g = (h.0, ahead_more Rnr n m k fs es h.1 g)
-ahead_more Rnr n m k (rnr command nr pf ∷ fs) es h g = (h.0, ahead_more Rnr n m k fs es h.1 g, h.2)
-ahead_more Rnr n m k (frame ∷ fs) es h g = absurd h
+pub ahead_more : (n m k : ℕ) (fs es : List PlainFrame) → Ahead n fs m → Ahead m es k → Ahead n (fs ++ es) k
+ahead_more n m k [] es h g = subst (λ (z : ℕ). Ahead z es k) (sym h) g
+ahead_more n m k (info ns nr p x ∷ fs) es h g = (h.0, h.1, ahead_more (n + 1) m k fs es h.2 g)
+ahead_more n m k (rr command nr pf ∷ fs) es h g = (h.0, ahead_more n m k fs es h.1 g)
+ahead_more n m k (rej command nr pf ∷ fs) es h g = (h.0, ahead_more n m k fs es h.1 g)
+ahead_more n m k (rnr command nr pf ∷ fs) es h g = (h.0, ahead_more n m k fs es h.1 g)
+ahead_more n m k (frame ∷ fs) es h g = absurd h
 
 -- what the sending rule sends is of this kind
-pub next_ahead : (Rnr : Type 0) (r n : ℕ) (fs : List PlainFrame) (m : ℕ) → AreNext r n fs m → Ahead Rnr n fs m
-next_ahead Rnr r n [] m h = h
-next_ahead Rnr r n (info ns nr p x ∷ fs) m h = (h.0, h.2, next_ahead Rnr r (n + 1) fs m h.3)
-next_ahead Rnr r n (rr command nr pf ∷ fs) m h = (and_left command pf h.0, next_ahead Rnr r n fs m h.3)
-next_ahead Rnr r n (frame ∷ fs) m h = absurd h
+pub next_ahead : (r n : ℕ) (fs : List PlainFrame) (m : ℕ) → AreNext r n fs m → Ahead n fs m
+next_ahead r n [] m h = h
+next_ahead r n (info ns nr p x ∷ fs) m h = (h.0, h.2, next_ahead r (n + 1) fs m h.3)
+next_ahead r n (rr command nr pf ∷ fs) m h = (and_left command pf h.0, next_ahead r n fs m h.3)
+next_ahead r n (frame ∷ fs) m h = absurd h
 
 -- ---- the same without I frames, as in recovery, or while the peer is busy
 
-abbrev pub Mild : Type 0 → List PlainFrame → Type 0
-Mild Rnr [] = Unit {0}
-Mild Rnr (rr command nr pf ∷ fs) = ((command && pf) ≡ false) × Mild Rnr fs
-Mild Rnr (rnr command nr pf ∷ fs) = ((command && pf) ≡ false) × Mild Rnr fs × Rnr
-Mild Rnr (rej command nr pf ∷ fs) = (pf ≡ false) × Mild Rnr fs
-Mild Rnr (f ∷ fs) = ⊥
+abbrev pub Mild : List PlainFrame → Type 0
+Mild [] = Unit {0}
+Mild (rr command nr pf ∷ fs) = ((command && pf) ≡ false) × Mild fs
+Mild (rnr command nr pf ∷ fs) = ((command && pf) ≡ false) × Mild fs
+Mild (rej command nr pf ∷ fs) = (pf ≡ false) × Mild fs
+Mild (f ∷ fs) = ⊥
 
-pub mild_ahead : (Rnr : Type 0) (n : ℕ) (fs : List PlainFrame) → Mild Rnr fs → Ahead Rnr n fs n
-mild_ahead Rnr n [] h = refl
-mild_ahead Rnr n (rr command nr pf ∷ fs) h = (h.0, mild_ahead Rnr n fs h.1)
-mild_ahead Rnr n (rej command nr pf ∷ fs) h = (h.0, mild_ahead Rnr n fs h.1)
-mild_ahead Rnr n (rnr command nr pf ∷ fs) h = (h.0, mild_ahead Rnr n fs h.1, h.2)
-mild_ahead Rnr n (frame ∷ fs) h = absurd h
+pub mild_ahead : (n : ℕ) (fs : List PlainFrame) → Mild fs → Ahead n fs n
+mild_ahead n [] h = refl
+mild_ahead n (rr command nr pf ∷ fs) h = (h.0, mild_ahead n fs h.1)
+mild_ahead n (rej command nr pf ∷ fs) h = (h.0, mild_ahead n fs h.1)
+mild_ahead n (rnr command nr pf ∷ fs) h = (h.0, mild_ahead n fs h.1)
+mild_ahead n (frame ∷ fs) h = absurd h
 
-pub mild_more : (Rnr : Type 0) (fs es : List PlainFrame) → Mild Rnr fs → Mild Rnr es → Mild Rnr (fs ++ es)
-mild_more Rnr [] es h g = g
-mild_more Rnr (rr command nr pf ∷ fs) es h g = (h.0, mild_more Rnr fs es h.1 g)
-mild_more Rnr (rej command nr pf ∷ fs) es h g = (h.0, mild_more Rnr fs es h.1 g)
-mild_more Rnr (rnr command nr pf ∷ fs) es h g = (h.0, mild_more Rnr fs es h.1 g, h.2)
-mild_more Rnr (frame ∷ fs) es h g = absurd h
+pub mild_more : (fs es : List PlainFrame) → Mild fs → Mild es → Mild (fs ++ es)
+mild_more [] es h g = g
+mild_more (rr command nr pf ∷ fs) es h g = (h.0, mild_more fs es h.1 g)
+mild_more (rej command nr pf ∷ fs) es h g = (h.0, mild_more fs es h.1 g)
+mild_more (rnr command nr pf ∷ fs) es h g = (h.0, mild_more fs es h.1 g)
+mild_more (frame ∷ fs) es h g = absurd h
 
 -- where V(S) stays, no I frame went
-pub held_mild : (Rnr : Type 0) (r n : ℕ) (fs : List PlainFrame) (m : ℕ) → AreNext r n fs m → m ≤ n → Mild Rnr fs
-held_mild Rnr r n [] m h le = tt
-held_mild Rnr r n (rr command nr pf ∷ fs) m h le = (and_left command pf h.0, held_mild Rnr r n fs m h.3 le)
-held_mild Rnr r n (info ns nr p x ∷ fs) m h le = absurd (omega (arith, le, ahead_low Rnr (n + 1) fs m (next_ahead Rnr r (n + 1) fs m h.3)))
-held_mild Rnr r n (frame ∷ fs) m h le = absurd h
+pub held_mild : (r n : ℕ) (fs : List PlainFrame) (m : ℕ) → AreNext r n fs m → m ≤ n → Mild fs
+held_mild r n [] m h le = tt
+held_mild r n (rr command nr pf ∷ fs) m h le = (and_left command pf h.0, held_mild r n fs m h.3 le)
+held_mild r n (info ns nr p x ∷ fs) m h le = absurd (omega (arith, le, ahead_low (n + 1) fs m (next_ahead r (n + 1) fs m h.3)))
+held_mild r n (frame ∷ fs) m h le = absurd h
 
--- I frames and RR, none with F=1
+-- I frames, RR, and RNR that polls, none with F=1
 abbrev pub IsNoFinal : PlainFrame → Type 0
 IsNoFinal (info ns n p x) = p ≡ false
 IsNoFinal (rr command n pf) = (not command && pf) ≡ false
+IsNoFinal (rnr true n true) = Unit {0}
 IsNoFinal f = ⊥
 
 abbrev pub NoFinal : List PlainFrame → Type 0

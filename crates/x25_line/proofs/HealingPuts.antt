@@ -3,7 +3,7 @@ use Rattle.std.proofs.Common.{◌≡◌, ℕ, ◌+◌, ◌%◌, ◌≤◌, List,
 use Rattle.std.specs.Prelude.{nat_le}
 use Rattle.std.proofs.lemmas.Bool.{lt-ltb, le-ltb, ltb-false}
 use Rattle.x25_bits.specs.declared.role.Role.{Role}
-use Rattle.x25_frame.specs.Frame.{PlainFrame, rr}
+use Rattle.x25_frame.specs.Frame.{PlainFrame}
 use Rattle.x25_frame.specs.Spelling.{spelling_of}
 use Rattle.x25_frame.specs.laws.ReadingLaw.{ReadsSpelled}
 use Rattle.x25_link.specs.declared.error.LinkError.{LinkError}
@@ -12,20 +12,22 @@ use Rattle.x25_link.specs.Station.{Settings, LinkStation, Side, is_up, is_busy, 
 use Rattle.x25_link.specs.Hearing.{Step, other}
 use Rattle.x25_link.specs.Link.{put_step, put_refusal}
 use Rattle.x25_link.specs.laws.RestLaw.{HasSaidAll}
-use Rattle.x25_link.specs.laws.AnswerLaw.{AreNext}
-use Rattle.x25_link.proofs.EndLemmas.{open_is, closed_is, with_packet, put_once}
+use Rattle.x25_link.specs.laws.AnswerLaw.{AreNext, says}
+use Rattle.x25_link.proofs.EndLemmas.{open_is, closed_is, with_packet, put_once, busy_is}
 use Rattle.x25_line.specs.laws.Stations.{StationEnd, Stations, Put, Deliver, Event, Near, Far, after_step, acts, swapped, run}
 use Rattle.x25_line.specs.laws.StationClaims.{AreJoined, AreWhole}
 use Rattle.x25_line.specs.laws.WholeNumbers.{machine_acts}
 use Rattle.x25_line.specs.laws.HealingPuts.{AreDeliveriesAndPuts, AreFree}
 use Rattle.x25_line.specs.laws.LawsBelow.{HealingLaws}
+use Rattle.x25_link.specs.laws.BusyLaw.{Says, BusyLaws}
 use Rattle.x25_line.proofs.HealingOnce.{FreeThroughout}
 use Rattle.x25_line.proofs.StationSteps.{not_both}
 use Rattle.x25_line.proofs.StationRuns.{machine_joint, joined_swapped}
 use Rattle.x25_line.proofs.StationEvents.{each_hands_one}
 use Rattle.x25_line.proofs.HealingLines.{Reads, reads_more, whole_behind, Ahead, ahead_more, next_ahead, Mild, mild_more, held_mild, no_final_more, next_no_final, LastTells, next_tells, tells_behind, Reports, reports_more}
 use Rattle.x25_line.proofs.HealingSteps.{Sound, sound_swapped, near_up}
-use Rattle.x25_line.proofs.HealingPhases.{Both, Heals}
+use Rattle.x25_line.proofs.BusyLines.{silent_stays, hears_busy, hears_more, Told, told_on}
+use Rattle.x25_line.proofs.HealingPhases.{Pair, Heals}
 use Rattle.x25_line.proofs.HealingRuns.{said_act}
 use Rattle.x25_line.proofs.HealingBoth.{HealsBoth, both_near, both_far}
 
@@ -84,7 +86,7 @@ pub takes_down : (c : Settings) (packet : List ℕ) (s : LinkStation) → s.outg
 takes_down c packet s low high settled calm =
     subst (TakesDown packet s) (sym (put_once c.window s packet low settled calm)) (takes_by (may_send c.window (with_packet packet s).near) c.window packet s low high settled refl)
 
-module _ (c d : Settings) (joined : AreJoined c d) (reads : ReadsSpelled) (laws : HealingLaws) where
+module _ (c d : Settings) (joined : AreJoined c d) (reads : ReadsSpelled) (laws : HealingLaws) (busy_laws : BusyLaws) where
   -- what a packet that is put makes of the world
   pub record WasPut (w v : Stations) : Type 0 where
     pub sound : Sound c d v
@@ -101,6 +103,7 @@ module _ (c d : Settings) (joined : AreJoined c d) (reads : ReadsSpelled) (laws 
     pub back : v.back ≡ w.back
     pub far : v.far ≡ w.far
     pub grows : waits w.near.station.outgoing ≤ waits v.near.station.outgoing
+    pub says : Says w.near.station.said_busy v.near.station.said_busy (is_busy v.near.station) v.near.station.peer_busy next
 
   append_none : (fs : List PlainFrame) → fs ++ [] ≡ fs
   append_none [] = refl
@@ -123,6 +126,7 @@ module _ (c d : Settings) (joined : AreJoined c d) (reads : ReadsSpelled) (laws 
     back = refl;
     far = refl;
     grows = omega arith;
+    says = record { said = refl; free = λ never. not_both false never refl; held = λ _. tt };
   }
 
   pub puts : (packet : List ℕ) (w : Stations) → Sound c d w → is_up w.near.station.phase ≡ true → WasPut w (acts c (Put packet) w)
@@ -174,6 +178,7 @@ module _ (c d : Settings) (joined : AreJoined c d) (reads : ReadsSpelled) (laws 
             back = refl;
             far = refl;
             grows = t.grows;
+            says = busy_laws.put c packet s;
           })
 
       by_refusal : nat_le (length packet) c.longest ≡ true → (o : Option LinkError) → put_refusal s ≡ o → WasPut w (acts c (Put packet) w)
@@ -192,37 +197,33 @@ module _ (c d : Settings) (joined : AreJoined c d) (reads : ReadsSpelled) (laws 
 
   -- ---- the near end of the two puts
 
-  near_puts_both : (w v : Stations) → Both c d w → WasPut w v → is_busy v.near.station ≡ false → Both c d v
-  near_puts_both w v b p free = record {
-    sound = p.sound;
-    near_on = p.up;
-    far_on = subst (λ (e : StationEnd). is_up e.station.phase ≡ true) (sym p.far) b.far_on;
-    near_free = free;
-    far_free = subst (λ (e : StationEnd). is_busy e.station ≡ false) (sym p.far) b.far_free;
-  }
+  near_puts_pair : (w v : Stations) → Pair c d w → WasPut w v → is_busy v.near.station ≡ false → Pair c d v
+  near_puts_pair w v b p free = record { sound = p.sound; near_on = p.up; far_on = subst (λ (e : StationEnd). is_up e.station.phase ≡ true) (sym p.far) b.far_on; one_free = inl free }
 
   -- in recovery no I frame goes
-  held_back : (w v : Stations) → w.near.station.recovery ≡ true → (p : WasPut w v) → Mild ⊥ p.next
-  held_back w v recovers p = held_mild ⊥ (length w.near.station.taken) w.near.station.outgoing.place p.next v.near.station.outgoing.place p.sends (omega (arith, p.held recovers))
+  held_back : (w v : Stations) → w.near.station.recovery ≡ true → (p : WasPut w v) → Mild p.next
+  held_back w v recovers p = held_mild (length w.near.station.taken) w.near.station.outgoing.place p.next v.near.station.outgoing.place p.sends (omega (arith, p.held recovers))
 
-  near_puts : (w v : Stations) → Heals c d w → WasPut w v → is_busy v.near.station ≡ false → Heals c d v
-  near_puts w v (b, inl h) p free = (
-    near_puts_both w v b p free,
+  near_puts : (w v : Stations) → Heals c d w → WasPut w v → is_busy v.near.station ≡ false → is_busy w.far.station ≡ false → Heals c d v
+  near_puts w v (b, inl h) p free far_free = (
+    near_puts_pair w v b p free,
     inl (record {
+      busy = h.busy;
       number = h.number;
       rest = h.rest ++ p.next;
       before = h.before;
       recovery = p.recovery ∙ h.recovery;
-      out = p.out (rr true h.number true ∷ h.rest) h.out;
-      mild = mild_more ⊥ h.rest p.next h.mild (held_back w v h.recovery p);
+      out = p.out (says h.busy true h.number true ∷ h.rest) h.out;
+      mild = mild_more h.rest p.next h.mild (held_back w v h.recovery p);
       back = subst (λ (os : List (List ℕ)). Reads (other c.role) c.longest os h.before) (sym p.back) h.back;
       heard = h.heard;
     }),
   )
-  near_puts w v (b, inr (inl h)) p free =
+  near_puts w v (b, inr (inl h)) p free far_free =
       let same = ap (λ (e : StationEnd). length e.station.taken) (sym p.far) in (
-        near_puts_both w v b p free,
+        near_puts_pair w v b p free,
         inr (inl (record {
+          busy = h.busy;
           number = h.number;
           there = h.there ++ p.next;
           before = h.before;
@@ -230,57 +231,87 @@ module _ (c d : Settings) (joined : AreJoined c d) (reads : ReadsSpelled) (laws 
           is = h.is ∙ ap (λ (n : ℕ). n % 8) same;
           recovery = p.recovery ∙ h.recovery;
           out = p.out h.there h.out;
-          mild = mild_more ⊥ h.there p.next h.mild (held_back w v h.recovery p);
-          back = subst (λ (os : List (List ℕ)). Reads (other c.role) c.longest os (h.before ++ rr false h.number true ∷ h.behind)) (sym p.back) h.back;
+          mild = mild_more h.there p.next h.mild (held_back w v h.recovery p);
+          back = subst (λ (os : List (List ℕ)). Reads (other c.role) c.longest os (h.before ++ says h.busy false h.number true ∷ h.behind)) (sym p.back) h.back;
           heard = h.heard;
           tells = subst (λ (n : ℕ). LastTells n h.number h.behind) same h.tells;
+          told = subst (λ (e : StationEnd). Told (hears_busy h.busy h.behind) e.station) (sym p.far) h.told;
         })),
       )
-  near_puts w v (b, inr (inr h)) p free =
+  near_puts w v (b, inr (inr (inl (h, unbusy)))) p free far_free =
       let r = length w.far.station.taken in
       let same = ap (λ (e : StationEnd). length e.station.taken) (sym p.far) in
       let s = w.near.station in (
-        near_puts_both w v b p free,
-        inr (inr (record {
+        near_puts_pair w v b p free,
+        inr (inr (inl ((
+          record {
+            there = h.there ++ p.next;
+            behind = h.behind;
+            out = p.out h.there h.out;
+            back = subst (λ (os : List (List ℕ)). Reads (other c.role) c.longest os h.behind) (sym p.back) h.back;
+            recovery = p.recovery ∙ h.recovery;
+            peer_busy = p.peer_busy ∙ h.peer_busy;
+            ahead = subst (λ (n : ℕ). Ahead n (h.there ++ p.next) v.near.station.outgoing.place) same
+                (ahead_more r s.outgoing.place v.near.station.outgoing.place h.there p.next h.ahead (next_ahead (length s.taken) s.outgoing.place p.next v.near.station.outgoing.place p.sends));
+            reports = subst (λ (n : ℕ). Reports n v.near.station.outgoing.acked h.behind) same (subst (λ (a : ℕ). Reports r a h.behind) (sym p.acked) h.reports);
+          },
+          subst (λ (e : StationEnd). is_busy e.station ≡ false) (sym p.far) unbusy,
+        )))),
+      )
+  near_puts w v (b, inr (inr (inr (inl h)))) p free far_free =
+      let same = ap (λ (e : StationEnd). length e.station.taken) (sym p.far) in
+      let s = w.near.station in
+      let stays = silent_stays (length s.taken) s.outgoing.place p.next v.near.station.outgoing.place p.sends (p.says.held (p.peer_busy ∙ h.peer_busy)) in (
+        near_puts_pair w v b p free,
+        inr (inr (inr (inl (record {
+          number = h.number;
           there = h.there ++ p.next;
           behind = h.behind;
           out = p.out h.there h.out;
           back = subst (λ (os : List (List ℕ)). Reads (other c.role) c.longest os h.behind) (sym p.back) h.back;
           recovery = p.recovery ∙ h.recovery;
           peer_busy = p.peer_busy ∙ h.peer_busy;
-          ahead = subst (λ (n : ℕ). Ahead ⊥ n (h.there ++ p.next) v.near.station.outgoing.place) same
-              (ahead_more ⊥ r s.outgoing.place v.near.station.outgoing.place h.there p.next h.ahead (next_ahead ⊥ (length s.taken) s.outgoing.place p.next v.near.station.outgoing.place p.sends));
-          reports = subst (λ (n : ℕ). Reports n v.near.station.outgoing.acked h.behind) same (subst (λ (a : ℕ). Reports r a h.behind) (sym p.acked) h.reports);
-        })),
+          mild = mild_more h.there p.next h.mild (held_mild (length s.taken) s.outgoing.place p.next v.near.station.outgoing.place p.sends (omega (arith, stays)));
+          place = stays ∙ h.place ∙ same;
+          acked = p.acked ∙ h.acked ∙ same;
+          tells = subst (λ (n : ℕ). LastTells n h.number h.behind) same h.tells;
+          told = subst (λ (e : StationEnd). Told (hears_busy true h.behind) e.station) (sym p.far) h.told;
+        })))),
       )
+  near_puts w v (b, inr (inr (inr (inr h)))) p free far_free = not_both (is_busy w.far.station) (busy_is w.far.station b.sound.far_said.calm b.far_on h.told) far_free
 
-  pub near_put : (packet : List ℕ) (w : Stations) → Heals c d w → is_busy (acts c (Put packet) w).near.station ≡ false → Heals c d (acts c (Put packet) w)
-  near_put packet w h free = near_puts w (acts c (Put packet) w) h (puts packet w h.0.sound h.0.near_on) free
+  pub near_put : (packet : List ℕ) (w : Stations) → Heals c d w → is_busy (acts c (Put packet) w).near.station ≡ false → is_busy w.far.station ≡ false → Heals c d (acts c (Put packet) w)
+  near_put packet w h free far_free = near_puts w (acts c (Put packet) w) h (puts packet w h.0.sound h.0.near_on) free far_free
 
-module _ (c d : Settings) (joined : AreJoined c d) (reads : ReadsSpelled) (laws : HealingLaws) where
+-- an end is no less busy for a packet that is put
+free_before : (s u : LinkStation) → waits s.outgoing ≤ waits u.outgoing → is_busy u ≡ false → is_busy s ≡ false
+free_before s u grows free = (let few = ltb-false _ _ free in le-ltb _ _ (omega (arith, few, grows)))
+
+module _ (c d : Settings) (joined : AreJoined c d) (reads : ReadsSpelled) (laws : HealingLaws) (busy_laws : BusyLaws) where
   twisted : AreJoined d c
   twisted = joined_swapped c d joined
 
   -- ---- the far end puts
 
-  far_puts_both : (w u : Stations) → Both c d w → WasPut d c twisted reads laws (swapped w) u → is_busy u.near.station ≡ false → Both c d (swapped u)
-  far_puts_both w u b p free = record {
-    sound = sound_swapped d c twisted u p.sound;
-    near_on = subst (λ (e : StationEnd). is_up e.station.phase ≡ true) (sym p.far) b.near_on;
-    far_on = p.up;
-    near_free = subst (λ (e : StationEnd). is_busy e.station ≡ false) (sym p.far) b.near_free;
-    far_free = free;
-  }
+  far_puts_pair : (w u : Stations) → Pair c d w → WasPut d c twisted reads laws busy_laws (swapped w) u → is_busy u.near.station ≡ false → Pair c d (swapped u)
+  far_puts_pair w u b p free =
+      record { sound = sound_swapped d c twisted u p.sound; near_on = subst (λ (e : StationEnd). is_up e.station.phase ≡ true) (sym p.far) b.near_on; far_on = p.up; one_free = inr free }
 
-  far_puts : (w u : Stations) → Heals c d w → WasPut d c twisted reads laws (swapped w) u → is_busy u.near.station ≡ false → Heals c d (swapped u)
+  -- what it tells of whether it is busy
+  told_more : (w u : Stations) (busy : Bool) (gs : List PlainFrame) (p : WasPut d c twisted reads laws busy_laws (swapped w) u) → is_busy u.near.station ≡ false → Told (hears_busy busy gs) w.far.station
+      → Told (hears_busy busy (gs ++ p.next)) u.near.station
+  told_more w u busy gs p free told = subst (λ (b : Bool). Told b u.near.station) (sym (hears_more busy gs p.next)) (told_on (hears_busy busy gs) w.far.station u.near.station p.next told p.says (λ _. free))
+
+  far_puts : (w u : Stations) → Heals c d w → WasPut d c twisted reads laws busy_laws (swapped w) u → is_busy u.near.station ≡ false → Heals c d (swapped u)
   far_puts w u (b, inl h) p free = (
-    far_puts_both w u b p free,
+    far_puts_pair w u b p free,
     inl (record {
+      busy = h.busy;
       number = h.number;
       rest = h.rest;
       before = h.before ++ p.next;
       recovery = subst (λ (e : StationEnd). e.station.recovery ≡ true) (sym p.far) h.recovery;
-      out = subst (λ (os : List (List ℕ)). Reads (other d.role) d.longest os (rr true h.number true ∷ h.rest)) (sym p.back) h.out;
+      out = subst (λ (os : List (List ℕ)). Reads (other d.role) d.longest os (says h.busy true h.number true ∷ h.rest)) (sym p.back) h.out;
       mild = h.mild;
       back = p.out h.before h.back;
       heard = no_final_more h.before p.next h.heard (next_no_final (length w.far.station.taken) w.far.station.outgoing.place p.next u.near.station.outgoing.place p.sends);
@@ -289,9 +320,10 @@ module _ (c d : Settings) (joined : AreJoined c d) (reads : ReadsSpelled) (laws 
   far_puts w u (b, inr (inl h)) p free =
       let r = length w.far.station.taken in
       let same : length u.near.station.taken ≡ r = ap length p.taken in
-      let frame = rr false h.number true in (
-        far_puts_both w u b p free,
+      let frame = says h.busy false h.number true in (
+        far_puts_pair w u b p free,
         inr (inl (record {
+          busy = h.busy;
           number = h.number;
           there = h.there;
           before = h.before;
@@ -304,38 +336,60 @@ module _ (c d : Settings) (joined : AreJoined c d) (reads : ReadsSpelled) (laws 
           heard = h.heard;
           tells = subst (λ (n : ℕ). LastTells n h.number (h.behind ++ p.next)) (sym same)
               (tells_behind r r h.number h.behind p.next h.tells (λ k is. next_tells r k w.far.station.outgoing.place u.near.station.outgoing.place p.next is p.sends));
+          told = told_more w u h.busy h.behind p free h.told;
         })),
       )
-  far_puts w u (b, inr (inr h)) p free =
+  far_puts w u (b, inr (inr (inl (h, unbusy)))) p free =
       let r = length w.far.station.taken in
       let same : length u.near.station.taken ≡ r = ap length p.taken in (
-        far_puts_both w u b p free,
-        inr (inr (record {
+        far_puts_pair w u b p free,
+        inr (inr (inl ((
+          record {
+            there = h.there;
+            behind = h.behind ++ p.next;
+            out = subst (λ (os : List (List ℕ)). Reads (other d.role) d.longest os h.there) (sym p.back) h.out;
+            back = p.out h.behind h.back;
+            recovery = subst (λ (e : StationEnd). e.station.recovery ≡ false) (sym p.far) h.recovery;
+            peer_busy = subst (λ (e : StationEnd). e.station.peer_busy ≡ false) (sym p.far) h.peer_busy;
+            ahead = subst (λ (e : StationEnd). Ahead (length u.near.station.taken) h.there e.station.outgoing.place) (sym p.far)
+                (subst (λ (n : ℕ). Ahead n h.there w.near.station.outgoing.place) (sym same) h.ahead);
+            reports = subst (λ (e : StationEnd). Reports (length u.near.station.taken) e.station.outgoing.acked (h.behind ++ p.next)) (sym p.far)
+                (subst (λ (n : ℕ). Reports n w.near.station.outgoing.acked (h.behind ++ p.next)) (sym same)
+                (reports_more r w.near.station.outgoing.acked w.far.station.outgoing.place u.near.station.outgoing.place h.behind p.next h.reports p.sends));
+          },
+          free,
+        )))),
+      )
+  far_puts w u (b, inr (inr (inr (inl h)))) p free =
+      let r = length w.far.station.taken in
+      let same : r ≡ length u.near.station.taken = sym (ap length p.taken) in (
+        far_puts_pair w u b p free,
+        inr (inr (inr (inl (record {
+          number = h.number;
           there = h.there;
           behind = h.behind ++ p.next;
           out = subst (λ (os : List (List ℕ)). Reads (other d.role) d.longest os h.there) (sym p.back) h.out;
           back = p.out h.behind h.back;
           recovery = subst (λ (e : StationEnd). e.station.recovery ≡ false) (sym p.far) h.recovery;
-          peer_busy = subst (λ (e : StationEnd). e.station.peer_busy ≡ false) (sym p.far) h.peer_busy;
-          ahead = subst (λ (e : StationEnd). Ahead ⊥ (length u.near.station.taken) h.there e.station.outgoing.place) (sym p.far)
-              (subst (λ (n : ℕ). Ahead ⊥ n h.there w.near.station.outgoing.place) (sym same) h.ahead);
-          reports = subst (λ (e : StationEnd). Reports (length u.near.station.taken) e.station.outgoing.acked (h.behind ++ p.next)) (sym p.far)
-              (subst (λ (n : ℕ). Reports n w.near.station.outgoing.acked (h.behind ++ p.next)) (sym same)
-              (reports_more r w.near.station.outgoing.acked w.far.station.outgoing.place u.near.station.outgoing.place h.behind p.next h.reports p.sends));
-        })),
+          peer_busy = subst (λ (e : StationEnd). e.station.peer_busy ≡ true) (sym p.far) h.peer_busy;
+          mild = h.mild;
+          place = subst (λ (e : StationEnd). e.station.outgoing.place ≡ length u.near.station.taken) (sym p.far) (h.place ∙ same);
+          acked = subst (λ (e : StationEnd). e.station.outgoing.acked ≡ length u.near.station.taken) (sym p.far) (h.acked ∙ same);
+          tells = subst (λ (n : ℕ). LastTells n h.number (h.behind ++ p.next)) same
+              (tells_behind r r h.number h.behind p.next h.tells (λ k is. next_tells r k w.far.station.outgoing.place u.near.station.outgoing.place p.next is p.sends));
+          told = told_more w u true h.behind p free h.told;
+        })))),
       )
+  far_puts w u (b, inr (inr (inr (inr h)))) p free =
+      not_both (is_busy w.far.station) (busy_is w.far.station b.sound.far_said.calm b.far_on h.told) (free_before w.far.station u.near.station p.grows free)
 
   pub far_put : (packet : List ℕ) (w : Stations) → Heals c d w → is_busy (acts d (Put packet) (swapped w)).near.station ≡ false → Heals c d (swapped (acts d (Put packet) (swapped w)))
   far_put packet w h free =
-      far_puts w (acts d (Put packet) (swapped w)) h (puts d c twisted reads laws packet (swapped w) (sound_swapped c d joined w h.0.sound) h.0.far_on) free
+      far_puts w (acts d (Put packet) (swapped w)) h (puts d c twisted reads laws busy_laws packet (swapped w) (sound_swapped c d joined w h.0.sound) h.0.far_on) free
 
 -- ---- both ends, packet by packet
 
--- an end is no less busy for a packet that is put
-free_before : (s u : LinkStation) → waits s.outgoing ≤ waits u.outgoing → is_busy u ≡ false → is_busy s ≡ false
-free_before s u grows free = (let few = ltb-false _ _ free in le-ltb _ _ (omega (arith, few, grows)))
-
-module _ (c d : Settings) (joined : AreJoined c d) (reads : ReadsSpelled) (laws : HealingLaws) where
+module _ (c d : Settings) (joined : AreJoined c d) (reads : ReadsSpelled) (laws : HealingLaws) (busy_laws : BusyLaws) where
   turned : AreJoined d c
   turned = joined_swapped c d joined
 
@@ -344,12 +398,12 @@ module _ (c d : Settings) (joined : AreJoined c d) (reads : ReadsSpelled) (laws 
   free_now [] w are h up far_up free = free
   free_now (Near (Put packet) ∷ es) w are h up far_up free =
       let v : Stations = acts c (Put packet) w in
-      let p = puts c d joined reads laws packet w h up in
+      let p = puts c d joined reads laws busy_laws packet w h up in
       let later = free_now es v are.1 p.sound p.up (subst (λ (e : StationEnd). is_up e.station.phase ≡ true) (sym p.far) far_up) free.1 in
       (free_before w.near.station v.near.station p.grows later.0, subst (λ (e : StationEnd). is_busy e.station ≡ false) p.far later.1)
   free_now (Far (Put packet) ∷ es) w are h up far_up free =
       let v : Stations = acts d (Put packet) (swapped w) in
-      let p = puts d c turned reads laws packet (swapped w) (sound_swapped c d joined w h) far_up in
+      let p = puts d c turned reads laws busy_laws packet (swapped w) (sound_swapped c d joined w h) far_up in
       let later = free_now es (swapped v) are.1 (sound_swapped d c turned v p.sound) (subst (λ (e : StationEnd). is_up e.station.phase ≡ true) (sym p.far) up) p.up free.1 in
       (subst (λ (e : StationEnd). is_busy e.station ≡ false) p.far later.0, free_before w.far.station v.near.station p.grows later.1)
   free_now (Near Deliver ∷ es) w are h up far_up free = free.0
@@ -357,27 +411,27 @@ module _ (c d : Settings) (joined : AreJoined c d) (reads : ReadsSpelled) (laws 
   free_now (event ∷ es) w are h up far_up free = absurd are.0
 
   abbrev BothHeal : Stations → Type 0
-  BothHeal w = HealsBoth c d joined reads laws w
+  BothHeal w = HealsBoth reads laws busy_laws c d w
 
   near_packet : (packet : List ℕ) (es : List Event) (w : Stations) → AreDeliveriesAndPuts es → BothHeal w → FreeThroughout c d es (acts c (Put packet) w) → BothHeal (acts c (Put packet) w)
   near_packet packet es w are h free =
       let v : Stations = acts c (Put packet) w in
-      let p = puts c d joined reads laws packet w h.0.0.sound h.0.0.near_on in
+      let p = puts c d joined reads laws busy_laws packet w h.0.0.sound h.0.0.near_on in
       let now = free_now es v are p.sound p.up (subst (λ (e : StationEnd). is_up e.station.phase ≡ true) (sym p.far) h.0.0.far_on) free in
-      (near_put c d joined reads laws packet w h.0 now.0, far_put d c turned reads laws packet (swapped w) h.1 now.0)
+      (near_put c d joined reads laws busy_laws packet w h.0 now.0 (subst (λ (e : StationEnd). is_busy e.station ≡ false) p.far now.1), far_put d c turned reads laws busy_laws packet (swapped w) h.1 now.0)
 
   far_packet : (packet : List ℕ) (es : List Event) (w : Stations) → AreDeliveriesAndPuts es → BothHeal w → FreeThroughout c d es (swapped (acts d (Put packet) (swapped w)))
       → BothHeal (swapped (acts d (Put packet) (swapped w)))
   far_packet packet es w are h free =
       let v : Stations = acts d (Put packet) (swapped w) in
-      let p = puts d c turned reads laws packet (swapped w) h.1.0.sound h.1.0.near_on in
+      let p = puts d c turned reads laws busy_laws packet (swapped w) h.1.0.sound h.1.0.near_on in
       let now = free_now es (swapped v) are (sound_swapped d c turned v p.sound) (subst (λ (e : StationEnd). is_up e.station.phase ≡ true) (sym p.far) h.0.0.near_on) p.up free in
-      (far_put c d joined reads laws packet w h.0 now.1, near_put d c turned reads laws packet (swapped w) h.1 now.1)
+      (far_put c d joined reads laws busy_laws packet w h.0 now.1, near_put d c turned reads laws busy_laws packet (swapped w) h.1 now.1 (subst (λ (e : StationEnd). is_busy e.station ≡ false) p.far now.0))
 
   pub puts_run : (es : List Event) (w : Stations) → AreDeliveriesAndPuts es → BothHeal w → FreeThroughout c d es w → BothHeal (run c d es w)
   puts_run [] w are h free = h
   puts_run (Near (Put packet) ∷ es) w are h free = puts_run es (acts c (Put packet) w) are.1 (near_packet packet es w are.1 h free.1) free.1
   puts_run (Far (Put packet) ∷ es) w are h free = puts_run es (swapped (acts d (Put packet) (swapped w))) are.1 (far_packet packet es w are.1 h free.1) free.1
-  puts_run (Near Deliver ∷ es) w are h free = puts_run es (acts c Deliver w) are.1 (both_near c d joined reads laws Deliver w tt h) free.1
-  puts_run (Far Deliver ∷ es) w are h free = puts_run es (swapped (acts d Deliver (swapped w))) are.1 (both_far c d joined reads laws Deliver w tt h) free.1
+  puts_run (Near Deliver ∷ es) w are h free = puts_run es (acts c Deliver w) are.1 (both_near reads laws busy_laws c d joined Deliver w tt h) free.1
+  puts_run (Far Deliver ∷ es) w are h free = puts_run es (swapped (acts d Deliver (swapped w))) are.1 (both_far reads laws busy_laws c d joined Deliver w tt h) free.1
   puts_run (event ∷ es) w are h free = absurd are.0

@@ -1,9 +1,9 @@
 -- From a quiet moment, a firing and deliveries heal an end; and what rest shows.
-use Rattle.std.proofs.Common.{◌≡◌, ℕ, ◌+◌, ◌%◌, ◌≤◌, ◌<◌, List, [], ◌∷◌, ◌++◌, inl, inr, length, map, Bool, true, false, if◌then◌else◌, Option, Some, None, refl, sym, ap, ◌∙◌, subst, arith}
-use Rattle.std.specs.Prelude.{◌||◌, nat_lt, nat_le}
-use Rattle.std.proofs.lemmas.Bool.{and_right}
+use Rattle.std.proofs.Common.{◌≡◌, ℕ, ◌+◌, ◌%◌, ◌≤◌, ◌<◌, List, [], ◌∷◌, ◌++◌, length, map, Bool, true, false, if◌then◌else◌, Option, Some, None, refl, sym, ap, ◌∙◌, subst, arith}
+use Rattle.std.specs.Prelude.{◌||◌, nat_lt, nat_le, ◌==◌, ◌-◌, ◌&&◌}
+use Rattle.std.proofs.lemmas.Bool.{and_right, eqb-true, and_parts}
 use Rattle.x25_bits.specs.declared.role.Role.{Role}
-use Rattle.x25_frame.specs.Frame.{PlainFrame, rr}
+use Rattle.x25_frame.specs.Frame.{PlainFrame}
 use Rattle.x25_frame.specs.Spelling.{spelling_of}
 use Rattle.x25_frame.specs.laws.ReadingLaw.{ReadsSpelled}
 use Rattle.x25_link.specs.declared.error.LinkError.{LinkError}
@@ -18,14 +18,13 @@ use Rattle.x25_line.specs.laws.StationClaims.{AreJoined, AreWhole}
 use Rattle.x25_line.specs.laws.WholeNumbers.{machine_acts}
 use Rattle.x25_line.specs.Healing.{IsDeliver, IsDelivery, AreDeliveries}
 use Rattle.x25_line.specs.laws.LawsBelow.{HealingLaws}
+use Rattle.x25_link.specs.Outgoing.{waits}
 use Rattle.x25_line.proofs.HealingOnce.{IsDrained, HasArrived, ShowsAtRest}
 use Rattle.x25_line.proofs.StationRuns.{machine_joint}
 use Rattle.x25_line.proofs.StationClaimLemmas.{holds_order, holds_lists}
 use Rattle.x25_line.proofs.StationEvents.{each_hands_one}
-use Rattle.x25_line.proofs.HealingLines.{Reads, reads_more, whole_behind, reads_none, one_frame, not_behind}
+use Rattle.x25_line.proofs.HealingLines.{Reads, reads_more, whole_behind}
 use Rattle.x25_line.proofs.HealingSteps.{Sound, near_up, up_is, deliver_is}
-use Rattle.x25_line.proofs.HealingResent.{resent_rests}
-use Rattle.x25_line.proofs.HealingPhases.{Heals, rest_has_all, near_heals, far_heals, ups}
 
 -- ---- each end has said all that it may, after each event
 
@@ -82,6 +81,16 @@ module _ (laws : HealingLaws) where
   fresh_said k = record { low = omega arith; settled = and_right (nat_lt 0 (0 + k)) _ refl; calm = refl }
 
 -- ---- what rest shows
+
+-- nothing waits where a station is at rest, and all is acknowledged
+rest_has_all : (s : LinkStation) → IsAtRest s → s.outgoing.sent ≤ length s.outgoing.given → s.outgoing.acked ≡ s.outgoing.sent → length s.outgoing.given ≡ s.outgoing.acked
+rest_has_all s rest high same =
+    let outer = and_parts (is_up s.phase) (waits s.outgoing == 0 && s.outgoing.acked == s.outgoing.sent) rest.idle in
+    let inner = and_parts (waits s.outgoing == 0) (s.outgoing.acked == s.outgoing.sent) outer.1 in
+    counts (length s.outgoing.given) s.outgoing.sent s.outgoing.acked (eqb-true (waits s.outgoing) 0 inner.0) same high
+  where
+    counts : (n m a : ℕ) → n - m ≡ 0 → a ≡ m → m ≤ n → n ≡ a
+    counts n m a none same high = omega arith
 
 module _ (c d : Settings) (joined : AreJoined c d) (reads : ReadsSpelled) (laws : HealingLaws) where
   pub arrives : (w : Stations) → Sound c d w → is_up w.near.station.phase ≡ true → IsAtRest w.near.station → HasArrived w.near w.far
@@ -170,41 +179,7 @@ module _ (c d : Settings) (joined : AreJoined c d) (reads : ReadsSpelled) (laws 
           (subst (λ (from : Role). Reads (other d.role) d.longest (w.out ++ map (spelling_of from) step.side.out) step.side.out) joined.near_role
           (reads_more reads (other d.role) d.longest given w.out [] step.side.out (subst (λ (os : List (List ℕ)). Reads (other d.role) d.longest os []) (sym empty) tt) whole))
 
-  -- RR goes where the end isn't busy
-  pub record Fired (w v : Stations) : Type 0 where
-    pub sound : Sound c d v
-    pub up : is_up v.near.station.phase ≡ true
-    pub free : is_busy v.near.station ≡ false
-    pub recovery : v.near.station.recovery ≡ true
-    pub number : ℕ
-    pub is : number ≡ length v.near.station.taken % 8
-    pub out : Reads (other d.role) d.longest v.out (rr true number true ∷ [])
-    pub back : v.back ≡ w.back
-    pub far : v.far ≡ w.far
-
-  pub fires : (w : Stations) → Sound c d w → w.out ≡ [] → is_up w.near.station.phase ≡ true → is_busy w.near.station ≡ false
-      → timer_runs w.near.station.phase w.near.station ≡ true → w.near.station.tries < c.retries → Fired w (acts c T1 w)
-  fires w h empty up free running few =
-      let p = sends_poll w h empty up running few in
-      record {
-        sound = p.sound;
-        up = p.up;
-        free = p.busy ∙ free;
-        recovery = p.recovery;
-        number = p.number;
-        is = p.is;
-        out = subst (λ (busy : Bool). Reads (other d.role) d.longest (acts c T1 w).out (says busy true p.number true ∷ [])) free p.out;
-        back = p.back;
-        far = p.far;
-      }
-
   -- ---- deliveries
-
-  pub near_event : (a : Act) (w : Stations) → IsDeliver a → Heals c d w → Heals c d (acts c a w)
-  near_event a w is h = subst (λ (act : Act). Heals c d (acts c act w)) (deliver_is a is) (near_heals c d joined reads laws w h)
-
-  pub far_event : (a : Act) (w : Stations) → IsDeliver a → Heals c d w → Heals c d (swapped (acts d a (swapped w)))
-  far_event a w is h = subst (λ (act : Act). Heals c d (swapped (acts d act (swapped w)))) (deliver_is a is) (far_heals c d joined reads laws w h)
 
   idle_act : (a : Act) (w : Stations) → IsDeliver a → w.back ≡ [] → acts c a w ≡ w
   idle_act a w is none = subst (λ (act : Act). acts c act w ≡ w) (deliver_is a is) (ap (λ (os : List (List ℕ)). delivered c os w) none)
@@ -216,15 +191,6 @@ module _ (c d : Settings) (joined : AreJoined c d) (reads : ReadsSpelled) (laws 
   idle_run [] w are drained = refl
   idle_run (Near a ∷ es) w are drained = ap (run c d es) (idle_act a w are.0 drained.back) ∙ idle_run es w are.1 drained
   idle_run (Far a ∷ es) w are drained = ap (run c d es) (far_idle_act a w are.0 drained.out) ∙ idle_run es w are.1 drained
-
-  -- ---- the end
-
-  -- once nothing is on the line any more, the near end is at rest
-  pub settles : (v : Stations) → Heals c d v → IsDrained v → IsAtRest v.near.station
-  settles v (b, inl h) drained = one_frame _ _ (reads_none (other d.role) d.longest v.out (rr true h.number true ∷ h.rest) h.out drained.out)
-  settles v (b, inr (inl h)) drained = not_behind h.before (rr false h.number true) h.behind (reads_none (other c.role) c.longest v.back (h.before ++ rr false h.number true ∷ h.behind) h.back drained.back)
-  settles v (b, inr (inr h)) drained = resent_rests ⊥ c d joined reads laws v (ups v b) h drained
-  -- ---- no tries are left
 
 -- ---- the same with the ends swapped
 

@@ -32,7 +32,6 @@ use Rattle.x25_line.proofs.sessions.SessionHeld.{View, Live, Soon, Gone, IsView,
 use Rattle.x25_line.proofs.sessions.SessionRuns.{throughout}
 use Rattle.x25_line.proofs.sessions.TwoSessions.{idle_has_arrived}
 use Rattle.x25_line.proofs.HealingSteps.{Sound, deliver_is}
-use Rattle.x25_line.proofs.HealingBoth.{HealsBoth, both_settle}
 use Rattle.x25_line.proofs.HealingEnds.{after_firings}
 use Rattle.x25_line.proofs.HealingSessions.{said_from}
 
@@ -327,8 +326,3 @@ module _ (reads : ReadsSpelled) (laws : HealingLaws) where
         there = h.there ∙ same.near w.near.begun;
         back = h.back ∙ same.far w.far.begun;
       }
-
-  pub come_to_rest : (c d : Settings) (joined : AreJoined c d) (v : Stations) → HealsBoth c d joined reads laws v → IsDrained v → HaveComeToRest v
-  come_to_rest c d joined v heals drained =
-      let rest = both_settle c d joined reads laws v heals drained in
-      record { near = rest.0.rest; far = rest.1.rest; once = record { near = heals.0.0.sound.joint.near_notes.once; far = heals.0.0.sound.joint.far_notes.once } }

@@ -18,10 +18,7 @@ pub mod HealingOnce
 pub mod HealingLines
 pub mod HealingSteps
 pub mod HealingResent
-pub mod HealingPhases
 pub mod HealingRuns
-pub mod HealingBoth
-pub mod HealingPuts
 pub mod HealingGone
 pub mod HealingSetUp
 pub mod HealingEnds
@@ -34,8 +31,9 @@ pub mod DrainSteps
 pub mod DrainRuns
 pub mod DrainSessions
 pub mod BusyLines
-pub mod BusyPhases
-pub mod BusyRuns
+pub mod HealingPhases
+pub mod HealingBoth
+pub mod HealingPuts
 pub mod BusySessions
 pub mod sessions
 pub mod ends
