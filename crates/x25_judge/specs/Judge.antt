@@ -1,6 +1,6 @@
 -- What `judge` writes, as a function of what it reads (profile): for each line what `decode` writes, and the rule or
 -- manners that its frame breaks.
-use Rattle.std.specs.Prelude.{ℕ, Bool, true, false, not, ◌&&◌, ◌||◌, List, [], ◌∷◌, ◌++◌, codes, if◌then◌else◌, Option}
+use Rattle.std.specs.Prelude.{ℕ, Bool, true, false, not, ◌&&◌, ◌||◌, List, [], ◌++◌, codes, if◌then◌else◌, Option}
 use Rattle.std.specs.Prelude.{Some, None, is_some, Result, Ok, Err}
 use Rattle.x25_bits.specs.declared.role.Role.{Role}
 use Rattle.x25_bits.specs.declared.role.Role.TheVariants.{Dte, Dce}

@@ -263,7 +263,7 @@ abbrev pub sends_back : ℕ → Sides → Sides
 sends_back number t = with_other (with_way (sent_back number t.other.way) t.other) t
 
 abbrev pub numbers : ℕ → ℕ → Bool → Bool → Sides → Sides
-numbers window ns p is_same t = of_own (sent window ns p is_same t.own.way) t
+numbers window ns p is_same t = of_own (sent window ns p is_same (way.steady ns t.own.way)) t
 
 unfoldable pub sends_info : ℕ → ℕ → ℕ → Bool → Bool → Sides → Sides
 sends_info window ns nr p is_same t = numbers window ns p is_same (hears nr (bits true p (runs t)))
@@ -317,6 +317,19 @@ accepting_way Answered w = answering_again w
 accepting_way Up w = answering_again w
 accepting_way Unanswered w = answering_again w
 
+-- The other end may have had UA before, and sent no number since, where this end is up by it.
+abbrev pub is_answered : Phase → Bool
+is_answered Unseen = false
+is_answered Out = false
+is_answered Waiting = false
+is_answered Answered = true
+is_answered Up = false
+is_answered Unanswered = false
+
+abbrev pub answering_way : Phase → Phase → Way → Way
+answering_way phase own w = if is_answered phase && (is_up own && way.may_keep_former w) then way.keeps_former w
+    else accepting_way phase w
+
 -- the I frames of the end that UA answers, from whose SABM on the N(R)s begin anew
 abbrev pub accepted_way : Phase → Way → Way
 accepted_way Unseen w = lost w
@@ -335,7 +348,7 @@ abbrev pub accepts : Sides → Sides
 accepts t = with_other (with_phase (accepted t.other.phase)
     (with_way (deafened (is_late t) (accepted_way t.other.phase t.other.way)) t.other))
     (with_own (with_phase (accepting t.own.phase)
-    (with_way (deafened (is_late t) (accepting_way t.other.phase t.own.way)) t.own)) t)
+    (with_way (deafened (is_late t) (answering_way t.other.phase t.own.phase t.own.way)) t.own)) t)
 
 -- behind UA of the first end: the other one may go up, and numbers of either aren't judged
 abbrev pub lag_of : Sides → Option Note
@@ -375,11 +388,11 @@ sees window is_same (frmr f why) t = leaves (ends (answers_if f t))
 -- N(R)s of the first end: numbers of the other one are known, and no frame was missed or left out that explains one
 abbrev pub judges_hearing : Sides → Bool
 judges_hearing t = not (is_unseen t.own.phase) && (way.is_sure t.other.way && (not t.other.way.is_missed
-    && nat_le t.other.way.pending t.other.way.kept))
+    && (t.other.way.former == 0 && nat_le t.other.way.pending t.other.way.kept)))
 
--- N(S)s of the first end: its numbers are known, and no frame of it was missed
+-- N(S)s of the first end: its numbers are known, none of before a UA counts, and no frame of it was missed
 abbrev pub judges_sending : Sides → Bool
-judges_sending t = not (way.is_unseen t.own.way) && not t.own.way.is_missed
+judges_sending t = not (way.is_unseen t.own.way) && (not t.own.way.is_missed && t.own.way.former == 0)
 
 -- UA: what was asked is known
 abbrev pub judges_answer : ℕ → Sides → Bool

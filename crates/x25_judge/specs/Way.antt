@@ -6,6 +6,7 @@ use Rattle.std.specs.Prelude.{min, Some, None}
 use Rattle.x25_packet_judge.specs.Numbers.{apart}
 use Rattle.x25_judge.specs.declared.note.Note.{Note}
 use Rattle.x25_judge.specs.declared.note.Note.TheVariants.{SentAgain, SentBehindDamage, HeardBehindDamage}
+use Rattle.x25_judge.specs.declared.note.Note.TheVariants.{NumbersUnjudged}
 use Rattle.x25_judge.specs.declared.rule.Rule.{Rule}
 use Rattle.x25_judge.specs.declared.rule.Rule.TheVariants.{Unsent, Falls, RejectAgain, OverWindow, Skips, Repeats}
 use Rattle.x25_judge.specs.declared.rule.Rule.TheVariants.{Differs}
@@ -42,6 +43,7 @@ begun sight = record {
   farthest = 0;
   is_rejected = false;
   is_missed = false;
+  former = 0;
 }
 
 -- these are known where the other end's N(R)s begin from there too
@@ -111,7 +113,19 @@ answered_again w = if w.is_missed then lost w else w
 -- The end answers again: its numbers begin anew, but the N(R)s of the other end, which is up by the first answer, go on
 -- where I frames were sent since.
 abbrev pub answering_again : Way → Way
-answering_again w = begun (if is_fresh w then w.sight else Deaf)
+answering_again w = begun (if is_fresh w && w.former == 0 then w.sight else Deaf)
+
+-- But where all numbers before are known, and none of them was acknowledged, N(R)s are within these or within those
+-- that begin, and both are alike once as many are acknowledged as went before.
+abbrev pub may_keep_former : Way → Bool
+may_keep_former w = w.former == 0 && (w.pending == w.ever && not w.is_missed)
+
+abbrev pub keeps_former : Way → Way
+keeps_former w = record (begun w.sight) { former = w.pending }
+
+-- so it is where numbers go one by one
+abbrev pub steady : ℕ → Way → Way
+steady number w = deafened (nat_lt 0 w.former && not (w.next == number)) w
 
 -- the lowest N(R) that may come: the last one
 abbrev pub awaited : Way → ℕ
@@ -130,15 +144,24 @@ invalid ahead w = if nat_le (8 - ahead) (w.ever - w.pending) && nat_lt (8 - ahea
 
 -- all below is acknowledged, and where that is more than before, what was asked for by REJ has come
 abbrev pub acknowledged : ℕ → Way → Way
-acknowledged ahead w = record w { sight = Sure; pending = w.pending - ahead; is_rejected = w.is_rejected && ahead == 0 }
+acknowledged ahead w = record w {
+  sight = Sure;
+  pending = w.pending - ahead;
+  is_rejected = w.is_rejected && ahead == 0;
+  former = w.former - ahead;
+}
 
 -- No further one is judged: until one is valid where a frame of the end that was missed may explain it, else until the
 -- next set-up, since the end may have heard it or not.
-abbrev pub strayed : ℕ → Way → Told
-strayed ahead w =
+abbrev pub strayed_on : ℕ → Way → Told
+strayed_on ahead w =
     if not (is_sure w) then (if w.is_missed then quiet (astray w) else quiet (deaf w))
     else if w.is_missed then notes HeardBehindDamage (astray w)
     else breaks (invalid ahead w) (deaf w)
+
+-- within those of before a UA that came again it shows that the other end goes by these
+abbrev pub strayed : ℕ → Way → Told
+strayed ahead w = if nat_le ahead w.former then notes NumbersUnjudged (deaf w) else strayed_on ahead w
 
 abbrev pub heard_ahead : ℕ → Way → Told
 heard_ahead ahead w = if nat_le ahead w.pending then quiet (acknowledged ahead w) else strayed ahead w
@@ -197,6 +220,7 @@ grown_to count reach pending w = record {
   farthest = min (w.farthest + count) 255;
   is_rejected = w.is_rejected;
   is_missed = false;
+  former = w.former;
 }
 
 -- So many numbers more. With eight unacknowledged an N(R) stands for two of them. V(S) can't be set back to one that is

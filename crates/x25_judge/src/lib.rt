@@ -1,7 +1,7 @@
 //! The judge of a trace, over any reader and writer: which end broke which rule of the link layer or of the packet
 //! layer.
 //!
-//! docs/FORMATS.md has the lines and what is said of them. Profile.
+//! docs/FORMATS.md has the lines, and docs/JUDGE.md what is said of them. Profile.
 #![tactic(auto)]
 
 mod answerer;

@@ -181,6 +181,24 @@ impl Phase {
         }
     }
 
+    /// Whether UA was shown to it, and no frame with a number of it since.
+    fn is_answered(self) -> bool
+        ensures { result ≡ definition.is_answered self }
+    {
+        matches!(self, Phase::Answered)
+    }
+
+    /// The same, where the end that sent it was in `own`.
+    fn answering_way(self, own: Phase, way: Way) -> Way
+        ensures { result ≡ definition.answering_way self own way }
+    {
+        if self.is_answered() && (own.is_up() && way.may_keep_former()) {
+            way.keeps_former()
+        } else {
+            self.accepting_way(way)
+        }
+    }
+
     /// The I frames of an end behind a UA that was sent to it.
     fn accepted_way(self, way: Way) -> Way
         ensures { result ≡ definition.accepted_way self way }
@@ -483,7 +501,7 @@ impl Sides {
         ensures { result ≡ definition.sends_info window ns nr p is_same self }
     {
         let next = self.runs().bits(true, p).hears(nr);
-        next.of_own(next.own.way.sent(window, ns, p, is_same))
+        next.of_own(next.own.way.steady(ns).sent(window, ns, p, is_same))
     }
 
     #[tactic(auto, unfolding(crate::specs::Sides::sends_ready))]
@@ -561,7 +579,9 @@ impl Sides {
     {
         let is_late = self.is_late();
         let phase = self.other.phase;
-        let own = phase.accepting_way(self.own.way).deafened(is_late);
+        let own = phase
+            .answering_way(self.own.phase, self.own.way)
+            .deafened(is_late);
         let own = self.own.with_way(own);
         let other = phase.accepted_way(self.other.way).deafened(is_late);
         let other = self.other.with_way(other);
@@ -640,14 +660,14 @@ impl Sides {
     {
         let way = self.other.way;
         !self.own.phase.is_unseen()
-            && (way.is_sure() && (!way.is_missed && way.pending <= way.kept))
+            && (way.is_sure() && (!way.is_missed && (way.former == 0 && way.pending <= way.kept)))
     }
 
     /// Whether its N(S) is.
     fn judges_sending(self) -> bool
         ensures { result ≡ definition.judges_sending self }
     {
-        !self.own.way.is_unseen() && !self.own.way.is_missed
+        !self.own.way.is_unseen() && (!self.own.way.is_missed && self.own.way.former == 0)
     }
 
     /// Whether a UA is, to so many that the other end asked for.

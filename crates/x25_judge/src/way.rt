@@ -41,6 +41,8 @@ pub(crate) struct Way {
     pub(crate) is_rejected: bool,
     /// A damaged frame may have been an I frame.
     pub(crate) is_missed: bool,
+    /// How many more the other end may acknowledge of those before the end's last UA, which it may be behind.
+    pub(crate) former: u8,
 }
 
 /// A way behind a frame, the rule that the frame breaks, what is noted of it, and whether it is an I frame that was
@@ -113,6 +115,7 @@ impl Way {
             farthest: 0,
             is_rejected: false,
             is_missed: false,
+            former: 0,
         }
     }
 
@@ -247,11 +250,35 @@ impl Way {
     pub(crate) fn answering_again(self) -> Way
         ensures { result ≡ definition.answering_again self }
     {
-        Way::begun(if self.is_fresh() {
+        Way::begun(if self.is_fresh() && self.former == 0 {
             self.sight
         } else {
             Sight::Deaf
         })
+    }
+
+    /// Whether N(R)s are judged on behind a UA that comes again: all of the few numbers before it are known.
+    pub(crate) fn may_keep_former(self) -> bool
+        ensures { result ≡ definition.may_keep_former self }
+    {
+        self.former == 0 && (self.pending == self.ever && !self.is_missed)
+    }
+
+    /// The end answers again, and the other one may go by the numbers of before or by those that begin.
+    pub(crate) fn keeps_former(self) -> Way
+        ensures { result ≡ definition.keeps_former self }
+    {
+        Way {
+            former: self.pending,
+            ..Way::begun(self.sight)
+        }
+    }
+
+    /// N(R)s are judged on so only where numbers go one by one.
+    pub(crate) fn steady(self, number: u8) -> Way
+        ensures { result ≡ definition.steady number self }
+    {
+        self.deafened(0 < self.former && self.next != number)
     }
 
     /// The lowest N(R) that may come.
@@ -294,15 +321,18 @@ impl Way {
             sight: Sight::Sure,
             pending: self.pending.saturating_sub(ahead),
             is_rejected: self.is_rejected && ahead == 0,
+            former: self.former.saturating_sub(ahead),
             ..self
         }
     }
 
-    /// An N(R) that isn't valid, which a frame that was missed may explain.
+    /// An N(R) that isn't valid: it may be of before a UA that came again, or a frame that was missed may explain it.
     fn strayed(self, ahead: u8) -> Told
         ensures { result ≡ definition.strayed ahead self }
     {
-        if !self.is_sure() {
+        if ahead <= self.former {
+            notes(Note::NumbersUnjudged, self.deaf())
+        } else if !self.is_sure() {
             if self.is_missed {
                 quiet(self.astray())
             } else {
@@ -395,6 +425,7 @@ impl Way {
             farthest: self.farthest.saturating_add(count),
             is_rejected: self.is_rejected,
             is_missed: false,
+            former: self.former,
         }
     }
 

@@ -1,7 +1,7 @@
 -- An end that keeps the rules beside the judge: what the judge counts is what the end may have come to, or more.
-use Rattle.std.proofs.Common.{◌≡◌, ◌==◌, ◌⊎◌, inl, inr, ℕ, ◌+◌, ◌-◌, ◌%◌, ◌<◌, ◌≤◌, arith, max, Bool, true, false, if◌then◌else◌, List, [], ◌∷◌, ◌++◌, length, Option, None, Ok, refl, sym, ap, ◌∙◌, subst}
-use Rattle.std.specs.Prelude.{nat_le, nat_lt, not}
-use Rattle.std.proofs.lemmas.Bool.{eq-eqb, ltb-true, both_ways, cond_both, cond-true, cases_eq}
+use Rattle.std.proofs.Common.{◌≡◌, ◌==◌, ◌⊎◌, inl, inr, ℕ, ◌+◌, ◌-◌, ◌%◌, ◌<◌, ◌≤◌, arith, min, max, Bool, true, false, if◌then◌else◌, List, [], ◌∷◌, ◌++◌, length, Option, None, Ok, refl, sym, ap, ◌∙◌, subst}
+use Rattle.std.specs.Prelude.{nat_le, nat_lt, not, ◌&&◌}
+use Rattle.std.proofs.lemmas.Bool.{eq-eqb, ltb-true, and_parts, both_ways, cond_both, cond-true, cases_eq}
 use Rattle.std.proofs.lemmas.List.{length_push}
 use Rattle.x25_bits.specs.declared.role.Role.{Role}
 use Rattle.x25_bits.specs.Role.{other}
@@ -13,7 +13,7 @@ use Rattle.x25_judge.specs.Judge.{sides_of, held_of, seen_by}
 use Rattle.x25_judge.specs.Sides as sides
 use Rattle.x25_judge.specs.Way as way
 use Rattle.x25_judge.specs.declared.judge.Judge.{Judge}
-use Rattle.x25_judge.specs.declared.note.Note.TheVariants.{HeardBehindDamage}
+use Rattle.x25_judge.specs.declared.note.Note.TheVariants.{HeardBehindDamage, NumbersUnjudged}
 use Rattle.x25_judge.specs.declared.rule.Rule.{Rule}
 use Rattle.x25_judge.specs.declared.way.Told.{Told}
 use Rattle.x25_packet_judge.specs.Numbers.{apart}
@@ -22,7 +22,7 @@ use Rattle.x25_judge.specs.declared.way.Way.{Way}
 use Rattle.x25_judge.specs.laws.Keeping.{MaySend}
 use Rattle.x25_judge.specs.laws.Session.{end_of, IsSupervisory, is_of_order}
 use Rattle.x25_judge.proofs.verdicts.Ways.{Counts, Numbered, deaf_numbered, same_numbered}
-use Rattle.x25_judge.proofs.verdicts.Fair.{Own, OwnIf, Fair, new_fair, old_fair, heard_fair}
+use Rattle.x25_judge.proofs.verdicts.Fair.{Own, OwnIf, Fair, Hears_fit, new_fair, old_fair, heard_fair}
 use Rattle.x25_judge.proofs.verdicts.Frames.{IsUp, AreSame, Owes, Settles, AreAlike, Sees, is_bool, runs_on, info_sees, ready_sees, reject_sees, first_of_order}
 use Rattle.x25_judge.proofs.verdicts.Lines.{Goes, stands}
 use Rattle.x25_judge.proofs.verdicts.Octets.{IsHeld, same_held, sent_held, same_octets, bare_held}
@@ -154,15 +154,29 @@ took_low (frame ∷ frames) a = both a (brings frame a) (took_all frames (brings
 abbrev pub Own_fit : ℕ → ℕ → ℕ → ℕ → Type 0
 Own_fit m u x y = (x ≡ m) × (u ≤ y)
 
-abbrev pub Hears_fit : ℕ → ℕ → ℕ → ℕ → Type 0
-Hears_fit g t x y = (g ≤ x) × (y ≡ t)
-
--- what the judge says of the N(R)s of an end that took g and said t: where no I frame was sent since the numbers began,
--- none was taken
+-- what the judge says of the N(R)s of an end that took g and said t
 pub record Hears (w : Way) (g t : ℕ) : Type 0 where
-  pub numbered : Numbered w (Hears_fit g t)
+  pub numbered : Numbered w (Hears_fit w.former g t)
   pub begun : way.may_hear w ≡ true → w.ever ≡ 0 → (w.behind ≡ 0) × (w.kept ≡ 0)
-  pub none : way.may_hear w ≡ true → w.ever ≡ 0 → (g ≡ 0) × (t ≡ 0)
+
+-- where no I frame was sent since the numbers began, and none of before counts, none was taken
+pub hears_none : (w : Way) (g t : ℕ) → Hears w g t → way.may_hear w ≡ true → w.ever ≡ 0 → w.former ≡ 0 → (g ≡ 0) × (t ≡ 0)
+hears_none w g t h hears ever former = let (x, y, fit, c) = h.numbered.counts hears in (taken x y fit c, told x y fit c)
+  where
+    told : (x y : ℕ) → Hears_fit w.former g t x y → Counts w x y → t ≡ 0
+    told x y fit c = at w.ever w.pending ever c.ever c.pending fit.1
+      where
+        at : (e p : ℕ) → e ≡ 0 → e ≡ min x 255 → p + y ≡ x → y ≡ t → t ≡ 0
+        at e p none is pending same = omega arith
+
+    taken : (x y : ℕ) → Hears_fit w.former g t x y → Counts w x y → g ≡ 0
+    taken x y fit c = elim fit.0 [ inl le ↦ by_sent w.ever ever c.ever le | inr few ↦ by_former w.ever w.pending w.former ever c.ever c.pending former few.0 ]
+      where
+        by_sent : (e : ℕ) → e ≡ 0 → e ≡ min x 255 → g ≤ x → g ≡ 0
+        by_sent e none is le = omega arith
+
+        by_former : (e p f : ℕ) → e ≡ 0 → e ≡ min x 255 → p + y ≡ x → f ≡ 0 → g ≤ y + f → g ≡ 0
+        by_former e p f none is pending bare le = omega arith
 
 -- the judge beside an end that sent m I frames, of which u are acknowledged at most, and took g at most, and said t
 pub record Seen (a b : End) (m u g t : ℕ) : Type 0 where
@@ -186,7 +200,7 @@ own_alike w v m u a h = record {
   ever = a.ever ∙ h.ever;
   kept = a.kept ∙ h.kept;
   whole = a.whole ∙ h.whole;
-  numbered = same_numbered w v (Own_fit m u) (Own_fit m u) a.sight a.next a.pending (λ x y next fit. fit) h.numbered;
+  numbered = same_numbered w v (Own_fit m u) (Own_fit m u) a.sight a.next a.pending a.ever (λ x y next fit. fit) h.numbered;
 }
 
 pub own_if_alike : (w v : Way) (m u : ℕ) → AreAlike w v → OwnIf w m u → OwnIf v m u
@@ -200,7 +214,7 @@ own_less w m u t le h = record {
   ever = h.ever;
   kept = h.kept;
   whole = h.whole;
-  numbered = same_numbered w w (Own_fit m u) (Own_fit m t) refl refl refl (λ x y next fit. (fit.0, below y fit.1)) h.numbered;
+  numbered = same_numbered w w (Own_fit m u) (Own_fit m t) refl refl refl refl (λ x y next fit. (fit.0, below y fit.1)) h.numbered;
 }
   where
     below : (y : ℕ) → u ≤ y → t ≤ y
@@ -210,45 +224,44 @@ pub own_if_less : (w : Way) (m u t : ℕ) → t ≤ u → OwnIf w m u → OwnIf 
 own_if_less w m u t le (inl unseen) = inl unseen
 own_if_less w m u t le (inr h) = inr (own_less w m u t le h)
 
-numbered_less : (w : Way) (g h t : ℕ) → h ≤ g → Numbered w (Hears_fit g t) → Numbered w (Hears_fit h t)
-numbered_less w g h t le n = same_numbered w w (Hears_fit g t) (Hears_fit h t) refl refl refl (λ x y next fit. (below x fit.0, fit.1)) n
+numbered_less : (w : Way) (g h t : ℕ) → h ≤ g → Numbered w (Hears_fit w.former g t) → Numbered w (Hears_fit w.former h t)
+numbered_less w g h t le n = same_numbered w w (Hears_fit w.former g t) (Hears_fit w.former h t) refl refl refl refl (λ x y next fit. (less x y fit.0, fit.1)) n
   where
     below : (x : ℕ) → g ≤ x → h ≤ x
     below x k = omega (arith, le)
+
+    less : (x y : ℕ) → (g ≤ x) ⊎ ((g ≤ y + w.former) × (w.former ≤ 7)) → (h ≤ x) ⊎ ((h ≤ y + w.former) × (w.former ≤ 7))
+    less x y (inl k) = inl (below x k)
+    less x y (inr k) = inr (below (y + w.former) k.0, k.1)
 
 pub hears_less : (w : Way) (g h t : ℕ) → h ≤ g → Hears w g t → Hears w h t
 hears_less w g h t le n = record {
   numbered = numbered_less w g h t le n.numbered;
   begun = n.begun;
-  none = λ hears ever. let (a, b) = n.none hears ever in (none a, b);
 }
-  where
-    none : g ≡ 0 → h ≡ 0
-    none e = omega (arith, le)
 
 hears_alike : (w v : Way) (g t : ℕ) → AreAlike w v → Hears w g t → Hears v g t
 hears_alike w v g t a n =
     let hears : way.may_hear v ≡ true → way.may_hear w ≡ true = λ (h : way.may_hear v ≡ true). sym (ap way.may_hear_sight a.sight) ∙ h in
     record {
-      numbered = same_numbered w v (Hears_fit g t) (Hears_fit g t) a.sight a.next a.pending (λ x y next fit. fit) n.numbered;
+      numbered = same_numbered w v (Hears_fit w.former g t) (Hears_fit v.former g t) a.sight a.next a.pending a.ever (λ x y next fit. subst (λ f. Hears_fit f g t x y) (sym a.former) fit) n.numbered;
       begun = λ h ever. let (b, c) = n.begun (hears h) (sym a.ever ∙ ever) in (a.behind ∙ b, a.kept ∙ c);
-      none = λ h ever. n.none (hears h) (sym a.ever ∙ ever);
     }
 
 pub deaf_hears : (w : Way) (g t : ℕ) → way.may_hear w ≡ false → Hears w g t
 deaf_hears w g t deaf = record {
-  numbered = deaf_numbered w (Hears_fit g t) deaf;
+  numbered = deaf_numbered w (Hears_fit w.former g t) deaf;
   begun = λ hears. absurd (both_ways (way.may_hear w) deaf hears);
-  none = λ hears. absurd (both_ways (way.may_hear w) deaf hears);
 }
 
 -- no I frame was sent since the numbers began, if anything is said of what answers them
 pub record Rested (w : Way) : Type 0 where
   pub hears : Hears w 0 0
   pub none : way.may_hear w ≡ true → w.ever ≡ 0
+  pub former : way.may_hear w ≡ true → w.former ≡ 0
 
 pub rested_alike : (w v : Way) → AreAlike w v → Rested w → Rested v
-rested_alike w v a r = record { hears = hears_alike w v 0 0 a r.hears; none = λ hears. a.ever ∙ r.none (sym (ap way.may_hear_sight a.sight) ∙ hears) }
+rested_alike w v a r = record { hears = hears_alike w v 0 0 a r.hears; none = λ hears. a.ever ∙ r.none (sym (ap way.may_hear_sight a.sight) ∙ hears); former = λ hears. a.former ∙ r.former (sym (ap way.may_hear_sight a.sight) ∙ hears) }
 
 pub seen_less : (a b : End) (m u v g h t : ℕ) → v ≤ u → h ≤ g → Seen a b m u g t → Seen a b m v h t
 seen_less a b m u v g h t less fewer s = record { up = s.up; own = own_if_less a.way m u v less s.own; hears = hears_less b.way g h t fewer s.hears }
@@ -328,23 +341,32 @@ record Leaves (w v : Way) : Type 0 where
   pub behind : v.behind ≡ w.behind
   pub kept : v.kept ≡ w.kept
   pub missed : v.is_missed ≡ w.is_missed
+  pub former : v.former ≤ w.former
 
 heard_leaves : (w : Way) (nr : ℕ) → Leaves w (way.heard nr w).way
 heard_leaves w nr =
     cond_both (way.may_hear w) (way.heard_ahead ahead w) (way.quiet w) (λ (t : Told). Leaves w t.way)
     (λ test. cond_both (nat_le ahead w.pending) (way.quiet (way.acknowledged ahead w)) (way.strayed ahead w) (λ (t : Told). Leaves w t.way)
-    (λ _. record { hears = λ _. test; ever = refl; behind = refl; kept = refl; missed = refl })
+    (λ _. record { hears = λ _. test; ever = refl; behind = refl; kept = refl; missed = refl; former = less w.former ahead })
+    (λ _. cond_both (nat_le ahead w.former) (way.notes NumbersUnjudged (way.deaf w)) (way.strayed_on ahead w) (λ (t : Told). Leaves w t.way)
+    (λ _. record { hears = λ _. test; ever = refl; behind = refl; kept = refl; missed = refl; former = same w.former })
     (λ _. cond_both (not (way.is_sure w)) (if w.is_missed then way.quiet (way.astray w) else way.quiet (way.deaf w)) (if w.is_missed then way.notes HeardBehindDamage (way.astray w) else way.breaks (way.invalid ahead w) (way.deaf w)) (λ (t : Told). Leaves w t.way)
     (λ _. cond_both w.is_missed (way.quiet (way.astray w)) (way.quiet (way.deaf w)) (λ (t : Told). Leaves w t.way)
-    (λ _. record { hears = λ _. test; ever = refl; behind = refl; kept = refl; missed = refl })
-    (λ _. record { hears = λ _. test; ever = refl; behind = refl; kept = refl; missed = refl }))
+    (λ _. record { hears = λ _. test; ever = refl; behind = refl; kept = refl; missed = refl; former = same w.former })
+    (λ _. record { hears = λ _. test; ever = refl; behind = refl; kept = refl; missed = refl; former = same w.former }))
     (λ _. cond_both w.is_missed (way.notes HeardBehindDamage (way.astray w)) (way.breaks (way.invalid ahead w) (way.deaf w)) (λ (t : Told). Leaves w t.way)
-    (λ _. record { hears = λ _. test; ever = refl; behind = refl; kept = refl; missed = refl })
-    (λ _. record { hears = λ _. test; ever = refl; behind = refl; kept = refl; missed = refl }))))
-    (λ _. record { hears = λ h. h; ever = refl; behind = refl; kept = refl; missed = refl })
+    (λ _. record { hears = λ _. test; ever = refl; behind = refl; kept = refl; missed = refl; former = same w.former })
+    (λ _. record { hears = λ _. test; ever = refl; behind = refl; kept = refl; missed = refl; former = same w.former })))))
+    (λ _. record { hears = λ h. h; ever = refl; behind = refl; kept = refl; missed = refl; former = same w.former })
   where
     ahead : ℕ
     ahead = apart nr (way.awaited w)
+
+    same : (x : ℕ) → x ≤ x
+    same x = omega arith
+
+    less : (x a : ℕ) → x - a ≤ x
+    less x a = omega arith
 
 -- the N(R) that stands for t, as what it says is known
 heard_hears : (w : Way) (g u t : ℕ) → u ≤ t → t ≤ g → Hears w g u → Hears (way.heard (t % 8) w).way g t
@@ -353,11 +375,7 @@ heard_hears w g u t rising taken h =
     record {
       numbered = (heard_fair w g u t rising taken h.numbered).numbered;
       begun = λ hears ever. let (b, c) = h.begun (l.hears hears) (sym l.ever ∙ ever) in (l.behind ∙ b, l.kept ∙ c);
-      none = λ hears ever. let (b, c) = h.none (l.hears hears) (sym l.ever ∙ ever) in (b, none b);
     }
-  where
-    none : g ≡ 0 → t ≡ 0
-    none e = omega (arith, taken)
 
 abbrev Lessens : Way → ℕ → Told → Type 0
 Lessens w t x = nat_lt x.way.pending w.pending ≡ true → (way.may_hear w ≡ true) × (t ≡ 0 → ⊥)
@@ -368,9 +386,11 @@ acknowledges_some w g u t rising h =
     cond_both (way.may_hear w) (way.heard_ahead ahead w) (way.quiet w) (Lessens w t)
     (λ hears. cond_both (nat_le ahead w.pending) (way.quiet (way.acknowledged ahead w)) (way.strayed ahead w) (Lessens w t)
     (λ _ fewer. (hears, λ none. let (x, y, fit, c) = h.numbered.counts hears in first none x y fit c (ltb-true (w.pending - ahead) w.pending fewer)))
+    (λ _. cond_both (nat_le ahead w.former) (way.notes NumbersUnjudged (way.deaf w)) (way.strayed_on ahead w) (Lessens w t)
+    (λ _. never)
     (λ _. cond_both (not (way.is_sure w)) (if w.is_missed then way.quiet (way.astray w) else way.quiet (way.deaf w)) (if w.is_missed then way.notes HeardBehindDamage (way.astray w) else way.breaks (way.invalid ahead w) (way.deaf w)) (Lessens w t)
     (λ _. cond_both w.is_missed (way.quiet (way.astray w)) (way.quiet (way.deaf w)) (Lessens w t) (λ _. never) (λ _. never))
-    (λ _. cond_both w.is_missed (way.notes HeardBehindDamage (way.astray w)) (way.breaks (way.invalid ahead w) (way.deaf w)) (Lessens w t) (λ _. never) (λ _. never))))
+    (λ _. cond_both w.is_missed (way.notes HeardBehindDamage (way.astray w)) (way.breaks (way.invalid ahead w) (way.deaf w)) (Lessens w t) (λ _. never) (λ _. never)))))
     (λ _. never)
   where
     ahead : ℕ
@@ -382,7 +402,7 @@ acknowledges_some w g u t rising h =
         none : (x : ℕ) → x < x → ⊥
         none x lt = omega arith
 
-    first : t ≡ 0 → (x y : ℕ) → ((g ≤ x) × (y ≡ u)) → Counts w x y → w.pending - ahead < w.pending → ⊥
+    first : t ≡ 0 → (x y : ℕ) → Hears_fit w.former g u x y → Counts w x y → w.pending - ahead < w.pending → ⊥
     first none x y fit c fewer = over ahead w.pending w.next x y t none rising fit.1 c.next c.pending c.few refl fewer
       where
         over : (a p n x y t : ℕ) → t ≡ 0 → u ≤ t → y ≡ u → n ≡ x % 8 → p + y ≡ x → p ≤ 7 → a ≡ apart (t % 8) (apart n p) → p - a < p → ⊥
@@ -398,6 +418,7 @@ heeds w g u t rising taken h =
       rests = λ rested. record {
         hears = elim (is_bool (way.may_hear (way.heard (t % 8) w).way)) [ inl hears ↦ rest rested (l.hears hears) | inr deaf ↦ deaf_hears (way.heard (t % 8) w).way 0 0 deaf ];
         none = λ hears. l.ever ∙ rested.none (l.hears hears);
+        former = λ hears. none_left w.former (way.heard (t % 8) w).way.former l.former (rested.former (l.hears hears));
       };
       none = λ x first others. elim (is_bool (way.may_hear (way.heard (t % 8) w).way)) [ inl hears ↦ at_none x (first (l.hears hears)) others | inr deaf ↦ deaf_hears (way.heard (t % 8) w).way x 0 deaf ];
       fewer = acknowledges_some w g u t rising h;
@@ -410,7 +431,10 @@ heeds w g u t rising taken h =
     none e = omega (arith, taken)
 
     rest : Rested w → way.may_hear w ≡ true → Hears (way.heard (t % 8) w).way 0 0
-    rest rested hears = at_none 0 (none (h.none hears (rested.none hears)).0) rested.hears
+    rest rested hears = at_none 0 (none (hears_none w g u h hears (rested.none hears) (rested.former hears)).0) rested.hears
+
+    none_left : (x y : ℕ) → y ≤ x → x ≡ 0 → y ≡ 0
+    none_left x y le e = omega arith
 
 -- an end that is up, of which an I frame is acknowledged, so that nothing of it may be answered
 pub record Acknowledged (e f : End) (q : Peer) : Type 0 where
@@ -470,6 +494,19 @@ untold from j k p q frames frame nr mine last h g s plain own heeds held =
           (subst (λ w. Heeds w nr (took_all frames (length q.taken)) q.told) (sym opposite) heeds) s.settles;
     }
 
+-- nothing more is said where numbers don't go one by one
+steady_own : (ns : ℕ) (w : Way) (m u : ℕ) → OwnIf w m u → OwnIf (way.steady ns w) m u
+steady_own ns w m u h = cond_both ((nat_lt 0 w.former && not (w.next == ns)) && not (way.is_unseen w)) (way.deaf w) w (λ v. OwnIf v m u)
+    (λ test. deafens h (seen (way.is_unseen w) (and_parts (nat_lt 0 w.former && not (w.next == ns)) (not (way.is_unseen w)) test).1)) (λ _. h)
+  where
+    seen : (b : Bool) → not b ≡ true → b ≡ false
+    seen true e = absurd (both_ways false refl e)
+    seen false e = refl
+
+    deafens : OwnIf w m u → way.is_unseen w ≡ false → OwnIf (way.deaf w) m u
+    deafens (inl unseen) e = absurd (both_ways (way.is_unseen w) e unseen)
+    deafens (inr o) e = inr (record { seen = refl; next = o.next; ever = o.ever; kept = o.kept; whole = o.whole; numbered = deaf_numbered (way.deaf w) _ refl })
+
 -- a number that the rules allow, new or again
 sent_fair : (w : Way) (window m u n ns : ℕ) (p s : Bool) → 7 ≤ window → ns ≡ n % 8 → n ≤ m → m ≤ n + 7 → n < u + 7 → (n < m → s ≡ true) → OwnIf w m u → Fair (way.sent window ns p s w) (max m (n + 1)) u
 sent_fair w window m u n ns p s large number le near room same h = subst (λ x. Fair (way.sent window x p s w) (max m (n + 1)) u) (sym number) (go (cases_eq n m))
@@ -511,15 +548,15 @@ unfolding sides.sees
 sends from j k p q frames (info ns nr pf packet) (n, t, number, le, fits, may, is) h g =
     let frame = info ns nr pf packet in
     let hs = held_of from j in
-    let w = (end_of from j).way in
+    let w = way.steady ns (end_of from j).way in
     let s = info_sees j.window ns nr pf (is_same hs frame) (sides_of from j) (is_up from j p frames h) (stands j from).none in
     let own_is = ap (λ (e : End). e.way) (stands j from).own in
     let f : Fair (way.sent j.window ns pf (is_same hs frame) w) (max p.sent (n + 1)) (heard_all frames p.acked) =
     sent_fair w j.window p.sent (heard_all frames p.acked) n ns pf (is_same hs frame) h.window number.number le number.again (near (heard_all frames p.acked) (heard_low frames p.acked))
-    (λ before. same_octets hs p.given p.sent n ns nr pf packet number.number before number.again number.same h.held) h.seen.own in
-    let f0 = subst (λ (x : Way). Fair (way.sent j.window ns pf (is_same hs frame) x) (max p.sent (n + 1)) (heard_all frames p.acked)) (sym own_is) f in
+    (λ before. same_octets hs p.given p.sent n ns nr pf packet number.number before number.again number.same h.held) (steady_own ns (end_of from j).way p.sent (heard_all frames p.acked) h.seen.own) in
+    let f0 = subst (λ (x : Way). Fair (way.sent j.window ns pf (is_same hs frame) (way.steady ns x)) (max p.sent (n + 1)) (heard_all frames p.acked)) (sym own_is) f in
     subst (λ (x : Peer). IsUntold from j k x frames frame) (sym is)
-    (untold from j k p (told_to t (numbered_to n p)) frames frame nr (way.sent j.window ns pf (is_same hs frame) (sides_of from j).own.way).way (way.sent j.window ns pf (is_same hs frame) (sides_of from j).own.way).rule h g s f0.quiet f0.own
+    (untold from j k p (told_to t (numbered_to n p)) frames frame nr (way.sent j.window ns pf (is_same hs frame) (way.steady ns (sides_of from j).own.way)).way (way.sent j.window ns pf (is_same hs frame) (way.steady ns (sides_of from j).own.way)).rule h g s f0.quiet f0.own
     (acknowledged from j p frames nr t (record { number = may.number; rising = may.rising; taken = may.taken }) h)
     (sent_held hs p.given p.sent n ns nr pf packet number.number le number.again fits number.same h.held))
   where

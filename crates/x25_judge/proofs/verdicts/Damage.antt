@@ -20,10 +20,10 @@ use Rattle.x25_judge.specs.declared.sides.Sides.{Sides}
 use Rattle.x25_judge.specs.declared.way.Way.{Way}
 use Rattle.x25_judge.specs.laws.VerdictClaims.{IsAnswered}
 use Rattle.x25_judge.proofs.verdicts.Ways.{same_numbered, unheard_numbered}
-use Rattle.x25_judge.proofs.verdicts.Fair.{Own, OwnIf, unheard_seen, unheard_unseen}
+use Rattle.x25_judge.proofs.verdicts.Fair.{Own, OwnIf, Hears_fit, unheard_seen, unheard_unseen}
 use Rattle.x25_judge.proofs.verdicts.Lines.{other_twice, Past}
 use Rattle.x25_judge.proofs.verdicts.Octets.{IsHeld}
-use Rattle.x25_judge.proofs.verdicts.Beside.{heard_all, took_all, Own_fit, Hears_fit, Hears, Seen, SeenBy, Rested, Beside}
+use Rattle.x25_judge.proofs.verdicts.Beside.{heard_all, took_all, Own_fit, Hears, Seen, SeenBy, Rested, Beside}
 use Rattle.x25_judge.proofs.verdicts.Standing.{asks_all, late_all, late_few, fewer_late, none_at_all, late_deaf, deafened_own, deafened_hears, deafened_hearing, deafened_rested}
 use Rattle.x25_judge.proofs.verdicts.Standing.{RestsOwn, RestsOther, On, IsAtRest, Anew, BehindSabm, SeenIn, Awaits, Fits, sabms_to, sabms_none, holds_to}
 use Rattle.x25_judge.proofs.verdicts.Unnumbered.{ended_late}
@@ -69,9 +69,8 @@ none_kept false x e = refl
 
 pub missed_hears : (is_unasked : Bool) (w : Way) (g t : ℕ) → Hears w g t → Hears (way.missed is_unasked w) g t
 missed_hears is_unasked w g t h = record {
-  numbered = same_numbered w (way.missed is_unasked w) (Hears_fit g t) (Hears_fit g t) refl refl refl (λ x y next fit. fit) h.numbered;
+  numbered = same_numbered w (way.missed is_unasked w) (Hears_fit w.former g t) (Hears_fit w.former g t) refl refl refl refl (λ x y next fit. fit) h.numbered;
   begun = λ hears ever. let (a, b) = h.begun hears ever in (a, none_kept is_unasked w.kept b);
-  none = h.none;
 }
 
 pub misses_seen : (t : Sides) (m u g told : ℕ) → Seen t.other t.own m u g told → Seen (sides.misses t).other (sides.misses t).own m u g told
@@ -135,7 +134,7 @@ missed_own l k phase.Unanswered a c w e f r = (
 )
 
 missed_rested : (l k : Bool) (w : Way) → Rested w → Rested (way.deafened l (way.missed k w))
-missed_rested l k w h = deafened_rested l (way.missed k w) (record { hears = missed_hears k w 0 0 h.hears; none = h.none })
+missed_rested l k w h = deafened_rested l (way.missed k w) (record { hears = missed_hears k w 0 0 h.hears; none = h.none; former = h.former })
 
 still_missed : (l k : Bool) (w : Way) → (way.deafened l (way.missed k w)).is_missed ≡ true
 still_missed true k w = cond_both (true && not (way.is_unseen w)) (way.deaf (way.missed k w)) (way.missed k w) (λ v. v.is_missed ≡ true) (λ _. refl) (λ _. refl)

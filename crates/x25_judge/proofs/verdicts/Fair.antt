@@ -3,7 +3,7 @@ use Rattle.std.proofs.Common.{◌≡◌, ◌==◌, ◌⊎◌, inl, inr, ℕ, ◌
 use Rattle.std.specs.Prelude.{nat_le, nat_lt, ◌&&◌, ◌||◌, not}
 use Rattle.std.proofs.lemmas.Bool.{eqb-true, leb-true, leb-false, ltb-false, le-leb, and_parts, and_from, or_left, both_ways, cond_both}
 use Rattle.x25_judge.specs.Way as way
-use Rattle.x25_judge.specs.declared.note.Note.TheVariants.{SentBehindDamage, HeardBehindDamage}
+use Rattle.x25_judge.specs.declared.note.Note.TheVariants.{SentBehindDamage, HeardBehindDamage, NumbersUnjudged}
 use Rattle.x25_judge.specs.declared.rule.Rule.{Rule}
 use Rattle.x25_judge.specs.declared.rule.Rule.TheVariants.{OverWindow, Skips, Repeats}
 use Rattle.x25_judge.specs.declared.way.Sight.{Sight}
@@ -61,11 +61,11 @@ grown_own w m u h = record {
     ever_grown x m is = omega arith
 
 repeated_own : (w : Way) (m u back : ℕ) → Own w m u → Own (way.repeated back w) m u
-repeated_own w m u back h = record { seen = h.seen; next = h.next; ever = h.ever; kept = h.kept; whole = h.whole; numbered = same_numbered w (way.repeated back w) _ _ refl refl refl (λ x y next fit. fit) h.numbered }
+repeated_own w m u back h = record { seen = h.seen; next = h.next; ever = h.ever; kept = h.kept; whole = h.whole; numbered = same_numbered w (way.repeated back w) _ _ refl refl refl refl (λ x y next fit. fit) h.numbered }
 
 gone_back_own : (is_poll : Bool) (w : Way) (m u back : ℕ) → Own w m u → Own (way.gone_back is_poll back w) m u
 gone_back_own true w m u back h = repeated_own w m u back h
-gone_back_own false w m u back h = record { seen = h.seen; next = h.next; ever = h.ever; kept = h.kept; whole = h.whole; numbered = same_numbered w (way.went_back back w) _ _ refl refl refl (λ x y next fit. fit) h.numbered }
+gone_back_own false w m u back h = record { seen = h.seen; next = h.next; ever = h.ever; kept = h.kept; whole = h.whole; numbered = same_numbered w (way.went_back back w) _ _ refl refl refl refl (λ x y next fit. fit) h.numbered }
 
 -- the next new number, in the window
 new_at : (w : Way) (window m u : ℕ) (is_poll is_same : Bool) → 7 ≤ window → m < u + 7 → Own w m u → Fair (way.sent_number window is_poll is_same 0 w) (m + 1) u
@@ -175,9 +175,11 @@ heard_any w nr P same astray deaf acknowledged =
     cond_both (way.may_hear w) (way.heard_ahead ahead w) (way.quiet w) (λ (t : Told). P t.way)
     (λ _. cond_both (nat_le ahead w.pending) (way.quiet (way.acknowledged ahead w)) (way.strayed ahead w) (λ (t : Told). P t.way)
     (λ _. acknowledged ahead)
+    (λ _. cond_both (nat_le ahead w.former) (way.notes NumbersUnjudged (way.deaf w)) (way.strayed_on ahead w) (λ (t : Told). P t.way)
+    (λ _. deaf)
     (λ _. cond_both (not (way.is_sure w)) (if w.is_missed then way.quiet (way.astray w) else way.quiet (way.deaf w)) (if w.is_missed then way.notes HeardBehindDamage (way.astray w) else way.breaks (way.invalid ahead w) (way.deaf w)) (λ (t : Told). P t.way)
     (λ _. cond_both w.is_missed (way.quiet (way.astray w)) (way.quiet (way.deaf w)) (λ (t : Told). P t.way) (λ _. astray) (λ _. deaf))
-    (λ _. cond_both w.is_missed (way.notes HeardBehindDamage (way.astray w)) (way.breaks (way.invalid ahead w) (way.deaf w)) (λ (t : Told). P t.way) (λ _. astray) (λ _. deaf))))
+    (λ _. cond_both w.is_missed (way.notes HeardBehindDamage (way.astray w)) (way.breaks (way.invalid ahead w) (way.deaf w)) (λ (t : Told). P t.way) (λ _. astray) (λ _. deaf)))))
     (λ _. same)
   where
     ahead : ℕ
@@ -211,34 +213,78 @@ heard_own w m u nr h =
     rises : (u y : ℕ) → u ≤ y → resolved u nr ≤ resolved y nr
     rises u y le = omega arith
 
+-- An end took g at most, of x that were sent, or behind a UA that came again of those before, and said that it took t,
+-- for which y stands.
+abbrev pub Hears_fit : ℕ → ℕ → ℕ → ℕ → ℕ → Type 0
+Hears_fit former g t x y = ((g ≤ x) ⊎ ((g ≤ y + former) × (former ≤ 7))) × (y ≡ t)
+
 -- the N(R) that stands for t, of an end that took g at most, and said that it took u
 pub record Answers (t : Told) (g u : ℕ) : Type 0 where
   pub quiet : t.rule ≡ None
-  pub numbered : Numbered t.way (λ x y. (g ≤ x) × (y ≡ u))
+  pub numbered : Numbered t.way (Hears_fit t.way.former g u)
 
-pub heard_fair : (w : Way) (g u t : ℕ) → u ≤ t → t ≤ g → Numbered w (λ x y. (g ≤ x) × (y ≡ u)) → Answers (way.heard (t % 8) w) g t
+pub heard_fair : (w : Way) (g u t : ℕ) → u ≤ t → t ≤ g → Numbered w (Hears_fit w.former g u) → Answers (way.heard (t % 8) w) g t
 heard_fair w g u t rising taken h =
     cond_both (way.may_hear w) (way.heard_ahead ahead w) (way.quiet w) (λ (x : Told). Answers x g t)
     (λ test. let (x, y, fit, c) = h.counts test in
     cond_both (nat_le ahead w.pending) (way.quiet (way.acknowledged ahead w)) (way.strayed ahead w) (λ (z : Told). Answers z g t)
-    (λ few. record { quiet = refl; numbered = acknowledged_numbered w (λ x y. (g ≤ x) × (y ≡ t)) x y (t % 8) (fit.0, is x y (close w.pending x y c.pending c.few) fit.0 fit.1) c (leb-true ahead w.pending few) })
-    (λ far. absurd (never (leb-false ahead w.pending far) x y fit c)))
-    (λ test. record { quiet = refl; numbered = deaf_numbered w (λ x y. (g ≤ x) × (y ≡ t)) test })
+    (λ few. record { quiet = refl; numbered = acknowledged_numbered w (Hears_fit (w.former - ahead) g t) x y (t % 8) (lands x y fit c, is x y fit c) c (leb-true ahead w.pending few) })
+    (λ far. cond_both (nat_le ahead w.former) (way.notes NumbersUnjudged (way.deaf w)) (way.strayed_on ahead w) (λ (z : Told). Answers z g t)
+    (λ _. record { quiet = refl; numbered = deaf_numbered (way.deaf w) (Hears_fit w.former g t) refl })
+    (λ past. absurd (never (leb-false ahead w.pending far) (leb-false ahead w.former past) x y fit c))))
+    (λ test. record { quiet = refl; numbered = deaf_numbered w (Hears_fit w.former g t) test })
   where
     ahead : ℕ
     ahead = apart (t % 8) (way.awaited w)
 
-    never : w.pending < ahead → (x y : ℕ) → ((g ≤ x) × (y ≡ u)) → Counts w x y → ⊥
-    never far x y fit c = subst (λ a. w.pending < apart (t % 8) a → ⊥) (sym (ap (λ z. apart z w.pending) c.next)) (near w.pending x y c.pending c.few fit.0 fit.1) far
+    from : (x y : ℕ) → Counts w x y → way.awaited w ≡ y % 8
+    from x y c = ap (λ z. apart z w.pending) c.next ∙ at w.pending c.pending c.few
       where
-        near : (p x y : ℕ) → p + y ≡ x → p ≤ 7 → g ≤ x → y ≡ u → p < apart (t % 8) (apart (x % 8) p) → ⊥
-        near p x y is few le same far = omega (arith, rising, taken)
+        at : (p : ℕ) → p + y ≡ x → p ≤ 7 → apart (x % 8) p ≡ y % 8
+        at p is few = omega arith
 
-    close : (p x y : ℕ) → p + y ≡ x → p ≤ 7 → x ≤ y + 7
-    close p x y is few = omega arith
+    -- it lies no more than seven ahead
+    near : (x y : ℕ) → Hears_fit w.former g u x y → Counts w x y → (y ≤ t) × (t ≤ y + 7)
+    near x y fit c = (low y fit.1, elim fit.0 [ inl le ↦ by_sent w.pending le c.pending c.few | inr few ↦ by_former w.former few.0 few.1 ])
+      where
+        low : (y : ℕ) → y ≡ u → y ≤ t
+        low y same = omega (arith, rising)
 
-    is : (x y : ℕ) → x ≤ y + 7 → g ≤ x → y ≡ u → resolved y (t % 8) ≡ t
-    is x y near le same = omega (arith, rising, taken)
+        by_sent : (p : ℕ) → g ≤ x → p + y ≡ x → p ≤ 7 → t ≤ y + 7
+        by_sent p le is few = omega (arith, taken)
+
+        by_former : (f : ℕ) → g ≤ y + f → f ≤ 7 → t ≤ y + 7
+        by_former f le few = omega (arith, taken)
+
+    ahead_is : (x y : ℕ) → Hears_fit w.former g u x y → Counts w x y → y + ahead ≡ t
+    ahead_is x y fit c = subst (λ a. y + apart (t % 8) a ≡ t) (sym (from x y c)) (at (near x y fit c).0 (near x y fit c).1)
+      where
+        at : y ≤ t → t ≤ y + 7 → y + apart (t % 8) (y % 8) ≡ t
+        at low high = omega arith
+
+    never : w.pending < ahead → w.former < ahead → (x y : ℕ) → Hears_fit w.former g u x y → Counts w x y → ⊥
+    never far past x y fit c = elim fit.0 [ inl le ↦ by_sent ahead w.pending (ahead_is x y fit c) far le c.pending | inr few ↦ by_former ahead w.former (ahead_is x y fit c) past few.0 ]
+      where
+        by_sent : (a p : ℕ) → y + a ≡ t → p < a → g ≤ x → p + y ≡ x → ⊥
+        by_sent a p at far le is = omega (arith, taken)
+
+        by_former : (a f : ℕ) → y + a ≡ t → f < a → g ≤ y + f → ⊥
+        by_former a f at past le = omega (arith, taken)
+
+    is : (x y : ℕ) → Hears_fit w.former g u x y → Counts w x y → resolved y (t % 8) ≡ t
+    is x y fit c = at (near x y fit c).0 (near x y fit c).1
+      where
+        at : y ≤ t → t ≤ y + 7 → resolved y (t % 8) ≡ t
+        at low high = omega arith
+
+    lands : (x y : ℕ) → Hears_fit w.former g u x y → Counts w x y → (g ≤ x) ⊎ ((g ≤ resolved y (t % 8) + (w.former - ahead)) × (w.former - ahead ≤ 7))
+    lands x y fit c = elim fit.0 [ inl le ↦ inl le | inr few ↦ inr (by_former ahead w.former (resolved y (t % 8)) (ahead_is x y fit c) (is x y fit c) few.0, less ahead w.former few.1) ]
+      where
+        by_former : (a f r : ℕ) → y + a ≡ t → r ≡ t → g ≤ y + f → g ≤ r + (f - a)
+        by_former a f r at same le = omega (arith, taken)
+
+        less : (a f : ℕ) → f ≤ 7 → f - a ≤ 7
+        less a f few = omega arith
 
 pub heard_own_if : (w : Way) (m u nr : ℕ) → OwnIf w m u → OwnIf (way.heard nr w).way m (resolved u nr)
 heard_own_if w m u nr (inl unseen) = inl (unseen_heard w nr unseen)

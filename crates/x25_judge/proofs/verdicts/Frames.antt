@@ -1,7 +1,7 @@
 -- What a frame with a number changes of both ends, once the link is up.
 use Rattle.std.proofs.Common.{◌≡◌, ◌⊎◌, inl, inr, ℕ, ◌<◌, arith, Bool, true, false, Option, Some, None, refl, sym, ap, ◌∙◌, subst}
 use Rattle.std.specs.Prelude.{◌==◌, nat_lt, ◌&&◌, not, if◌then◌else◌}
-use Rattle.std.proofs.lemmas.Bool.{ltb-true, and_parts, both_ways, cond_both, cond-true, cond-false}
+use Rattle.std.proofs.lemmas.Bool.{ltb-true, and_parts, and_right, both_ways, cond_both, cond-true, cond-false}
 use Rattle.x25_frame.specs.Frame.{PlainFrame, info, rr, rnr, rej, sabm, disc, ua, dm, frmr}
 use Rattle.x25_judge.specs.Rule.{is_of_manners}
 use Rattle.x25_judge.specs.Sides as sides
@@ -119,9 +119,10 @@ pub record AreAlike (w v : Way) : Type 0 where
   pub behind : v.behind ≡ w.behind
   pub pending : v.pending ≡ w.pending
   pub whole : v.is_missed ≡ w.is_missed
+  pub former : v.former ≡ w.former
 
 alike : (w : Way) → AreAlike w w
-alike w = record { sight = refl; next = refl; ever = refl; kept = refl; behind = refl; pending = refl; whole = refl }
+alike w = record { sight = refl; next = refl; ever = refl; kept = refl; behind = refl; pending = refl; whole = refl; former = refl }
 
 -- a frame with this N(R) makes this of its sender's way, and tells this rule last
 pub record Sees (t v : Sides) (nr : ℕ) (mine : Way) (last : Option Rule) : Type 0 where
@@ -169,7 +170,7 @@ heard_sees t v nr h = record {
 -- ---- frames
 
 pub info_sees : (window ns nr : ℕ) (p is_same : Bool) (t : Sides) → IsUp t → t.rule ≡ None
-    → Sees t (sides.sends_info window ns nr p is_same t) nr (way.sent window ns p is_same t.own.way).way (way.sent window ns p is_same t.own.way).rule
+    → Sees t (sides.sends_info window ns nr p is_same t) nr (way.sent window ns p is_same (way.steady ns t.own.way)).way (way.sent window ns p is_same (way.steady ns t.own.way)).rule
 unfolding sides.sends_info
 info_sees window ns nr p is_same t up none =
     let h = heard_sees t (sides.bits true p (sides.runs t)) nr (begun_bare true p t up none) in
@@ -178,12 +179,12 @@ info_sees window ns nr p is_same t up none =
       up = h.up;
       same = record { phase = h.same.phase; asked = h.same.asked; late = h.same.late };
       settles = h.settles;
-      own = ap (λ w. (way.sent window ns p is_same w).way) h.own;
+      own = ap (λ w. (way.sent window ns p is_same (way.steady ns w)).way) h.own;
       other = h.other;
       before = h.before;
       plain = h.plain;
-      rule = ap (λ w. sides.first v.rule (way.sent window ns p is_same w).rule) h.own
-          ∙ ap (λ r. sides.first r (way.sent window ns p is_same t.own.way).rule) (h.rule ∙ sym (no_more (sides.first h.before (way.heard nr t.other.way).rule)));
+      rule = ap (λ w. sides.first v.rule (way.sent window ns p is_same (way.steady ns w)).rule) h.own
+          ∙ ap (λ r. sides.first r (way.sent window ns p is_same (way.steady ns t.own.way)).rule) (h.rule ∙ sym (no_more (sides.first h.before (way.heard nr t.other.way).rule)));
     }
 
 back_sees : (nr back : ℕ) (t v : Sides) (own : Way) (last : Option Rule) → Sees t v nr own last → Sees t (sides.sends_back back v) nr own last
@@ -192,7 +193,7 @@ back_sees nr back t v own last h = record {
   same = record { phase = h.same.phase; asked = h.same.asked; late = h.same.late };
   settles = h.settles;
   own = h.own;
-  other = record { sight = h.other.sight; next = h.other.next; ever = h.other.ever; kept = h.other.kept; behind = h.other.behind; pending = h.other.pending; whole = h.other.whole };
+  other = record { sight = h.other.sight; next = h.other.next; ever = h.other.ever; kept = h.other.kept; behind = h.other.behind; pending = h.other.pending; whole = h.other.whole; former = h.other.former };
   before = h.before;
   plain = h.plain;
   rule = h.rule;
@@ -209,8 +210,8 @@ ready_sees command nr pf t up none =
 rejected_plain : (w : Way) → (is_of_order (way.rejected w).rule ≡ false) × AreAlike w (way.rejected w).way
 rejected_plain w =
     cond_both (way.is_sure w && w.is_rejected) (way.breaks _ _) (way.quiet _) (λ (x : Told). (is_of_order x.rule ≡ false) × AreAlike w x.way)
-    (λ _. (refl, record { sight = refl; next = refl; ever = refl; kept = refl; behind = refl; pending = refl; whole = refl }))
-    (λ _. (refl, record { sight = refl; next = refl; ever = refl; kept = refl; behind = refl; pending = refl; whole = refl }))
+    (λ _. (refl, record { sight = refl; next = refl; ever = refl; kept = refl; behind = refl; pending = refl; whole = refl; former = refl }))
+    (λ _. (refl, record { sight = refl; next = refl; ever = refl; kept = refl; behind = refl; pending = refl; whole = refl; former = refl }))
 
 pub record Rejects (t v : Sides) (nr : ℕ) : Type 0 where
   pub last : Option Rule
@@ -231,7 +232,7 @@ reject_sees command nr pf t up none =
         same = record { phase = h.same.phase; asked = h.same.asked; late = h.same.late };
         settles = h.settles;
         own = h.own;
-        other = record { sight = r.1.sight ∙ h.other.sight; next = r.1.next ∙ h.other.next; ever = r.1.ever ∙ h.other.ever; kept = r.1.kept ∙ h.other.kept; behind = r.1.behind ∙ h.other.behind; pending = r.1.pending ∙ h.other.pending; whole = r.1.whole ∙ h.other.whole };
+        other = record { sight = r.1.sight ∙ h.other.sight; next = r.1.next ∙ h.other.next; ever = r.1.ever ∙ h.other.ever; kept = r.1.kept ∙ h.other.kept; behind = r.1.behind ∙ h.other.behind; pending = r.1.pending ∙ h.other.pending; whole = r.1.whole ∙ h.other.whole; former = r.1.former ∙ h.other.former };
         before = h.before;
         plain = h.plain;
         rule = ap (λ x. sides.first x (way.rejected v.other.way).rule) (h.rule ∙ sym (no_more (sides.first h.before (way.heard nr t.other.way).rule)));
@@ -316,9 +317,12 @@ rejects_strays t v h = record {
   other = ap way.is_unseen_sight (rejected_plain v.other.way).1.sight ∙ h.other;
 }
 
+unseen_steady : (w : Way) (ns : ℕ) → way.is_unseen w ≡ true → way.is_unseen (way.steady ns w) ≡ true
+unseen_steady w ns unseen = ap way.is_unseen (cond-false ((nat_lt 0 w.former && not (w.next == ns)) && not (way.is_unseen w)) (way.deaf w) w (and_right (nat_lt 0 w.former && not (w.next == ns)) _ (ap not unseen))) ∙ unseen
+
 numbers_strays : (window ns : ℕ) (p s : Bool) (t v : Sides) → Strays t v → Strays t (sides.numbers window ns p s v)
 numbers_strays window ns p s t v h =
-    record { same = record { phase = h.same.phase; asked = h.same.asked; late = h.same.late }; owes = h.owes; phase = h.phase; own = unseen_sent v.own.way window ns p s h.own; other = h.other }
+    record { same = record { phase = h.same.phase; asked = h.same.asked; late = h.same.late }; owes = h.owes; phase = h.phase; own = unseen_sent (way.steady ns v.own.way) window ns p s (unseen_steady v.own.way ns h.own); other = h.other }
 
 pub strays : (window : ℕ) (s : Bool) (frame : PlainFrame) (t : Sides) → IsNumbered frame → sides.may_run t.own.phase ≡ false → Strays t (sides.sees window s frame t)
 unfolding sides.sees sides.sends_info sides.sends_ready sides.sends_reject

@@ -1,5 +1,5 @@
 -- An end that keeps the rules is told of by no rule of order, from a set-up on.
-use Rattle.std.proofs.Common.{◌≡◌, inr, ℕ, ◌≤◌, arith, true, List, [], ◌∷◌, refl, sym, ap, subst}
+use Rattle.std.proofs.Common.{◌≡◌, inl, inr, ℕ, ◌≤◌, arith, true, List, [], ◌∷◌, refl, sym, ap, subst}
 use Rattle.x25_bits.specs.declared.role.Role.{Role}
 use Rattle.x25_bits.specs.Role.{other}
 use Rattle.x25_frame.specs.Frame.{PlainFrame}
@@ -14,15 +14,15 @@ use Rattle.x25_judge.specs.laws.Session.{end_of, IsSetUp}
 use Rattle.x25_judge.specs.laws.VerdictClaims.{NoInnocentIsAccused}
 use Rattle.x25_packet_judge.specs.Book as book
 use Rattle.x25_judge.proofs.verdicts.Ways.{Numbered}
-use Rattle.x25_judge.proofs.verdicts.Fair.{Own}
+use Rattle.x25_judge.proofs.verdicts.Fair.{Own, Hears_fit}
 use Rattle.x25_judge.proofs.verdicts.Lines.{goes, past, told_of_order}
 use Rattle.x25_judge.proofs.verdicts.Octets.{begun_held, pushed_held}
-use Rattle.x25_judge.proofs.verdicts.Beside.{Own_fit, Hears_fit, Hears, Beside, came_beside, sends}
+use Rattle.x25_judge.proofs.verdicts.Beside.{Own_fit, Hears, Beside, came_beside, sends}
 use Rattle.x25_judge.proofs.verdicts.Showing.{shown_beside}
 use Rattle.x25_judge.proofs.verdicts.Damage.{failed_beside}
 
 begun_numbered : (w : Way) (Fit : ℕ → ℕ → Type 0) → w ≡ way.fresh true → Fit 0 0 → Numbered w Fit
-begun_numbered w Fit is fit = subst (λ x. Numbered x Fit) (sym is) (record { counts = λ hears. (0, 0, fit, record { next = refl; pending = refl; few = omega arith }) })
+begun_numbered w Fit is fit = subst (λ x. Numbered x Fit) (sym is) (record { counts = λ hears. (0, 0, fit, record { next = refl; pending = refl; few = omega arith; ever = refl }) })
 
 begun_own : (w : Way) → w ≡ way.fresh true → Own w 0 0
 begun_own w is = record {
@@ -36,9 +36,8 @@ begun_own w is = record {
 
 begun_hears : (w : Way) → w ≡ way.fresh true → Hears w 0 0
 begun_hears w is = record {
-  numbered = begun_numbered w (Hears_fit 0 0) is (omega arith, refl);
+  numbered = subst (λ f. Numbered w (Hears_fit f 0 0)) (sym (ap (λ (x : Way). x.former) is)) (begun_numbered w (Hears_fit 0 0 0) is (inl (omega arith), refl));
   begun = λ hears ever. (ap (λ (x : Way). x.behind) is, ap (λ (x : Way). x.kept) is);
-  none = λ hears ever. (refl, refl);
 }
 
 begins : (from : Role) (j : Judge) → IsSetUp j → 7 ≤ j.window → Beside from j fresh_peer []

@@ -1,7 +1,7 @@
 -- What counts as judged is told of.
-use Rattle.std.proofs.Common.{◌≡◌, ◌==◌, ◌⊎◌, inl, inr, ℕ, ◌-◌, ◌<◌, ◌≤◌, arith, Bool, true, false, Option, Some, None, refl, sym, ap, ◌∙◌, subst}
-use Rattle.std.specs.Prelude.{nat_le, nat_lt, ◌&&◌, ◌||◌, not, if◌then◌else◌}
-use Rattle.std.proofs.lemmas.Bool.{leb-true, and_parts, and_from, and_cases, or_cases, both_ways, not-true, cond_both}
+use Rattle.std.proofs.Common.{◌≡◌, ◌==◌, inl, inr, ℕ, ◌-◌, ◌<◌, ◌≤◌, arith, Bool, true, false, Option, Some, None, refl, sym, ap, ◌∙◌, subst}
+use Rattle.std.specs.Prelude.{nat_le, nat_lt, ◌&&◌, not, if◌then◌else◌}
+use Rattle.std.proofs.lemmas.Bool.{eqb-true, leb-true, and_parts, and_from, and_cases, or_cases, both_ways, not-true, cond_both}
 use Rattle.x25_bits.specs.declared.role.Role.{Role}
 use Rattle.x25_frame.specs.Frame.{PlainFrame, info, rr, rnr, rej, sabm, disc, ua, dm, frmr}
 use Rattle.x25_judge.specs.Held.{is_same}
@@ -9,20 +9,19 @@ use Rattle.x25_judge.specs.Judge.{all_told, held_of, seen_by, sides_of}
 use Rattle.x25_judge.specs.Rule.{breaks_order, is_of_manners}
 use Rattle.x25_judge.specs.Sides as sides
 use Rattle.x25_judge.specs.Way as way
-use Rattle.x25_judge.specs.declared.note.Note.TheVariants.{HeardBehindDamage, PollAgain, PollUnseen}
+use Rattle.x25_judge.specs.declared.note.Note.TheVariants.{HeardBehindDamage, NumbersUnjudged, PollAgain, PollUnseen}
 use Rattle.x25_judge.specs.declared.rule.Rule.{Rule}
 use Rattle.x25_judge.specs.declared.rule.Rule.TheVariants.{Falls, NoPoll, NotUp, Packet, UaUnasked, Unsent}
 use Rattle.x25_judge.specs.declared.judge.Judge.{Judge}
 use Rattle.x25_judge.specs.declared.sides.Sides.{Sides}
 use Rattle.x25_judge.specs.declared.way.Told.{Told}
 use Rattle.x25_judge.specs.declared.way.Way.{Way}
-use Rattle.x25_judge.specs.laws.Session.{end_of, nr_of, rule_of}
+use Rattle.x25_judge.specs.laws.Session.{nr_of, rule_of}
 use Rattle.x25_judge.specs.laws.VerdictClaims.{JudgedAnswersAreTold, JudgedNumbersAreTold}
-use Rattle.x25_link.specs.Hearing.{other}
 use Rattle.x25_packet_judge.specs.Book as book
 use Rattle.x25_packet_judge.specs.Numbers.{apart}
 use Rattle.x25_packet_judge.specs.declared.packet_rule.PacketRule.{PacketRule}
-use Rattle.x25_judge.proofs.verdicts.Frames.{Bare, begun_bare, is_bool}
+use Rattle.x25_judge.proofs.verdicts.Frames.{begun_bare, is_bool}
 use Rattle.x25_judge.proofs.verdicts.Lines.{stands}
 use Rattle.x25_judge.proofs.verdicts.Ways.{sure_hears}
 
@@ -57,20 +56,25 @@ tells_of from j frame h = told_breaks (seen_by j from frame).rule (book.sees fro
 invalid_breaks : (ahead : ℕ) (w : Way) → Breaks (Some (way.invalid ahead w))
 invalid_breaks ahead w = cond_both (nat_le (8 - ahead) (w.ever - w.pending) && nat_lt (8 - ahead) (ahead - w.pending)) (Falls (way.awaited w)) (Unsent w.next) (λ (rule : Rule). Breaks (Some rule)) (λ _. refl) (λ _. refl)
 
-strayed_breaks : (ahead : ℕ) (w : Way) → way.is_sure w ≡ true → w.is_missed ≡ false → Breaks (way.strayed ahead w).rule
-strayed_breaks ahead w sure whole =
-    cond_both (not (way.is_sure w)) (if w.is_missed then way.quiet (way.astray w) else way.quiet (way.deaf w)) (if w.is_missed then way.notes HeardBehindDamage (way.astray w) else way.breaks (way.invalid ahead w) (way.deaf w)) (λ (t : Told). Breaks t.rule)
+strayed_breaks : (ahead : ℕ) (w : Way) → way.is_sure w ≡ true → w.is_missed ≡ false → w.former ≡ 0 → w.pending < ahead → Breaks (way.strayed ahead w).rule
+strayed_breaks ahead w sure whole none far =
+    cond_both (nat_le ahead w.former) (way.notes NumbersUnjudged (way.deaf w)) (way.strayed_on ahead w) (λ (t : Told). Breaks t.rule)
+    (λ near. absurd (never w.pending w.former none far (leb-true ahead w.former near)))
+    (λ _. cond_both (not (way.is_sure w)) (if w.is_missed then way.quiet (way.astray w) else way.quiet (way.deaf w)) (if w.is_missed then way.notes HeardBehindDamage (way.astray w) else way.breaks (way.invalid ahead w) (way.deaf w)) (λ (t : Told). Breaks t.rule)
     (λ unsure. absurd (both_ways (way.is_sure w) (not-true (way.is_sure w) unsure) sure))
     (λ _. cond_both w.is_missed (way.notes HeardBehindDamage (way.astray w)) (way.breaks (way.invalid ahead w) (way.deaf w)) (λ (t : Told). Breaks t.rule)
     (λ missed. absurd (both_ways w.is_missed whole missed))
-    (λ _. invalid_breaks ahead w))
+    (λ _. invalid_breaks ahead w)))
+  where
+    never : (p f : ℕ) → f ≡ 0 → p < ahead → ahead ≤ f → ⊥
+    never p f none far near = omega arith
 
-heard_breaks : (nr : ℕ) (w : Way) → way.is_sure w ≡ true → w.is_missed ≡ false → w.pending < apart nr (way.awaited w) → Breaks (way.heard nr w).rule
-heard_breaks nr w sure whole far =
+heard_breaks : (nr : ℕ) (w : Way) → way.is_sure w ≡ true → w.is_missed ≡ false → w.former ≡ 0 → w.pending < apart nr (way.awaited w) → Breaks (way.heard nr w).rule
+heard_breaks nr w sure whole none far =
     cond_both (way.may_hear w) (way.heard_ahead (apart nr (way.awaited w)) w) (way.quiet w) (λ (t : Told). Breaks t.rule)
     (λ _. cond_both (nat_le (apart nr (way.awaited w)) w.pending) (way.quiet (way.acknowledged (apart nr (way.awaited w)) w)) (way.strayed (apart nr (way.awaited w)) w) (λ (t : Told). Breaks t.rule)
     (λ near. absurd (never (apart nr (way.awaited w)) (leb-true (apart nr (way.awaited w)) w.pending near) far))
-    (λ _. strayed_breaks (apart nr (way.awaited w)) w sure whole))
+    (λ _. strayed_breaks (apart nr (way.awaited w)) w sure whole none far))
     (λ deaf. absurd (both_ways (way.may_hear w) deaf (sure_hears w.sight sure)))
   where
     never : (x : ℕ) → x ≤ w.pending → w.pending < x → ⊥
@@ -95,10 +99,11 @@ runs_break t out = cond_both (sides.may_run t.own.phase) (sides.with_own (sides.
 module _ (t : Sides) (none : t.rule ≡ None) (nr : ℕ) (judged : sides.judges_hearing t ≡ true) (far : t.other.way.pending < apart nr (way.awaited t.other.way)) where
   told : Breaks (way.heard nr t.other.way).rule
   told =
-      let seen = and_parts (not (sides.is_unseen t.own.phase)) (way.is_sure t.other.way && (not t.other.way.is_missed && nat_le t.other.way.pending t.other.way.kept)) judged in
-      let sure = and_parts (way.is_sure t.other.way) (not t.other.way.is_missed && nat_le t.other.way.pending t.other.way.kept) seen.1 in
-      let whole = and_parts (not t.other.way.is_missed) (nat_le t.other.way.pending t.other.way.kept) sure.1 in
-      heard_breaks nr t.other.way sure.0 (not-true t.other.way.is_missed whole.0) far
+      let seen = and_parts (not (sides.is_unseen t.own.phase)) (way.is_sure t.other.way && (not t.other.way.is_missed && (t.other.way.former == 0 && nat_le t.other.way.pending t.other.way.kept))) judged in
+      let sure = and_parts (way.is_sure t.other.way) (not t.other.way.is_missed && (t.other.way.former == 0 && nat_le t.other.way.pending t.other.way.kept)) seen.1 in
+      let whole = and_parts (not t.other.way.is_missed) (t.other.way.former == 0 && nat_le t.other.way.pending t.other.way.kept) sure.1 in
+      let alone = and_parts (t.other.way.former == 0) (nat_le t.other.way.pending t.other.way.kept) whole.1 in
+      heard_breaks nr t.other.way sure.0 (not-true t.other.way.is_missed whole.0) (eqb-true t.other.way.former 0 alone.0) far
 
   hears_breaks : (command pf : Bool) → Breaks (sides.hears nr (sides.bits command pf (sides.runs t))).rule
   hears_breaks command pf = elim (is_bool (sides.may_run t.own.phase)) [ inl up ↦ by_number up | inr out ↦ first_keeps v.rule (way.heard nr v.other.way).rule (bits_break command pf (sides.runs t) (runs_break t out)) ]
@@ -113,7 +118,7 @@ module _ (t : Sides) (none : t.rule ≡ None) (nr : ℕ) (judged : sides.judges_
   unfolding sides.sends_info
   info_breaks window ns p is_same =
       let v = sides.hears nr (sides.bits true p (sides.runs t)) in
-      first_keeps v.rule (way.sent window ns p is_same v.own.way).rule (hears_breaks true p)
+      first_keeps v.rule (way.sent window ns p is_same (way.steady ns v.own.way)).rule (hears_breaks true p)
 
   ready_breaks : (command pf : Bool) → Breaks (sides.sends_ready command nr pf t).rule
   unfolding sides.sends_ready

@@ -1,7 +1,7 @@
 -- What counts as judged is told of: an N(S), and F=1.
-use Rattle.std.proofs.Common.{◌≡◌, ◌==◌, ◌⊎◌, inl, inr, ℕ, ◌-◌, ◌<◌, ◌≤◌, arith, Bool, true, false, List, Option, Some, None, refl, sym, ap, ◌∙◌, subst, eq-eqb, le-leb}
+use Rattle.std.proofs.Common.{◌≡◌, ◌==◌, inl, inr, ℕ, ◌-◌, ◌<◌, ◌≤◌, arith, Bool, true, false, List, Option, Some, None, refl, sym, ap, ◌∙◌, subst, eq-eqb, le-leb}
 use Rattle.std.specs.Prelude.{nat_le, nat_lt, ◌&&◌, ◌||◌, not, is_some, if◌then◌else◌}
-use Rattle.std.proofs.lemmas.Bool.{leb-true, ltb-true, eqb-true, and_parts, and_from, and_cases, or_cases, or_parts, both_ways, not-true, cond_both, cond-true}
+use Rattle.std.proofs.lemmas.Bool.{eqb-true, and_parts, and_from, and_cases, or_cases, or_parts, both_ways, not-true, cond_both, cond-true, cond-false}
 use Rattle.std.proofs.lemmas.Bool.Decides.{nat_tests}
 use Rattle.x25_bits.specs.declared.role.Role.{Role}
 use Rattle.x25_frame.specs.Frame.{PlainFrame, info, rr, rnr, rej, sabm, disc, ua, dm, frmr}
@@ -19,9 +19,8 @@ use Rattle.x25_judge.specs.declared.sides.Phase.TheVariants.{Unseen, Out, Waitin
 use Rattle.x25_judge.specs.declared.sides.Sides.{Sides}
 use Rattle.x25_judge.specs.declared.way.Told.{Told}
 use Rattle.x25_judge.specs.declared.way.Way.{Way}
-use Rattle.x25_judge.specs.laws.Session.{end_of, is_final, rule_of}
+use Rattle.x25_judge.specs.laws.Session.{is_final, rule_of}
 use Rattle.x25_judge.specs.laws.VerdictClaims.{IsOutOfPlace, JudgedFinalsAreTold, JudgedOctetsAreTold, JudgedSendingsAreTold}
-use Rattle.x25_link.specs.Hearing.{other}
 use Rattle.x25_packet_judge.specs.Book as book
 use Rattle.x25_packet_judge.specs.Numbers.{apart}
 use Rattle.x25_packet_judge.specs.declared.packet_rule.PacketRule.{PacketRule}
@@ -125,19 +124,26 @@ module _ (w : Way) (whole : w.is_missed ≡ false) where
 -- ---- an I frame
 
 module _ (t : Sides) (none : t.rule ≡ None) (judged : sides.judges_sending t ≡ true) (window ns nr : ℕ) (p is_same : Bool) where
+  parts : (not (way.is_unseen t.own.way) ≡ true) × ((not t.own.way.is_missed && t.own.way.former == 0) ≡ true)
+  parts = and_parts (not (way.is_unseen t.own.way)) (not t.own.way.is_missed && t.own.way.former == 0) judged
+
   whole : t.own.way.is_missed ≡ false
-  whole = not-true t.own.way.is_missed (and_parts (not (way.is_unseen t.own.way)) (not t.own.way.is_missed) judged).1
+  whole = not-true t.own.way.is_missed (and_parts (not t.own.way.is_missed) (t.own.way.former == 0) parts.1).0
+
+  steady_is : way.steady ns t.own.way ≡ t.own.way
+  steady_is = cond-false ((nat_lt 0 t.own.way.former && not (t.own.way.next == ns)) && not (way.is_unseen t.own.way)) (way.deaf t.own.way) t.own.way
+      (ap (λ f. (nat_lt 0 f && not (t.own.way.next == ns)) && not (way.is_unseen t.own.way)) (eqb-true t.own.way.former 0 (and_parts (not t.own.way.is_missed) (t.own.way.former == 0) parts.1).1))
 
   sent_is : IsTold (way.sent_number window p is_same (apart t.own.way.next ns) t.own.way).rule → IsTold (way.sent window ns p is_same t.own.way).rule
   sent_is h = cond_both (way.is_unseen t.own.way) (way.quiet (way.counted t.own.way)) (way.sent_number window p is_same (apart t.own.way.next ns) t.own.way) (λ (x : Told). IsTold x.rule)
-      (λ unseen. absurd (both_ways (way.is_unseen t.own.way) (not-true (way.is_unseen t.own.way) (and_parts (not (way.is_unseen t.own.way)) (not t.own.way.is_missed) judged).0) unseen))
+      (λ unseen. absurd (both_ways (way.is_unseen t.own.way) (not-true (way.is_unseen t.own.way) parts.0) unseen))
       (λ _. h)
 
   info_is : IsTold (way.sent_number window p is_same (apart t.own.way.next ns) t.own.way).rule → IsTold (sides.sends_info window ns nr p is_same t).rule
   unfolding sides.sends_info
   info_is h = elim (is_bool (sides.may_run t.own.phase)) [
-    | inl up ↦ first_brings v.rule (way.sent window ns p is_same v.own.way).rule (subst (λ w. IsTold (way.sent window ns p is_same w).rule) (sym (begun_bare true p t up none).own) (sent_is h))
-    | inr out ↦ first_keeps v.rule (way.sent window ns p is_same v.own.way).rule (first_keeps u.rule (way.heard nr u.other.way).rule (breaks_told u.rule (bits_break true p (sides.runs t) (runs_break t out))))
+    | inl up ↦ first_brings v.rule (way.sent window ns p is_same (way.steady ns v.own.way)).rule (subst (λ w. IsTold (way.sent window ns p is_same (way.steady ns w)).rule) (sym (begun_bare true p t up none).own) (subst (λ w. IsTold (way.sent window ns p is_same w).rule) (sym steady_is) (sent_is h)))
+    | inr out ↦ first_keeps v.rule (way.sent window ns p is_same (way.steady ns v.own.way)).rule (first_keeps u.rule (way.heard nr u.other.way).rule (breaks_told u.rule (bits_break true p (sides.runs t) (runs_break t out))))
   ]
     where
       u : Sides

@@ -1,6 +1,6 @@
 -- Where nothing is told, each number of an end carries one packet, also where lines of the other end are damaged.
-use Rattle.std.proofs.Common.{◌≡◌, ℕ, ◌+◌, ◌%◌, ◌<◌, ◌≤◌, arith, max, Bool, true, inl, inr, List, [], ◌∷◌, ◌++◌, length, Option, None, Some, refl, sym, ap, ◌∙◌, subst}
-use Rattle.std.specs.Prelude.{◌&&◌, not}
+use Rattle.std.proofs.Common.{◌≡◌, ◌==◌, ℕ, ◌+◌, ◌%◌, ◌<◌, ◌≤◌, arith, max, Bool, true, inl, inr, List, [], ◌∷◌, ◌++◌, length, Option, None, Some, refl, sym, ap, ◌∙◌, subst}
+use Rattle.std.specs.Prelude.{◌&&◌, not, nat_lt}
 use Rattle.std.proofs.lemmas.Bool.{cond-false, cond_both}
 use Rattle.std.proofs.lemmas.List.{length_push}
 use Rattle.x25_bits.specs.declared.role.Role.{Role}
@@ -182,10 +182,10 @@ module _ (from : Role) (j k : Judge) (lines : List (List ℕ)) (h : Has from j l
   unfolding sides.sees
   own_line (info ns nr pf packet) range fits is shows g none =
       let b = is_same (held_of from j) (info ns nr pf packet) in
-      let w = (sides_of from j).own.way in
+      let w = way.steady ns (sides_of from j).own.way in
       let t = way.sent j.window ns pf b w in
       let s = info_sees j.window ns nr pf b (sides_of from j) (is_up from j h.given h.knows) (stands j from).none in
-      let before = subst (λ x. Numbers x m) (sym (ap (λ (e : End). e.way) (stands j from).own)) h.knows.numbers in
+      let before = deafened_numbers (nat_lt 0 (sides_of from j).own.way.former && not ((sides_of from j).own.way.next == ns)) (sides_of from j).own.way m (subst (λ x. Numbers x m) (sym (ap (λ (e : End). e.way) (stands j from).own)) h.knows.numbers) in
       in_turn ns nr pf packet t range.0 fits shows g s (sent_numbers w m before ns b j.window pf (sent_none (sides_of from j) (seen_by j from (info ns nr pf packet)) nr t.way t.rule s none))
   own_line (rr command nr pf) range fits is shows g none = beside (rr command nr pf) nr None tt shows g (ready_sees command nr pf (sides_of from j) (is_up from j h.given h.knows) (stands j from).none)
   own_line (rnr command nr pf) range fits is shows g none = beside (rnr command nr pf) nr None tt shows g (ready_sees command nr pf (sides_of from j) (is_up from j h.given h.knows) (stands j from).none)
@@ -206,7 +206,7 @@ module _ (from : Role) (j k : Judge) (lines : List (List ℕ)) (h : Has from j l
   unfolding sides.sees
   other_line (info ns nr pf packet) is shows g =
       let b = is_same (held_of (other from) j) (info ns nr pf packet) in
-      let t = way.sent j.window ns pf b (sides_of (other from) j).own.way in
+      let t = way.sent j.window ns pf b (way.steady ns (sides_of (other from) j).own.way) in
       passes shows.spells (other_at from j k h.given (info ns nr pf packet) nr t.way t.rule g (info_sees j.window ns nr pf b (sides_of (other from) j) (other_is_up from j h.given h.knows) (stands j (other from)).none) h.knows)
   other_line (rr command nr pf) is shows g =
       passes shows.spells (other_at from j k h.given (rr command nr pf) nr (sides_of (other from) j).own.way None g (ready_sees command nr pf (sides_of (other from) j) (other_is_up from j h.given h.knows) (stands j (other from)).none) h.knows)

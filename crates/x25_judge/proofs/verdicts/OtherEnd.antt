@@ -1,5 +1,6 @@
 -- What the other end sends, beside an end that keeps the rules over any number of set-ups.
 use Rattle.std.proofs.Common.{◌≡◌, ◌==◌, inl, inr, ℕ, ◌+◌, ◌≤◌, arith, min, Bool, true, false, List, [], ◌∷◌, ◌++◌, length, None, Some, refl, sym, ap, ◌∙◌, subst}
+use Rattle.std.specs.Prelude.{◌&&◌}
 use Rattle.std.proofs.lemmas.Bool.{eqb-true, and_parts, both_ways, cond_both}
 use Rattle.x25_frame.specs.Frame.{PlainFrame, info, rr, rnr, rej, sabm, disc, ua, dm, frmr}
 use Rattle.x25_line.specs.laws.Peer.{Peer, fresh_peer}
@@ -17,11 +18,11 @@ use Rattle.x25_judge.specs.laws.Sessions.{IsUa}
 use Rattle.x25_judge.specs.laws.VerdictClaims.{IsAnswered}
 use Rattle.x25_judge.proofs.verdicts.Fair.{OwnIf}
 use Rattle.x25_judge.proofs.verdicts.Frames.{Owes, is_bool, running_late}
-use Rattle.x25_judge.proofs.verdicts.Beside.{acks, heard_all, heard_more, brings, took_all, took_more, Hears, Seen, Rested, deaf_hears, hears_less, own_if_less}
+use Rattle.x25_judge.proofs.verdicts.Beside.{acks, heard_all, heard_more, brings, took_all, took_more, Hears, hears_none, Seen, Rested, deaf_hears, hears_less, own_if_less}
 use Rattle.x25_judge.proofs.verdicts.Damage.{ended_bound}
 use Rattle.x25_judge.proofs.verdicts.Showing.{Gives, gives, gives_seen}
 use Rattle.x25_judge.proofs.verdicts.Standing.{IsSabm, asks_one, asks_all, asks_none, asked_more, HaveNoNumber, bare_acks, bare_brings, none_heard, none_taken, late_all, late_number, late_bare, none_at_all}
-use Rattle.x25_judge.proofs.verdicts.Standing.{none_more, none_all, bare_none, begun_rested, answered_own, again_own, answering_hears, answering_hearing}
+use Rattle.x25_judge.proofs.verdicts.Standing.{NoneBefore, none_more, none_all, bare_none, begun_rested, answered_own, again_own, answering_hears, answering_hearing, former_none, former_hears}
 use Rattle.x25_judge.proofs.verdicts.Standing.{late_own, late_deaf, deafened_own, deafened_hears, deafened_hearing, deafened_rested}
 use Rattle.x25_judge.proofs.verdicts.Standing.{RestsOwn, RestsOther, On, IsAtRest, Anew, BehindSabm, SeenIn, Awaits, Fits, sabms_more, sabms_any, sabms_bare, seen_more, holds_more}
 use Rattle.x25_judge.proofs.verdicts.Unnumbered.{Asked, sabm_is, Aside, disc_aside, dm_aside, frmr_aside, disc_phase, frmr_phase, dm_phase, Accepted, accepted_is, ended_late}
@@ -216,7 +217,7 @@ asks_again phase.Unanswered anew w on = absurd on
 
 -- of what none was taken, and none may be
 rested_none : (w : Way) (g t : ℕ) → Rested w → Hears w g t → way.may_hear w ≡ true → g ≡ 0
-rested_none w g t r h hears = (h.none hears (r.none hears)).0
+rested_none w g t r h hears = (hears_none w g t h hears (r.none hears) (r.former hears)).0
 
 sabm_fits : (t v : Sides) (stand : Stand) (p : Peer) (frames : List PlainFrame) (b : Bool) → Asked t v → Fits t.other t.own stand p frames → Fits v.other v.own stand p (frames ++ sabm b ∷ [])
 sabm_fits t v stand p frames b a f = record {
@@ -413,9 +414,50 @@ accepting_none : (p : Phase) (w : Way) (g t : ℕ) → sides.may_run p ≡ true 
 accepting_none phase.Unseen w g t up h hears = absurd (both_ways false refl hears)
 accepting_none phase.Out w g t up h hears = absurd (both_ways false refl up)
 accepting_none phase.Waiting w g t up h hears = absurd (both_ways false refl up)
-accepting_none phase.Answered w g t up h hears = let is = answering_hearing w hears in (h.none is.0 is.1).0
-accepting_none phase.Up w g t up h hears = let is = answering_hearing w hears in (h.none is.0 is.1).0
-accepting_none phase.Unanswered w g t up h hears = let is = answering_hearing w hears in (h.none is.0 is.1).0
+accepting_none phase.Answered w g t up h hears = let is = answering_hearing w hears in (hears_none w g t h is.0 is.1.0 is.1.1).0
+accepting_none phase.Up w g t up h hears = let is = answering_hearing w hears in (hears_none w g t h is.0 is.1.0 is.1.1).0
+accepting_none phase.Unanswered w g t up h hears = let is = answering_hearing w hears in (hears_none w g t h is.0 is.1.0 is.1.1).0
+
+-- by where both ends stand: p the end that is answered, q the other one
+up_on : (q : Phase) → sides.is_up q ≡ true → On q
+up_on phase.Unseen h = absurd (both_ways false refl h)
+up_on phase.Out h = absurd (both_ways false refl h)
+up_on phase.Waiting h = absurd (both_ways false refl h)
+up_on phase.Answered h = absurd (both_ways false refl h)
+up_on phase.Up h = tt
+up_on phase.Unanswered h = absurd (both_ways false refl h)
+
+up_rests : (q : Phase) (w : Way) → sides.is_up q ≡ true → RestsOther (sides.accepting q) w
+up_rests phase.Unseen w h = absurd (both_ways false refl h)
+up_rests phase.Out w h = absurd (both_ways false refl h)
+up_rests phase.Waiting w h = absurd (both_ways false refl h)
+up_rests phase.Answered w h = absurd (both_ways false refl h)
+up_rests phase.Up w h = tt
+up_rests phase.Unanswered w h = absurd (both_ways false refl h)
+
+abbrev Goes : Phase → Phase → Way → Bool
+Goes p q w = sides.is_answered p && (sides.is_up q && way.may_keep_former w)
+
+-- that end is up, and numbers go on
+goes_parts : (p q : Phase) (w : Way) → Goes p q w ≡ true → (sides.is_up q ≡ true) × (way.may_keep_former w ≡ true)
+goes_parts p q w test = and_parts (sides.is_up q) (way.may_keep_former w) (and_parts (sides.is_answered p) (sides.is_up q && way.may_keep_former w) test).1
+
+answers_none : (p q : Phase) (w : Way) → Hears (sides.answering_way p q w) 0 0
+answers_none p q w = cond_both (Goes p q w) (way.keeps_former w) (sides.accepting_way p w) (λ v. Hears v 0 0) (λ _. former_none w) (λ _. (accepting_rested p w).hears)
+
+answers_hears : (p q : Phase) (w : Way) (g t : ℕ) → sides.may_run p ≡ true → Hears w g t → Hears (sides.answering_way p q w) g t
+answers_hears p q w g t up h = cond_both (Goes p q w) (way.keeps_former w) (sides.accepting_way p w) (λ v. Hears v g t) (λ test. former_hears w g t (goes_parts p q w test).1 h) (λ _. accepting_hears p w g t up h)
+
+answers_other : (l : Bool) (p q : Phase) (w : Way) → RestsOther (sides.accepting q) (way.deafened l (sides.answering_way p q w))
+answers_other l p q w = cond_both (Goes p q w) (way.keeps_former w) (sides.accepting_way p w) (λ v. RestsOther (sides.accepting q) (way.deafened l v))
+    (λ test. up_rests q _ (goes_parts p q w test).0)
+    (λ _. accepting_other q (way.deafened l (sides.accepting_way p w)) (deafened_rested l (sides.accepting_way p w) (accepting_rested p w)))
+
+answers_first : (p q : Phase) (w : Way) (rest : List PlainFrame) (f : Bool) (n t : ℕ) → sides.may_run p ≡ true → Hears w (took_all rest n) t → (On q → way.may_hear w ≡ true → NoneBefore n rest) → way.may_hear (sides.answering_way p q w) ≡ true
+    → NoneBefore n (rest ++ ua f ∷ [])
+answers_first p q w rest f n t up h before = cond_both (Goes p q w) (way.keeps_former w) (sides.accepting_way p w) (λ v. way.may_hear v ≡ true → NoneBefore n (rest ++ ua f ∷ []))
+    (λ test hears. none_more rest (ua f) n refl (before (up_on q (goes_parts p q w test).0) hears))
+    (λ _ hears. none_all (rest ++ ua f ∷ []) n (took_more rest (ua f) n ∙ accepting_none p w (took_all rest n) t up h hears))
 
 new_own : (p : Phase) (a : End) (w : Way) → Awaits p a.asked → RestsOwn p a w → OwnIf (sides.accepted_way p a.way) 0 0
 new_own phase.Unseen a w h r = absurd h
@@ -443,21 +485,21 @@ bare_anew a b m rest bare own hears = record {
   first = λ _. bare_none rest bare;
 }
 
-accepted_sabms : (is_late : Bool) (a b : Way) (m : ℕ) (frames : List PlainFrame) → late_all frames ≡ 0 → OwnIf a m 0 → Rested b → BehindSabm (way.deafened is_late a) (way.deafened is_late b) frames
+accepted_sabms : (is_late : Bool) (a b : Way) (m : ℕ) (frames : List PlainFrame) → late_all frames ≡ 0 → OwnIf a m 0 → Hears b 0 0 → BehindSabm (way.deafened is_late a) (way.deafened is_late b) frames
 accepted_sabms true a b m frames none own r = sabms_any (way.deafened true a) (way.deafened true b) frames (λ rest. late_anew a b m 0 rest own)
-accepted_sabms false a b m frames none own r = sabms_bare a b frames none (λ rest bare. bare_anew a b m rest bare own r.hears)
+accepted_sabms false a b m frames none own r = sabms_bare a b frames none (λ rest bare. bare_anew a b m rest bare own r)
 
 accepted_fits : (t v : Sides) (stand : Stand) (p : Peer) (frames : List PlainFrame) (f : Bool) → Accepted t v → Fits t.other t.own stand p frames → Fits v.other v.own stand p (frames ++ ua f ∷ [])
 accepted_fits t v stand p frames f a h = record {
   asked = asked_more frames (ua f) t.own.asked v.own.asked h.asked (subst (λ x. min (t.own.asked + 0) 255 ≤ x) (sym a.asked) (within t.own.asked));
   late = λ rests. ends_late t v frames (ua f) (λ x. x) a.late h.asked h.late;
-  own = subst (λ x. RestsOwn x v.other v.own.way) (sym a.other_phase) (accepted_rests l t.other.phase t.other v.other t.own.way v.own.way a.other rested.hears h.own);
+  own = subst (λ x. RestsOwn x v.other v.own.way) (sym a.other_phase) (accepted_rests l t.other.phase t.other v.other t.own.way v.own.way a.other none h.own);
   count = counted.count;
   sent = subst (λ w. OwnIf w counted.count 0) (sym a.other) (deafened_own l (sides.accepted_way t.other.phase t.other.way) counted.count 0 counted.own);
-  other = subst (λ x. RestsOther x v.own.way) (sym a.phase) (accepting_other t.own.phase v.own.way rested);
+  other = subst (λ x. RestsOther x v.own.way) (sym a.phase) (subst (λ w. RestsOther (sides.accepting t.own.phase) w) (sym a.own) (answers_other l t.other.phase t.own.phase t.own.way));
   sabms = λ on none. subst (λ w. BehindSabm w v.own.way (frames ++ ua f ∷ [])) (sym a.other) (subst (λ w. BehindSabm (way.deafened l (sides.accepted_way t.other.phase t.other.way)) w (frames ++ ua f ∷ [])) (sym a.own)
-      (accepted_sabms l (sides.accepted_way t.other.phase t.other.way) (sides.accepting_way t.other.phase t.own.way) counted.count (frames ++ ua f ∷ [])
-      (none_at_all (late_all (frames ++ ua f ∷ [])) v.own.late (ends_late t v frames (ua f) (λ x. x) a.late h.asked h.late) none) counted.own (accepting_rested t.other.phase t.own.way)));
+      (accepted_sabms l (sides.accepted_way t.other.phase t.other.way) (sides.answering_way t.other.phase t.own.phase t.own.way) counted.count (frames ++ ua f ∷ [])
+      (none_at_all (late_all (frames ++ ua f ∷ [])) v.own.late (ends_late t v frames (ua f) (λ x. x) a.late h.asked h.late) none) counted.own (answers_none t.other.phase t.own.phase t.own.way)));
   holds = holds_more t.other t.own v.other v.own stand p frames (ua f) (λ w. subst (λ x. Awaits x v.other.asked) (sym a.other_phase) (accepted_awaits t.other.phase t.other.asked v.other.asked w)) (λ on. subst IsAnswered (sym a.other_phase) (accepted_answered t.other.phase on)) seen new h.holds;
 }
   where
@@ -467,8 +509,8 @@ accepted_fits t v stand p frames f a h = record {
     l : Bool
     l = sides.is_late t
 
-    rested : Rested v.own.way
-    rested = subst Rested (sym a.own) (deafened_rested l (sides.accepting_way t.other.phase t.own.way) (accepting_rested t.other.phase t.own.way))
+    none : Hears v.own.way 0 0
+    none = subst (λ w. Hears w 0 0) (sym a.own) (deafened_hears l (sides.answering_way t.other.phase t.own.phase t.own.way) 0 0 (answers_none t.other.phase t.own.phase t.own.way))
 
     counted : Counted (sides.accepted_way t.other.phase t.other.way)
     counted = accepted_any t.other.phase t.other.way h.count h.sent
@@ -480,10 +522,10 @@ accepted_fits t v stand p frames f a h = record {
         own = subst (λ w. OwnIf w q.sent (heard_all rest q.acked)) (sym a.other)
             (deafened_own l (sides.accepted_way t.other.phase t.other.way) q.sent (heard_all rest q.acked) (accepted_own t.other.phase t.other.way q.sent (heard_all rest q.acked) s.seen.up s.seen.own));
         hears = subst (λ w. Hears w (took_all rest (length q.taken)) q.told) (sym a.own)
-            (deafened_hears l (sides.accepting_way t.other.phase t.own.way) (took_all rest (length q.taken)) q.told (accepting_hears t.other.phase t.own.way (took_all rest (length q.taken)) q.told s.seen.up s.seen.hears));
+            (deafened_hears l (sides.answering_way t.other.phase t.own.phase t.own.way) (took_all rest (length q.taken)) q.told (answers_hears t.other.phase t.own.phase t.own.way (took_all rest (length q.taken)) q.told s.seen.up s.seen.hears));
       });
-      first = λ on hears. none_all (rest ++ ua f ∷ []) (length q.taken) (took_more rest (ua f) (length q.taken)
-          ∙ accepting_none t.other.phase t.own.way (took_all rest (length q.taken)) q.told s.seen.up s.seen.hears (deafened_hearing l (sides.accepting_way t.other.phase t.own.way) (sym (ap way.may_hear a.own) ∙ hears)));
+      first = λ on hears. answers_first t.other.phase t.own.phase t.own.way rest f (length q.taken) q.told s.seen.up s.seen.hears s.first
+          (deafened_hearing l (sides.answering_way t.other.phase t.own.phase t.own.way) (sym (ap way.may_hear a.own) ∙ hears));
     }
 
     new : Awaits t.other.phase t.other.asked → IsUa (ua f) → IsAnswered v.other.phase × SeenIn v.other v.own fresh_peer []
@@ -493,7 +535,7 @@ accepted_fits t v stand p frames f a h = record {
         seen = record {
           up = ap sides.may_run a.other_phase ∙ (awaits_up t.other.phase t.other.asked w).0;
           own = subst (λ x. OwnIf x 0 0) (sym a.other) (deafened_own l (sides.accepted_way t.other.phase t.other.way) 0 0 (new_own t.other.phase t.other t.own.way w h.own));
-          hears = rested.hears;
+          hears = none;
         };
         first = λ on hears. tt;
       },

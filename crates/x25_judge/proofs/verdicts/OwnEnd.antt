@@ -1,6 +1,7 @@
 -- What an end sends without a number that keeps the rules over any number of set-ups.
 use Rattle.std.proofs.Common.{◌≡◌, inl, inr, ℕ, ◌+◌, ◌≤◌, arith, min, Bool, true, false, List, [], ◌∷◌, refl, sym, ap, ◌∙◌, subst}
-use Rattle.std.proofs.lemmas.Bool.{both_ways}
+use Rattle.std.specs.Prelude.{◌&&◌}
+use Rattle.std.proofs.lemmas.Bool.{cond_both, both_ways}
 use Rattle.x25_frame.specs.Frame.{PlainFrame, dm}
 use Rattle.x25_line.specs.laws.Peer.{Peer, fresh_peer}
 use Rattle.x25_line.specs.laws.PeerSessions.{Stand, Out, Asking, In}
@@ -17,7 +18,7 @@ use Rattle.x25_judge.proofs.verdicts.Fair.{OwnIf}
 use Rattle.x25_judge.proofs.verdicts.Beside.{heard_all, took_all, Hears, deaf_hears}
 use Rattle.x25_judge.proofs.verdicts.OtherEnd.{own_to, Counted}
 use Rattle.x25_judge.proofs.verdicts.Standing.{asks_one, asks_all, sabm_asks, fewer, HaveNoNumber, none_heard, none_taken, late_all, late_tail, late_front, late_taken, none_at_all}
-use Rattle.x25_judge.proofs.verdicts.Standing.{NoneBefore, bare_none, begun_own, answered_rested, lost_rested, again_rested, unanswered_rested, again_hears, again_hearing, answering_own}
+use Rattle.x25_judge.proofs.verdicts.Standing.{NoneBefore, bare_none, begun_own, answered_rested, lost_rested, again_rested, unanswered_rested, again_hears, again_hearing, answering_own, former_own}
 use Rattle.x25_judge.proofs.verdicts.Standing.{late_own, late_deaf, deafened_own, deafened_hears, deafened_hearing, deafened_rested}
 use Rattle.x25_judge.proofs.verdicts.Standing.{RestsOwn, RestsOther, On, IsAtRest, Anew, BehindSabm, SeenIn, BehindUa, Awaits, Holds, Fits, sabms_to, uas_to}
 use Rattle.x25_judge.proofs.verdicts.Unnumbered.{Asked, Aside, Accepted, in_time}
@@ -223,30 +224,32 @@ on_time_begins true a b rest bare own hears = late_begins a b rest own
 on_time_begins false a b rest bare own hears = bare_begins a b rest (bare refl) own hears
 
 -- by where the other end stands
-accepted_begins : (l : Bool) (p : Phase) (a b : Way) (rest : List PlainFrame) → (IsAtRest p → l ≡ false → HaveNoNumber rest) → RestsOther p b → (On p → l ≡ false → Anew a b rest)
-    → Begins (way.deafened l (sides.accepting_way p a)) (way.deafened l (sides.accepted_way p b)) rest
-accepted_begins l phase.Unseen a b rest bare r anew = lost_begins l b rest
-accepted_begins l phase.Out a b rest bare r anew = lost_begins l b rest
-accepted_begins l phase.Waiting a b rest bare r anew = on_time_begins l (way.fresh true) (way.answered b) rest (bare tt) (begun_own _) (answered_rested b).hears
-accepted_begins l phase.Answered a b rest bare r anew = on_time_begins l (way.answering_again a) (way.answered_again b) rest (bare tt) (begun_own _) (again_rested b r).hears
-accepted_begins true phase.Up a b rest bare r anew = late_begins (way.answering_again a) (way.answered_again b) rest (begun_own _)
-accepted_begins false phase.Up a b rest bare r anew = again_begins a b rest (anew tt refl)
-accepted_begins l phase.Unanswered a b rest bare r anew = on_time_begins l (way.answering_again a) (way.answered_again b) rest (bare tt) (begun_own _) (unanswered_rested b r).hears
+accepted_begins : (l : Bool) (p q : Phase) (a b : Way) (rest : List PlainFrame) → (IsAtRest p → l ≡ false → HaveNoNumber rest) → RestsOther p b → (On p → l ≡ false → Anew a b rest)
+    → Begins (way.deafened l (sides.answering_way p q a)) (way.deafened l (sides.accepted_way p b)) rest
+accepted_begins l phase.Unseen q a b rest bare r anew = lost_begins l b rest
+accepted_begins l phase.Out q a b rest bare r anew = lost_begins l b rest
+accepted_begins l phase.Waiting q a b rest bare r anew = on_time_begins l (way.fresh true) (way.answered b) rest (bare tt) (begun_own _) (answered_rested b).hears
+accepted_begins l phase.Answered q a b rest bare r anew = cond_both (sides.is_up q && way.may_keep_former a) (way.keeps_former a) (way.answering_again a) (λ x. Begins (way.deafened l x) (way.deafened l (way.answered_again b)) rest)
+    (λ _. on_time_begins l (way.keeps_former a) (way.answered_again b) rest (bare tt) (former_own a) (again_rested b r).hears)
+    (λ _. on_time_begins l (way.answering_again a) (way.answered_again b) rest (bare tt) (begun_own _) (again_rested b r).hears)
+accepted_begins true phase.Up q a b rest bare r anew = late_begins (way.answering_again a) (way.answered_again b) rest (begun_own _)
+accepted_begins false phase.Up q a b rest bare r anew = again_begins a b rest (anew tt refl)
+accepted_begins l phase.Unanswered q a b rest bare r anew = on_time_begins l (way.answering_again a) (way.answered_again b) rest (bare tt) (begun_own _) (unanswered_rested b r).hears
 
 -- at each SABM that is left
-accepted_sabms : (l : Bool) (p : Phase) (a b : Way) (frames : List PlainFrame) → (IsAtRest p → l ≡ false → late_all frames ≡ 0) → RestsOther p b → (On p → l ≡ false → BehindSabm a b frames)
-    → BehindSabm (way.deafened l (sides.accepting_way p a)) (way.deafened l (sides.accepted_way p b)) frames
-accepted_sabms l p a b [] none r anew = tt
-accepted_sabms l p a b (frame ∷ frames) none r anew = (
-  λ is. anew_at (accepted_begins l p a b frames (λ rests on_time. late_front frame frames (sabm_asks frame is) (none rests on_time)) r (λ on on_time. (anew on on_time).0 is)),
-  accepted_sabms l p a b frames (λ rests on_time. late_tail frame frames (none rests on_time)) r (λ on on_time. (anew on on_time).1),
+accepted_sabms : (l : Bool) (p q : Phase) (a b : Way) (frames : List PlainFrame) → (IsAtRest p → l ≡ false → late_all frames ≡ 0) → RestsOther p b → (On p → l ≡ false → BehindSabm a b frames)
+    → BehindSabm (way.deafened l (sides.answering_way p q a)) (way.deafened l (sides.accepted_way p b)) frames
+accepted_sabms l p q a b [] none r anew = tt
+accepted_sabms l p q a b (frame ∷ frames) none r anew = (
+  λ is. anew_at (accepted_begins l p q a b frames (λ rests on_time. late_front frame frames (sabm_asks frame is) (none rests on_time)) r (λ on on_time. (anew on on_time).0 is)),
+  accepted_sabms l p q a b frames (λ rests on_time. late_tail frame frames (none rests on_time)) r (λ on on_time. (anew on on_time).1),
 )
   where
-    anew_at : Begins (way.deafened l (sides.accepting_way p a)) (way.deafened l (sides.accepted_way p b)) frames → Anew (way.deafened l (sides.accepting_way p a)) (way.deafened l (sides.accepted_way p b)) frames
+    anew_at : Begins (way.deafened l (sides.answering_way p q a)) (way.deafened l (sides.accepted_way p b)) frames → Anew (way.deafened l (sides.answering_way p q a)) (way.deafened l (sides.accepted_way p b)) frames
     anew_at h = record { count = 0; own = h.own; hears = h.hears; first = h.first }
 
 -- and at each UA that may come yet
-pub accepted_uas : (a b c d : End) (l : Bool) (frames : List PlainFrame) → sides.may_run c.phase ≡ true → (IsAnswered a.phase → IsAnswered c.phase) → c.way ≡ way.deafened l (sides.accepting_way b.phase a.way)
+pub accepted_uas : (a b c d : End) (l : Bool) (frames : List PlainFrame) → sides.may_run c.phase ≡ true → (IsAnswered a.phase → IsAnswered c.phase) → c.way ≡ way.deafened l (sides.answering_way b.phase a.phase a.way)
     → d.way ≡ way.deafened l (sides.accepted_way b.phase b.way) → (IsAtRest b.phase → l ≡ false → HaveNoNumber frames) → RestsOther b.phase b.way → BehindUa a b frames → BehindUa c d frames
 accepted_uas a b c d l [] up on own opposite bare r h = tt
 accepted_uas a b c d l (frame ∷ frames) up on own opposite bare r h =
@@ -254,7 +257,7 @@ accepted_uas a b c d l (frame ∷ frames) up on own opposite bare r h =
   where
     seen : SeenIn a b fresh_peer frames → SeenIn c d fresh_peer frames
     seen s =
-        let k = accepted_begins l b.phase a.way b.way frames (λ rests on_time. (bare rests on_time).1) r (λ on _. record { count = 0; own = s.seen.own; hears = s.seen.hears; first = s.first on }) in
+        let k = accepted_begins l b.phase a.phase a.way b.way frames (λ rests on_time. (bare rests on_time).1) r (λ on _. record { count = 0; own = s.seen.own; hears = s.seen.hears; first = s.first on }) in
         record {
           seen = record { up = up; own = subst (λ w. OwnIf w 0 (heard_all frames 0)) (sym own) k.own; hears = subst (λ w. Hears w (took_all frames 0) 0) (sym opposite) k.hears };
           first = λ on hears. k.first (sym (ap way.may_hear opposite) ∙ hears);
@@ -275,6 +278,9 @@ accepting_own phase.Waiting w = begun_own _
 accepting_own phase.Answered w = begun_own _
 accepting_own phase.Up w = begun_own _
 accepting_own phase.Unanswered w = begun_own _
+
+answers_own : (p q : Phase) (w : Way) → OwnIf (sides.answering_way p q w) 0 0
+answers_own p q w = cond_both (sides.is_answered p && (sides.is_up q && way.may_keep_former w)) (way.keeps_former w) (sides.accepting_way p w) (λ v. OwnIf v 0 0) (λ _. former_own w) (λ _. accepting_own p w)
 
 accepting_rests : (p : Phase) (a c : End) (w v : Way) → c.asked ≡ a.asked → OwnIf c.way 0 0 → (Hears w 0 0 → Hears v 0 0) → RestsOwn p a w → RestsOwn (sides.accepting p) c v
 accepting_rests phase.Unseen a c w v e o g r = (o, inr (g (deaf_hears w 0 0 r)))
@@ -344,18 +350,18 @@ module _ (t v : Sides) (stand : Stand) (p : Peer) (frame : PlainFrame) (rest : L
     count = 0;
     sent = begun;
     other = subst (λ x. RestsOther x v.other.way) (sym a.other_phase) (subst (λ w. RestsOther (sides.accepted t.other.phase) w) (sym a.other) (accepted_other l t.other.phase t.other.way f.other));
-    sabms = λ on none. same_sabms (way.deafened l (sides.accepting_way t.other.phase t.own.way)) (way.deafened l (sides.accepted_way t.other.phase t.other.way)) v.own.way v.other.way rest a.own a.other
-        (accepted_sabms l t.other.phase t.own.way t.other.way rest (λ rests on_time. late_tail frame rest (none_late rests on_time)) f.other (λ on on_time. (f.sabms on (in_time t on_time)).1));
+    sabms = λ on none. same_sabms (way.deafened l (sides.answering_way t.other.phase t.own.phase t.own.way)) (way.deafened l (sides.accepted_way t.other.phase t.other.way)) v.own.way v.other.way rest a.own a.other
+        (accepted_sabms l t.other.phase t.own.phase t.own.way t.other.way rest (λ rests on_time. late_tail frame rest (none_late rests on_time)) f.other (λ on on_time. (f.sabms on (in_time t on_time)).1));
     holds = holds;
   }
     where
       begun : OwnIf v.own.way 0 0
-      begun = subst (λ w. OwnIf w 0 0) (sym a.own) (deafened_own l (sides.accepting_way t.other.phase t.own.way) 0 0 (accepting_own t.other.phase t.own.way))
+      begun = subst (λ w. OwnIf w 0 0) (sym a.own) (deafened_own l (sides.answering_way t.other.phase t.own.phase t.own.way) 0 0 (answers_own t.other.phase t.own.phase t.own.way))
 
   -- a session begins
   pub begun_seen : (On t.other.phase → l ≡ false → Anew t.own.way t.other.way rest) → SeenIn v.own v.other fresh_peer rest
   begun_seen anew =
-      let b = accepted_begins l t.other.phase t.own.way t.other.way rest bare f.other anew in
+      let b = accepted_begins l t.other.phase t.own.phase t.own.way t.other.way rest bare f.other anew in
       record {
         seen = record {
           up = ap sides.may_run a.phase ∙ accepting_up t.own.phase;

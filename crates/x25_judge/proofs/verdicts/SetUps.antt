@@ -179,7 +179,7 @@ record Kept (t v : Sides) : Type 0 where
 accepts_begin : (v : Sides) → Waits v.other → AreBegun (sides.is_late v) (sides.notes_lag (sides.answers (sides.accepts v)))
 accepts_begin v a = record {
   own_up = is_up v.own.phase;
-  own = ap (λ p. way.deafened (sides.is_late v) (sides.accepting_way p v.own.way)) a.phase;
+  own = ap (λ p. way.deafened (sides.is_late v) (sides.answering_way p v.own.phase v.own.way)) a.phase;
   other_up = ap (λ p. sides.may_run (sides.accepted p)) a.phase;
   opposite = ap (λ p. way.deafened (sides.is_late v) (sides.accepted_way p v.other.way)) a.phase ∙ ap (λ w. way.deafened (sides.is_late v) (way.answered w)) a.way
       ∙ ap (λ w. way.deafened (sides.is_late v) w) (answered_fresh a.knows);

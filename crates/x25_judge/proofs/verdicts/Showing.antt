@@ -1,7 +1,7 @@
 -- The other end sends a frame with a number, whatever it likes, beside an end that keeps the rules.
 use Rattle.std.proofs.Common.{◌≡◌, ◌==◌, ◌⊎◌, inl, inr, ℕ, ◌+◌, ◌-◌, ◌%◌, min, ◌<◌, ◌≤◌, arith, Bool, true, false, if◌then◌else◌, List, [], ◌∷◌, ◌++◌, length, Option, None, refl, sym, ap, ◌∙◌, subst}
 use Rattle.std.specs.Prelude.{nat_le, nat_lt, ◌&&◌, ◌||◌, not}
-use Rattle.std.proofs.lemmas.Bool.{eqb-true, eqb-false, ltb-true, leb-true, and_parts, both_ways, cond_both, cases_eq}
+use Rattle.std.proofs.lemmas.Bool.{eqb-true, eqb-false, ltb-true, ltb-false, leb-true, leb-false, and_parts, both_ways, cond_both, cond-true, cases_eq}
 use Rattle.x25_bits.specs.declared.role.Role.{Role}
 use Rattle.x25_bits.specs.declared.role.Role.TheVariants.{Dte, Dce}
 use Rattle.x25_bits.specs.Role.{other}
@@ -16,18 +16,20 @@ use Rattle.x25_judge.specs.declared.judge.Judge.{Judge}
 use Rattle.x25_judge.specs.declared.note.Note.TheVariants.{SentAgain, SentBehindDamage}
 use Rattle.x25_judge.specs.declared.rule.Rule.{Rule}
 use Rattle.x25_judge.specs.declared.rule.Rule.TheVariants.{OverWindow, Skips, Repeats, Differs}
+use Rattle.x25_judge.specs.declared.way.Sight.{Sight}
+use Rattle.x25_judge.specs.declared.way.Sight.TheVariants.{Unseen, Deaf, Astray, Sure}
 use Rattle.x25_judge.specs.declared.way.Told.{Told}
 use Rattle.x25_packet_judge.specs.Numbers.{apart}
 use Rattle.x25_judge.specs.declared.sides.End.{End}
 use Rattle.x25_judge.specs.declared.sides.Sides.{Sides}
 use Rattle.x25_judge.specs.declared.way.Way.{Way}
 use Rattle.x25_judge.specs.laws.Session.{IsNumbered}
-use Rattle.x25_judge.proofs.verdicts.Ways.{Numbered, apart_low, sent_numbered}
-use Rattle.x25_judge.proofs.verdicts.Fair.{OwnIf, heard_own_if, unseen_deaf}
+use Rattle.x25_judge.proofs.verdicts.Ways.{Numbered, apart_low, grown_numbered, sent_numbered}
+use Rattle.x25_judge.proofs.verdicts.Fair.{OwnIf, Hears_fit, heard_own_if, unseen_deaf}
 use Rattle.x25_judge.proofs.verdicts.Frames.{IsUp, AreSame, Owes, Settles, Sees, Strays, strays, is_bool, info_sees, ready_sees, reject_sees}
 use Rattle.x25_judge.proofs.verdicts.Lines.{other_twice, Goes}
 use Rattle.x25_judge.proofs.verdicts.Octets.{IsHeld}
-use Rattle.x25_judge.proofs.verdicts.Beside.{acks, heard_all, heard_more, takes, takes_within, brings, took_all, took_more, Hears_fit, Hears, Seen, SeenBy, Beside, own_if_alike, deaf_hears}
+use Rattle.x25_judge.proofs.verdicts.Beside.{acks, heard_all, heard_more, takes, takes_within, brings, took_all, took_more, Hears, Seen, SeenBy, Beside, own_if_alike, deaf_hears}
 
 takes_still : (ns g m : ℕ) → g ≤ m → (ns % 8 ≡ m % 8 → ⊥) → takes ns g ≤ m
 takes_still ns g m le ne = cond_both (ns == g % 8) (g + 1) g (λ x. x ≤ m) (λ test. wanted (eqb-true ns (g % 8) test)) (λ _. le)
@@ -133,14 +135,6 @@ sent_some w window ns p s begun =
         same : (b x : ℕ) → b ≡ x → b ≤ x
         same b x e = omega arith
 
--- the N(S) of the other end
-others_sent : (w : Way) (window ns g told : ℕ) (p s : Bool) → 7 ≤ window → Hears w g told → Hears (way.sent window ns p s w).way (takes ns g) told
-others_sent w window ns g told p s large h = record {
-  numbered = sent_numbered w (Hears_fit g told) (Hears_fit (takes ns g) told) h.numbered (λ m u c one next fit. (takes_more ns g m c fit.0 one, fit.1)) ns (λ m u ne fit. (takes_still ns g m fit.0 ne, fit.1)) window p s large;
-  begun = λ hears e. absurd (sent_some w window ns p s h.begun hears e);
-  none = λ hears e. absurd (sent_some w window ns p s h.begun hears e);
-}
-
 abbrev Known_fit : Way → ℕ → ℕ → Type 0
 Known_fit w x y = way.may_hear w ≡ true
 
@@ -153,6 +147,142 @@ sent_hearing w window ns g told p s large h hears = let (m, u, is, c) = known.co
 
     known : Numbered (way.sent window ns p s w).way (Known_fit w)
     known = sent_numbered w (Known_fit w) (Known_fit w) before (λ m u c one next is. is) ns (λ m u ne is. is) window p s large
+
+-- the N(S) of the other end
+module _ (w : Way) (window ns g told : ℕ) (p s : Bool) (large : 7 ≤ window) where
+  abbrev All_fit : ℕ → ℕ → ℕ → Type 0
+  All_fit h x y = (h ≤ x) × (y ≡ told)
+
+  abbrev Near_fit : ℕ → ℕ → ℕ → Type 0
+  Near_fit f x y = Hears_fit f g told x y × (y ≤ x)
+
+  -- none of before counts
+  sent_alone : Numbered w (All_fit g) → Numbered (way.sent window ns p s w).way (Hears_fit (way.sent window ns p s w).way.former (takes ns g) told)
+  sent_alone h = sent_numbered w (All_fit g) (Hears_fit (way.sent window ns p s w).way.former (takes ns g) told) h (λ m u c one next fit. (inl (takes_more ns g m c fit.0 one), fit.1)) ns (λ m u ne fit. (inl (takes_still ns g m fit.0 ne), fit.1)) window p s large
+
+  alone : w.former ≡ 0 → Numbered w (Hears_fit w.former g told) → Numbered w (All_fit g)
+  alone none h = record { counts = λ hears. let (x, y, fit, c) = h.counts hears in (x, y, (all w.pending w.former x y none c.pending fit.0, fit.1), c) }
+    where
+      all : (q f x y : ℕ) → f ≡ 0 → q + y ≡ x → (g ≤ x) ⊎ ((g ≤ y + f) × (f ≤ 7)) → g ≤ x
+      all q f x y none is (inl le) = le
+      all q f x y none is (inr le) = at le.0
+        where
+          at : g ≤ y + f → g ≤ x
+          at le = omega (arith, none, is)
+
+  -- the next one
+  grows_next : apart w.next ns ≡ 0 → way.is_unseen w ≡ false → (way.sent window ns p s w).way ≡ way.grown 1 w
+  grows_next zero seen =
+      cond_both (way.is_unseen w) (way.quiet (way.counted w)) (way.sent_number window p s back w) (λ (t : Told). t.way ≡ way.grown 1 w)
+      (λ unseen. absurd (both_ways (way.is_unseen w) seen unseen))
+      (λ _. cond_both (nat_lt 0 back) (way.sent_again p s back w) _ (λ (t : Told). t.way ≡ way.grown 1 w)
+      (λ some. absurd (never back zero (ltb-true 0 back some)))
+      (λ _. cond_both (w.behind == 0 || way.known_pending w == 0) (way.sent_new window w) (way.unexplained s back w) (λ (t : Told). t.way ≡ way.grown 1 w)
+      (λ _. cond_both (way.is_sure w && nat_le window w.pending) (way.breaks (OverWindow (way.passed window w)) (way.grown 1 w)) (way.quiet (way.grown 1 w)) (λ (t : Told). t.way ≡ way.grown 1 w) (λ _. refl) (λ _. refl))
+      (λ _. cond_both (back == 0) (way.skips (way.has_room 1 w) 1 w) _ (λ (t : Told). t.way ≡ way.grown 1 w)
+      (λ _. cond_both w.is_missed (way.notes SentBehindDamage (way.grown 1 w)) (way.breaks (if way.has_room 1 w then Skips (way.place w) else OverWindow 7) (way.grown 1 w)) (λ (t : Told). t.way ≡ way.grown 1 w) (λ _. refl) (λ _. refl))
+      (λ some. absurd (eqb-false back 0 some zero)))))
+    where
+      back : ℕ
+      back = apart w.next ns
+
+      never : (b : ℕ) → b ≡ 0 → 0 < b → ⊥
+      never b zero some = omega arith
+
+  sent_next : w.next ≡ ns → way.is_unseen w ≡ false → Numbered w (Hears_fit w.former g told) → Numbered (way.grown 1 w) (Hears_fit w.former (takes ns g) told)
+  sent_next is seen h = grown_numbered w (Near_fit w.former) (Hears_fit w.former (takes ns g) told) 1 (omega arith) grows near
+    where
+      near : Numbered w (Near_fit w.former)
+      near = record { counts = λ hears. let (x, y, fit, c) = h.counts hears in (x, y, (fit, low w.pending x y c.pending), c) }
+        where
+          low : (q x y : ℕ) → q + y ≡ x → y ≤ x
+          low q x y is = omega arith
+
+      grows : (x y : ℕ) → w.next ≡ x % 8 → Near_fit w.former x y → Hears_fit w.former (takes ns g) told (x + 1) y
+      grows x y next (fit, low) = (go fit.0 (leq_or g x), fit.1)
+        where
+          leq_or : (a b : ℕ) → (a ≤ b) ⊎ (b < a)
+          leq_or a b = leq_cases (nat_le a b) refl
+            where
+              leq_cases : (t : Bool) → nat_le a b ≡ t → (a ≤ b) ⊎ (b < a)
+              leq_cases true e = inl (leb-true a b e)
+              leq_cases false e = inr (leb-false a b e)
+
+          go : (g ≤ x) ⊎ ((g ≤ y + w.former) × (w.former ≤ 7)) → (g ≤ x) ⊎ (x < g) → (takes ns g ≤ x + 1) ⊎ ((takes ns g ≤ y + w.former) × (w.former ≤ 7))
+          go any (inl le) = inl (takes_more ns g x 1 le (omega arith))
+          go (inl le) (inr over) = inl (takes_more ns g x 1 le (omega arith))
+          go (inr few) (inr over) = inr (still w.former few.0 few.1, few.1)
+            where
+              apart_no : (f : ℕ) → g ≤ y + f → f ≤ 7 → ns ≡ g % 8 → ⊥
+              apart_no f le small same = number ns w.next is next same
+                where
+                  number : (a b : ℕ) → b ≡ a → b ≡ x % 8 → a ≡ g % 8 → ⊥
+                  number a b same_as at own = omega (arith, le, small, over, low)
+
+              still : (f : ℕ) → g ≤ y + f → f ≤ 7 → takes ns g ≤ y + f
+              still f le small = cond_both (ns == g % 8) (g + 1) g (λ z. z ≤ y + f) (λ test. absurd (apart_no f le small (eqb-true ns (g % 8) test))) (λ _. le)
+
+steady_split : (ns : ℕ) (w : Way) → way.is_unseen w ≡ false → (w.former ≡ 0) ⊎ ((w.next ≡ ns) ⊎ (way.may_hear (way.steady ns w) ≡ false))
+steady_split ns w seen = go (nat_lt 0 w.former) (w.next == ns) refl refl
+  where
+    zero : (f : ℕ) → f ≤ 0 → f ≡ 0
+    zero f le = omega arith
+
+    go : (a b : Bool) → nat_lt 0 w.former ≡ a → (w.next == ns) ≡ b → (w.former ≡ 0) ⊎ ((w.next ≡ ns) ⊎ (way.may_hear (way.steady ns w) ≡ false))
+    go false b e k = inl (zero w.former (ltb-false 0 w.former e))
+    go true true e k = inr (inl (eqb-true w.next ns k))
+    go true false e k = inr (inr (ap way.may_hear (cond-true ((nat_lt 0 w.former && not (w.next == ns)) && not (way.is_unseen w)) (way.deaf w) w (rw (e, k, seen) refl))))
+
+steady_hears : (ns : ℕ) (w : Way) (g t : ℕ) → Hears w g t → Hears (way.steady ns w) g t
+steady_hears ns w g t h = cond_both ((nat_lt 0 w.former && not (w.next == ns)) && not (way.is_unseen w)) (way.deaf w) w (λ v. Hears v g t) (λ _. deaf_hears (way.deaf w) g t refl) (λ _. h)
+
+steady_same : (ns : ℕ) (w : Way) → way.may_hear (way.steady ns w) ≡ true → way.steady ns w ≡ w
+steady_same ns w = cond_both ((nat_lt 0 w.former && not (w.next == ns)) && not (way.is_unseen w)) (way.deaf w) w (λ v. way.may_hear v ≡ true → v ≡ w) (λ _ hears. absurd (both_ways false refl hears)) (λ _ _. refl)
+
+seen_hears : (s : Sight) → way.may_hear_sight s ≡ true → way.is_unseen_sight s ≡ false
+seen_hears Unseen e = absurd (both_ways false refl e)
+seen_hears Deaf e = refl
+seen_hears Astray e = refl
+seen_hears Sure e = refl
+
+module _ (w : Way) (window ns g told : ℕ) (p s : Bool) (large : 7 ≤ window) (h : Hears w g told) where
+  steady_hearing : way.may_hear (way.sent window ns p s (way.steady ns w)).way ≡ true → way.may_hear (way.steady ns w) ≡ true
+  steady_hearing hears = sent_hearing (way.steady ns w) window ns g told p s large (steady_hears ns w g told h) hears
+
+  others_hearing : way.may_hear (way.sent window ns p s (way.steady ns w)).way ≡ true → way.may_hear w ≡ true
+  others_hearing hears = let still = steady_hearing hears in sym (ap way.may_hear (steady_same ns w still)) ∙ still
+
+  -- what is said is said of the way as it was
+  sent_hears : way.may_hear w ≡ true → (w.former ≡ 0) ⊎ (w.next ≡ ns) → Hears (way.sent window ns p s w).way (takes ns g) told
+  sent_hears hears (inl none) = record {
+    numbered = sent_alone w window ns g told p s large (alone w window ns g told p s large none h.numbered);
+    begun = λ is e. absurd (sent_some w window ns p s h.begun is e);
+  }
+  sent_hears hears (inr next) = record {
+    numbered = subst (λ v. Numbered v (Hears_fit v.former (takes ns g) told)) (sym (grows_next w window ns g told p s large (at w.next next) (seen_hears w.sight hears)))
+        (sent_next w window ns g told p s large next (seen_hears w.sight hears) h.numbered);
+    begun = λ is e. absurd (sent_some w window ns p s h.begun is e);
+  }
+    where
+      at : (x : ℕ) → x ≡ ns → apart x ns ≡ 0
+      at x is = omega arith
+
+  others_sent : Hears (way.sent window ns p s (way.steady ns w)).way (takes ns g) told
+  others_sent = elim (is_bool (way.may_hear (way.steady ns w))) [ inl hears ↦ known hears | inr deaf ↦ unknown deaf ]
+    where
+      unknown : way.may_hear (way.steady ns w) ≡ false → Hears (way.sent window ns p s (way.steady ns w)).way (takes ns g) told
+      unknown deaf = elim (is_bool (way.may_hear (way.sent window ns p s (way.steady ns w)).way)) [ inl hears ↦ absurd (both_ways (way.may_hear (way.steady ns w)) deaf (steady_hearing hears)) | inr off ↦ deaf_hears (way.sent window ns p s (way.steady ns w)).way (takes ns g) told off ]
+
+      known : way.may_hear (way.steady ns w) ≡ true → Hears (way.sent window ns p s (way.steady ns w)).way (takes ns g) told
+      known hears = subst (λ v. Hears (way.sent window ns p s v).way (takes ns g) told) (sym (steady_same ns w hears)) (sent_hears was (which (steady_split ns w (seen_hears w.sight was))))
+        where
+          was : way.may_hear w ≡ true
+          was = sym (ap way.may_hear (steady_same ns w hears)) ∙ hears
+
+          which : (w.former ≡ 0) ⊎ ((w.next ≡ ns) ⊎ (way.may_hear (way.steady ns w) ≡ false)) → (w.former ≡ 0) ⊎ (w.next ≡ ns)
+          which (inl none) = inl none
+          which (inr (inl next)) = inr next
+          which (inr (inr deaf)) = absurd (both_ways (way.may_hear (way.steady ns w)) deaf hears)
 
 -- A frame with a number of the first end, whatever it is. The other end stands where it stood, and the first one is up,
 -- or nothing is known of it.
@@ -195,8 +325,8 @@ out_gives t v frame s = record {
 up_frame : (window : ℕ) (s : Bool) (frame : PlainFrame) (t : Sides) → IsNumbered frame → 7 ≤ window → t.rule ≡ None → IsUp t → Gives t (sides.sees window s frame t) frame
 unfolding sides.sees
 up_frame window s (info ns nr pf packet) t is large none up =
-    up_gives t (sides.sends_info window ns nr pf s t) (info ns nr pf packet) nr (way.sent window ns pf s t.own.way).way (way.sent window ns pf s t.own.way).rule up (info_sees window ns nr pf s t up none) (λ u. refl)
-    (λ g told h. others_sent t.own.way window ns g told pf s large h) (λ g told h. sent_hearing t.own.way window ns g told pf s large h)
+    up_gives t (sides.sends_info window ns nr pf s t) (info ns nr pf packet) nr (way.sent window ns pf s (way.steady ns t.own.way)).way (way.sent window ns pf s (way.steady ns t.own.way)).rule up (info_sees window ns nr pf s t up none) (λ u. refl)
+    (λ g told h. others_sent t.own.way window ns g told pf s large h) (λ g told h. others_hearing t.own.way window ns g told pf s large h)
 up_frame window s (rr command nr pf) t is large none up = up_gives t (sides.sends_ready command nr pf t) (rr command nr pf) nr t.own.way None up (ready_sees command nr pf t up none) (λ u. refl) (λ g told h. h) (λ g told h is. is)
 up_frame window s (rnr command nr pf) t is large none up = up_gives t (sides.sends_ready command nr pf t) (rnr command nr pf) nr t.own.way None up (ready_sees command nr pf t up none) (λ u. refl) (λ g told h. h) (λ g told h is. is)
 up_frame window s (rej command nr pf) t is large none up =

@@ -34,7 +34,7 @@ use Rattle.x25_judge.specs.laws.Session.{end_of, IsSetUp, Shows, IsNumbered, IsS
 use Rattle.x25_judge.specs.laws.Watching.{Watched, watched_from, more, IsSilent, Begins, Acts, Says, Comes, Fails}
 use Rattle.x25_judge.specs.laws.VerdictClaims.{SilenceMeansOrder, SilenceMeansRules}
 use Rattle.x25_judge.specs.laws.Explaining.{IsQuiet, Starts, Follows, IsKept, Fresh, HandsDown, Sends, Hears}
-use Rattle.x25_judge.proofs.verdicts.Silent.{Exact, IsNew, IsOld, IsInOrder, sent_silent, heard_silent}
+use Rattle.x25_judge.proofs.verdicts.Silent.{Exact, IsNew, IsOld, IsInOrder, sent_silent, heard_silent, steady_exact}
 use Rattle.x25_judge.proofs.verdicts.Frames.{IsUp, runs_on, AreAlike, Sees, info_sees, ready_sees, reject_sees, first_none}
 use Rattle.x25_judge.proofs.verdicts.Lines.{other_twice, Goes, goes, stands, none_told}
 use Rattle.x25_judge.proofs.verdicts.Octets.{IsHeld, begun_held, same_held, new_held, old_held, old_octets, last_of, bare_held}
@@ -69,6 +69,7 @@ exact_alike w v m u a h = record {
   pending = ap (λ x. x + u) a.pending ∙ h.pending;
   few = rw a.pending h.few;
   behind = rw a.behind h.behind;
+  former = a.former ∙ h.former;
 }
 
 -- no rule, so neither its N(R) nor its N(S) breaks any
@@ -145,22 +146,22 @@ module _ (r o : Role) (is_o : other r ≡ o) (is_r : other o ≡ r) where
   says j k p (info ns nr pf packet) range is h g none =
       let frame = info ns nr pf packet in
       let b = is_same (held_of r j) frame in
-      let w = (sides_of r j).own.way in
+      let w = way.steady ns (sides_of r j).own.way in
       let s = info_sees j.window ns nr pf b (sides_of r j) (we_are_up j p h) (stands j r).none in
       let t = way.sent j.window ns pf b w in
       let test = ns == length p.taken % 8 in
       let q = taking test packet (hearing true nr p) in
-      let order = sent_silent w (length p.taken) p.told (ours_before j p h) ns b j.window pf h.window (quiet (sides_of r j) (seen_by j r frame) nr t.way t.rule s none).sent in
+      let order = sent_silent w (length p.taken) p.told (steady_exact ns (sides_of r j).own.way (length p.taken) p.told (ours_before j p h)) ns b j.window pf h.window (quiet (sides_of r j) (seen_by j r frame) nr t.way t.rule s none).sent in
       says_at j k p q frame nr t.way t.rule h g s none (noted_info test nr packet p) (subst (λ x. Exact t.way (length q.taken) x) (sym (noted_info test nr packet p).told) (exact order))
     where
-      exact : IsInOrder (way.sent j.window ns pf (is_same (held_of r j) (info ns nr pf packet)) (sides_of r j).own.way) (is_same (held_of r j) (info ns nr pf packet)) ns (length p.taken) p.told
-          → Exact (way.sent j.window ns pf (is_same (held_of r j) (info ns nr pf packet)) (sides_of r j).own.way).way (length (taking (ns == length p.taken % 8) packet (hearing true nr p)).taken) p.told
-      exact (inl new) = subst (λ x. Exact (way.sent j.window ns pf (is_same (held_of r j) (info ns nr pf packet)) (sides_of r j).own.way).way x p.told)
+      exact : IsInOrder (way.sent j.window ns pf (is_same (held_of r j) (info ns nr pf packet)) (way.steady ns (sides_of r j).own.way)) (is_same (held_of r j) (info ns nr pf packet)) ns (length p.taken) p.told
+          → Exact (way.sent j.window ns pf (is_same (held_of r j) (info ns nr pf packet)) (way.steady ns (sides_of r j).own.way)).way (length (taking (ns == length p.taken % 8) packet (hearing true nr p)).taken) p.told
+      exact (inl new) = subst (λ x. Exact (way.sent j.window ns pf (is_same (held_of r j) (info ns nr pf packet)) (way.steady ns (sides_of r j).own.way)).way x p.told)
           (taking_new (ns == length p.taken % 8) packet (hearing true nr p) (eq-eqb ns (length p.taken % 8) (is_it new.number))) new.exact
         where
           is_it : ns % 8 ≡ length p.taken % 8 → ns ≡ length p.taken % 8
           is_it e = omega (arith, range.0)
-      exact (inr old) = subst (λ x. Exact (way.sent j.window ns pf (is_same (held_of r j) (info ns nr pf packet)) (sides_of r j).own.way).way x p.told)
+      exact (inr old) = subst (λ x. Exact (way.sent j.window ns pf (is_same (held_of r j) (info ns nr pf packet)) (way.steady ns (sides_of r j).own.way)).way x p.told)
           (taking_old (ns == length p.taken % 8) packet (hearing true nr p) (ne_eqb ns (length p.taken % 8) (isnt old.n old.number old.before old.near))) old.exact
         where
           isnt : (n : ℕ) → ns % 8 ≡ n % 8 → n < length p.taken → length p.taken ≤ n + 7 → ns ≡ length p.taken % 8 → ⊥
@@ -357,10 +358,10 @@ module _ (r o : Role) (is_o : other r ≡ o) (is_r : other o ≡ r) where
   comes j k p (info ns nr pf packet) range fits is h g none =
       let frame = info ns nr pf packet in
       let b = is_same (held_of o j) frame in
-      let w = (sides_of o j).own.way in
+      let w = way.steady ns (sides_of o j).own.way in
       let t = way.sent j.window ns pf b w in
       let s = info_sees j.window ns nr pf b (sides_of o j) (they_are_up j p h) (stands j o).none in
-      go s (sent_silent w p.sent p.acked (theirs_before j p h) ns b j.window pf h.window (quiet (sides_of o j) (seen_by j o frame) nr t.way t.rule s none).sent)
+      go s (sent_silent w p.sent p.acked (steady_exact ns (sides_of o j).own.way p.sent p.acked (theirs_before j p h)) ns b j.window pf h.window (quiet (sides_of o j) (seen_by j o frame) nr t.way t.rule s none).sent)
     where
       acknowledges : (x : Peer) → x.told ≡ p.told → x.taken ≡ p.taken → MayAcknowledge p nr (resolved p.told nr) → MayAcknowledge x nr (resolved p.told nr)
       acknowledges x e f m = record { number = m.number; rising = subst (λ y. y ≤ resolved p.told nr) (sym e) m.rising; taken = subst (λ (y : List (List ℕ)). resolved p.told nr ≤ length y) (sym f) m.taken }
@@ -378,10 +379,10 @@ module _ (r o : Role) (is_o : other r ≡ o) (is_r : other o ≡ r) where
         knows = comes_at j k p (told_to (resolved p.told nr) u) (info ns nr pf packet) nr t.way t.rule h g s none n.acked n.taken refl n.exact n.all n.held;
       }
 
-      go : Sees (sides_of o j) (seen_by j o (info ns nr pf packet)) nr (way.sent j.window ns pf (is_same (held_of o j) (info ns nr pf packet)) (sides_of o j).own.way).way (way.sent j.window ns pf (is_same (held_of o j) (info ns nr pf packet)) (sides_of o j).own.way).rule
-          → IsInOrder (way.sent j.window ns pf (is_same (held_of o j) (info ns nr pf packet)) (sides_of o j).own.way) (is_same (held_of o j) (info ns nr pf packet)) ns p.sent p.acked → Passes k p (info ns nr pf packet)
-      go s (inl new) = passed (numbered_to p.sent (record p { given = p.given ++ packet ∷ [] })) (way.sent j.window ns pf (is_same (held_of o j) (info ns nr pf packet)) (sides_of o j).own.way) s (new_number j p ns nr pf packet _ range.0 h new fits)
-      go s (inr old) = passed (numbered_to old.n p) (way.sent j.window ns pf (is_same (held_of o j) (info ns nr pf packet)) (sides_of o j).own.way) s (old_number j p ns nr pf packet _ range.0 h old fits)
+      go : Sees (sides_of o j) (seen_by j o (info ns nr pf packet)) nr (way.sent j.window ns pf (is_same (held_of o j) (info ns nr pf packet)) (way.steady ns (sides_of o j).own.way)).way (way.sent j.window ns pf (is_same (held_of o j) (info ns nr pf packet)) (way.steady ns (sides_of o j).own.way)).rule
+          → IsInOrder (way.sent j.window ns pf (is_same (held_of o j) (info ns nr pf packet)) (way.steady ns (sides_of o j).own.way)) (is_same (held_of o j) (info ns nr pf packet)) ns p.sent p.acked → Passes k p (info ns nr pf packet)
+      go s (inl new) = passed (numbered_to p.sent (record p { given = p.given ++ packet ∷ [] })) (way.sent j.window ns pf (is_same (held_of o j) (info ns nr pf packet)) (way.steady ns (sides_of o j).own.way)) s (new_number j p ns nr pf packet _ range.0 h new fits)
+      go s (inr old) = passed (numbered_to old.n p) (way.sent j.window ns pf (is_same (held_of o j) (info ns nr pf packet)) (way.steady ns (sides_of o j).own.way)) s (old_number j p ns nr pf packet _ range.0 h old fits)
   comes j k p (rr command nr pf) range fits is h g none = bare_passes j k p (rr command nr pf) nr None range tt refl refl (λ may. (resolved p.told nr, may, refl)) h g (ready_sees command nr pf (sides_of o j) (they_are_up j p h) (stands j o).none) none
   comes j k p (rnr command nr pf) range fits is h g none = bare_passes j k p (rnr command nr pf) nr None range tt refl refl (λ may. (resolved p.told nr, may, refl)) h g (ready_sees command nr pf (sides_of o j) (they_are_up j p h) (stands j o).none) none
   comes j k p (rej command nr pf) range fits is h g none =
@@ -421,7 +422,7 @@ begins c j up small = record {
 }
   where
     fresh_exact : (w : Way) → w ≡ way.fresh true → Exact w 0 0
-    fresh_exact w is = subst (λ x. Exact x 0 0) (sym is) (record { sure = refl; whole = refl; next = refl; ever = refl; kept = refl; pending = refl; few = omega arith; behind = omega arith })
+    fresh_exact w is = subst (λ x. Exact x 0 0) (sym is) (record { sure = refl; whole = refl; next = refl; ever = refl; kept = refl; pending = refl; few = omega arith; behind = omega arith; former = refl })
 
 notes_given : (frame : PlainFrame) (p : Peer) → (notes (Ok frame) p).given ≡ p.given
 notes_given (info ns nr pf packet) p = (noted_info (ns == length p.taken % 8) nr packet p).given
@@ -504,7 +505,7 @@ fresh_knows from j up small = record {
 }
   where
     fresh_exact : (w : Way) → w ≡ way.fresh true → Exact w 0 0
-    fresh_exact w is = subst (λ x. Exact x 0 0) (sym is) (record { sure = refl; whole = refl; next = refl; ever = refl; kept = refl; pending = refl; few = omega arith; behind = omega arith })
+    fresh_exact w is = subst (λ x. Exact x 0 0) (sym is) (record { sure = refl; whole = refl; next = refl; ever = refl; kept = refl; pending = refl; few = omega arith; behind = omega arith; former = refl })
 
 wanted : (b : Bool) (ns : ℕ) (p : Peer) → (ns == length p.taken % 8) ≡ b → IsWanted b ns p
 wanted true ns p e = eqb-true ns (length p.taken % 8) e

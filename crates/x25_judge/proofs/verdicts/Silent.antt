@@ -3,7 +3,7 @@ use Rattle.std.proofs.Common.{◌≡◌, ◌==◌, ◌⊎◌, inl, inr, ℕ, ◌
 use Rattle.std.specs.Prelude.{nat_le, nat_lt, ◌&&◌, ◌||◌, not}
 use Rattle.std.proofs.lemmas.Bool.{eqb-true, leb-true, leb-false, ltb-true, ltb-false, le-leb, le-ltb, and_parts, and_from, and_cases, or_left, or_cases, both_ways, not-true, not-false, cond_both}
 use Rattle.x25_judge.specs.Way as way
-use Rattle.x25_judge.specs.declared.note.Note.TheVariants.{SentAgain, SentBehindDamage, HeardBehindDamage}
+use Rattle.x25_judge.specs.declared.note.Note.TheVariants.{SentAgain, SentBehindDamage, HeardBehindDamage, NumbersUnjudged}
 use Rattle.x25_judge.specs.declared.rule.Rule.{Rule}
 use Rattle.x25_judge.specs.declared.rule.Rule.TheVariants.{OverWindow, Skips, Repeats, Differs}
 use Rattle.x25_judge.specs.declared.way.Sight.{Sight}
@@ -32,6 +32,7 @@ pub record Exact (w : Way) (m u : ℕ) : Type 0 where
   pub pending : w.pending + u ≡ m
   pub few : w.pending ≤ 7
   pub behind : w.behind ≤ m
+  pub former : w.former ≡ 0
 
 never_told : {P : Type 0} (rule : Rule) → Some rule ≡ None → P
 never_told rule e = absurd (no e)
@@ -233,13 +234,13 @@ IsInOrder t is_same ns m u = IsNew t ns m u ⊎ IsOld t is_same ns m u
 
 module _ (w : Way) (m u : ℕ) (h : Exact w m u) where
   repeated_exact : (back : ℕ) → back ≤ m → Exact (way.repeated back w) m u
-  repeated_exact back le = record { sure = h.sure; whole = h.whole; next = h.next; ever = h.ever; kept = h.kept; pending = h.pending; few = h.few; behind = less m back le }
+  repeated_exact back le = record { sure = h.sure; whole = h.whole; next = h.next; ever = h.ever; kept = h.kept; pending = h.pending; few = h.few; behind = less m back le; former = h.former }
 
   gone_back_exact : (is_poll : Bool) (back : ℕ) → back ≤ m → Exact (way.gone_back is_poll back w) m u
   gone_back_exact true back le = repeated_exact back le
   gone_back_exact false back le =
       let r = repeated_exact back le in
-      record { sure = r.sure; whole = r.whole; next = r.next; ever = r.ever; kept = r.kept; pending = r.pending; few = r.few; behind = r.behind }
+      record { sure = r.sure; whole = r.whole; next = r.next; ever = r.ever; kept = r.kept; pending = r.pending; few = r.few; behind = r.behind; former = r.former }
 
   grown_exact : w.pending ≤ 6 → Exact (way.grown 1 w) (m + 1) u
   grown_exact room = record {
@@ -251,6 +252,7 @@ module _ (w : Way) (m u : ℕ) (h : Exact w m u) where
     pending = ap (λ x. x + u) (pending_if (nat_lt 7 p) p small) ∙ pending_grown w.pending h.pending room;
     few = rw (pending_if (nat_lt 7 p) p small) (few w.pending room);
     behind = omega arith;
+    former = h.former;
   }
     where
       p : ℕ
@@ -315,15 +317,23 @@ heard_silent w m u nr h =
     cond_both (way.may_hear w) (way.heard_ahead ahead w) (way.quiet w) (λ (t : Told). t.rule ≡ None → IsAck t nr m u)
     (λ _. cond_both (nat_le ahead w.pending) (way.quiet (way.acknowledged ahead w)) (way.strayed ahead w) (λ (t : Told). t.rule ≡ None → IsAck t nr m u)
     (λ test _. fine ahead (leb-true ahead w.pending test) lands)
+    (λ far. cond_both (nat_le ahead w.former) (way.notes NumbersUnjudged (way.deaf w)) (way.strayed_on ahead w) (λ (t : Told). t.rule ≡ None → IsAck t nr m u)
+    (λ near. absurd (apart_so (leb-false ahead w.pending far) (leb-true ahead w.former near)))
     (λ _. cond_both (not (way.is_sure w)) (if w.is_missed then way.quiet (way.astray w) else way.quiet (way.deaf w)) (if w.is_missed then way.notes HeardBehindDamage (way.astray w) else way.breaks (way.invalid ahead w) (way.deaf w)) (λ (t : Told). t.rule ≡ None → IsAck t nr m u)
     (λ test. absurd (both_ways (way.is_sure w) (not-true (way.is_sure w) test) h.sure))
     (λ _. cond_both w.is_missed (way.notes HeardBehindDamage (way.astray w)) (way.breaks (way.invalid ahead w) (way.deaf w)) (λ (t : Told). t.rule ≡ None → IsAck t nr m u)
     (λ missed. absurd (both_ways w.is_missed h.whole missed))
-    (λ _ e. never_told (way.invalid ahead w) e))))
+    (λ _ e. never_told (way.invalid ahead w) e)))))
     (λ test. absurd (both_ways (way.may_hear w) test (hearing w.sight h.sure)))
   where
     ahead : ℕ
     ahead = apart nr (way.awaited w)
+
+    apart_so : w.pending < ahead → ahead ≤ w.former → ⊥
+    apart_so far near = at w.pending w.former ahead h.former far near
+      where
+        at : (p f a : ℕ) → f ≡ 0 → p < a → a ≤ f → ⊥
+        at p f a none far near = omega arith
 
     is_at : (x p : ℕ) → x ≡ m % 8 → p + u ≡ m → p ≤ 7 → u + apart nr (apart x p) ≡ resolved u nr
     is_at x p is pending few = omega arith
@@ -334,7 +344,7 @@ heard_silent w m u nr h =
     fine : (a : ℕ) → a ≤ w.pending → u + a ≡ resolved u nr → IsAck (way.quiet (way.acknowledged a w)) nr m u
     fine a le is = record {
       within = within a w.pending le is h.pending;
-      exact = record { sure = refl; whole = h.whole; next = h.next; ever = h.ever; kept = h.kept; pending = left a w.pending (resolved u nr) le is h.pending; few = less a w.pending h.few; behind = h.behind };
+      exact = record { sure = refl; whole = h.whole; next = h.next; ever = h.ever; kept = h.kept; pending = left a w.pending (resolved u nr) le is h.pending; few = less a w.pending h.few; behind = h.behind; former = none a w.former h.former };
     }
       where
         within : (a p : ℕ) → a ≤ p → u + a ≡ resolved u nr → p + u ≡ m → resolved u nr ≤ m
@@ -345,3 +355,15 @@ heard_silent w m u nr h =
 
         less : (a p : ℕ) → p ≤ 7 → p - a ≤ 7
         less a p few = omega arith
+
+        none : (a f : ℕ) → f ≡ 0 → f - a ≡ 0
+        none a f e = omega arith
+
+-- numbers go on as they are
+pub steady_exact : (ns : ℕ) (w : Way) (m u : ℕ) → Exact w m u → Exact (way.steady ns w) m u
+steady_exact ns w m u h = cond_both ((nat_lt 0 w.former && not (w.next == ns)) && not (way.is_unseen w)) (way.deaf w) w (λ v. Exact v m u)
+    (λ test. absurd (never w.former h.former (ltb-true 0 w.former (and_parts (nat_lt 0 w.former) (not (w.next == ns)) (and_parts (nat_lt 0 w.former && not (w.next == ns)) (not (way.is_unseen w)) test).0).0)))
+    (λ _. h)
+  where
+    never : (f : ℕ) → f ≡ 0 → 0 < f → ⊥
+    never f none some = omega arith

@@ -1,7 +1,7 @@
 -- Where an end that keeps the rules over any number of set-ups stands beside the judge, and what is on the way to it.
-use Rattle.std.proofs.Common.{◌≡◌, ◌⊎◌, inl, inr, ℕ, ◌+◌, ◌<◌, ◌≤◌, arith, min, Bool, true, false, if◌then◌else◌, List, [], ◌∷◌, ◌++◌, length, refl, sym, ap, ◌∙◌, subst}
+use Rattle.std.proofs.Common.{◌≡◌, ◌==◌, ◌⊎◌, inl, inr, ℕ, ◌+◌, ◌<◌, ◌≤◌, arith, min, Bool, true, false, if◌then◌else◌, List, [], ◌∷◌, ◌++◌, length, refl, sym, ap, ◌∙◌, subst}
 use Rattle.std.specs.Prelude.{nat_lt, ◌-◌, ◌&&◌, ◌||◌, not}
-use Rattle.std.proofs.lemmas.Bool.{eqb-true, ltb-true, both_ways, or_parts, cond_both, cond-true, cond-false}
+use Rattle.std.proofs.lemmas.Bool.{eqb-true, ltb-true, and_parts, both_ways, or_parts, cond_both, cond-true, cond-false}
 use Rattle.x25_frame.specs.Frame.{PlainFrame, info, rr, rnr, rej, sabm, disc, ua, dm, frmr}
 use Rattle.x25_line.specs.laws.Peer.{Peer, fresh_peer}
 use Rattle.x25_line.specs.laws.PeerSessions.{Stand, Out, Asking, In}
@@ -17,9 +17,9 @@ use Rattle.x25_judge.specs.laws.Session.{IsNumbered}
 use Rattle.x25_judge.specs.laws.Sessions.{IsUa, HaveNoUa}
 use Rattle.x25_judge.specs.laws.VerdictClaims.{IsAnswered}
 use Rattle.x25_judge.proofs.verdicts.Ways.{Counts, deaf_numbered}
-use Rattle.x25_judge.proofs.verdicts.Fair.{Own, OwnIf, unseen_deaf}
+use Rattle.x25_judge.proofs.verdicts.Fair.{Own, OwnIf, Hears_fit, unseen_deaf}
 use Rattle.x25_judge.proofs.verdicts.Frames.{is_bool}
-use Rattle.x25_judge.proofs.verdicts.Beside.{acks, heard_all, heard_rises, heard_more, brings, took_all, took_more, took_low, brings_low, brings_rises, Hears, Seen, Rested, deaf_hears}
+use Rattle.x25_judge.proofs.verdicts.Beside.{acks, heard_all, heard_rises, heard_more, brings, took_all, took_more, took_low, brings_low, brings_rises, Hears, hears_none, Seen, Rested, deaf_hears}
 
 -- ---- frames on the way
 
@@ -285,15 +285,16 @@ none_asked (frame ∷ frames) g some n = elim (one_or_none frame) [ inl one ↦ 
 
 pub begun_rested : (s : Sight) → Rested (way.begun s)
 begun_rested s = record {
-  hears = record { numbered = record { counts = λ hears. (0, 0, (omega arith, refl), record { next = refl; pending = refl; few = omega arith }) }; begun = λ hears ever. (refl, refl); none = λ hears ever. (refl, refl) };
+  hears = record { numbered = record { counts = λ hears. (0, 0, (inl (omega arith), refl), record { next = refl; pending = refl; few = omega arith; ever = refl }) }; begun = λ hears ever. (refl, refl) };
   none = λ hears. refl;
+  former = λ hears. refl;
 }
 
 pub begun_own : (s : Sight) → OwnIf (way.begun s) 0 0
-begun_own s = elim (is_bool (way.is_unseen_sight s)) [ inl unseen ↦ inl unseen | inr seen ↦ inr (record { seen = seen; next = refl; ever = refl; kept = refl; whole = refl; numbered = record { counts = λ hears. (0, 0, (refl, omega arith), record { next = refl; pending = refl; few = omega arith }) } }) ]
+begun_own s = elim (is_bool (way.is_unseen_sight s)) [ inl unseen ↦ inl unseen | inr seen ↦ inr (record { seen = seen; next = refl; ever = refl; kept = refl; whole = refl; numbered = record { counts = λ hears. (0, 0, (refl, omega arith), record { next = refl; pending = refl; few = omega arith; ever = refl }) } }) ]
 
 pub lost_rested : (w : Way) → Rested (way.lost w)
-lost_rested w = record { hears = deaf_hears (way.lost w) 0 0 refl; none = λ hears. absurd (both_ways false refl hears) }
+lost_rested w = record { hears = deaf_hears (way.lost w) 0 0 refl; none = λ hears. absurd (both_ways false refl hears); former = λ hears. absurd (both_ways false refl hears) }
 
 pub answered_rested : (w : Way) → Rested (way.answered w)
 answered_rested w = cond_both (way.is_fresh w) (way.fresh true) (way.lost w) Rested (λ _. begun_rested _) (λ _. lost_rested w)
@@ -320,33 +321,67 @@ again_hearing w = cond_both w.is_missed (way.lost w) w (λ v. way.may_hear v ≡
 -- its numbers begin anew
 pub answering_hears : (w : Way) (g t : ℕ) → Hears w g t → Hears (way.answering_again w) g t
 answering_hears w g t h =
-    cond_both (way.is_fresh w) w.sight _ (λ s. Hears (way.begun s) g t)
-    (λ fresh. elim (is_bool (way.may_hear w)) [ inl hears ↦ still (h.none hears (eqb-true w.ever 0 fresh)) | inr deaf ↦ deaf_hears (way.begun w.sight) g t deaf ])
+    cond_both (way.is_fresh w && w.former == 0) w.sight _ (λ s. Hears (way.begun s) g t)
+    (λ fresh. let parts = and_parts (way.is_fresh w) (w.former == 0) fresh in elim (is_bool (way.may_hear w)) [ inl hears ↦ still (hears_none w g t h hears (eqb-true w.ever 0 parts.0) (eqb-true w.former 0 parts.1)) | inr deaf ↦ deaf_hears (way.begun w.sight) g t deaf ])
     (λ _. deaf_hears (way.begun _) g t refl)
   where
     still : (g ≡ 0) × (t ≡ 0) → Hears (way.begun w.sight) g t
     still (bare, none) = subst (λ x. Hears (way.begun w.sight) x t) (sym bare) (subst (λ x. Hears (way.begun w.sight) 0 x) (sym none) (begun_rested w.sight).hears)
 
-pub answering_hearing : (w : Way) → way.may_hear (way.answering_again w) ≡ true → (way.may_hear w ≡ true) × (w.ever ≡ 0)
+pub answering_hearing : (w : Way) → way.may_hear (way.answering_again w) ≡ true → (way.may_hear w ≡ true) × ((w.ever ≡ 0) × (w.former ≡ 0))
 answering_hearing w =
-    cond_both (way.is_fresh w) w.sight Deaf (λ s. way.may_hear_sight s ≡ true → (way.may_hear w ≡ true) × (w.ever ≡ 0))
-    (λ fresh hears. (hears, eqb-true w.ever 0 fresh)) (λ _ hears. absurd (both_ways false refl hears))
+    cond_both (way.is_fresh w && w.former == 0) w.sight Deaf (λ s. way.may_hear_sight s ≡ true → (way.may_hear w ≡ true) × ((w.ever ≡ 0) × (w.former ≡ 0)))
+    (λ fresh hears. let parts = and_parts (way.is_fresh w) (w.former == 0) fresh in (hears, (eqb-true w.ever 0 parts.0, eqb-true w.former 0 parts.1))) (λ _ hears. absurd (both_ways false refl hears))
 
 pub answering_own : (w : Way) (m u : ℕ) → OwnIf w m u → OwnIf (way.answering_again w) 0 u
 answering_own w m u h =
-    cond_both (way.is_fresh w) w.sight Deaf (λ s. OwnIf (way.begun s) 0 u)
-    (λ fresh. still (eqb-true w.ever 0 fresh) h)
+    cond_both (way.is_fresh w && w.former == 0) w.sight Deaf (λ s. OwnIf (way.begun s) 0 u)
+    (λ fresh. still (eqb-true w.ever 0 (and_parts (way.is_fresh w) (w.former == 0) fresh).0) h)
     (λ _. inr (record { seen = refl; next = refl; ever = refl; kept = refl; whole = refl; numbered = deaf_numbered (way.begun Deaf) _ refl }))
   where
     none : (x y p : ℕ) → min m 255 ≡ 0 → x ≡ m → u ≤ y → p + y ≡ x → u ≤ 0
     none x y p e is le pending = omega arith
 
     counted : w.ever ≡ 0 → Own w m u → (x : ℕ) × (y : ℕ) × ((x ≡ m) × (u ≤ y)) × Counts w x y → (x : ℕ) × (y : ℕ) × ((x ≡ 0) × (u ≤ y)) × Counts (way.begun w.sight) x y
-    counted ever o (x, y, fit, c) = (0, 0, (refl, none x y w.pending (sym o.ever ∙ ever) fit.0 fit.1 c.pending), record { next = refl; pending = refl; few = omega arith })
+    counted ever o (x, y, fit, c) = (0, 0, (refl, none x y w.pending (sym o.ever ∙ ever) fit.0 fit.1 c.pending), record { next = refl; pending = refl; few = omega arith; ever = refl })
 
     still : w.ever ≡ 0 → OwnIf w m u → OwnIf (way.begun w.sight) 0 u
     still ever (inl unseen) = inl unseen
     still ever (inr o) = inr (record { seen = o.seen; next = refl; ever = refl; kept = refl; whole = refl; numbered = record { counts = λ hears. counted ever o (o.numbered.counts hears) } })
+
+-- Or they go by those of before too, of which all are unacknowledged.
+pub former_own : (w : Way) → OwnIf (way.keeps_former w) 0 0
+former_own w = elim (is_bool (way.is_unseen_sight w.sight)) [ inl unseen ↦ inl unseen | inr seen ↦ inr (record { seen = seen; next = refl; ever = refl; kept = refl; whole = refl; numbered = record { counts = λ hears. (0, 0, (refl, omega arith), record { next = refl; pending = refl; few = omega arith; ever = refl }) } }) ]
+
+pub former_none : (w : Way) → Hears (way.keeps_former w) 0 0
+former_none w = record { numbered = record { counts = λ hears. (0, 0, (inl (omega arith), refl), record { next = refl; pending = refl; few = omega arith; ever = refl }) }; begun = λ hears ever. (refl, refl) }
+
+pub former_hears : (w : Way) (g t : ℕ) → way.may_keep_former w ≡ true → Hears w g t → Hears (way.keeps_former w) g t
+former_hears w g t may h = record {
+  numbered = record { counts = λ hears. let (x, y, fit, c) = h.numbered.counts hears in go x y fit c };
+  begun = λ hears ever. (refl, refl);
+}
+  where
+    first : ((w.former == 0) ≡ true) × ((w.pending == w.ever && not w.is_missed) ≡ true)
+    first = and_parts (w.former == 0) (w.pending == w.ever && not w.is_missed) may
+
+    all : w.pending ≡ w.ever
+    all = eqb-true w.pending w.ever (and_parts (w.pending == w.ever) (not w.is_missed) first.1).0
+
+    bare : w.former ≡ 0
+    bare = eqb-true w.former 0 first.0
+
+    go : (x y : ℕ) → Hears_fit w.former g t x y → Counts w x y → (m : ℕ) × (u : ℕ) × Hears_fit w.pending g t m u × Counts (way.keeps_former w) m u
+    go x y fit c = (0, 0, (inr (elim fit.0 [ inl le ↦ by_sent w.ever w.pending le c.ever all c.pending c.few | inr few ↦ by_former w.ever w.former w.pending few.0 bare c.ever all c.pending c.few ], c.few), none w.ever w.pending c.ever all c.pending c.few fit.1), record { next = refl; pending = refl; few = omega arith; ever = refl })
+      where
+        by_sent : (e p : ℕ) → g ≤ x → e ≡ min x 255 → p ≡ e → p + y ≡ x → p ≤ 7 → g ≤ 0 + p
+        by_sent e p le ever same pending few = omega arith
+
+        by_former : (e f p : ℕ) → g ≤ y + f → f ≡ 0 → e ≡ min x 255 → p ≡ e → p + y ≡ x → p ≤ 7 → g ≤ 0 + p
+        by_former e f p le none ever same pending few = omega arith
+
+        none : (e p : ℕ) → e ≡ min x 255 → p ≡ e → p + y ≡ x → p ≤ 7 → y ≡ t → 0 ≡ t
+        none e p ever same pending few told = omega arith
 
 -- ---- ways behind a late UA
 
@@ -384,7 +419,7 @@ deafened_hearing true w hears = absurd (both_ways (way.may_hear (way.deafened tr
 deafened_hearing false w hears = hears
 
 pub deafened_rested : (is_late : Bool) (w : Way) → Rested w → Rested (way.deafened is_late w)
-deafened_rested true w h = record { hears = deaf_hears (way.deafened true w) 0 0 (late_deaf w); none = λ hears. absurd (both_ways (way.may_hear (way.deafened true w)) (late_deaf w) hears) }
+deafened_rested true w h = record { hears = deaf_hears (way.deafened true w) 0 0 (late_deaf w); none = λ hears. absurd (both_ways (way.may_hear (way.deafened true w)) (late_deaf w) hears); former = λ hears. absurd (both_ways (way.may_hear (way.deafened true w)) (late_deaf w) hears) }
 deafened_rested false w h = h
 
 -- ---- both ends

@@ -137,7 +137,7 @@ dm_phase window s f t none = ap sides.declining (answered_bits f t none).phase
 
 pub record Accepted (t v : Sides) : Type 0 where
   pub phase : v.own.phase ≡ sides.accepting t.own.phase
-  pub own : v.own.way ≡ way.deafened (sides.is_late t) (sides.accepting_way t.other.phase t.own.way)
+  pub own : v.own.way ≡ way.deafened (sides.is_late t) (sides.answering_way t.other.phase t.own.phase t.own.way)
   pub asked : v.own.asked ≡ t.own.asked
   pub late : v.own.late ≡ ended_late t.own.phase t.own.asked t.own.late
   pub other_phase : v.other.phase ≡ sides.accepted t.other.phase
@@ -150,8 +150,8 @@ pub accepted_is : (f : Bool) (t : Sides) → t.rule ≡ None → Accepted t (sid
 accepted_is f t none =
     record {
       phase = ap sides.accepting h.phase;
-      own = ap (λ l. way.deafened l (sides.accepting_way u.other.phase u.own.way)) late_same ∙ ap (λ p. way.deafened (sides.is_late t) (sides.accepting_way p u.own.way)) h.other_phase
-          ∙ ap (λ w. way.deafened (sides.is_late t) (sides.accepting_way t.other.phase w)) h.own;
+      own = ap (λ l. way.deafened l (sides.answering_way u.other.phase u.own.phase u.own.way)) late_same ∙ ap (λ p. way.deafened (sides.is_late t) (sides.answering_way p u.own.phase u.own.way)) h.other_phase
+          ∙ ap (λ q. way.deafened (sides.is_late t) (sides.answering_way t.other.phase q u.own.way)) h.phase ∙ ap (λ w. way.deafened (sides.is_late t) (sides.answering_way t.other.phase t.own.phase w)) h.own;
       asked = h.asked;
       late = ended_same t u h;
       other_phase = ap sides.accepted h.other_phase;

@@ -3,7 +3,7 @@ use Rattle.std.proofs.Common.{◌≡◌, ◌==◌, ℕ, ◌+◌, ◌-◌, ◌%�
 use Rattle.std.specs.Prelude.{nat_le, nat_lt, ◌&&◌, ◌||◌, not}
 use Rattle.std.proofs.lemmas.Bool.{eqb-false, leb-true, ltb-true, ltb-false, both_ways, cond_both}
 use Rattle.x25_judge.specs.Way as way
-use Rattle.x25_judge.specs.declared.note.Note.TheVariants.{SentAgain, SentBehindDamage, HeardBehindDamage}
+use Rattle.x25_judge.specs.declared.note.Note.TheVariants.{SentAgain, SentBehindDamage, HeardBehindDamage, NumbersUnjudged}
 use Rattle.x25_judge.specs.declared.rule.Rule.{Rule}
 use Rattle.x25_judge.specs.declared.rule.Rule.TheVariants.{OverWindow, Skips, Repeats, Differs}
 use Rattle.x25_judge.specs.declared.way.Sight.{Sight}
@@ -40,6 +40,7 @@ pub record Counts (w : Way) (m u : ℕ) : Type 0 where
   pub next : w.next ≡ m % 8
   pub pending : w.pending + u ≡ m
   pub few : w.pending ≤ 7
+  pub ever : w.ever ≡ min m 255
 
 -- nothing is said of what answers it, or it counts numbers that fit
 pub record Numbered (w : Way) (Fit : ℕ → ℕ → Type 0) : Type 0 where
@@ -55,12 +56,12 @@ sure_hears Astray e = refl
 sure_hears Sure e = refl
 
 -- what isn't about numbers changes, or the numbers fit otherwise
-pub same_numbered : (w v : Way) (Fit Fits : ℕ → ℕ → Type 0) → v.sight ≡ w.sight → v.next ≡ w.next → v.pending ≡ w.pending
+pub same_numbered : (w v : Way) (Fit Fits : ℕ → ℕ → Type 0) → v.sight ≡ w.sight → v.next ≡ w.next → v.pending ≡ w.pending → v.ever ≡ w.ever
     → ((m u : ℕ) → w.next ≡ m % 8 → Fit m u → Fits m u) → Numbered w Fit → Numbered v Fits
-same_numbered w v Fit Fits sight next pending fits h = record { counts = λ hears. go (h.counts (sym (ap way.may_hear_sight sight) ∙ hears)) }
+same_numbered w v Fit Fits sight next pending ever fits h = record { counts = λ hears. go (h.counts (sym (ap way.may_hear_sight sight) ∙ hears)) }
   where
     go : ((m : ℕ) × (u : ℕ) × Fit m u × Counts w m u) → (m : ℕ) × (u : ℕ) × Fits m u × Counts v m u
-    go (m, u, fit, c) = (m, u, fits m u c.next fit, record { next = next ∙ c.next; pending = ap (λ x. x + u) pending ∙ c.pending; few = rw pending c.few })
+    go (m, u, fit, c) = (m, u, fits m u c.next fit, record { next = next ∙ c.next; pending = ap (λ x. x + u) pending ∙ c.pending; few = rw pending c.few; ever = ever ∙ c.ever })
 
 -- an N(R) of the other end may have been missed
 pub unheard_numbered : (w : Way) (Fit : ℕ → ℕ → Type 0) → Numbered w Fit → Numbered (way.unheard w) Fit
@@ -73,14 +74,14 @@ unheard_numbered w Fit h = record { counts = λ hears. go (h.counts (heard w.sig
     heard Sure e = refl
 
     go : ((m : ℕ) × (u : ℕ) × Fit m u × Counts w m u) → (m : ℕ) × (u : ℕ) × Fit m u × Counts (way.unheard w) m u
-    go (m, u, fit, c) = (m, u, fit, record { next = c.next; pending = c.pending; few = c.few })
+    go (m, u, fit, c) = (m, u, fit, record { next = c.next; pending = c.pending; few = c.few; ever = c.ever })
 
 -- ---- an N(R) in range
 
 pub acknowledged_numbered : (w : Way) (Fits : ℕ → ℕ → Type 0) (m u nr : ℕ) → Fits m (resolved u nr) → Counts w m u → apart nr (way.awaited w) ≤ w.pending
     → Numbered (way.acknowledged (apart nr (way.awaited w)) w) Fits
 acknowledged_numbered w Fits m u nr fits c few = record {
-  counts = λ hears. (m, resolved u nr, fits, record { next = c.next; pending = left ahead w.pending (resolved u nr) few lands c.pending; few = less ahead w.pending c.few });
+  counts = λ hears. (m, resolved u nr, fits, record { next = c.next; pending = left ahead w.pending (resolved u nr) few lands c.pending; few = less ahead w.pending c.few; ever = c.ever });
 }
   where
     ahead : ℕ
@@ -108,6 +109,10 @@ heard_counts w Fits m u nr whole fits c =
 
     strays : Numbered (way.strayed ahead w).way Fits
     strays =
+        cond_both (nat_le ahead w.former) (way.notes NumbersUnjudged (way.deaf w)) (way.strayed_on ahead w)
+        (λ (t : Told). Numbered t.way Fits)
+        (λ _. deaf_numbered (way.deaf w) Fits refl)
+        (λ _.
         cond_both (not (way.is_sure w)) (if w.is_missed then way.quiet (way.astray w) else way.quiet (way.deaf w)) (if w.is_missed then way.notes HeardBehindDamage (way.astray w) else way.breaks (way.invalid ahead w) (way.deaf w))
         (λ (t : Told). Numbered t.way Fits)
         (λ test.
@@ -117,7 +122,7 @@ heard_counts w Fits m u nr whole fits c =
         (λ test.
         cond_both w.is_missed (way.notes HeardBehindDamage (way.astray w)) (way.breaks (way.invalid ahead w) (way.deaf w)) (λ (t : Told). Numbered t.way Fits)
         (λ missed. absurd (both_ways w.is_missed whole missed))
-        (λ missed. deaf_numbered (way.deaf w) Fits refl))
+        (λ missed. deaf_numbered (way.deaf w) Fits refl)))
 
 pub heard_numbered : (w : Way) (Fit Fits : ℕ → ℕ → Type 0) (nr : ℕ) → w.is_missed ≡ false → ((m u : ℕ) → m ≤ u + 7 → Fit m u → Fits m (resolved u nr)) → Numbered w Fit → Numbered (way.heard nr w).way Fits
 heard_numbered w Fit Fits nr whole fits h =
@@ -151,6 +156,9 @@ grown_numbered w Fit Fits c small fits h = record { counts = λ hears. go (hears
     next_grown : (x m : ℕ) → x ≡ m % 8 → min (x + c) 255 % 8 ≡ (m + c) % 8
     next_grown x m is = omega (arith, small)
 
+    ever_grown : (x m : ℕ) → x ≡ min m 255 → min (x + c) 255 ≡ min (m + c) 255
+    ever_grown x m is = omega arith
+
     pending_grown : (x m u : ℕ) → x + u ≡ m → x ≤ 7 → min (x + c) 255 + u ≡ m + c
     pending_grown x m u is few = omega (arith, small)
 
@@ -164,6 +172,7 @@ grown_numbered w Fit Fits c small fits h = record { counts = λ hears. go (hears
             next = next_grown w.next m k.next;
             pending = ap (λ x. x + u) (pending_if (nat_lt 7 p) p near) ∙ pending_grown w.pending m u k.pending k.few;
             few = rw (pending_if (nat_lt 7 p) p near) (ltb-false 7 p near);
+            ever = ever_grown w.ever m k.ever;
           },
         )
 
@@ -195,11 +204,11 @@ module _ (w : Way) (Fit Fits : ℕ → ℕ → Type 0) (h : Numbered w Fit) (mor
         never e lt = omega arith
 
     repeated_numbered : 0 < back → Numbered (way.repeated back w) Fits
-    repeated_numbered gone = same_numbered w (way.repeated back w) Fit Fits refl refl refl (other_number gone) h
+    repeated_numbered gone = same_numbered w (way.repeated back w) Fit Fits refl refl refl refl (other_number gone) h
 
     gone_back_numbered : (is_poll : Bool) → 0 < back → Numbered (way.gone_back is_poll back w) Fits
     gone_back_numbered true gone = repeated_numbered gone
-    gone_back_numbered false gone = same_numbered w (way.went_back back w) Fit Fits refl refl refl (other_number gone) h
+    gone_back_numbered false gone = same_numbered w (way.went_back back w) Fit Fits refl refl refl refl (other_number gone) h
 
     grown_by : (c : ℕ) → 1 ≤ c → c ≤ 8 → Numbered (way.grown c w) Fits
     grown_by c one few = grown_numbered w Fit Fits c few (λ m u next fit. more m u c one next fit) h

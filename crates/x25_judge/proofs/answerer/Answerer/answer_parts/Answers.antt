@@ -2,7 +2,6 @@ use Rattle.std.proofs.Common.{◌≡◌, ◌∙◌, ◌≤◌, ◌||◌, None, S
 use Rattle.std.specs.Prelude.{IfSome, MatchOption}
 use Rattle.std.proofs.Math.Bool.{or-false}
 use Rattle.std.proofs.lemmas.Result.{err_from_is_err_and, on_ok_weaker}
-use Rattle.x25_io.specs.HeldLine.{most_line}
 use Rattle.x25_io.specs.Loose.{asked}
 use Rattle.x25_io.proofs.ToldLemmas.{part_of_all}
 use Rattle.x25_judge.specs.Answerer.{reply, reply_to}
