@@ -1,17 +1,17 @@
 /* x25.h: a station of X.25, DTE or DCE (ITU-T X.25 10/96): its link, LAPB, and its packet layer, at one end of a line.
  *
  * A program keeps an x25_station for each station, and hands its address to each call. All zeros hold no station; x25_new
- * makes one, and x25_free lets it go. A station has no clock, no socket and no thread: the program has the line and timer T1.
+ * makes one, and x25_free lets it go. A station has no socket and no thread: the program has the line, and timer T1 or the time.
  *
- * The calls from x25_connect to x25_command let something happen to a station, and leave their answer in it: frames to send,
+ * The calls from x25_connect to x25_time let something happen to a station, and leave their answer in it: frames to send,
  * frame check sequence included, events, and what becomes of timer T1. x25_take takes these one after another; the next such
  * call replaces them. Messages that wait go on with each of these calls.
  *
  * Each answers 0 where it did what it was asked, and else one of the numbers below: then the station is as before, nothing is
- * answered, and timer T1 goes on, or is off. (After X25_NO_COMMAND, and X25_IN_USE of x25_new, the last answer stands.) Each
- * may answer X25_NO_STATION and X25_NO_MEMORY; what else one answers stands beside it.
+ * answered, and timer T1 goes on, or is off. (After X25_NO_COMMAND, X25_IN_USE of x25_new, and X25_BAD_PARAMETER of x25_time, the
+ * last answer stands.) Each may answer X25_NO_STATION and X25_NO_MEMORY; what else one answers stands beside it.
  *
- * An answer has at most 24 frames of at most 4,103 octets, and 3 events, of which one has at most 65,535 octets; that of
+ * An answer has at most 24 frames of at most 4,103 octets, and 4 events, of which one has at most 65,535 octets; that of
  * x25_receive_all has as many for each frame that was taken. Its memory is set aside before anything happens: reading it takes
  * none, but for x25_entry. A station takes some 80 kB, and some 10 MB with all that may wait on 16 channels.
  *
@@ -72,6 +72,16 @@ typedef struct {
     uint8_t window_calling;
 } x25_sizes;
 
+/* How long each answer may take, in milliseconds; 0 is for ever. For a DCE t20 to t23 are its T10 to T13. */
+typedef struct {
+    uint32_t t1;  /* what is sent is acknowledged, and a command of the link answered */
+    uint32_t t3;  /* an idle link isn't polled */
+    uint32_t t20; /* a restart is confirmed */
+    uint32_t t21; /* a call is accepted */
+    uint32_t t22; /* a reset is confirmed */
+    uint32_t t23; /* clearing is confirmed */
+} x25_times;
+
 /* An item of an answer: its kind, and what the kinds below have; what one doesn't have is 0. */
 typedef struct {
     uint16_t kind;            /* X25_EVENT_FRAME .. */
@@ -79,7 +89,7 @@ typedef struct {
     bool q;                   /* the qualifier of a message */
     uint8_t cause;
     uint8_t diagnostic;
-    uint8_t reason;           /* why the link went down: X25_DOWN_RETRIES .. */
+    uint8_t reason;           /* why the link went down: X25_DOWN_RETRIES ..; or which timer passed */
     x25_sizes sizes;
     uint32_t timer;           /* X25_TIMER_OFF .. */
     x25_stretch_name stretch; /* in which a message or an interrupt was sent or came, or a call */
@@ -96,6 +106,14 @@ enum {
     X25_TIMER_OFF = 0,
     X25_TIMER_BEGINS = 1,
     X25_TIMER_GOES_ON = 2
+};
+
+/* What is awaited on a channel. */
+enum {
+    X25_AWAITS_NOTHING = 0,
+    X25_AWAITS_ACCEPTANCE = 1,
+    X25_AWAITS_RESET_DONE = 2,
+    X25_AWAITS_CLEAR_DONE = 3
 };
 
 /* The kinds of items, and what each has but its kind. docs/FORMATS.md has the entries of the transcript that they are. */
@@ -130,7 +148,9 @@ enum {
     X25_EVENT_RESET_ASKED = 28,
     X25_EVENT_READY_ASKED = 29,
     X25_EVENT_NOT_READY_ASKED = 30,
-    X25_EVENT_RELINK_ASKED = 31    /* no channel */
+    X25_EVENT_RELINK_ASKED = 31,   /* no channel */
+    X25_EVENT_TIMEOUT = 32         /* a timer passed, the first event of the answer: reason is its number, 1, 3, or 20 to 23, of a DCE
+                                      10 to 13; channel, 0 where it is of none */
 };
 
 /* Why the link went down. */
@@ -219,6 +239,19 @@ uint32_t x25_send(x25_station *station, uint16_t channel, bool q, const uint8_t 
    "accept 1", "clear 1", "int 1 2a", "disconnect" .. 60, and what the call for it answers. */
 uint32_t x25_command(x25_station *station, const char *text, size_t text_count);
 
+/* Writes the times of Annex D for an end, and 3 and 60 seconds for T1 and T3. 14. */
+uint32_t x25_standard_times(uint8_t end, x25_times *times);
+/* Gives the station a clock with these times, in place of the one that it has. From then on the time of each answer begins as it
+   is awaited, and of those that are awaited already it begins at once. */
+uint32_t x25_set_times(x25_station *station, x25_times times);
+/* The time is now, in milliseconds from any beginning, until it is said again; 0 before it is said. The first of what is due by
+   the clock is asked for, as the program would ask: T1 fires; no answer to a call or to a reset (T21, T22): x25_clear; none to
+   that (T23): x25_restart; none to that (T20): x25_relink; an idle link (T3): x25_probe. Its time begins anew, also where it is
+   refused. Where nothing is due nothing is answered. 34 for a time before the last one, and what the call asked for answers. */
+uint32_t x25_time(x25_station *station, uint64_t now);
+/* Whether something is due at some moment, where nothing happens before: then that is written to at, which is else as it was. */
+bool x25_next(const x25_station *station, uint64_t *at);
+
 /* Takes item i of the last answer, from 0 on: its frames, its events, each in order, and then what becomes of timer T1. What it
    is is written to event, and its octets are copied to the front of room where they fit; event->count tells how many they are
    in any case. False after the last item: event and room are then as before.
@@ -253,6 +286,10 @@ bool x25_waits(const x25_station *station);
 bool x25_idle(const x25_station *station);
 /* How many messages more x25_send takes on a channel: 8 less those that wait, and 0 where it is refused. */
 size_t x25_room(const x25_station *station, uint16_t channel);
+/* What this end awaits on a channel: X25_AWAITS_NOTHING .. */
+uint32_t x25_awaits(const x25_station *station, uint16_t channel);
+/* Whether a restart is under way: this end awaits that it be confirmed. */
+bool x25_is_restarting(const x25_station *station);
 /* Whether a stretch is open on a channel: a call is up there, and no reset is under way. Then its name is written, which else is
    as it was. */
 bool x25_stretch(const x25_station *station, uint16_t channel, x25_stretch_name *name);

@@ -30,12 +30,11 @@ static const x25_sizes kilobytes = {10, 10, 7, 7};
 static struct sockaddr_un place = {.sun_family = AF_UNIX};
 static int line, listener, waiting = -1; /* waiting: a client whose call can't be made yet */
 static bool is_down = true;
-static long long deadline; /* of timer T1, in milliseconds; 0 where it is off */
 
-static long long now(void)
+static uint64_t now(void)
 {
     struct timespec at;
-    return clock_gettime(CLOCK_MONOTONIC, &at), at.tv_sec * 1000LL + at.tv_nsec / 1000000;
+    return clock_gettime(CLOCK_MONOTONIC, &at), (uint64_t)at.tv_sec * 1000 + (uint64_t)at.tv_nsec / 1000000;
 }
 
 /* A call begins, in place of one that is gone. */
@@ -66,7 +65,7 @@ static void note(const x25_event *event, const uint8_t *user)
     }
 }
 
-/* Whether a call did what it was asked. Then its frames are sent, its events noted, and timer T1 is set. */
+/* Whether a call did what it was asked. Then its frames are sent, and its events noted. */
 static bool did(uint32_t number)
 {
     static uint8_t room[ROOM];
@@ -74,8 +73,6 @@ static bool did(uint32_t number)
     for (size_t i = 0; number == 0 && x25_take(&station, i, &event, room, sizeof room); i++)
         if (event.kind == X25_EVENT_FRAME)
             send(line, room, event.count, 0); /* a datagram that isn't taken is a frame that is lost */
-        else if (event.kind == X25_EVENT_TIMER)
-            deadline = event.timer == X25_TIMER_BEGINS ? now() + T1 : event.timer == X25_TIMER_OFF ? 0 : deadline;
         else
             note(&event, room);
     return number == 0;
@@ -123,7 +120,8 @@ int main(int argc, char **argv)
     line = socket(AF_INET, SOCK_DGRAM, 0), listener = listens ? socket(AF_UNIX, SOCK_STREAM, 0) : -1;
     if (bind(line, (struct sockaddr *)&near, sizeof near) || connect(line, (struct sockaddr *)&far, sizeof far)
         || (listens && (bind(listener, (struct sockaddr *)&place, sizeof place) || listen(listener, CHANNELS)))
-        || x25_new(&station, is_dte ? X25_DTE : X25_DCE, (x25_settings){.k = 7, .n2 = 20, .channels = CHANNELS}))
+        || x25_new(&station, is_dte ? X25_DTE : X25_DCE, (x25_settings){.k = 7, .n2 = 20, .channels = CHANNELS})
+        || x25_set_times(&station, (x25_times){T1, 60000, 180000, 200000, 180000, 180000}))
         return perror("tunnel"), 2;
     static uint8_t octets[PIECE + 64];
     for (uint16_t channel;;) {
@@ -137,12 +135,12 @@ int main(int argc, char **argv)
             bool reads = c->state == UP && c->in_count == 0 && !c->has_ended && x25_room(&station, h) > 0, writes = c->out_count > 0;
             files[h + 1] = (struct pollfd){reads || writes ? c->file : -1, (short)(reads * POLLIN | writes * POLLOUT), 0};
         }
-        poll(files, CHANNELS + 2, deadline == 0 ? -1 : deadline < now() ? 0 : (int)(deadline - now()));
+        uint64_t due = 0, at = now();
+        poll(files, CHANNELS + 2, !x25_next(&station, &due) ? -1 : due < at ? 0 : (int)(due - at));
+        did(x25_time(&station, now()));
         ssize_t count = recv(line, octets, sizeof octets, MSG_DONTWAIT);
         if (count >= 0)
             did(x25_receive(&station, octets, (size_t)count));
-        else if (deadline != 0 && deadline <= now())
-            did(x25_t1(&station));
         if (files[1].revents)
             waiting = accept(listener, NULL, NULL);
     }

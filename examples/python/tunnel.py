@@ -11,9 +11,10 @@ import socket
 import sys
 import time
 
-from x25 import DCE, DTE, Kind, Refused, Sizes, Station, Timer
+from x25 import DCE, DTE, Kind, Refused, Sizes, Station, Times
 
-CHANNELS, T1, PIECE, ROOM = 16, 0.2, 4096, 65536
+CHANNELS, PIECE, ROOM = 16, 4096, 65536
+TIMES = Times(t1=200, t3=60_000, t20=180_000, t21=200_000, t22=180_000, t23=180_000)
 KILOBYTES = Sizes(10, 10, 7, 7)
 
 
@@ -34,6 +35,7 @@ class Tunnel:
 
     def __init__(self, end, near, far, manner, path):
         self.station = Station(DTE if end == "dte" else DCE, n2=20, channels=CHANNELS, library=os.environ.get("X25_SO"))
+        self.station.set_times(TIMES)
         self.connects, self.path = end == "dte", path
         self.line = socket.socket(socket.AF_INET, socket.SOCK_DGRAM)
         self.line.bind(("127.0.0.1", near))
@@ -43,10 +45,10 @@ class Tunnel:
         if self.listener:
             self.listener.bind(path)
             self.listener.listen(CHANNELS)
-        self.circuits, self.waiting, self.is_down, self.deadline = {}, None, True, None
+        self.circuits, self.waiting, self.is_down = {}, None, True
 
     def did(self, call, *words):
-        """Whether a call did what it was asked. Then its frames are sent, its events noted, and timer T1 is set."""
+        """Whether a call did what it was asked. Then its frames are sent, and its events noted."""
         try:
             answer = call(*words)
         except Refused:
@@ -55,8 +57,6 @@ class Tunnel:
         for octets in answer.frames:
             with contextlib.suppress(OSError):  # a datagram that isn't taken is a frame that is lost
                 self.line.send(octets)
-        if answer.timer != Timer.GOES_ON:
-            self.deadline = time.monotonic() + T1 if answer.timer == Timer.BEGINS else None
         for event in answer.events:
             self.note(event)
         return channel or True
@@ -113,7 +113,7 @@ class Tunnel:
             del self.circuits[channel]
 
     def turn(self):
-        """Does what is to be done, and waits for the line, the connections and timer T1."""
+        """Does what is to be done, and waits for the line, the connections and what is due by the clock."""
         if self.connects and self.is_down and self.did(self.station.connect):
             self.is_down = False
         if self.waiting and (channel := self.did(self.station.call, "1", "2", b"", KILOBYTES)):
@@ -123,13 +123,11 @@ class Tunnel:
         reads = [circuit.connection for channel, circuit in self.circuits.items() if circuit.reads(self.station.room(channel))]
         writes = [circuit.connection for circuit in self.circuits.values() if circuit.came]
         files = [self.line, *([self.listener] if self.listener and not self.waiting else []), *reads]
-        left = None if self.deadline is None else max(0, self.deadline - time.monotonic())
-        ready, _, _ = select.select(files, writes, [], left)
-        try:
+        due = self.station.next()
+        ready, _, _ = select.select(files, writes, [], None if due is None else max(0, due / 1000 - time.monotonic()))
+        self.did(self.station.time, int(time.monotonic() * 1000))
+        with contextlib.suppress(OSError):  # nothing came
             self.did(self.station.receive, self.line.recv(PIECE + 64))
-        except OSError:  # nothing came
-            if self.deadline is not None and self.deadline <= time.monotonic():
-                self.did(self.station.t1)
         if self.listener in ready:
             self.waiting = self.listener.accept()[0]
 

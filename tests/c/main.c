@@ -281,8 +281,53 @@ static void try_all(void)
     x25_free(&twin);
 }
 
+/* By a clock what isn't answered is asked for by itself, and the answer tells the timer: of a call that isn't accepted. */
+static void try_clock(void)
+{
+    x25_station none = {NULL, false};
+    x25_times times = {7, 7, 7, 7, 7, 7};
+    x25_event event;
+    uint64_t at = 7;
+    uint16_t channel = 0;
+    expect("times of no end", x25_standard_times(2, &times) == X25_BAD_SETTING && times.t1 == 7, true);
+    expect("times of a DCE", x25_standard_times(X25_DCE, &times) == 0 && times.t1 == 3000 && times.t20 == 60000, true);
+    expect("times of a DTE", x25_standard_times(X25_DTE, &times) == 0 && times.t21 == 200000 && times.t23 == 180000, true);
+    expect("none has times", x25_set_times(&none, times), X25_NO_STATION);
+    expect("none has a time", x25_time(&none, 1), X25_NO_STATION);
+    expect("none is due", x25_next(&none, &at) || x25_awaits(&none, 1) || x25_is_restarting(&none), false);
+    expect("new", x25_new(&dte.station, X25_DTE, one_channel), 0);
+    expect("new", x25_new(&dce.station, X25_DCE, one_channel), 0);
+    expect("without a clock nothing is due", x25_time(&dte.station, 500) == 0 && !x25_next(&dte.station, &at) && at == 7, true);
+    expect("times", x25_set_times(&dte.station, times), 0);
+    expect("connect", x25_connect(&dte.station), 0);
+    take(&dte);
+    expect("T1 is due", x25_next(&dte.station, &at) && at == 3500, true);
+    expect("before it is due", x25_time(&dte.station, 3499) == 0 && x25_frames(&dte.station) == 0, true);
+    expect("an earlier time", x25_time(&dte.station, 3498), X25_BAD_PARAMETER);
+    expect("T1", x25_time(&dte.station, 3500) == 0 && x25_frames(&dte.station) == 1, true);
+    expect("its event", x25_take(&dte.station, 1, &event, NULL, 0) && event.kind == X25_EVENT_TIMEOUT && event.reason == 1 && event.channel == 0, true);
+    deliver_all();
+    expect("an idle link is due", x25_next(&dte.station, &at) && at == 63500, true);
+    expect("call", x25_call(&dte.station, "1", 1, "2", 1, NULL, 0, (x25_sizes){0, 0, 0, 0}, &channel), 0);
+    take(&dte);
+    deliver_all();
+    expect("what is awaited", x25_awaits(&dte.station, channel), X25_AWAITS_ACCEPTANCE);
+    times.t3 = 0;
+    expect("times", x25_set_times(&dte.station, times), 0);
+    expect("the call is due", x25_next(&dte.station, &at) && at == 203500, true);
+    expect("T21", x25_time(&dte.station, 203500), 0);
+    size_t i = x25_frames(&dte.station);
+    expect("its event", x25_take(&dte.station, i, &event, NULL, 0) && event.kind == X25_EVENT_TIMEOUT && event.reason == 21 && event.channel == channel, true);
+    expect("what it asked", x25_take(&dte.station, i + 1, &event, NULL, 0) && event.kind == X25_EVENT_CLEAR_ASKED, true);
+    expect("what is awaited", x25_awaits(&dte.station, channel), X25_AWAITS_CLEAR_DONE);
+    expect("T23 begins", x25_next(&dte.station, &at) && at == 206500, true);
+    x25_free(&dte.station);
+    x25_free(&dce.station);
+}
+
 int main(void)
 {
+    try_clock();
     try_texts();
     try_refusals();
     expect("new", x25_new(&dce.station, X25_DCE, one_channel), 0);

@@ -4,7 +4,7 @@
 #include "two.h"
 #include <sys/mman.h>
 
-enum { AREA = 1 << 18, AREAS = 7, SEVERAL = 4, KINDS = 32, ALL = 200000 /* in so many calls each kind comes */ };
+enum { AREA = 1 << 18, AREAS = 7, SEVERAL = 4, KINDS = 33, ALL = 200000 /* in so many calls each kind comes */ };
 
 static uint64_t state;
 static uint8_t *ends[AREAS]; /* of memory behind which none may be touched */
@@ -143,6 +143,20 @@ static uint32_t hear_all(x25_station *station, end_t *other)
     return 0;
 }
 
+/* The time goes on, at times to the moment at which something is due, or back. */
+static uint32_t pass(x25_station *station)
+{
+    static uint64_t now;
+    uint64_t at = UINT64_MAX;
+    if (x25_next(station, &at) ? at == UINT64_MAX : at != UINT64_MAX)
+        fail("when something is due", 0);
+    bool is_back = draw(64) == 0 && now > 0;
+    now = at > now && at - now < 100000 && draw(4) ? at : now + draw(1000);
+    if (is_back)
+        return x25_time(station, 0) == X25_BAD_PARAMETER ? 1 : 0;
+    return x25_time(station, now);
+}
+
 static uint32_t call(end_t *end, end_t *other)
 {
     x25_station *station = &end->station;
@@ -189,6 +203,11 @@ static uint32_t call(end_t *end, end_t *other)
         return draw(1000) ? x25_pull(station) : x25_disconnect(station);
     case 18: case 19: case 20: case 21:
         return hear_all(station, other);
+    case 22: {
+        static const uint32_t lengths[] = {0, 1, 500, 60000, UINT32_MAX};
+        x25_times times = {lengths[draw(5)], lengths[draw(5)], lengths[draw(5)], lengths[draw(5)], lengths[draw(5)], lengths[draw(5)]};
+        return draw(64) ? pass(station) : x25_set_times(station, times);
+    }
     default:
         return hear(station, other);
     }
@@ -256,7 +275,7 @@ static void write_event(end_t *end, size_t i, const x25_event *event, const uint
     static const char *const names[KINDS] = {
         "", "", "", "linkup", "linkdown ", "restarted", "restartdone", "fault", "beside", "diagnostic", "incoming", "connected", "collided",
         "cleared", "cleardone", "wasreset", "resetdone", "message", "interrupt", "intdone", "connect", "disconnect", "restart", "call", "accept",
-        "clear", "send", "int", "reset", "ready", "notready", "relink"};
+        "clear", "send", "int", "reset", "ready", "notready", "relink", "timeout"};
     static const char *const reasons[] = {"", "retries", "disc", "dm", "frmr-sent", "frmr-got", "reset", "local", "counts"};
     unsigned kind = event->kind;
     length = 0;
@@ -318,7 +337,7 @@ static long seen[KINDS];
 /* Takes the items of an answer one by one, and compares them with its frames and entries. */
 static void take(end_t *end)
 {
-    size_t frames = x25_frames(&end->station), entries = x25_entries(&end->station), i = 0, count = 0;
+    size_t frames = x25_frames(&end->station), entries = x25_entries(&end->station), passed = 0, i = 0, count = 0;
     x25_event event;
     size_t all = 0;
     if (frames > 24 * came || entries > 3 * came)
@@ -329,7 +348,14 @@ static void take(end_t *end)
             fail("an item", event.kind);
         seen[event.kind]++;
         all += event.count;
-        if ((event.kind == X25_EVENT_FRAME) != (i < frames) || (event.kind == X25_EVENT_TIMER) != (i == frames + entries))
+        if (event.kind == X25_EVENT_TIMEOUT) {
+            unsigned tens = end == &dte ? 20 : 10;
+            if (i != frames || (event.reason != 1 && event.reason != 3 && (event.reason < tens || event.reason > tens + 3)))
+                fail("a timer that passed", event.reason);
+            passed = 1;
+            continue;
+        }
+        if ((event.kind == X25_EVENT_FRAME) != (i < frames) || (event.kind == X25_EVENT_TIMER) != (i == frames + passed + entries))
             fail("its place", (uint32_t)i);
         if (event.kind == X25_EVENT_TIMER) {
             expect("the timer", event.timer, x25_timer(&end->station));
@@ -344,11 +370,11 @@ static void take(end_t *end)
         }
         write_event(end, i, &event, taken);
         told = room(2, length);
-        expect("entry", x25_entry(&end->station, i - frames, (char *)told, length, &count), 0);
+        expect("entry", x25_entry(&end->station, i - frames - passed, (char *)told, length, &count), 0);
         if (count != length || memcmp(told, line, count))
             fail(line, event.kind);
     }
-    if (i != frames + entries + 1)
+    if (i != frames + passed + entries + 1)
         fail("many items", (uint32_t)i);
     take_all(&end->station, i, all);
     take_frames(end);

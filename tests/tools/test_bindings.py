@@ -44,6 +44,8 @@ class Declared(unittest.TestCase):
     def test_each_binding_has_the_kinds_of_the_header(self):
         header, rust = support.read("include/x25.h").decode(), support.read("bindings/rust/src/event.rs").decode()
         kinds = [(name, int(number)) for name, number in re.findall(r"^    X25_EVENT_(\w+) = (\d+)", header, re.MULTILINE)]
+        awaits = re.findall(r"^    X25_AWAITS_(\w+) = (\d)", header, re.MULTILINE)
+        self.assertEqual([(awaited.name, str(awaited.value)) for awaited in x25.Awaits], awaits)
         self.assertEqual([("FRAME", x25._FRAME), ("TIMER", x25._TIMER), *((kind.name, kind.value) for kind in x25.Kind)], kinds)
         downs = re.findall(r"^    X25_DOWN_(\w+) = (\d+)", header, re.MULTILINE)
         self.assertEqual([(down.name, str(down.value)) for down in x25.Down], downs)

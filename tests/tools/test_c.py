@@ -20,7 +20,7 @@ LATER = re.compile(
     r"|dpp[sd]|mpsadbw|phminposuw|insertps|extractps|movntdqa"
 )
 NUMBERS = {"u8": "uint8_t", "u16": "uint16_t", "u32": "uint32_t", "u64": "uint64_t", "usize": "size_t", "bool": "bool"}
-STRUCTURES = {"Settings": "x25_settings", "StretchName": "x25_stretch_name", "Sizes": "x25_sizes", "Event": "x25_event"}
+STRUCTURES = {"Settings": "x25_settings", "StretchName": "x25_stretch_name", "Sizes": "x25_sizes", "Event": "x25_event", "Times": "x25_times"}
 # The parameters that are text in C, and not octets.
 TEXTS = ("called", "calling", "text")
 EXPORT = re.compile(r'pub extern "C" fn (\w+)\(([^)]*)\)(?: -> (\w+))?([^{]*\{[^}]*\})?')

@@ -83,6 +83,7 @@ class Kind(enum.IntEnum):
     READY_ASKED = 29
     NOT_READY_ASKED = 30
     RELINK_ASKED = 31
+    TIMEOUT = 32
 
 
 class Down(enum.IntEnum):
@@ -96,6 +97,26 @@ class Down(enum.IntEnum):
     RESET = 6
     LOCAL = 7
     COUNTS = 8
+
+
+class Awaits(enum.IntEnum):
+    """What is awaited on a channel, as `x25.h` has it."""
+
+    NOTHING = 0
+    ACCEPTANCE = 1
+    RESET_DONE = 2
+    CLEAR_DONE = 3
+
+
+class Times(NamedTuple):
+    """How long each answer may take, in milliseconds, 0 for ever, as `x25.h` has it; of a DCE `t20` to `t23` are its T10 to T13."""
+
+    t1: int
+    t3: int
+    t20: int
+    t21: int
+    t22: int
+    t23: int
 
 
 class Sizes(NamedTuple):
@@ -112,7 +133,8 @@ class Sizes(NamedTuple):
 
 @dataclasses.dataclass(frozen=True, repr=False)
 class Event:
-    """What a station tells, and what its kind has of these: `x25.h` lists that. A stretch is the restarts, clears and resets that name it."""
+    """What a station tells, and what its kind has of these: `x25.h` lists that. A stretch is the restarts, clears and resets that name it;
+    `timeout` is the number of the timer that passed."""
 
     kind: Kind
     channel: int = 0
@@ -126,6 +148,7 @@ class Event:
     calling: str = ""
     facilities: bytes = b""
     user: bytes = b""
+    timeout: int = 0
 
     def __repr__(self) -> str:
         told = ((field.name, getattr(self, field.name), field.default) for field in dataclasses.fields(self))
@@ -174,6 +197,10 @@ class _Sizes(ctypes.Structure):
     _fields_ = [(name, ctypes.c_uint8) for name in Sizes._fields]
 
 
+class _Times(ctypes.Structure):
+    _fields_ = [(name, ctypes.c_uint32) for name in Times._fields]
+
+
 # Pointers go by `byref`, made once, which takes a fifth of the time of a structure.
 _STATION, _ROOM, _SIZE = ctypes.c_void_p, ctypes.c_void_p, ctypes.c_size_t
 _OCTETS = [ctypes.c_char_p, _SIZE]
@@ -201,6 +228,10 @@ _FUNCTIONS: dict[str, tuple[list[Any], Any]] = {
     "receive_all": ([_STATION, *_OCTETS, ctypes.c_char_p, _SIZE, ctypes.c_void_p], ctypes.c_uint32),
     "send": ([_STATION, ctypes.c_uint16, ctypes.c_bool, *_OCTETS], ctypes.c_uint32),
     "command": ([_STATION, *_OCTETS], ctypes.c_uint32),
+    "standard_times": ([ctypes.c_uint8, ctypes.POINTER(_Times)], ctypes.c_uint32),
+    "set_times": ([_STATION, _Times], ctypes.c_uint32),
+    "time": ([_STATION, ctypes.c_uint64], ctypes.c_uint32),
+    "next": ([_STATION, ctypes.POINTER(ctypes.c_uint64)], ctypes.c_bool),
     "take": ([_STATION, _SIZE, ctypes.c_void_p, _ROOM, _SIZE], ctypes.c_bool),
     "take_all": ([_STATION, _SIZE, ctypes.c_void_p, _SIZE, _ROOM, _SIZE], _SIZE),
     "called": (_AT, _SIZE),
@@ -214,6 +245,8 @@ _FUNCTIONS: dict[str, tuple[list[Any], Any]] = {
     "waits": ([_STATION], ctypes.c_bool),
     "idle": ([_STATION], ctypes.c_bool),
     "room": ([_STATION, ctypes.c_uint16], _SIZE),
+    "awaits": ([_STATION, ctypes.c_uint16], ctypes.c_uint32),
+    "is_restarting": ([_STATION], ctypes.c_bool),
     "stretch": ([_STATION, ctypes.c_uint16, ctypes.POINTER(_StretchName)], ctypes.c_bool),
     "refusal_text": ([ctypes.c_uint32, _ROOM, _SIZE], _SIZE),
 }
@@ -277,6 +310,7 @@ class Station:
         self._items_view, self._view = memoryview(self._items), memoryview(self._buffer)
         words = self._slot, _SIZE(0), self._items_at, _SIZE(_ITEMS), self._room, _SIZE(_ROOM_SIZE)
         self._take_first = functools.partial(self._library.x25_take_all, *words)
+        self._end = end
         self._check(0 if all(0 <= setting < 256 for setting in (end, k, n2, channels)) else 14)
         self._check(self._library.x25_new(self._slot, end, _Settings(k, n2, channels, long_data, say_sizes, wide)))
 
@@ -378,6 +412,25 @@ class Station:
         octets = text.encode()
         return self._call(self._library.x25_command, octets, len(octets))
 
+    def set_times(self, times: Times | None = None) -> None:
+        """Gives the station a clock with these times, or with those of Annex D for its end, in place of the one that it has."""
+        self._check(0 if all(0 <= time < 1 << 32 for time in times or ()) else 14)
+        words = _Times(*times or ())
+        with self._lock:
+            self._check(0 if times else self._library.x25_standard_times(self._end, words))
+            self._check(self._library.x25_set_times(self._slot, words))
+
+    def time(self, now: int) -> Answer:
+        """The time is now, in milliseconds; the first of what is due by the clock is asked for. 34 for a time before the last one."""
+        self._check(0 if 0 <= now < 1 << 64 else 34)
+        return self._call(self._library.x25_time, now)
+
+    def next(self) -> int | None:
+        """When something is due, where nothing happens before; None for never."""
+        at = ctypes.c_uint64()
+        with self._lock:
+            return at.value if self._library.x25_next(self._slot, at) else None
+
     def lines(self) -> list[str]:
         """The events of the last answer as lines of the transcript, each with its line feed. Refused with 70 where memory is refused, and
         may be asked again."""
@@ -410,6 +463,17 @@ class Station:
         """How many messages more `send` takes on a channel: 8 less those that wait, and 0 where it is refused."""
         with self._lock:
             return int(self._library.x25_room(self._slot, channel)) if 0 <= channel < 65536 else 0
+
+    def awaits(self, channel: int) -> Awaits:
+        """What this end awaits on a channel."""
+        with self._lock:
+            return Awaits(self._library.x25_awaits(self._slot, channel) if 0 <= channel < 65536 else 0)
+
+    @property
+    def is_restarting(self) -> bool:
+        """Whether this end awaits that a restart be confirmed."""
+        with self._lock:
+            return bool(self._library.x25_is_restarting(self._slot))
 
     def stretch(self, channel: int) -> tuple[int, int, int] | None:
         """The stretch that is open on a channel, as `Event.stretch` has it; None where none is."""
@@ -473,12 +537,13 @@ class Station:
             q=item[2],
             cause=item[3],
             diagnostic=item[4],
-            reason=Down(item[5]) if item[5] else None,
+            reason=Down(item[5]) if kind is Kind.LINK_DOWN else None,
             sizes=Sizes(*item[6:10]) if has_sizes else None,
             called=self._part(self._library.x25_called, i).decode() if has_addresses else "",
             calling=self._part(self._library.x25_calling, i).decode() if has_addresses else "",
             facilities=self._part(self._library.x25_facilities, i) if kind is Kind.BESIDE else b"",
             user=user,
+            timeout=item[5] if kind is Kind.TIMEOUT else 0,
         )
         return event
 

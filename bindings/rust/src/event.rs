@@ -32,6 +32,38 @@ pub struct Stretch {
     pub resets: u64,
 }
 
+/// How long each answer may take, in milliseconds, 0 for ever, as `x25.h` has it; of a DCE `t20` to `t23` are its T10 to T13.
+#[repr(C)]
+#[derive(Clone, Copy, Debug, Default, PartialEq, Eq)]
+pub struct Times {
+    pub t1: u32,
+    pub t3: u32,
+    pub t20: u32,
+    pub t21: u32,
+    pub t22: u32,
+    pub t23: u32,
+}
+
+/// What is awaited on a channel.
+#[derive(Clone, Copy, Debug, PartialEq, Eq)]
+pub enum Awaits {
+    Nothing,
+    Acceptance,
+    ResetDone,
+    ClearDone,
+}
+
+impl Awaits {
+    pub(crate) fn of(number: u32) -> Awaits {
+        match number {
+            0 => Awaits::Nothing,
+            1 => Awaits::Acceptance,
+            2 => Awaits::ResetDone,
+            _ => Awaits::ClearDone,
+        }
+    }
+}
+
 /// Why the link went down.
 #[derive(Clone, Copy, Debug, PartialEq, Eq)]
 pub enum Down {
@@ -187,6 +219,11 @@ pub enum Event {
         channel: u16,
     },
     RelinkAsked,
+    /// A timer passed, for which the rest of the answer was asked: its number, and its channel, 0 where it is of none.
+    Timeout {
+        timer: u8,
+        channel: u16,
+    },
 }
 
 impl Event {
@@ -284,7 +321,11 @@ impl Event {
             28 => Event::ResetAsked { channel },
             29 => Event::ReadyAsked { channel },
             30 => Event::NotReadyAsked { channel },
-            _ => Event::RelinkAsked,
+            31 => Event::RelinkAsked,
+            _ => Event::Timeout {
+                timer: item.reason,
+                channel,
+            },
         }
     }
 }

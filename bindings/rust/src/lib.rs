@@ -16,7 +16,7 @@ mod raw;
 
 use std::{cell::UnsafeCell, error, fmt, ptr};
 
-pub use event::{Down, Event, Sizes, Stretch};
+pub use event::{Awaits, Down, Event, Sizes, Stretch, Times};
 
 /// Which end a station is.
 #[derive(Clone, Copy, Debug, PartialEq, Eq)]
@@ -57,6 +57,15 @@ pub enum Timer {
     Off,
     Begins,
     GoesOn,
+}
+
+impl Times {
+    /// The times of Annex D for an end, and 3 and 60 seconds for T1 and T3.
+    pub fn standard(end: End) -> Times {
+        let mut times = Times::default();
+        unsafe { raw::x25_standard_times(end as u8, &mut times) };
+        times
+    }
 }
 
 impl Timer {
@@ -302,6 +311,23 @@ impl Station {
         self.answer(number)
     }
 
+    /// Gives the station a clock with these times, in place of the one that it has.
+    pub fn set_times(&mut self, times: Times) -> Result<(), Refused> {
+        checked(unsafe { raw::x25_set_times(self.slot.get(), times) })
+    }
+
+    /// The time is now, in milliseconds; the first of what is due by the clock is asked for. 34 for a time before the last one.
+    pub fn time(&mut self, now: u64) -> Result<Answer, Refused> {
+        let number = unsafe { raw::x25_time(self.slot.get(), now) };
+        self.answer(number)
+    }
+
+    /// When something is due, where nothing happens before.
+    pub fn next(&self) -> Option<u64> {
+        let mut at = 0;
+        unsafe { raw::x25_next(self.slot.get(), &mut at) }.then_some(at)
+    }
+
     /// The events of the last answer as lines of the transcript, each with its line feed; 70 where memory is refused, and it may be
     /// asked again.
     pub fn lines(&mut self) -> Result<Vec<String>, Refused> {
@@ -334,6 +360,16 @@ impl Station {
     /// How many messages more `send` takes on a channel: 8 less those that wait, and 0 where it is refused.
     pub fn room(&self, channel: u16) -> usize {
         unsafe { raw::x25_room(self.slot.get(), channel) }
+    }
+
+    /// What this end awaits on a channel.
+    pub fn awaits(&self, channel: u16) -> Awaits {
+        Awaits::of(unsafe { raw::x25_awaits(self.slot.get(), channel) })
+    }
+
+    /// Whether this end awaits that a restart be confirmed.
+    pub fn is_restarting(&self) -> bool {
+        unsafe { raw::x25_is_restarting(self.slot.get()) }
     }
 
     /// The stretch that is open on a channel, where one is.
@@ -498,6 +534,30 @@ mod tests {
         let reason = Down::Disc;
         assert!(talk(answer, &mut dte, &mut dce).contains(&Event::LinkDown { reason }));
         assert_eq!(version(), 100);
+    }
+
+    #[test]
+    fn a_clock_asks_for_what_is_due() {
+        let mut dte = Station::new(End::Dte, Settings::default()).unwrap();
+        let mut dce = Station::new(End::Dce, Settings::default()).unwrap();
+        dte.set_times(Times::standard(End::Dte)).unwrap();
+        assert_eq!(dte.next(), None);
+        dte.time(1_000).unwrap();
+        let answer = dte.connect().unwrap();
+        assert_eq!(dte.next(), Some(4_000));
+        talk(answer, &mut dte, &mut dce);
+        let (channel, answer) = dte.call("1", "2", b"", None).unwrap();
+        talk(answer, &mut dte, &mut dce);
+        assert_eq!(dte.awaits(channel), Awaits::Acceptance);
+        assert!(!dte.is_restarting());
+        let timed = Times { t3: 0, ..Times::standard(End::Dte) };
+        dte.set_times(timed).unwrap();
+        assert_eq!(dte.next(), Some(201_000));
+        assert!(dte.time(200_999).unwrap().events.is_empty());
+        let answer = dte.time(201_000).unwrap();
+        let passed = Event::Timeout { timer: 21, channel };
+        assert_eq!(answer.events, [passed, Event::ClearAsked { channel }]);
+        assert_eq!(dte.time(0), Err(Refused(34)));
     }
 
     #[test]

@@ -1,6 +1,6 @@
 //! What `x25.h` declares.
 
-use crate::event::{Sizes, Stretch};
+use crate::event::{Sizes, Stretch, Times};
 use std::ffi::c_void;
 
 pub const FRAME: u16 = 1;
@@ -95,6 +95,10 @@ extern "C" {
     ) -> u32;
     pub fn x25_send(slot: *mut Slot, channel: u16, q: bool, user: *const u8, count: usize) -> u32;
     pub fn x25_command(slot: *mut Slot, text: *const u8, count: usize) -> u32;
+    pub fn x25_standard_times(end: u8, times: *mut Times) -> u32;
+    pub fn x25_set_times(slot: *mut Slot, times: Times) -> u32;
+    pub fn x25_time(slot: *mut Slot, now: u64) -> u32;
+    pub fn x25_next(slot: *const Slot, at: *mut u64) -> bool;
     pub fn x25_take_all(
         slot: *const Slot,
         first: usize,
@@ -118,6 +122,8 @@ extern "C" {
     pub fn x25_waits(slot: *const Slot) -> bool;
     pub fn x25_idle(slot: *const Slot) -> bool;
     pub fn x25_room(slot: *const Slot, channel: u16) -> usize;
+    pub fn x25_awaits(slot: *const Slot, channel: u16) -> u32;
+    pub fn x25_is_restarting(slot: *const Slot) -> bool;
     pub fn x25_stretch(slot: *const Slot, channel: u16, name: *mut Stretch) -> bool;
     pub fn x25_refusal_text(number: u32, text: *mut u8, size: usize) -> usize;
 }

@@ -1,6 +1,6 @@
 -- An event of a station that is held, and a pull behind it.
-use Rattle.std.proofs.Common.{◌≡◌, ◌∙◌, Bool, ◌++◌, map, ap, sym, refl, inr}
-use Rattle.std.specs.Prelude.{Result, Ok, Err, false}
+use Rattle.std.proofs.Common.{◌≡◌, ◌∙◌, Bool, ◌++◌, map, ap, sym, refl, subst, inr}
+use Rattle.std.specs.Prelude.{Option, Result, Ok, Err, OnErr, OnOk, false}
 use Rattle.std.proofs.lemmas.List.{map-append}
 use Rattle.x25_frame.specs.Spelling.{spelling_of}
 use Rattle.x25_station.specs.declared.error.StationError.{StationError}
@@ -13,7 +13,11 @@ use Rattle.x25_station.specs.code.Clock as clock
 use Rattle.x25_station.specs.code.FitsStation.{FitsStation, FitsStill, Does, IsEmpty, Leaves, Sends, Enters, Refuses}
 use Rattle.x25_station.specs.code.PlainEntry.{plain_entry}
 use Rattle.x25_station.specs.laws.TimerLaw.{Event, outcome, is_firing}
+use Rattle.x25_clock.specs.declared.clock.Clock.{Clock}
+use Rattle.x25_clock.specs.Clock.{seen}
+use Rattle.x25_clock.specs.laws.ClockLaw.{comes}
 use Rattle.x25_c.specs.declared.held.Held.{Held}
+use Rattle.x25_c.specs.Clock.{Heeds}
 use Rattle.x25_c.specs.Happening.{and_rest, rest_of, timer_of_rest}
 use Rattle.x25_c.specs.code.Happens.{Happens, IsTimer, PullsBehind}
 
@@ -42,8 +46,9 @@ module _ (old mid new : Held) (event : Event) (pulls : PullsBehind mid new) (c :
   timed s (Refused e) fits refused same = absurd refused
 
 pub is_both : (old mid new : Held) (event : Event) → mid.end ≡ old.end → Does old.station mid.station mid.step accepted (λ c s. outcome c s event)
-    → clock.TellsTimer old.station mid.step.timer accepted (is_firing event) (λ c s. outcome c s event) → PullsBehind mid new → Happens old new accepted event
-is_both old mid new event end does timer pulls = record {
+    → clock.TellsTimer old.station mid.step.timer accepted (is_firing event) (λ c s. outcome c s event) → PullsBehind mid new → new.time ≡ old.time → (after : Option Clock)
+    → ((c : Settings) (s : Station) → FitsStation c new.station s → Heeds old.time (seen c s new.step (comes event)) old.clock after) → Happens old (record new { clock = after }) accepted event
+is_both old mid new event end does timer pulls now after heeds = record {
   end = pulls.end ∙ end;
   state = λ c s fits. left old mid new event pulls c (outcome c s event) (does.state c s fits);
   frames = λ c s fits. sent old mid new event pulls c (outcome c s event) (does.state c s fits) (does.frames c s fits);
@@ -53,7 +58,16 @@ is_both old mid new event end does timer pulls = record {
   stays = λ c s fits. tt;
   empty = tt;
   rests = tt;
+  time = now;
+  heeded = heeds;
+  unheeded = tt;
 }
+
+-- what a step was heeded by behind a pull, which leaves the clock and its time
+pub heeds_as : (old new : Held) (event : Event) (come : Bool) (after : Option Clock) → new.time ≡ old.time → new.clock ≡ old.clock → come ≡ comes event → (c : Settings) (s : Station)
+    → Heeds new.time (seen c s new.step come) new.clock after → Heeds old.time (seen c s new.step (comes event)) old.clock after
+heeds_as old new event come after now clock same c s heeds =
+    subst (λ n. Heeds n (seen c s new.step (comes event)) old.clock after) now (subst (λ v. Heeds new.time (seen c s new.step (comes event)) v after) clock (subst (λ b. Heeds new.time (seen c s new.step b) new.clock after) same heeds))
 
 -- ---- an event that was refused
 
@@ -77,8 +91,8 @@ module _ (old new : Held) (e : StationError) (waits : Bool) (c : Settings) where
 pub is_refused : (old new : Held) (e : StationError) (event : Event) → new.end ≡ old.end → new.waits ≡ false
     → ((c : Settings) (s : Station) → FitsStation c old.station s → Refuses {T = Unit} (Err e) (outcome c s event))
     → ((c : Settings) (s : Station) → FitsStation c old.station s → FitsStation c new.station s)
-    → IsEmpty new.step → ((c : Settings) (s : Station) → FitsStation c old.station s → new.step.timer ≡ standing s) → Happens old new (Err e) event
-is_refused old new e event end waits refused stays empty timer = record {
+    → IsEmpty new.step → ((c : Settings) (s : Station) → FitsStation c old.station s → new.step.timer ≡ standing s) → new.time ≡ old.time → new.clock ≡ old.clock → Happens old new (Err e) event
+is_refused old new e event end waits refused stays empty timer now unheeded = record {
   end = end;
   state = λ c s fits. none_left old new e new.waits c (outcome c s event);
   frames = λ c s fits. none_sent old new e new.waits c (outcome c s event);
@@ -88,6 +102,9 @@ is_refused old new e event end waits refused stays empty timer = record {
   stays = stays;
   empty = empty;
   rests = waits;
+  time = now;
+  heeded = tt;
+  unheeded = unheeded;
 }
 
 -- want of memory is in place of each refusal
@@ -96,8 +113,19 @@ no_memory (Did step) = refl
 no_memory (Refused e) = inr refl
 
 -- an event of a station that stands for what another stood for
-pub from_still : (old mid new : Held) (r : Result Unit StationError) (event : Event) → FitsStill old.station mid.station → mid.end ≡ old.end → Happens mid new r event → Happens old new r event
-from_still old mid new r event still end h = record {
+module _ (old mid new : Held) (event : Event) (now : mid.time ≡ old.time) (clock : mid.clock ≡ old.clock) where
+  heeded_from : (r : Result Unit StationError) → OnOk r ((c : Settings) (s : Station) → FitsStation c new.station s → Heeds mid.time (seen c s new.step (comes event)) mid.clock new.clock)
+      → OnOk r ((c : Settings) (s : Station) → FitsStation c new.station s → Heeds old.time (seen c s new.step (comes event)) old.clock new.clock)
+  heeded_from (Ok u) heeds = λ c s fits. subst (λ n. Heeds n (seen c s new.step (comes event)) old.clock new.clock) now (subst (λ v. Heeds mid.time (seen c s new.step (comes event)) v new.clock) clock (heeds c s fits))
+  heeded_from (Err e) none = tt
+
+  unheeded_from : (r : Result Unit StationError) → OnErr r (new.clock ≡ mid.clock) → OnErr r (new.clock ≡ old.clock)
+  unheeded_from (Ok u) none = tt
+  unheeded_from (Err e) same = same ∙ clock
+
+pub from_still : (old mid new : Held) (r : Result Unit StationError) (event : Event) → FitsStill old.station mid.station → mid.end ≡ old.end → mid.time ≡ old.time → mid.clock ≡ old.clock → Happens mid new r event
+    → Happens old new r event
+from_still old mid new r event still end now clock h = record {
   end = h.end ∙ end;
   state = λ c s fits. h.state c s (still c s fits);
   frames = λ c s fits. h.frames c s (still c s fits);
@@ -107,4 +135,7 @@ from_still old mid new r event still end h = record {
   stays = λ c s fits. h.stays c s (still c s fits);
   empty = h.empty;
   rests = h.rests;
+  time = h.time ∙ now;
+  heeded = heeded_from old mid new event now clock r h.heeded;
+  unheeded = unheeded_from old mid new event now clock r h.unheeded;
 }

@@ -1,5 +1,5 @@
 -- Frames that come one behind another: what was answered before, and one frame more.
-use Rattle.std.proofs.Common.{◌≡◌, ◌∙◌, ℕ, zero, suc, ◌+◌, ◌-◌, ◌<◌, ◌≤◌, false, List, length, take, drop, get_or, ap, sym, refl, subst, arith, inl, inr, true≢false}
+use Rattle.std.proofs.Common.{◌≡◌, ◌∙◌, ℕ, zero, suc, ◌+◌, ◌-◌, ◌<◌, ◌≤◌, false, List, length, take, drop, get_or, None, ap, sym, refl, subst, arith, inl, inr, true≢false}
 use Rattle.std.specs.Prelude.{Result, Ok, Err, OnOk, is_err, sum}
 use Rattle.std.proofs.lemmas.List.{append-nil, map-append}
 use Rattle.std.proofs.lemmas.List.Sums.{sum_by_more}
@@ -13,7 +13,7 @@ use Rattle.x25_station.specs.laws.TimerLaw.{Comes, outcome}
 use Rattle.x25_c.specs.declared.held.Held.{Held}
 use Rattle.x25_c.specs.Held.{Whole, IsAlone, whole_of, part_of, and_then, no_answer}
 use Rattle.x25_c.specs.code.Happens.{Happens}
-use Rattle.x25_c.specs.code.Receives.{Received, ReceivesAll, frame_at}
+use Rattle.x25_c.specs.code.Receives.{IsClocked, Received, ReceivesAll, frame_at}
 use Rattle.x25_c.proofs.HappenLemmas.{from_still, no_memory}
 
 -- nothing was answered yet
@@ -38,15 +38,15 @@ module _ (octets counts : List ℕ) (place : ℕ) (old self kept new : Held) whe
 
   -- one frame more was taken
   pub one_more : Received octets counts place old self (whole_of self) → whole_of kept ≡ whole_of self → part_of kept.step ≡ no_answer → FitsStill self.station kept.station → kept.end ≡ self.end
-      → Happens kept new (Ok tt) (Comes (frame_at octets counts place)) → new.earlier ≡ kept.earlier → Received octets counts (place + 1) old new (whole_of new)
-  one_more before same none still end happens earlier =
+      → kept.time ≡ self.time → kept.clock ≡ self.clock → Happens kept new (Ok tt) (Comes (frame_at octets counts place)) → new.earlier ≡ kept.earlier → Received octets counts (place + 1) old new (whole_of new)
+  one_more before same none still end now clock happens earlier =
       let next : suc place ≡ place + 1 = omega arith in
-      subst (λ n. Received octets counts n old new (whole_of new)) next (self, whole_of self, before, from_still self kept new (Ok tt) (Comes (frame_at octets counts place)) still end happens, behind same none earlier)
+      subst (λ n. Received octets counts n old new (whole_of new)) next (self, whole_of self, before, from_still self kept new (Ok tt) (Comes (frame_at octets counts place)) still end now clock happens, behind same none earlier)
 
 -- the same from a station that stood for as much
-pub from_before : (octets counts : List ℕ) (n : ℕ) (old first new : Held) (w : Whole) → FitsStill old.station first.station → first.end ≡ old.end → Received octets counts n first new w → Received octets counts n old new w
-from_before octets counts zero old first new w still end r = ((λ c s fits. r.0 c s (still c s fits)), r.1 ∙ end, r.2)
-from_before octets counts (suc n) old first new w still end r = (r.0, r.1, from_before octets counts n old first r.0 r.1 still end r.2, r.3, r.4)
+pub from_before : (octets counts : List ℕ) (n : ℕ) (old first new : Held) (w : Whole) → FitsStill old.station first.station → first.end ≡ old.end → IsClocked old first → Received octets counts n first new w → Received octets counts n old new w
+from_before octets counts zero old first new w still end clocked r = ((λ c s fits. r.0 c s (still c s fits)), r.1 ∙ end, r.2, record { clock = r.3.clock ∙ clocked.clock; time = r.3.time ∙ clocked.time })
+from_before octets counts (suc n) old first new w still end clocked r = (r.0, r.1, from_before octets counts n old first r.0 r.1 still end clocked r.2, r.3, r.4)
 
 pub where_ok : {A E : Type 0} (r : Result A E) (P : Type 0) → is_err r ≡ false → OnOk r P → P
 where_ok (Ok a) P good p = p
@@ -66,39 +66,52 @@ module _ (octets counts : List ℕ) (place at : ℕ) (old self : Held) (there : 
   next_is = omega arith
 
   -- its octets aren't there
-  pub ends_short : at ≤ length octets → length octets - at < get_or counts place 0 → ReceivesAll octets counts old self place 34
+  pub ends_short : at ≤ length octets → length octets - at < get_or counts place 0 → self.passed ≡ None → ReceivesAll octets counts old self place 34
   unfolding ReceivesAll
-  ends_short inside lacks = (self, before, (λ c s fits. fits), refl, inr (there, inl (refl, subst (λ n. length octets < sum (take n counts)) next_is (omega (arith, sum_more counts place at there here)))))
+  ends_short inside lacks passed = (
+    self,
+    before,
+    (λ c s fits. fits),
+    refl,
+    inr (there, inl (refl, subst (λ n. length octets < sum (take n counts)) next_is (omega (arith, sum_more counts place at there here)))),
+    record { clock = refl; time = refl },
+    passed,
+  )
 
   -- no memory for what was answered before
-  pub ends_full : (kept : Held) → whole_of kept ≡ whole_of self → kept.station ≡ self.station → kept.end ≡ self.end → ReceivesAll octets counts old kept place 70
+  pub ends_full : (kept : Held) → whole_of kept ≡ whole_of self → kept.station ≡ self.station → kept.end ≡ self.end → IsClocked self kept → kept.passed ≡ None → ReceivesAll octets counts old kept place 70
   unfolding ReceivesAll
-  ends_full kept same station end = (
+  ends_full kept same station end clocked passed = (
     self,
     subst (Received octets counts place old self) (sym same) before,
     (λ c s fits. subst (λ v. FitsStation c v s) (sym station) fits),
     end,
     inr (there, inr (error.NoMemory, refl, (λ c s fits. no_memory (outcome c s (Comes (frame_at octets counts place)))))),
+    clocked,
+    passed,
   )
 
   -- it is refused
   pub ends_refused : (kept new last : Held) (e : StationError) (number : ℕ) → whole_of kept ≡ whole_of self → part_of kept.step ≡ no_answer → kept.station ≡ self.station → kept.end ≡ self.end
       → Happens kept new (Err e) (Comes (frame_at octets counts place)) → new.earlier ≡ kept.earlier → number ≡ number_of e → last.station ≡ new.station → last.end ≡ new.end → last.earlier ≡ new.earlier
-      → part_of last.step ≡ no_answer → ReceivesAll octets counts old last place number
+      → part_of last.step ≡ no_answer → IsClocked self kept → IsClocked new last → last.passed ≡ None → ReceivesAll octets counts old last place number
   unfolding ReceivesAll
-  ends_refused kept new last e number same none station end happens earlier is_number last_station last_end last_earlier last_none =
+  ends_refused kept new last e number same none station end happens earlier is_number last_station last_end last_earlier last_none kept_clocked last_clocked passed =
       let whole : whole_of last ≡ whole_of self = sym (earlier_is last last_none) ∙ ap part_of (last_earlier ∙ earlier) ∙ earlier_is kept none ∙ same in (
         self,
         subst (Received octets counts place old self) (sym whole) before,
         (λ c s fits. subst (λ v. FitsStation c v s) (sym last_station) (happens.stays c s (subst (λ v. FitsStation c v s) (sym station) fits))),
         last_end ∙ happens.end ∙ end,
         inr (there, inr (e, is_number, (λ c s fits. happens.refused c s (subst (λ v. FitsStation c v s) (sym station) fits)))),
+        record { clock = last_clocked.clock ∙ happens.unheeded ∙ kept_clocked.clock; time = last_clocked.time ∙ happens.time ∙ kept_clocked.time },
+        passed,
       )
 
 -- all were taken
-pub ends_all : (octets counts : List ℕ) (place : ℕ) (old self : Held) → place ≡ length counts → Received octets counts place old self (whole_of self) → ReceivesAll octets counts old self (length counts) 0
+pub ends_all : (octets counts : List ℕ) (place : ℕ) (old self : Held) → place ≡ length counts → Received octets counts place old self (whole_of self) → self.passed ≡ None → ReceivesAll octets counts old self (length counts) 0
 unfolding ReceivesAll
-ends_all octets counts place old self all before = (self, subst (λ n. Received octets counts n old self (whole_of self)) all before, (λ c s fits. fits), refl, inl (refl, refl, refl))
+ends_all octets counts place old self all before passed =
+    (self, subst (λ n. Received octets counts n old self (whole_of self)) all before, (λ c s fits. fits), refl, inl (refl, refl, refl), record { clock = refl; time = refl }, passed)
 
 -- a step without octets and entries, and T1 goes on
 pub is_none : (h : Held) → IsEmpty h.step → h.step.timer ≡ GoesOn → part_of h.step ≡ no_answer

@@ -83,6 +83,9 @@ pub record IsSame (old new : Held) : Type 0 where
   pub step : new.step ≡ old.step
   pub earlier : new.earlier ≡ old.earlier
   pub waits : new.waits ≡ old.waits
+  pub clock : new.clock ≡ old.clock
+  pub time : new.time ≡ old.time
+  pub passed : new.passed ≡ old.passed
 
 abbrev pub AreSame : Option Held → Option Held → Type 0
 AreSame None None = Unit {0}

@@ -1,11 +1,12 @@
--- The items of what a station that is held last answered (profile): the frames, the entries, each in order, and what
--- becomes of timer T1.
+-- The items of what a station that is held last answered (profile): the frames, a timer that passed, the entries, each
+-- in order, and what becomes of timer T1.
 use Rattle.std.specs.Prelude.{◌≡◌, ◌⊎◌, ℕ, ◌+◌, ◌^◌, ◌<◌, ◌≤◌, Bool, true, false, List, [], ◌∷◌, ◌++◌, map, length}
 use Rattle.std.specs.Prelude.{take, drop, Option, Some, None}
 use Rattle.std.specs.List.{flat_map}
 use Rattle.x25_station.specs.declared.timer.Timer.{Timer}
 use Rattle.x25_station.specs.code.PlainEntry.{plain_entry}
 use Rattle.x25_station.specs.Entry.{StationEntry}
+use Rattle.x25_c.specs.declared.clocked.Passed.{Passed}
 use Rattle.x25_c.specs.declared.event.Event.{Event}
 use Rattle.x25_c.specs.declared.held.Held.{Held}
 use Rattle.x25_c.specs.declared.item.Item.{Item}
@@ -17,18 +18,27 @@ use Rattle.x25_c.specs.Slot.{number_of_timer}
 
 pub data PlainItem : Type 0 where
   a_frame : (octets : List ℕ) → PlainItem
+  has_passed : (passed : Passed) → PlainItem
   an_entry : (entry : StationEntry) → PlainItem
   the_timer : (timer : Timer) → PlainItem
 
 abbrev pub plain_item : Item → PlainItem
 plain_item (code.Frame octets) = a_frame octets.now
+plain_item (code.Passed passed) = has_passed passed
 plain_item (code.Entry entry) = an_entry (plain_entry entry.now)
 plain_item (code.Timer timer) = the_timer timer
 
--- behind the frames
-abbrev pub later_items : Held → List PlainItem
-later_items h = map (λ entry. an_entry (plain_entry entry)) (h.earlier.entries.items ++ h.step.entries.items)
+-- behind the frames and a timer that passed
+abbrev pub last_items : Held → List PlainItem
+last_items h = map (λ entry. an_entry (plain_entry entry)) (h.earlier.entries.items ++ h.step.entries.items)
     ++ the_timer (timer_of h) ∷ []
+
+abbrev pub behind_passed : Option Passed → List PlainItem → List PlainItem
+behind_passed None items = items
+behind_passed (Some passed) items = has_passed passed ∷ items
+
+abbrev pub later_items : Held → List PlainItem
+later_items h = behind_passed h.passed (last_items h)
 
 abbrev pub items_of : Held → List PlainItem
 items_of h = map a_frame (frames_of h) ++ later_items h
@@ -37,12 +47,14 @@ items_of h = map a_frame (frames_of h) ++ later_items h
 
 abbrev pub event_at : PlainItem → Event
 event_at (a_frame octets) = record (kind_alone 1) { count = length octets }
+event_at (has_passed passed) = record (kind_alone 32) { reason = passed.timer; channel = passed.channel }
 event_at (an_entry entry) = entry_event entry
 event_at (the_timer timer) = record (kind_alone 2) { timer = number_of_timer timer }
 
 -- the octets of a frame, or user data
 abbrev pub octets_at : PlainItem → List ℕ
 octets_at (a_frame octets) = octets
+octets_at (has_passed passed) = []
 octets_at (an_entry entry) = entry_user entry
 octets_at (the_timer timer) = []
 

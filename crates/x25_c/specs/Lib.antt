@@ -1,3 +1,4 @@
+pub mod Clock
 pub mod Copying
 pub mod Dialing
 pub mod Event

@@ -1,5 +1,8 @@
 -- What a call leaves in the place where C holds a station, and the number that it answers (profile).
-use Rattle.std.specs.Prelude.{◌≡◌, ℕ, List, Option, Some, None, IsSomeAnd, Result, Ok, Err}
+use Rattle.std.specs.Prelude.{◌≡◌, ◌⊎◌, ℕ, ◌<◌, ◌≤◌, List, Option, Some, None, IsSomeAnd, Result, Ok, Err}
+use Rattle.x25_bits.specs.declared.role.Role.{Role}
+use Rattle.x25_clock.specs.declared.times.Times.{Times}
+use Rattle.x25_clock.specs.Times.{standard}
 use Rattle.x25_console.specs.Commands.{command_asked}
 use Rattle.x25_script.specs.ScriptLine.{PlainCommand}
 use Rattle.x25_station.specs.declared.error.StationError.{StationError}
@@ -10,9 +13,12 @@ use Rattle.x25_station.specs.declared.timer.Timer.TheVariants.{Off, Begins, Goes
 use Rattle.x25_station.specs.Error.{number_of}
 use Rattle.x25_station.specs.laws.TimerLaw.{Event, Asks}
 use Rattle.x25_c.specs.declared.held.Held.{Held}
+use Rattle.x25_c.specs.declared.times.Times as c
+use Rattle.x25_c.specs.Clock.{times_told}
 use Rattle.x25_c.specs.Held.{IsAlone}
 use Rattle.x25_c.specs.Making.{role_of, making_refusal}
 use Rattle.x25_c.specs.code.Happens.{Happens, IsNew}
+use Rattle.x25_c.specs.code.Clocks.{Passes, Sets}
 use Rattle.x25_c.specs.code.Receives.{ReceivesAll}
 
 -- the number of a result: 0, or that of its error
@@ -30,6 +36,7 @@ number_of_timer GoesOn = 2
 abbrev pub AnswersOne : Held → Held → ℕ → Event → Type 0
 AnswersOne old new number event =
     (r : Result Unit StationError) × (number ≡ number_in r) × Happens old new r event × IsAlone new
+    × (new.passed ≡ None)
 
 -- where none is held, a call answers 16 and holds none behind it
 abbrev pub Answers : Option Held → Option Held → ℕ → Event → Type 0
@@ -72,3 +79,28 @@ AnswersAll octets counts None None taken number = number ≡ 16
 AnswersAll octets counts None (Some new) taken number = ⊥
 AnswersAll octets counts (Some old) None taken number = ⊥
 AnswersAll octets counts (Some old) (Some new) taken number = ReceivesAll octets counts old new taken number
+
+-- ---- a clock
+
+-- a station is given a clock, or memory is refused and all is as before
+abbrev pub AnswersSet : Option Held → Option Held → ℕ → Times → Type 0
+AnswersSet None None number times = number ≡ 16
+AnswersSet None (Some new) number times = ⊥
+AnswersSet (Some old) None number times = ⊥
+AnswersSet (Some old) (Some new) number times = ((number ≡ 70) × (new ≡ old)) ⊎ ((number ≡ 0) × Sets old new times)
+
+-- a time before the one that was said last is refused, and all is as before
+abbrev pub TimesOne : Held → Held → ℕ → ℕ → Type 0
+TimesOne old new number now = ((now < old.time) × (number ≡ 34) × (new ≡ old))
+    ⊎ ((old.time ≤ now) × ((r : Result Unit StationError) × (number ≡ number_in r) × Passes old new r now))
+
+abbrev pub AnswersTime : Option Held → Option Held → ℕ → ℕ → Type 0
+AnswersTime None None number now = number ≡ 16
+AnswersTime None (Some new) number now = ⊥
+AnswersTime (Some old) None number now = ⊥
+AnswersTime (Some old) (Some new) number now = TimesOne old new number now
+
+-- the times of Annex D for an end, where the number is that of one
+abbrev pub Standard : Option Role → ℕ → c.Times → c.Times → Type 0
+Standard None number old new = (number ≡ 14) × (new ≡ old)
+Standard (Some end) number old new = (number ≡ 0) × (new ≡ times_told (standard end))

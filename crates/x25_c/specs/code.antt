@@ -1,2 +1,3 @@
 pub mod Happens
+pub mod Clocks
 pub mod Receives

@@ -73,6 +73,8 @@ const NOT_READY_ASKED: u16 = 30;
 
 const RELINK_ASKED: u16 = 31;
 
+pub(crate) const TIMEOUT: u16 = 32;
+
 /// An event: its kind, and what that has; `count` is how many octets of a frame or of user data there are.
 #[repr(C)]
 #[derive(Clone, Copy)]

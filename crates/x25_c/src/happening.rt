@@ -1,5 +1,6 @@
 //! What happens to a station.
 ghost use Rattle.std.specs.Prelude.{◌≡◌};
+ghost use Rattle.x25_clock.specs.laws.ClockLaw.{comes};
 ghost use Rattle.x25_station.specs.code.Clock.{TellsTimer};
 ghost use Rattle.x25_station.specs.code.FitsStation.{Does};
 ghost use Rattle.x25_station.specs.laws.TimerLaw.{is_firing, outcome};
@@ -16,6 +17,17 @@ pub(crate) enum Happening<'a> {
     Asks(Cmd<'a>),
     /// Timer T1 fired.
     Fires,
+}
+
+impl Happening<'_> {
+    pub(crate) fn has_come(self) -> bool
+        ensures { result ≡ comes (event_of self.entry) }
+    {
+        match self {
+            Happening::Comes(_) => true,
+            Happening::Asks(_) | Happening::Fires => false,
+        }
+    }
 }
 
 /// Lets it happen to a station.

@@ -1,5 +1,5 @@
 //! A station, and what it last answered.
-ghost use Rattle.std.specs.Prelude.{◌≡◌, ◌≤◌, ◌+◌, OnOk, length, slice_get};
+ghost use Rattle.std.specs.Prelude.{◌≡◌, ◌≤◌, ◌+◌, None, OnErr, OnOk, length, slice_get};
 ghost use Rattle.std.specs.Option.{option_map};
 ghost use Rattle.x25_bits.specs.declared.role.Role.{Role};
 ghost use Rattle.x25_console.specs.Commands.{command_asked};
@@ -12,15 +12,18 @@ ghost use Rattle.x25_station.specs.laws.TimerLaw.{Asks, Event};
 ghost use Rattle.x25_station.specs.code.FitsStation.{FitsStation, FitsStill};
 ghost use Rattle.x25_c.specs.Held.{channel_of, entries_of, frames_of, in_place, lines_of, no_answer, part_of};
 ghost use Rattle.x25_c.specs.Held.{timer_of, whole_of, IsAlone};
-ghost use Rattle.x25_c.specs.Item.{items_of, later_items, plain_item};
+ghost use Rattle.x25_c.specs.Item.{items_of, last_items, later_items, plain_item};
+ghost use Rattle.x25_c.specs.code.Clocks.{Insists, Passes, Rests, Sets};
 ghost use Rattle.x25_c.specs.code.Happens.{GivesAnswer, Happens, IsNew, PullsBehind, event_of};
 ghost use Rattle.x25_c.specs.code.Receives.{ReceivesAll};
 
 use crate::answers::{in_both, then};
+use crate::clocked::{Passed, channel_of, heed, take_due, timer_of};
 use crate::happening::{Happening, happen};
 use crate::item::Item;
 use crate::numbers::{BAD_PARAMETER, NO_MEMORY};
 use std::alloc::{AllocError, Global};
+use x25_clock::{Clock, Due, Times};
 use x25_console::{read_user, station_command};
 use x25_script::{Command, HexDigits, ScriptTaker, read_command};
 use x25_station::{Entry, Role, Station, StationError, Step, Timer};
@@ -29,7 +32,7 @@ use x25_transcript::push_entry;
 
 /// A station, which end it is, what it answered to its last call, nothing where that was refused, and whether memory
 /// was refused for the pull behind that. Of frames that came in one call, `earlier` is what all but the last were
-/// answered.
+/// answered. Its clock, where it has one, the time that was said last, and the timer that the last answer tells of.
 #[derive(Drop)]
 pub struct Held {
     pub end: Role,
@@ -37,6 +40,9 @@ pub struct Held {
     pub earlier: Step,
     pub step: Step,
     pub waits: bool,
+    pub clock: Option<Clock>,
+    pub time: u64,
+    pub passed: Option<Passed>,
     pub(crate) line: Text,
 }
 
@@ -55,6 +61,9 @@ impl Held {
             },
             step: Step::new(alloc),
             waits: false,
+            clock: None,
+            time: 0,
+            passed: None,
             line,
         }
     }
@@ -63,17 +72,24 @@ impl Held {
     fn begin(&mut self)
         ensures station { FitsStill self.old.station self.new.station }
         ensures alone { IsAlone self.new }
+        ensures passed { self.new.passed ≡ None }
         ensures end { self.new.end ≡ self.old.end }
         ensures step { self.new.step ≡ self.old.step }
+        ensures clock { self.new.clock ≡ self.old.clock }
+        ensures time { self.new.time ≡ self.old.time }
     {
         self.station.reuse(&mut self.earlier);
         self.earlier.timer = Timer::GoesOn;
+        self.passed = None;
     }
 
     // Pulls what waits, behind an event.
     fn pull(&mut self)
         ensures pulls { PullsBehind self.old self.new }
         ensures earlier { self.new.earlier ≡ self.old.earlier }
+        ensures clock { self.new.clock ≡ self.old.clock }
+        ensures time { self.new.time ≡ self.old.time }
+        ensures passed { self.new.passed ≡ self.old.passed }
     {
         self.waits = self.station.pull(&mut self.step).is_err();
     }
@@ -83,6 +99,7 @@ impl Held {
     pub(crate) fn happen(&mut self, event: Happening<'_>) -> Result<(), StationError>
         ensures happens { Happens self.old self.new result (event_of event.entry) }
         ensures alone { IsAlone self.new }
+        ensures passed { self.new.passed ≡ None }
     {
         self.begin();
         self.go_on(event)
@@ -93,11 +110,20 @@ impl Held {
     fn go_on(&mut self, event: Happening<'_>) -> Result<(), StationError>
         ensures happens { Happens self.old self.new result (event_of event.entry) }
         ensures earlier { self.new.earlier ≡ self.old.earlier }
+        ensures passed { self.new.passed ≡ self.old.passed }
     {
+        let has_come = event.has_come();
         self.waits = false;
         match happen(&mut self.station, event, &mut self.step) {
             Ok(()) => {
                 self.pull();
+                heed(
+                    &mut self.clock,
+                    self.time,
+                    &self.station,
+                    &self.step,
+                    has_come,
+                );
                 Ok(())
             }
             Err(error) => Err(error),
@@ -108,6 +134,7 @@ impl Held {
     fn refuse(&mut self) -> Result<(), StationError>
         ensures happens { (event : Event) → Happens self.old self.new result event }
         ensures alone { IsAlone self.new }
+        ensures passed { self.new.passed ≡ None }
     {
         self.begin();
         self.station.reuse(&mut self.step);
@@ -119,6 +146,7 @@ impl Held {
     fn ask(&mut self, alloc: Global, command: Command) -> Result<(), StationError>
         ensures happens { Happens self.old self.new result (Asks (command_asked (plain_command command.entry))) }
         ensures alone { IsAlone self.new }
+        ensures passed { self.new.passed ≡ None }
     {
         let mut user = Vec::new(alloc);
         let Ok(count) = read_user(&command, &mut user) else {
@@ -145,6 +173,9 @@ impl Held {
         ensures station { self.new.station ≡ self.old.station }
         ensures end { self.new.end ≡ self.old.end }
         ensures waits { self.new.waits ≡ self.old.waits }
+        ensures clock { self.new.clock ≡ self.old.clock }
+        ensures time { self.new.time ≡ self.old.time }
+        ensures passed { self.new.passed ≡ self.old.passed }
     {
         self.earlier.frames.append(&mut self.step.frames)?;
         self.earlier.entries.append(&mut self.step.entries)?;
@@ -183,6 +214,62 @@ impl Held {
         (counts.len(), 0)
     }
 
+    /// Gives the station a clock, by which the time of what is awaited begins. Err: no memory, and it has the clock that
+    /// it had.
+    pub(crate) fn set(&mut self, alloc: Global, times: Times) -> Result<(), AllocError>
+        ensures set { OnOk result (Sets self.old self.new times) }
+        ensures refused { OnErr result (self.new ≡ self.old) }
+    {
+        let mut clock = Clock::new(alloc, times)?;
+        let mut step = Step::new(alloc);
+        if self.station.timer_runs() {
+            step.timer = Timer::Begins;
+        }
+        clock.heed(self.time, &self.station, &step, false);
+        self.clock = Some(clock);
+        Ok(())
+    }
+
+    // Nothing happens, and nothing is answered.
+    fn rest(&mut self)
+        ensures { Rests self.old self.new }
+    {
+        self.begin();
+        self.station.reuse(&mut self.step);
+        self.step.timer = Timer::GoesOn;
+        self.waits = false;
+    }
+
+    // What is due is asked for, as its timer has passed.
+    fn insist(&mut self, due: Due) -> Result<(), StationError>
+        ensures { Insists self.old self.new result due }
+    {
+        let channel = channel_of(due);
+        let timer = timer_of(self.end, self.station.awaits(channel), due);
+        let answer = match due.command() {
+            Some(command) => self.happen(Happening::Asks(command)),
+            None => self.happen(Happening::Fires),
+        };
+        if answer.is_ok() {
+            self.passed = Some(Passed { timer, channel });
+        }
+        answer
+    }
+
+    /// The time is this: the first of what is due is asked for. Nothing happens where nothing is due.
+    pub(crate) fn pass(&mut self, now: u64) -> Result<(), StationError>
+        ensures { Passes self.old self.new result now }
+    {
+        self.time = now;
+        match take_due(&mut self.clock, now) {
+            Some(due) => self.insist(due),
+            None => {
+                self.rest();
+                Ok(())
+            }
+        }
+    }
+
     pub(crate) fn frames(&self) -> usize
         ensures { result ≡ length (frames_of self.now) }
     {
@@ -210,9 +297,9 @@ impl Held {
         }
     }
 
-    // Item `i` behind the frames: the entries, and then what becomes of timer T1.
-    fn later_item(&self, i: usize) -> Option<Item<'_>>
-        ensures { option_map plain_item result ≡ slice_get (later_items self.now) i }
+    // Item `i` behind the frames and a timer that passed: the entries, and then what becomes of timer T1.
+    fn last_item(&self, i: usize) -> Option<Item<'_>>
+        ensures { option_map plain_item result ≡ slice_get (last_items self.now) i }
     {
         let count = self.entries();
         if i == count {
@@ -221,6 +308,17 @@ impl Held {
         match in_both(&self.earlier.entries, &self.step.entries, i) {
             Some(entry) => Some(Item::Entry(entry)),
             None => None,
+        }
+    }
+
+    // Item `i` behind the frames.
+    fn later_item(&self, i: usize) -> Option<Item<'_>>
+        ensures { option_map plain_item result ≡ slice_get (later_items self.now) i }
+    {
+        match self.passed {
+            Some(passed) if i == 0 => Some(Item::Passed(passed)),
+            Some(_) => self.last_item(i - 1),
+            None => self.last_item(i),
         }
     }
 
@@ -253,6 +351,9 @@ impl Held {
         ensures earlier { self.new.earlier ≡ self.old.earlier }
         ensures end { self.new.end ≡ self.old.end }
         ensures waits { self.new.waits ≡ self.old.waits }
+        ensures clock { self.new.clock ≡ self.old.clock }
+        ensures time { self.new.time ≡ self.old.time }
+        ensures passed { self.new.passed ≡ self.old.passed }
     {
         self.line.clear();
         match in_both(&self.earlier.entries, &self.step.entries, i) {

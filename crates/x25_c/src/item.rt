@@ -5,15 +5,17 @@ ghost use Rattle.x25_c.specs.Copying.{Copies};
 ghost use Rattle.x25_c.specs.Event.{asked_user, entry_user, told_user};
 ghost use Rattle.x25_c.specs.Item.{called_at, calling_at, event_at, facilities_at, octets_at, plain_item};
 
+use crate::clocked::Passed;
 use crate::copying::{copy, copy_figures};
-use crate::event::{Event, FRAME, TIMER};
+use crate::event::{Event, FRAME, TIMEOUT, TIMER};
 use crate::numbers::timer_number;
 use x25_station::{Asked, Entry, Said, Timer, Told};
 
-/// A frame to send, an entry of the transcript, or what becomes of timer T1.
+/// A frame to send, a timer that passed, an entry of the transcript, or what becomes of timer T1.
 #[derive(Clone, Copy)]
 pub(crate) enum Item<'a> {
     Frame(&'a [u8]),
+    Passed(Passed),
     Entry(&'a Entry),
     Timer(Timer),
 }
@@ -26,6 +28,11 @@ impl<'a> Item<'a> {
             Item::Frame(octets) => Event {
                 count: octets.len(),
                 ..Event::alone(FRAME)
+            },
+            Item::Passed(passed) => Event {
+                reason: passed.timer,
+                channel: passed.channel,
+                ..Event::alone(TIMEOUT)
             },
             Item::Entry(entry) => Event::of_entry(entry),
             Item::Timer(timer) => Event {
@@ -42,7 +49,7 @@ impl<'a> Item<'a> {
         match self {
             Item::Frame(octets) => octets,
             Item::Entry(entry) => user_of(entry),
-            Item::Timer(_) => &[],
+            Item::Passed(_) | Item::Timer(_) => &[],
         }
     }
 

@@ -4,6 +4,7 @@
 #![tactic(auto)]
 
 mod answers;
+mod clocked;
 mod copying;
 mod dialing;
 mod event;
@@ -19,43 +20,52 @@ mod sizes;
 mod slot;
 mod stretch_name;
 mod taking;
+mod times;
 mod unboxed;
 
 ghost use Rattle.std.specs.Prelude.{◌≡◌, ◌≢◌, [], false, None, IfSome, IfNone, drop, length, slice_get, unwrap_or};
+ghost use Rattle.x25_clock.specs.Clock.{number_of as number_awaited};
 ghost use Rattle.x25_circuit.specs.Calling.{Accepts, Clears, Interrupts, Resets, SaysNotReady, SaysReady, Sends};
 ghost use Rattle.x25_circuit.specs.Params.{default_params, in_brief};
+ghost use Rattle.x25_layer.specs.code.FitsLayer.{awaited_at};
 ghost use Rattle.x25_layer.specs.Calls.{Asks as OnChannel, Dials, PullsAll, Restarts};
 ghost use Rattle.x25_script.specs.Reading.{command_in};
 ghost use Rattle.x25_station.specs.Command.{Connects, Disconnects, Probes, Relinks, Requests, answer_in_brief};
 ghost use Rattle.x25_station.specs.Command.{command_of};
-ghost use Rattle.x25_station.specs.Config.{Settings as StationSettings};
+ghost use Rattle.x25_station.specs.Config.{Settings as StationSettings, layer_settings};
 ghost use Rattle.x25_station.specs.Station.{Station as State};
 ghost use Rattle.x25_station.specs.Station.Told.{is_idle, room, stretch};
 ghost use Rattle.x25_station.specs.laws.TimerLaw.{Asks, Comes, Fires};
 ghost use Rattle.x25_station.specs.code.FitsStation.{FitsStation};
+ghost use Rattle.x25_c.specs.Clock.{TellsNext, next_in, times_in};
 ghost use Rattle.x25_c.specs.Copying.{Copies};
 ghost use Rattle.x25_c.specs.Dialing.{dialed};
 ghost use Rattle.x25_c.specs.Held.{AreSame, channel_of, frames_of, in_place, lines_of, timer_of};
 ghost use Rattle.x25_c.specs.Item.{Takes, TakesAll, called_at, calling_at, facilities_at, items_of, of_item};
+ghost use Rattle.x25_c.specs.Making.{role_of};
 ghost use Rattle.x25_c.specs.RefusalText.{text_of};
 ghost use Rattle.x25_c.specs.Settings.{cfg_in};
 ghost use Rattle.x25_c.specs.Sizes.{params_in};
-ghost use Rattle.x25_c.specs.Slot.{Answers, AnswersAll, Commands, Makes, number_of_timer};
+ghost use Rattle.x25_c.specs.Slot.{Answers, AnswersAll, AnswersSet, AnswersTime, Commands, Makes, Standard};
+ghost use Rattle.x25_c.specs.Slot.{number_of_timer};
 ghost use Rattle.x25_c.specs.StretchName.{Names};
 
+use crate::clocked::tell_next;
 use crate::copying::copy;
 use crate::dialing::dialed;
 use crate::event::Event;
 use crate::happening::Happening;
-use crate::making::make;
-use crate::numbers::{NO_MEMORY, number_of, timer_number};
+use crate::making::{make, role_of_number};
+use crate::numbers::{BAD_PARAMETER, NO_MEMORY, number_awaited, number_of, timer_number};
 use crate::refusal_text::refusal_text;
 use crate::settings::Settings;
 use crate::sizes::Sizes;
 use crate::slot::Slot;
 use crate::stretch_name::{StretchName, tell_name};
 use crate::taking::take_all;
+use crate::times::Times;
 use std::alloc::Global;
+use x25_clock::Times as ClockTimes;
 use x25_station::Cmd;
 
 /// 10,000 times the first number of the version, 100 times the second, and the third.
@@ -414,8 +424,76 @@ pub extern "C" fn x25_command(alloc: Global, slot: &mut Slot, text: &[u8]) -> u3
     }
 }
 
-/// Takes item `i` of the last answer, counted from 0: its frames, its entries, and then what becomes of timer T1. What
-/// it is is written to `event`, and its octets to the front of `room` where they fit.
+/// Writes the times of Annex D for an end, 0 for a DTE and 1 for a DCE, and of the link 3 seconds for T1 and 60 for T3.
+///
+/// 14 where there is no such end; `times` is then as before.
+#[unsafe(no_mangle)]
+pub extern "C" fn x25_standard_times(end: u8, times: &mut Times) -> u32
+    ensures { Standard (role_of end) result times.old times.new }
+{
+    let Some(role) = role_of_number(end) else {
+        return BAD_SETTING;
+    };
+    *times = Times::of(ClockTimes::standard(role));
+    0
+}
+
+/// Gives the station a clock, by which the time of what is awaited begins.
+///
+/// 16 where the slot holds no station, else 70 alone; all is then as before.
+#[unsafe(no_mangle)]
+pub extern "C" fn x25_set_times(alloc: Global, slot: &mut Slot, times: Times) -> u32
+    ensures { AnswersSet slot.old.handle.held slot.new.handle.held result (times_in times) }
+{
+    let Some(mut held) = slot.take(alloc) else {
+        return NO_STATION;
+    };
+    let number = match held.set(alloc, times.times()) {
+        Ok(()) => 0,
+        Err(_) => NO_MEMORY,
+    };
+    slot.put(held);
+    number
+}
+
+/// The time is this, in milliseconds, until it is said again. The first of what is due is asked for, as by the user, and
+/// the answer tells which timer passed.
+///
+/// 16 where the slot holds no station, 34 where it is before the time that was said last, and the last answer stands;
+/// else as what is due. The station is as before then.
+#[unsafe(no_mangle)]
+pub extern "C" fn x25_time(alloc: Global, slot: &mut Slot, now: u64) -> u32
+    ensures { AnswersTime slot.old.handle.held slot.new.handle.held result now }
+{
+    let Some(mut held) = slot.take(alloc) else {
+        return NO_STATION;
+    };
+    if now < held.time {
+        slot.put(held);
+        return BAD_PARAMETER;
+    }
+    let answer = held.pass(now);
+    slot.put(held);
+    number_of(answer)
+}
+
+/// Whether something is due at some moment, if nothing happens before; then that is written to `at`.
+#[unsafe(no_mangle)]
+pub extern "C" fn x25_next(alloc: Global, slot: &mut Slot, at: &mut u64) -> bool
+    ensures kept { slot.new.handle.held ≡ slot.old.handle.held }
+    ensures next { IfSome slot.old.handle.held (λ h. TellsNext (next_in h.clock) result at.old at.new) }
+    ensures none { IfNone slot.old.handle.held (TellsNext None result at.old at.new) }
+{
+    let Some(held) = slot.take(alloc) else {
+        return false;
+    };
+    let is_there = tell_next(&held.clock, at);
+    slot.put(held);
+    is_there
+}
+
+/// Takes item `i` of the last answer, counted from 0: its frames, the timer that passed, its entries, and then what
+/// becomes of timer T1. What it is is written to `event`, and its octets to the front of `room` where they fit.
 ///
 /// `false` where there is none, and where the slot holds no station; `event` and `room` are then as before.
 #[unsafe(no_mangle)]
@@ -674,6 +752,39 @@ pub extern "C" fn x25_room(alloc: Global, slot: &mut Slot, channel: u16) -> usiz
     let count = held.station.room(channel);
     slot.put(held);
     count
+}
+
+/// What this end awaits on a channel: 0 nothing, 1 that a call is accepted, 2 that a reset and 3 that clearing is
+/// confirmed.
+#[unsafe(no_mangle)]
+pub extern "C" fn x25_awaits(alloc: Global, slot: &mut Slot, channel: u16) -> u32
+    ensures kept { slot.new.handle.held ≡ slot.old.handle.held }
+    ensures awaits { (c : StationSettings) (s : State) → IfSome slot.old.handle.held (λ h. FitsStation c h.station s
+        → result ≡ number_awaited (awaited_at (layer_settings c) s.layer channel)) }
+    ensures none { IfNone slot.old.handle.held (result ≡ 0) }
+{
+    let Some(held) = slot.take(alloc) else {
+        return 0;
+    };
+    let number = number_awaited(held.station.awaits(channel));
+    slot.put(held);
+    number
+}
+
+/// Whether a restart is under way: this end awaits that it be confirmed.
+#[unsafe(no_mangle)]
+pub extern "C" fn x25_is_restarting(alloc: Global, slot: &mut Slot) -> bool
+    ensures kept { slot.new.handle.held ≡ slot.old.handle.held }
+    ensures restarting { (c : StationSettings) (s : State) →
+        IfSome slot.old.handle.held (λ h. FitsStation c h.station s → result ≡ s.layer.restarting) }
+    ensures none { IfNone slot.old.handle.held (result ≡ false) }
+{
+    let Some(held) = slot.take(alloc) else {
+        return false;
+    };
+    let is_restarting = held.station.is_restarting();
+    slot.put(held);
+    is_restarting
 }
 
 /// Whether a stretch is open on a channel; then its name is written to `name`, which else is as before.

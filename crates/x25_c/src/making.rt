@@ -12,7 +12,7 @@ use std::alloc::Global;
 use x25_station::{Cfg, Role, Station, StationError};
 use x25_text::Text;
 
-fn role_of_number(end: u8) -> Option<Role>
+pub(crate) fn role_of_number(end: u8) -> Option<Role>
     ensures { result ≡ role_of end }
 {
     match end {

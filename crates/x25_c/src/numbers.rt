@@ -1,10 +1,11 @@
 //! Answers as the numbers that a C program takes.
 ghost use Rattle.std.specs.Prelude.{◌≡◌};
+ghost use Rattle.x25_clock.specs.Clock.{number_of as number_awaited};
 ghost use Rattle.x25_c.specs.Slot.{number_in, number_of_timer};
 
-use x25_station::{StationError, Timer};
+use x25_station::{Awaits, StationError, Timer};
 
-/// The octets of a frame aren't there.
+/// The octets of a frame aren't there, or a time is before the one that was said last.
 pub(crate) const BAD_PARAMETER: u32 = 34;
 
 /// Memory was refused.
@@ -17,6 +18,18 @@ pub(crate) fn number_of(answer: Result<(), StationError>) -> u32
     match answer {
         Ok(()) => 0,
         Err(error) => u32::from(error.number()),
+    }
+}
+
+/// The number of what is awaited.
+pub(crate) fn number_awaited(awaits: Awaits) -> u32
+    ensures { result ≡ number_awaited awaits }
+{
+    match awaits {
+        Awaits::Nothing => 0,
+        Awaits::Acceptance => 1,
+        Awaits::ResetConfirmation => 2,
+        Awaits::ClearConfirmation => 3,
     }
 }
 

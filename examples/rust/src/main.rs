@@ -7,10 +7,10 @@ use std::io::{ErrorKind, Read, Result, Write};
 use std::net::{Shutdown, UdpSocket};
 use std::os::fd::AsRawFd;
 use std::os::unix::net::{UnixListener, UnixStream};
-use std::time::{Duration, Instant};
-use x25_station::{Answer, End, Event, Refused, Settings, Sizes, Station, Timer};
+use std::time::Instant;
+use x25_station::{Answer, End, Event, Refused, Settings, Sizes, Station, Times};
 
-const T1: Duration = Duration::from_millis(200);
+const TIMES: Times = Times { t1: 200, t3: 60_000, t20: 180_000, t21: 200_000, t22: 180_000, t23: 180_000 };
 const ROOM: usize = 65_536;
 const KILOBYTES: Sizes = Sizes { size_called: 10, size_calling: 10, window_called: 7, window_calling: 7 };
 
@@ -18,17 +18,14 @@ const KILOBYTES: Sizes = Sizes { size_called: 10, size_calling: 10, window_calle
 struct PollFd(i32, i16, i16);
 extern "C" { fn poll(files: *mut PollFd, count: std::ffi::c_ulong, milliseconds: i32) -> i32; }
 
-/// A station, its line and its timer, and what it told and nobody noted yet.
-struct Port { station: Station, line: UdpSocket, deadline: Option<Instant>, told: Vec<Event> }
+/// A station and its line, and what it told and nobody noted yet.
+struct Port { station: Station, line: UdpSocket, told: Vec<Event> }
 impl Port {
-    /// Whether a call did what it was asked. Then its frames are sent, its events kept, and timer T1 is set.
+    /// Whether a call did what it was asked. Then its frames are sent, and its events kept.
     fn did(&mut self, ask: impl FnOnce(&mut Station) -> std::result::Result<Answer, Refused>) -> bool {
         let Ok(answer) = ask(&mut self.station) else { return false };
         // A datagram that isn't taken is a frame that is lost.
         answer.frames.iter().for_each(|octets| drop(self.line.send(octets)));
-        if answer.timer != Timer::GoesOn {
-            self.deadline = (answer.timer == Timer::Begins).then(|| Instant::now() + T1);
-        }
         self.told.extend(answer.events);
         true
     }
@@ -114,11 +111,14 @@ fn main() -> Result<()> {
     let [end, near, far, manner, path] = words.as_slice() else { panic!("tunnel dte|dce NEAR-PORT FAR-PORT listen|connect SOCKET") };
     let (is_dte, listens) = (end == "dte", manner == "listen");
     let settings = Settings { n2: 20, channels: 16, ..Settings::default() };
-    let station = Station::new(if is_dte { End::Dte } else { End::Dce }, settings).expect("no memory");
+    let mut station = Station::new(if is_dte { End::Dte } else { End::Dce }, settings).expect("no memory");
+    station.set_times(TIMES).expect("no memory");
     let line = UdpSocket::bind(format!("127.0.0.1:{near}"))?;
     line.connect(format!("127.0.0.1:{far}")).and_then(|_| line.set_nonblocking(true))?;
     let listener = if listens { Some(UnixListener::bind(path)?) } else { None };
-    let mut port = Port { station, line, deadline: None, told: Vec::new() };
+    let mut port = Port { station, line, told: Vec::new() };
+    let begun = Instant::now();
+    let now = || begun.elapsed().as_millis() as u64;
     let (mut circuits, mut is_down, mut waiting, mut room) = (BTreeMap::new(), true, None, [0; 4200]);
     loop {
         std::mem::take(&mut port.told).into_iter().for_each(|event| is_down |= note(event, &mut circuits));
@@ -135,12 +135,11 @@ fn main() -> Result<()> {
             files.extend(circuit.connection.iter().filter(|_| events != 0).map(|it| PollFd(it.as_raw_fd(), events, 0)));
         }
         circuits.retain(|_, circuit| !circuit.is_gone || !circuit.came.is_empty());
-        let left = port.deadline.map_or(-1, |at| at.saturating_duration_since(Instant::now()).as_millis() as i32);
+        let left = port.station.next().map_or(-1, |at| at.saturating_sub(now()) as i32);
         unsafe { poll(files.as_mut_ptr(), files.len() as _, left) };
+        port.did(|station| station.time(now()));
         if let Ok(count) = port.line.recv(&mut room) {
             port.did(|station| station.receive(&room[..count]));
-        } else if port.deadline.is_some_and(|at| at <= Instant::now()) {
-            port.did(Station::t1);
         }
         if files[1].2 != 0 {
             waiting = listener.as_ref().and_then(|it| it.accept().ok()).and_then(|(it, _)| it.set_nonblocking(true).map(|_| it).ok());

@@ -1,5 +1,5 @@
 -- What the calls of a station that is held do, and what it then holds.
-use Rattle.std.specs.Prelude.{◌≡◌, Bool, false, ◌++◌, map, Option, Some, None, Result, Ok, Err, OnErr}
+use Rattle.std.specs.Prelude.{◌≡◌, Bool, false, ◌++◌, map, Option, Some, None, Result, Ok, Err, OnErr, OnOk}
 use Rattle.x25_bits.specs.declared.role.Role.{Role}
 use Rattle.x25_console.specs.Commands.{command_asked}
 use Rattle.x25_frame.specs.Spelling.{spelling_of}
@@ -15,6 +15,9 @@ use Rattle.x25_station.specs.Step.{Outcome}
 use Rattle.x25_station.specs.Timer.{standing}
 use Rattle.x25_station.specs.code.FitsStation.{FitsStation, IsEmpty, Leaves, Sends, Enters, Refuses}
 use Rattle.x25_station.specs.laws.TimerLaw.{Event, Comes, Asks, Fires, outcome}
+use Rattle.x25_clock.specs.Clock.{seen}
+use Rattle.x25_clock.specs.laws.ClockLaw.{comes}
+use Rattle.x25_c.specs.Clock.{Heeds}
 use Rattle.x25_c.specs.declared.happening.Happening as code
 use Rattle.x25_c.specs.declared.happening.Happening.TheVariants as variant
 use Rattle.x25_c.specs.declared.held.Held.{Held}
@@ -31,8 +34,8 @@ abbrev pub IsTimer : Bool → Settings → Station → Event → Timer → Resul
 IsTimer waits c s event timer (Ok u) o = timer ≡ timer_at_both waits c s event o
 IsTimer waits c s event timer (Err e) o = timer ≡ standing s
 
--- The station does what the definition says of the event and of a pull behind it, and what it answers is kept. Where it
--- is refused the station is as before, and nothing is answered.
+-- The station does what the definition says of the event and of a pull behind it, and what it answers is kept. Its clock
+-- heeds both. Where it is refused the station and its clock are as before, and nothing is answered.
 pub record Happens (old new : Held) (result : Result Unit StationError) (event : Event) : Type 0 where
   pub end : new.end ≡ old.end
   pub state : (c : Settings) (s : Station) → FitsStation c old.station s →
@@ -47,6 +50,10 @@ pub record Happens (old new : Held) (result : Result Unit StationError) (event :
   pub stays : (c : Settings) (s : Station) → FitsStation c old.station s → OnErr result (FitsStation c new.station s)
   pub empty : OnErr result (IsEmpty new.step)
   pub rests : OnErr result (new.waits ≡ false)
+  pub time : new.time ≡ old.time
+  pub heeded : OnOk result ((c : Settings) (s : Station) → FitsStation c new.station s →
+      Heeds old.time (seen c s new.step (comes event)) old.clock new.clock)
+  pub unheeded : OnErr result (new.clock ≡ old.clock)
 
 -- a pull behind a step that is held: its frames come behind those of the step
 pub record PullsBehind (old new : Held) : Type 0 where
@@ -70,7 +77,8 @@ abbrev pub GivesAnswer : Held → Held → Option (Result Unit StationError) →
 GivesAnswer old new None None = new ≡ old
 GivesAnswer old new None (Some asked) = ⊥
 GivesAnswer old new (Some r) None = ⊥
-GivesAnswer old new (Some r) (Some asked) = Happens old new r (Asks (command_asked asked)) × IsAlone new
+GivesAnswer old new (Some r) (Some asked) =
+    Happens old new r (Asks (command_asked asked)) × IsAlone new × (new.passed ≡ None)
 
 -- a station as it is made: at this end, with these settings, and nothing was answered
 pub record IsNew (at : Role) (cfg : Cfg) (h : Held) : Type 0 where
@@ -80,3 +88,6 @@ pub record IsNew (at : Role) (cfg : Cfg) (h : Held) : Type 0 where
   pub timer : h.step.timer ≡ Off
   pub waits : h.waits ≡ false
   pub alone : IsAlone h
+  pub passed : h.passed ≡ None
+  pub clock : h.clock ≡ None
+  pub time : h.time ≡ 0

@@ -1,5 +1,5 @@
 -- Frames that come one behind another in one call (profile).
-use Rattle.std.specs.Prelude.{◌≡◌, ◌⊎◌, ℕ, zero, suc, ◌<◌, List, take, drop, length, get_or, sum, Ok, Err}
+use Rattle.std.specs.Prelude.{◌≡◌, ◌⊎◌, ℕ, zero, suc, ◌<◌, List, None, take, drop, length, get_or, sum, Ok, Err}
 use Rattle.x25_station.specs.declared.error.StationError.{StationError}
 use Rattle.x25_station.specs.Config.{Settings}
 use Rattle.x25_station.specs.Error.{number_of}
@@ -14,10 +14,15 @@ use Rattle.x25_c.specs.code.Happens.{Happens}
 abbrev pub frame_at : List ℕ → List ℕ → ℕ → List ℕ
 frame_at octets counts place = take (get_or counts place 0) (drop (sum (take place counts)) octets)
 
+-- the clock and its time are as before
+pub record IsClocked (old new : Held) : Type 0 where
+  pub clock : new.clock ≡ old.clock
+  pub time : new.time ≡ old.time
+
 -- so many frames from the first on, each as if it came alone, and what was answered to all of them
 abbrev pub Received : List ℕ → List ℕ → ℕ → Held → Held → Whole → Type 0
 Received octets counts zero old new whole =
-    FitsStill old.station new.station × (new.end ≡ old.end) × (whole ≡ no_answer)
+    FitsStill old.station new.station × (new.end ≡ old.end) × (whole ≡ no_answer) × IsClocked old new
 Received octets counts (suc place) old new whole = (mid : Held) × (before : Whole)
     × Received octets counts place old mid before × Happens mid new (Ok tt) (Comes (frame_at octets counts place))
     × (whole ≡ and_then before (part_of new.step))
@@ -34,4 +39,4 @@ EndsFor octets counts mid new taken number =
 unfoldable pub ReceivesAll : List ℕ → List ℕ → Held → Held → ℕ → ℕ → Type 0
 ReceivesAll octets counts old new taken number =
     (mid : Held) × Received octets counts taken old mid (whole_of new) × FitsStill mid.station new.station
-    × (new.end ≡ mid.end) × EndsFor octets counts mid new taken number
+    × (new.end ≡ mid.end) × EndsFor octets counts mid new taken number × IsClocked mid new × (new.passed ≡ None)

@@ -1,4 +1,4 @@
-use Rattle.std.proofs.Common.{◌≡◌, ◌≤◌, length, take}
+use Rattle.std.proofs.Common.{◌≡◌, ◌≤◌, None, length, take}
 use Rattle.std.specs.Prelude.{sum}
 use Rattle.x25_c.specs.Held.{whole_of}
 use Rattle.x25_c.specs.code.Receives.{Received}
@@ -7,3 +7,4 @@ use Rattle.x25_c.proofs.held.Held.receive_all.Given as goal
 abbrev pub invariant-loop-place : goal.invariant-loop-place
 invariant-loop-place l =
     (l.at ≤ length l.octets) × (l.at ≡ sum (take l.place l.counts)) × Received l.octets l.counts l.place l.initial.self l.self (whole_of l.self)
+    × (l.self.passed ≡ None)

@@ -4,7 +4,7 @@ use Rattle.x25_station.specs.code.PlainEntry.{plain_entry}
 use Rattle.x25_c.specs.Held.{timer_of}
 use Rattle.x25_c.specs.Item.{an_entry, the_timer}
 use Rattle.x25_c.proofs.ItemLemmas.{before_last, at_last, behind_last, past_from}
-use Rattle.x25_c.proofs.held.Held.later_item.Goals as goal
+use Rattle.x25_c.proofs.held.Held.last_item.Goals as goal
 
 pub returns-then-i-count : goal.returns-then-i-count
 returns-then-i-count c =
