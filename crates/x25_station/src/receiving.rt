@@ -8,7 +8,7 @@ ghost use Rattle.x25_layer.specs.code.FitsLayer.{FitsLayer};
 ghost use Rattle.x25_layer.specs.Room.{HasRoom, HaveAtMost, IsNotFull, named_by};
 ghost use Rattle.x25_layer.specs.Rounds.{hears, comes_up};
 ghost use Rattle.x25_station.specs.Entry.{bringing, entries_up, entries_noted};
-ghost use Rattle.x25_station.specs.code.Aside.{GrowsBy, HasPlaces, UsesFew};
+ghost use Rattle.x25_station.specs.code.Aside.{GrowsBy, HasFewPlaces, HasPlaces, UsesFew};
 ghost use Rattle.x25_station.specs.code.Clock.{TellsTimer};
 ghost use Rattle.x25_station.specs.code.FitsStation.{FitsStation, FitsStill, Does, IsEmpty, RefusesForMemory};
 ghost use Rattle.x25_station.specs.code.PlainEntry.{plain_entry};
@@ -154,6 +154,7 @@ impl Station {
         ensures does { Does self.old self.new out.new result (λ c s. Did (receives c s octets.now)) }
         ensures refused { RefusesForMemory result }
         ensures timer { TellsTimer self.old out.new.timer result false (λ c s. Did (receives c s octets.now)) }
+        ensures places { HasFewPlaces out.old.entries out.new.entries }
     {
         self.empty(out);
         let before = self.clock();
@@ -168,6 +169,7 @@ impl Station {
         requires { IsEmpty out.old }
         ensures does { Does self.old self.new out.new result (λ c s. Did (receives c s octets.now)) }
         ensures refused { RefusesForMemory result }
+        ensures places { HasFewPlaces out.old.entries out.new.entries }
     {
         if self.is_full() {
             return self.abandon(octets, out);
@@ -197,11 +199,10 @@ impl Station {
         requires empty { IsEmpty out.old }
         ensures does { Does self.old self.new out.new result (λ c s. Did (receives c s octets.now)) }
         ensures refused { RefusesForMemory result }
+        ensures places { HasFewPlaces out.old.entries out.new.entries }
     {
         steps_keep_bounds();
-        if out.entries.reserve(1).is_err() {
-            return Err(StationError::NoMemory);
-        }
+        out.reserve()?;
         let heard = self.link.abandon();
         self.link.swap_frames(&mut out.frames);
         note_down(&mut self.layer, heard.notes.down, &mut out.entries);
@@ -219,6 +220,7 @@ impl Station {
         ensures texts { OnOk result (5 ≤ self.new.texts) }
         ensures empty { IsEmpty out.new }
         ensures places { OnOk result (HasPlaces 3 out.new.entries) }
+        ensures most_places { HasFewPlaces out.old.entries out.new.entries }
         ensures refused { RefusesForMemory result }
         ensures most_texts { self.new.texts ≤ max self.old.texts 5 }
         ensures most_memory { self.new.layer.memory ≤ max self.old.layer.memory 16 }
@@ -244,6 +246,7 @@ impl Station {
         requires empty { IsEmpty out.old }
         ensures does { Does self.old self.new out.new result (λ c s. Did (receives c s octets.now)) }
         ensures refused { RefusesForMemory result }
+        ensures places { HasFewPlaces out.old.entries out.new.entries }
     {
         steps_keep_bounds();
         notes_what_changes();
