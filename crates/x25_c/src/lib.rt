@@ -405,7 +405,8 @@ pub extern "C" fn x25_send(
     number_of(answer)
 }
 
-/// Does the command that a text spells, as behind the end's name in a line of a script, and pulls behind it.
+/// Does the command that a text spells, as behind the end's name in a line of a script, and pulls behind it. One with a
+/// cause or a diagnostic is taken of any station, since typed calls are.
 ///
 /// 16 where the slot holds no station, 60 where the text spells no command, and the last answer stands; else as
 /// `Station::command`. The station is as before then.
