@@ -161,7 +161,7 @@ impl Station {
 pub(crate) fn note_down(layer: &mut Layer, down: Option<Reason>, entries: &mut Vec<Entry>)
     requires { HasPlaces 1 entries.old }
     ensures few { GrowsBy 1 entries.old entries.new }
-    ensures room { (len promised : ℕ) → HasRoom len layer.old promised → HasRoom len layer.new promised }
+    ensures room { (h len promised : ℕ) → HasRoom h len layer.old promised → HasRoom h len layer.new promised }
     ensures memory { layer.new.memory ≡ layer.old.memory }
     ensures same { down ≡ None → layer.new ≡ layer.old }
     ensures nothing { down ≡ None → entries.new ≡ entries.old }
