@@ -45,6 +45,9 @@ impl Layer {
         ensures missing { OnErr result (LacksMemory count self.old (L.promised link.old)) }
         ensures err { IfErr result (λ e. e ≡ LayerError.NoMemory) }
     {
+        if self.memory.promised() >= count && link.promised() >= count {
+            return Ok(());
+        }
         if self.memory.reserve(count).is_err() {
             return Err(LayerError::NoMemory);
         }
