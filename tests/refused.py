@@ -41,6 +41,7 @@ CASES = [
     "sim/negotiated_call",
     "sim/reset",
     "sim/restart",
+    "station/clock_asks_on",
 ]
 FIRST = 20
 NO_MEMORY, DONE_WITHOUT = "no memory", "done without"
@@ -93,7 +94,7 @@ def run(program, names, every):
     total = 0
     with tempfile.TemporaryDirectory() as folder, ThreadPoolExecutor(os.cpu_count()) as pool:
         refusing = Refusing(program, folder)
-        for case in map(golden.Case, names):
+        for case in golden.cases(names):
             count = refusing.allocations(case.words, case.input)
             numbers = chosen(count, every)
             answers = list(pool.map(lambda number: case_answer(refusing, case, number), numbers))
@@ -157,7 +158,7 @@ def main():
     parser.add_argument("--program", default=find_program(), help="the program x25 to run; else the one that was built last")
     parser.add_argument("--player", default=find_player(), help="the player x25_refusals to run; else the one that was built last")
     parser.add_argument("--every", type=int, default=1, metavar="K", help="refuse each Kth allocation; else each")
-    parser.add_argument("name", nargs="*", help="a golden case or a subject to run; else twelve cases, and the player")
+    parser.add_argument("name", nargs="*", help="a golden case or a subject to run; else thirteen cases, and the player")
     options = parser.parse_args()
     every = max(options.every, 1)
     cases, unknown = golden.chosen(options.name or CASES)

@@ -1,12 +1,16 @@
-"""Random runs of two stations, where what one answers at the packet layer doesn't come, though the link lives.
+"""Random runs of two stations, where what one answers doesn't come, at the packet layer or at all.
 
     silent_runs.py [--program PROGRAM] [--from SEED] [RUNS]
 
-Either end is `x25 station --clock`, in time that is counted, not waited for. Of one end some kinds of answers never reach the packet layer of
-the other: in their frames stands RR on a channel that isn't there. The line loses frames besides. Whatever is left out, no answer may be
-awaited at the other end for longer than the times of a call, a clearing, a restart and a set-up add up to, and no timer may run without end.
-At the mark of the station stands `due` where it awaits an answer, and only there. At the end all answers come again: a call has to be
-connected and cleared within the same time.
+Either end is `x25 station --clock`, in time that is counted, not waited for. From some moment on some kinds of answers of one end never come
+to the other: in frames of packets stands RR on a channel that isn't there, and UA, supervisory frames or all frames are lost. The line loses
+frames besides. Whatever is left out, at either end:
+
+  - a channel awaits an answer no longer than the times of a call, a clearing and a restart add up to, unless the link comes up or goes down
+  - while the link is set up, or is up and nothing comes, it comes up or goes down within N2 + 1 times T1, and T3 before where it is up
+  - at the mark of the station stands `due` where it awaits an answer, and only there, and no timer runs without end
+
+At the end all answers come again: a call has to be connected and cleared within the same time.
 
 Exit status: 0; 1 where a run fails, with its seed; 2 for bad words, or where there is no program.
 """
@@ -14,6 +18,7 @@ Exit status: 0; 1 where a run fails, with its seed; 2 for bad words, or where th
 import heapq
 import itertools
 import random
+import re
 import sys
 
 import runs
@@ -21,23 +26,29 @@ from peer_runs import Failed
 from runs import ACCEPTED, CLEAR, CLEAR_CONFIRMATION, RESET_CONFIRMATION, RESTART_CONFIRMATION
 
 from x25tools import piped  # where runs finds it
-from x25tools.circuits import Circuits
 from x25tools.x25lines import BadInput, fcs, is_sealed
 
 ENDS = ("dte", "dce")
 OTHER = {"dte": "dce", "dce": "dte"}
 DIRECTION = {"dte": ">", "dce": "<"}
-KINDS = (ACCEPTED, CLEAR, CLEAR_CONFIRMATION, RESET_CONFIRMATION, RESTART_CONFIRMATION)
+# Kinds of answers: those of packets by their octet, and of frames that bring none.
+PACKETS = (ACCEPTED, CLEAR, CLEAR_CONFIRMATION, RESET_CONFIRMATION, RESTART_CONFIRMATION)
+UA, SUPERVISORY, ALL = "UA", "supervisory frames", "all frames"
+KINDS = (*PACKETS, UA, SUPERVISORY, ALL)
 CALLS = {end: f"{end} call 12 34 -" for end in ENDS}
 CHANNELS, N2 = 3, 4
 # All times are in milliseconds.
 LATENCY = 100
 TIMES = {"t1": 1000, "t3": 7000, "t20": 20_000, "t21": 31_000, "t22": 24_000, "t23": 17_000}
-# A chain: a call, its clearing, a restart, and a link that is set up, or isn't; what is lost is sent again by T1.
-BOUND = sum(TIMES[name] for name in ("t20", "t21", "t22", "t23")) + 3 * (N2 + 1) * TIMES["t1"]
-LASTS, LOSS = 600_000, 0.1
+# How long a channel may await an answer.
+WAIT = TIMES["t21"] + TIMES["t23"] + TIMES["t20"]
+# That, and a link that is set up, or isn't; what is lost is sent again by T1.
+BOUND = WAIT + 3 * (N2 + 1) * TIMES["t1"]
+LASTS, LOSSES = 600_000, (0.02, 0.1)
 # RR on a channel that the stations don't have.
 NOTHING = bytes([0x10, 0xFF, 0x01])
+# The event of an entry, and its channel.
+NOTICE = re.compile(r"\w+ (\w+)(?: ch=(\d+))?")
 
 
 class Station(piped.Station):
@@ -50,18 +61,74 @@ class Station(piped.Station):
         return super()._mark(line)
 
 
+class Told:
+    """What the entries of an end tell: whether its link is up, and what it awaits, by channel; a restart by channel 0, the link by LINK."""
+
+    LINK = -1
+
+    def __init__(self):
+        self.is_up, self.awaited, self._sets_up = False, {}, False
+
+    def heed(self, event, channel):
+        """Takes an entry; answers whether it is of a link that comes up or goes down."""
+        if event == "relink":
+            self._sets_up = True
+        elif event in ("linkup", "linkdown"):
+            self.is_up = event == "linkup"
+            self.awaited = {0: "restart"} if self.is_up else {self.LINK: "link"} if self._sets_up else {}
+            self._sets_up = False
+            return True
+        elif event == "connect":
+            self.awaited = {self.LINK: "link"}
+        elif event == "restart" or (event, channel) == ("fault", 0):
+            # A confirmation of none is answered by a restart.
+            self.awaited = {0: "restart"}
+        elif event in ("restarted", "restartdone"):
+            self.awaited = {}
+        elif event in ("call", "clear", "reset", "fault"):
+            # After a fault the station clears or resets.
+            self.awaited[channel] = event
+        elif event in ("connected", "incoming", "cleared", "cleardone", "collided", "wasreset", "resetdone"):
+            self.awaited.pop(channel, None)
+        return False
+
+
 class End:
-    """A station, when something is due of its timers, and since when it awaits what."""
+    """A station, when something is due of its timers, since when it awaits what, and when octets came, or its link came up or went down."""
 
     def __init__(self, program, end, times, n2):
-        self.name, self.circuits = end, Circuits()
+        self.name, self.told = end, Told()
         words = [word for name, time in times.items() for word in (f"--{name}", str(time))]
         self.station = Station(program, end, ["--channels", str(CHANNELS), "--n2", str(n2), "--clock", *words])
-        self.due, self.since, self.entries = None, {}, []
+        self.setting_up = (n2 + 1) * TIMES["t1"]
+        self.due, self.since, self.heard, self.entries = None, {}, 0, []
+
+    def odd(self, now):
+        """What lasts for too long; nothing where nothing does."""
+        for channel, since in self.since.items():
+            if now - since > (self.setting_up if channel == Told.LINK else WAIT):
+                return f"{self.name} awaits {self.told.awaited[channel]} on channel {channel} since {since}"
+        is_silent = self.told.is_up and now - self.heard > TIMES["t3"] + self.setting_up
+        return f"{self.name} hears nothing since {self.heard}" if is_silent else ""
+
+
+def kind_of(octets):
+    """The kind of a frame, if that may be left out."""
+    if not is_sealed(octets) or len(octets) < 4:
+        return None
+    if len(octets) >= 7 and not octets[1] & 1:
+        return octets[4]
+    return UA if octets[1] & 0xEF == 0x63 else SUPERVISORY if octets[1] & 3 == 1 else None
+
+
+def without_packet(octets):
+    """A frame with another packet in place of its own, which the packet layer doesn't heed."""
+    body = octets[:2] + NOTHING
+    return body + fcs(body)
 
 
 class Run:
-    """Two ends and the line between them. What `deaf` names doesn't come from the other end's packet layer."""
+    """Two ends and the line between them. From some moment on what `kinds` names doesn't come to the end that `deaf` names."""
 
     TIMES, N2, ACCEPTS = TIMES, N2, 0.9
 
@@ -69,13 +136,14 @@ class Run:
         self.chance = random.Random(seed)
         self.now, self.count, self.frames = 0, itertools.count(), 0
         self.deaf = self.chance.choice(ENDS)
-        self.kinds = set(self.chance.sample(KINDS, self.chance.choice([0, 1, 1, 2, len(KINDS)])))
-        self.loss = self.chance.choice([0, LOSS])
+        self.kinds = set(self.chance.sample(KINDS, self.chance.choice([0, 1, 1, 2, len(PACKETS)])))
+        self.begins = self.chance.choice([0, self.chance.randrange(LASTS)])
+        self.loss = self.chance.choice(LOSSES)
         self.ends = {end: End(program, end, self.TIMES, self.N2) for end in ENDS}
         self.line = []
 
     def ask(self, end, event):
-        """Asks a station, behind what is due; answers its refusal."""
+        """Asks a station, after what is due; answers its refusal."""
         if end.due is not None and end.due <= self.now:
             self.heed(end, end.station.ask(f"@ {self.now}"), "the time")
         answer = end.station.ask(event, self.now)
@@ -83,23 +151,25 @@ class Run:
         return answer.refusal
 
     def heed(self, end, answer, event):
-        """The frames of an answer go on the line; what is awaited behind it is kept."""
+        """The frames of an answer go on the line; what is awaited after it is kept."""
         is_anew = False
         for notice in answer.notices:
             end.entries.append(notice)
-            word, channel = end.circuits.heed(notice)
-            is_anew = is_anew or word.startswith("link")
+            found = NOTICE.match(notice)
+            word, channel = found[1], int(found[2]) if found[2] else None
+            is_anew = end.told.heed(word, channel) or is_anew
             if word == "incoming" and self.chance.random() < self.ACCEPTS:
                 self.push(end, f"{end.name} accept {channel}")
-        awaited = end.circuits.awaited()
-        end.since = {channel: self.now if is_anew else end.since.get(channel, self.now) for channel in awaited}
+        if is_anew:
+            end.heard = self.now
+        end.since = {channel: self.now if is_anew else end.since.get(channel, self.now) for channel in end.told.awaited}
         for frame in answer.frames:
             self.sends(end, frame.octets)
         end.due = answer.due
         if end.due is not None and end.due <= self.now:
-            raise Failed(f"{end.name}: something is due at {end.due} still, behind {event} at {self.now}")
-        if end.station.work != "busy" and (end.station.work == "due") != bool(awaited):
-            raise Failed(f"{end.name}: the mark says {end.station.work}, and awaited is {awaited}, behind {event}")
+            raise Failed(f"{end.name}: something is due at {end.due} still, after {event} at {self.now}")
+        if end.station.work != "busy" and (end.station.work == "due") != bool(end.told.awaited):
+            raise Failed(f"{end.name}: the mark says {end.station.work}, and awaited is {end.told.awaited}, after {event}")
 
     def push(self, end, event):
         heapq.heappush(self.line, (self.now + LATENCY, next(self.count), end.name, event))
@@ -110,9 +180,11 @@ class Run:
         if self.chance.random() < self.loss:
             return
         to = OTHER[end.name]
-        if to == self.deaf and is_sealed(octets) and len(octets) >= 7 and not octets[1] & 1 and octets[4] in self.kinds:
-            body = octets[:2] + NOTHING
-            octets = body + fcs(body)
+        if to == self.deaf and self.now >= self.begins:
+            kind = kind_of(octets)
+            if ALL in self.kinds or kind in self.kinds and kind not in PACKETS:
+                return
+            octets = without_packet(octets) if kind in self.kinds else octets
         self.push(self.ends[to], f"{DIRECTION[end.name]} {octets.hex()}")
 
     def step(self, until):
@@ -126,13 +198,15 @@ class Run:
         self.now = when
         if end is None:
             _, _, name, event = heapq.heappop(self.line)
-            self.ask(self.ends[name], event)
+            end = self.ends[name]
+            if event[0] in "<>":
+                end.heard = self.now
+            self.ask(end, event)
         else:
             self.heed(end, end.station.ask(f"@ {self.now}"), "the time")
         for end in self.ends.values():
-            for channel, since in end.since.items():
-                if self.now - since > BOUND:
-                    raise Failed(f"{end.name} awaits {end.circuits.awaited()[channel]} on channel {channel} since {since}, at {self.now}")
+            if odd := end.odd(self.now):
+                raise Failed(f"{odd}, at {self.now}")
         return True
 
     def lasts(self, until):
@@ -164,13 +238,13 @@ class Run:
         while self.now < LASTS:
             self.lasts(self.now + int(self.chance.expovariate(1 / 5000)))
             self.command()
-        self.kinds, self.loss = set(), 0
+        self.loss, self.begins = 0, self.now + 1_000_000
         self.recovers(self.ends[self.deaf])
 
     def recovers(self, end):
         """A call, once all answers come: what is awaited has to end, and a call to be connected and cleared."""
         self.lasts(self.now + BOUND)
-        if not end.circuits.is_up:
+        if not end.told.is_up:
             self.ask(end, f"{end.name} connect")
             self.lasts(self.now + BOUND)
         self.ask(end, f"{end.name} restart")
@@ -192,8 +266,8 @@ def play(program, seed, kind=Run):
     try:
         run.play()
     except (Failed, BadInput) as failed:
-        kinds = ", ".join(f"{kind:02x}" for kind in sorted(run.kinds))
-        return [f"{failed} (deaf: {run.deaf}, of {kinds})"], run.frames
+        kinds = ", ".join(f"{kind:02x}" if kind in PACKETS else kind for kind in KINDS if kind in run.kinds)
+        return [f"{failed} (deaf: {run.deaf}, of {kinds}, from {run.begins} on)"], run.frames
     return [], run.frames
 
 

@@ -81,6 +81,7 @@ static void play(void)
 {
     static const x25_settings settings = {.k = 7, .n2 = 10, .channels = 1, .long_data = true};
     static uint8_t message[3000];
+    x25_times times;
     uint32_t number;
     asked = 0;
     dte.first = dte.next = dce.first = dce.next = dte.length = dce.length = 0;
@@ -88,6 +89,8 @@ static void play(void)
         message[i] = (uint8_t)i;
     expect("new", AGAIN(x25_new(&dte.station, X25_DTE, settings)), 0);
     expect("new", AGAIN(x25_new(&dce.station, X25_DCE, settings)), 0);
+    expect("times of a DTE", x25_standard_times(X25_DTE, &times), 0);
+    expect("times", AGAIN(x25_set_times(&dte.station, times)), 0);
     expect("connect", AGAIN(x25_connect(&dte.station)), 0);
     take(&dte);
     deliver_all();

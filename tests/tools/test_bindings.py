@@ -17,6 +17,7 @@ from program import find_library
 from fake_library import Library
 from test_c import PROTOTYPE
 
+import golden
 import tunnels
 from x25tools import linked, piped
 from x25tools.x25lines import BadInput
@@ -26,6 +27,7 @@ import x25  # where linked finds it
 BINDING = os.path.join(support.ROOT, "bindings", "python")
 RUST = os.path.join(support.ROOT, "bindings", "rust")
 LIBRARY, ARCHIVE = find_library("so"), find_library("a")
+TIMES = ("t1", "t3", "t20", "t21", "t22", "t23")
 needs_library = unittest.skipUnless(LIBRARY and ARCHIVE, "the library for C isn't built")
 
 
@@ -193,18 +195,40 @@ class Bridges(ToolCase):
 @needs_library
 @support.needs_station
 class Linked(unittest.TestCase):
-    def test_it_answers_as_the_one_behind_a_pipe(self):
-        words, settings = ["--k", "3", "--channels", "2", "--say-sizes", "--wide"], {"k": 3, "channels": 2, "say_sizes": True, "wide": True}
-        events = ["dte connect", "< 01738357", "< 03001000fb0700c478", "dte call 123 4567 41", "dte sing", "dce connect", "t1 dce", "t1 dte"]
-        events += ["dte clear 3", "> 013febdf", "< 0321a415", "< 0000", "dte disconnect", "dte connect", "dte pull"]
-        with piped.Station(support.PROGRAM, "dte", words) as one, linked.Station(LIBRARY, "dte", **settings) as other:
+    def assert_same(self, end, words, events):
+        """A station of the library, with the settings that the program's is given by words, answers as that."""
+        numbers = {word[2:]: int(number) for word, number in zip(words, words[1:]) if number.isdigit()}
+        times = {name: numbers.pop(name) for name in TIMES if name in numbers}
+        flags = {word[2:].replace("-", "_"): True for word in words if word in ("--say-sizes", "--wide")}
+        with piped.Station(support.PROGRAM, end, ["--clock", *words]) as one, linked.Station(LIBRARY, end, times, **numbers, **flags) as other:
             self.assertEqual(one.first, other.first)
             for event in events:
                 with self.subTest(event):
                     self.assertEqual(one.ask(event), other.ask(event))
 
+    def test_it_answers_as_the_one_behind_a_pipe(self):
+        events = ["dte connect", "< 01738357", "< 03001000fb0700c478", "dte call 123 4567 41", "dte sing", "dce connect", "t1 dce", "t1 dte"]
+        events += ["dte clear 3", "> 013febdf", "< 0321a415", "< 0000", "dte disconnect", "dte connect", "dte pull"]
+        self.assert_same("dte", ["--k", "3", "--channels", "2", "--say-sizes", "--wide"], events)
+
+    def test_its_clock_is_that_of_the_one_behind_a_pipe(self):
+        names = [name for name in golden.chosen(["station"])[0] if name.startswith("station/clock_") and not name.endswith("_that_are_none")]
+        self.assertGreater(len(names), 3)
+        for name in names:
+            case = golden.Case(name)
+            _, end, *words = case.words
+            with self.subTest(name):
+                self.assert_same(end, [word for word in words if word != "--clock"], case.input.decode().splitlines())
+
+    def test_an_event_at_a_time(self):
+        with linked.Station(LIBRARY, "dte", {"t1": 1000}) as station:
+            self.assertEqual(station.ask("dte connect", 70).due, 1070)
+            self.assertEqual(station.ask("dte connect", 900)[2:], ("! 12", "", False, False, 1070))
+            fired = station.ask("@ 1500")
+            self.assertEqual((fired.notices, [frame.text() for frame in fired.frames], fired.due), (["dte timeout T1"], ["> 013febdf"], 2500))
+
     def test_no_library(self):
-        with self.assertRaisesRegex(BadInput, "/nowhere"), linked.Station("/nowhere/libx25.so", "dte"):
+        with self.assertRaisesRegex(BadInput, "/nowhere"), linked.Station("/nowhere/libx25.so", "dte", {}):
             pass
 
 

@@ -20,7 +20,6 @@ from support import ToolCase
 from x25tools import bridge, places, tcp, users, wires, x25lines
 from x25tools.circuits import Circuits
 from x25tools.mishaps import Mishaps
-from x25tools.overdue import STANDARD, Overdue
 
 FAKE = os.path.join(os.path.dirname(os.path.abspath(__file__)), "fake_station.py")
 SABM, UA = "> 013febdf", "< 01738357"
@@ -70,68 +69,6 @@ class Chances(unittest.TestCase):
     def test_octets_that_are_no_frame(self):
         self.assertNotEqual(Mishaps(0, 1, 1).happen(b"\x01"), b"\x01")
         self.assertEqual(Mishaps(0, 1, 1).happen(b""), b"")
-
-
-class Deadlines(unittest.TestCase):
-    def test_what_is_overdue(self):
-        overdue = Overdue("dte", [5, 7, 8, 9])
-        overdue.heed(100, {1: "call", 2: "reset", 3: "clear", 4: "fault"})
-        self.assertEqual((overdue.due(), overdue.take(106.9)), (107, None))
-        asked = [overdue.take(110) for _ in range(5)]
-        self.assertEqual([(it.timer, it.commands) for it in asked[:2]], [("T21", ["clear 1"]), ("T22", ["clear 2"])])
-        self.assertEqual([(it.timer, it.commands) for it in asked[2:4]], [("T23", ["restart"]), ("T23", ["clear 4", "restart"])])
-        # Each is asked again when its time has passed once more.
-        self.assertEqual((asked[4], overdue.due()), (None, 117))
-        overdue.heed(111, {0: "restart"})
-        self.assertEqual((overdue.due(), overdue.take(116).commands), (116, ["relink"]))
-        overdue.heed(112, {})
-        self.assertIsNone(overdue.due())
-
-    def test_a_deadline_stands_since_what_is_awaited_is(self):
-        overdue = Overdue("dce", [None] * 4)
-        self.assertEqual(STANDARD["dce"], (60, 180, 60, 60))
-        overdue.heed(0, {1: "call"})
-        overdue.heed(100, {1: "call", 2: "clear"})
-        self.assertEqual(overdue.due(), 160)
-        overdue.heed(100, {1: "call"})
-        self.assertEqual((overdue.due(), overdue.take(180).timer), (180, "T11"))
-        # Another thing, and a link that came up or went down, begin it anew.
-        overdue.heed(190, {1: "clear"})
-        self.assertEqual(overdue.due(), 250)
-        overdue.heed(200, {1: "clear"}, True)
-        self.assertEqual(overdue.due(), 260)
-
-    def test_a_time_of_nothing_is_for_ever(self):
-        overdue = Overdue("dte", [0, 0, 0, 0])
-        overdue.heed(0, {1: "call", 2: "fault"})
-        self.assertEqual((overdue.due(), overdue.take(1e9)), (None, None))
-
-    def test_what_is_awaited(self):
-        """What the station says, entry by entry, and of what it awaits an answer then."""
-        circuits, restart = Circuits(), {0: "restart"}
-        for notice, awaited in [
-            ("dte connect", {}),
-            ("dte linkup", restart),
-            ("dte restarted", {}),
-            ("dte call ch=1", {1: "call"}),
-            ("dte incoming ch=2", {1: "call"}),
-            ("dte accept ch=2", {1: "call"}),
-            ("dte reset ch=2", {1: "call", 2: "reset"}),
-            ("dte resetdone ch=2", {1: "call"}),
-            ("dte fault ch=2 diag=1", {1: "call", 2: "fault"}),
-            ("dte clear ch=2", {1: "call", 2: "clear"}),
-            ("dte cleardone ch=2", {1: "call"}),
-            ("dte connected ch=1", {}),
-            ("dte restart", restart),
-            ("dte relink", restart),
-            ("dte linkdown local", {}),
-            ("dte linkup", restart),
-            ("dte restartdone", {}),
-            ("dte fault ch=0 diag=19", restart),
-            ("dte linkdown retries", {}),
-        ]:
-            circuits.heed(notice)
-            self.assertEqual(circuits.awaited(), awaited, notice)
 
 
 class Forms(unittest.TestCase):
@@ -318,7 +255,8 @@ class Joined(ToolCase):
         times = [when for when, _ in self.asked()]
         self.assertEqual(len(times), 3)
         for before, after in zip(times, times[1:]):
-            self.assertGreaterEqual(after - before, 0.4)
+            # The time is told before the station is asked, and is that of the deadline.
+            self.assertGreaterEqual(after - before, 0.3)
 
     def test_on_leaves_t1_as_it_is(self):
         self.begin(f". off busy\n= dte connect\n{SABM}\n. start busy\n= {UA}\n. on busy\n= t1 dte\n. off idle\n", "--t1", "2", user=b"dte connect\n")
@@ -327,7 +265,7 @@ class Joined(ToolCase):
         self.sends(UA)
         self.assertEqual(self.end()[0], 0)
         times = [when for when, _ in self.asked()]
-        self.assertGreaterEqual(times[2] - times[0], 2)
+        self.assertGreaterEqual(times[2] - times[0], 1.9)
         self.assertLess(times[2] - times[1], 2)
 
     def test_off_drops_t1(self):
@@ -690,8 +628,8 @@ class Joined(ToolCase):
         """By a poll, with a circuit or without one, and again only when nothing came for as long once more."""
         for entries in ("dte restarted", "dte connected ch=3"):
             with self.subTest(entries):
-                answers = f". off idle\n= {UA}\ndte linkup\n{entries}\n. off idle\n= dte probe\n{RESTARTED}\n. start busy\n"
-                self.begin(answers + f"= {UA}\n. off idle\n= dte probe\n. off idle\n", "--t3", "0.5", "--t1", "60", "--stay")
+                answers = f". off idle\n= {UA}\ndte linkup\n{entries}\n. +500 idle\n= probe\ndte timeout T3\n{RESTARTED}\n. start busy\n"
+                self.begin(answers + f"= {UA}\n. +500 idle\n= probe\ndte timeout T3\n. off idle\n", "--t3", "0.5", "--t1", "60", "--stay")
                 self.sends(UA)
                 self.assertEqual(self.gets(), RESTARTED)
                 self.sends(UA)
@@ -714,11 +652,11 @@ class Joined(ToolCase):
 
     def test_an_answer_that_is_overdue(self):
         """The call is cleared, then the station restarts, then the link is set up anew, and that begins again: nothing waits for ever."""
-        call, clear = "dte call 1 12 - - - - - -", "dte clear 1"
-        answers = f". off idle\n= {UA}\ndte linkup\ndte restarted\n. off idle\n= {call}\ndte call ch=1\n. off due\n"
-        answers += f"= {clear}\ndte clear ch=1\n. off due\n= dte restart\ndte restart\n. off due\n"
-        answers += "= dte relink\ndte relink\ndte linkdown local\n. start busy\n"
-        answers += f"= {UA}\ndte linkup\n. off due\n= dte relink\n. start busy\n"
+        call = "dte call 1 12 - - - - - -"
+        answers = f". off idle\n= {UA}\ndte linkup\ndte restarted\n. off idle\n= {call}\ndte call ch=1\n. +600 due\n"
+        answers += f"= clear\ndte timeout T21 ch=1\ndte clear ch=1\n. +700 due\n= restart\ndte timeout T23 ch=1\ndte restart\n. +500 due\n"
+        answers += "= relink\ndte timeout T20\ndte relink\ndte linkdown local\n. start busy\n"
+        answers += f"= {UA}\ndte linkup\n. +500 due\n= relink\ndte timeout T20\n. start busy\n"
         self.begin(answers, "--t3", "0", "--t1", "60", "--t20", "0.5", "--t21", "0.6", "--t22", "0", "--t23", "0.7", "--stay", is_left_open=True)
         self.sends(UA)
         self.child.stdin.write(f"{call}\n".encode())
@@ -735,17 +673,17 @@ class Joined(ToolCase):
         self.assertEqual(said[2:4], ["# T20 has passed: the restart isn't confirmed"] * 2)
 
     def test_what_is_overdue_is_refused(self):
-        """Behind a fault a clearing is out, or else a restart; one that is refused is told, and asked again."""
-        answers = f". off idle\n= {UA}\ndte linkup\ndte restarted\n. off idle\n= {CALLED}\ndte incoming ch=1\ndte fault ch=1 diag=1\n. off due\n"
-        answers += "= dte clear 1\n! 30\n. off due\n= dte restart\n! 40\n. off due\n"
-        self.begin(answers + "= dte clear 1\ndte clear ch=1\n. off due\n", "--t3", "0", "--t23", "0.3", "--stay")
+        """It is told, and a reset is named too."""
+        answers = f". off idle\n= {UA}\ndte linkup\ndte restarted\n. off idle\n= {CALLED}\ndte incoming ch=1\ndte fault ch=1 diag=1\n. +300 due\n"
+        answers += "= clear\ndce timeout T12 ch=1\n! 10\n. +300 due\n"
+        self.begin(answers + "= clear\ndce timeout T12 ch=1\ndte clear ch=1\n. off due\n", "--t3", "0", "--t22", "0.3", "--stay")
         self.sends(UA)
         self.sends(CALLED)
-        self.assertEqual([event for _, event in self.asked(5)][2:], ["dte clear 1", "dte restart", "dte clear 1"])
+        self.asked(4)
         self.child.terminate()
         notices = self.end()[1]
-        self.assertIn("# T23 has passed: channel 1 isn't reset or cleared behind a fault", notices)
-        self.assertIn("# restart is refused: a restart is under way", notices)
+        self.assertEqual(notices.count("# T12 has passed: the reset of channel 1 isn't confirmed"), 2)
+        self.assertIn("# what is asked as a timer passed is refused: 256 packets wait", notices)
 
     def test_a_reader_of_notices_that_stalls(self):
         """T1 and frames go on, the channel by which messages come is held, and comes again when the reader has read."""
@@ -791,7 +729,11 @@ class Joined(ToolCase):
         self.assertEqual(self.end(), (0, ["dte linkup"], ""))
 
     def test_words_of_the_station(self):
-        for words, given in ((["--k", "3", "--long"], ["--k", "3", "--channels", "1", "--long", "--wide"]), (["--no-wide"], ["--channels", "1"])):
+        times = ["--t1", "1000", "--t3", "60000"]
+        for words, given in (
+            (["--k", "3", "--long"], ["--k", "3", "--channels", "1", *times, "--long", "--wide", "--clock"]),
+            (["--no-wide", "--t1", "0.0015", "--t3", "0", "--t21", "7"], ["--channels", "1", "--t1", "2", "--t3", "0", "--t21", "7000", "--clock"]),
+        ):
             parser = argparse.ArgumentParser()
             bridge.add_station_words(parser)
             bridge.add_line_words(parser)
@@ -864,7 +806,7 @@ class Other(ToolCase):
         self.assert_refused(support.run("bridge.py", "dte", "--listen", "0", "--x25", "/bin/false"), "without a mark")
 
     def test_a_first_mark_that_is_none(self):
-        for answer in (". off", ". maybe idle", "hello", ". on idle"):
+        for answer in (". off", ". maybe idle", "hello", ". 1x idle"):
             with self.subTest(answer):
                 self.assertEqual(support.run("bridge.py", "dte", "--udp", "0:1", "--x25", self.program(f"{answer}\n")).returncode, 2)
 

@@ -172,6 +172,13 @@ class Two(ToolCase):
         self.assertTrue(line, f"{beginning} didn't come")
         return line
 
+    def hears_all(self, child, *beginnings):
+        """Notices that begin so, in any order."""
+        left = list(beginnings)
+        while left:
+            line = self.hears(child, tuple(left))
+            left = [beginning for beginning in left if not line.startswith(beginning)]
+
     @staticmethod
     def asks(child, *commands):
         child.stdin.write("".join(f"{command}\n" for command in commands))
@@ -274,9 +281,7 @@ class Two(ToolCase):
                 self.finish(dce)
                 dce = self.begin("dce", "--listen", port, "--stay", "--t1", "0.3", "--n2", "5")
                 dce.stderr.readline()
-                self.hears(dte, "# the connection has ended")
-                if stage != 1:
-                    self.hears(dte, "dte linkdown")
+                self.hears_all(dte, "# the connection has ended", "# connected to", *["dte linkdown"][: stage != 1])
         self.open_call(dte, dce)
         self.finish(dte, dce)
 

@@ -45,8 +45,8 @@ def data(number, text, more=0, channel=1, acknowledged=0):
 def joined(frames, due=None):
     """Sort and octets of what frames, each direction and text, complete."""
     line = messages.Messages(due)
-    found = [it for frame in frames for _, it in line.take([" ".join(frame)])]
-    return [(sort, octets.decode()) for _, _, sort, octets, _ in [*found, *line.end()]]
+    found = [it for frame in frames for it in line.take([("", " ".join(frame))])]
+    return [(sort, bytes.fromhex(digits).decode()) for _, _, _, sort, digits, _ in [*found, *line.end()]]
 
 
 def shown_messages(text):
@@ -109,7 +109,7 @@ class Names(unittest.TestCase):
 
 class Joining(unittest.TestCase):
     def test_data_with_d_is_joined(self):
-        frames = (">", data(0, "a", 1)), (">", data(1, "b").replace(" Q=0", " Q=0 D=1") + messages.WIDE)
+        frames = (">", data(0, "a", 1)), (">", data(1, "b").replace(" Q=0", " Q=0 D=1") + " ~ wide")
         self.assertEqual(joined(frames, 0), [("message", "ab")])
 
     def test_a_link_modulo_128_is_none_that_is_set_up(self):
@@ -158,7 +158,9 @@ class Rows(unittest.TestCase):
     def test_rows_that_are_laid_out_together(self):
         octets = bytes(range(256)) * 257
         many = [octets[-count:] for count in (*range(1, 40), 4096, 65535, 65536, 65537)] + [b"", b"  "]
-        self.assertEqual(messages.all_dumped(many), [messages.dumped(it) for it in many])
+        for some in many, many[:40]:
+            rows = messages.all_dumped([it.hex() for it in some])
+            self.assertEqual(rows, [f"\n{messages.dumped(it)}" if it else "" for it in some])
         self.assertEqual(messages.dumped(b"a\xff" * 9), "    0000 " + " 61 ff" * 8 + "  a." + "a." * 7 + "\n    0010  61 ff" + " " * 44 + "a.")
 
 
@@ -188,6 +190,12 @@ class Dump(ToolCase):
         # A capture begins with the octet of an empty line too.
         self.assertEqual(self.dump(b"\n" + given), "\n" + given.decode())
         self.assertEqual(self.dump(given, "--messages"), "")
+
+    def test_data_that_is_no_digits(self):
+        for digits in b"x", b"abc", b"", b"--":
+            given = f"> {data(0, 'a')}\n".encode().replace(b"61", digits)
+            for words in [], ["--messages"], ["--stats"]:
+                self.assertEqual(self.dump(given, *words, status=1).splitlines()[:1], [] if words else ["? 60 no such line"])
 
     @support.needs_program
     def test_times_of_the_day(self):
@@ -285,7 +293,7 @@ class Dump(ToolCase):
     @support.needs_program
     def test_a_broken_rule_stands_behind_its_frame(self):
         for name, words, status in (("repeats_with_other_octets", [], 1), ("repeats", [], 0), ("over_window", ["--k", "2"], 0)):
-            case = golden.Case(f"judge/{name}")
+            case, = golden.cases([f"judge/{name}"])
             given, expected = case.input, case.output
             for more, answered in ([], status), (["--manners"], 1):
                 self.assertEqual(self.dump(given, "--judge", *words, *more, "--x25", support.PROGRAM, status=answered), expected.decode())

@@ -1,18 +1,76 @@
-"""Tests of two stations with clocks where what one answers at the packet layer doesn't come, with timers for that and without them."""
+"""Tests of two stations with clocks where some of what one answers doesn't come, and of a bridge whose other end is silenced."""
 
+import itertools
+import os
+import select
+import socket
+import subprocess
+import sys
+import time
 import unittest
+from concurrent.futures import ThreadPoolExecutor
 
 import support
 
 import silent_runs
+from silent_runs import ENDS, OTHER
+from x25tools.piped import Station
 
 RUNS = 4
+# What leads to each state of a circuit, asked of the end that hears less, or of the other one; and what can be asked there.
+IN_A_CALL = ("call", "clear {}", "restart", "relink")
+OPEN = (*IN_A_CALL, "reset {}", "send {} 0 4142")
+STATES = {
+    "down": ((), ("connect",)),
+    "free": (("connect",), ("call", "restart", "relink")),
+    "calling": (("connect", "call"), IN_A_CALL),
+    "called": (("connect", "other call"), (*IN_A_CALL, "accept {}")),
+    "open": (("connect", "call", "other accept {}"), OPEN),
+    "open for the other": (("connect", "other call", "accept {}"), OPEN),
+}
+
+
+class NoT1(silent_runs.Run):
+    TIMES = {**silent_runs.TIMES, "t1": 0}
+
+
+class NoT3(silent_runs.Run):
+    TIMES = {**silent_runs.TIMES, "t3": 0}
 
 
 class AsksNothing(silent_runs.Run):
-    """T20 to T23 are for ever: nothing is asked."""
-
     TIMES = {**silent_runs.TIMES, "t20": 0, "t21": 0, "t22": 0, "t23": 0}
+
+
+class Leaves(silent_runs.Run):
+    """One kind of answer is left out from a state on, in which something is asked."""
+
+    ACCEPTS = 0
+
+    def __init__(self, program, deaf, kind, state, asked):
+        super().__init__(program, 0)
+        self.deaf, self.kinds, self.loss, self.begins = deaf, {kind}, 0, silent_runs.LASTS
+        self.state, self.asked = state, asked
+
+    def says(self, words):
+        """Asks for something, which isn't refused."""
+        command = words.removeprefix("other ")
+        end = self.ends[OTHER[self.deaf] if words.startswith("other ") else self.deaf]
+        # A DTE calls on the highest channel, a DCE on the lowest.
+        caller = self.deaf if self.state in ("calling", "open") else OTHER[self.deaf]
+        channel = silent_runs.CHANNELS if caller == "dte" else 1
+        event = silent_runs.CALLS[end.name] if command == "call" else f"{end.name} {command.format(channel)}"
+        if refusal := self.ask(end, event):
+            raise silent_runs.Failed(f"{event}: {refusal}")
+
+    def plays(self):
+        for words in STATES[self.state][0]:
+            self.says(words)
+            self.lasts(self.now + 1500)
+        self.begins = self.now
+        self.says(self.asked)
+        self.lasts(self.now + silent_runs.BOUND)
+        return self.ends[self.deaf].told.awaited
 
 
 class Heals(silent_runs.Run):
@@ -40,8 +98,16 @@ class SilentPeers(unittest.TestCase):
     def test_nothing_is_awaited_for_ever(self):
         self.assertEqual([silent_runs.play(support.PROGRAM, seed)[0] for seed in range(RUNS)], [[]] * RUNS)
 
-    def test_it_is_where_nothing_is_asked(self):
-        self.assertTrue(any(silent_runs.play(support.PROGRAM, seed, AsksNothing)[0] for seed in range(RUNS)))
+    def test_nothing_is_in_any_state_whatever_is_left_out(self):
+        for deaf, kind, state in itertools.product(ENDS, silent_runs.KINDS, STATES):
+            for asked in STATES[state][1]:
+                with self.subTest(deaf=deaf, kind=kind, state=state, asked=asked):
+                    self.assertEqual(Leaves(support.PROGRAM, deaf, kind, state, asked).play(), {})
+
+    def test_it_is_where_a_timer_is_for_ever(self):
+        for kind, why in ((NoT1, "awaits link|hears nothing since"), (NoT3, "hears nothing since"), (AsksNothing, "awaits (restart|call|reset|clear|fault) on channel")):
+            with self.subTest(kind.__name__):
+                self.assertRegex("\n".join(line for seed in range(RUNS) for line in silent_runs.play(support.PROGRAM, seed, kind)[0]), why)
 
     def test_losses_heal(self):
         messages = [f"{number:04x}" for number in range(Heals.MESSAGES)]
@@ -50,6 +116,130 @@ class SilentPeers(unittest.TestCase):
                 run = Heals(support.PROGRAM, seed)
                 self.assertEqual(run.play(), [messages] * 2)
                 self.assertTrue(all(any("timeout T1" in entry for entry in end.entries) for end in run.ends.values()))
+
+
+# What leads a bridge to each state, asked of it or of the station at the other end, and what it tells then; `hush` keeps the other end's
+# packets from it from then on.
+RESTARTED = [("connect", "restarted")]
+CALLED = [*RESTARTED, ("other call 1 2 -", "incoming"), ("accept 1", "accept")]
+WAYS = {
+    "down": [],
+    "set up": [("hush", ""), ("connect", "linkup")],
+    "free": RESTARTED,
+    "calling": [*RESTARTED, ("hush", ""), ("call 1 2 -", "call")],
+    "called": CALLED[:-1],
+    "open": CALLED,
+    "resetting": [*CALLED, ("hush", ""), ("reset 1", "reset")],
+    "clearing": [*CALLED, ("hush", ""), ("clear 1", "clear")],
+    "restarting": [*CALLED, ("hush", ""), ("restart", "restart")],
+}
+# What is asked there, so that an answer is awaited.
+ASKS = {"down": "connect", "free": "restart", "called": "clear 1", "open": "clear 1"}
+# How the other end is silenced: its packet layer alone, a cable that is cut, a connection that ends.
+MANNERS = ("packets", "cable", "connection")
+SECONDS = {"t1": 0.5, "t3": 1, "t20": 1, "t21": 1, "t22": 1, "t23": 1}
+# Before the link is told down: the times of a call, a clearing and a restart, or T3 and four times T1; on a machine that does much else.
+LONGEST = 5 * max(1 + 1 + 1, 1 + 4 * 0.5)
+
+
+class Silenced:
+    """A bridge, and the station at the other end of its line, which is silenced in some way."""
+
+    def __init__(self, end):
+        self.end, self.manner, self.told = end, None, []
+        self.far = Station(support.PROGRAM, OTHER[end])
+        self.server = socket.create_server(("127.0.0.1", 0))
+        times = [word for name, time in SECONDS.items() for word in (f"--{name}", str(time))]
+        line = ["--connect", f"127.0.0.1:{self.server.getsockname()[1]}", "--retry", "--stay"]
+        command = [sys.executable, os.path.join(support.TOOLS, "bridge.py"), end, "--x25", support.PROGRAM, "--n2", "3", *times, *line]
+        self.child = subprocess.Popen(command, stdin=subprocess.PIPE, stdout=subprocess.PIPE)
+        self.line = self.server.accept()[0]
+        self.rests = {self.line: b"", self.child.stdout: b""}
+
+    def __enter__(self):
+        self.far.begin()
+        return self
+
+    def __exit__(self, *_):
+        self.child.kill()
+        self.child.communicate()
+        self.far.__exit__()
+        self.line.close()
+        self.server.close()
+
+    def goes(self, state, manner):
+        """Goes to a state, and is silenced there; answers True where the link is told down in time, else what came."""
+        for words, event in WAYS[state]:
+            if words == "hush":
+                self.manner = "packets"
+            elif not self.asks(words, event):
+                return f"nothing came of {words}: {self.told}"
+        self.manner = manner
+        if manner == "connection":
+            del self.rests[self.line]
+            self.line.close()
+            self.server.close()
+        return self.asks(ASKS.get(state, ""), "linkdown") or f"the link isn't down: {self.told}"
+
+    def asks(self, words, event):
+        """Whether an event is told, as something is asked."""
+        self.told.clear()
+        last = time.monotonic() + LONGEST
+        if words.startswith("other "):
+            # It may await that its restart is confirmed.
+            while self.takes(f"{OTHER[self.end]} {words.removeprefix('other ')}") and self.turn(last - time.monotonic()):
+                pass
+        elif words:
+            self.child.stdin.write(f"{self.end} {words}\n".encode())
+            self.child.stdin.flush()
+        while event not in self.told and self.turn(last - time.monotonic()):
+            pass
+        return event in self.told
+
+    def turn(self, seconds):
+        """Takes what comes of the bridge; answers whether something came in time."""
+        ready = select.select(list(self.rests), [], [], max(0, seconds))[0]
+        for file in ready:
+            octets = os.read(file.fileno(), 65536)
+            if not octets:
+                return False
+            *lines, self.rests[file] = (self.rests[file] + octets).split(b"\n")
+            for line in lines:
+                if file is self.line:
+                    self.takes(line.decode())
+                else:
+                    self.told.append(line.decode().split(" ")[1])
+        return bool(ready)
+
+    def takes(self, event):
+        """Something happens to the other end, unless its cable is cut; what it sends goes to the bridge. Answers its refusal."""
+        if self.manner == "cable":
+            return None
+        answer = self.far.ask(event)
+        for frame in answer.frames:
+            octets = frame.octets
+            if self.manner == "packets" and len(octets) >= 7 and not octets[1] & 1:
+                octets = silent_runs.without_packet(octets)
+            self.line.sendall(frame._replace(octets=octets).text().encode() + b"\n")
+        return answer.refusal
+
+
+@support.needs_station
+class SilencedBridges(unittest.TestCase):
+    def test_the_link_is_told_down_in_each_state(self):
+        """Or nothing is awaited any more: whatever the state, at either end, as the other end's packet layer or its line is silenced."""
+
+        def goes(row):
+            end, state, manner = row
+            with Silenced(end) as silenced:
+                return silenced.goes(state, manner)
+
+        # Without a connection `connect` waits.
+        rows = [row for row in itertools.product(ENDS, WAYS, MANNERS) if row[1:] != ("down", "connection")]
+        with ThreadPoolExecutor(16) as pool:
+            for row, came in zip(rows, pool.map(goes, rows)):
+                with self.subTest(row):
+                    self.assertIs(came, True)
 
 
 if __name__ == "__main__":

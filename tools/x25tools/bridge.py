@@ -1,4 +1,4 @@
-"""Runs a station, `x25 station`, with a clock for timer T1, and joins it to a line; its user writes commands and reads notices.
+"""Runs a station, `x25 station --clock`, and joins it to a line; its user writes commands and reads notices.
 
     printf 'wait dce incoming\\ndce accept 1\\n' | bridge.py dce --listen 7000
     printf 'dte connect\\nwait dte restarted\\ndte call 123 4567 41\\nwait dte connected\\n' | bridge.py dte --connect localhost:7000
@@ -67,12 +67,12 @@ import select
 import sys
 import time
 from collections import Counter
+from math import ceil
 from typing import IO, TYPE_CHECKING, Union
 
 from x25tools import decoding, piped, wires, x25lines, x25names, xot_wire
 from x25tools.circuits import Circuits
 from x25tools.mishaps import Mishaps
-from x25tools.overdue import STANDARD, Overdue
 from x25tools.places import host_and_port, ports, within, xot_host
 from x25tools.users import SLOW, Outlet, Signals, User, Written, kind
 from x25tools.x25lines import BadInput, FrameLine
@@ -101,6 +101,21 @@ SABME, DISC, P_OR_F = 0x6F, 0x43, 0x10
 # A call, and an acceptance, with the two packet sizes that they may say.
 SIZED = re.compile(r"(?:call \S+ \S+ \S+|accept (?P<channel>\d+))(?: (?P<called>\d{1,3}) (?P<calling>\d{1,3}) \d+ \d+)?")
 SENDS = re.compile(r"\w+ send ")
+TIMEOUT = re.compile(r"\w+ timeout (?P<timer>T\d+)(?: ch=(?P<channel>\d+))?")
+# What it means that a timer of the packet layer has passed, by the last figure of its name.
+OVERDUE = {
+    "0": "the restart isn't confirmed",
+    "1": "the call on channel {} isn't answered",
+    "2": "the reset of channel {} isn't confirmed",
+    "3": "the clearing of channel {} isn't confirmed",
+}
+# The options of these timers.
+ANSWERS = {
+    "t20": "a restart waits for its answer (180, at a DCE 60)",
+    "t21": "a call waits for its answer (200, at a DCE 180)",
+    "t22": "a reset waits for its answer (180, at a DCE 60)",
+    "t23": "a clearing waits for its answer (180, at a DCE 60)",
+}
 READY = re.compile(r"\w+ (?:not)?ready (\d+)")
 
 
@@ -124,7 +139,7 @@ def as_disc(octets: bytes) -> bytes:
 
 
 class Bridge:
-    """A station, its line and its user, and the deadline of T1. `status` is what the script ends with."""
+    """A station, its line and its user, and when its timers pass. `status` is what the script ends with."""
 
     def __init__(self, station: Station, wire: wires.Wire, user: User, options: argparse.Namespace, trace: Outlet | None, signals: Signals) -> None:
         self._station, self._wire, self._user, self._options, self._trace, self._signals = station, wire, user, options, trace, signals
@@ -134,12 +149,14 @@ class Bridge:
         self._quiet = quiet(options)
         self._outlets = [it for it in (user.notices, trace) if it is not None]
         self._circuits = Circuits()
-        self._overdue = Overdue(options.end, (options.t20, options.t21, options.t22, options.t23))
-        self._deadline, self._is_idle = None, False
+        # When something is due of the station's timers, in milliseconds from when the bridge began; whether an answer is due.
+        self._began = time.monotonic()
+        self._due: int | None = None
+        self._is_idle = self._awaits = False
         self._is_full = False
         self._held: set[int] = set()
         self._unknown: set[int] = set()
-        self._last_frame = self._last_came = time.monotonic()
+        self._last_frame = time.monotonic()
         # Whether the link was ended here, and until when an answer to that, or to what T1 sent again, may come.
         self._is_dead, self._answers = False, [0, 0]
         self._leaves = None
@@ -188,7 +205,7 @@ class Bridge:
         if self._leaves is None and (self._command() is not None or self._has_caught_up() or self._in_vain()):
             return 0
         now = time.monotonic()
-        own = [self._leaves] if self._leaves is not None else [self._deadline, self._probing(), self._overdue.due(), *self._waits()]
+        own = [self._leaves] if self._leaves is not None else [self._passes(), *self._waits()]
         times = [at for at in (self._wire.due, *own) if at is not None]
         if self._is_settling():
             times.append(max(self._answers))
@@ -197,14 +214,10 @@ class Bridge:
         return max(0, min(times) - now) if times else None
 
     def _act(self) -> None:
-        """Where nothing came: T1, or what is asked where an answer is overdue or nothing came for T3, or else a command."""
-        now, probing = time.monotonic(), self._probing()
-        if self._deadline is not None and now >= self._deadline:
-            self._fire()
-        elif overdue := self._overdue.take(now):
-            self._insist(*overdue)
-        elif probing is not None and now >= probing:
-            self._probe()
+        """Where nothing came: what is due of the station's timers, or else a command."""
+        now, passes = time.monotonic(), self._passes()
+        if passes is not None and now >= passes:
+            self._pass()
         elif self._has_caught_up():
             self._release()
         elif (command := self._command()) is not None:
@@ -247,7 +260,7 @@ class Bridge:
 
     def _is_at_rest(self) -> bool:
         """Whether nothing is left to do here, if nothing comes any more."""
-        is_still = (self._is_idle or not self._circuits.is_up) and self._deadline is None and not self._wire.waits and not self._user.notices
+        is_still = (self._is_idle or not self._circuits.is_up and self._due is None) and not self._wire.waits and not self._user.notices
         return not self._options.stay and self._wire.has_begun and self._user.has_done() and is_still
 
     def _has_ended(self) -> bool:
@@ -267,12 +280,12 @@ class Bridge:
         """Ends the link, and the bridge once that is answered, or T1 later."""
         self._leaves = time.monotonic() + self._options.t1
         self.status = 128 + self._signals.number if self._signals.number else self.status
-        if self._circuits.is_up or self._deadline is not None:
-            self._heed(self._station.ask(f"{self._end} disconnect"))
+        if self._circuits.is_up or self._due is not None:
+            self._heed(self._asked(f"{self._end} disconnect"))
 
     def _receive(self, octets: bytes) -> None:
         """A frame came over the line."""
-        self._last_frame = self._last_came = time.monotonic()
+        self._last_frame = time.monotonic()
         self.counts["came"] += 1
         self._note(OTHER[self._direction], octets)
         befallen = self._befallen(octets, self._coming)
@@ -281,7 +294,7 @@ class Bridge:
         octets = befallen
         self._make_room()
         heard = as_disc(octets) if self._is_down() else octets
-        answer = self._station.ask(FrameLine(OTHER[self._direction], heard).text())
+        answer = self._asked(FrameLine(OTHER[self._direction], heard).text())
         if answer.refusal is not None:
             self._user.note(f"the station takes no frame of {len(octets):,} octets: it is lost")
         self._heed(answer)
@@ -291,7 +304,7 @@ class Bridge:
 
     def _is_down(self) -> bool:
         """Whether SABME is to be answered by DM, which is what DISC is answered by: then the other end goes on by SABM (2.4.4.1)."""
-        return self._options.wide and not self._circuits.is_up and self._deadline is None
+        return self._options.wide and not self._circuits.is_up and self._due is None
 
     def _look_for_channel(self, octets: bytes) -> None:
         """Tells of a call on a channel that the station doesn't have, once for each: nothing answers it."""
@@ -306,38 +319,35 @@ class Bridge:
         self._is_full = False
         self._user.commands.make_room()
 
-    def _fire(self) -> None:
-        """T1 runs out. Where the link goes down by it, no frame comes, so what waited for one is asked again."""
-        self._deadline = None
+    def _now(self) -> int:
+        """The time that the station is told, in milliseconds."""
+        return int(1000 * (time.monotonic() - self._began))
+
+    def _asked(self, event: str) -> Answer:
+        """What the station answers to an event at this time, though before anything is due: that waits until all that came is read."""
+        now = self._now()
+        return self._station.ask(event, now if self._due is None else min(now, self._due - 1))
+
+    def _passes(self) -> float | None:
+        """When something is due of the station's timers; None where nothing is, or nothing is left to do but to see whether the line is there."""
+        is_over = self._is_at_rest() and not self._awaits
+        return None if self._due is None or is_over else self._began + self._due / 1000
+
+    def _pass(self) -> None:
+        """The station asks for what is due. Where the link goes down by it, no frame comes, so what waited for one is asked again."""
         self._make_room()
-        self._answers[1] = time.monotonic() + self._options.t1
-        self.counts["fired"] += 1
-        answer = self._station.ask(f"t1 {self._end}")
+        answer = self._station.ask(f"@ {self._now()}")
         self._heed(answer)
         if answer.refusal is not None:
-            raise BadInput(f"the station refused a firing of T1, which ran: {answer.refusal}")
+            self._user.note(f"what is asked as a timer passed is refused: {x25names.refusal(answer.refusal)}")
 
-    def _probing(self) -> float | None:
-        """When the other end is asked whether it is there; None where the link isn't up, or T1 asks already."""
-        is_needed = self._options.t3 and self._circuits.is_up and self._deadline is None and self._leaves is None and not self._is_at_rest()
-        return self._last_came + self._options.t3 if is_needed else None
-
-    def _probe(self) -> None:
-        """Polls the other end, which has to answer."""
-        self._last_came = time.monotonic()
-        self._heed(self._station.ask(f"{self._end} probe"))
-
-    def _insist(self, timer: str, why: str, commands: list[str]) -> None:
-        """An answer is overdue: the next wider thing is asked."""
-        self._user.note(f"{timer} has passed: {why}")
-        self._make_room()
-        for command in commands:
-            answer = self._station.ask(f"{self._end} {command}")
-            self._heed(answer)
-            if answer.refusal is None:
-                return
-        assert answer.refusal
-        self._user.note(f"{commands[-1]} is refused: {x25names.refusal(answer.refusal)}")
+    def _heed_timeout(self, timer: str, channel: str) -> None:
+        """A timer of the station has passed."""
+        if timer == "T1":
+            self._answers[1] = time.monotonic() + self._options.t1
+            self.counts["fired"] += 1
+        elif timer != "T3":
+            self._user.note(f"{timer} has passed: {OVERDUE[timer[-1]].format(channel)}")
 
     def _has_caught_up(self) -> bool:
         """Whether channels are held for the reader of notices, and he has read."""
@@ -347,7 +357,7 @@ class Bridge:
         """What was held for the reader of notices comes again."""
         held, self._held = sorted(self._held & self._circuits.not_ready), set()
         for channel in held:
-            self._heed(self._station.ask(f"{self._end} ready {channel}"))
+            self._heed(self._asked(f"{self._end} ready {channel}"))
 
     def _ask(self, command: str) -> None:
         """The user asks for something."""
@@ -357,10 +367,10 @@ class Bridge:
             self._user.commands.take()
             self._refuse(refusal, why, command)
             return
-        answer = self._station.ask(command)
+        answer = self._asked(command)
         if answer.refusal == DEAD:
             self._begin_anew()
-            answer = self._station.ask(command)
+            answer = self._asked(command)
         self._is_full = answer.refusal == FULL
         if answer.refusal == CIRCUIT_FULL:
             self._user.commands.have_no_room()
@@ -398,30 +408,25 @@ class Bridge:
         """A station that has ended its link is so for good: another one begins."""
         self._station.begin()
         self._circuits, self._held = Circuits(), set()
-        self._deadline, self._is_dead = None, False
+        self._is_dead = False
         self._heed(self._station.first)
 
     def _heed(self, answer: Answer) -> None:
-        """Tells and sends what the station answers, and sets the deadline as its mark says."""
-        slow, is_anew = set(), False
+        """Tells and sends what the station answers, and keeps when something is due, as its mark says."""
+        slow = set()
         for notice in answer.notices:
+            if found := TIMEOUT.fullmatch(notice):
+                self._heed_timeout(found["timer"], found["channel"])
+                continue
             event, channel = self._circuits.heed(notice)
-            is_anew = is_anew or event.startswith("link")
             if event == "disconnect":
                 self._is_dead, self._answers[0] = True, time.monotonic() + self._options.t1
             self._user.tell(notice)
             if event == "message" and channel is not None and self._user.notices.is_slow():
                 slow.add(channel)
-        self._overdue.heed(time.monotonic(), self._circuits.awaited(), is_anew)
         for frame in answer.frames:
             self._send(frame.octets)
-        if answer.t1 == "start":
-            self._deadline = time.monotonic() + self._options.t1
-        elif answer.t1 == "off":
-            self._deadline = None
-        elif self._deadline is None:
-            raise BadInput("the station left T1 running, which wasn't")
-        self._is_idle = answer.is_idle
+        self._due, self._is_idle, self._awaits = answer.due, answer.is_idle, answer.awaits
         for channel in slow - self._circuits.not_ready:
             self._hold(channel)
 
@@ -429,7 +434,7 @@ class Bridge:
         """Has no more messages come by a channel, as the reader of notices is slow."""
         self._held.add(channel)
         self._user.note(f"notices wait to be read: channel {channel} is held")
-        self._heed(self._station.ask(f"{self._end} notready {channel}"))
+        self._heed(self._asked(f"{self._end} notready {channel}"))
 
     def _send(self, octets: bytes) -> None:
         self._last_frame = time.monotonic()
@@ -467,14 +472,25 @@ def add_station_words(parser: argparse.ArgumentParser) -> None:
     parser.add_argument("--channels", type=within(int, 1, MOST_CHANNELS), default=1, metavar="N", help="logical channels, 1 to 16 (1)")
     parser.add_argument("--long", action="store_true", help="a call may have up to 128 octets of user data")
     parser.add_argument("--no-wide", dest="wide", action="store_false", help="read packets only in the form that a station writes")
+    parser.add_argument("--t1", type=within(float, 0.001, 86_400), default=1, metavar="SECONDS", help="how long T1 is (1)")
+    parser.add_argument("--t3", type=within(float, 0, 86_400), default=60, metavar="SECONDS", help="how long nothing comes before the other end is asked; 0 for never (60)")
+    for name, what in ANSWERS.items():
+        parser.add_argument(f"--{name}", type=within(float, 0, 86_400), metavar="SECONDS", help=f"how long {what}, at a DCE T1{name[-1]}; 0 for ever")
     decoding.add_program(parser)
 
 
 def station_words(options: argparse.Namespace) -> list[str]:
     """The words that the station gets behind its end."""
-    given = [(f"--{name}", str(getattr(options, name))) for name in ("k", "n2", "channels") if getattr(options, name) is not None]
-    flags = {"--long": options.long, "--say-sizes": is_xot(options), "--wide": options.wide}
-    return [word for pair in given for word in pair] + [word for word, is_asked in flags.items() if is_asked]
+    given = {name: getattr(options, name) for name in ("k", "n2", "channels")} | milliseconds(options)
+    pairs = [(f"--{name}", str(number)) for name, number in given.items() if number is not None]
+    flags = {"--long": options.long, "--say-sizes": is_xot(options), "--wide": options.wide, "--clock": True}
+    return [word for pair in pairs for word in pair] + [word for word, is_asked in flags.items() if is_asked]
+
+
+def milliseconds(options: argparse.Namespace) -> dict[str, int | None]:
+    """The times of the station's timers; None is as the standard has it."""
+    seconds = {name: getattr(options, name) for name in ("t1", "t3", *ANSWERS)}
+    return {name: None if time is None else ceil(1000 * time) for name, time in seconds.items()}
 
 
 def station_of(options: argparse.Namespace) -> Station:
@@ -484,7 +500,7 @@ def station_of(options: argparse.Namespace) -> Station:
     from x25tools import linked
 
     given = {name: getattr(options, name) for name in ("k", "n2", "channels") if getattr(options, name) is not None}
-    return linked.Station(options.library, options.end, long_data=options.long, say_sizes=is_xot(options), wide=options.wide, **given)
+    return linked.Station(options.library, options.end, milliseconds(options), long_data=options.long, say_sizes=is_xot(options), wide=options.wide, **given)
 
 
 def add_line_words(parser: argparse.ArgumentParser) -> None:
@@ -510,11 +526,6 @@ def words() -> argparse.Namespace:
     add_station_words(parser)
     add_line_words(parser)
     parser.add_argument("--library", metavar="PATH", help="a libx25.so, in place of the program")
-    parser.add_argument("--t1", type=within(float, 0.001, 86_400), default=1, metavar="SECONDS", help="how long T1 is (1)")
-    parser.add_argument("--t3", type=within(float, 0, 86_400), default=60, metavar="SECONDS", help="how long nothing comes before the other end is asked; 0 for never (60)")
-    for place, (name, what) in enumerate([("t20", "a restart"), ("t21", "a call"), ("t22", "a reset"), ("t23", "a clearing")]):
-        usual = ", ".join(f"{times[place]:g} at a {end.upper()}" for end, times in STANDARD.items())
-        parser.add_argument(f"--{name}", type=within(float, 0, 86_400), metavar="SECONDS", help=f"how long {what} waits for its answer, 0 for ever ({usual})")
     parser.add_argument("--quiet", type=within(float, 0, 86_400), metavar="SECONDS", help=f"how long nothing comes at the end ({QUIET_T1S} times T1)")
     parser.add_argument("--wait", type=within(float, 0, 86_400), metavar="SECONDS", help="how long a `wait` waits (as long as it may come)")
     parser.add_argument("--stay", action="store_true", help="end only when the line does")

@@ -11,10 +11,6 @@ EVENT = re.compile(r"(d[tc]e) ([a-z]+)(?: |$)")
 BECOMES = {"call": "calling", "incoming": "called", "accept": "open", "connected": "open", "clear": "clearing", "reset": "resetting"}
 BECOMES |= {"resetdone": "open", "wasreset": "open", "fault": "fault"}
 ENDS = ("cleared", "cleardone", "collided")
-# Of what an answer of the other end is awaited in a state.
-AWAITS = {"calling": "call", "clearing": "clear", "resetting": "reset", "fault": "fault"}
-# Behind which events a restart of this end is under way, and behind which it isn't.
-RESTARTING = {"linkup": True, "restart": True, "linkdown": False, "restarted": False, "restartdone": False}
 OPEN = ("open", "resetting", "fault")
 # In which states of a circuit an event may come next, or behind what the other end does first; and what is said where none is in such a one.
 COMES_IN = {
@@ -36,16 +32,7 @@ class Circuits:
         self.proposed: dict[int, int] = {}
         self.is_up = False
         # Whether this end asked for the link, whether that came to nothing, and whether it ended it; whether it has restarted.
-        self._connects = self._has_failed = self._has_ended = self._restarts = self._is_restarting = False
-
-    def open(self) -> list[int]:
-        """The channels that have a circuit open, in order."""
-        return sorted(channel for channel, state in self._states.items() if state in ("open", "resetting"))
-
-    def awaited(self) -> dict[int, str]:
-        """Of what this end awaits an answer, by channel; a restart by channel 0."""
-        of_channels = {channel: AWAITS[state] for channel, state in self._states.items() if state in AWAITS}
-        return {0: "restart"} if self._is_restarting else of_channels
+        self._connects = self._has_failed = self._has_ended = self._restarts = False
 
     def heed(self, notice: str) -> tuple[str, int | None]:
         """Takes an entry; answers its event and its channel, or None."""
@@ -78,7 +65,6 @@ class Circuits:
 
     def _heed_the_link(self, event: str) -> None:
         """Takes an entry on the link, or on all circuits."""
-        self._is_restarting = RESTARTING.get(event, self._is_restarting)
         if event in ("connect", "relink"):
             self._connects, self._has_failed, self._has_ended = True, False, False
             return

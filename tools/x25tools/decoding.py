@@ -27,6 +27,8 @@ REFUSED = "? 60"
 FRAMES = ("I", "RR", "RNR", "REJ", "SABM", "DISC", "UA", "DM", "FRMR", "SREJ", "SABME", "SARM", "XID", "TEST", "UI", "fault")
 # A line of `decode`, with a time and a tab before it where there is one.
 TEXT_LINE = re.compile(rb"(?:([0-9.]{1,30})\t)?([<>] (?:%b) [ -~]*)" % "|".join(FRAMES).encode())
+# Data in such a line that isn't digits of octets: then it is none.
+NO_DIGITS = re.compile(rb" data=(?!(?:-|(?:[0-9a-f]{2})+)(?: |$))")
 # What may stand among the lines of a trace beside frames in digits: a comment, an empty line, and the lines of `decode` and of a run.
 OTHER_LINE = re.compile(b"|".join([rb"(?:#[^\n]*)?", *(line.pattern for line in (TEXT_LINE, x25lines.ENTRY_LINE, x25lines.REFUSAL_LINE))]))
 
@@ -114,34 +116,36 @@ class Decoder:
             let_end(self._child)
 
     def texts(self, asked: str, connections: Sequence[object] = ()) -> list[str]:
-        """The answers to the lines of a trace in a text, each with what stands before the frame's digits, whatever the connections."""
+        """The answers to the lines of a trace in a text, each with what stands before the frame's digits, whatever the connection of each."""
         if not asked:
             return []
         if self._child is None:
             self._child = self._begun()
-        count = asked.count("\n")
-        *texts, rest = self._answers(self._child, asked.encode("latin-1"), count).decode("ascii", "replace").split("\n")
-        if rest or len(texts) != count or texts[0][:2] not in (asked[:2].partition("\n")[0], REFUSED[:2]):
+        count = len(connections) or asked.count("\n")
+        texts = self._answers(self._child, asked.encode("latin-1"), count)
+        if len(texts) != count or texts[0][:2] not in (asked[:2].partition("\n")[0], REFUSED[:2]):
             raise BadInput(f"{self._program} {self._task} didn't answer line by line")
         return texts
 
     @staticmethod
-    def _answers(child: Child, asked: bytes, count: int) -> bytes:
+    def _answers(child: Child, asked: bytes, count: int) -> list[str]:
         """Writes what is asked and reads so many lines, each as there is room for it or as it is there: so neither pipe can fill."""
         writer, reader = (pipe.fileno() for pipe in pipes(child))
-        left, answers = memoryview(asked), []
-        while count > 0:
+        texts: list[str] = []
+        left, rest = memoryview(asked), ""
+        while len(texts) < count:
             readable, writable, _ = select.select([reader], [writer] if left else [], [])
             try:
                 left = left[os.write(writer, left) :] if writable else left
             except BrokenPipeError:
                 left = left[:0]
             if readable:
-                answers.append(os.read(reader, x25lines.PIECE))
-                count -= answers[-1].count(b"\n")
-                if not answers[-1]:
+                octets = os.read(reader, x25lines.PIECE)
+                if not octets:
                     break
-        return b"".join(answers)
+                *lines, rest = (rest + octets.decode("ascii", "replace")).split("\n")
+                texts += lines
+        return texts if not rest else [*texts, rest]
 
     def last_lines(self) -> list[str]:
         """What the task writes once there is no line more."""

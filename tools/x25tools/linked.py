@@ -1,10 +1,10 @@
-"""A station of the library for C, `libx25.so`: asked event by event, as the one behind a pipe (`piped.py`), in this process."""
+"""A station of the library for C, `libx25.so`, with a clock: asked event by event, as the one behind a pipe (`piped.py`), in this process."""
 
 from __future__ import annotations
 
 import os
 import sys
-from typing import Any
+from typing import Any, Callable, Mapping
 
 from x25tools import x25lines
 from x25tools.piped import Answer
@@ -15,15 +15,17 @@ TOOLS = os.path.dirname(os.path.dirname(os.path.abspath(__file__)))
 sys.path.append(os.path.join(os.path.dirname(TOOLS), "bindings", "python"))
 import x25  # noqa: E402
 
-T1 = {x25.Timer.OFF: "off", x25.Timer.BEGINS: "start", x25.Timer.GOES_ON: "on"}
 ENDS = {"dte": (x25.DTE, ">"), "dce": (x25.DCE, "<")}
 
 
 class Station:
-    """The station of an end, by the library at a path. `first` is what it says before anything is asked."""
+    """The station of an end, by the library at a path. Of its times, in milliseconds, those that aren't given are the standard's. `first` is
+    what it says before anything is asked."""
 
-    def __init__(self, path: str, end: str, **settings: Any) -> None:
+    def __init__(self, path: str, end: str, times: Mapping[str, int | None], **settings: Any) -> None:
         self._path, self._end, self._settings = path, end, settings
+        self._times = {name: time for name, time in times.items() if time is not None}
+        self._channels = range(1, settings.get("channels", 1) + 1)
         self._station: x25.Station | None = None
 
     def __enter__(self) -> Station:
@@ -41,27 +43,57 @@ class Station:
             self._station = x25.Station(ENDS[self._end][0], library=self._path, **self._settings)
         except OSError as error:
             raise BadInput(str(error)) from error
-        self.first = self._quiet(None)
+        self._station.set_times(self._station.standard_times()._replace(**self._times))
+        self._said: int | None = None
+        self.first = self._told([], [], None)
 
     def _held(self) -> x25.Station:
         assert self._station
         return self._station
 
-    def ask(self, event: str) -> Answer:
-        """The answer to an event, a line without its line feed."""
+    def ask(self, event: str, now: int | None = None) -> Answer:
+        """The answer to an event, a line without its line feed, at a time in milliseconds at which nothing is due; or to `@` and a time, at
+        which all that is due is asked for."""
+        if event.startswith("@ "):
+            return self._pass(int(event[2:]))
+        if now is not None and now != self._said:
+            self._held().time(now)
+        self._said = now
+        return self._done(lambda: self._asked(event))
+
+    def _pass(self, now: int) -> Answer:
+        """What is due at a time is asked for, one after another."""
+        self._said = now
+        answer = self._done(lambda: self._held().time(now))
+        while answer.due is not None and answer.due <= now:
+            more = self._done(lambda: self._held().time(now))
+            answer = more._replace(
+                notices=answer.notices + more.notices, frames=answer.frames + more.frames, refusal=more.refusal or answer.refusal
+            )
+        return answer
+
+    def _done(self, call: Callable[[], x25.Answer]) -> Answer:
+        """What a call is answered by."""
         try:
-            answer, lines = self._asked(event), self._held().lines()
+            answer, lines = call(), self._held().lines()
         except x25.Refused as refusal:
             if refusal.number == 70:
                 raise BadInput("no memory") from refusal
-            return self._quiet("? 60" if refusal.number == 60 else f"! {refusal.number}")
+            return self._told([], [], "? 60" if refusal.number == 60 else f"! {refusal.number}")
+        passed = [self._timeout(event) for event in answer.events if event.kind is x25.Kind.TIMEOUT]
         frames = [FrameLine(ENDS[self._end][1], octets) for octets in answer.frames]
-        return Answer([line.rstrip("\n") for line in lines], frames, None, T1[answer.timer], self._held().is_idle)
+        return self._told(passed + [line.rstrip("\n") for line in lines], frames, None)
 
-    def _quiet(self, refusal: str | None) -> Answer:
-        """What nothing is answered by, but perhaps a refusal: T1 is as it was."""
-        t1 = "off" if self._held().timer == x25.Timer.OFF else "on"
-        return Answer([], [], refusal, t1, self._held().is_idle)
+    def _timeout(self, event: x25.Event) -> str:
+        """The notice of a timer that has passed."""
+        return f"{self._end} timeout T{event.timeout}" + (f" ch={event.channel}" if event.channel else "")
+
+    def _told(self, notices: list[str], frames: list[FrameLine], refusal: str | None) -> Answer:
+        """An answer, with what a mark says."""
+        station = self._held()
+        is_idle = station.is_idle
+        awaits = is_idle and (station.is_restarting or any(map(station.awaits, self._channels)))
+        return Answer(notices, frames, refusal, "", is_idle, awaits, station.next())
 
     def _asked(self, event: str) -> x25.Answer:
         if event == f"t1 {self._end}":

@@ -49,7 +49,7 @@ from typing import Any, Callable, Iterable, Iterator, TextIO
 
 from x25tools import captures, decoding, judging, pcap2x25, x25lines, x25names
 from x25tools.ahead import ahead
-from x25tools.messages import Message, Messages, all_dumped
+from x25tools.messages import KEPT, Message, Messages, all_dumped
 from x25tools.pcap2x25 import Connection
 from x25tools.x25lines import BadInput
 
@@ -148,7 +148,7 @@ class Reader:
         """What there is to show of a line, by its answer, that has a time, or holds no frame in digits."""
         if parts := decoding.parted(line, answer):
             return self._clock(parts[0]), trace, parts[1]
-        if found := decoding.TEXT_LINE.fullmatch(line):
+        if (found := decoding.TEXT_LINE.fullmatch(line)) and not decoding.NO_DIGITS.search(line):
             return (found[1] or b"").decode(), trace, found[2].decode()
         if x25lines.is_passed_over(line):
             return "", trace, line.decode("utf-8", "replace")
@@ -238,10 +238,12 @@ def colour_of(text: str) -> str:
     return COLOURS.get(text[0], PLAIN)
 
 
-@functools.lru_cache
-def counted(count: int) -> str:
-    """So many octets, in words."""
-    return f"{count:,} octet{'s' if count != 1 else ''}"
+@functools.lru_cache(KEPT)
+def heading(paint: Paint, direction: str, channel: int | None, sort: str, count: int, q: str) -> str:
+    """What stands above the rows of a message of so many octets."""
+    if channel is None:
+        return paint(RED, f"{direction} {sort}")
+    return paint(COLOURS[direction], f"{direction} ch={channel}{f' Q={q}' if q else ''} {sort}, {count:,} octet{'s' if count != 1 else ''}")
 
 
 class Joined:
@@ -252,44 +254,36 @@ class Joined:
         self._channel = channel
         self._days = Days(paint)
         self._lines: dict[Connection, Messages] = {}
-        self._last: dict[Connection, str] = {}
 
     def take(self, block: list[Thing]) -> list[str]:
         """Answers the lines of the messages that the frames of a block complete."""
         lines: list[str] = []
         for connection, things in itertools.groupby(block, key=CONNECTION):
-            frames = [it for it in things if it[2][:1] in x25lines.OTHER]
-            if not frames:
-                continue
             if connection not in self._lines:
                 # Frames that were made up count from 0.
                 self._lines[connection] = Messages(0 if connection.is_made_up else None)
-            self._last[connection] = frames[-1][0]
-            completed = self._lines[connection].take([text for _, _, text in frames])
-            lines += self._rows(connection, [(frames[place][0], message) for place, message in completed])
+            frames = [(time, text) for time, _, text in things if text[:1] in x25lines.OTHER]
+            lines += self._rows(connection, self._lines[connection].take(frames))
         return lines
 
-    def _rows(self, connection: Connection, completed: list[tuple[str, Message]]) -> list[str]:
-        """The lines of messages of a connection, each with its time."""
+    def _rows(self, connection: Connection, messages: list[Message]) -> list[str]:
+        """The lines of messages of a connection."""
         lines: list[str] = []
         number = f"#{connection.number} " if connection.number > 1 else ""
         if self._channel is not None:
-            completed = [(time, message) for time, message in completed if message[1] in (None, self._channel)]
-        for (time, (direction, channel, sort, octets, q)), rows in zip(completed, all_dumped([message[3] for _, message in completed])):
+            messages = [it for it in messages if it[2] in (None, self._channel)]
+        for (time, direction, channel, sort, digits, q), rows in zip(messages, all_dumped([it[4] for it in messages])):
             if time:
                 day, time = self._days.part(time)
                 lines += day
-            shown = direction if channel is None else f"{direction} ch={channel}{f' Q={q}' if q else ''}"
-            shown = self._paint(RED, f"{shown} {sort}") if channel is None else self._paint(COLOURS[direction], f"{shown} {sort}, {counted(len(octets))}")
-            lines.append(f"{time} {number}{shown}" if time else f"{number}{shown}")
-            if rows:
-                lines.append(rows)
+                time += " "
+            lines.append(f"{time}{number}{heading(self._paint, direction, channel, sort, len(digits) // 2, q)}{rows}")
         return lines
 
     def end(self) -> Iterator[str]:
         """Yields the lines of what is known at the end alone; messages that are begun there aren't shown."""
         for connection, line in self._lines.items():
-            yield from self._rows(connection, [(self._last[connection], message) for message in line.end()])
+            yield from self._rows(connection, line.end())
 
 
 AGAIN, OCTETS = "I frames out of order, or again", "octets of data"

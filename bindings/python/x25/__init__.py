@@ -415,13 +415,18 @@ class Station:
         octets = text.encode()
         return self._call(self._library.x25_command, octets, len(octets))
 
+    def standard_times(self) -> Times:
+        """The times of Annex D for the end of this station, and 3 and 60 seconds for T1 and T3."""
+        words = _Times()
+        self._check(self._library.x25_standard_times(self._end, words))
+        return Times(*(getattr(words, name) for name in Times._fields))
+
     def set_times(self, times: Times | None = None) -> None:
-        """Gives the station a clock with these times, or with those of Annex D for its end, in place of the one that it has."""
-        self._check(0 if all(0 <= time < 1 << 32 for time in times or ()) else 14)
-        words = _Times(*times or ())
+        """Gives the station a clock with these times, or with the standard ones, in place of the one that it has."""
+        times = times or self.standard_times()
+        self._check(0 if all(0 <= time < 1 << 32 for time in times) else 14)
         with self._lock:
-            self._check(0 if times else self._library.x25_standard_times(self._end, words))
-            self._check(self._library.x25_set_times(self._slot, words))
+            self._check(self._library.x25_set_times(self._slot, _Times(*times)))
 
     def time(self, now: int) -> Answer:
         """The time is now, in milliseconds; the first of what is due by the clock is asked for. 34 for a time before the last one."""

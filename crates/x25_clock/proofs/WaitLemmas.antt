@@ -101,7 +101,7 @@ if_wait : (h : ℕ) (b : Bool) (u v : Wait) → u.channel ≡ h → v.channel �
 if_wait h true u v p q = p
 if_wait h false u v p q = q
 
-after_channel : (times : Times) (now : ℕ) (a : Awaits) (w : Wait) → (wait_after times now a w).channel ≡ w.channel
+pub after_channel : (times : Times) (now : ℕ) (a : Awaits) (w : Wait) → (wait_after times now a w).channel ≡ w.channel
 after_channel times now a w = if_wait w.channel (number_of w.awaits == number_of a) _ _ refl refl
 
 renewed_channel : (times : Times) (now k : ℕ) (w : Wait) → (renewed times now k w).channel ≡ w.channel
@@ -118,7 +118,7 @@ not_renewed times now k w is = ap (λ (b : Bool). let x : Wait = if not b then w
 low_one : {A : Type 0} (n : ℕ) → n ≤ 1 → 2 ≤ n → A
 low_one n low high = absurd (omega (arith, low, high))
 
-is_up_high : (p : Phase) (r : Bool) (a : Awaits) → 2 ≤ rank_of p r a → is_up p ≡ true
+pub is_up_high : (p : Phase) (r : Bool) (a : Awaits) → 2 ≤ rank_of p r a → is_up p ≡ true
 is_up_high Down r a high = low_one 0 (omega arith) high
 is_up_high Waiting r a high = low_one 1 (omega arith) high
 is_up_high Up r a high = refl
@@ -131,7 +131,7 @@ is_configured Waiting false s high = low_one 1 (omega arith) high
 is_configured Up false s high = low_one 0 (omega arith) high
 is_configured Closed false s high = low_one 0 (omega arith) high
 
-rank_up : (p : Phase) (r : Bool) (a : Awaits) → is_up p ≡ true → rank_of p r a ≡ rank_of Up r a
+pub rank_up : (p : Phase) (r : Bool) (a : Awaits) → is_up p ≡ true → rank_of p r a ≡ rank_of Up r a
 rank_up Down r a up = absurd (true≢false (sym up))
 rank_up Waiting r a up = absurd (true≢false (sym up))
 rank_up Up r a up = refl

@@ -1,4 +1,6 @@
 -- What the laws of this crate say (src/law.rt).
 pub mod ClockLaw
 pub mod WaitLaw
+pub mod AnswerLaw
+pub mod PullLaw
 pub mod SilenceLaw

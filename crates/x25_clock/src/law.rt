@@ -1,5 +1,7 @@
 //! What deadlines stand for, and what they are good for: laws, each the contract of a function that does nothing.
+ghost use Rattle.x25_clock.specs.laws.AnswerLaw.{AnswerIsTold};
 ghost use Rattle.x25_clock.specs.laws.ClockLaw.{DeadlinesAreTrue};
+ghost use Rattle.x25_clock.specs.laws.PullLaw.{PullIsHeeded};
 ghost use Rattle.x25_clock.specs.laws.SilenceLaw.{IdleIsAsked, SilenceEnds};
 ghost use Rattle.x25_clock.specs.laws.WaitLaw.{NothingWaits};
 ghost use Rattle.x25_clock.specs.rows.SilentRows.{SilentPeerIsLeft};
@@ -24,6 +26,15 @@ pub fn nothing_waits_for_ever()
     ways_out_lead_on();
 }
 
+/// And the answer is told. One who obeys his clock so, while a channel awaits an answer or a restart is under way, is
+/// told the answer on that channel, that of the restart, LinkUp or LinkDown within the same time.
+pub fn answers_are_told()
+    ensures { AnswerIsTold }
+{
+    nothing_waits_for_ever();
+    ways_out_lead_on();
+}
+
 /// Nor does a dead line stay unnoticed. One who obeys his clock so polls a link at rest of which no octets come after
 /// T3 at the latest; and while UA is awaited, or no octets come of a link that is up, LinkUp or LinkDown is told after
 /// N2 times T1 and once more at the latest, where T1 doesn't run after T3 and that. Neither T1 nor T3 is for ever.
@@ -40,3 +51,12 @@ pub fn silence_is_told()
 pub fn silent_peer_is_left()
     ensures { SilentPeerIsLeft }
 {}
+
+/// One who pulls behind a step may heed both at once: what T1 became at both (`timer_pulled`), what the step tells, and
+/// the station behind the pull. His deadlines are then those of one who heeds the step and the pull in turn, at one
+/// moment. So what these laws say of one who heeds each is true of him. The link is settled, as from a new station on.
+pub fn pulls_are_heeded_at_once()
+    ensures { PullIsHeeded }
+{
+    stations_ask_or_rest();
+}

@@ -11,6 +11,7 @@ mod wait;
 pub use clock::Clock;
 pub use due::Due;
 pub use law::{
-    awaited_deadlines_are_true, nothing_waits_for_ever, silence_is_told, silent_peer_is_left,
+    answers_are_told, awaited_deadlines_are_true, nothing_waits_for_ever, pulls_are_heeded_at_once,
+    silence_is_told, silent_peer_is_left,
 };
 pub use times::Times;

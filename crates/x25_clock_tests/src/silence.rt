@@ -5,7 +5,7 @@ use std::alloc::Global;
 use x25_clock::{Clock, Due, Times};
 use x25_station::{Awaits, Cmd, Station, StationError, Step};
 
-const TIMES: Times = Times {
+pub(crate) const TIMES: Times = Times {
     t1: 10,
     t3: 1000,
     t20: 200,
@@ -16,7 +16,7 @@ const TIMES: Times = Times {
 
 /// What happens.
 #[derive(Clone, Copy)]
-enum Act {
+pub(crate) enum Act {
     Ask(Cmd<'static>),
     /// These octets come.
     Take(&'static [u8]),
@@ -26,33 +26,33 @@ enum Act {
 
 /// The time, what happens then, the number of a refusal or 0, what was due, the next moment, and what is awaited on
 /// channel 2, whether a restart is, and whether anything.
-type Row = (u64, Act, u8, Option<Due>, Option<u64>, (Awaits, bool, bool));
+pub(crate) type Row = (u64, Act, u8, Option<Due>, Option<u64>, (Awaits, bool, bool));
 
-const NONE: (Awaits, bool, bool) = (Awaits::Nothing, false, false);
+pub(crate) const NONE: (Awaits, bool, bool) = (Awaits::Nothing, false, false);
 
-const RESTARTS: (Awaits, bool, bool) = (Awaits::Nothing, true, true);
+pub(crate) const RESTARTS: (Awaits, bool, bool) = (Awaits::Nothing, true, true);
 
-const CALLED: (Awaits, bool, bool) = (Awaits::Acceptance, false, true);
+pub(crate) const CALLED: (Awaits, bool, bool) = (Awaits::Acceptance, false, true);
 
-const CLEARED: (Awaits, bool, bool) = (Awaits::ClearConfirmation, false, true);
+pub(crate) const CLEARED: (Awaits, bool, bool) = (Awaits::ClearConfirmation, false, true);
 
-const CALL: Act = Act::Ask(Cmd::Call {
+pub(crate) const CALL: Act = Act::Ask(Cmd::Call {
     called: "1",
     calling: "2",
     user: &[],
     params: None,
 });
 
-const UA: Act = Act::Take(&[0x01, 0x73, 0x83, 0x57]);
+pub(crate) const UA: Act = Act::Take(&[0x01, 0x73, 0x83, 0x57]);
 
 /// RESTART of the DCE, which has that of the DTE.
-const RESTART: Act = Act::Take(&[0x03, 0x20, 0x10, 0x00, 0xFB, 0x07, 0x00, 0xA4, 0xFD]);
+pub(crate) const RESTART: Act = Act::Take(&[0x03, 0x20, 0x10, 0x00, 0xFB, 0x07, 0x00, 0xA4, 0xFD]);
 
-const RR_1: Act = Act::Take(&[0x01, 0x21, 0x14, 0x26]);
+pub(crate) const RR_1: Act = Act::Take(&[0x01, 0x21, 0x14, 0x26]);
 
-const RR_2: Act = Act::Take(&[0x01, 0x41, 0x12, 0x45]);
+pub(crate) const RR_2: Act = Act::Take(&[0x01, 0x41, 0x12, 0x45]);
 
-const RR_3: Act = Act::Take(&[0x01, 0x61, 0x10, 0x64]);
+pub(crate) const RR_3: Act = Act::Take(&[0x01, 0x61, 0x10, 0x64]);
 
 const RR_4: Act = Act::Take(&[0x01, 0x81, 0x1E, 0x83]);
 
@@ -139,8 +139,13 @@ fn happens(
 }
 
 // The first row in which something else comes of what happens.
-fn odd_row(station: &mut Station, clock: &mut Clock, out: &mut Step) -> Option<usize> {
-    for (place, &(now, act, refusal, asked, moment, says)) in ROWS.iter().enumerate() {
+fn odd_row(
+    rows: &[Row],
+    station: &mut Station,
+    clock: &mut Clock,
+    out: &mut Step,
+) -> Option<usize> {
+    for (place, &(now, act, refusal, asked, moment, says)) in rows.iter().enumerate() {
         let found = happens(station, clock, (now, act), out);
         if (found, next(clock), awaited(station)) != ((refusal, asked), moment, says) {
             return Some(place);
@@ -149,14 +154,14 @@ fn odd_row(station: &mut Station, clock: &mut Clock, out: &mut Step) -> Option<u
     None
 }
 
-fn odd_row_of(alloc: Global) -> Option<Option<usize>> {
+pub(crate) fn odd_row_of(alloc: Global, times: Times, rows: &[Row]) -> Option<Option<usize>> {
     let mut station = station(alloc)?;
-    let mut clock = clock(alloc, TIMES)?;
+    let mut clock = clock(alloc, times)?;
     let mut out = Step::new(alloc);
-    Some(odd_row(&mut station, &mut clock, &mut out))
+    Some(odd_row(rows, &mut station, &mut clock, &mut out))
 }
 
 #[test]
 fn a_silent_end_is_left_step_by_step(rt: HostRuntime) {
-    assert_eq!(rt; odd_row_of(rt.alloc()), Some(None));
+    assert_eq!(rt; odd_row_of(rt.alloc(), TIMES, &ROWS), Some(None));
 }

@@ -1,8 +1,8 @@
--- What a line of a user hands down is octets.
+-- What a line of a user hands down is octets, and nothing is given beside a packet.
 use Rattle.std.proofs.Common.{◌≡◌, ℕ, nat_le, Bool, true, false, cond, List, length, Option, Some, None, refl, arith, ◌<◌}
 use Rattle.x25_bits.specs.declared.role.Role.{Role}
 use Rattle.x25_bits.specs.declared.role.Role.TheVariants.{Dte, Dce}
-use Rattle.x25_station.specs.laws.TimerLaw.{Event, Asks, Fires}
+use Rattle.x25_station.specs.laws.TimerLaw.{Event, Asks, Gives, Fires}
 use Rattle.x25_script.specs.ScriptLine.{PlainCommand, call, accept, clear, send, interrupt, reset, ready, not_ready, restart, pull, connect, disconnect, probe, relink, PlainLine, command, t1, deliver, lose, damage, drain, heal}
 use Rattle.x25_script.specs.Reading.{line_in}
 use Rattle.x25_script.specs.laws.ReadingLaw.{AsksInOctets, IsInOctets, ReadsOctets}
@@ -15,6 +15,7 @@ use Rattle.std.specs.Prelude.{option_and_then}
 
 abbrev pub AsksOctets : Option Event → Type 0
 AsksOctets (Some (Asks asked)) = CommandsOctets asked
+AsksOctets (Some (Gives given request)) = ⊥
 AsksOctets event = Unit {0}
 
 zeros : (0 < 256) × (0 < 256)

@@ -21,7 +21,7 @@ use Rattle.x25_station.specs.Entry.{StationEntry, connect_asked, disconnect_aske
 use Rattle.x25_station.specs.Config.{Settings, settings_from, config_refusal, link_settings}
 use Rattle.x25_station.specs.Station.{Station, new_station}
 use Rattle.x25_station.specs.Step.{Step, Outcome, Did, Refused, unless, led_by, follows, abandons, commands, fires}
-use Rattle.x25_station.specs.laws.TimerLaw.{Event, Comes, Asks, Fires, outcome}
+use Rattle.x25_station.specs.laws.TimerLaw.{Event, Comes, Asks, Gives, Fires, outcome}
 use Rattle.x25_pipe.specs.Pipe.{Saying, pulled_behind, and_pulls, with_pulls, event_in, turn, piped}
 use Rattle.x25_world.specs.laws.Claims.{ups_in}
 use Rattle.x25_world.specs.laws.TapOctets.{AreOfFrame}
@@ -247,6 +247,7 @@ module _ (c : Settings) (p : Program) (k : Kept c p) where
   asked_kept line None none asks no_frame due octets = nothing_happens line none (line_none c s line asks)
   asked_kept line (Some (Comes x)) none asks no_frame due octets = absurd no_frame
   asked_kept line (Some (Asks asked)) none asks no_frame due octets = commanded line asked (commands c s asked) none asks octets refl
+  asked_kept line (Some (Gives given request)) none asks no_frame due octets = absurd octets
   asked_kept line (Some Fires) none asks no_frame due octets = fired line (fires c s) none asks due refl
 
   -- ---- a frame comes

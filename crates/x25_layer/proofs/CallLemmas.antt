@@ -234,6 +234,6 @@ refuses_all T g v below e count copied said named is = record {
   missing = λ none. absurd (named (err_is e error.NoMemory none));
   most_memory = omega arith;
   most_promised = omega arith;
-  room = λ len has still. has;
-  room_stays = λ len has. has;
+  room = λ h len has still. has;
+  room_stays = λ h len has. has;
 }

@@ -45,6 +45,14 @@ get_changed (x ∷ xs) y v (suc i) (suc k) is = next (get_changed xs y v i k is)
     next (inl p) = inl (ap suc p.0, p.1)
     next (inr p) = inr ((λ e. p.0 (let f : k ≡ i = omega (arith, e) in f)), p.1)
 
+-- the others are as they were
+pub get_other : {X : Type 0} (xs : List X) (y : X) (i k : ℕ) → (k ≡ i → ⊥) → slice_get (set xs i y) k ≡ slice_get xs k
+get_other [] y i k differs = refl
+get_other (x ∷ xs) y zero zero differs = absurd (differs refl)
+get_other (x ∷ xs) y zero (suc k) differs = refl
+get_other (x ∷ xs) y (suc i) zero differs = refl
+get_other (x ∷ xs) y (suc i) (suc k) differs = get_other xs y i k (λ e. differs (ap suc e))
+
 -- each place within has an element
 pub there : {X : Type 0} (xs : List X) (i : ℕ) → i < length xs → (x : X) × (slice_get xs i ≡ Some x)
 there [] i low = absurd (omega (arith, low))
@@ -163,13 +171,17 @@ pub refused_with : {T E P : Type 0} (r : Result T E) → is_err r ≡ true → O
 refused_with (Ok x) is err = absurd (cc)
 refused_with (Err e) is err = err
 
--- what holds of each element holds with one changed
-pub all_changed : {X : Type 0} (P : ℕ → X → Type 0) (xs : List X) (i : ℕ) (y : X) → ((k : ℕ) (v : X) → slice_get xs k ≡ Some v → P k v) → P i y → (k : ℕ) (v : X) → slice_get (set xs i y) k ≡ Some v → P k v
-all_changed P xs i y all here k v is = by (get_changed xs y v i k is)
+-- what holds of the others holds of each with one changed
+pub rest_changed : {X : Type 0} (P : ℕ → X → Type 0) (xs : List X) (i : ℕ) (y : X) → ((k : ℕ) (v : X) → (k ≡ i → ⊥) → slice_get xs k ≡ Some v → P k v) → P i y → (k : ℕ) (v : X) → slice_get (set xs i y) k ≡ Some v → P k v
+rest_changed P xs i y rest here k v is = by (get_changed xs y v i k is)
   where
     by : ((k ≡ i) × (y ≡ v)) ⊎ ((k ≡ i → ⊥) × (slice_get xs k ≡ Some v)) → P k v
     by (inl p) = subst (λ (u : _). P k u) p.1 (subst (λ (n : ℕ). P n y) (sym p.0) here)
-    by (inr p) = all k v p.1
+    by (inr p) = rest k v p.0 p.1
+
+-- what holds of each element holds with one changed
+pub all_changed : {X : Type 0} (P : ℕ → X → Type 0) (xs : List X) (i : ℕ) (y : X) → ((k : ℕ) (v : X) → slice_get xs k ≡ Some v → P k v) → P i y → (k : ℕ) (v : X) → slice_get (set xs i y) k ≡ Some v → P k v
+all_changed P xs i y all here = rest_changed P xs i y (λ k v differs is. all k v is) here
 
 pub neither : (a b : Bool) → (a || b) ≡ false → (a ≡ false) × (b ≡ false)
 neither false b is = (refl, is)

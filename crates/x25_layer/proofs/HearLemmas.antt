@@ -1,5 +1,5 @@
 -- What octets are read as, and the channel that they name.
-use Rattle.std.proofs.Common.{◌≡◌, ℕ, ◌-◌, ◌<◌, ◌≤◌, ◌∙◌, All, List, [], ◌∷◌, length, Option, Some, None, Bool, true, false, Result, Ok, Err, if◌then◌else◌, IfOk, slice_get, get_or, option_to_list, refl, sym, ap, subst, arith}
+use Rattle.std.proofs.Common.{◌≡◌, ℕ, suc, ◌-◌, ◌<◌, ◌≤◌, ◌∙◌, All, List, [], ◌∷◌, length, Option, Some, None, Bool, true, false, Result, Ok, Err, if◌then◌else◌, IfOk, slice_get, get_or, option_to_list, refl, sym, ap, subst, arith}
 use Rattle.std.proofs.lemmas.Option.{same_Some}
 use Rattle.x25_packet.specs.declared.packet.Packet.{Packet}
 use Rattle.x25_packet.specs.declared.error.PacketError.{PacketError}
@@ -132,6 +132,9 @@ pub read_there : (vs : List circuit_code.Circuit) (h place : ℕ) (x : circuit_c
 read_there vs h place x is same read =
     let within = configured (length vs) h is in
     read_at vs (place - 1) x (let e : place - 1 < length vs = omega (arith, within, same) in e) read
+
+pub place_of : (n h place : ℕ) → is_channel n h ≡ true → place ≡ h → suc (place - 1) ≡ h
+place_of n h place is same = let within = configured n h is in omega (arith, within, same)
 
 pub hears_there : (c : LayerSettings) (l : Layer) (h : ℕ) (read : Result PlainPacket PacketError) → l.restarting ≡ false → is_channel c.channels h ≡ true → hears_on c l l.restarting h read ≡ channel_hears c l h read
 hears_there c l h read ready is =

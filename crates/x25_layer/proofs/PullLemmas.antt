@@ -1,6 +1,6 @@
 -- Rounds of pulls, one circuit after another.
-use Rattle.std.proofs.Common.{◌≡◌, ℕ, zero, suc, ◌+◌, ◌<◌, ◌≤◌, List, [], ◌∷◌, ◌++◌, length, Option, Some, None, Bool, true, false, nat_lt, ◌==◌, ◌&&◌, if◌then◌else◌, set, slice_get, option_to_list, refl, sym, ap, subst, ◌∙◌, ◌⊎◌, inl, inr, arith, eq-eqb, length-append, length-set}
-use Rattle.std.proofs.lemmas.Option.{none-some}
+use Rattle.std.proofs.Common.{◌≡◌, ℕ, zero, suc, ◌+◌, ◌-◌, ◌^◌, ◌<◌, ◌≤◌, List, [], ◌∷◌, ◌++◌, length, Option, Some, None, Bool, true, false, nat_lt, ◌==◌, ◌&&◌, if◌then◌else◌, set, slice_get, option_to_list, refl, sym, ap, subst, ◌∙◌, ◌⊎◌, inl, inr, arith, eq-eqb, length-append, length-set}
+use Rattle.std.proofs.lemmas.Option.{none-some, slice_get_within}
 use Rattle.x25_link.specs.OrderedLink.{Lists, handed_down}
 use Rattle.x25_packet.specs.Packet.{PlainPacket}
 use Rattle.x25_packet.specs.Spelling.{spelling_of, moved_to}
@@ -10,12 +10,13 @@ use Rattle.x25_circuit.specs.declared.state.State.TheVariants.{Free, Calling, Ar
 use Rattle.x25_circuit.specs.Message.{Piece}
 use Rattle.x25_circuit.specs.Circuit.{Settings, Talk, Circuit, outgoing}
 use Rattle.x25_circuit.specs.Calling.{Pulled, pulls_nothing, pull_open, pull_in, pulled}
-use Rattle.x25_circuit.specs.code.FitsCircuit.{FitsCircuit}
+use Rattle.x25_circuit.specs.code.FitsCircuit.{FitsCircuit, waits_of}
 use Rattle.x25_circuit.specs.laws.PullLaw.{PullsWhatWaits}
 use Rattle.x25_layer.specs.Layer.{LayerSettings, put_at, packet_on}
 use Rattle.x25_layer.specs.Calls.{layer_pulled}
 use Rattle.x25_layer.specs.code.FitsLayer.{FitsCircuits}
-use Rattle.x25_layer.specs.code.Waiting.{NoneWaits}
+use Rattle.x25_layer.specs.code.Waiting.{IsOutside, WaitAt}
+use Rattle.x25_layer.specs.declared.places.Places.{Places}
 use Rattle.x25_link.specs.declared.ordered_link.OrderedLink.{Ghosts}
 use Rattle.x25_layer.specs.code.OverLink.{after_all, view_of, TakesAlike}
 use Rattle.x25_layer.specs.Rounds.{LinkView, Putting, with_pulled, pull_one, round}
@@ -160,15 +161,36 @@ round_shut link c (suc n) t shut =
     ap (λ (u : Putting). pull_one link c (suc n) u) (round_shut link c n t shut)
     ∙ ap (λ (b : Bool). if b then with_pulled t (layer_pulled c t.layer (suc n)) (layer_pulled c t.layer (suc n)).packet else t) shut
 
--- a round where no message waits
-pub round_still : PullsWhatWaits → (link : LinkView) (c : LayerSettings) (vs : List circuit_code.Circuit) (n : ℕ) (t : Putting) → n ≤ length vs → FitsCircuits c vs t.layer.circuits → NoneWaits vs → round link c n t ≡ t
+-- circuits in which no message waits give none
+none_waits : PullsWhatWaits → (link : LinkView) (c : LayerSettings) (vs : List circuit_code.Circuit) (n : ℕ) (t : Putting) → n < length vs → FitsCircuits c vs t.layer.circuits
+    → ((v : circuit_code.Circuit) → slice_get vs n ≡ Some v → waits_of v ≡ 0) → pull_one link c (suc n) t ≡ t
+none_waits pulls link c vs n t low fits none =
+    let found = there vs n low in
+    let x : Circuit = t.layer.circuits (suc n) in
+    let nothing : pulled c.circuit x ≡ pulls_nothing x = pulls c.circuit found.0 x (fits n found.0 found.1) (none found.0 found.1) in
+    one_none link c (suc n) t (ap (λ (p : Pulled). p.packet) (where_nothing (nat_lt (link.waits t.put) 8) c.circuit x nothing))
+
+-- a round of these
+pub round_still : PullsWhatWaits → (link : LinkView) (c : LayerSettings) (vs : List circuit_code.Circuit) (n : ℕ) (t : Putting) → n ≤ length vs → FitsCircuits c vs t.layer.circuits
+    → ((k : ℕ) (v : circuit_code.Circuit) → k < n → slice_get vs k ≡ Some v → waits_of v ≡ 0) → round link c n t ≡ t
 round_still pulls link c vs zero t low fits none = refl
 round_still pulls link c vs (suc n) t low fits none =
-    let found = there vs n (let e : n < length vs = omega (arith, low) in e) in
-    let x : Circuit = t.layer.circuits (suc n) in
-    let nothing : pulled c.circuit x ≡ pulls_nothing x = pulls c.circuit found.0 x (fits n found.0 found.1) (none n found.0 found.1) in
-    ap (λ (u : Putting). pull_one link c (suc n) u) (round_still pulls link c vs n t (let e : n ≤ length vs = omega (arith, low) in e) fits none)
-    ∙ one_none link c (suc n) t (ap (λ (p : Pulled). p.packet) (where_nothing (nat_lt (link.waits t.put) 8) c.circuit x nothing))
+    ap (λ (u : Putting). pull_one link c (suc n) u) (round_still pulls link c vs n t (let e : n ≤ length vs = omega (arith, low) in e) fits (λ k v less is. none k v (let e : k < suc n = omega (arith, less) in e) is))
+    ∙ none_waits pulls link c vs n t (let e : n < length vs = omega (arith, low) in e) fits (λ v is. none n v (let e : n < suc n = omega arith in e) is)
+
+-- these behind a round of others
+pub round_past : PullsWhatWaits → (link : LinkView) (c : LayerSettings) (vs : List circuit_code.Circuit) (m n : ℕ) (t : Putting) → m + n ≤ length vs → FitsCircuits c vs (round link c n t).layer.circuits
+    → ((k : ℕ) (v : circuit_code.Circuit) → n ≤ k → slice_get vs k ≡ Some v → waits_of v ≡ 0) → round link c (m + n) t ≡ round link c n t
+round_past pulls link c vs zero n t low fits none = let same : zero + n ≡ n = omega arith in ap (λ (k : ℕ). round link c k t) same
+round_past pulls link c vs (suc m) n t low fits none =
+    let next : suc m + n ≡ suc (m + n) = omega arith in
+    ap (λ (k : ℕ). round link c k t) next
+    ∙ ap (λ (u : Putting). pull_one link c (suc (m + n)) u) (round_past pulls link c vs m n t (let e : m + n ≤ length vs = omega (arith, low) in e) fits none)
+    ∙ none_waits pulls link c vs (m + n) (round link c n t) (let e : m + n < length vs = omega (arith, low) in e) fits (λ v is. none (m + n) v (let e : n ≤ m + n = omega arith in e) is)
+
+-- all circuits are asked
+pub asked_all : (vs : List circuit_code.Circuit) (p : Places) → ((k : ℕ) → k < 2 ^ 64 - 1 → IsOutside p k → ⊥) → length vs ≤ 16 → WaitAt p vs
+asked_all vs p all few k v is out = let low = slice_get_within vs k v is in absurd (all k (let e : k < 2 ^ 64 - 1 = omega (arith, low, few) in e) out)
 
 -- A round keeps whether a restart is under way, and how many were done.
 pub record KeepsRestarts (s t : Putting) : Type 0 where

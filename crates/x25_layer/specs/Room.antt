@@ -1,5 +1,6 @@
 -- What a layer is asked before a packet: whether its counts have room, and whether memory is set aside (profile).
-use Rattle.std.specs.Prelude.{◌≡◌, ℕ, ◌<◌, ◌≤◌, ◌^◌, ◌-◌, List, Some, slice_get, min}
+use Rattle.std.specs.Prelude.{◌≡◌, ℕ, suc, ◌<◌, ◌≤◌, ◌^◌, ◌-◌, List, Option, Some, None, slice_get, min}
+use Rattle.x25_packet.specs.Reading.{channel_in}
 use Rattle.x25_circuit.specs.declared.circuit.Circuit as circuit_code
 use Rattle.x25_circuit.specs.code.FitsCircuit.{room_of}
 pub use Rattle.x25_layer.specs.code.Counts.{HasCountsLeft, HaveCountsLeft}
@@ -10,26 +11,39 @@ pub record IsNotFull (v : code.Layer) : Type 0 where
   pub restarts : v.restarts < 2 ^ 64 - 1
   pub circuits : HaveCountsLeft v.circuits.items
 
--- each circuit has memory for so many octets of user data of a packet, or for those of the longest data packet
-abbrev pub HaveRoom : ℕ → List circuit_code.Circuit → Type 0
-HaveRoom len vs = (k : ℕ) (v : circuit_code.Circuit) → slice_get vs k ≡ Some v → min len 4096 ≤ room_of v
+-- the channel that octets name, and 0, on which there is no circuit, where they name none
+abbrev pub channel_or_none : Option ℕ → ℕ
+channel_or_none None = 0
+channel_or_none (Some h) = h
+
+abbrev pub named_by : List ℕ → ℕ
+named_by octets = channel_or_none (channel_in octets)
+
+-- the circuit of a channel, where there is one, has memory for so many octets of user data of a packet, or for those of
+-- the longest data packet
+abbrev pub HasRoomOn : ℕ → ℕ → List circuit_code.Circuit → Type 0
+HasRoomOn h len vs = (k : ℕ) (v : circuit_code.Circuit) → slice_get vs k ≡ Some v → suc k ≡ h → min len 4096 ≤ room_of v
 
 -- for as many as they had it they have it still
 abbrev pub HaveRoomStill : List circuit_code.Circuit → List circuit_code.Circuit → Type 0
-HaveRoomStill old new = (len : ℕ) → HaveRoom len old → HaveRoom len new
+HaveRoomStill old new = (h len : ℕ) → HasRoomOn h len old → HasRoomOn h len new
+
+-- the circuits of other channels are as they were
+abbrev pub KeepOthers : ℕ → List circuit_code.Circuit → List circuit_code.Circuit → Type 0
+KeepOthers h old new = (k : ℕ) → (suc k ≡ h → ⊥) → slice_get new k ≡ slice_get old k
 
 -- none of the circuits has memory for more octets
 abbrev pub HaveAtMost : ℕ → List circuit_code.Circuit → Type 0
 HaveAtMost bound vs = (k : ℕ) (v : circuit_code.Circuit) → slice_get vs k ≡ Some v → room_of v ≤ bound
 
--- Memory is set aside for a packet with at most so many octets of user data, or for LinkDown and LinkUp: for 16 packets
--- that are put, in the layer and in its link (n), which are the owed one and 15 data packets, and in each circuit for
--- the user data.
-pub record HasRoom (len : ℕ) (v : code.Layer) (n : ℕ) : Type 0 where
+-- Memory is set aside for a packet on a channel with at most so many octets of user data, or for LinkDown and LinkUp:
+-- for 16 packets that are put, in the layer and in its link (n), which are the owed one and 15 data packets, and in the
+-- circuit of the channel for the user data.
+pub record HasRoom (h len : ℕ) (v : code.Layer) (n : ℕ) : Type 0 where
   pub memory : 16 ≤ v.memory
   pub promised : 16 ≤ n
-  pub circuits : HaveRoom len v.circuits.items
+  pub circuits : HasRoomOn h len v.circuits.items
 
 -- A promise of this kind stands across a call that takes nothing of what is set aside in the link: it puts nothing.
 abbrev pub KeepsRoom : code.Layer → ℕ → code.Layer → ℕ → Type 0
-KeepsRoom v n v₂ n₂ = (len : ℕ) → HasRoom len v n → n₂ ≡ n → HasRoom len v₂ n₂
+KeepsRoom v n v₂ n₂ = (h len : ℕ) → HasRoom h len v n → n₂ ≡ n → HasRoom h len v₂ n₂

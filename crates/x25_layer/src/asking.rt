@@ -65,8 +65,8 @@ impl Layer {
         ensures fits { OnErr result (FitsStill self.old self.new) }
         ensures missing { IsErrOf result LayerError.NoMemory → is_message (plain_request request.entry) ≡ true }
     {
-        self.quiet = false;
         let place = usize::from(channel) - 1;
+        self.asked = self.asked.with_place(place);
         match self.circuits[place].ask(request) {
             Ok(packet) => Ok(packet),
             Err(error) => Err(LayerError::of_circuit(error)),

@@ -2,10 +2,11 @@ ghost use Rattle.std.specs.Prelude.{◌≡◌, ℕ, ◌-◌, ◌^◌, ◌<◌, �
 ghost use Rattle.std.specs.Prelude.{IfErr};
 ghost use Rattle.std.specs.Prelude.{IfSome, IfNone, IsErrOf, slice_get};
 ghost use Rattle.x25_layer.specs.code.Counts.{HaveCountsLeft};
-ghost use Rattle.x25_layer.specs.code.Waiting.{NoneWaits};
+ghost use Rattle.x25_layer.specs.code.Waiting.{WaitAt};
 
 use crate::circuits::{begun_circuits, forget_all};
 use crate::error::LayerError;
+use crate::places::Places;
 use crate::putting::PacketMemory;
 use crate::stretch::Stretch;
 use std::alloc::Global;
@@ -38,9 +39,9 @@ pub struct Layer {
     /// The first is on channel 1.
     pub(crate) circuits: Vec<Circuit>,
     ghost few: { length circuits.items ≤ 16 },
-    /// It is known that no message waits in any circuit, so that there is nothing to pull.
-    pub(crate) quiet: bool,
-    ghost still: { quiet ≡ true → NoneWaits circuits.items },
+    /// The circuits that are asked for what waits: in the others no message does.
+    pub(crate) asked: Places,
+    ghost still: { WaitAt asked circuits.items },
     /// It is known that no count is at 2^64 - 1.
     pub(crate) counts_left: bool,
     ghost restarts_left: { counts_left ≡ true → restarts < 2 ^ 64 - 1 },
@@ -87,7 +88,7 @@ impl Layer {
             restarting: false,
             restarts: 0,
             circuits,
-            quiet: false,
+            asked: Places::everywhere(),
             counts_left: false,
             memory: Promise::new(alloc),
         })
@@ -222,11 +223,11 @@ impl Layer {
     /// until `up` sets them to 0. Memory that was set aside is kept.
     pub fn down(&mut self)
         ensures layer { (c : LayerSettings) (l : State) → FitsLayer c self.old l → FitsLayer c self.new (rested l) }
-        ensures room { (len promised : ℕ) → HasRoom len self.old promised → HasRoom len self.new promised }
+        ensures room { (h len promised : ℕ) → HasRoom h len self.old promised → HasRoom h len self.new promised }
         ensures memory { self.new.memory ≡ self.old.memory }
     {
         self.restarting = false;
-        self.quiet = false;
+        self.asked = Places::everywhere();
         self.counts_left = false;
         forget_all(&mut self.circuits);
     }

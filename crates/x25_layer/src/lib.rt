@@ -9,6 +9,7 @@ mod error;
 mod free_channel;
 mod law;
 mod layer;
+mod places;
 mod putting;
 mod receiving;
 mod report;

@@ -45,6 +45,9 @@ impl Layer {
         ensures missing { OnErr result (LacksMemory count self.old (L.promised link.old)) }
         ensures err { IfErr result (λ e. e ≡ LayerError.NoMemory) }
     {
+        if self.memory.promised() >= count && link.promised() >= count {
+            return Ok(());
+        }
         if self.memory.reserve(count).is_err() {
             return Err(LayerError::NoMemory);
         }
@@ -105,7 +108,24 @@ pub(crate) fn put<L: OrderedLink>(
 {
     let mut octets = packet_memory(memory, link, most);
     encode(packet, &mut octets).unwrap();
-    link.put(octets).unwrap();
+    hand_down(link, octets);
+}
+
+// Hands a packet down to the link, in memory for no more than the longest one.
+#[inline(always)]
+fn hand_down<L: OrderedLink>(link: &mut L, packet: Vec<u8>)
+    requires few { vec_capacity packet ≤ 4099 }
+    requires promised { 0 < L.promised link.old }
+    requires up { L.up link.old ≡ true }
+    requires free { L.waits link.old < 256 }
+    requires longest { 4099 ≤ L.longest link.old }
+    ensures link { (x : L.State) → L.fits link.old x → L.fits link.new (L.after_put x packet.items) }
+    ensures promised { L.promised link.new ≡ L.promised link.old - 1 }
+    ensures longest { L.longest link.new ≡ L.longest link.old }
+    ensures up { L.up link.new ≡ L.up link.old }
+    ensures waits { L.waits link.new ≤ L.waits link.old + 1 }
+{
+    link.put(packet).unwrap();
 }
 
 // Memory for a packet of so many octets: that of one that the link no longer keeps, or else what was set aside.

@@ -13,8 +13,8 @@ ghost use Rattle.x25_layer.specs.code.FitsLayer.{FitsLayer, FitsStill};
 ghost use Rattle.x25_layer.specs.code.OverLink.{view_of, after_all, TakesPacket, Hears, IsLeft};
 ghost use Rattle.x25_layer.specs.Rounds.{LinkView, answer_to, hears};
 ghost use Rattle.x25_layer.specs.Asking.{with_circuit};
-ghost use Rattle.x25_layer.specs.Room.{HasCountsLeft, HaveCountsLeft, IsNotFull, HaveRoom, HaveRoomStill};
-ghost use Rattle.x25_layer.specs.Room.{HasRoom, KeepsRoom};
+ghost use Rattle.x25_layer.specs.Room.{HasCountsLeft, HaveCountsLeft, IsNotFull, HasRoomOn, HaveRoomStill};
+ghost use Rattle.x25_layer.specs.Room.{HasRoom, KeepsRoom, named_by};
 ghost use Rattle.x25_layer.specs.Report.{plain_report};
 ghost use Rattle.x25_layer.specs.Receiving.{plain_read, IsOfChannel, brings, circuit_hears, hears_on};
 
@@ -92,10 +92,10 @@ impl Layer {
         ensures memory { self.new.memory ≡ self.old.memory }
         ensures err { IfErr result (λ e. e ≡ LayerError.NoMemory) }
         ensures layer_stays { OnErr result (FitsStill self.old self.new) }
-        ensures enough { (len : ℕ) → brings (plain_read read.now) ≤ len → HaveRoom len self.old.circuits.items
-            → IsOk result }
-        ensures room { (len : ℕ) → HaveRoom len self.old.circuits.items
-            → IfOk result (λ reply. IfNone reply.packet (HaveRoom len self.new.circuits.items)) }
+        ensures enough { (len : ℕ) → brings (plain_read read.now) ≤ len
+            → HasRoomOn channel len self.old.circuits.items → IsOk result }
+        ensures room { (h len : ℕ) → HasRoomOn h len self.old.circuits.items
+            → IfOk result (λ reply. IfNone reply.packet (HasRoomOn h len self.new.circuits.items)) }
         ensures room_stays { OnErr result (HaveRoomStill self.old.circuits.items self.new.circuits.items) }
     {
         let place = usize::from(channel) - 1;
@@ -103,7 +103,7 @@ impl Layer {
         let answer = hear_circuit(circuit, read);
         let waits = circuit.waits();
         let is_full = is_full(circuit);
-        self.quiet &= waits == 0;
+        self.asked = self.asked.with_waiting(place, waits);
         self.counts_left &= !is_full;
         match answer {
             Ok(reply) => Ok(reply),
@@ -126,8 +126,8 @@ impl Layer {
             (λ c l. hears_on c l l.restarting channel (plain_read read.now))) }
         ensures err { IfErr result (λ e. e ≡ LayerError.NoMemory) }
         ensures stays { OnErr result (IsLeft self.old link.old self.new link.new) }
-        ensures enough { (len : ℕ) → brings (plain_read read.now) ≤ len → HaveRoom len self.old.circuits.items
-            → IsOk result }
+        ensures enough { (len : ℕ) → brings (plain_read read.now) ≤ len
+            → HasRoomOn channel len self.old.circuits.items → IsOk result }
     {
         if self.restarting {
             return Ok(Report::Nothing);
@@ -160,7 +160,8 @@ impl Layer {
             (read_in wide (longest_user self.old.long_data) octets.now))) }
         ensures err { IfErr result (λ e. e ≡ LayerError.NoMemory) }
         ensures stays { OnErr result (IsLeft self.old link.old self.new link.new) }
-        ensures enough { (len : ℕ) → length octets.now ≤ len + 3 → HaveRoom len self.old.circuits.items → IsOk result }
+        ensures enough { (len : ℕ) → length octets.now ≤ len + 3
+            → HasRoomOn (named_by octets.now) len self.old.circuits.items → IsOk result }
     {
         let Some(channel) = channel(octets) else {
             return Ok(Report::Nothing);
@@ -189,9 +190,9 @@ impl Layer {
     /// Octets that spell no packet go to the channel that the first two name. They are dropped where they name no
     /// configured channel, and, but for RESTART and its confirmation, while this end's restart isn't confirmed.
     ///
-    /// 70 alone, and not where `reserve` set memory aside for the octets behind the first three. The layer and the link
-    /// are as before then. Of what `reserve` set aside a call takes as much here as in the link: for each packet that
-    /// it puts. Where it puts none, the promise stands.
+    /// 70 alone, and not where `reserve` set memory aside on the channel that they name for the octets behind the first
+    /// three. The layer and the link are as before then. Of what `reserve` set aside a call takes as much here as in
+    /// the link: for each packet that it puts. Where it puts none, the promise stands.
     pub fn packet<'a, L: OrderedLink>(
         &mut self,
         link: &mut L,
@@ -213,8 +214,8 @@ impl Layer {
         ensures nothing { IfOk result (λ told. plain_report told ≡ [] → told ≡ Report.Nothing) }
         ensures longest { L.longest link.new ≡ L.longest link.old }
         ensures err { IfErr result (λ e. e ≡ LayerError.NoMemory) }
-        ensures enough { (len : ℕ) → length octets.now ≤ len + 3 → HasRoom len self.old (L.promised link.old)
-            → IsOk result }
+        ensures enough { (len : ℕ) → length octets.now ≤ len + 3
+            → HasRoom (named_by octets.now) len self.old (L.promised link.old) → IsOk result }
         ensures most_memory { self.new.memory ≤ max self.old.memory 16 }
         ensures most_promised { L.promised link.new ≤ max (L.promised link.old) 16 }
         ensures layer_stays { (c : LayerSettings) (l : State) → FitsLayer c self.old l
@@ -223,8 +224,8 @@ impl Layer {
         ensures used { 16 ≤ self.old.memory → 16 ≤ L.promised link.old
             → OnOk result (self.old.memory + L.promised link.new ≡ self.new.memory + L.promised link.old) }
         ensures room { OnOk result (KeepsRoom self.old (L.promised link.old) self.new (L.promised link.new)) }
-        ensures room_stays { (len : ℕ) → HasRoom len self.old (L.promised link.old)
-            → OnErr result (HasRoom len self.new (L.promised link.new)) }
+        ensures room_stays { (h len : ℕ) → HasRoom h len self.old (L.promised link.old)
+            → OnErr result (HasRoom h len self.new (L.promised link.new)) }
     {
         self.reserve_packets(link, MOST_PUT)?;
         let told = self.hear(link, wide, octets)?;

@@ -16,6 +16,7 @@ ghost use Rattle.x25_layer.specs.Room.{HasRoom, HaveRoomStill};
 use crate::circuits::{begin_all, forget_all};
 use crate::error::LayerError;
 use crate::layer::Layer;
+use crate::places::Places;
 use crate::report::Report;
 use x25_bits::Role;
 use x25_circuit::{CircuitError, may_restart_for};
@@ -68,7 +69,7 @@ impl Layer {
         ensures missing { OnErr result (LacksMemory 1 self.old (L.promised link.old)) }
         ensures most_memory { self.new.memory ≤ max self.old.memory 16 }
         ensures most_promised { L.promised link.new ≤ max (L.promised link.old) 16 }
-        ensures enough { (len : ℕ) → HasRoom len self.old (L.promised link.old) → IsOk result }
+        ensures enough { (h len : ℕ) → HasRoom h len self.old (L.promised link.old) → IsOk result }
         ensures layer_stays { (c : LayerSettings) (l : State) → FitsLayer c self.old l
             → OnErr result (FitsLayer c self.new l) }
         ensures link_stays { (x : L.State) → L.fits link.old x → OnErr result (L.fits link.new x) }
@@ -76,7 +77,7 @@ impl Layer {
         self.reserve_packets(link, 1)?;
         self.restarting = true;
         self.restarts = 0;
-        self.quiet = false;
+        self.asked = Places::everywhere();
         self.counts_left = false;
         begin_all(&mut self.circuits);
         let packet = Packet::Restart {
@@ -130,7 +131,7 @@ impl Layer {
         ensures room { HaveRoomStill self.old.circuits.items self.new.circuits.items }
     {
         self.restarting = true;
-        self.quiet = false;
+        self.asked = Places::everywhere();
         self.counts_left = false;
         forget_all(&mut self.circuits);
         let packet = Packet::Restart { cause, diagnostic };
@@ -147,7 +148,7 @@ impl Layer {
     {
         self.restarting = false;
         self.restarts += 1;
-        self.quiet = false;
+        self.asked = Places::everywhere();
         self.counts_left = false;
         begin_all(&mut self.circuits);
     }

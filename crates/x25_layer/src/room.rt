@@ -6,11 +6,13 @@ ghost use Rattle.x25_circuit.specs.code.FitsCircuit.{FitsCircuit};
 ghost use Rattle.x25_layer.specs.Layer.{LayerSettings};
 ghost use Rattle.x25_layer.specs.Layer.{Layer as State};
 ghost use Rattle.x25_layer.specs.code.FitsLayer.{FitsLayer, FitsCircuits, is_most, full_up_to, is_full, FitsStill};
-ghost use Rattle.x25_layer.specs.code.Waiting.{NoneWaits};
-ghost use Rattle.x25_layer.specs.Room.{HasCountsLeft, HaveCountsLeft, IsNotFull, HaveRoom, HasRoom, HaveAtMost};
+ghost use Rattle.x25_layer.specs.code.Waiting.{WaitAt};
+ghost use Rattle.x25_layer.specs.Room.{HasCountsLeft, HaveCountsLeft, IsNotFull, HasRoomOn, HasRoom, HaveAtMost};
+ghost use Rattle.x25_layer.specs.Room.{KeepOthers};
 
 use crate::error::LayerError;
 use crate::layer::Layer;
+use crate::places::Places;
 use crate::putting::MOST_PUT;
 use x25_circuit::Circuit;
 use x25_link::OrderedLink;
@@ -39,29 +41,32 @@ fn any_full(circuits: &[Circuit]) -> bool
     false
 }
 
-// Sets memory aside in each circuit for so many octets of user data of a packet, but for no more than the longest has.
-// For none no circuit is asked.
-fn reserve_in_all(circuits: &mut Vec<Circuit>, len: usize) -> Result<(), LayerError>
+// Sets memory aside in the circuit of a channel, where it is configured, for so many octets of user data of a packet,
+// but for no more than the longest has.
+fn reserve_on(circuits: &mut Vec<Circuit>, channel: u16, len: usize) -> Result<(), LayerError>
     ensures fits { (c : LayerSettings) (f : ℕ → Channel) → FitsCircuits c circuits.old.items f
         → FitsCircuits c circuits.new.items f }
     ensures count { length circuits.new.items ≡ length circuits.old.items }
     ensures left { HaveCountsLeft circuits.old.items → HaveCountsLeft circuits.new.items }
-    ensures still { NoneWaits circuits.old.items → NoneWaits circuits.new.items }
-    ensures room { OnOk result (HaveRoom len circuits.new.items) }
+    ensures still { (p : Places) → WaitAt p circuits.old.items → WaitAt p circuits.new.items }
+    ensures room { OnOk result (HasRoomOn channel len circuits.new.items) }
     ensures err { IfErr result (λ e. e ≡ LayerError.NoMemory) }
-    ensures enough { HaveRoom len circuits.old.items → IsOk result }
+    ensures enough { HasRoomOn channel len circuits.old.items → IsOk result }
     ensures most { (bound : ℕ) → 4096 ≤ bound → HaveAtMost bound circuits.old.items
         → HaveAtMost bound circuits.new.items }
+    ensures others { KeepOthers channel circuits.old.items circuits.new.items }
 {
-    if len == 0 {
+    let number = usize::from(channel);
+    if number == 0 {
         return Ok(());
     }
-    for circuit in circuits.iter_mut() {
-        if circuit.reserve(len).is_err() {
-            return Err(LayerError::NoMemory);
-        }
+    if number > circuits.len() {
+        return Ok(());
     }
-    Ok(())
+    match circuits[number - 1].reserve(len) {
+        Ok(()) => Ok(()),
+        Err(_) => Err(LayerError::NoMemory),
+    }
 }
 
 impl Layer {
@@ -76,29 +81,36 @@ impl Layer {
         self.restarts == u64::MAX || any_full(&self.circuits)
     }
 
-    /// Sets memory aside, here and in the link, for one `packet` with at most `len` octets of user data, which are
-    /// those behind its header of three, or for `up`, or for `down` and then `up`, which are then not refused with 70.
-    /// It changes nothing else. However much is asked, and however often, memory is set aside for 16 packets that are
-    /// put, and in each circuit for 4,096 octets, or for what was before.
+    /// Sets memory aside, here and in the link, for one `packet` on a channel with at most `len` octets of user data,
+    /// which are those behind its header of three, or for `up`, or for `down` and then `up`, which are then not refused
+    /// with 70. It changes nothing else. However much is asked, and however often, memory is set aside for 16 packets
+    /// that are put, and in the circuit of the channel, where it is configured, for 4,096 octets, or for what was
+    /// before.
     ///
     /// 70 alone, and only where less was set aside.
-    pub fn reserve<L: OrderedLink>(&mut self, link: &mut L, len: usize) -> Result<(), LayerError>
+    pub fn reserve<L: OrderedLink>(
+        &mut self,
+        link: &mut L,
+        channel: u16,
+        len: usize,
+    ) -> Result<(), LayerError>
         ensures layer { FitsStill self.old self.new }
         ensures link { (x : L.State) → L.fits link.old x → L.fits link.new x }
-        ensures room { OnOk result (HasRoom len self.new (L.promised link.new)) }
+        ensures room { OnOk result (HasRoom channel len self.new (L.promised link.new)) }
         ensures left { IsNotFull self.old → IsNotFull self.new }
         ensures longest { L.longest link.new ≡ L.longest link.old }
         ensures waits { L.waits link.new ≡ L.waits link.old }
         ensures up { L.up link.new ≡ L.up link.old }
-        ensures enough { HasRoom len self.old (L.promised link.old) → IsOk result }
+        ensures enough { HasRoom channel len self.old (L.promised link.old) → IsOk result }
         ensures most_memory { self.new.memory ≤ max self.old.memory 16 }
         ensures most_promised { L.promised link.new ≤ max (L.promised link.old) 16 }
         ensures most_circuits { (bound : ℕ) → 4096 ≤ bound → HaveAtMost bound self.old.circuits.items
             → HaveAtMost bound self.new.circuits.items }
+        ensures others { KeepOthers channel self.old.circuits.items self.new.circuits.items }
         ensures err { IfErr result (λ e. e ≡ LayerError.NoMemory) }
     {
         self.counts_left = !self.full();
-        reserve_in_all(&mut self.circuits, len)?;
+        reserve_on(&mut self.circuits, channel, len)?;
         self.reserve_packets(link, MOST_PUT)
     }
 }

@@ -1,7 +1,6 @@
 //! Rounds of pulls of data packets (profile): channels in rising order, one packet each, until a round gives none.
 ghost use Rattle.std.specs.Prelude.{◌≡◌, ◌<◌, ◌≤◌, length, true, nat_lt};
 ghost use Rattle.x25_packet.specs.Spelling.{IsChannel};
-ghost use Rattle.x25_circuit.specs.code.FitsCircuit.{waits_of};
 ghost use Rattle.x25_layer.specs.Layer.{LayerSettings};
 ghost use Rattle.x25_layer.specs.code.FitsLayer.{FitsLayer};
 ghost use Rattle.x25_layer.specs.code.OverLink.{view_of, after_all, TakesAlike, Answers};
@@ -9,10 +8,11 @@ ghost use Rattle.x25_layer.specs.Calls.{PullsAll};
 ghost use Rattle.x25_layer.specs.Rounds.{Putting, rounds};
 ghost use Rattle.x25_layer.specs.code.Pulling.{IsEnough, PullsOne, GoesRound};
 ghost use Rattle.x25_layer.specs.Room.{HaveRoomStill};
-ghost use Rattle.x25_layer.specs.code.Waiting.{NoneWaits};
+ghost use Rattle.x25_layer.specs.code.Waiting.{WaitAt};
 
 use crate::error::LayerError;
 use crate::layer::Layer;
+use crate::places::Places;
 use crate::putting::{MOST_PUT, PacketMemory, put};
 use crate::sending::DATA_HEADER;
 use x25_circuit::{Circuit, what_waits_is_pulled};
@@ -34,29 +34,23 @@ fn may_pull<L: OrderedLink>(link: &L, memory: &PacketMemory) -> bool
 }
 
 // Puts the next data packet of a circuit, where it may send one and fewer than 8 packets wait in the link: whether it
-// did. It isn't quiet where a message waits then.
+// did.
 #[inline(always)]
 fn pull_one<L: OrderedLink>(
     circuit: &mut Circuit,
     channel: u16,
     link: &mut L,
     memory: &mut PacketMemory,
-    quiet: &mut bool,
 ) -> bool
     requires channel { IsChannel channel }
     requires up { L.up link.old ≡ true }
     requires longest { 4099 ≤ L.longest link.old }
-    ensures pulls { PullsOne L.OrderedLink channel circuit.old link.old memory.old circuit.new link.new memory.new
-        result }
-    ensures before { quiet.new ≡ true → quiet.old ≡ true }
-    ensures still { quiet.new ≡ true → waits_of circuit.new ≡ 0 }
+    ensures { PullsOne L.OrderedLink channel circuit.old link.old memory.old circuit.new link.new memory.new result }
 {
     if circuit.waits() == 0 {
         return false;
     }
-    let is_put = pull_waiting(circuit, channel, link, memory);
-    *quiet &= circuit.waits() == 0;
-    is_put
+    pull_waiting(circuit, channel, link, memory)
 }
 
 // Puts it where a message waits in the circuit.
@@ -83,52 +77,51 @@ fn pull_waiting<L: OrderedLink>(
     true
 }
 
-// One round: whether a packet was put. Where it is known that no message waits, and where the link takes none, no
-// circuit is asked.
+// One round: whether a packet was put. Where the link takes none, no circuit is asked.
 #[inline(always)]
 fn round<L: OrderedLink>(
     circuits: &mut Vec<Circuit>,
     link: &mut L,
     memory: &mut PacketMemory,
-    quiet: &mut bool,
+    asked: &mut Places,
 ) -> bool
     requires few { length circuits.old.items ≤ 16 }
     requires up { L.up link.old ≡ true }
-    requires still { quiet.old ≡ true → NoneWaits circuits.old.items }
+    requires still { WaitAt asked.old circuits.old.items }
     requires longest { 4099 ≤ L.longest link.old }
     ensures { GoesRound L.OrderedLink circuits.old.items link.old memory.old circuits.new.items link.new memory.new
-        result quiet.new }
+        result asked.new }
 {
-    what_waits_is_pulled();
-    if *quiet {
-        return false;
-    }
     if !may_pull(link, memory) {
         return false;
     }
-    go_round(circuits, link, memory, quiet)
+    go_round(circuits, link, memory, asked)
 }
 
-// A round of all circuits: behind it it is known whether a message waits in one.
+// A round of the circuits that are asked: behind it those are in which a message waits, and those between.
 #[inline(always)]
 fn go_round<L: OrderedLink>(
     circuits: &mut Vec<Circuit>,
     link: &mut L,
     memory: &mut PacketMemory,
-    quiet: &mut bool,
+    asked: &mut Places,
 ) -> bool
     requires few { length circuits.old.items ≤ 16 }
     requires up { L.up link.old ≡ true }
+    requires still { WaitAt asked.old circuits.old.items }
     requires longest { 4099 ≤ L.longest link.old }
     ensures { GoesRound L.OrderedLink circuits.old.items link.old memory.old circuits.new.items link.new memory.new
-        result quiet.new }
+        result asked.new }
 {
-    let mut channel = 0;
+    what_waits_is_pulled();
+    let end = asked.end.min(circuits.len());
+    let first = asked.first.min(end);
+    *asked = Places::none();
     let mut is_put = false;
-    *quiet = true;
-    for circuit in circuits.iter_mut() {
-        channel += 1;
-        is_put |= pull_one(circuit, channel, link, memory, quiet);
+    for place in first..end {
+        let circuit = &mut circuits[place];
+        is_put |= pull_one(circuit, (place + 1) as u16, link, memory);
+        *asked = asked.with_waiting(place, circuit.waits());
     }
     is_put
 }
@@ -171,6 +164,6 @@ impl Layer {
         ensures room { HaveRoomStill self.old.circuits.items self.new.circuits.items }
         ensures takes { TakesAlike L.OrderedLink self.old.memory link.old self.new.memory link.new }
     {
-        while round(&mut self.circuits, link, &mut self.memory, &mut self.quiet) {}
+        while round(&mut self.circuits, link, &mut self.memory, &mut self.asked) {}
     }
 }

@@ -1,5 +1,5 @@
 //! From a packet to the octets that spell it.
-ghost use Rattle.std.specs.Prelude.{ℕ, ◌≡◌, ◌+◌, ◌*◌, ◌≤◌, ◌++◌, Ok, OnOk, OnErr, IsOk, drop, length, slice_index};
+ghost use Rattle.std.specs.Prelude.{ℕ, ◌≡◌, ◌+◌, ◌*◌, ◌≤◌, ◌++◌, Ok, OnOk, OnErr, IsOk, drop, length, max, slice_index};
 ghost use Rattle.std.specs.Prelude.{vec_len, vec_capacity};
 ghost use Rattle.std.specs.Vec.{VecUnchanged};
 ghost use Rattle.x25_packet.specs.Digits.{IsAddress, packed};
@@ -12,6 +12,7 @@ ghost use Rattle.x25_packet.specs.Spelling.{spelling_of, type_of};
 use crate::codes;
 use crate::digits::Digits;
 use crate::packet::Packet;
+use std::mem;
 use x25_bits::NoMemory;
 
 fn channel(packet: &Packet) -> u16
@@ -115,15 +116,20 @@ fn body_len(packet: &Packet) -> usize
     }
 }
 
-/// Appends octets that there is room for.
+/// Appends octets that there is room for. It owns the vector meanwhile, so that they are copied as a block.
 #[inline(always)]
 fn append(octets: &mut Vec<u8>, more: &[u8])
     requires { vec_len octets.old + length more.now ≤ vec_capacity octets.old }
     ensures items { octets.new.items ≡ octets.old.items ++ more.now }
     ensures len { vec_len octets.new ≡ vec_len octets.old + length more.now }
-    ensures capacity { vec_capacity octets.old ≤ vec_capacity octets.new }
+    ensures capacity { vec_capacity octets.new ≡ vec_capacity octets.old }
 {
-    octets.extend_from_slice(more).unwrap();
+    let none = Vec::new(*octets.allocator());
+    let mut all = mem::replace(octets, none);
+    for octet in more {
+        all.push_reserved(*octet);
+    }
+    *octets = all;
 }
 
 /// The digit at a place of the called and then the calling digits, 0 behind them.
@@ -146,7 +152,7 @@ fn append_digits(called: &Digits, calling: &Digits, octets: &mut Vec<u8>)
     requires { vec_len octets.old + length (packed (called.now ++ calling.now)) ≤ vec_capacity octets.old }
     ensures items { octets.new.items ≡ octets.old.items ++ packed (called.now ++ calling.now) }
     ensures len { vec_len octets.new ≡ vec_len octets.old + length (packed (called.now ++ calling.now)) }
-    ensures capacity { vec_capacity octets.old ≤ vec_capacity octets.new }
+    ensures capacity { vec_capacity octets.new ≡ vec_capacity octets.old }
 {
     for pair in 0..(called.len() + calling.len() + 1) / 2 {
         let high = digit_at(called, calling, 2 * pair);
@@ -169,7 +175,8 @@ fn append_call(
     requires field { length facilities.now ≤ 6 }
     requires room { vec_len octets.old + length
         (call_body called.now calling.now facilities.now user.now) ≤ vec_capacity octets.old }
-    ensures { octets.new.items ≡ octets.old.items ++ call_body called.now calling.now facilities.now user.now }
+    ensures items { octets.new.items ≡ octets.old.items ++ call_body called.now calling.now facilities.now user.now }
+    ensures capacity { vec_capacity octets.new ≡ vec_capacity octets.old }
 {
     append(octets, &[16 * calling.len() as u8 + called.len() as u8]);
     append_digits(called, calling, octets);
@@ -182,7 +189,8 @@ fn append_call(
 fn append_accept(facilities: &[u8], octets: &mut Vec<u8>)
     requires field { length facilities.now ≤ 6 }
     requires room { vec_len octets.old + length (accept_body facilities.now) ≤ vec_capacity octets.old }
-    ensures { octets.new.items ≡ octets.old.items ++ accept_body facilities.now }
+    ensures items { octets.new.items ≡ octets.old.items ++ accept_body facilities.now }
+    ensures capacity { vec_capacity octets.new ≡ vec_capacity octets.old }
 {
     if facilities.is_empty() {
         return;
@@ -196,7 +204,8 @@ fn append_accept(facilities: &[u8], octets: &mut Vec<u8>)
 fn append_body(packet: &Packet, octets: &mut Vec<u8>)
     requires range { IsInRange 128 (plain packet.now) }
     requires room { vec_len octets.old + length (body_of (plain packet.now)) ≤ vec_capacity octets.old }
-    ensures { octets.new.items ≡ octets.old.items ++ body_of (plain packet.now) }
+    ensures items { octets.new.items ≡ octets.old.items ++ body_of (plain packet.now) }
+    ensures capacity { vec_capacity octets.new ≡ vec_capacity octets.old }
 {
     match packet {
         Packet::Call {
@@ -230,8 +239,10 @@ fn append_packet(packet: &Packet, octets: &mut Vec<u8>) -> Result<(), NoMemory>
     ensures err { OnErr result (VecUnchanged octets.old octets.new) }
     ensures room { vec_len octets.old + length (spelling_of (plain packet.now)) ≤ vec_capacity octets.old
         → IsOk result }
+    ensures memory { vec_capacity octets.new
+        ≤ max (vec_capacity octets.old) (vec_len octets.old + length (spelling_of (plain packet.now))) }
 {
-    octets.reserve(3 + body_len(packet))?;
+    octets.reserve_exact(3 + body_len(packet))?;
     let [group, number] = channel(packet).to_be_bytes();
     let head = [16 * format(packet) + group, number, kind(packet)];
     append(octets, &head);
@@ -242,8 +253,8 @@ fn append_packet(packet: &Packet, octets: &mut Vec<u8>) -> Result<(), NoMemory>
 /// Appends the octets that spell the packet: format, channel, type and body. Each packet has this one spelling.
 ///
 /// The packet's fields are in their ranges, with at most 128 octets of user data in a CALL. It takes no memory where
-/// the capacity has room for the octets; else it is refused with `NoMemory` (70) where there is none. ITU-T X.25
-/// (10/96), section 5.
+/// the capacity has room for the octets, and else memory for them and no more; it is refused with `NoMemory` (70) where
+/// there is none. ITU-T X.25 (10/96), section 5.
 #[inline(always)]
 pub fn encode(packet: &Packet, octets: &mut Vec<u8>) -> Result<(), NoMemory>
     requires { IsInRange 128 (plain packet.now) }
@@ -254,6 +265,8 @@ pub fn encode(packet: &Packet, octets: &mut Vec<u8>) -> Result<(), NoMemory>
     ensures err { OnErr result (VecUnchanged octets.old octets.new) }
     ensures room { vec_len octets.old + length (spelling_of (plain packet.now)) ≤ vec_capacity octets.old
         → IsOk result }
+    ensures memory { vec_capacity octets.new
+        ≤ max (vec_capacity octets.old) (vec_len octets.old + length (spelling_of (plain packet.now))) }
 {
     append_packet(packet, octets)
 }

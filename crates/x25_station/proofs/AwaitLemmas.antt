@@ -1,6 +1,8 @@
--- What a step makes of an answer that is awaited on a channel: it is awaited still, or fewer steps are left.
-use Rattle.std.proofs.Common.{◌≡◌, ℕ, zero, suc, ◌<◌, ◌≤◌, ◌==◌, ◌⊎◌, inl, inr, List, [], ◌∷◌, Bool, true, false, if◌then◌else◌, nat_lt, Option, Some, None, Result, Ok, Err, refl, sym, ap, subst, ◌∙◌, arith}
-use Rattle.std.proofs.lemmas.Bool.{eqb-true}
+-- What a step makes of an answer that is awaited on a channel: it is awaited still, or fewer steps are left, and that is
+-- told.
+use Rattle.std.proofs.Common.{◌≡◌, ℕ, zero, suc, ◌<◌, ◌≤◌, ◌==◌, ◌⊎◌, inl, inr, List, [], ◌∷◌, map, Bool, true, false, ◌&&◌, ◌||◌, if◌then◌else◌, nat_lt, Option, Some, None, Result, Ok, Err, refl, sym, ap, subst, ◌∙◌, arith}
+use Rattle.std.proofs.lemmas.Bool.{true≢false, eqb-true, eq-eqb}
+use Rattle.std.specs.List.{list_any}
 use Rattle.x25_bits.specs.declared.role.Role.{Role}
 use Rattle.x25_bits.specs.declared.role.Role.TheVariants.{Dte, Dce}
 use Rattle.x25_packet.specs.declared.error.PacketError.{PacketError}
@@ -19,14 +21,19 @@ use Rattle.x25_circuit.specs.Awaits.{awaited_in}
 use Rattle.x25_circuit.specs.Circuit.{Settings as CircuitSettings, Circuit}
 use Rattle.x25_circuit.specs.Calling.{Outcome as CircuitOutcome, Done, Refused as CircuitRefused, Request, Calls, Accepts, Clears, Sends, Interrupts, Resets, SaysReady, SaysNotReady, call_in, accept_in, clear_in, send_in, interrupt_in, reset_in, ready_in, outcome, Pulled, pull_in, pull_open, pulled}
 use Rattle.x25_circuit.specs.Message.{Piece}
-use Rattle.x25_circuit.specs.Notice.{CallRequest}
+use Rattle.x25_circuit.specs.Notice.{CallRequest, PlainNotice, connected}
 use Rattle.x25_circuit.specs.Params.{Proposal, may_answer, said_in}
 use Rattle.x25_circuit.specs.Hearing as table
 use Rattle.x25_circuit.specs.Hearing.{Answer, answers, undecoded}
-use Rattle.x25_layer.specs.Layer.{LayerSettings, Layer, LayerAnswer, is_channel, put_at, answers_on, drops, restarting_from, answers_ready, answers_restarting, answers_in, undecoded_in}
+use Rattle.x25_handshakes.specs.laws.Names.{Name}
+use Rattle.x25_layer.specs.Layer.{LayerSettings, Layer, LayerAnswer, is_channel, is_ready, put_at, notices_on, answers_on, drops, restarting_from, answers_ready, answers_restarting, answers_in, undecoded_in}
+use Rattle.x25_layer.specs.laws.Transcript.{Said, Asked, Told, name_of}
+use Rattle.x25_layer.specs.laws.TwoLayers.{shown}
 use Rattle.x25_layer.specs.Calls.{LayerRequest, Asks, Dials, Restarts, PullsAll, LayerOutcome, Accepted, Declined, where_room, if_at_once, puts_at_once, outcome_on, dialled, restarted_for, outcome_ready, outcome_in, layer_outcome, free_channel, layer_pulled}
 use Rattle.x25_layer.specs.Rounds.{LinkView, Putting, with_pulled, pull_one, round, rounds_of, rounds, backlog, undecoded_at, answer_to}
 use Rattle.x25_layer.specs.declared.error.LayerError.TheVariants as error
+use Rattle.x25_station.specs.Entry.{StationEntry, of_channel, restart_asked, was_restarted, restart_confirmed, at_fault, station_told, station_asked}
+use Rattle.x25_station.specs.laws.EndLaw.{is_answer, is_answer_in, clears_in, is_answered_on, is_left_on}
 use Rattle.x25_station.specs.laws.WayOutLaw.{rank_in, rank_of}
 
 -- ---- the states in which an answer is awaited
@@ -59,99 +66,96 @@ kind_of Open n high = none_low n high
 kind_of Resetting n high = record { kind = in_reset; is = refl }
 kind_of Clearing n high = record { kind = in_clear; is = refl }
 
--- ---- a circuit: from one state to another
+-- ---- a circuit: from one state to another, and what is said there
 
-abbrev Next : State → State → Type 0
-Next s t = (awaited_in t ≡ awaited_in s) ⊎ (rank_in (awaited_in t) < rank_in (awaited_in s))
+-- it is cleared, or what was awaited is answered
+abbrev Ends : Awaits → State → List Said → Type 0
+Ends awaits t said = ((t ≡ Clearing) × (list_any clears_in said ≡ true)) ⊎ (list_any (is_answer_in awaits) said ≡ true)
 
--- it is cleared
-to_clearing : (k : Kind) → Next (state_of k) Clearing
-to_clearing in_call = inr (omega arith)
-to_clearing in_collision = inr (omega arith)
-to_clearing in_reset = inr (omega arith)
-to_clearing in_clear = inl refl
+abbrev Next : State → State → List Said → Type 0
+Next s t said = (awaited_in t ≡ awaited_in s) ⊎ ((rank_in (awaited_in t) < rank_in (awaited_in s)) × Ends (awaited_in s) t said)
 
--- the answer has come
-to_free : (k : Kind) → Next (state_of k) Free
-to_free in_call = inr (omega arith)
-to_free in_collision = inr (omega arith)
-to_free in_reset = inr (omega arith)
-to_free in_clear = inr (omega arith)
+abbrev told : List PlainNotice → List Said
+told notices = map (λ (notice : PlainNotice). Told notice) notices
 
-to_open : (k : Kind) → Next (state_of k) Open
-to_open in_call = inr (omega arith)
-to_open in_collision = inr (omega arith)
-to_open in_reset = inr (omega arith)
-to_open in_clear = inr (omega arith)
+abbrev AnswerNext : State → Answer → Type 0
+AnswerNext s a = Next s a.next.state (told a.notices)
 
-by_if : (s : State) (b : Bool) (u v : Answer) → Next s u.next.state → Next s v.next.state → (let a : Answer = if b then u else v in Next s a.next.state)
+by_if : (s : State) (b : Bool) (u v : Answer) → AnswerNext s u → AnswerNext s v → (let a : Answer = if b then u else v in AnswerNext s a)
 by_if s true u v p q = p
 by_if s false u v p q = q
 
 module _ (c : CircuitSettings) (x : Circuit) where
-  stays : (k : Kind) → x.state ≡ state_of k → Next (state_of k) x.state
+  stays : (k : Kind) → x.state ≡ state_of k → Next (state_of k) x.state []
   stays k is = inl (ap awaited_in is)
 
-  collision_next : (r : Role) (request : CallRequest) → Next Calling (table.collides r x request).next.state
-  collision_next Dte request = inl refl
-  collision_next Dce request = inr (omega arith)
+  -- an error of procedure: it is cleared
+  unexpected_next : (k : Kind) → AnswerNext (state_of k) (table.unexpected c x (state_of k))
+  unexpected_next in_call = inr (omega arith, inl (refl, refl))
+  unexpected_next in_collision = inr (omega arith, inl (refl, refl))
+  unexpected_next in_reset = inr (omega arith, inl (refl, refl))
+  unexpected_next in_clear = inl refl
 
-  call_next : (k : Kind) → x.state ≡ state_of k → (request : CallRequest) → Next (state_of k) (table.row_call c x (state_of k) request).next.state
+  collision_next : (r : Role) (request : CallRequest) → AnswerNext Calling (table.collides r x request)
+  collision_next Dte request = inl refl
+  collision_next Dce request = inr (omega arith, inr refl)
+
+  call_next : (k : Kind) → x.state ≡ state_of k → (request : CallRequest) → AnswerNext (state_of k) (table.row_call c x (state_of k) request)
   call_next in_call is request = collision_next c.role request
-  call_next in_collision is request = to_clearing in_collision
-  call_next in_reset is request = to_clearing in_reset
+  call_next in_collision is request = unexpected_next in_collision
+  call_next in_reset is request = unexpected_next in_reset
   call_next in_clear is request = stays in_clear is
 
-  connects_next : (k : Kind) (answered : Params) → Next (state_of k) (table.connects c x answered).next.state
-  connects_next k answered = by_if (state_of k) (may_answer x.params answered) _ _ (to_open k) (to_clearing k)
+  connects_next : (s : State) (answered : Params) → AnswerNext s (table.goes x Open answered true None (connected answered ∷ [])) → AnswerNext s (table.clears_for c x 3 66) → AnswerNext s (table.connects c x answered)
+  connects_next s answered p q = by_if s (may_answer x.params answered) (table.goes x Open answered true None (connected answered ∷ [])) (table.clears_for c x 3 66) p q
 
-  accept_next : (k : Kind) → x.state ≡ state_of k → (facilities : List ℕ) → Next (state_of k) (table.row_accept c x (state_of k) facilities).next.state
-  accept_next in_call is facilities = connects_next in_call (said_in x.params facilities)
-  accept_next in_collision is facilities = connects_next in_collision (said_in x.params facilities)
-  accept_next in_reset is facilities = to_clearing in_reset
+  accept_next : (k : Kind) → x.state ≡ state_of k → (facilities : List ℕ) → AnswerNext (state_of k) (table.row_accept c x (state_of k) facilities)
+  accept_next in_call is facilities = connects_next Calling (said_in x.params facilities) (inr (omega arith, inr refl)) (inr (omega arith, inl (refl, refl)))
+  accept_next in_collision is facilities = connects_next Collision (said_in x.params facilities) (inr (omega arith, inr refl)) (inr (omega arith, inl (refl, refl)))
+  accept_next in_reset is facilities = unexpected_next in_reset
   accept_next in_clear is facilities = stays in_clear is
 
-  clear_next : (k : Kind) (cause diagnostic : ℕ) → Next (state_of k) (table.row_clear x (state_of k) cause diagnostic).next.state
-  clear_next in_call cause diagnostic = to_free in_call
-  clear_next in_collision cause diagnostic = to_free in_collision
-  clear_next in_reset cause diagnostic = to_free in_reset
-  clear_next in_clear cause diagnostic = to_free in_clear
+  clear_next : (k : Kind) (cause diagnostic : ℕ) → AnswerNext (state_of k) (table.row_clear x (state_of k) cause diagnostic)
+  clear_next in_call cause diagnostic = inr (omega arith, inr refl)
+  clear_next in_collision cause diagnostic = inr (omega arith, inr refl)
+  clear_next in_reset cause diagnostic = inr (omega arith, inr refl)
+  clear_next in_clear cause diagnostic = inr (omega arith, inr refl)
 
-  clear_conf_next : (k : Kind) → Next (state_of k) (table.row_clear_conf c x (state_of k)).next.state
-  clear_conf_next in_call = to_clearing in_call
-  clear_conf_next in_collision = to_clearing in_collision
-  clear_conf_next in_reset = to_clearing in_reset
-  clear_conf_next in_clear = to_free in_clear
+  clear_conf_next : (k : Kind) → AnswerNext (state_of k) (table.row_clear_conf c x (state_of k))
+  clear_conf_next in_call = unexpected_next in_call
+  clear_conf_next in_collision = unexpected_next in_collision
+  clear_conf_next in_reset = unexpected_next in_reset
+  clear_conf_next in_clear = inr (omega arith, inr refl)
 
-  reset_next : (k : Kind) → x.state ≡ state_of k → (cause diagnostic : ℕ) → Next (state_of k) (table.row_reset c x (state_of k) cause diagnostic).next.state
-  reset_next in_call is cause diagnostic = to_clearing in_call
-  reset_next in_collision is cause diagnostic = to_clearing in_collision
-  reset_next in_reset is cause diagnostic = to_open in_reset
+  reset_next : (k : Kind) → x.state ≡ state_of k → (cause diagnostic : ℕ) → AnswerNext (state_of k) (table.row_reset c x (state_of k) cause diagnostic)
+  reset_next in_call is cause diagnostic = unexpected_next in_call
+  reset_next in_collision is cause diagnostic = unexpected_next in_collision
+  reset_next in_reset is cause diagnostic = inr (omega arith, inr refl)
   reset_next in_clear is cause diagnostic = stays in_clear is
 
-  reset_conf_next : (k : Kind) → x.state ≡ state_of k → Next (state_of k) (table.row_reset_conf c x (state_of k)).next.state
-  reset_conf_next in_call is = to_clearing in_call
-  reset_conf_next in_collision is = to_clearing in_collision
-  reset_conf_next in_reset is = to_open in_reset
+  reset_conf_next : (k : Kind) → x.state ≡ state_of k → AnswerNext (state_of k) (table.row_reset_conf c x (state_of k))
+  reset_conf_next in_call is = unexpected_next in_call
+  reset_conf_next in_collision is = unexpected_next in_collision
+  reset_conf_next in_reset is = inr (omega arith, inr refl)
   reset_conf_next in_clear is = stays in_clear is
 
-  data_next : (k : Kind) → x.state ≡ state_of k → (packet : PlainPacket) → Next (state_of k) (table.row_data c x (state_of k) packet).next.state
-  data_next in_call is packet = to_clearing in_call
-  data_next in_collision is packet = to_clearing in_collision
+  data_next : (k : Kind) → x.state ≡ state_of k → (packet : PlainPacket) → AnswerNext (state_of k) (table.row_data c x (state_of k) packet)
+  data_next in_call is packet = unexpected_next in_call
+  data_next in_collision is packet = unexpected_next in_collision
   data_next in_reset is packet = stays in_reset is
   data_next in_clear is packet = stays in_clear is
 
-  undecoded_next : (k : Kind) → x.state ≡ state_of k → (e : PacketError) → Next (state_of k) (table.row_undecoded c x (state_of k) e).next.state
-  undecoded_next in_call is e = to_clearing in_call
-  undecoded_next in_collision is e = to_clearing in_collision
+  undecoded_next : (k : Kind) → x.state ≡ state_of k → (e : PacketError) → AnswerNext (state_of k) (table.row_undecoded c x (state_of k) e)
+  undecoded_next in_call is e = inr (omega arith, inl (refl, refl))
+  undecoded_next in_collision is e = inr (omega arith, inl (refl, refl))
   undecoded_next in_reset is e = stays in_reset is
   undecoded_next in_clear is e = stays in_clear is
 
   -- the row of the state in which it is
-  by_row : (row : State → Answer) (k : Kind) → x.state ≡ state_of k → Next (state_of k) (row (state_of k)).next.state → Next x.state (row x.state).next.state
-  by_row row k is next = subst (λ (s : State). Next s (row s).next.state) (sym is) next
+  by_row : (row : State → Answer) (k : Kind) → x.state ≡ state_of k → AnswerNext (state_of k) (row (state_of k)) → AnswerNext x.state (row x.state)
+  by_row row k is next = subst (λ (s : State). AnswerNext s (row s)) (sym is) next
 
-  hears_next : IsKind x.state → (packet : PlainPacket) → Next x.state (answers c x packet).next.state
+  hears_next : IsKind x.state → (packet : PlainPacket) → AnswerNext x.state (answers c x packet)
   hears_next k (call channel called calling facilities user) = by_row (λ s. table.row_call c x s (table.request_in called calling facilities user)) k.kind k.is (call_next k.kind k.is _)
   hears_next k (accept channel facilities) = by_row (λ s. table.row_accept c x s facilities) k.kind k.is (accept_next k.kind k.is facilities)
   hears_next k (clear channel cause diagnostic) = by_row (λ s. table.row_clear x s cause diagnostic) k.kind k.is (clear_next k.kind cause diagnostic)
@@ -166,101 +170,141 @@ module _ (c : CircuitSettings) (x : Circuit) where
   hears_next k (restart cause diagnostic) = inl refl
   hears_next k restart_conf = inl refl
 
-  cannot_read : IsKind x.state → (e : PacketError) → Next x.state (undecoded c x e).next.state
+  cannot_read : IsKind x.state → (e : PacketError) → AnswerNext x.state (undecoded c x e)
   cannot_read k e = by_row (λ s. table.row_undecoded c x s e) k.kind k.is (undecoded_next k.kind k.is e)
 
 -- ---- what its user asks: nothing is accepted but that it be cleared
 
-abbrev OutcomeNext : State → CircuitOutcome → Type 0
-OutcomeNext s (Done next packet) = Next s next.state
-OutcomeNext s (CircuitRefused e) = Unit {0}
+abbrev OutcomeNext : State → List Said → CircuitOutcome → Type 0
+OutcomeNext s said (Done next packet) = Next s next.state said
+OutcomeNext s said (CircuitRefused e) = Unit {0}
 
-module _ (c : CircuitSettings) (x : Circuit) where
-  no_call : (called calling user : List ℕ) (proposal : Proposal) (k : Kind) → OutcomeNext (state_of k) (call_in c x (state_of k) called calling user proposal)
+module _ (c : CircuitSettings) (x : Circuit) (said : List Said) where
+  no_call : (called calling user : List ℕ) (proposal : Proposal) (k : Kind) → OutcomeNext (state_of k) said (call_in c x (state_of k) called calling user proposal)
   no_call called calling user proposal in_call = tt
   no_call called calling user proposal in_collision = tt
   no_call called calling user proposal in_reset = tt
   no_call called calling user proposal in_clear = tt
 
-  no_acceptance : (answer : Option Proposal) (k : Kind) → OutcomeNext (state_of k) (accept_in x (state_of k) answer)
+  no_acceptance : (answer : Option Proposal) (k : Kind) → OutcomeNext (state_of k) said (accept_in x (state_of k) answer)
   no_acceptance answer in_call = tt
   no_acceptance answer in_collision = tt
   no_acceptance answer in_reset = tt
   no_acceptance answer in_clear = tt
 
-  given : (s : State) (b : Bool) (u : CircuitOutcome) → OutcomeNext s u → OutcomeNext s (if b then u else CircuitRefused circuit_error.BadParameter)
+  given : (s : State) (b : Bool) (u : CircuitOutcome) → OutcomeNext s said u → OutcomeNext s said (if b then u else CircuitRefused circuit_error.BadParameter)
   given s true u next = next
   given s false u next = tt
 
-  cleared : (cause diagnostic : ℕ) (k : Kind) → OutcomeNext (state_of k) (clear_in c x (state_of k) cause diagnostic)
-  cleared cause diagnostic in_call = given Calling (may_clear_for c.role cause) _ (to_clearing in_call)
-  cleared cause diagnostic in_collision = given Collision (may_clear_for c.role cause) _ (to_clearing in_collision)
-  cleared cause diagnostic in_reset = given Resetting (may_clear_for c.role cause) _ (to_clearing in_reset)
-  cleared cause diagnostic in_clear = tt
+  cleared : (cause diagnostic : ℕ) → list_any clears_in said ≡ true → (k : Kind) → OutcomeNext (state_of k) said (clear_in c x (state_of k) cause diagnostic)
+  cleared cause diagnostic is in_call = given Calling (may_clear_for c.role cause) _ (inr (omega arith, inl (refl, is)))
+  cleared cause diagnostic is in_collision = given Collision (may_clear_for c.role cause) _ (inr (omega arith, inl (refl, is)))
+  cleared cause diagnostic is in_reset = given Resetting (may_clear_for c.role cause) _ (inr (omega arith, inl (refl, is)))
+  cleared cause diagnostic is in_clear = tt
 
-  no_message : (q : Bool) (user : List ℕ) (k : Kind) → OutcomeNext (state_of k) (send_in c x (state_of k) q user)
+  no_message : (q : Bool) (user : List ℕ) (k : Kind) → OutcomeNext (state_of k) said (send_in c x (state_of k) q user)
   no_message q user in_call = tt
   no_message q user in_collision = tt
   no_message q user in_reset = tt
   no_message q user in_clear = tt
 
-  no_interrupt : (user : List ℕ) (k : Kind) → OutcomeNext (state_of k) (interrupt_in x (state_of k) user)
+  no_interrupt : (user : List ℕ) (k : Kind) → OutcomeNext (state_of k) said (interrupt_in x (state_of k) user)
   no_interrupt user in_call = tt
   no_interrupt user in_collision = tt
   no_interrupt user in_reset = tt
   no_interrupt user in_clear = tt
 
-  no_reset : (cause diagnostic : ℕ) (k : Kind) → OutcomeNext (state_of k) (reset_in c x (state_of k) cause diagnostic)
+  no_reset : (cause diagnostic : ℕ) (k : Kind) → OutcomeNext (state_of k) said (reset_in c x (state_of k) cause diagnostic)
   no_reset cause diagnostic in_call = tt
   no_reset cause diagnostic in_collision = tt
   no_reset cause diagnostic in_reset = tt
   no_reset cause diagnostic in_clear = tt
 
-  no_ready : (ready : Bool) (k : Kind) → OutcomeNext (state_of k) (ready_in x (state_of k) ready)
+  no_ready : (ready : Bool) (k : Kind) → OutcomeNext (state_of k) said (ready_in x (state_of k) ready)
   no_ready ready in_call = tt
   no_ready ready in_collision = tt
   no_ready ready in_reset = tt
   no_ready ready in_clear = tt
 
-  asked : (row : State → CircuitOutcome) → ((k : Kind) → OutcomeNext (state_of k) (row (state_of k))) → IsKind x.state → OutcomeNext x.state (row x.state)
-  asked row next k = subst (λ (s : State). OutcomeNext s (row s)) (sym k.is) (next k.kind)
+  asked : (row : State → CircuitOutcome) → ((k : Kind) → OutcomeNext (state_of k) said (row (state_of k))) → IsKind x.state → OutcomeNext x.state said (row x.state)
+  asked row next k = subst (λ (s : State). OutcomeNext s said (row s)) (sym k.is) (next k.kind)
 
-  asks_next : IsKind x.state → (request : Request) → OutcomeNext x.state (outcome c x request)
-  asks_next k (Calls called calling user proposal) = asked (λ s. call_in c x s called calling user proposal) (no_call called calling user proposal) k
-  asks_next k (Accepts answer) = asked (λ s. accept_in x s answer) (no_acceptance answer) k
-  asks_next k (Clears cause diagnostic) = asked (λ s. clear_in c x s cause diagnostic) (cleared cause diagnostic) k
-  asks_next k (Sends q user) = asked (λ s. send_in c x s q user) (no_message q user) k
-  asks_next k (Interrupts user) = asked (λ s. interrupt_in x s user) (no_interrupt user) k
-  asks_next k (Resets cause diagnostic) = asked (λ s. reset_in c x s cause diagnostic) (no_reset cause diagnostic) k
-  asks_next k SaysReady = asked (λ s. ready_in x s true) (no_ready true) k
-  asks_next k SaysNotReady = asked (λ s. ready_in x s false) (no_ready false) k
+  calls_next : IsKind x.state → (called calling user : List ℕ) (proposal : Proposal) → OutcomeNext x.state said (outcome c x (Calls called calling user proposal))
+  calls_next k called calling user proposal = asked (λ s. call_in c x s called calling user proposal) (no_call called calling user proposal) k
+
+-- as it is shown beside a circuit
+abbrev says : Circuit → Request → List Said
+says y request = Asked (shown y request) ∷ []
+
+asks_next : (c : CircuitSettings) (x y : Circuit) → IsKind x.state → (request : Request) → OutcomeNext x.state (says y request) (outcome c x request)
+asks_next c x y k (Calls called calling user proposal) = calls_next c x (says y (Calls called calling user proposal)) k called calling user proposal
+asks_next c x y k (Accepts answer) = let said = says y (Accepts answer) in asked c x said (λ s. accept_in x s answer) (no_acceptance c x said answer) k
+asks_next c x y k (Clears cause diagnostic) = let said = says y (Clears cause diagnostic) in asked c x said (λ s. clear_in c x s cause diagnostic) (cleared c x said cause diagnostic refl) k
+asks_next c x y k (Sends q user) = let said = says y (Sends q user) in asked c x said (λ s. send_in c x s q user) (no_message c x said q user) k
+asks_next c x y k (Interrupts user) = let said = says y (Interrupts user) in asked c x said (λ s. interrupt_in x s user) (no_interrupt c x said user) k
+asks_next c x y k (Resets cause diagnostic) = let said = says y (Resets cause diagnostic) in asked c x said (λ s. reset_in c x s cause diagnostic) (no_reset c x said cause diagnostic) k
+asks_next c x y k SaysReady = let said = says y SaysReady in asked c x said (λ s. ready_in x s true) (no_ready c x said true) k
+asks_next c x y k SaysNotReady = let said = says y SaysNotReady in asked c x said (λ s. ready_in x s false) (no_ready c x said false) k
+
+-- ---- what is said on a channel, by entries
+
+record AreSaid (h : ℕ) (said : List Said) (entries : List StationEntry) : Type 0 where
+  clears : list_any clears_in said ≡ true → list_any (is_left_on h) entries ≡ true
+  answers : (awaits : Awaits) → list_any (is_answer_in awaits) said ≡ true → list_any (is_answered_on h awaits) entries ≡ true
+
+left_told : (l : Layer) (h : ℕ) (notices : List PlainNotice) → list_any (is_left_on h) (station_told l (notices_on h notices)) ≡ list_any clears_in (told notices)
+left_told l h [] = refl
+left_told l h (notice ∷ notices) =
+    ap (λ (b : Bool). (b && clears_in (Told notice)) || list_any (is_left_on h) (station_told l (notices_on h notices))) (eq-eqb h h refl)
+    ∙ ap (λ (b : Bool). clears_in (Told notice) || b) (left_told l h notices)
+
+answered_told : (l : Layer) (h : ℕ) (awaits : Awaits) (notices : List PlainNotice) → list_any (is_answered_on h awaits) (station_told l (notices_on h notices)) ≡ list_any (is_answer_in awaits) (told notices)
+answered_told l h awaits [] = refl
+answered_told l h awaits (notice ∷ notices) =
+    ap (λ (b : Bool). (b && is_answer awaits notice) || list_any (is_answered_on h awaits) (station_told l (notices_on h notices))) (eq-eqb h h refl)
+    ∙ ap (λ (b : Bool). is_answer awaits notice || b) (answered_told l h awaits notices)
+
+all_told : (l : Layer) (h : ℕ) (notices : List PlainNotice) → AreSaid h (told notices) (station_told l (notices_on h notices))
+all_told l h notices = record { clears = λ is. left_told l h notices ∙ is; answers = λ awaits is. answered_told l h awaits notices ∙ is }
+
+one_asked : (h : ℕ) (name : Name) (request : Request) → AreSaid h (Asked request ∷ []) (of_channel (record { channel = h; name = name; said = Asked request }) ∷ [])
+one_asked h name request = record { clears = λ is. ap (λ (b : Bool). (b && clears_in (Asked request)) || false) (eq-eqb h h refl) ∙ is; answers = λ awaits is. absurd (true≢false (sym is)) }
+
+none_said : (h : ℕ) (entries : List StationEntry) → AreSaid h [] entries
+none_said h entries = record { clears = λ is. absurd (true≢false (sym is)); answers = λ awaits is. absurd (true≢false (sym is)) }
 
 -- ---- a layer: whether a restart is under way, and the state on a channel, which is configured or not
 
 abbrev pub awaits_in : Bool → State → Awaits
 awaits_in b s = if b then awaited_in s else Nothing
 
-abbrev Moves : Bool → Bool → State → Bool → State → Type 0
-Moves b r s r' s' = ((r' ≡ r) × (awaits_in b s' ≡ awaits_in b s)) ⊎ (rank_of Up r' (awaits_in b s') < rank_of Up r (awaits_in b s))
+-- the entries tell that it is left for another, or answered
+abbrev pub EndsOn : ℕ → Awaits → ℕ → List StationEntry → Type 0
+EndsOn h awaits left entries = ((2 ≤ left) × (list_any (is_left_on h) entries ≡ true)) ⊎ (list_any (is_answered_on h awaits) entries ≡ true)
 
-abbrev pub LayerMoves : LayerSettings → ℕ → Layer → Layer → Type 0
-LayerMoves c h l m = Moves (is_channel c.channels h) l.restarting (l.circuits h).state m.restarting (m.circuits h).state
+abbrev Moves : ℕ → Bool → Bool → State → Bool → State → List StationEntry → Type 0
+Moves h b r s r' s' entries = ((r' ≡ r) × (awaits_in b s' ≡ awaits_in b s))
+    ⊎ ((rank_of Up r' (awaits_in b s') < rank_of Up r (awaits_in b s)) × EndsOn h (awaits_in b s) (rank_of Up r' (awaits_in b s')) entries)
 
-pub still : (b r : Bool) (s : State) → Moves b r s r s
-still b r s = inl (refl, refl)
+abbrev pub LayerMoves : LayerSettings → ℕ → Layer → Layer → List StationEntry → Type 0
+LayerMoves c h l m entries = Moves h (is_channel c.channels h) l.restarting (l.circuits h).state m.restarting (m.circuits h).state entries
 
-circuit_moves : (b : Bool) (s t : State) → 2 ≤ rank_of Up false (awaits_in b s) → (IsKind s → Next s t) → Moves b false s false t
-circuit_moves false s t high next = inl (refl, refl)
-circuit_moves true s t high next = from (next (kind_of s 1 high))
+circuit_moves : (h : ℕ) (b : Bool) (s t : State) (said : List Said) (entries : List StationEntry) → 2 ≤ rank_of Up false (awaits_in b s) → AreSaid h said entries → (IsKind s → Next s t said) → Moves h b false s false t entries
+circuit_moves h false s t said entries high are next = inl (refl, refl)
+circuit_moves h true s t said entries high are next = from (next (kind_of s 1 high))
   where
-    from : Next s t → Moves true false s false t
+    ended : rank_in (awaited_in t) < rank_in (awaited_in s) → Ends (awaited_in s) t said → Moves h true false s false t entries
+    ended low (inl x) = inr (low, inl (subst (λ (u : State). 2 ≤ rank_in (awaited_in u)) (sym x.0) (omega arith), are.clears x.1))
+    ended low (inr is) = inr (low, inr (are.answers (awaited_in s) is))
+
+    from : Next s t said → Moves h true false s false t entries
     from (inl e) = inl (refl, e)
-    from (inr low) = inr low
+    from (inr x) = ended x.0 x.1
 
 -- a restart is done, or begins
-restarted_moves : (b r : Bool) (s : State) → 2 ≤ rank_of Up r (awaits_in b s) → Moves b r s false Free
-restarted_moves false r s high = inr (omega (arith, high))
-restarted_moves true r s high = inr (omega (arith, high))
+restarted_moves : (h : ℕ) (b r : Bool) (s : State) (entries : List StationEntry) → 2 ≤ rank_of Up r (awaits_in b s) → list_any (is_answered_on h (awaits_in b s)) entries ≡ true → Moves h b r s false Free entries
+restarted_moves h false r s entries high is = inr (omega (arith, high), inr is)
+restarted_moves h true r s entries high is = inr (omega (arith, high), inr is)
 
 above : (a : Awaits) → 2 ≤ rank_in a → 2 < rank_in a
 above Nothing high = absurd (none_low 1 high)
@@ -268,8 +312,8 @@ above Acceptance high = omega arith
 above ResetConfirmation high = omega arith
 above ClearConfirmation high = omega arith
 
-restarting_moves : (b : Bool) (s t : State) → 2 ≤ rank_of Up false (awaits_in b s) → Moves b false s true t
-restarting_moves b s t high = inr (above (awaits_in b s) high)
+restarting_moves : (h : ℕ) (b : Bool) (s t : State) (entries : List StationEntry) → 2 ≤ rank_of Up false (awaits_in b s) → list_any (is_left_on h) entries ≡ true → Moves h b false s true t entries
+restarting_moves h b s t entries high is = inr (above (awaits_in b s) high, inl (omega arith, is))
 
 module _ (c : LayerSettings) (h : ℕ) where
   abbrev configured : Bool
@@ -279,30 +323,35 @@ module _ (c : LayerSettings) (h : ℕ) where
   IsHigh r circuits = 2 ≤ rank_of Up r (awaits_in configured (circuits h).state)
 
   -- the circuit of a channel becomes another
-  put_moves : (circuits : ℕ → Circuit) (k : ℕ) (next : Circuit) → IsHigh false circuits → (IsKind (circuits k).state → Next (circuits k).state next.state)
-      → Moves configured false (circuits h).state false (put_at circuits k next h).state
-  put_moves circuits k next high moved = test (h == k) refl
+  put_moves : (circuits : ℕ → Circuit) (k : ℕ) (next : Circuit) (said : List Said) (entries : List StationEntry) → IsHigh false circuits → AreSaid k said entries → (IsKind (circuits k).state → Next (circuits k).state next.state said)
+      → Moves h configured false (circuits h).state false (put_at circuits k next h).state entries
+  put_moves circuits k next said entries high are moved = test (h == k) refl
     where
-      test : (b : Bool) → (h == k) ≡ b → (let x : Circuit = if b then next else circuits h in Moves configured false (circuits h).state false x.state)
-      test true is = circuit_moves configured (circuits h).state next.state high (subst (λ (n : ℕ). IsKind (circuits n).state → Next (circuits n).state next.state) (sym (eqb-true h k is)) moved)
-      test false is = still configured false (circuits h).state
+      test : (b : Bool) → (h == k) ≡ b → (let x : Circuit = if b then next else circuits h in Moves h configured false (circuits h).state false x.state entries)
+      test true is =
+          let at_h : k ≡ h = sym (eqb-true h k is) in
+          circuit_moves h configured (circuits h).state next.state said entries high (subst (λ (n : ℕ). AreSaid n said entries) at_h are)
+          (subst (λ (n : ℕ). IsKind (circuits n).state → Next (circuits n).state next.state said) at_h moved)
+      test false is = inl (refl, refl)
 
   -- ---- what comes
 
-  on_moves : (restarts : ℕ) (circuits : ℕ → Circuit) (k : ℕ) (a : Answer) (b : Bool) → IsHigh false circuits → (IsKind (circuits k).state → Next (circuits k).state a.next.state)
-      → (let x : LayerAnswer = if b then answers_on restarts circuits k a else drops false restarts circuits in Moves configured false (circuits h).state x.next.restarting (x.next.circuits h).state)
-  on_moves restarts circuits k a true high moved = put_moves circuits k a.next high moved
-  on_moves restarts circuits k a false high moved = still configured false (circuits h).state
+  abbrev AnswerMoves : Bool → (ℕ → Circuit) → LayerAnswer → Type 0
+  AnswerMoves r circuits a = Moves h configured r (circuits h).state a.next.restarting (a.next.circuits h).state (station_told a.next a.notices)
+
+  on_moves : (restarts : ℕ) (circuits : ℕ → Circuit) (k : ℕ) (a : Answer) (b : Bool) → IsHigh false circuits → (IsKind (circuits k).state → AnswerNext (circuits k).state a)
+      → (let x : LayerAnswer = if b then answers_on restarts circuits k a else drops false restarts circuits in AnswerMoves false circuits x)
+  on_moves restarts circuits k a true high moved =
+      let next : Layer = is_ready restarts (put_at circuits k a.next) in
+      put_moves circuits k a.next (told a.notices) (station_told next (notices_on k a.notices)) high (all_told next k a.notices) moved
+  on_moves restarts circuits k a false high moved = inl (refl, refl)
 
   channel_moves : (restarts : ℕ) (circuits : ℕ → Circuit) (packet : PlainPacket) → IsHigh false circuits
       → (let k : ℕ = channel_of packet in let x : LayerAnswer = if is_channel c.channels k then answers_on restarts circuits k (answers c.circuit (circuits k) packet) else drops false restarts circuits in
-      Moves configured false (circuits h).state x.next.restarting (x.next.circuits h).state)
+      AnswerMoves false circuits x)
   channel_moves restarts circuits packet high =
       let k : ℕ = channel_of packet in
       on_moves restarts circuits k (answers c.circuit (circuits k) packet) (is_channel c.channels k) high (λ is. hears_next c.circuit (circuits k) is packet)
-
-  abbrev AnswerMoves : Bool → (ℕ → Circuit) → LayerAnswer → Type 0
-  AnswerMoves r circuits a = Moves configured r (circuits h).state a.next.restarting (a.next.circuits h).state
 
   ready_moves : (restarts : ℕ) (circuits : ℕ → Circuit) (packet : PlainPacket) → IsHigh false circuits → AnswerMoves false circuits (answers_ready c restarts circuits packet)
   ready_moves restarts circuits (call channel called calling facilities user) high = channel_moves restarts circuits (call channel called calling facilities user) high
@@ -316,87 +365,100 @@ module _ (c : LayerSettings) (h : ℕ) where
   ready_moves restarts circuits (interrupt_conf channel) high = channel_moves restarts circuits (interrupt_conf channel) high
   ready_moves restarts circuits (reset channel cause diagnostic) high = channel_moves restarts circuits (reset channel cause diagnostic) high
   ready_moves restarts circuits (reset_conf channel) high = channel_moves restarts circuits (reset_conf channel) high
-  ready_moves restarts circuits (restart cause diagnostic) high = restarted_moves configured false (circuits h).state high
-  ready_moves restarts circuits restart_conf high = restarting_moves configured (circuits h).state Free high
+  ready_moves restarts circuits (restart cause diagnostic) high = restarted_moves h configured false (circuits h).state (was_restarted cause diagnostic ∷ []) high refl
+  ready_moves restarts circuits restart_conf high = restarting_moves h configured (circuits h).state Free (at_fault 17 ∷ []) high refl
 
   held_moves : (restarts : ℕ) (circuits : ℕ → Circuit) (packet : PlainPacket) → IsHigh true circuits → AnswerMoves true circuits (answers_restarting restarts circuits packet)
-  held_moves restarts circuits (call channel called calling facilities user) high = still configured true (circuits h).state
-  held_moves restarts circuits (accept channel facilities) high = still configured true (circuits h).state
-  held_moves restarts circuits (clear channel cause diagnostic) high = still configured true (circuits h).state
-  held_moves restarts circuits (clear_conf channel) high = still configured true (circuits h).state
-  held_moves restarts circuits (user_data channel q m ps pr user) high = still configured true (circuits h).state
-  held_moves restarts circuits (rr channel pr) high = still configured true (circuits h).state
-  held_moves restarts circuits (rnr channel pr) high = still configured true (circuits h).state
-  held_moves restarts circuits (interrupt channel user) high = still configured true (circuits h).state
-  held_moves restarts circuits (interrupt_conf channel) high = still configured true (circuits h).state
-  held_moves restarts circuits (reset channel cause diagnostic) high = still configured true (circuits h).state
-  held_moves restarts circuits (reset_conf channel) high = still configured true (circuits h).state
-  held_moves restarts circuits (restart cause diagnostic) high = restarted_moves configured true (circuits h).state high
-  held_moves restarts circuits restart_conf high = restarted_moves configured true (circuits h).state high
+  held_moves restarts circuits (call channel called calling facilities user) high = inl (refl, refl)
+  held_moves restarts circuits (accept channel facilities) high = inl (refl, refl)
+  held_moves restarts circuits (clear channel cause diagnostic) high = inl (refl, refl)
+  held_moves restarts circuits (clear_conf channel) high = inl (refl, refl)
+  held_moves restarts circuits (user_data channel q m ps pr user) high = inl (refl, refl)
+  held_moves restarts circuits (rr channel pr) high = inl (refl, refl)
+  held_moves restarts circuits (rnr channel pr) high = inl (refl, refl)
+  held_moves restarts circuits (interrupt channel user) high = inl (refl, refl)
+  held_moves restarts circuits (interrupt_conf channel) high = inl (refl, refl)
+  held_moves restarts circuits (reset channel cause diagnostic) high = inl (refl, refl)
+  held_moves restarts circuits (reset_conf channel) high = inl (refl, refl)
+  held_moves restarts circuits (restart cause diagnostic) high = restarted_moves h configured true (circuits h).state (was_restarted cause diagnostic ∷ []) high refl
+  held_moves restarts circuits restart_conf high = restarted_moves h configured true (circuits h).state (restart_confirmed ∷ []) high refl
 
   packet_moves : (r : Bool) (restarts : ℕ) (circuits : ℕ → Circuit) (packet : PlainPacket) → IsHigh r circuits → AnswerMoves r circuits (answers_in c r restarts circuits packet)
   packet_moves true restarts circuits packet high = held_moves restarts circuits packet high
   packet_moves false restarts circuits packet high = ready_moves restarts circuits packet high
 
   undecoded_moves : (r : Bool) (restarts : ℕ) (circuits : ℕ → Circuit) (k : ℕ) (e : PacketError) → IsHigh r circuits → AnswerMoves r circuits (undecoded_in c r restarts circuits k e)
-  undecoded_moves true restarts circuits k e high = still configured true (circuits h).state
+  undecoded_moves true restarts circuits k e high = inl (refl, refl)
   undecoded_moves false restarts circuits k e high =
       on_moves restarts circuits k (undecoded c.circuit (circuits k) e) (is_channel c.channels k) high (λ is. cannot_read c.circuit (circuits k) is e)
 
-  pub answer_moves : (l : Layer) (octets : List ℕ) (read : Result PlainPacket PacketError) → IsHigh l.restarting l.circuits → LayerMoves c h l (answer_to c l octets read).next
+  pub answer_moves : (l : Layer) (octets : List ℕ) (read : Result PlainPacket PacketError) → IsHigh l.restarting l.circuits
+      → (let a : LayerAnswer = answer_to c l octets read in LayerMoves c h l a.next (station_told a.next a.notices))
   answer_moves l octets (Ok packet) high = packet_moves l.restarting l.restarts l.circuits packet high
   answer_moves l octets (Err e) high = on (channel_in octets)
     where
-      on : (o : Option ℕ) → LayerMoves c h l (undecoded_at c l e o).next
-      on None = still configured l.restarting (l.circuits h).state
+      on : (o : Option ℕ) → (let a : LayerAnswer = undecoded_at c l e o in LayerMoves c h l a.next (station_told a.next a.notices))
+      on None = inl (refl, refl)
       on (Some k) = undecoded_moves l.restarting l.restarts l.circuits k e high
 
   -- ---- what the user asks
 
-  abbrev pub OutcomeMoves : Bool → (ℕ → Circuit) → LayerOutcome → Type 0
-  OutcomeMoves r circuits (Accepted next packet) = Moves configured r (circuits h).state next.restarting (next.circuits h).state
-  OutcomeMoves r circuits (Declined e) = Unit {0}
+  abbrev pub OutcomeMoves : Bool → Layer → LayerRequest → LayerOutcome → Type 0
+  OutcomeMoves r l request (Accepted next packet) = Moves h configured r (l.circuits h).state next.restarting (next.circuits h).state (station_asked c l next request)
+  OutcomeMoves r l request (Declined e) = Unit {0}
 
-  room_moves : (r : Bool) (circuits : ℕ → Circuit) (full : Bool) (o : LayerOutcome) → OutcomeMoves r circuits o → OutcomeMoves r circuits (where_room full o)
-  room_moves r circuits true o moved = tt
-  room_moves r circuits false o moved = moved
+  module _ (l : Layer) (request : LayerRequest) where
+    room_moves : (full : Bool) (o : LayerOutcome) → OutcomeMoves false l request o → OutcomeMoves false l request (where_room full o)
+    room_moves true o moved = tt
+    room_moves false o moved = moved
 
-  at_once_moves : (r : Bool) (circuits : ℕ → Circuit) (once full : Bool) (o : LayerOutcome) → OutcomeMoves r circuits o → OutcomeMoves r circuits (if_at_once once full o)
-  at_once_moves r circuits true full o moved = room_moves r circuits full o moved
-  at_once_moves r circuits false full o moved = moved
+    at_once_moves : (once full : Bool) (o : LayerOutcome) → OutcomeMoves false l request o → OutcomeMoves false l request (if_at_once once full o)
+    at_once_moves true full o moved = room_moves full o moved
+    at_once_moves false full o moved = moved
 
-  if_moves : (r : Bool) (circuits : ℕ → Circuit) (b : Bool) (u v : LayerOutcome) → OutcomeMoves r circuits u → OutcomeMoves r circuits v → OutcomeMoves r circuits (if b then u else v)
-  if_moves r circuits true u v p q = p
-  if_moves r circuits false u v p q = q
+    if_moves : (b : Bool) (u v : LayerOutcome) → OutcomeMoves false l request u → OutcomeMoves false l request v → OutcomeMoves false l request (if b then u else v)
+    if_moves true u v p q = p
+    if_moves false u v p q = q
 
-  on_asked : (restarts : ℕ) (circuits : ℕ → Circuit) (k : ℕ) (o : CircuitOutcome) → IsHigh false circuits → (IsKind (circuits k).state → OutcomeNext (circuits k).state o)
-      → OutcomeMoves false circuits (outcome_on restarts circuits k o)
-  on_asked restarts circuits k (Done next packet) high moved = put_moves circuits k next high moved
-  on_asked restarts circuits k (CircuitRefused e) high moved = tt
+    -- the circuit of a channel does what is asked, and this is said there
+    on_asked : (k : ℕ) (said : Layer → List Said) (o : CircuitOutcome) → IsHigh false l.circuits → ((next : Layer) → AreSaid k (said next) (station_asked c l next request))
+        → (IsKind (l.circuits k).state → (next : Layer) → OutcomeNext (l.circuits k).state (said next) o) → OutcomeMoves false l request (outcome_on l.restarts l.circuits k o)
+    on_asked k said (Done next packet) high are moved =
+        let m : Layer = is_ready l.restarts (put_at l.circuits k next) in
+        put_moves l.circuits k next (said m) (station_asked c l m request) high (are m) (λ is. moved is m)
+    on_asked k said (CircuitRefused e) high are moved = tt
 
-  ready_asked : (full : Bool) (restarts : ℕ) (circuits : ℕ → Circuit) (request : LayerRequest) → IsHigh false circuits → OutcomeMoves false circuits (outcome_ready c full restarts circuits request)
-  ready_asked full restarts circuits (Asks k request) high =
-      if_moves false circuits (is_channel c.channels k) _ (Declined error.NoSuchChannel)
-      (at_once_moves false circuits (puts_at_once request) full _ (on_asked restarts circuits k (outcome c.circuit (circuits k) request) high (λ is. asks_next c.circuit (circuits k) is request))) tt
-  ready_asked full restarts circuits (Dials called calling user proposal) high = on (free_channel c.circuit.role circuits c.channels)
+  ready_asked : (full : Bool) (l : Layer) (request : LayerRequest) → IsHigh false l.circuits → OutcomeMoves false l request (outcome_ready c full l.restarts l.circuits request)
+  ready_asked full l (Asks k request) high =
+      let asks : LayerRequest = Asks k request in
+      if_moves l asks (is_channel c.channels k) _ (Declined error.NoSuchChannel)
+      (at_once_moves l asks (puts_at_once request) full _
+      (on_asked l asks k (λ next. says (next.circuits k) request) (outcome c.circuit (l.circuits k) request) high (λ next. one_asked k (name_of next k) (shown (next.circuits k) request))
+      (λ is next. asks_next c.circuit (l.circuits k) (next.circuits k) is request))) tt
+  ready_asked full l (Dials called calling user proposal) high = on (free_channel c.circuit.role l.circuits c.channels)
     where
-      on : (o : Option ℕ) → OutcomeMoves false circuits (dialled c full restarts circuits o called calling user proposal)
+      dials : LayerRequest
+      dials = Dials called calling user proposal
+
+      on : (o : Option ℕ) → OutcomeMoves false l dials (dialled c full l.restarts l.circuits o called calling user proposal)
       on None = tt
       on (Some k) =
-          let o : CircuitOutcome = outcome c.circuit (circuits k) (Calls called calling user proposal) in
-          room_moves false circuits full (outcome_on restarts circuits k o) (on_asked restarts circuits k o high (λ is. asks_next c.circuit (circuits k) is (Calls called calling user proposal)))
-  ready_asked full restarts circuits (Restarts cause diagnostic) high =
-      room_moves false circuits full (restarted_for c.circuit.role restarts circuits cause diagnostic)
-      (if_moves false circuits (may_restart_for c.circuit.role cause) (Accepted (restarting_from restarts circuits) (Some (restart cause diagnostic))) (Declined (error.Circuit circuit_error.BadParameter))
-      (restarting_moves configured (circuits h).state Free high) tt)
-  ready_asked full restarts circuits PullsAll high = still configured false (circuits h).state
+          let o : CircuitOutcome = outcome c.circuit (l.circuits k) (Calls called calling user proposal) in
+          room_moves l dials full (outcome_on l.restarts l.circuits k o)
+          (on_asked l dials k (λ next. []) o high (λ next. none_said k (station_asked c l next dials)) (λ is next. calls_next c.circuit (l.circuits k) [] is called calling user proposal))
+  ready_asked full l (Restarts cause diagnostic) high =
+      let restarts : LayerRequest = Restarts cause diagnostic in
+      room_moves l restarts full (restarted_for c.circuit.role l.restarts l.circuits cause diagnostic)
+      (if_moves l restarts (may_restart_for c.circuit.role cause) (Accepted (restarting_from l.restarts l.circuits) (Some (restart cause diagnostic))) (Declined (error.Circuit circuit_error.BadParameter))
+      (restarting_moves h configured (l.circuits h).state Free (restart_asked cause diagnostic ∷ []) high refl) tt)
+  ready_asked full l PullsAll high = inl (refl, refl)
 
-  in_asked : (full r : Bool) (restarts : ℕ) (circuits : ℕ → Circuit) (request : LayerRequest) → IsHigh r circuits → OutcomeMoves r circuits (outcome_in c full r restarts circuits request)
-  in_asked full true restarts circuits request high = tt
-  in_asked full false restarts circuits request high = ready_asked full restarts circuits request high
+  in_asked : (full r : Bool) (l : Layer) (request : LayerRequest) → IsHigh r l.circuits → OutcomeMoves r l request (outcome_in c full r l.restarts l.circuits request)
+  in_asked full true l request high = tt
+  in_asked full false l request high = ready_asked full l request high
 
-  pub asked_moves : (full : Bool) (l : Layer) (request : LayerRequest) → IsHigh l.restarting l.circuits → OutcomeMoves l.restarting l.circuits (layer_outcome c full l request)
-  asked_moves full l request high = in_asked full l.restarting l.restarts l.circuits request high
+  pub asked_moves : (full : Bool) (l : Layer) (request : LayerRequest) → IsHigh l.restarting l.circuits → OutcomeMoves l.restarting l request (layer_outcome c full l request)
+  asked_moves full l request high = in_asked full l.restarting l request high
 
 -- ---- pulls change no state
 
@@ -456,7 +518,7 @@ rounds_of_same (suc n) link c s =
 pub rounds_same : (link : LinkView) (c : LayerSettings) (s : Putting) → SameStates s.layer (rounds link c s).layer
 rounds_same link c s = rounds_of_same (backlog s.layer.circuits c.channels) link c s
 
-pub moves_on : (c : LayerSettings) (h : ℕ) (l m n : Layer) → LayerMoves c h l m → SameStates m n → LayerMoves c h l n
-moves_on c h l m n moved same =
-    subst (λ (r : Bool). Moves (is_channel c.channels h) l.restarting (l.circuits h).state r (n.circuits h).state) (sym same.0)
-    (subst (λ (s : State). Moves (is_channel c.channels h) l.restarting (l.circuits h).state m.restarting s) (sym (same.1 h)) moved)
+pub moves_on : (c : LayerSettings) (h : ℕ) (l m n : Layer) (entries : List StationEntry) → LayerMoves c h l m entries → SameStates m n → LayerMoves c h l n entries
+moves_on c h l m n entries moved same =
+    subst (λ (r : Bool). Moves h (is_channel c.channels h) l.restarting (l.circuits h).state r (n.circuits h).state entries) (sym same.0)
+    (subst (λ (s : State). Moves h (is_channel c.channels h) l.restarting (l.circuits h).state m.restarting s entries) (sym (same.1 h)) moved)

@@ -1,6 +1,7 @@
 -- A station whose link is up asks, or its link is at rest.
-use Rattle.std.proofs.Common.{◌≡◌, ℕ, ◌≤◌, List, [], ◌∷◌, Bool, true, false, not, ◌||◌, ◌&&◌, if◌then◌else◌, nat_lt, Option, Some, None, refl, sym, ap, subst, ◌∙◌, arith}
-use Rattle.std.proofs.lemmas.Bool.{true≢false}
+use Rattle.std.proofs.Common.{◌≡◌, ℕ, ◌+◌, ◌≤◌, ◌==◌, List, [], ◌∷◌, ◌++◌, length, Bool, true, false, not, ◌||◌, ◌&&◌, if◌then◌else◌, nat_lt, Option, Some, None, refl, sym, ap, subst, ◌∙◌, arith}
+use Rattle.std.proofs.lemmas.Bool.{true≢false, eqb-true, and_parts}
+use Rattle.std.proofs.lemmas.List.{length-append}
 use Rattle.x25_frame.specs.Frame.{disc}
 use Rattle.x25_frame.specs.Reading.{frame_of}
 use Rattle.x25_packet.specs.Packet.{PlainPacket}
@@ -10,25 +11,36 @@ use Rattle.x25_link.specs.declared.phase.Phase.{Phase}
 use Rattle.x25_link.specs.declared.phase.Phase.TheVariants.{Waiting, Closed, Down}
 use Rattle.x25_link.specs.declared.phase.Reason.{Reason}
 use Rattle.x25_link.specs.declared.phase.Reason.TheVariants.{Retries, Counts}
-use Rattle.x25_link.specs.Outgoing.{no_packet, Outgoing}
+use Rattle.x25_link.specs.Outgoing.{no_packet, Outgoing, added, waits}
 use Rattle.x25_link.specs.Station.{Settings as LinkSettings, LinkStation, Side, is_up, with_near, with_nothing, sends}
 use Rattle.x25_link.specs.Hearing.{Step as LinkStep, other}
-use Rattle.x25_link.specs.Link.{alone, put_step, take_step, timer_refusal, timer_step, connect_refusal, connect_step, disconnect_refusal, disconnect_step, abandon_step, probe_refusal, relink_refusal, relink_step, is_idle, connects as link_connects}
+use Rattle.x25_link.specs.Link.{alone, put_step, take_step, timer_refusal, timer_step, connect_refusal, connect_step, disconnect_refusal, disconnect_step, abandon_step, probe_refusal, relink_refusal, relink_step, timer_runs, is_idle, connects as link_connects}
 use Rattle.x25_link.specs.laws.NoteLaw.{Tells, TakeTells, TimerTells, AbandonTells}
 use Rattle.x25_link.specs.laws.RestLaw.{HasSaidAll, TakeSaysAll, PutSaysAll, TimerSaysAll, ConnectSaysAll, DisconnectSaysAll, AbandonSaysAll, NoTimerIsIdle}
 use Rattle.x25_link.specs.laws.SetUp.{RelinkIsTwoSteps}
 use Rattle.x25_link.specs.laws.WindowLaw.{IsSound, Follows, TakeFollows, PutFollows, TimerFollows, AbandonFollows, ending_of, brought_by, window_of}
 use Rattle.x25_link.specs.laws.WindowMachine.{Input, nothing}
-use Rattle.x25_layer.specs.Rounds.{Answered, Went, Refuses, Putting, calls}
+use Rattle.x25_layer.specs.declared.error.LayerError.{LayerError}
+use Rattle.x25_layer.specs.declared.error.LayerError.TheVariants as layer_error
+use Rattle.x25_layer.specs.Layer.{Layer, is_channel, is_ready}
+use Rattle.x25_layer.specs.Calls.{LayerRequest, PullsAll, outcome_in, layer_outcome}
+use Rattle.x25_layer.specs.Rounds.{LinkView, Answered, Went, Refuses, Putting, begin, rounds, went, calls}
+use Rattle.x25_given.specs.Given.{PlainGiven}
+use Rattle.x25_given.specs.Writing.{write}
 use Rattle.x25_station.specs.Command.{Requests, Connects, Disconnects, Probes, Relinks, said_by}
 use Rattle.x25_station.specs.Config.{Settings, link_settings, layer_settings}
 use Rattle.x25_station.specs.Entry.{StationEntry, connect_asked, disconnect_asked, relink_asked}
+use Rattle.x25_station.specs.Giving.{all_given, view_given, is_taken, gave}
+use Rattle.x25_station.specs.Station as station
 use Rattle.x25_station.specs.Station.{Station, put_on, all_put, view_of}
-use Rattle.x25_station.specs.Step.{Step, with_puts, layer_at, follows, led_by, unless, abandons, did}
+use Rattle.x25_station.specs.Pulling.{pulled_of}
+use Rattle.x25_station.specs.Station.Told.{is_at_rest}
+use Rattle.x25_station.specs.Step.{Step, with_puts, layer_at, follows, led_by, unless, abandons, entries_of_outcome, did}
 use Rattle.x25_station.specs.Timer.{runs}
 use Rattle.x25_station.specs.laws.TimerLaw as timer
-use Rattle.x25_station.specs.laws.SettledLaw.{IsSettled, SettledBy, NewIsSettled, StaysSettled, SettledAsks}
-use Rattle.x25_station.proofs.UnheardLemmas.{ended_lasts, put_lasts}
+use Rattle.x25_station.specs.laws.SettledLaw.{IsSettled, SettledBy, NewIsSettled, StaysSettled, SettledAsks, GoesOn, PullsGoOn}
+use Rattle.x25_station.proofs.AwaitLemmas.{awaits_in, SameStates, rounds_same}
+use Rattle.x25_station.proofs.UnheardLemmas.{Lasts, ended_lasts, put_lasts, all_put_lasts}
 
 -- the laws of the link that are used
 pub record LinkSettles : Type 0 where
@@ -88,6 +100,12 @@ module _ (laws : LinkSettles) (c : LinkSettings) (small : c.window ≤ 7) where
   all_settled [] t h = h
   all_settled (p ∷ packets) t h = all_settled packets (put_on c p t) (put_settled (spelling_of p) t.near h)
 
+  all_given_settled : (g : PlainGiven) (packets : List PlainPacket) (t : Side) → Settled c.window t.near → Settled c.window (all_given c g packets t).near
+  all_given_settled g [] t h = h
+  all_given_settled g (p ∷ packets) t h =
+      let given : List ℕ = write g (spelling_of p) in
+      all_settled packets (station.behind t (put_step c given t.near).side) (put_settled given t.near h)
+
   timer_settled : (s : LinkStation) → Settled c.window s → Settled c.window (timer_step c s).side.near
   timer_settled s h = record {
     said = laws.timer_says c s small h.said.low;
@@ -142,6 +160,11 @@ module _ (laws : LinkSettles) (c : Settings) (s : Station) (small : c.window ≤
   went_settled entries (Went n) h = behind (alone s.link) n entries h
   went_settled entries (Refuses e) h = tt
 
+  gave_settled : (g : PlainGiven) (taken : Bool) (entries : List StationEntry) (a : Answered) → Settled c.window s.link → SettledBy c (gave c g taken (alone s.link) entries a)
+  gave_settled g true entries (Went n) h = let all = all_given_settled laws (link_settings c) small g n.put (alone s.link) h in record { said = all.said; sound = all.sound }
+  gave_settled g false entries (Went n) h = tt
+  gave_settled g taken entries (Refuses e) h = tt
+
 pub stays_settled : LinkSettles → StaysSettled
 stays_settled laws c s (timer.Comes octets) small h = test (abandons c s)
   where
@@ -159,6 +182,9 @@ stays_settled laws c s timer.Fires small h =
     unless_settled laws c s small (timer_refusal s.link) (follows c s.layer (timer_step lc s.link)) (follows_settled laws c s small (timer_step lc s.link) (timer_settled laws lc small s.link (record { said = h.said; sound = h.sound })))
 stays_settled laws c s (timer.Asks (Requests request)) small h =
     went_settled laws c s small _ (calls (view_of (link_settings c) s.link) (layer_settings c) s.layer (said_by c.say_sizes s.layer request)) (record { said = h.said; sound = h.sound })
+stays_settled laws c s (timer.Gives g request) small h =
+    let said : LayerRequest = said_by c.say_sizes s.layer request in
+    gave_settled laws c s small g (is_taken c g said) _ (calls (view_given (link_settings c) g s.link) (layer_settings c) s.layer said) (record { said = h.said; sound = h.sound })
 stays_settled laws c s (timer.Asks Connects) small h =
     let lc : LinkSettings = link_settings c in
     unless_settled laws c s small (connect_refusal s.link.phase) (led_by (connect_asked ∷ []) (follows c s.layer (connect_step lc s.link))) (follows_settled laws c s small (connect_step lc s.link) (connect_settled laws lc small s.link h.said.low))
@@ -181,3 +207,72 @@ settled_asks laws c s least h up = test (runs s) refl
     test : (b : Bool) → runs s ≡ b → (b || (is_idle s.link && not b)) ≡ true
     test true is = refl
     test false is = ap (λ (b : Bool). b && true) (laws.idle c.window s.link least (h.sound up) h.said up is)
+
+-- ---- what is pulled
+
+-- a packet more is handed down: one waits, or isn't acknowledged
+module _ (k : ℕ) (s t : LinkStation) (same : Lasts s t) (sound : is_up s.phase ≡ true → IsSound k s.outgoing) (more : length s.outgoing.given + 1 ≤ length t.outgoing.given) where
+  not_idle : is_idle t ≡ true → ⊥
+  not_idle is =
+      let parts = and_parts (is_up t.phase) (waits t.outgoing == 0 && t.outgoing.acked == t.outgoing.sent) is in
+      let counts = and_parts (waits t.outgoing == 0) (t.outgoing.acked == t.outgoing.sent) parts.1 in
+      let none : waits t.outgoing ≡ 0 = eqb-true (waits t.outgoing) 0 counts.0 in
+      let heard : t.outgoing.acked ≡ t.outgoing.sent = eqb-true t.outgoing.acked t.outgoing.sent counts.1 in
+      let old : IsSound k s.outgoing = sound (ap is_up (sym same.phase) ∙ parts.0) in
+      let low = old.place_low in
+      let middle = old.place_high in
+      let high = old.sent_high in
+      let acked = same.acked in
+      omega (arith, none, heard, low, middle, high, acked, more)
+
+  not_at_rest : (ran : Bool) → (is_idle t && not ran) ≡ true → ⊥
+  not_at_rest ran is = not_idle (and_parts (is_idle t) (not ran) is).0
+
+no_entry : (c : Settings) (l : Layer) (full busy : Bool) → entries_of_outcome (layer_settings c) l PullsAll (outcome_in (layer_settings c) full busy l.restarts l.circuits PullsAll) ≡ []
+no_entry c l full true = refl
+no_entry c l full false = refl
+
+pub pulls_go_on : PullsGoOn
+pulls_go_on c s h = by (is_up s.link.phase) s.layer.restarting refl
+  where
+    lc : LinkSettings
+    lc = link_settings c
+
+    entries : List StationEntry
+    entries = entries_of_outcome (layer_settings c) s.layer PullsAll (layer_outcome (layer_settings c) (waits s.link.outgoing == 256) s.layer PullsAll)
+
+    rests : (packets : List PlainPacket) → (let t : LinkStation = (all_put lc packets (alone s.link)).near in (is_idle t && not (timer_runs t.phase t)) ≡ true → is_at_rest s ≡ true)
+    rests [] is = is
+    rests (p ∷ packets) is =
+        let t : Side = with_near (alone s.link) (record s.link { outgoing = added (spelling_of p) s.link.outgoing }) in
+        let u : Side = put_on lc p (alone s.link) in
+        let v : LinkStation = (all_put lc packets u).near in
+        let one : length (s.link.outgoing.given ++ spelling_of p ∷ []) ≡ length s.link.outgoing.given + 1 = length-append s.link.outgoing.given (spelling_of p ∷ []) in
+        let first = (ended_lasts lc.window t).given in
+        let then_rest = (all_put_lasts lc packets u).given in
+        absurd (not_at_rest c.window s.link v (all_put_lasts lc (p ∷ packets) (alone s.link)) h.sound (omega (arith, one, first, then_rest)) (timer_runs v.phase v) is)
+
+    view : LinkView
+    view = view_of lc s.link
+
+    full : Bool
+    full = waits s.link.outgoing == 256
+
+    nothing_pulled : (e : LayerError) → GoesOn c s (pulled_of s (did c (alone s.link) entries (Refuses e)))
+    nothing_pulled e = record { told = refl; restarting = refl; awaits = λ k. refl; acked = refl; rests = λ is. is }
+
+    by : (up busy : Bool) → s.layer.restarting ≡ busy
+        → GoesOn c s (pulled_of s (did c (alone s.link) entries (if up then went view (layer_settings c) (outcome_in (layer_settings c) full busy s.layer.restarts s.layer.circuits PullsAll) else Refuses layer_error.NotUp)))
+    by false busy is = nothing_pulled layer_error.NotUp
+    by true true is = nothing_pulled layer_error.Restarting
+    by true false is =
+        let begins : Putting = begin (is_ready s.layer.restarts s.layer.circuits) None in
+        let n : Putting = rounds view (layer_settings c) begins in
+        let same : SameStates begins.layer n.layer = rounds_same view (layer_settings c) begins in
+        record {
+          told = no_entry c s.layer full s.layer.restarting;
+          restarting = same.0 ∙ sym is;
+          awaits = λ k. ap (awaits_in (is_channel c.channels k)) (same.1 k);
+          acked = (all_put_lasts lc n.put (alone s.link)).acked;
+          rests = rests n.put;
+        }

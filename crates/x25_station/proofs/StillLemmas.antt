@@ -1,6 +1,10 @@
--- No step of a station makes an answer awaited anew, and where one isn't given clear and restart lead on.
-use Rattle.std.proofs.Common.{◌≡◌, ℕ, ◌<◌, ◌≤◌, ◌==◌, ◌⊎◌, inl, inr, List, [], ◌∷◌, ◌++◌, Bool, true, false, if◌then◌else◌, Option, Some, None, refl, sym, ap, subst, ◌∙◌, arith}
+-- No step of a station makes an answer awaited anew, and the end of a wait is told; where none is given clear and
+-- restart lead on.
+use Rattle.std.proofs.Common.{◌≡◌, ℕ, ◌<◌, ◌≤◌, ◌==◌, ◌⊎◌, inl, inr, List, [], ◌∷◌, ◌++◌, Bool, true, false, ◌||◌, if◌then◌else◌, Option, Some, None, refl, sym, ap, subst, ◌∙◌, arith}
+use Rattle.std.proofs.Math.Bool.{or-true}
 use Rattle.std.proofs.lemmas.Bool.{true≢false, eqb-true, eq-eqb}
+use Rattle.std.proofs.lemmas.List.Folds.{list_any-append}
+use Rattle.std.specs.List.{list_any}
 use Rattle.x25_packet.specs.Packet.{PlainPacket, clear, restart}
 use Rattle.x25_packet.specs.Spelling.{longest_user}
 use Rattle.x25_wide.specs.Taking.{read_in}
@@ -21,21 +25,26 @@ use Rattle.x25_circuit.specs.Calling.{Clears, does, clear_in}
 use Rattle.x25_circuit.specs.Circuit.{Settings as CircuitSettings, Circuit, entered}
 use Rattle.x25_circuit.specs.Params.{default_params}
 use Rattle.x25_layer.specs.declared.error.LayerError.TheVariants as layer_error
-use Rattle.x25_layer.specs.Layer.{LayerSettings, Layer, is_channel, is_ready, put_at, packet_on, restarting_from}
+use Rattle.x25_layer.specs.Layer.{LayerSettings, Layer, LayerAnswer, is_channel, is_ready, put_at, packet_on, restarting_from}
 use Rattle.x25_layer.specs.Calls.{LayerRequest, Asks, Restarts, LayerOutcome, Accepted, Declined, outcome_on, outcome_in, layer_outcome}
 use Rattle.x25_layer.specs.Rounds.{LinkView, Putting, begin, rounds, went, Refuses}
 use Rattle.x25_layer.specs.code.FitsLayer.{awaited_at}
 use Rattle.x25_station.specs.Command.{Requests, Connects, Disconnects, Probes, Relinks, said_by}
 use Rattle.x25_station.specs.Config.{Settings, link_settings, layer_settings}
-use Rattle.x25_station.specs.Entry.{StationEntry, connect_asked, disconnect_asked, relink_asked, entries_down, entries_up}
+use Rattle.x25_station.specs.Beside.{beside_in}
+use Rattle.x25_station.specs.Entry.{StationEntry, of_channel, restart_asked, connect_asked, disconnect_asked, relink_asked, link_up, link_down, was_restarted, restart_confirmed, at_fault, came_beside, was_diagnosed, entries_down, entries_up, station_asked, bringing, entries_beside}
+use Rattle.x25_given.specs.Given.{PlainGiven}
+use Rattle.x25_station.specs.Giving.{view_given, with_given, is_taken, gave, gives}
 use Rattle.x25_station.specs.Station.{Station, view_of}
-use Rattle.x25_station.specs.Step.{Step, Did, with_puts, layer_at, layer_answer, follows, led_by, unless, abandons, entries_heard, entries_of_outcome, did, requests}
-use Rattle.x25_station.specs.Timer.{tells_link}
+use Rattle.x25_station.specs.Step.{Step, Outcome, Did, Refused, with_puts, layer_at, layer_answer, entries_of_answer, follows, led_by, unless, abandons, entries_heard, entries_of_outcome, did, requests}
+use Rattle.x25_station.specs.Timer.{is_of_link, tells_link}
 use Rattle.x25_station.specs.laws.TimerLaw as timer
+use Rattle.x25_station.specs.laws.EndLaw.{is_answered_on, is_left_on, IsTold, EndIsTold}
 use Rattle.x25_station.specs.laws.WayOutLaw.{rank_in, rank_of, rank, ClearLeadsOn, RestartLeadsOn, AwaitsStill, LeadsOn, NothingLeadsBack}
-use Rattle.x25_station.proofs.AwaitLemmas.{Kind, in_call, in_collision, in_reset, in_clear, state_of, awaits_in, LayerMoves, OutcomeMoves, still, answer_moves, asked_moves, SameStates, rounds_same, moves_on}
+use Rattle.x25_station.proofs.AwaitLemmas.{Kind, in_call, in_collision, in_reset, in_clear, state_of, awaits_in, EndsOn, LayerMoves, OutcomeMoves, answer_moves, asked_moves, SameStates, rounds_same, moves_on}
 use Rattle.x25_station.proofs.KeepLemmas.{LinkLaws}
 use Rattle.x25_station.proofs.PutLemmas.{all_up}
+use Rattle.x25_station.proofs.UnheardLemmas.{all_given_last}
 
 -- ---- a link that is up
 
@@ -60,14 +69,36 @@ module _ (c : Settings) (s : Station) (h : ℕ) where
   abbrev lc : LayerSettings
   lc = layer_settings c
 
-  abbrev Leads : Station → Type 0
-  Leads next = AwaitsStill c s next h ⊎ (rank c next h < rank c s h)
+  -- what is awaited is what was, or fewer steps are left and the entries tell that
+  abbrev Leads : Station → List StationEntry → Type 0
+  Leads next entries = AwaitsStill c s next h ⊎ ((rank c next h < rank c s h) × EndsOn h (awaited_at lc s.layer h) (rank c next h) entries)
 
-  leads : (next : Station) → is_up s.link.phase ≡ true → is_up next.link.phase ≡ true → LayerMoves lc h s.layer next.layer → Leads next
-  leads next up is (inl e) = inl (record { up = is; restarting = e.0; awaits = e.1 })
-  leads next up is (inr low) =
-      inr (subst (λ (p : Phase). rank_of p next.layer.restarting (awaited_at lc next.layer h) < rank c s h) (sym (up_is next.link.phase is))
-      (subst (λ (p : Phase). rank_of Up next.layer.restarting (awaited_at lc next.layer h) < rank_of p s.layer.restarting (awaited_at lc s.layer h)) (sym (up_is s.link.phase up)) low))
+  leads : (next : Station) (entries : List StationEntry) → is_up s.link.phase ≡ true → is_up next.link.phase ≡ true → LayerMoves lc h s.layer next.layer entries → Leads next entries
+  leads next entries up is (inl e) = inl (record { up = is; restarting = e.0; awaits = e.1 })
+  leads next entries up is (inr x) =
+      let here : Phase → ℕ = λ p. rank_of p next.layer.restarting (awaited_at lc next.layer h) in
+      let low : here next.link.phase < rank_of Up s.layer.restarting (awaited_at lc s.layer h) =
+      subst (λ (p : Phase). here p < rank_of Up s.layer.restarting (awaited_at lc s.layer h)) (sym (up_is next.link.phase is)) x.0 in
+      inr (
+        subst (λ (p : Phase). rank c next h < rank_of p s.layer.restarting (awaited_at lc s.layer h)) (sym (up_is s.link.phase up)) low,
+        subst (λ (p : Phase). EndsOn h (awaited_at lc s.layer h) (here p) entries) (sym (up_is next.link.phase is)) x.1,
+      )
+
+  -- more is told behind it
+  any_front : (p : StationEntry → Bool) (xs ys : List StationEntry) → list_any p xs ≡ true → list_any p (xs ++ ys) ≡ true
+  any_front p xs ys is = list_any-append p xs ys ∙ ap (λ (b : Bool). b || list_any p ys) is
+
+  ends_more : (awaits : Awaits) (left : ℕ) (xs ys : List StationEntry) → EndsOn h awaits left xs → EndsOn h awaits left (xs ++ ys)
+  ends_more awaits left xs ys (inl x) = inl (x.0, any_front (is_left_on h) xs ys x.1)
+  ends_more awaits left xs ys (inr is) = inr (any_front (is_answered_on h awaits) xs ys is)
+
+  leads_more : (next : Station) (xs ys : List StationEntry) → Leads next xs → Leads next (xs ++ ys)
+  leads_more next xs ys (inl still) = inl still
+  leads_more next xs ys (inr x) = inr (x.0, ends_more (awaited_at lc s.layer h) (rank c next h) xs ys x.1)
+
+  abbrev Goes : Outcome → Type 0
+  Goes (Did step) = tells_link step.entries ≡ false → Leads step.near step.entries
+  Goes (Refused e) = Unit {0}
 
   module _ (tells : PutTells) (high : 2 ≤ rank c s h) where
     up : is_up s.link.phase ≡ true
@@ -77,15 +108,15 @@ module _ (c : Settings) (s : Station) (h : ℕ) where
     high_up = subst (λ (p : Phase). 2 ≤ rank_of p s.layer.restarting (awaited_at lc s.layer h)) (up_is s.link.phase up) high
 
     -- what the layer puts behind a step of the link
-    put_leads : (t : Side) (next : Layer) (owed : Option PlainPacket) (entries : List StationEntry) → is_up t.near.phase ≡ true → LayerMoves lc h s.layer next
-        → Leads (with_puts c t (rounds (view_of (link_settings c) t.near) lc (begin next owed)) entries).near
+    put_leads : (t : Side) (next : Layer) (owed : Option PlainPacket) (entries : List StationEntry) → is_up t.near.phase ≡ true → LayerMoves lc h s.layer next entries
+        → Leads (with_puts c t (rounds (view_of (link_settings c) t.near) lc (begin next owed)) entries).near entries
     put_leads t next owed entries is moved =
         let n : Putting = rounds (view_of (link_settings c) t.near) lc (begin next owed) in
-        leads (with_puts c t n entries).near up (all_up tells (link_settings c) n.put t is)
-        (moves_on lc h s.layer next n.layer moved (rounds_same (view_of (link_settings c) t.near) lc (begin next owed)))
+        leads (with_puts c t n entries).near entries up (all_up tells (link_settings c) n.put t is)
+        (moves_on lc h s.layer next n.layer entries moved (rounds_same (view_of (link_settings c) t.near) lc (begin next owed)))
 
     -- a step of the link
-    follow_leads : (k : LinkStep) → Tells s.link k → tells_link (follows c s.layer k).entries ≡ false → Leads (follows c s.layer k).near
+    follow_leads : (k : LinkStep) → Tells s.link k → tells_link (follows c s.layer k).entries ≡ false → Leads (follows c s.layer k).near (follows c s.layer k).entries
     follow_leads k t quiet = by k.packet k.notes.down refl k.notes.up refl quiet
       where
         view : LinkView
@@ -95,18 +126,18 @@ module _ (c : Settings) (s : Station) (h : ℕ) where
         noted o b p q = ap (λ (x : Option Reason). record { down = x; up = k.notes.up }) p ∙ ap (λ (x : Bool). record { down = o; up = x }) q
 
         by : (p : Option (List ℕ)) (d : Option Reason) → k.notes.down ≡ d → (u : Bool) → k.notes.up ≡ u → tells_link ((entries_down d ++ entries_up u) ++ entries_heard lc c.wide s.layer p d u) ≡ false
-            → Leads (with_puts c k.side (layer_at view lc c.wide s.layer p d u) []).near
+            → Leads (with_puts c k.side (layer_at view lc c.wide s.layer p d u) []).near ((entries_down d ++ entries_up u) ++ entries_heard lc c.wide s.layer p d u)
         by p (Some reason) is_d u is_u none = absurd (true≢false none)
         by p None is_d true is_u none = absurd (true≢false none)
         by (Some octets) None is_d false is_u none =
-            put_leads k.side (layer_answer lc c.wide s.layer octets).next (layer_answer lc c.wide s.layer octets).owed [] (t.stays (noted None false is_d is_u) ∙ up)
-            (answer_moves lc h s.layer octets (read_in c.wide (longest_user c.long_data) octets) high_up)
+            let a : LayerAnswer = layer_answer lc c.wide s.layer octets in
+            leads_more (with_puts c k.side (layer_at view lc c.wide s.layer (Some octets) None false) []).near (entries_of_answer a) (entries_beside (beside_in c.wide octets) (bringing a.notices))
+            (put_leads k.side a.next a.owed (entries_of_answer a) (t.stays (noted None false is_d is_u) ∙ up) (answer_moves lc h s.layer octets (read_in c.wide (longest_user c.long_data) octets) high_up))
         by None None is_d false is_u none =
-            leads (with_puts c k.side (layer_at view lc c.wide s.layer None None false) []).near up (t.stays (noted None false is_d is_u) ∙ up)
-            (still (is_channel lc.channels h) s.layer.restarting (s.layer.circuits h).state)
+            leads (with_puts c k.side (layer_at view lc c.wide s.layer None None false) []).near [] up (t.stays (noted None false is_d is_u) ∙ up) (inl (refl, refl))
 
     -- a request of the layer
-    request_leads : (request : LayerRequest) → LeadsOn c s h (requests c s request)
+    request_leads : (request : LayerRequest) → Goes (requests c s request)
     request_leads request = at (is_up s.link.phase) refl (layer_outcome lc full s.layer request) (asked_moves lc h full s.layer request high_up)
       where
         full : Bool
@@ -115,38 +146,108 @@ module _ (c : Settings) (s : Station) (h : ℕ) where
         view : LinkView
         view = view_of (link_settings c) s.link
 
-        at : (b : Bool) → is_up s.link.phase ≡ b → (o : LayerOutcome) → OutcomeMoves lc h s.layer.restarting s.layer.circuits o
-            → LeadsOn c s h (did c (alone s.link) (entries_of_outcome lc s.layer request o) (if b then went view lc o else Refuses layer_error.NotUp))
+        at : (b : Bool) → is_up s.link.phase ≡ b → (o : LayerOutcome) → OutcomeMoves lc h s.layer.restarting s.layer request o
+            → Goes (did c (alone s.link) (entries_of_outcome lc s.layer request o) (if b then went view lc o else Refuses layer_error.NotUp))
         at false is o moved = tt
         at true is (Declined e) moved = tt
-        at true is (Accepted next packet) moved = λ quiet. put_leads (alone s.link) next packet (entries_of_outcome lc s.layer request (Accepted next packet)) is moved
+        at true is (Accepted next packet) moved = λ quiet. put_leads (alone s.link) next packet (station_asked lc s.layer next request) is moved
 
-    unless_leads : (o : Option LinkError) (step : Step) → (tells_link step.entries ≡ false → Leads step.near) → LeadsOn c s h (unless o step)
+    -- and one with something given beside its packet
+    given_leads : (g : PlainGiven) (request : LayerRequest) → Goes (gives c s g request)
+    given_leads g request = at (is_taken c g request) (is_up s.link.phase) refl (layer_outcome lc full s.layer request) (asked_moves lc h full s.layer request high_up)
+      where
+        full : Bool
+        full = waits s.link.outgoing == 256
+
+        view : LinkView
+        view = view_given (link_settings c) g s.link
+
+        at : (taken b : Bool) → is_up s.link.phase ≡ b → (o : LayerOutcome) → OutcomeMoves lc h s.layer.restarting s.layer request o
+            → Goes (gave c g taken (alone s.link) (entries_of_outcome lc s.layer request o) (if b then went view lc o else Refuses layer_error.NotUp))
+        at taken false is o moved = tt
+        at taken true is (Declined e) moved = tt
+        at false true is (Accepted next packet) moved = tt
+        at true true is (Accepted next packet) moved = λ quiet.
+            let n : Putting = rounds view lc (begin next packet) in
+            let entries : List StationEntry = station_asked lc s.layer next request in
+            leads (with_given c g (alone s.link) n entries).near entries up (ap is_up (all_given_last (link_settings c) g n.put (alone s.link)).phase ∙ is)
+            (moves_on lc h s.layer next n.layer entries moved (rounds_same view lc (begin next packet)))
+
+    unless_leads : (o : Option LinkError) (step : Step) → (tells_link step.entries ≡ false → Leads step.near step.entries) → Goes (unless o step)
     unless_leads None step go = go
     unless_leads (Some e) step go = tt
 
-    not_asked : (entries : List StationEntry) → LeadsOn c s h (unless (connect_refusal s.link.phase) (led_by entries (follows c s.layer (connect_step (link_settings c) s.link))))
-    not_asked entries = subst (λ (p : Phase). LeadsOn c s h (unless (connect_refusal p) (led_by entries (follows c s.layer (connect_step (link_settings c) s.link))))) (sym (up_is s.link.phase up)) tt
+    not_asked : (entries : List StationEntry) → Goes (unless (connect_refusal s.link.phase) (led_by entries (follows c s.layer (connect_step (link_settings c) s.link))))
+    not_asked entries = subst (λ (p : Phase). Goes (unless (connect_refusal p) (led_by entries (follows c s.layer (connect_step (link_settings c) s.link))))) (sym (up_is s.link.phase up)) tt
 
-pub nothing_leads_back : LinkLaws → NothingLeadsBack
-nothing_leads_back laws c s h timer.Fires high =
+goes_on : LinkLaws → (c : Settings) (s : Station) (h : ℕ) (event : timer.Event) → 2 ≤ rank c s h → Goes c s h (timer.outcome c s event)
+goes_on laws c s h timer.Fires high =
     unless_leads c s h laws.put high (timer_refusal s.link) (follows c s.layer (timer_step (link_settings c) s.link)) (follow_leads c s h laws.put high (timer_step (link_settings c) s.link) (laws.timer (link_settings c) s.link))
-nothing_leads_back laws c s h (timer.Comes octets) high = test (abandons c s)
+goes_on laws c s h (timer.Comes octets) high = test (abandons c s)
   where
-    test : (b : Bool) → (let k : LinkStep = if b then abandon_step (link_settings c) s.link else take_step (link_settings c) octets s.link in tells_link (follows c s.layer k).entries ≡ false
-        → AwaitsStill c s (follows c s.layer k).near h ⊎ (rank c (follows c s.layer k).near h < rank c s h))
+    test : (b : Bool) → (let k : LinkStep = if b then abandon_step (link_settings c) s.link else take_step (link_settings c) octets s.link in Goes c s h (Did (follows c s.layer k)))
     test true = follow_leads c s h laws.put high (abandon_step (link_settings c) s.link) (laws.abandon (link_settings c) s.link)
     test false = follow_leads c s h laws.put high (take_step (link_settings c) octets s.link) (laws.take (link_settings c) octets s.link)
-nothing_leads_back laws c s h (timer.Asks (Requests request)) high = request_leads c s h laws.put high (said_by c.say_sizes s.layer request)
-nothing_leads_back laws c s h (timer.Asks Connects) high = not_asked c s h laws.put high (connect_asked ∷ [])
-nothing_leads_back laws c s h (timer.Asks Disconnects) high =
+goes_on laws c s h (timer.Asks (Requests request)) high = request_leads c s h laws.put high (said_by c.say_sizes s.layer request)
+goes_on laws c s h (timer.Gives g request) high = given_leads c s h laws.put high g (said_by c.say_sizes s.layer request)
+goes_on laws c s h (timer.Asks Connects) high = not_asked c s h laws.put high (connect_asked ∷ [])
+goes_on laws c s h (timer.Asks Disconnects) high =
     unless_leads c s h laws.put high (disconnect_refusal s.link.phase) (led_by (disconnect_asked ∷ []) (follows c s.layer (disconnect_step (link_settings c) s.link)))
     (follow_leads c s h laws.put high (disconnect_step (link_settings c) s.link) (laws.disconnect (link_settings c) s.link))
-nothing_leads_back laws c s h (timer.Asks Probes) high =
+goes_on laws c s h (timer.Asks Probes) high =
     unless_leads c s h laws.put high (probe_refusal s.link.phase) (follows c s.layer (timer_step (link_settings c) s.link)) (follow_leads c s h laws.put high (timer_step (link_settings c) s.link) (laws.timer (link_settings c) s.link))
-nothing_leads_back laws c s h (timer.Asks Relinks) high =
+goes_on laws c s h (timer.Asks Relinks) high =
     unless_leads c s h laws.put high (relink_refusal s.link.phase) (led_by (relink_asked ∷ []) (follows c s.layer (relink_step (link_settings c) s.link)))
     (follow_leads c s h laws.put high (relink_step (link_settings c) s.link) (laws.relink (link_settings c) s.link))
+
+pub nothing_leads_back : LinkLaws → NothingLeadsBack
+nothing_leads_back laws c s h event high = by (timer.outcome c s event) (goes_on laws c s h event high)
+  where
+    forgets : (next : Station) (entries : List StationEntry) → Leads c s h next entries → AwaitsStill c s next h ⊎ (rank c next h < rank c s h)
+    forgets next entries (inl still) = inl still
+    forgets next entries (inr x) = inr x.0
+
+    by : (o : Outcome) → Goes c s h o → LeadsOn c s h o
+    by (Did step) go = λ quiet. forgets step.near step.entries (go quiet)
+    by (Refused e) go = tt
+
+-- LinkUp and LinkDown answer all
+link_answers : (h : ℕ) (awaits : Awaits) (entries : List StationEntry) → tells_link entries ≡ true → list_any (is_answered_on h awaits) entries ≡ true
+link_answers h awaits [] is = absurd (true≢false (sym is))
+link_answers h awaits (entry ∷ entries) is = by entry is (λ later. link_answers h awaits entries later)
+  where
+    behind : (e : StationEntry) → list_any (is_answered_on h awaits) entries ≡ true → (is_answered_on h awaits e || list_any (is_answered_on h awaits) entries) ≡ true
+    behind e later = ap (λ (b : Bool). is_answered_on h awaits e || b) later ∙ or-true (is_answered_on h awaits e)
+
+    by : (e : StationEntry) → (is_of_link e || tells_link entries) ≡ true → (tells_link entries ≡ true → list_any (is_answered_on h awaits) entries ≡ true)
+        → (is_answered_on h awaits e || list_any (is_answered_on h awaits) entries) ≡ true
+    by link_up told rest = refl
+    by (link_down reason) told rest = refl
+    by (of_channel e) told rest = behind (of_channel e) (rest told)
+    by (restart_asked cause diagnostic) told rest = rest told
+    by connect_asked told rest = rest told
+    by disconnect_asked told rest = rest told
+    by relink_asked told rest = rest told
+    by (was_restarted cause diagnostic) told rest = refl
+    by restart_confirmed told rest = refl
+    by (at_fault diagnostic) told rest = rest told
+    by (came_beside channel facilities user) told rest = rest told
+    by (was_diagnosed diagnostic) told rest = rest told
+
+pub end_is_told : LinkLaws → EndIsTold
+end_is_told laws c s h event high = by (timer.outcome c s event) (goes_on laws c s h event high)
+  where
+    tells : (step : Step) → Leads c s h step.near step.entries → IsTold c s h (Did step)
+    tells step (inl still) = inl still
+    tells step (inr x) = inr x.1
+
+    by : (o : Outcome) → Goes c s h o → IsTold c s h o
+    by (Did step) go = of_link (tells_link step.entries) refl
+      where
+        of_link : (b : Bool) → tells_link step.entries ≡ b → IsTold c s h (Did step)
+        of_link true is = inr (inr (link_answers h (awaited_at (layer_settings c) s.layer h) step.entries is))
+        of_link false is = tells step (go is)
+    by (Refused e) go = tt
 
 -- ---- clear and restart
 

@@ -1,5 +1,6 @@
 -- What holds of a link that has taken octets: what it hands up is short, and where it came up or hands up it takes packets.
-use Rattle.std.proofs.Common.{◌≡◌, ℕ, ◌+◌, ◌<◌, ◌≤◌, min, List, [], ◌++◌, All, length, Option, Some, None, IfSome, map, Result, Ok, Err, Bool, true, false, if◌then◌else◌, refl, ap, sym, subst, ◌∙◌, arith}
+use Rattle.std.proofs.Common.{◌≡◌, ℕ, ◌+◌, ◌<◌, ◌≤◌, nat_le, min, drop, List, [], ◌∷◌, ◌++◌, All, length, Option, Some, None, IfSome, map, Result, Ok, Err, Bool, true, false, if◌then◌else◌, refl, ap, sym, subst, ◌∙◌, arith}
+use Rattle.std.proofs.lemmas.Bool.{le-leb}
 use Rattle.std.proofs.lemmas.Option.{none-some, same_Some}
 use Rattle.std.proofs.Math.Logic.{∥∥₁_elim}
 use Rattle.std.proofs.Props.{props}
@@ -23,7 +24,7 @@ use Rattle.x25_link.specs.code.FitsLink.{ShownLink, FitsLink, limit_of, up_of, w
 use Rattle.x25_link.specs.laws.LinkLaws.{link_waits}
 use Rattle.x25_circuit.specs.code.FitsCircuit.{room_of}
 use Rattle.x25_layer.specs.declared.layer.Layer as layer_code
-use Rattle.x25_layer.specs.Room.{HasRoom}
+use Rattle.x25_layer.specs.Room.{HasRoom, named_by}
 use Rattle.x25_station.specs.declared.config.Manner.{Manner}
 use Rattle.x25_station.specs.Config.{Settings, link_settings}
 use Rattle.x25_station.specs.Station.{Station}
@@ -90,6 +91,28 @@ handed_short reads hands c octets s p bytes is =
     let short : length (information_of i.frame) ≡ length p = ap (λ (xs : List ℕ). length xs) i.information in
     omega (arith, same, size, short)
 
+-- what follows a packet names no other channel
+named_before : (p rest : List ℕ) → named_by p ≡ (if nat_le 3 (length p) then named_by (p ++ rest) else 0)
+named_before [] rest = refl
+named_before (a ∷ []) rest = refl
+named_before (a ∷ b ∷ []) rest = refl
+named_before (a ∷ b ∷ k ∷ body) rest =
+    let long : 3 ≤ length (a ∷ b ∷ k ∷ body) = omega arith in
+    sym (ap (λ (t : Bool). if t then named_by ((a ∷ b ∷ k ∷ body) ++ rest) else 0) (le-leb 3 (length (a ∷ b ∷ k ∷ body)) long))
+
+-- the channel that it names stands in the frame behind address and control
+pub handed_named : ReadsWhatIsSpelled → TakeHandsUp → (c : LinkSettings) (octets : List ℕ) (s : LinkStation) (p : List ℕ) → All (λ octet. octet < 256) octets → (take_step c octets s).packet ≡ Some p
+    → named_by p ≡ (if nat_le 3 (length p) then named_by (drop 2 octets) else 0)
+handed_named reads hands c octets s p bytes is =
+    let read : Result PlainFrame FrameError = frame_of (other c.role) c.longest octets in
+    let up : s.phase ≡ Up = (hands c octets s).up p is in
+    let i : Informs read p = row_informs c octets read (alone s) p (sym (ap (λ (x : Phase). (hears c octets read x (alone s)).packet) up) ∙ is) in
+    let body : List ℕ = body_of (other c.role) i.frame in
+    let spelled : Spells (other c.role) c.longest i.frame octets = (reads (other c.role) c.longest i.frame octets bytes).0 i.reads in
+    let behind : drop 2 octets ≡ information_of i.frame ++ seal_of body = ap (λ (xs : List ℕ). drop 2 xs) spelled.spelling in
+    let after : drop 2 octets ≡ p ++ seal_of body = behind ∙ ap (λ (xs : List ℕ). xs ++ seal_of body) i.information in
+    named_before p (seal_of body) ∙ ap (λ (xs : List ℕ). if nat_le 3 (length p) then named_by xs else 0) (sym after)
+
 -- ---- the link takes packets
 
 free_of : (c : LinkSettings) (l : ShownLink) (s : LinkStation) → FitsLink c l s → waiting_of l ≡ waits s.outgoing
@@ -124,6 +147,9 @@ put_by_meaning l m y h f = record {
 pub least_by_meaning : {manner : Manner} (l : ShownLink) (y : layer_code.Layer) (a b : ℕ) → AreMeant manner l y → ((c : Settings) (s : Station) → FitsParts c manner l y s → a ≤ b) → a ≤ b
 least_by_meaning l y a b h f = ∥∥₁_elim h (hlevel props) (λ w. f w.0 w.1 w.2)
 
+pub same_by_meaning : {manner : Manner} (l : ShownLink) (y : layer_code.Layer) (a b : ℕ) → AreMeant manner l y → ((c : Settings) (s : Station) → FitsParts c manner l y s → a ≡ b) → a ≡ b
+same_by_meaning l y a b h f = ∥∥₁_elim h (hlevel props) (λ w. f w.0 w.1 w.2)
+
 pub up_by_meaning : {manner : Manner} (l : ShownLink) (y : layer_code.Layer) (b : Bool) → AreMeant manner l y → ((c : Settings) (s : Station) → FitsParts c manner l y s → b ≡ true) → b ≡ true
 up_by_meaning l y b h f = ∥∥₁_elim h (hlevel props) (λ w. f w.0 w.1 w.2)
 
@@ -132,12 +158,25 @@ handed_was_up hands c l octets s p fits is = ap is_up fits.near.phase ∙ ap is_
 
 -- ---- memory
 
-pub less_room : (n m : ℕ) (y : layer_code.Layer) (a b : ℕ) → n ≤ m → a ≡ b → HasRoom m y a → HasRoom n y b
-less_room n m y a b low same room = record {
+less_room : (h n m : ℕ) (y : layer_code.Layer) (a b : ℕ) → n ≤ m → a ≡ b → HasRoom h m y a → HasRoom h n y b
+less_room h n m y a b low same room = record {
   memory = room.memory;
   promised = subst (λ (x : ℕ). 16 ≤ x) same room.promised;
-  circuits = λ k v is. (let high : min m 4096 ≤ room_of v = room.circuits k v is in omega (arith, low, high));
+  circuits = λ k v is on. (let high : min m 4096 ≤ room_of v = room.circuits k v is on in omega (arith, low, high));
 }
+
+-- of no channel
+pub no_room : (h m : ℕ) (y : layer_code.Layer) (a b : ℕ) → a ≡ b → HasRoom h m y a → (n : ℕ) → HasRoom 0 n y b
+no_room h m y a b same room n = record {
+  memory = room.memory;
+  promised = subst (λ (x : ℕ). 16 ≤ x) same room.promised;
+  circuits = λ k v is on. absurd (omega (arith, on));
+}
+
+-- of the channel that octets name, or of none
+pub room_for : (named : Bool) (h₂ h n m : ℕ) (y : layer_code.Layer) (a b : ℕ) → h₂ ≡ (if named then h else 0) → n ≤ m → a ≡ b → HasRoom h m y a → HasRoom h₂ n y b
+room_for true h₂ h n m y a b is low same room = subst (λ (x : ℕ). HasRoom x n y b) (sym is) (less_room h n m y a b low same room)
+room_for false h₂ h n m y a b is low same room = subst (λ (x : ℕ). HasRoom x n y b) (sym is) (no_room h m y a b same room n)
 
 pub few_made : (role : Role) (made : List (List ℕ)) (out : List PlainFrame) (n : ℕ) → made ≡ map (spelling_of role) out → length out ≤ n → length made ≤ n
 few_made role made out n same few =

@@ -19,15 +19,21 @@ use Rattle.x25_link.specs.Station.{Settings as LinkSettings, Side, is_busy, with
 use Rattle.x25_link.specs.Hearing.{Step as LinkStep, other, quiet, leaves, rejects, is_valid, acknowledged, is_taken, takes, answers, passes_over, hears_info, peer_is, goes_back, polls, numbered, row_of_frame, row_of}
 use Rattle.x25_link.specs.Link as link
 use Rattle.x25_link.specs.Link.{closed_by, alone, declines, when_down, when_waiting, if_read, puts, take_step, connect_refusal, disconnect_refusal, asks_again, timer_refusal, timer_step, abandon_step, probe_refusal, relink_refusal}
+use Rattle.x25_given.specs.Given.{PlainGiven}
+use Rattle.x25_given.specs.Writing.{write}
+use Rattle.x25_layer.specs.Calls.{LayerRequest}
 use Rattle.x25_layer.specs.Rounds.{Answered, Went, Refuses, calls}
 use Rattle.x25_station.specs.declared.error.StationError.TheVariants as error
 use Rattle.x25_station.specs.Command.{Requests, Connects, Disconnects, Probes, Relinks, said_by}
 use Rattle.x25_station.specs.Config.{Settings, link_settings, layer_settings, longest_packet}
 use Rattle.x25_station.specs.Entry.{StationEntry, of_channel, restart_asked, connect_asked, disconnect_asked, relink_asked, link_up, link_down, was_restarted, restart_confirmed, at_fault, came_beside, was_diagnosed}
+use Rattle.x25_station.specs.Giving as giving
+use Rattle.x25_station.specs.Giving.{all_given, view_given, gave}
+use Rattle.x25_station.specs.Station as station
 use Rattle.x25_station.specs.Station.{Station, put_on, all_put, view_of}
 use Rattle.x25_station.specs.Step.{Step, Outcome, Did, Refused, layer_at, follows, unless, abandons, did}
 use Rattle.x25_station.specs.laws.TimerLaw as law
-use Rattle.x25_station.specs.laws.TimerLaw.{Event, Comes, Asks, Fires, Watched, heeds, after, watched_by, watched_from, IsFiring, TellsLink, IsDue}
+use Rattle.x25_station.specs.laws.TimerLaw.{Event, Comes, Asks, Gives, Fires, Watched, heeds, after, watched_by, watched_from, IsFiring, TellsLink, IsDue}
 use Rattle.x25_station.specs.Timer.{runs, tells_link, is_acknowledged, timer_of, pulled_timer}
 use Rattle.x25_station.specs.Pulling.{pulled}
 use Rattle.x25_station.specs.declared.timer.Timer.{Timer}
@@ -234,6 +240,18 @@ fired_few c t = by (nat_lt t.near.tries c.retries)
     by true = let is = asked t.near.phase in omega (arith, is)
     by false = omega arith
 
+-- what is given beside the first packet
+given_same : (c : LinkSettings) (g : PlainGiven) (packets : List PlainPacket) (t : Side) → acked (all_given c g packets t) ≡ acked t
+given_same c g [] t = refl
+given_same c g (packet ∷ packets) t =
+    let first = puts (write g (spelling_of packet)) (alone t.near) in
+    put_same c packets (station.behind t (closed_by c.window first).side) ∙ ended_same c.window first.side
+
+gave_few : (c : Settings) (s : Station) (g : PlainGiven) (taken : Bool) (entries : List StationEntry) (a : Answered) → FewBy s (gave c g taken (alone s.link) entries a)
+gave_few c s g true entries (Went p) = let same = given_same (link_settings c) g p.put (alone s.link) in omega (arith, same)
+gave_few c s g false entries (Went p) = tt
+gave_few c s g taken entries (Refuses e) = tt
+
 received_few : (c : Settings) (octets : List ℕ) (s : Station) (b : Bool) → (follows c s.layer (if b then abandon_step (link_settings c) s.link else take_step (link_settings c) octets s.link)).near.link.outgoing.acked ≤ s.link.outgoing.acked + 7
 received_few c octets s true = follows_few c s (leaves Counts (alone s.link)) (omega arith)
 received_few c octets s false = follows_few c s _ (heard_few (link_settings c) octets (frame_of (other c.role) longest_packet octets) s.link.phase (alone s.link))
@@ -245,6 +263,9 @@ few_acked c s (Asks Connects) = unless_few s (connect_refusal s.link.phase) _ (f
 few_acked c s (Asks Disconnects) = unless_few s (disconnect_refusal s.link.phase) _ (follows_few c s (link.disconnects (alone s.link)) (omega arith))
 few_acked c s (Asks Probes) = unless_few s (probe_refusal s.link.phase) _ (follows_few c s (link.fires (link_settings c) (alone s.link)) (fired_few (link_settings c) (alone s.link)))
 few_acked c s (Asks Relinks) = unless_few s (relink_refusal s.link.phase) _ (follows_few c s (link.relinks (alone s.link)) (omega arith))
+few_acked c s (Gives g request) =
+    let said : LayerRequest = said_by c.say_sizes s.layer request in
+    gave_few c s g (giving.is_taken c g said) _ (calls (view_given (link_settings c) g s.link) (layer_settings c) s.layer said)
 few_acked c s Fires = unless_few s (timer_refusal s.link) _ (follows_few c s (link.fires (link_settings c) (alone s.link)) (fired_few (link_settings c) (alone s.link)))
 
 few_in : (s : Station) (o : Outcome) (step : Step) → o ≡ Did step → FewBy s o → step.near.link.outgoing.acked ≤ s.link.outgoing.acked + 7
@@ -279,6 +300,7 @@ fires_due : (event : Event) → IsFiring event → law.is_firing event ≡ true
 fires_due Fires is = refl
 fires_due (Comes octets) is = absurd is
 fires_due (Asks command) is = absurd is
+fires_due (Gives given request) is = absurd is
 
 is_due : (c : Settings) (s : Station) (event : Event) (step : Step) → law.outcome c s event ≡ Did step → IsDue s event step
     → (law.is_firing event || (tells_link step.entries || is_acknowledged s.link step.near.link)) ≡ true

@@ -1,7 +1,8 @@
 -- What a station asks while nothing is heard: T1 goes on, and each firing and each poll takes a try.
-use Rattle.std.proofs.Common.{◌≡◌, ℕ, zero, suc, ◌+◌, ◌<◌, ◌≤◌, List, [], ◌∷◌, ◌++◌, max, Bool, true, false, ◌||◌, ◌&&◌, if◌then◌else◌, nat_lt, Option, Some, None, Result, Ok, Err, refl, sym, ap, subst, ◌∙◌, arith}
+use Rattle.std.proofs.Common.{◌≡◌, ℕ, zero, suc, ◌+◌, ◌<◌, ◌≤◌, List, [], ◌∷◌, ◌++◌, max, Bool, true, false, ◌||◌, ◌&&◌, if◌then◌else◌, nat_lt, length, Option, Some, None, Result, Ok, Err, refl, sym, ap, subst, ◌∙◌, arith}
 use Rattle.std.proofs.lemmas.Bool.{true≢false, ltb-true, lt-ltb}
 use Rattle.std.proofs.Math.Bool.{or-true}
+use Rattle.std.proofs.lemmas.List.{length-append}
 use Rattle.x25_frame.specs.Frame.{PlainFrame, info, rr, rnr, rej, sabm, disc, ua, dm, frmr}
 use Rattle.x25_frame.specs.Reading.{frame_of}
 use Rattle.x25_frame.specs.declared.error.FrameError.{FrameError}
@@ -18,10 +19,15 @@ use Rattle.x25_link.specs.Hearing.{Step as LinkStep, quiet, leaves, other}
 use Rattle.x25_link.specs.Link.{alone, closed_by, put_step, take_step, timer_runs, timer_refusal, timer_step, asks_again, connect_refusal, connect_step, disconnect_refusal, disconnect_step, probe_refusal, relink_refusal, relink_step, abandon_step}
 use Rattle.x25_link.specs.laws.SetUp.{TakeWaits, waiting_after, waiting_up}
 use Rattle.x25_layer.specs.code.FitsLayer.{is_full}
+use Rattle.x25_layer.specs.Calls.{LayerRequest}
 use Rattle.x25_layer.specs.Rounds.{Answered, Went, Refuses, calls}
+use Rattle.x25_given.specs.Given.{PlainGiven}
+use Rattle.x25_given.specs.Writing.{write}
 use Rattle.x25_station.specs.Command.{Requests, Connects, Disconnects, Probes, Relinks, said_by}
 use Rattle.x25_station.specs.Config.{Settings, link_settings, layer_settings}
 use Rattle.x25_station.specs.Entry.{StationEntry, connect_asked, disconnect_asked, relink_asked, entries_down, entries_up}
+use Rattle.x25_station.specs.Giving.{all_given, view_given, with_given, is_taken, gave}
+use Rattle.x25_station.specs.Station as station
 use Rattle.x25_station.specs.Station.{Station, put_on, all_put, view_of}
 use Rattle.x25_station.specs.Step.{Step, with_puts, follows, led_by, unless, abandons, did, receives}
 use Rattle.x25_station.specs.Timer.{tells_link}
@@ -34,26 +40,29 @@ use Rattle.x25_station.proofs.DownLemmas.{downs, follows_down, timer_down, disco
 pub record Lasts (s t : LinkStation) : Type 0 where
   pub phase : t.phase ≡ s.phase
   tries : t.tries ≡ s.tries
-  acked : t.outgoing.acked ≡ s.outgoing.acked
+  pub acked : t.outgoing.acked ≡ s.outgoing.acked
   recovery : t.recovery ≡ s.recovery
   peer_busy : t.peer_busy ≡ s.peer_busy
   sent : s.outgoing.sent ≤ t.outgoing.sent
+  pub given : length s.outgoing.given ≤ length t.outgoing.given
 
 lasts : (s : LinkStation) → Lasts s s
-lasts s = record { phase = refl; tries = refl; acked = refl; recovery = refl; peer_busy = refl; sent = omega arith }
+lasts s = record { phase = refl; tries = refl; acked = refl; recovery = refl; peer_busy = refl; sent = omega arith; given = omega arith }
 
 lasts_on : (s t u : LinkStation) → Lasts s t → Lasts t u → Lasts s u
 lasts_on s t u p q =
     let first = p.sent in
     let second = q.sent in
-    record { phase = q.phase ∙ p.phase; tries = q.tries ∙ p.tries; acked = q.acked ∙ p.acked; recovery = q.recovery ∙ p.recovery; peer_busy = q.peer_busy ∙ p.peer_busy; sent = omega (arith, first, second) }
+    let here = p.given in
+    let there = q.given in
+    record { phase = q.phase ∙ p.phase; tries = q.tries ∙ p.tries; acked = q.acked ∙ p.acked; recovery = q.recovery ∙ p.recovery; peer_busy = q.peer_busy ∙ p.peer_busy; sent = omega (arith, first, second); given = omega (arith, here, there) }
 
 if_lasts : (s : LinkStation) (b : Bool) (u v : Side) → Lasts s u.near → Lasts s v.near → (let w : Side = if b then u else v in Lasts s w.near)
 if_lasts s true u v p q = p
 if_lasts s false u v p q = q
 
 said_lasts : (s : LinkStation) (busy : Bool) → Lasts s (record s { said_busy = busy })
-said_lasts s busy = record { phase = refl; tries = refl; acked = refl; recovery = refl; peer_busy = refl; sent = omega arith }
+said_lasts s busy = record { phase = refl; tries = refl; acked = refl; recovery = refl; peer_busy = refl; sent = omega arith; given = omega arith }
 
 ready_lasts : (command pf : Bool) (t : Side) → Lasts t.near (ready command pf t).near
 ready_lasts command pf t = if_lasts t.near (is_busy t.near) _ _ (said_lasts t.near true) (said_lasts t.near false)
@@ -62,7 +71,7 @@ max_first : (a b : ℕ) → a ≤ max a b
 max_first a b = omega arith
 
 send_lasts : (t : Side) → Lasts t.near (send_next t).near
-send_lasts t = record { phase = refl; tries = refl; acked = refl; recovery = refl; peer_busy = refl; sent = max_first t.near.outgoing.sent (t.near.outgoing.place + 1) }
+send_lasts t = record { phase = refl; tries = refl; acked = refl; recovery = refl; peer_busy = refl; sent = max_first t.near.outgoing.sent (t.near.outgoing.place + 1); given = omega arith }
 
 pumped_lasts : (n k : ℕ) (t : Side) → Lasts t.near (pumped n k t).near
 unfolding pumped
@@ -77,16 +86,24 @@ ended_lasts k t =
     if_lasts t.near (owes_ready u.near) (ready false false u) u (lasts_on t.near u.near (ready false false u).near (pumped_lasts 7 k t) (ready_lasts false false u)) (pumped_lasts 7 k t)
 
 added_lasts : (packet : List ℕ) (s : LinkStation) → Lasts s (record s { outgoing = added packet s.outgoing })
-added_lasts packet s = record { phase = refl; tries = refl; acked = refl; recovery = refl; peer_busy = refl; sent = omega arith }
+added_lasts packet s =
+    let one : length (s.outgoing.given ++ packet ∷ []) ≡ length s.outgoing.given + 1 = length-append s.outgoing.given (packet ∷ []) in
+    record { phase = refl; tries = refl; acked = refl; recovery = refl; peer_busy = refl; sent = omega arith; given = omega (arith, one) }
 
 pub put_lasts : (c : LinkSettings) (packet : List ℕ) (s : LinkStation) → Lasts s (put_step c packet s).side.near
 put_lasts c packet s =
     let t : Side = with_near (alone s) (record s { outgoing = added packet s.outgoing }) in
     lasts_on s t.near (ended c.window t).near (added_lasts packet s) (ended_lasts c.window t)
 
-all_put_lasts : (c : LinkSettings) (packets : List PlainPacket) (t : Side) → Lasts t.near (all_put c packets t).near
+pub all_put_lasts : (c : LinkSettings) (packets : List PlainPacket) (t : Side) → Lasts t.near (all_put c packets t).near
 all_put_lasts c [] t = lasts t.near
 all_put_lasts c (p ∷ packets) t = lasts_on t.near (put_on c p t).near (all_put c packets (put_on c p t)).near (put_lasts c (spelling_of p) t.near) (all_put_lasts c packets (put_on c p t))
+
+pub all_given_last : (c : LinkSettings) (g : PlainGiven) (packets : List PlainPacket) (t : Side) → Lasts t.near (all_given c g packets t).near
+all_given_last c g [] t = lasts t.near
+all_given_last c g (p ∷ packets) t =
+    let u : Side = station.behind t (put_step c (write g (spelling_of p)) t.near).side in
+    lasts_on t.near u.near (all_put c packets u).near (put_lasts c (write g (spelling_of p)) t.near) (all_put_lasts c packets u)
 
 -- ---- T1 runs on
 
@@ -212,6 +229,11 @@ went_asks : (c : Settings) (s : Station) (entries : List StationEntry) (a : Answ
 went_asks c s entries (Went n) = λ quiet same. lasts_takes c s (with_puts c (alone s.link) n entries).near (all_put_lasts (link_settings c) n.put (alone s.link))
 went_asks c s entries (Refuses e) = tt
 
+gave_asks : (c : Settings) (s : Station) (g : PlainGiven) (taken : Bool) (entries : List StationEntry) (a : Answered) → AsksOn c s 0 (gave c g taken (alone s.link) entries a)
+gave_asks c s g true entries (Went n) = λ quiet same. lasts_takes c s (with_given c g (alone s.link) n entries).near (all_given_last (link_settings c) g n.put (alone s.link))
+gave_asks c s g false entries (Went n) = tt
+gave_asks c s g taken entries (Refuses e) = tt
+
 connect_asks : (c : Settings) (s : Station) (p : Phase) (step : Step) → MayAsk p → AsksOn c s 0 (unless (connect_refusal p) step)
 connect_asks c s Down step may = absurd may
 connect_asks c s Waiting step may = tt
@@ -232,6 +254,9 @@ unheard_asks_on waits c s (timer.Comes octets) may is = heard waits c s octets i
 unheard_asks_on waits c s timer.Fires may is = unless_asks c s 1 (timer_refusal s.link) (follows c s.layer (timer_step (link_settings c) s.link)) (fired c s may)
 unheard_asks_on waits c s (timer.Asks (Requests request)) may is =
     went_asks c s _ (calls (view_of (link_settings c) s.link) (layer_settings c) s.layer (said_by c.say_sizes s.layer request))
+unheard_asks_on waits c s (timer.Gives g request) may is =
+    let said : LayerRequest = said_by c.say_sizes s.layer request in
+    gave_asks c s g (is_taken c g said) _ (calls (view_given (link_settings c) g s.link) (layer_settings c) s.layer said)
 unheard_asks_on waits c s (timer.Asks Connects) may is = connect_asks c s s.link.phase (led_by (connect_asked ∷ []) (follows c s.layer (connect_step (link_settings c) s.link))) may
 unheard_asks_on waits c s (timer.Asks Disconnects) may is =
     unless_asks c s 0 (disconnect_refusal s.link.phase) (led_by (disconnect_asked ∷ []) (follows c s.layer (disconnect_step (link_settings c) s.link))) (disconnect_asks c s may)

@@ -6,6 +6,7 @@ pub mod HoldLaw
 pub mod OctetLaw
 pub mod TimerLaw
 pub mod WayOutLaw
+pub mod EndLaw
 pub mod UnheardLaw
 pub mod SettledLaw
 pub mod GivenLaw

@@ -11,6 +11,7 @@ ghost use Rattle.x25_layer.specs.laws.Transcript.{name_of};
 ghost use Rattle.x25_layer.specs.laws.TwoLayers.{shown};
 ghost use Rattle.x25_station.specs.Command.{Requests, answer_in_brief, command_of, proposal_said};
 ghost use Rattle.x25_station.specs.Entry.{of_channel};
+ghost use Rattle.x25_station.specs.code.Aside.{HasFewPlaces};
 ghost use Rattle.x25_station.specs.code.Clock.{TellsTimer};
 ghost use Rattle.x25_station.specs.code.FitsStation.{FitsStation, Does, IsEmpty, RefusesExactly, RefusesForMemory};
 ghost use Rattle.x25_station.specs.code.PlainEntry.{plain_entry, plain_asked, plain_said};
@@ -204,6 +205,7 @@ impl Station {
             (λ c s. commands c s (command_of command.entry)) }
         ensures pull { command_of command.entry ≡ Requests PullsAll → (c : Settings) (s : State)
             → FitsStation c self.old s → RefusesExactly result (requests c s PullsAll) }
+        ensures places { HasFewPlaces out.old.entries out.new.entries }
     {
         self.empty(out);
         let before = self.clock();
@@ -219,6 +221,7 @@ impl Station {
         ensures does { Does self.old self.new out.new result (λ c s. commands c s (command_of command.now)) }
         ensures pull { command_of command.now ≡ Requests PullsAll → (c : Settings) (s : State)
             → FitsStation c self.old s → RefusesExactly result (requests c s PullsAll) }
+        ensures places { HasFewPlaces out.old.entries out.new.entries }
     {
         match command {
             Cmd::Accept { channel, params } => self.accept(*channel, *params, out),
@@ -283,6 +286,7 @@ impl Station {
         ensures does { Does self.old self.new out.new result (λ c s. requests c s PullsAll) }
         ensures exactly { (c : Settings) (s : State) → FitsStation c self.old s
             → RefusesExactly result (requests c s PullsAll) }
+        ensures places { HasFewPlaces out.old.entries out.new.entries }
     {
         steps_keep_bounds();
         holds_few();
@@ -303,8 +307,9 @@ impl Station {
         out: &mut Step,
     ) -> Result<(), StationError>
         requires { IsEmpty out.old }
-        ensures { Does self.old self.new out.new result
+        ensures does { Does self.old self.new out.new result
             (λ c s. commands c s (Requests (Asks channel (Accepts (answer_in_brief params))))) }
+        ensures places { HasFewPlaces out.old.entries out.new.entries }
     {
         match self.answer(channel, params) {
             Some(answer) => self.ask(
@@ -349,8 +354,9 @@ impl Station {
         out: &mut Step,
     ) -> Result<(), StationError>
         requires { IsEmpty out.old }
-        ensures { Does self.old self.new out.new result
+        ensures does { Does self.old self.new out.new result
             (λ c s. commands c s (Requests (Dials called.now calling.now user.now (in_brief params)))) }
+        ensures places { HasFewPlaces out.old.entries out.new.entries }
     {
         let proposal = self.proposal(params);
         self.dial(called, calling, user, &proposal, out)
@@ -374,8 +380,9 @@ impl Station {
         out: &mut Step,
     ) -> Result<(), StationError>
         requires { IsEmpty out.old }
-        ensures { Does self.old self.new out.new result
+        ensures does { Does self.old self.new out.new result
             (λ c s. requests c s (Dials called.now calling.now user.now proposal.now)) }
+        ensures places { HasFewPlaces out.old.entries out.new.entries }
     {
         steps_keep_bounds();
         holds_few();
@@ -409,8 +416,9 @@ impl Station {
         out: &mut Step,
     ) -> Result<(), StationError>
         requires { IsEmpty out.old }
-        ensures { Does self.old self.new out.new result
+        ensures does { Does self.old self.new out.new result
             (λ c s. requests c s (Asks channel (plain_request request.entry))) }
+        ensures places { HasFewPlaces out.old.entries out.new.entries }
     {
         steps_keep_bounds();
         holds_few();
@@ -438,7 +446,8 @@ impl Station {
     // A restart of the packet layer.
     fn restart(&mut self, cause: u8, diagnostic: u8, out: &mut Step) -> Result<(), StationError>
         requires { IsEmpty out.old }
-        ensures { Does self.old self.new out.new result (λ c s. requests c s (Restarts cause diagnostic)) }
+        ensures does { Does self.old self.new out.new result (λ c s. requests c s (Restarts cause diagnostic)) }
+        ensures places { HasFewPlaces out.old.entries out.new.entries }
     {
         steps_keep_bounds();
         holds_few();

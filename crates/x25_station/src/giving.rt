@@ -6,6 +6,7 @@ ghost use Rattle.x25_circuit.specs.Request.{plain_request};
 ghost use Rattle.x25_given.specs.Given.{may_give, plain_given};
 ghost use Rattle.x25_layer.specs.Calls.{Asks, Dials};
 ghost use Rattle.x25_station.specs.Command.{answer_in_brief};
+ghost use Rattle.x25_station.specs.code.Aside.{HasFewPlaces};
 ghost use Rattle.x25_station.specs.code.Clock.{TellsTimer};
 ghost use Rattle.x25_station.specs.code.FitsStation.{FitsStation, Does, IsEmpty};
 ghost use Rattle.x25_station.specs.Config.{Settings};
@@ -82,6 +83,7 @@ impl Station {
             (λ c s. gives_said c s (plain_given given.entry) (request_of command.entry)) }
         ensures timer { TellsTimer self.old out.new.timer result false
             (λ c s. gives_said c s (plain_given given.entry) (request_of command.entry)) }
+        ensures places { HasFewPlaces out.old.entries out.new.entries }
     {
         self.empty(out);
         let before = self.clock();
@@ -98,8 +100,9 @@ impl Station {
         out: &mut Step,
     ) -> Result<(), StationError>
         requires { IsEmpty out.old }
-        ensures { Does self.old self.new out.new result
+        ensures does { Does self.old self.new out.new result
             (λ c s. gives_said c s (plain_given given.now) (request_of command.now)) }
+        ensures places { HasFewPlaces out.old.entries out.new.entries }
     {
         match command {
             CallCmd::Call {
@@ -141,8 +144,9 @@ impl Station {
         out: &mut Step,
     ) -> Result<(), StationError>
         requires { IsEmpty out.old }
-        ensures { Does self.old self.new out.new result (λ c s. gives_said c s (plain_given given.now)
+        ensures does { Does self.old self.new out.new result (λ c s. gives_said c s (plain_given given.now)
             (Dials called.now calling.now user.now (in_brief params))) }
+        ensures places { HasFewPlaces out.old.entries out.new.entries }
     {
         let proposal = self.proposal(params);
         self.dial_given(given, called, calling, user, &proposal, out)
@@ -157,8 +161,9 @@ impl Station {
         out: &mut Step,
     ) -> Result<(), StationError>
         requires { IsEmpty out.old }
-        ensures { Does self.old self.new out.new result (λ c s. gives_said c s (plain_given given.now)
+        ensures does { Does self.old self.new out.new result (λ c s. gives_said c s (plain_given given.now)
             (Asks channel (Accepts (answer_in_brief params)))) }
+        ensures places { HasFewPlaces out.old.entries out.new.entries }
     {
         match self.answer(channel, params) {
             Some(answer) => self.ask_given(
@@ -191,8 +196,9 @@ impl Station {
         out: &mut Step,
     ) -> Result<(), StationError>
         requires { IsEmpty out.old }
-        ensures { Does self.old self.new out.new result
+        ensures does { Does self.old self.new out.new result
             (λ c s. gives c s (plain_given given.now) (Dials called.now calling.now user.now proposal.now)) }
+        ensures places { HasFewPlaces out.old.entries out.new.entries }
     {
         steps_keep_bounds();
         holds_few();
@@ -241,8 +247,9 @@ impl Station {
         out: &mut Step,
     ) -> Result<(), StationError>
         requires { IsEmpty out.old }
-        ensures { Does self.old self.new out.new result
+        ensures does { Does self.old self.new out.new result
             (λ c s. gives c s (plain_given given.now) (Asks channel (plain_request request.entry))) }
+        ensures places { HasFewPlaces out.old.entries out.new.entries }
     {
         steps_keep_bounds();
         holds_few();

@@ -10,10 +10,11 @@ ghost use Rattle.x25_station.specs.laws.HoldLaw.{FewWait, FewStand, FewMessages,
 ghost use Rattle.x25_station.specs.laws.OctetLaw.{FewOctets, FewOctetsInAll};
 ghost use Rattle.x25_station.specs.laws.TimerLaw.{BeginsWhereDue, BeginsBehindPull, DeadlineIsTrue, FiringIsTaken};
 ghost use Rattle.x25_station.specs.laws.TimerLaw.{OffIsRefused, PullIsHeeded};
-ghost use Rattle.x25_station.specs.laws.SettledLaw.{NewIsSettled, SettledAsks, StaysSettled};
+ghost use Rattle.x25_station.specs.laws.SettledLaw.{NewIsSettled, PullsGoOn, SettledAsks, StaysSettled};
 ghost use Rattle.x25_station.specs.laws.UnheardLaw.{UnheardAsksOn};
 ghost use Rattle.x25_station.specs.laws.WayOutLaw.{ClearLeadsOn, FiringLeadsOn, NothingLeadsBack, RelinkLeadsOn};
 ghost use Rattle.x25_station.specs.laws.WayOutLaw.{RestartLeadsOn};
+ghost use Rattle.x25_station.specs.laws.EndLaw.{EndIsTold};
 
 use x25_circuit::values_are_agreed;
 use x25_given::what_is_written_is_read;
@@ -116,13 +117,16 @@ pub fn deadlines_are_true()
 /// A link that is up may be set up anew by `Relink`, whatever is awaited and whatever waits: LinkDown is told, and UA
 /// is awaited, with all tries left. Where UA is awaited, N2 firings of T1 and one more at most lead to Down, and
 /// LinkDown is told. And no step leads back, whatever comes and whatever is asked: until LinkUp or LinkDown is told,
-/// what a channel awaits is what it did, or fewer of these steps are left.
+/// what a channel awaits is what it did, or fewer of these steps are left. Where it isn't what it did, the step tells
+/// that: the answer, on that channel or of a restart, LinkUp or LinkDown; or that the channel is cleared or all are
+/// restarted, and then an answer to that is awaited.
 pub fn ways_out_lead_on()
     ensures clear { ClearLeadsOn }
     ensures restart { RestartLeadsOn }
     ensures relink { RelinkLeadsOn }
     ensures firing { FiringLeadsOn }
     ensures back { NothingLeadsBack }
+    ensures told { EndIsTold }
 {
     sets_up_by_rows();
     notes_what_changes();
@@ -139,11 +143,13 @@ pub fn silence_is_asked()
 
 /// A station whose link is up asks, or its link is at rest: from a new station on, whatever comes and whatever is
 /// asked, nothing is left that its link may send, and the window is sound. So where the link is up T1 runs, or it is at
-/// rest.
+/// rest. What is pulled behind a step tells nothing and acknowledges nothing, leaves all that is awaited, and brings no
+/// link to rest.
 pub fn stations_ask_or_rest()
     ensures new { NewIsSettled }
     ensures stays { StaysSettled }
     ensures asks { SettledAsks }
+    ensures pulled { PullsGoOn }
 {
     comes_to_rest();
     follows_the_window();

@@ -4,7 +4,7 @@ ghost use Rattle.x25_layer.specs.Layer.{Layer as LayerState, LayerSettings};
 ghost use Rattle.x25_layer.specs.code.FitsLayer.{FitsLayer};
 ghost use Rattle.x25_layer.specs.Room.{HasRoom};
 ghost use Rattle.x25_station.specs.Entry.{entries_down};
-ghost use Rattle.x25_station.specs.code.Aside.{GrowsBy, HasPlaces};
+ghost use Rattle.x25_station.specs.code.Aside.{GrowsBy, HasFewPlaces, HasPlaces};
 ghost use Rattle.x25_station.specs.code.Clock.{TellsTimer};
 ghost use Rattle.x25_station.specs.code.FitsStation.{FitsStation, Does, IsEmpty, RefusesExactly};
 ghost use Rattle.x25_station.specs.code.PlainEntry.{plain_entry};
@@ -29,6 +29,7 @@ impl Station {
         ensures does { Does self.old self.new out.new result connects }
         ensures exactly { (c : Settings) (s : State) → FitsStation c self.old s → RefusesExactly result (connects c s) }
         ensures timer { TellsTimer self.old out.new.timer result false connects }
+        ensures places { HasFewPlaces out.old.entries out.new.entries }
     {
         self.empty(out);
         let before = self.clock();
@@ -57,11 +58,10 @@ impl Station {
     /// Begins to set the link up, as a command, which has an entry.
     pub(crate) fn connect_asked(&mut self, out: &mut Step) -> Result<(), StationError>
         requires { IsEmpty out.old }
-        ensures { Does self.old self.new out.new result connects_asked }
+        ensures does { Does self.old self.new out.new result connects_asked }
+        ensures places { HasFewPlaces out.old.entries out.new.entries }
     {
-        if out.entries.reserve(1).is_err() {
-            return Err(StationError::NoMemory);
-        }
+        out.reserve()?;
         self.set_up(out)?;
         out.entries.push_reserved(Entry::ConnectAsked);
         Ok(())
@@ -73,6 +73,7 @@ impl Station {
     pub fn t1(&mut self, out: &mut Step) -> Result<(), StationError>
         ensures does { Does self.old self.new out.new result fires }
         ensures timer { TellsTimer self.old out.new.timer result true fires }
+        ensures places { HasFewPlaces out.old.entries out.new.entries }
     {
         self.empty(out);
         let before = self.clock();
@@ -84,7 +85,8 @@ impl Station {
     // T1 fires, into a step that is empty.
     fn fire(&mut self, out: &mut Step) -> Result<(), StationError>
         requires { IsEmpty out.old }
-        ensures { Does self.old self.new out.new result fires }
+        ensures does { Does self.old self.new out.new result fires }
+        ensures places { HasFewPlaces out.old.entries out.new.entries }
     {
         steps_keep_bounds();
         out.reserve()?;
@@ -101,7 +103,8 @@ impl Station {
     /// Polls the other end, as T1 does at its firing.
     pub(crate) fn probe(&mut self, out: &mut Step) -> Result<(), StationError>
         requires { IsEmpty out.old }
-        ensures { Does self.old self.new out.new result probes }
+        ensures does { Does self.old self.new out.new result probes }
+        ensures places { HasFewPlaces out.old.entries out.new.entries }
     {
         steps_keep_bounds();
         out.reserve()?;
@@ -118,12 +121,11 @@ impl Station {
     /// Sets the link up anew.
     pub(crate) fn relink(&mut self, out: &mut Step) -> Result<(), StationError>
         requires { IsEmpty out.old }
-        ensures { Does self.old self.new out.new result relinks }
+        ensures does { Does self.old self.new out.new result relinks }
+        ensures places { HasFewPlaces out.old.entries out.new.entries }
     {
         steps_keep_bounds();
-        if out.entries.reserve(2).is_err() {
-            return Err(StationError::NoMemory);
-        }
+        out.reserve()?;
         match self.link.relink() {
             Ok(heard) => {
                 out.entries.push_reserved(Entry::RelinkAsked);
@@ -138,12 +140,11 @@ impl Station {
     /// Disconnects the link, for good.
     pub(crate) fn disconnect(&mut self, out: &mut Step) -> Result<(), StationError>
         requires { IsEmpty out.old }
-        ensures { Does self.old self.new out.new result disconnects }
+        ensures does { Does self.old self.new out.new result disconnects }
+        ensures places { HasFewPlaces out.old.entries out.new.entries }
     {
         steps_keep_bounds();
-        if out.entries.reserve(2).is_err() {
-            return Err(StationError::NoMemory);
-        }
+        out.reserve()?;
         match self.link.disconnect() {
             Ok(heard) => {
                 out.entries.push_reserved(Entry::DisconnectAsked);
@@ -160,7 +161,7 @@ impl Station {
 pub(crate) fn note_down(layer: &mut Layer, down: Option<Reason>, entries: &mut Vec<Entry>)
     requires { HasPlaces 1 entries.old }
     ensures few { GrowsBy 1 entries.old entries.new }
-    ensures room { (len promised : ℕ) → HasRoom len layer.old promised → HasRoom len layer.new promised }
+    ensures room { (h len promised : ℕ) → HasRoom h len layer.old promised → HasRoom h len layer.new promised }
     ensures memory { layer.new.memory ≡ layer.old.memory }
     ensures same { down ≡ None → layer.new ≡ layer.old }
     ensures nothing { down ≡ None → entries.new ≡ entries.old }

@@ -1,14 +1,14 @@
 //! Octets that come: the step of the link, and what the packet layer does at it.
-ghost use Rattle.std.specs.Prelude.{◌≡◌, ℕ, ◌+◌, ◌-◌, ◌≤◌, ◌++◌, length, max, map, true, false, None};
+ghost use Rattle.std.specs.Prelude.{◌≡◌, ℕ, ◌+◌, ◌-◌, ◌≤◌, ◌++◌, length, drop, max, map, true, false, None};
 ghost use Rattle.std.specs.Prelude.{option_copied, IfSome, OnOk};
 ghost use Rattle.x25_link.specs.Station.{Side};
 ghost use Rattle.x25_link.specs.code.FitsLink.{FitsWhole, up_of};
 ghost use Rattle.x25_layer.specs.Layer.{Layer as LayerState};
 ghost use Rattle.x25_layer.specs.code.FitsLayer.{FitsLayer};
-ghost use Rattle.x25_layer.specs.Room.{HasRoom, HaveAtMost, IsNotFull};
+ghost use Rattle.x25_layer.specs.Room.{HasRoom, HaveAtMost, IsNotFull, named_by};
 ghost use Rattle.x25_layer.specs.Rounds.{hears, comes_up};
 ghost use Rattle.x25_station.specs.Entry.{bringing, entries_up, entries_noted};
-ghost use Rattle.x25_station.specs.code.Aside.{GrowsBy, HasPlaces, UsesFew};
+ghost use Rattle.x25_station.specs.code.Aside.{GrowsBy, HasFewPlaces, HasPlaces, UsesFew};
 ghost use Rattle.x25_station.specs.code.Clock.{TellsTimer};
 ghost use Rattle.x25_station.specs.code.FitsStation.{FitsStation, FitsStill, Does, IsEmpty, RefusesForMemory};
 ghost use Rattle.x25_station.specs.code.PlainEntry.{plain_entry};
@@ -29,18 +29,30 @@ use crate::step::Step;
 use x25_frame::reading_is_the_grammar as reads_frames;
 use x25_layer::Layer;
 use x25_link::{Link, Notes, OrderedLink, holds_few, notes_what_changes};
+use x25_packet::channel;
 use x25_wide::taking_keeps_octets;
 
 /// The octets of an I frame but for the user data of its packet: address, control and frame check sequence, and the
 /// header of the packet.
 const HEADERS: usize = 2 + 2 + 3;
 
+// The channel that the packet of an I frame names, and 0 where it names none.
+#[inline(always)]
+fn channel_of(frame: &[u8]) -> u16
+    ensures { result ≡ named_by (drop 2 frame.now) }
+{
+    let [_, _, packet @ ..] = frame else {
+        return 0;
+    };
+    channel(packet).unwrap_or(0)
+}
+
 // What the layer does at LinkUp.
 #[cold]
 #[inline(never)]
 fn come_up(layer: &mut Layer, link: &mut Link, entries: &mut Vec<Entry>)
     requires put { CanPut link.old }
-    requires room { HasRoom 0 layer.old link.old.outbox.long }
+    requires room { HasRoom 0 0 layer.old link.old.outbox.long }
     requires entries { HasPlaces 1 entries.old }
     ensures puts { PutsBehind layer.old link.old layer.new link.new (λ view c l. (comes_up view c).step) }
     ensures entries { map plain_entry entries.new.items ≡ map plain_entry entries.old.items ++ entries_up true }
@@ -63,7 +75,7 @@ fn hear(
 ) -> Option<u16>
     requires put { CanPut link.old }
     requires left { IsNotFull layer.old }
-    requires room { HasRoom (length packet.now - 3) layer.old link.old.outbox.long }
+    requires room { HasRoom (named_by packet.now) (length packet.now - 3) layer.old link.old.outbox.long }
     requires texts { 3 ≤ texts.old }
     requires entries { HasPlaces 2 entries.old }
     ensures puts { PutsBehind layer.old link.old layer.new link.new
@@ -100,8 +112,8 @@ fn follow(
     requires up { notes.up ≡ true → CanPut link.old }
     requires put { IfSome packet (λ _. CanPut link.old) }
     requires left { IfSome packet (λ _. IsNotFull layer.old) }
-    requires begun { HasRoom 0 layer.old link.old.outbox.long }
-    requires room { IfSome packet (λ p. HasRoom (length p.now - 3) layer.old link.old.outbox.long) }
+    requires begun { HasRoom 0 0 layer.old link.old.outbox.long }
+    requires room { IfSome packet (λ p. HasRoom (named_by p.now) (length p.now - 3) layer.old link.old.outbox.long) }
     requires texts { 5 ≤ texts.old }
     requires entries { HasPlaces 3 entries.old }
     ensures puts { PutsBehind layer.old link.old layer.new link.new
@@ -142,6 +154,7 @@ impl Station {
         ensures does { Does self.old self.new out.new result (λ c s. Did (receives c s octets.now)) }
         ensures refused { RefusesForMemory result }
         ensures timer { TellsTimer self.old out.new.timer result false (λ c s. Did (receives c s octets.now)) }
+        ensures places { HasFewPlaces out.old.entries out.new.entries }
     {
         self.empty(out);
         let before = self.clock();
@@ -156,6 +169,7 @@ impl Station {
         requires { IsEmpty out.old }
         ensures does { Does self.old self.new out.new result (λ c s. Did (receives c s octets.now)) }
         ensures refused { RefusesForMemory result }
+        ensures places { HasFewPlaces out.old.entries out.new.entries }
     {
         if self.is_full() {
             return self.abandon(octets, out);
@@ -185,28 +199,28 @@ impl Station {
         requires empty { IsEmpty out.old }
         ensures does { Does self.old self.new out.new result (λ c s. Did (receives c s octets.now)) }
         ensures refused { RefusesForMemory result }
+        ensures places { HasFewPlaces out.old.entries out.new.entries }
     {
         steps_keep_bounds();
-        if out.entries.reserve(1).is_err() {
-            return Err(StationError::NoMemory);
-        }
+        out.reserve()?;
         let heard = self.link.abandon();
         self.link.swap_frames(&mut out.frames);
         note_down(&mut self.layer, heard.notes.down, &mut out.entries);
         Ok(())
     }
 
-    // Sets memory aside for all that octets may bring, with so many of user data: room for frames and entries, and
-    // their texts. However many they are, it is for 16 packets, 5 texts and 4,096 octets a circuit, or for what was
-    // before.
-    fn reserve(&mut self, len: usize, out: &mut Step) -> Result<(), StationError>
+    // Sets memory aside for all that octets may bring on a channel, with so many of user data: room for frames and
+    // entries, and their texts. However many they are, it is for 16 packets, 5 texts and 4,096 octets in the circuit of
+    // the channel, or for what was before.
+    fn reserve(&mut self, channel: u16, len: usize, out: &mut Step) -> Result<(), StationError>
         requires { IsEmpty out.old }
         ensures fits { FitsStill self.old self.new }
         ensures left { IsNotFull self.old.layer → IsNotFull self.new.layer }
-        ensures room { OnOk result (HasRoom len self.new.layer self.new.link.outbox.long) }
+        ensures room { OnOk result (HasRoom channel len self.new.layer self.new.link.outbox.long) }
         ensures texts { OnOk result (5 ≤ self.new.texts) }
         ensures empty { IsEmpty out.new }
         ensures places { OnOk result (HasPlaces 3 out.new.entries) }
+        ensures most_places { HasFewPlaces out.old.entries out.new.entries }
         ensures refused { RefusesForMemory result }
         ensures most_texts { self.new.texts ≤ max self.old.texts 5 }
         ensures most_memory { self.new.layer.memory ≤ max self.old.layer.memory 16 }
@@ -218,7 +232,7 @@ impl Station {
         if self.texts.reserve(MOST_TEXTS).is_err() {
             return Err(StationError::NoMemory);
         }
-        match self.layer.reserve(&mut self.link, len) {
+        match self.layer.reserve(&mut self.link, channel, len) {
             Ok(()) => Ok(()),
             Err(error) => Err(StationError::of_layer(error)),
         }
@@ -232,12 +246,14 @@ impl Station {
         requires empty { IsEmpty out.old }
         ensures does { Does self.old self.new out.new result (λ c s. Did (receives c s octets.now)) }
         ensures refused { RefusesForMemory result }
+        ensures places { HasFewPlaces out.old.entries out.new.entries }
     {
         steps_keep_bounds();
         notes_what_changes();
         holds_few();
         reads_frames();
-        self.reserve(octets.len().saturating_sub(HEADERS), out)?;
+        let len = octets.len().saturating_sub(HEADERS);
+        self.reserve(channel_of(octets), len, out)?;
         match self.link.take(octets) {
             Ok(heard) => {
                 follow(

@@ -1,5 +1,5 @@
 //! Memory of a step that serves again, once it was read.
-ghost use Rattle.std.specs.Prelude.{◌≡◌, []};
+ghost use Rattle.std.specs.Prelude.{◌≡◌, [], vec_capacity};
 ghost use Rattle.x25_station.specs.code.Aside.{KeepsFrames};
 ghost use Rattle.x25_station.specs.code.FitsStation.{FitsStation, FitsStill, IsEmpty};
 ghost use Rattle.x25_station.specs.Config.{Settings};
@@ -33,6 +33,7 @@ impl Station {
     pub fn reuse(&mut self, out: &mut Step)
         ensures fits { FitsStill self.old self.new }
         ensures empty { IsEmpty out.new }
+        ensures places { vec_capacity out.new.entries ≡ vec_capacity out.old.entries }
         ensures timer { (c : Settings) (s : State) → FitsStation c self.old s → out.new.timer ≡ standing s }
     {
         self.empty(out);
@@ -44,6 +45,7 @@ impl Station {
     pub(crate) fn empty(&mut self, out: &mut Step)
         ensures fits { (c : Settings) (s : State) → FitsStation c self.old s → FitsStation c self.new s }
         ensures empty { IsEmpty out.new }
+        ensures places { vec_capacity out.new.entries ≡ vec_capacity out.old.entries }
     {
         if !out.frames.is_empty() {
             self.reuse_frames(&mut out.frames);
@@ -63,6 +65,7 @@ impl Station {
     fn reuse_entries(&mut self, entries: &mut Vec<Entry>)
         ensures fits { FitsStill self.old self.new }
         ensures empty { entries.new.items ≡ [] }
+        ensures places { vec_capacity entries.new ≡ vec_capacity entries.old }
     {
         if let Some(last) = entries.pop() {
             self.reuse_entry(last);

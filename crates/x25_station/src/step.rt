@@ -1,5 +1,5 @@
-ghost use Rattle.std.specs.Prelude.{◌≡◌, ◌≤◌, map, max, vec_capacity, OnOk};
-ghost use Rattle.x25_station.specs.code.Aside.{HasPlaces};
+ghost use Rattle.std.specs.Prelude.{◌≡◌, map, vec_capacity, OnOk};
+ghost use Rattle.x25_station.specs.code.Aside.{HasFewPlaces, HasPlaces};
 ghost use Rattle.x25_station.specs.code.FitsStation.{IsEmpty, RefusesForMemory};
 ghost use Rattle.x25_station.specs.code.PlainEntry.{plain_entry};
 ghost use Rattle.x25_station.specs.Timer.{tells_link as tell_link};
@@ -29,6 +29,8 @@ impl Step {
     /// A step for calls to answer into.
     pub fn new(alloc: Global) -> Step
         ensures empty { IsEmpty result }
+        ensures no_frames { vec_capacity result.frames ≡ 0 }
+        ensures no_entries { vec_capacity result.entries ≡ 0 }
         ensures timer { result.timer ≡ Timer.Off }
     {
         Step {
@@ -51,7 +53,7 @@ impl Step {
         requires { IsEmpty self.old }
         ensures empty { IsEmpty self.new }
         ensures places { OnOk result (HasPlaces 3 self.new.entries) }
-        ensures most { vec_capacity self.new.entries ≤ max (vec_capacity self.old.entries) 3 }
+        ensures most { HasFewPlaces self.old.entries self.new.entries }
         ensures refused { RefusesForMemory result }
     {
         if self.entries.reserve_exact(MOST_ENTRIES).is_err() {

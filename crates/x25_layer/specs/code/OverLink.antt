@@ -11,7 +11,7 @@ use Rattle.x25_layer.specs.declared.report.Report.TheVariants as tells
 use Rattle.x25_link.specs.declared.ordered_link.OrderedLink.{Ghosts}
 use Rattle.x25_layer.specs.Layer.{LayerSettings, Layer, LayerAnswer, packet_on}
 use Rattle.x25_layer.specs.Calls.{LayerRequest, copies}
-use Rattle.x25_layer.specs.Room.{HaveRoom, HaveRoomStill, HasRoom, KeepsRoom}
+use Rattle.x25_layer.specs.Room.{HasRoomOn, HaveRoomStill, HasRoom, KeepsRoom}
 use Rattle.x25_layer.specs.Report.{plain_report}
 use Rattle.x25_layer.specs.code.FitsLayer.{FitsLayer, FitsStill}
 use Rattle.x25_layer.specs.Rounds.{LinkView, Answered, Went, Refuses, calls}
@@ -67,8 +67,8 @@ pub record Hears {D : Type 0} (g : Ghosts D) (old : code.Layer) (below : D) (new
   pub nothing : plain_report t ≡ [] → t ≡ tells.Nothing
   pub takes : TakesAlike g old.memory below new.memory below₂
   pub memory : old.memory ≤ new.memory + 1
-  pub room : (len : ℕ) → HaveRoom len old.circuits.items → g.promised below₂ ≡ g.promised below
-      → HaveRoom len new.circuits.items
+  pub room : (h len : ℕ) → HasRoomOn h len old.circuits.items → g.promised below₂ ≡ g.promised below
+      → HasRoomOn h len new.circuits.items
 
 -- It isn't heard: the link is as before, the layer fits what it fitted, and no less memory is set aside.
 pub record IsLeft {D : Type 0} (old : code.Layer) (below : D) (new : code.Layer) (below₂ : D) : Type 0 where
@@ -115,7 +115,8 @@ pub record Does {D T : Type 0} (g : Ghosts D) (old : code.Layer) (below : D) (ne
   pub most_memory : new.memory ≤ max old.memory 16
   pub most_promised : g.promised below₂ ≤ max (g.promised below) 16
   pub room : KeepsRoom old (g.promised below) new (g.promised below₂)
-  pub room_stays : (len : ℕ) → HasRoom len old (g.promised below) → OnErr result (HasRoom len new (g.promised below₂))
+  pub room_stays : (h len : ℕ) → HasRoom h len old (g.promised below)
+      → OnErr result (HasRoom h len new (g.promised below₂))
 
 -- a call does what the definition says of this request
 abbrev pub Answers : {D T : Type 0} → Ghosts D → code.Layer → D → code.Layer → D → Result T LayerError → ℕ

@@ -10,7 +10,8 @@ use Rattle.x25_circuit.specs.code.FitsCircuit.{FitsCircuit, room_of, clears_of, 
 use Rattle.x25_layer.specs.Layer.{LayerSettings, packet_on}
 use Rattle.x25_layer.specs.Room.{HaveCountsLeft, HaveRoomStill}
 use Rattle.x25_layer.specs.code.FitsLayer.{FitsCircuits}
-use Rattle.x25_layer.specs.code.Waiting.{NoneWaits}
+use Rattle.x25_layer.specs.code.Waiting.{WaitAt}
+use Rattle.x25_layer.specs.declared.places.Places.{Places}
 use Rattle.x25_layer.specs.Rounds.{Putting, round}
 use Rattle.x25_layer.specs.code.OverLink.{after_all, view_of, TakesAlike}
 
@@ -55,9 +56,9 @@ pub record PullsOne {D : Type 0} (g : Ghosts D) (channel : ℕ) (old : circuit_c
   pub resets : resets_of new ≡ resets_of old
   pub fewer : is_put ≡ true → m₂ < m
 
--- A round of all circuits. Whether a packet was put is told, and where it is quiet behind it no message waits.
+-- A round of all circuits. Whether a packet was put is told, and where messages wait behind it.
 pub record GoesRound {D : Type 0} (g : Ghosts D) (old : List circuit_code.Circuit) (below : D) (m : ℕ)
-    (new : List circuit_code.Circuit) (below₂ : D) (m₂ : ℕ) (is_put is_quiet : Bool) : Type 0 where
+    (new : List circuit_code.Circuit) (below₂ : D) (m₂ : ℕ) (is_put : Bool) (asked : Places) : Type 0 where
   pub stands : (c : LayerSettings) (x : g.State) (s : Putting)
       → Stands (g.fits below) g.lists g.after_put c old m (g.promised below) x s
       → Stands (g.fits below₂) g.lists g.after_put c new m₂ (g.promised below₂) x
@@ -70,4 +71,4 @@ pub record GoesRound {D : Type 0} (g : Ghosts D) (old : List circuit_code.Circui
   pub room : HaveRoomStill old new
   pub left : HaveCountsLeft old → HaveCountsLeft new
   pub fewer : is_put ≡ true → m₂ < m
-  pub still : is_quiet ≡ true → NoneWaits new
+  pub still : WaitAt asked new

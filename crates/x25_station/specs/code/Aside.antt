@@ -1,5 +1,5 @@
 -- How much memory a station keeps set aside (profile), and how much of it is used.
-use Rattle.std.specs.Prelude.{◌≡◌, ℕ, ◌+◌, ◌≤◌, Vec, vec_len, vec_capacity}
+use Rattle.std.specs.Prelude.{◌≡◌, ℕ, ◌+◌, ◌≤◌, max, Vec, vec_len, vec_capacity}
 use Rattle.x25_link.specs.code.FitsLink.{ShownLink}
 use Rattle.x25_layer.specs.declared.layer.Layer as layer_code
 
@@ -18,6 +18,10 @@ pub record KeepsFrames (old new : ShownLink) : Type 0 where
 -- a list has room for so many more
 abbrev pub HasPlaces : {X Z : Type 0} → ℕ → Vec X Z → Type 0
 HasPlaces count list = vec_len list + count ≤ vec_capacity list
+
+-- a list of entries has places for no more than three, those of a call, or for what it had
+abbrev pub HasFewPlaces : {X Z : Type 0} → Vec X Z → Vec X Z → Type 0
+HasFewPlaces old new = vec_capacity new ≤ max (vec_capacity old) 3
 
 -- a list grew by so many at most, in the room that it had
 pub record GrowsBy {X Z : Type 0} (count : ℕ) (old new : Vec X Z) : Type 0 where

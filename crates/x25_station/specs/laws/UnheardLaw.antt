@@ -9,7 +9,7 @@ use Rattle.x25_station.specs.Station.{Station}
 use Rattle.x25_station.specs.Step.{Outcome, Did, Refused}
 use Rattle.x25_station.specs.Timer.{runs, tells_link}
 use Rattle.x25_station.specs.laws.TimerLaw as timer
-use Rattle.x25_station.specs.laws.TimerLaw.{Comes, Asks, Fires}
+use Rattle.x25_station.specs.laws.TimerLaw.{Comes, Asks, Gives, Fires}
 
 -- the phases in which T1 may run
 abbrev pub MayAsk : Phase → Type 0
@@ -22,6 +22,7 @@ MayAsk Closed = ⊥
 abbrev pub IsUnheard : Station → timer.Event → Type 0
 IsUnheard s (Comes octets) = s.link.phase ≡ Waiting
 IsUnheard s (Asks command) = Unit {0}
+IsUnheard s (Gives given request) = Unit {0}
 IsUnheard s Fires = Unit {0}
 
 -- a firing and a poll take one try
@@ -35,6 +36,7 @@ tries_for Relinks = 0
 abbrev pub takes : timer.Event → ℕ
 takes (Comes octets) = 0
 takes (Asks command) = tries_for command
+takes (Gives given request) = 0
 takes Fires = 1
 
 -- T1 runs on, and runs behind a firing and a poll; no more is acknowledged; and so many tries are taken, of N2

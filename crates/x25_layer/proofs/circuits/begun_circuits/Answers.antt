@@ -1,4 +1,4 @@
-use Rattle.std.proofs.Common.{◌≡◌, ◌≤◌, ◌+◌, List, vec_len, vec_capacity, arith, sym, subst}
+use Rattle.std.proofs.Common.{◌≡◌, ◌+◌, List, vec_len, vec_capacity, arith, sym, subst}
 use Rattle.x25_circuit.specs.declared.circuit.Circuit as circuit_code
 use Rattle.x25_layer.specs.Layer.{at_rest, LayerSettings}
 use Rattle.x25_layer.specs.code.FitsLayer.{FitsCircuits}

@@ -6,8 +6,8 @@ use Rattle.x25_layer.specs.code.OverLink.{after_all}
 use Rattle.x25_layer.proofs.PullLemmas.{where_nothing}
 use Rattle.x25_layer.proofs.rounds.pull_one.Goals as goal
 
-pub returns-then-waits-eq0-clause-pulls : goal.returns-then-waits-eq0-clause-pulls
-returns-then-waits-eq0-clause-pulls g c = record {
+pub returns-then-waits-eq0 : goal.returns-then-waits-eq0
+returns-then-waits-eq0 g c = record {
   pulls = λ s x y fits link memory promised.
       let none = where_nothing (nat_lt (g.L.OrderedLink.waits_in y) 8) s x (c.waits.ensures.none s x fits c.if-waits-eq0.true) in
       record {

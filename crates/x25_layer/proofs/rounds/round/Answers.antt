@@ -1,8 +1,8 @@
-use Rattle.std.proofs.Common.{rules, ◌≤◌, length, sym, subst, arith}
+use Rattle.std.proofs.Common.{rules, sym, subst}
 use Rattle.x25_layer.specs.code.OverLink.{view_of, after_all}
 use Rattle.x25_layer.specs.Rounds.{LinkView, Putting}
 use Rattle.x25_layer.specs.code.Pulling.{Stands}
-use Rattle.x25_layer.proofs.PullLemmas.{round_shut, round_still}
+use Rattle.x25_layer.proofs.PullLemmas.{round_shut}
 use Rattle.x25_layer.proofs.rounds.round.Goals as goal
 
 pub returns-then-not-may_pull : goal.returns-then-not-may_pull
@@ -16,28 +16,6 @@ returns-then-not-may_pull g c = record {
       let view : LinkView = view_of g.L.OrderedLink.up_in g.L.OrderedLink.waits_in g.L.OrderedLink.after_put x in
       let y : g.L.OrderedLink.State = after_all g.L.OrderedLink.after_put x t.put in
       round_shut view s s.channels t (sym (c.if-not-may_pull.ensures.state y before.link before.memory before.promised));
-  takes = search rules;
-  count = search rules;
-  room = search rules;
-  left = search rules;
-  fewer = search rules;
-  still = search rules;
-}
-
--- where it is known that no message waits
-pub returns-then-quiet : goal.returns-then-quiet
-returns-then-quiet g c = record {
-  stands = λ s x t before.
-      let view : LinkView = view_of g.L.OrderedLink.up_in g.L.OrderedLink.waits_in g.L.OrderedLink.after_put x in
-      let channels = before.channels in
-      let all : s.channels ≤ length c.args.circuits.now.items = omega (arith, channels) in
-      subst (λ (u : Putting). Stands (g.L.OrderedLink.fits c.args.link.now) g.L.OrderedLink.lists g.L.OrderedLink.after_put s c.args.circuits.now.items c.args.memory.now (g.L.OrderedLink.promised c.args.link.now) x u)
-      (sym (round_still c.what_waits_is_pulled.ensures view s c.args.circuits.now.items s.channels t all before.circuits (c.requires.still c.if-quiet.true))) before;
-  none = λ s x t before is.
-      let view : LinkView = view_of g.L.OrderedLink.up_in g.L.OrderedLink.waits_in g.L.OrderedLink.after_put x in
-      let channels = before.channels in
-      let all : s.channels ≤ length c.args.circuits.now.items = omega (arith, channels) in
-      round_still c.what_waits_is_pulled.ensures view s c.args.circuits.now.items s.channels t all before.circuits (c.requires.still c.if-quiet.true);
   takes = search rules;
   count = search rules;
   room = search rules;

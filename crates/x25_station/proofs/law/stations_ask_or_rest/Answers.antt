@@ -1,4 +1,4 @@
-use Rattle.x25_station.proofs.SettledLemmas.{LinkSettles, new_is_settled, stays_settled, settled_asks}
+use Rattle.x25_station.proofs.SettledLemmas.{LinkSettles, new_is_settled, stays_settled, settled_asks, pulls_go_on}
 use Rattle.x25_station.proofs.law.stations_ask_or_rest.Goals as goal
 
 pub returns : goal.returns
@@ -23,4 +23,4 @@ returns c =
       abandon = window.abandon;
       relink = c.sets_up_by_rows.ensures.relinks;
     } in
-    record { new = new_is_settled; stays = stays_settled laws; asks = settled_asks laws }
+    record { new = new_is_settled; stays = stays_settled laws; asks = settled_asks laws; pulled = pulls_go_on }

@@ -1,5 +1,5 @@
 use Rattle.x25_station.proofs.KeepLemmas.{LinkLaws}
-use Rattle.x25_station.proofs.StillLemmas.{clear_leads_on, restart_leads_on, nothing_leads_back}
+use Rattle.x25_station.proofs.StillLemmas.{clear_leads_on, restart_leads_on, nothing_leads_back, end_is_told}
 use Rattle.x25_station.proofs.WayOutLemmas.{relink_leads_on, firing_leads_on}
 use Rattle.x25_station.proofs.law.ways_out_lead_on.Goals as goal
 
@@ -24,4 +24,5 @@ returns c = record {
   relink = relink_leads_on c.sets_up_by_rows.ensures.connects c.sets_up_by_rows.ensures.relinks;
   firing = firing_leads_on c.sets_up_by_rows.ensures.timer;
   back = nothing_leads_back (known c);
+  told = end_is_told (known c);
 }

@@ -1,9 +1,10 @@
-use Rattle.std.proofs.Common.{ℕ, ◌-◌, ◌≤◌, ◌∙◌, Err, min, refl, sym, ap, subst, arith}
+use Rattle.std.proofs.Common.{ℕ, suc, ◌≡◌, ◌-◌, ◌≤◌, ◌∙◌, Err, min, refl, sym, ap, subst, arith}
 use Rattle.x25_circuit.specs.declared.error.CircuitError.{CircuitError}
 use Rattle.x25_circuit.specs.declared.circuit.Circuit as circuit_code
 use Rattle.x25_circuit.specs.Calling.{outcome}
-use Rattle.x25_circuit.specs.code.FitsCircuit.{FitsCircuit, room_of}
+use Rattle.x25_circuit.specs.code.FitsCircuit.{FitsCircuit, room_of, waits_of}
 use Rattle.x25_circuit.specs.Request.{plain_request}
+use Rattle.x25_layer.specs.code.Waiting.{IsOutside}
 use Rattle.x25_layer.specs.Room.{HasCountsLeft}
 use Rattle.x25_layer.proofs.CallLemmas.{found_at, asks_ok, asks_err, memory_is, err_is, layer_kept}
 use Rattle.x25_layer.proofs.FitLemmas.{all_changed, counts_left}
@@ -33,19 +34,25 @@ returns-in-Err-clause-fits c = λ s l fits.
     (subst (λ (v : circuit_code.Circuit). FitsCircuit s.circuit v (l.circuits c.args.channel)) (sym c.in-Err.ensures.unchanged) at.1)
 
 pub returns-in-Ok-clause-room : goal.returns-in-Ok-clause-room
-returns-in-Ok-clause-room c = λ len have.
-    let here = have (c.from-place.result - 1) c.index_mut.result.now (read_there c.args.self.now.circuits.items c.args.channel c.from-place.result c.index_mut.result.now c.requires c.from-place.ensures c.index_mut.ensures.value) in
+returns-in-Ok-clause-room c = λ h len have.
+    let read = read_there c.args.self.now.circuits.items c.args.channel c.from-place.result c.index_mut.result.now c.requires c.from-place.ensures c.index_mut.ensures.value in
     let more = c.ask.ensures.room in
-    all_changed (λ (k : ℕ) (v : circuit_code.Circuit). min len 4096 ≤ room_of v) c.args.self.now.circuits.items (c.from-place.result - 1) c.ask.new.self have (omega (arith, here, more))
+    all_changed (λ (k : ℕ) (v : circuit_code.Circuit). suc k ≡ h → min len 4096 ≤ room_of v) c.args.self.now.circuits.items (c.from-place.result - 1) c.ask.new.self have (λ on. let here = have (c.from-place.result - 1) c.index_mut.result.now read on in omega (arith, here, more))
 
 pub returns-in-Err-clause-room : goal.returns-in-Err-clause-room
-returns-in-Err-clause-room c = λ len have.
-    let here = have (c.from-place.result - 1) c.index_mut.result.now (read_there c.args.self.now.circuits.items c.args.channel c.from-place.result c.index_mut.result.now c.requires c.from-place.ensures c.index_mut.ensures.value) in
+returns-in-Err-clause-room c = λ h len have.
+    let read = read_there c.args.self.now.circuits.items c.args.channel c.from-place.result c.index_mut.result.now c.requires c.from-place.ensures c.index_mut.ensures.value in
     let more = c.ask.ensures.room in
-    all_changed (λ (k : ℕ) (v : circuit_code.Circuit). min len 4096 ≤ room_of v) c.args.self.now.circuits.items (c.from-place.result - 1) c.ask.new.self have (omega (arith, here, more))
+    all_changed (λ (k : ℕ) (v : circuit_code.Circuit). suc k ≡ h → min len 4096 ≤ room_of v) c.args.self.now.circuits.items (c.from-place.result - 1) c.ask.new.self have (λ on. let here = have (c.from-place.result - 1) c.index_mut.result.now read on in omega (arith, here, more))
 
 pub invariant_of-self-clause-circuits_left : goal.invariant_of-self-clause-circuits_left
 invariant_of-self-clause-circuits_left c = λ is.
     let have = c.args.self.now.circuits_left is in
     let here = have (c.from-place.result - 1) c.index_mut.result.now (read_there c.args.self.now.circuits.items c.args.channel c.from-place.result c.index_mut.result.now c.requires c.from-place.ensures c.index_mut.ensures.value) in
     all_changed (λ (k : ℕ) (v : circuit_code.Circuit). HasCountsLeft v) c.args.self.now.circuits.items (c.from-place.result - 1) c.ask.new.self have (counts_left _ c.ask.new.self c.ask.ensures.clears c.ask.ensures.resets here)
+
+pub invariant_of-self-clause-still : goal.invariant_of-self-clause-still
+invariant_of-self-clause-still c =
+    all_changed (λ (k : ℕ) (v : circuit_code.Circuit). IsOutside c.with_place-self.result k → waits_of v ≡ 0) c.args.self.now.circuits.items (c.from-place.result - 1) c.ask.new.self
+    (λ k v at out. c.args.self.now.still k v at (c.with_place-self.ensures.wider k out))
+    (λ out. absurd (c.with_place-self.ensures.has out))

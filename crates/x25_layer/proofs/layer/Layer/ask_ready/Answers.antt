@@ -7,7 +7,7 @@ use Rattle.x25_layer.specs.code.OverLink.{view_of, LayerGives, LinkGives, LacksM
 use Rattle.x25_layer.specs.Rounds.{LinkView, Answered, begin, went}
 use Rattle.x25_layer.specs.declared.layer.Layer as code
 use Rattle.x25_layer.specs.Layer.{packet_on}
-use Rattle.x25_layer.specs.Room.{HaveRoom}
+use Rattle.x25_layer.specs.Room.{HasRoomOn}
 use Rattle.x25_circuit.specs.code.Replies.{plain_sent}
 use Rattle.x25_layer.proofs.FitLemmas.{on_err}
 use Rattle.x25_layer.proofs.CallLemmas.{IsAccepted, is_accepted, declined_layer, declined_link, short_layer, short_link, may_lack, may_copy, same_err}
@@ -47,7 +47,7 @@ returns-in_err-packet g c = record {
       (c.in_err-packet.ensures.missing (ap (λ (e : LayerError). Err e) (same_err c.from_residual.result c.in_err-packet.field-0.0 error.NoMemory c.from_residual.ensures.1 is)));
   most_memory = search rules;
   most_promised = search rules;
-  room = λ len has still.
+  room = λ h len has still.
       let same = c.ask_circuit.ensures.memory in
       let more = c.reserve_packets.ensures.no_fewer in
       let more_promised = c.reserve_packets.ensures.no_fewer_promised in
@@ -56,9 +56,9 @@ returns-in_err-packet g c = record {
       record {
         memory = omega (arith, same, more, memory);
         promised = omega (arith, more_promised, promised);
-        circuits = c.ask_circuit.ensures.room len (subst (λ (v : code.Layer). HaveRoom len v.circuits.items) (sym c.reserve_packets.ensures.layer) has.circuits);
+        circuits = c.ask_circuit.ensures.room h len (subst (λ (v : code.Layer). HasRoomOn h len v.circuits.items) (sym c.reserve_packets.ensures.layer) has.circuits);
       };
-  room_stays = λ len has.
+  room_stays = λ h len has.
       let same = c.ask_circuit.ensures.memory in
       let more = c.reserve_packets.ensures.no_fewer in
       let more_promised = c.reserve_packets.ensures.no_fewer_promised in
@@ -67,7 +67,7 @@ returns-in_err-packet g c = record {
       on_err c.from_residual.result (record {
         memory = omega (arith, same, more, memory);
         promised = omega (arith, more_promised, promised);
-        circuits = c.ask_circuit.ensures.room len (subst (λ (v : code.Layer). HaveRoom len v.circuits.items) (sym c.reserve_packets.ensures.layer) has.circuits);
+        circuits = c.ask_circuit.ensures.room h len (subst (λ (v : code.Layer). HasRoomOn h len v.circuits.items) (sym c.reserve_packets.ensures.layer) has.circuits);
       });
 }
 
@@ -91,7 +91,7 @@ returns g c = record {
   missing = search rules;
   most_memory = search rules;
   most_promised = search rules;
-  room = λ len has still.
+  room = λ h len has still.
       let same = c.ask_circuit.ensures.memory in
       let more = c.reserve_packets.ensures.no_fewer in
       let more_promised = c.reserve_packets.ensures.no_fewer_promised in
@@ -103,8 +103,8 @@ returns g c = record {
       record {
         memory = omega (arith, same, more, more_promised, most_promised, owed, pulled, memory, promised, still);
         promised = omega (arith, promised, still);
-        circuits = c.pull_all.ensures.room len (subst (λ v. HaveRoom len v.items) (sym c.put_sent.ensures.circuits)
-            (c.ask_circuit.ensures.room len (subst (λ (v : code.Layer). HaveRoom len v.circuits.items) (sym c.reserve_packets.ensures.layer) has.circuits)));
+        circuits = c.pull_all.ensures.room h len (subst (λ v. HasRoomOn h len v.items) (sym c.put_sent.ensures.circuits)
+            (c.ask_circuit.ensures.room h len (subst (λ (v : code.Layer). HasRoomOn h len v.circuits.items) (sym c.reserve_packets.ensures.layer) has.circuits)));
       };
   room_stays = search rules;
 }

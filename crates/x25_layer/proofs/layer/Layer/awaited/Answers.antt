@@ -1,4 +1,4 @@
-use Rattle.std.proofs.Common.{◌≡◌, ◌∙◌, ◌≤◌, ℕ, suc, Bool, true, false, if◌then◌else◌, subst, ap, arith, Some, slice_get}
+use Rattle.std.proofs.Common.{◌≡◌, ◌∙◌, ℕ, suc, Bool, if◌then◌else◌, subst, ap, arith, Some, slice_get}
 use Rattle.x25_circuit.specs.Awaits.{is_any}
 use Rattle.x25_layer.specs.code.FitsLayer.{awaited_up_to}
 use Rattle.x25_layer.proofs.FitLemmas.{awaited_more, read_at}

@@ -1,4 +1,4 @@
-use Rattle.std.proofs.Common.{◌∙◌, true, false}
+use Rattle.std.proofs.Common.{◌∙◌, true}
 use Rattle.x25_layer.proofs.FitLemmas.{awaited}
 use Rattle.x25_layer.proofs.layer.Layer.awaits.Goals as goal
 

@@ -1,4 +1,5 @@
-use Rattle.std.proofs.Common.{◌∙◌, refl}
+use Rattle.std.proofs.Common.{◌∙◌, refl, arith}
+use Rattle.x25_layer.proofs.PullLemmas.{asked_all}
 use Rattle.x25_layer.proofs.layer.Layer.down.Goals as goal
 
 pub returns-clause-layer : goal.returns-clause-layer
@@ -12,4 +13,7 @@ returns-clause-layer c = λ s l fits. record {
 }
 
 pub returns-clause-room : goal.returns-clause-room
-returns-clause-room c = λ len promised has. record { memory = has.memory; promised = has.promised; circuits = c.forget_all.ensures.room len has.circuits }
+returns-clause-room c = λ h len promised has. record { memory = has.memory; promised = has.promised; circuits = c.forget_all.ensures.room h len has.circuits }
+
+pub invariant_of-self-clause-still : goal.invariant_of-self-clause-still
+invariant_of-self-clause-still c = asked_all _ _ c.everywhere-self.ensures (let count = c.forget_all.ensures.count in let few = c.args.self.now.few in omega (arith, count, few))

@@ -8,6 +8,7 @@ use Rattle.x25_layer.specs.code.FitsLayer.{FitsLayer}
 use Rattle.x25_layer.specs.code.OverLink.{after_all}
 use Rattle.x25_layer.specs.Rounds.{answer_to}
 use Rattle.x25_layer.specs.Receiving.{plain_read, hears_on, IsOfChannel}
+use Rattle.x25_layer.specs.Room.{HasRoomOn, channel_or_none, named_by}
 use Rattle.x25_layer.proofs.HearLemmas.{of_channel, hears_none, hears_read, brings_few, heard_same, if_ok}
 use Rattle.x25_layer.proofs.layer.Layer.hear.Goals as goal
 use Rattle.x25_layer.proofs.layer.Layer.hear.Given as given
@@ -62,4 +63,5 @@ returns-in_default-read-clause-hears g c = if_ok c.hear_on.result _ _ (λ told h
 pub returns-in_default-read-clause-enough : goal.returns-in_default-read-clause-enough
 returns-in_default-read-clause-enough g c = λ len long room.
     let few = brings_few c.taking_keeps_octets.ensures.octets c.args.wide c.longest_user.result c.args.octets.now c.read-read.result (bytes g c) c.read-read.ensures in
-    c.hear_on.ensures.enough len (omega (arith, few, long)) room
+    let on : named_by c.args.octets.now ≡ c.in-Some.channel = ap channel_or_none (sym c.channel.ensures ∙ c.in-Some.is) in
+    c.hear_on.ensures.enough len (omega (arith, few, long)) (subst (λ (h : ℕ). HasRoomOn h len c.args.self.now.circuits.items) on room)

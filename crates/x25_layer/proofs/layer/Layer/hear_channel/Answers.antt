@@ -1,12 +1,12 @@
-use Rattle.std.proofs.Common.{◌≡◌, ◌∙◌, ℕ, ◌-◌, ◌≤◌, min, refl, sym, ap, subst, arith}
+use Rattle.std.proofs.Common.{◌≡◌, ◌∙◌, ℕ, suc, ◌-◌, ◌≤◌, length, min, refl, sym, ap, subst, arith}
 use Rattle.x25_circuit.specs.declared.circuit.Circuit as circuit_code
-use Rattle.std.proofs.lemmas.Bool.{eqb-true}
 use Rattle.x25_circuit.specs.code.FitsCircuit.{FitsCircuit, room_of, waits_of}
 use Rattle.x25_layer.specs.Receiving.{plain_read, circuit_hears}
+use Rattle.x25_layer.specs.code.Waiting.{IsOutside}
 use Rattle.x25_layer.specs.Room.{HasCountsLeft}
 use Rattle.x25_layer.proofs.CallLemmas.{found_at, layer_put, layer_kept}
 use Rattle.x25_layer.proofs.FitLemmas.{all_changed, both, if_none, not_true}
-use Rattle.x25_layer.proofs.HearLemmas.{read_there}
+use Rattle.x25_layer.proofs.HearLemmas.{read_there, place_of}
 use Rattle.x25_layer.proofs.layer.Layer.hear_channel.Goals as goal
 
 pub hear_circuit-answer-requires-clause-left : goal.hear_circuit-answer-requires-clause-left
@@ -32,29 +32,31 @@ returns-in-Err-clause-layer_stays c = λ s l fits.
 
 pub returns-in-Err-clause-enough : goal.returns-in-Err-clause-enough
 returns-in-Err-clause-enough c = λ len short room.
-    let here = room (c.from-place.result - 1) c.index_mut-circuit.result.now (read_there c.args.self.now.circuits.items c.args.channel c.from-place.result c.index_mut-circuit.result.now c.requires.channel c.from-place.ensures c.index_mut-circuit.ensures.value) in
+    let here = room (c.from-place.result - 1) c.index_mut-circuit.result.now (read_there c.args.self.now.circuits.items c.args.channel c.from-place.result c.index_mut-circuit.result.now c.requires.channel c.from-place.ensures c.index_mut-circuit.ensures.value)
+    (place_of (length c.args.self.now.circuits.items) c.args.channel c.from-place.result c.requires.channel c.from-place.ensures) in
     let missing = c.in-Err.ensures.missing in
     absurd (omega (arith, here, short, missing))
 
 pub returns-in-Ok-clause-room : goal.returns-in-Ok-clause-room
-returns-in-Ok-clause-room c = λ len have.
+returns-in-Ok-clause-room c = λ h len have.
     let here = have (c.from-place.result - 1) c.index_mut-circuit.result.now (read_there c.args.self.now.circuits.items c.args.channel c.from-place.result c.index_mut-circuit.result.now c.requires.channel c.from-place.ensures c.index_mut-circuit.ensures.value) in
     if_none c.in-Ok.reply.packet (λ (more : room_of c.index_mut-circuit.result.now ≤ room_of c.hear_circuit-answer.new.circuit).
-    all_changed (λ (k : ℕ) (v : circuit_code.Circuit). min len 4096 ≤ room_of v) c.args.self.now.circuits.items (c.from-place.result - 1) c.hear_circuit-answer.new.circuit have (omega (arith, here, more)))
+    all_changed (λ (k : ℕ) (v : circuit_code.Circuit). suc k ≡ h → min len 4096 ≤ room_of v) c.args.self.now.circuits.items (c.from-place.result - 1) c.hear_circuit-answer.new.circuit have (λ on. let low = here on in omega (arith, low, more)))
     c.in-Ok.ensures.room
 
 pub returns-in-Err-clause-room_stays : goal.returns-in-Err-clause-room_stays
-returns-in-Err-clause-room_stays c = λ len have.
+returns-in-Err-clause-room_stays c = λ h len have.
     let here = have (c.from-place.result - 1) c.index_mut-circuit.result.now (read_there c.args.self.now.circuits.items c.args.channel c.from-place.result c.index_mut-circuit.result.now c.requires.channel c.from-place.ensures c.index_mut-circuit.ensures.value) in
     let same = ap room_of c.in-Err.ensures.unchanged in
-    all_changed (λ (k : ℕ) (v : circuit_code.Circuit). min len 4096 ≤ room_of v) c.args.self.now.circuits.items (c.from-place.result - 1) c.hear_circuit-answer.new.circuit have (omega (arith, here, same))
+    all_changed (λ (k : ℕ) (v : circuit_code.Circuit). suc k ≡ h → min len 4096 ≤ room_of v) c.args.self.now.circuits.items (c.from-place.result - 1) c.hear_circuit-answer.new.circuit have (λ on. let low = here on in omega (arith, low, same))
 
 -- ---- what is known of all circuits
 
 pub invariant_of-self-clause-still : goal.invariant_of-self-clause-still
-invariant_of-self-clause-still c = λ is.
-    let known = both _ _ is in
-    all_changed (λ (k : ℕ) (v : circuit_code.Circuit). waits_of v ≡ 0) c.args.self.now.circuits.items (c.from-place.result - 1) c.hear_circuit-answer.new.circuit (c.args.self.now.still known.0) (sym c.waits-waits.ensures.held ∙ eqb-true _ _ known.1)
+invariant_of-self-clause-still c =
+    all_changed (λ (k : ℕ) (v : circuit_code.Circuit). IsOutside c.with_waiting-self.result k → waits_of v ≡ 0) c.args.self.now.circuits.items (c.from-place.result - 1) c.hear_circuit-answer.new.circuit
+    (λ k v at out. c.args.self.now.still k v at (c.with_waiting-self.ensures.wider k out))
+    (λ out. sym c.waits-waits.ensures.held ∙ c.with_waiting-self.ensures.has out)
 
 pub invariant_of-self-clause-circuits_left : goal.invariant_of-self-clause-circuits_left
 invariant_of-self-clause-circuits_left c = λ is.

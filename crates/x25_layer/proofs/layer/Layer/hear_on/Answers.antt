@@ -3,7 +3,7 @@ use Rattle.x25_circuit.specs.code.Replies.{plain_owed}
 use Rattle.x25_layer.specs.Layer.{Layer, is_channel}
 use Rattle.x25_layer.specs.code.FitsLayer.{FitsLayer}
 use Rattle.x25_layer.specs.Receiving.{plain_read}
-use Rattle.x25_layer.specs.Room.{HaveRoom}
+use Rattle.x25_layer.specs.Room.{HasRoomOn}
 use Rattle.x25_layer.proofs.FitLemmas.{kept_unless, none_owed, on_err}
 use Rattle.x25_layer.proofs.HearLemmas.{next_there}
 use Rattle.x25_layer.proofs.layer.Layer.hear_on.Goals as goal
@@ -21,9 +21,9 @@ returns-clause-hears g c = record {
   nothing = search rules;
   takes = search rules;
   memory = search rules;
-  room = λ len have still.
-      subst (λ v. HaveRoom len v.items) (sym c.put_owed.ensures.circuits)
-      (kept_unless (plain_owed c.in_ok-reply.reply.packet) (g.L.OrderedLink.promised c.put_owed.new.link) (g.L.OrderedLink.promised c.args.link.now) (none_owed _ c.in_ok-reply.reply.packet (c.in_ok-reply.ensures.room len have)) c.put_owed.ensures.put still);
+  room = λ h len have still.
+      subst (λ v. HasRoomOn h len v.items) (sym c.put_owed.ensures.circuits)
+      (kept_unless (plain_owed c.in_ok-reply.reply.packet) (g.L.OrderedLink.promised c.put_owed.new.link) (g.L.OrderedLink.promised c.args.link.now) (none_owed _ c.in_ok-reply.reply.packet (c.in_ok-reply.ensures.room h len have)) c.put_owed.ensures.put still);
 }
 
 pub returns-in_err-reply-clause-stays : goal.returns-in_err-reply-clause-stays

@@ -14,7 +14,7 @@ returns-then-self-clause-hears g c = record {
   nothing = search rules;
   takes = search rules;
   memory = search rules;
-  room = search rules;
+  room = λ h len have still. c.restart_is_done.ensures.room h len have;
 }
 
 pub returns-clause-hears : goal.returns-clause-hears

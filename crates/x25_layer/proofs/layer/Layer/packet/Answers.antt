@@ -5,7 +5,7 @@ use Rattle.x25_layer.specs.Layer.{LayerAnswer}
 use Rattle.x25_layer.specs.code.FitsLayer.{FitsLayer}
 use Rattle.x25_layer.specs.code.OverLink.{after_all}
 use Rattle.x25_layer.specs.Rounds.{answer_to, begin}
-use Rattle.x25_layer.specs.Room.{HaveRoom}
+use Rattle.x25_layer.specs.Room.{HasRoomOn}
 use Rattle.x25_layer.specs.Report.{plain_report}
 use Rattle.x25_layer.specs.declared.layer.Layer as code
 use Rattle.x25_layer.proofs.FitLemmas.{on_err}
@@ -54,7 +54,7 @@ returns-clause-used g c = λ memory promised.
     omega (arith, memory, promised, more, most, more_promised, most_promised, heard, pulled)
 
 pub returns-clause-room : goal.returns-clause-room
-returns-clause-room g c = λ len has still.
+returns-clause-room g c = λ h len has still.
     let memory = has.memory in
     let promised = has.promised in
     let more = c.reserve_packets.ensures.no_fewer in
@@ -68,11 +68,11 @@ returns-clause-room g c = λ len has still.
     record {
       memory = omega (arith, memory, promised, more, more_promised, most_promised, heard, pulled, lower, fewer, still);
       promised = omega (arith, promised, still);
-      circuits = c.pull_all.ensures.room len (c.in_ok-told.ensures.hears.room len (subst (λ (v : code.Layer). HaveRoom len v.circuits.items) (sym c.reserve_packets.ensures.layer) has.circuits) same);
+      circuits = c.pull_all.ensures.room h len (c.in_ok-told.ensures.hears.room h len (subst (λ (v : code.Layer). HasRoomOn h len v.circuits.items) (sym c.reserve_packets.ensures.layer) has.circuits) same);
     }
 
 pub returns-in_err-told-clause-room_stays : goal.returns-in_err-told-clause-room_stays
-returns-in_err-told-clause-room_stays g c = λ len has.
+returns-in_err-told-clause-room_stays g c = λ h len has.
     let memory = has.memory in
     let promised = has.promised in
     let more = c.reserve_packets.ensures.no_fewer in
@@ -82,5 +82,5 @@ returns-in_err-told-clause-room_stays g c = λ len has.
     on_err c.from_residual-in_err-told.result (record {
       memory = omega (arith, memory, more, same);
       promised = omega (arith, promised, more_promised, same_promised);
-      circuits = c.in_err-told.ensures.stays.room len (subst (λ (v : code.Layer). HaveRoom len v.circuits.items) (sym c.reserve_packets.ensures.layer) has.circuits);
+      circuits = c.in_err-told.ensures.stays.room h len (subst (λ (v : code.Layer). HasRoomOn h len v.circuits.items) (sym c.reserve_packets.ensures.layer) has.circuits);
     })

@@ -1,7 +1,7 @@
 use Rattle.std.proofs.Common.{rules, ◌≡◌, ◌∙◌, None, Ok, sym, subst, true, false, arith}
 use Rattle.x25_layer.specs.declared.layer.Layer as code
 use Rattle.x25_layer.specs.code.OverLink.{view_of, LayerGives, LinkGives}
-use Rattle.x25_layer.specs.Room.{HaveRoom}
+use Rattle.x25_layer.specs.Room.{HasRoomOn}
 use Rattle.x25_layer.specs.Rounds.{Answered, LinkView, begin}
 use Rattle.x25_layer.proofs.FitLemmas.{on_err}
 use Rattle.x25_layer.specs.Calls.{PullsAll}
@@ -51,7 +51,7 @@ returns g c = record {
   missing = search rules;
   most_memory = search rules;
   most_promised = search rules;
-  room = λ len has still.
+  room = λ h len has still.
       let more = c.reserve_packets.ensures.no_fewer in
       let more_promised = c.reserve_packets.ensures.no_fewer_promised in
       let most_promised = c.reserve_packets.ensures.most_promised in
@@ -61,7 +61,7 @@ returns g c = record {
       record {
         memory = omega (arith, more, more_promised, most_promised, pulled, memory, promised, still);
         promised = omega (arith, promised, still);
-        circuits = c.pull_all.ensures.room len (subst (λ (v : code.Layer). HaveRoom len v.circuits.items) (sym c.reserve_packets.ensures.layer) has.circuits);
+        circuits = c.pull_all.ensures.room h len (subst (λ (v : code.Layer). HasRoomOn h len v.circuits.items) (sym c.reserve_packets.ensures.layer) has.circuits);
       };
   room_stays = search rules;
 }

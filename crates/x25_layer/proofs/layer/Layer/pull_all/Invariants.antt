@@ -3,7 +3,7 @@ use Rattle.x25_layer.specs.Layer.{LayerSettings}
 use Rattle.x25_layer.specs.code.OverLink.{view_of, TakesAlike}
 use Rattle.x25_layer.specs.Rounds.{Putting, rounds}
 use Rattle.x25_layer.specs.code.Pulling.{Stands}
-use Rattle.x25_layer.specs.Room.{HaveRoom}
+use Rattle.x25_layer.specs.Room.{HasRoomOn}
 use Rattle.x25_layer.proofs.PullLemmas.{KeepsRestarts}
 use Rattle.x25_layer.proofs.layer.Layer.pull_all.Given as goal
 
@@ -14,7 +14,7 @@ invariant-loop g l = record {
   long_data : l.self.long_data ≡ l.initial.self.long_data;
   restarting : l.self.restarting ≡ l.initial.self.restarting;
   restarts : l.self.restarts ≡ l.initial.self.restarts;
-  room : (len : ℕ) → HaveRoom len l.initial.self.circuits.items → HaveRoom len l.self.circuits.items;
+  room : (h len : ℕ) → HasRoomOn h len l.initial.self.circuits.items → HasRoomOn h len l.self.circuits.items;
   takes : TakesAlike g.L.OrderedLink l.initial.self.memory l.initial.link l.self.memory l.link;
   stands : (c : LayerSettings) (x : g.L.OrderedLink.State) (s : Putting)
       → Stands (g.L.OrderedLink.fits l.initial.link) g.L.OrderedLink.lists g.L.OrderedLink.after_put c l.initial.self.circuits.items l.initial.self.memory (g.L.OrderedLink.promised l.initial.link) x s

@@ -1,4 +1,5 @@
 use Rattle.std.proofs.Common.{◌≡◌, suc, ◌+◌, ◌∙◌, refl, arith}
+use Rattle.x25_layer.proofs.PullLemmas.{asked_all}
 use Rattle.x25_layer.proofs.layer.Layer.restart_is_done.Goals as goal
 
 pub returns-clause-layer : goal.returns-clause-layer
@@ -10,3 +11,6 @@ returns-clause-layer c = λ s l fits. record {
   restarts = (let same = fits.restarts in let e : c.args.self.now.restarts + 1 ≡ suc l.restarts = omega (arith, same) in e);
   circuits = c.begin_all.ensures.fits s l.circuits fits.circuits;
 }
+
+pub invariant_of-self-clause-still : goal.invariant_of-self-clause-still
+invariant_of-self-clause-still c = asked_all _ _ c.everywhere-self.ensures (let count = c.begin_all.ensures.count in let few = c.args.self.now.few in omega (arith, count, few))

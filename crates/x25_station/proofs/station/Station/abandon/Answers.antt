@@ -23,7 +23,7 @@ invariant_of-self c = record {
             (ap (λ n. n.down) (c.abandon-heard.ensures.heard (link_settings c') s.link fits.link).notes)
             (taken_link (link_settings c') c.abandon-heard.new.self c.swap_frames.new.self k.side.near c.swap_frames.ensures.station (c.abandon-heard.ensures.state (link_settings c') s.link fits.link))
             (c.note_down.ensures.layer (layer_settings c') s.layer fits.layer)
-            (ap (λ o. o.made) c.swap_frames.ensures.outbox ∙ ap (map (λ frame. frame.items)) c.requires.empty.frames)
+            (ap (λ o. o.made) c.swap_frames.ensures.outbox ∙ ap (map (λ frame. frame.items)) c.reserve.ensures.empty.frames)
             (c.steps_keep_bounds.ensures.receive c' s c.args.octets.now fits.kept),
       ));
   aside =
@@ -43,7 +43,7 @@ returns-clause-does c = record {
       (ap (λ n. n.down) (c.abandon-heard.ensures.heard (link_settings c') s.link fits.link).notes)
       (taken_link (link_settings c') c.abandon-heard.new.self c.swap_frames.new.self k.side.near c.swap_frames.ensures.station (c.abandon-heard.ensures.state (link_settings c') s.link fits.link))
       (c.note_down.ensures.layer (layer_settings c') s.layer fits.layer)
-      (ap (λ o. o.made) c.swap_frames.ensures.outbox ∙ ap (map (λ frame. frame.items)) c.requires.empty.frames)
+      (ap (λ o. o.made) c.swap_frames.ensures.outbox ∙ ap (map (λ frame. frame.items)) c.reserve.ensures.empty.frames)
       (c.steps_keep_bounds.ensures.receive c' s c.args.octets.now fits.kept);
   frames = λ c' s fits.
       let k : LinkStep = abandon_step (link_settings c') s.link in
@@ -53,7 +53,7 @@ returns-clause-does c = record {
       let k : LinkStep = abandon_step (link_settings c') s.link in
       let heard = c.abandon-heard.ensures.heard (link_settings c') s.link fits.link in
       entries_noted_down s.layer k [] _ _ (receives c' s c.args.octets.now) (gives_up c' s c.args.octets.now (c.requires.full c' s fits)) (ap (λ n. n.down) heard.notes)
-      (c.note_down.ensures.entries ∙ ap (λ es. map plain_entry es ++ entries_down c.abandon-heard.result.notes.down) (c.reserve.ensures.items ∙ c.requires.empty.entries));
+      (c.note_down.ensures.entries ∙ ap (λ es. map plain_entry es ++ entries_down c.abandon-heard.result.notes.down) c.reserve.ensures.empty.entries);
   refused = λ c' s fits. tt;
   stays = λ c' s fits. tt;
   empty = tt;
@@ -61,5 +61,5 @@ returns-clause-does c = record {
       own_few c.swap_frames.new.frames.items (λ frame. frame.items) c.args.self.now.link.outbox.made c.abandon-heard.new.self.outbox.made fits.sent
       (c.abandon-heard.ensures.few (link_settings c') s.link fits.link) c.swap_frames.ensures.frames) in
       grind (arith, few, c.swap_frames.new.frames.ok));
-  few_entries = grind (arith, c.note_down.ensures.few.length, c.reserve.ensures.len, ap length c.requires.empty.entries, c.args.out.now.entries.ok);
+  few_entries = grind (arith, c.note_down.ensures.few.length, ap length c.reserve.ensures.empty.entries, c.reserve.new.self.entries.ok);
 }

@@ -15,15 +15,15 @@ use Rattle.x25_station.proofs.TakeLemmas.{takes_longest}
 use Rattle.x25_station.proofs.EnteredLemmas.{asked_enters}
 use Rattle.x25_station.proofs.station.Station.ask.Goals as goal
 
-pub returns-in-Some : goal.returns-in-Some
-returns-in-Some c = declines_request (Unit {0}) c.in-Some.error _ c.args.self.now _ _ (Asks c.args.channel (plain_request c.args.request)) c.of_layer.ensures
+pub returns-in-Some-clause-does : goal.returns-in-Some-clause-does
+returns-in-Some-clause-does c = declines_request (Unit {0}) c.in-Some.error _ c.args.self.now _ _ (Asks c.args.channel (plain_request c.args.request)) c.of_layer.ensures
     (λ d k x fits link. refuses_early (Unit {0}) d c.args.self.now.layer c.in-Some.error _ (sym c.in-Some.is ∙ c.refusal.ensures d k x fits link)) (λ d k fits. fits) (λ x fits. fits) c.requires refl
 
-pub returns-in_err-reserve : goal.returns-in_err-reserve
-returns-in_err-reserve c = hands_on c.args.self.now _ _ c.from_residual.result c.in_err-reserve.field-0.0 _ c.from_residual.ensures.1 c.in_err-reserve.ensures.refused c.reserve.ensures.empty (λ c' s fits. fits)
+pub returns-in_err-reserve-clause-does : goal.returns-in_err-reserve-clause-does
+returns-in_err-reserve-clause-does c = hands_on c.args.self.now _ _ c.from_residual.result c.in_err-reserve.field-0.0 _ c.from_residual.ensures.1 c.in_err-reserve.ensures.refused c.reserve.ensures.empty (λ c' s fits. fits)
 
-pub returns-in_err-asked : goal.returns-in_err-asked
-returns-in_err-asked c = hands_on c.args.self.now _ _ c.from_residual-in_err-asked.result c.in_err-asked.field-0.0 _ c.from_residual-in_err-asked.ensures.1 c.in_err-asked.ensures.err c.reserve.ensures.empty (λ c' s fits. fits)
+pub returns-in_err-asked-clause-does : goal.returns-in_err-asked-clause-does
+returns-in_err-asked-clause-does c = hands_on c.args.self.now _ _ c.from_residual-in_err-asked.result c.in_err-asked.field-0.0 _ c.from_residual-in_err-asked.ensures.1 c.in_err-asked.ensures.err c.reserve.ensures.empty (λ c' s fits. fits)
 
 pub ask-requires : goal.ask-requires
 ask-requires c = takes_longest c.args.self.now.link c.args.self.now.layer c.args.self.now.meant
@@ -57,8 +57,8 @@ invariant_of-self-in-Err c = record {
       record { packets = omega (arith, packets, low); promised = omega (arith, promised, few); texts = before.texts };
 }
 
-pub returns-in-Ok : goal.returns-in-Ok
-returns-in-Ok c =
+pub returns-in-Ok-clause-does : goal.returns-in-Ok-clause-does
+returns-in-Ok-clause-does c =
     let request = Asks c.args.channel (plain_request c.args.request) in
     let r : code_step.Step = record { frames = c.swap_frames.new.frames; entries = c.enter.new.entries; timer = c.reserve.new.self.timer } in
     did_request c.in-Ok.field-0 c.args.self.now _ c.ask.new.link r request c.in-Ok.ensures.layer c.in-Ok.ensures.link c.swap_frames.ensures.station (ap (λ o. o.made) c.swap_frames.ensures.outbox ∙ ap (map (λ frame. frame.items)) c.reserve.ensures.empty.frames) c.swap_frames.ensures.frames
@@ -71,5 +71,5 @@ returns-in-Ok c =
     ∙ ap (λ q. of_channel (record { channel = h; name = name_of k h; said = Asked q }) ∷ []) (c.as_shown-asked.ensures (layer_settings c') k after configured ∙ c.in_ok-asked.ensures.ok (k.circuits h))))
     (grind (arith, c.enter.ensures.few.length, ap length c.reserve.ensures.empty.entries, c.reserve.new.self.entries.ok)) refl
 
-pub returns-in-Err : goal.returns-in-Err
-returns-in-Err c = declines_request _ c.in-Err.error _ c.args.self.now _ _ (Asks c.args.channel (plain_request c.args.request)) c.of_layer-in-Err.ensures c.in-Err.ensures.layer c.in-Err.ensures.layer_stays c.in-Err.ensures.link_stays c.reserve.ensures.empty refl
+pub returns-in-Err-clause-does : goal.returns-in-Err-clause-does
+returns-in-Err-clause-does c = declines_request _ c.in-Err.error _ c.args.self.now _ _ (Asks c.args.channel (plain_request c.args.request)) c.of_layer-in-Err.ensures c.in-Err.ensures.layer c.in-Err.ensures.layer_stays c.in-Err.ensures.link_stays c.reserve.ensures.empty refl

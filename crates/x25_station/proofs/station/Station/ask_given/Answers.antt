@@ -16,28 +16,28 @@ use Rattle.x25_station.proofs.TakeLemmas.{takes_longest}
 use Rattle.x25_station.proofs.GivingLemmas.{TakesIt, layers_as, links_as, none_of, declines_early, declines_given, declines_late, did_given, meant_given, asked_given}
 use Rattle.x25_station.proofs.station.Station.ask_given.Goals as goal
 
-pub returns-in-Some : goal.returns-in-Some
-returns-in-Some c = declines_early _ c.in-Some.error c.args.self.now _ _ (plain_given c.args.given.now) (Asks c.args.channel (plain_request c.args.request)) c.of_layer.ensures
+pub returns-in-Some-clause-does : goal.returns-in-Some-clause-does
+returns-in-Some-clause-does c = declines_early _ c.in-Some.error c.args.self.now _ _ (plain_given c.args.given.now) (Asks c.args.channel (plain_request c.args.request)) c.of_layer.ensures
     (λ d k x fits link. sym c.in-Some.is ∙ c.refusal.ensures d k x fits link) (λ d s fits. fits) c.requires
 
-pub returns-then-not-takes : goal.returns-then-not-takes
-returns-then-not-takes c =
+pub returns-then-not-takes-clause-does : goal.returns-then-not-takes-clause-does
+returns-then-not-takes-clause-does c =
     let g = plain_given c.args.given.now in
     declines_given c.args.self.now _ _ g (Asks c.args.channel (plain_request c.args.request))
     (λ d k x fits link. sym (none_of c.refusal.result c.in_default.not-Some) ∙ c.refusal.ensures d k x fits link)
     (sym (c.takes.ensures ∙ ap (λ (b : Bool). c.args.self.now.manner.wide && (may_give g && b)) (c.suits.ensures c.args.channel)) ∙ c.if-not-takes.true) (λ d s fits. fits) c.requires
 
-pub returns-in_default-new : goal.returns-in_default-new
-returns-in_default-new c = wants_copy c.args.self.now _ _ (λ d s. gives d s (plain_given c.args.given.now) (Asks c.args.channel (plain_request c.args.request))) c.requires (λ d s fits. fits)
+pub returns-in_default-new-clause-does : goal.returns-in_default-new-clause-does
+returns-in_default-new-clause-does c = wants_copy c.args.self.now _ _ (λ d s. gives d s (plain_given c.args.given.now) (Asks c.args.channel (plain_request c.args.request))) c.requires (λ d s fits. fits)
 
-pub returns-in_default-new-2 : goal.returns-in_default-new-2
-returns-in_default-new-2 c = wants_copy c.args.self.now _ _ (λ d s. gives d s (plain_given c.args.given.now) (Asks c.args.channel (plain_request c.args.request))) c.requires (λ d s fits. fits)
+pub returns-in_default-new-2-clause-does : goal.returns-in_default-new-2-clause-does
+returns-in_default-new-2-clause-does c = wants_copy c.args.self.now _ _ (λ d s. gives d s (plain_given c.args.given.now) (Asks c.args.channel (plain_request c.args.request))) c.requires (λ d s fits. fits)
 
-pub returns-in_err-reserve : goal.returns-in_err-reserve
-returns-in_err-reserve c = hands_on c.args.self.now _ _ c.from_residual.result c.in_err-reserve.field-0.0 _ c.from_residual.ensures.1 c.in_err-reserve.ensures.refused c.reserve.ensures.empty (λ c' s fits. fits)
+pub returns-in_err-reserve-clause-does : goal.returns-in_err-reserve-clause-does
+returns-in_err-reserve-clause-does c = hands_on c.args.self.now _ _ c.from_residual.result c.in_err-reserve.field-0.0 _ c.from_residual.ensures.1 c.in_err-reserve.ensures.refused c.reserve.ensures.empty (λ c' s fits. fits)
 
-pub returns-in_err-asked : goal.returns-in_err-asked
-returns-in_err-asked c = hands_on c.args.self.now _ _ c.from_residual-in_err-asked.result c.in_err-asked.field-0.0 _ c.from_residual-in_err-asked.ensures.1 c.in_err-asked.ensures.err c.reserve.ensures.empty (λ c' s fits. fits)
+pub returns-in_err-asked-clause-does : goal.returns-in_err-asked-clause-does
+returns-in_err-asked-clause-does c = hands_on c.args.self.now _ _ c.from_residual-in_err-asked.result c.in_err-asked.field-0.0 _ c.from_residual-in_err-asked.ensures.1 c.in_err-asked.ensures.err c.reserve.ensures.empty (λ c' s fits. fits)
 
 pub ask_through-requires : goal.ask_through-requires
 ask_through-requires c = takes_longest c.args.self.now.link c.args.self.now.layer c.args.self.now.meant
@@ -74,8 +74,8 @@ invariant_of-self-in-Err-ask_through c = record {
       record { packets = omega (arith, packets, low); promised = omega (arith, promised, few); texts = before.texts };
 }
 
-pub returns-in-Ok-ask_through : goal.returns-in-Ok-ask_through
-returns-in-Ok-ask_through c =
+pub returns-in-Ok-ask_through-clause-does : goal.returns-in-Ok-ask_through-clause-does
+returns-in-Ok-ask_through-clause-does c =
     let g = plain_given c.args.given.now in
     let request = Asks c.args.channel (plain_request c.args.request) in
     let h = c.in-Ok-ask_through.field-0 in
@@ -92,8 +92,8 @@ returns-in-Ok-ask_through c =
     ∙ ap (λ q. of_channel (record { channel = c.args.channel; name = name_of k c.args.channel; said = Asked q }) ∷ []) (c.as_shown-asked.ensures (layer_settings c') k after configured ∙ c.in_ok-asked.ensures.ok (k.circuits c.args.channel))))
     (grind (arith, c.enter.ensures.few.length, ap length c.reserve.ensures.empty.entries, c.reserve.new.self.entries.ok)) refl
 
-pub returns-in-Err : goal.returns-in-Err
-returns-in-Err c =
+pub returns-in-Err-clause-does : goal.returns-in-Err-clause-does
+returns-in-Err-clause-does c =
     let g = plain_given c.args.given.now in
     let request = Asks c.args.channel (plain_request c.args.request) in
     let takes : TakesIt c.args.self.now.manner g request = sym (c.takes.ensures ∙ ap (λ (b : Bool). c.args.self.now.manner.wide && (may_give g && b)) (c.suits.ensures c.args.channel)) ∙ c.if-not-takes.false in

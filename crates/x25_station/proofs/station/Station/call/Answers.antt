@@ -4,7 +4,7 @@ use Rattle.x25_station.specs.Step.{requests}
 use Rattle.x25_station.proofs.DoesLemmas.{alike}
 use Rattle.x25_station.proofs.station.Station.call.Goals as goal
 
-pub returns : goal.returns
-returns c = alike _ _ _ _ _ _
+pub returns-clause-does : goal.returns-clause-does
+returns-clause-does c = alike _ _ _ _ _ _
     (λ d s fits. ap (λ p. requests d s (Dials c.args.called.now c.args.calling.now c.args.user.now p)) (c.proposal-proposal.ensures d s fits))
-    c.dial.ensures
+    c.dial.ensures.does

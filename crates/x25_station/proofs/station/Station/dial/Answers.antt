@@ -16,8 +16,8 @@ use Rattle.x25_station.proofs.DoesLemmas.{did_request, declines_request}
 use Rattle.x25_station.proofs.EnteredLemmas.{dialled_enters}
 use Rattle.x25_station.proofs.station.Station.dial.Goals as goal
 
-pub returns-in-Some : goal.returns-in-Some
-returns-in-Some c = declines_request (Unit {0}) c.in-Some.error _ c.args.self.now _ _ (Dials c.args.called.now c.args.calling.now c.args.user.now c.args.proposal.now) c.of_layer.ensures
+pub returns-in-Some-clause-does : goal.returns-in-Some-clause-does
+returns-in-Some-clause-does c = declines_request (Unit {0}) c.in-Some.error _ c.args.self.now _ _ (Dials c.args.called.now c.args.calling.now c.args.user.now c.args.proposal.now) c.of_layer.ensures
     (λ d k x fits link. refuses_early (Unit {0}) d c.args.self.now.layer c.in-Some.error _ (sym c.in-Some.is ∙ c.call_refusal.ensures d k x fits link)) (λ d k fits. fits) (λ x fits. fits) c.requires refl
 
 pub invariant_of-self-in-Ok : goal.invariant_of-self-in-Ok
@@ -49,8 +49,8 @@ invariant_of-self-in-Err-1 c = record {
       record { packets = omega (arith, packets, low); promised = omega (arith, promised, few); texts = before.texts };
 }
 
-pub returns-in-Ok : goal.returns-in-Ok
-returns-in-Ok c =
+pub returns-in-Ok-clause-does : goal.returns-in-Ok-clause-does
+returns-in-Ok-clause-does c =
     let request = Dials c.args.called.now c.args.calling.now c.args.user.now c.args.proposal.now in
     let r : code_step.Step = record { frames = c.swap_frames.new.frames; entries = c.enter.new.entries; timer = c.reserve.new.self.timer } in
     did_request c.in-Ok.channel c.args.self.now _ c.call.new.link r request c.in-Ok.ensures.does.layer c.in-Ok.ensures.does.link c.swap_frames.ensures.station (ap (λ o. o.made) c.swap_frames.ensures.outbox ∙ ap (map (λ frame. frame.items)) c.reserve.ensures.empty.frames) c.swap_frames.ensures.frames
@@ -63,5 +63,5 @@ returns-in-Ok c =
     ∙ ap (λ q. of_channel (record { channel = h; name = name_of k h; said = Asked q }) ∷ []) (c.in_ok-asked.ensures.ok ∙ ap (λ (p : Params). Calls c.args.called.now c.args.calling.now c.args.user.now (in_brief p)) c.params.ensures)))
     (grind (arith, c.enter.ensures.few.length, ap length c.reserve.ensures.empty.entries, c.reserve.new.self.entries.ok)) refl
 
-pub returns-in-Err : goal.returns-in-Err
-returns-in-Err c = declines_request _ c.in-Err.error _ c.args.self.now _ _ (Dials c.args.called.now c.args.calling.now c.args.user.now c.args.proposal.now) c.of_layer-in-Err.ensures c.in-Err.ensures.does.layer c.in-Err.ensures.does.layer_stays c.in-Err.ensures.does.link_stays c.reserve.ensures.empty refl
+pub returns-in-Err-clause-does : goal.returns-in-Err-clause-does
+returns-in-Err-clause-does c = declines_request _ c.in-Err.error _ c.args.self.now _ _ (Dials c.args.called.now c.args.calling.now c.args.user.now c.args.proposal.now) c.of_layer-in-Err.ensures c.in-Err.ensures.does.layer c.in-Err.ensures.does.layer_stays c.in-Err.ensures.does.link_stays c.reserve.ensures.empty refl

@@ -17,19 +17,19 @@ use Rattle.x25_station.proofs.TakeLemmas.{takes_longest}
 use Rattle.x25_station.proofs.GivingLemmas.{TakesIt, layers_as, links_as, none_of, declines_early, declines_given, declines_late, did_given, meant_given, dialled_given}
 use Rattle.x25_station.proofs.station.Station.dial_given.Goals as goal
 
-pub returns-in-Some : goal.returns-in-Some
-returns-in-Some c = declines_early _ c.in-Some.error c.args.self.now _ _ (plain_given c.args.given.now) (Dials c.args.called.now c.args.calling.now c.args.user.now c.args.proposal.now) c.of_layer.ensures
+pub returns-in-Some-clause-does : goal.returns-in-Some-clause-does
+returns-in-Some-clause-does c = declines_early _ c.in-Some.error c.args.self.now _ _ (plain_given c.args.given.now) (Dials c.args.called.now c.args.calling.now c.args.user.now c.args.proposal.now) c.of_layer.ensures
     (λ d k x fits link. sym c.in-Some.is ∙ c.call_refusal.ensures d k x fits link) (λ d s fits. fits) c.requires
 
-pub returns-then-not-takes : goal.returns-then-not-takes
-returns-then-not-takes c =
+pub returns-then-not-takes-clause-does : goal.returns-then-not-takes-clause-does
+returns-then-not-takes-clause-does c =
     let g = plain_given c.args.given.now in
     declines_given c.args.self.now _ _ g (Dials c.args.called.now c.args.calling.now c.args.user.now c.args.proposal.now)
     (λ d k x fits link. sym (none_of c.call_refusal.result c.in_default.not-Some) ∙ c.call_refusal.ensures d k x fits link)
     (sym (c.takes.ensures ∙ ap (λ (b : Bool). c.args.self.now.manner.wide && (may_give g && b)) c.is_empty.ensures) ∙ c.if-not-takes.true) (λ d s fits. fits) c.requires
 
-pub returns-in_err-reserve : goal.returns-in_err-reserve
-returns-in_err-reserve c = hands_on c.args.self.now _ _ c.from_residual-in_err-reserve.result c.in_err-reserve.field-0.0 _ c.from_residual-in_err-reserve.ensures.1 c.in_err-reserve.ensures.refused c.reserve.ensures.empty (λ c' s fits. fits)
+pub returns-in_err-reserve-clause-does : goal.returns-in_err-reserve-clause-does
+returns-in_err-reserve-clause-does c = hands_on c.args.self.now _ _ c.from_residual-in_err-reserve.result c.in_err-reserve.field-0.0 _ c.from_residual-in_err-reserve.ensures.1 c.in_err-reserve.ensures.refused c.reserve.ensures.empty (λ c' s fits. fits)
 
 pub call_through-requires : goal.call_through-requires
 call_through-requires c = takes_longest c.args.self.now.link c.args.self.now.layer c.args.self.now.meant
@@ -66,8 +66,8 @@ invariant_of-self-in-Err-call_through c = record {
       record { packets = omega (arith, packets, low); promised = omega (arith, promised, few); texts = before.texts };
 }
 
-pub returns-in-Ok-call_through : goal.returns-in-Ok-call_through
-returns-in-Ok-call_through c =
+pub returns-in-Ok-call_through-clause-does : goal.returns-in-Ok-call_through-clause-does
+returns-in-Ok-call_through-clause-does c =
     let g = plain_given c.args.given.now in
     let request = Dials c.args.called.now c.args.calling.now c.args.user.now c.args.proposal.now in
     let h = c.in-Ok-call_through.channel in
@@ -84,8 +84,8 @@ returns-in-Ok-call_through c =
     ∙ ap (λ q. of_channel (record { channel = h; name = name_of k h; said = Asked q }) ∷ []) (c.in_ok-asked.ensures.ok ∙ ap (λ (p : Params). Calls c.args.called.now c.args.calling.now c.args.user.now (in_brief p)) c.params.ensures)))
     (grind (arith, c.enter.ensures.few.length, ap length c.reserve.ensures.empty.entries, c.reserve.new.self.entries.ok)) refl
 
-pub returns-in-Err : goal.returns-in-Err
-returns-in-Err c =
+pub returns-in-Err-clause-does : goal.returns-in-Err-clause-does
+returns-in-Err-clause-does c =
     let g = plain_given c.args.given.now in
     let request = Dials c.args.called.now c.args.calling.now c.args.user.now c.args.proposal.now in
     let takes : TakesIt c.args.self.now.manner g request = sym (c.takes.ensures ∙ ap (λ (b : Bool). c.args.self.now.manner.wide && (may_give g && b)) c.is_empty.ensures) ∙ c.if-not-takes.false in

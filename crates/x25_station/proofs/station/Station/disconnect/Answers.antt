@@ -26,7 +26,7 @@ invariant_of-self c = record {
       (ap (λ n. n.down) (c.in-Ok.ensures.heard (link_settings c') s.link fits.link).notes)
       (taken_link (link_settings c') c.disconnect.new.self c.swap_frames.new.self k.side.near c.swap_frames.ensures.station (c.in-Ok.ensures.state (link_settings c') s.link fits.link))
       (c.note_down.ensures.layer (layer_settings c') s.layer fits.layer)
-      (ap (λ o. o.made) c.swap_frames.ensures.outbox ∙ ap (map (λ frame. frame.items)) c.requires.frames)
+      (ap (λ o. o.made) c.swap_frames.ensures.outbox ∙ ap (map (λ frame. frame.items)) c.reserve.ensures.empty.frames)
       (c.steps_keep_bounds.ensures.command c' s Disconnects fits.kept))
       (goes _ (disconnect_refusal s.link.phase) step (c.in-Ok.ensures.refused (link_settings c') s.link fits.link)));
   aside =
@@ -40,8 +40,8 @@ invariant_of-self c = record {
 pub invariant_of-self-in-Err-1 : goal.invariant_of-self-in-Err-1
 invariant_of-self-in-Err-1 c = record { meant = subst (λ l. AreMeant c.args.self.now.manner l c.args.self.now.layer) (sym c.in-Err.ensures.err) c.args.self.now.meant; aside = subst (λ l. IsFewAside l c.args.self.now.layer c.args.self.now.texts) (sym c.in-Err.ensures.err) c.args.self.now.aside }
 
-pub returns-in-Ok : goal.returns-in-Ok
-returns-in-Ok c = record {
+pub returns-in-Ok-clause-does : goal.returns-in-Ok-clause-does
+returns-in-Ok-clause-does c = record {
   state = λ c' s fits.
       let k = disconnect_step (link_settings c') s.link in
       let step : Step = led_by (disconnect_asked ∷ []) (follows c' s.layer k) in
@@ -49,19 +49,19 @@ returns-in-Ok c = record {
       (ap (λ n. n.down) (c.in-Ok.ensures.heard (link_settings c') s.link fits.link).notes)
       (taken_link (link_settings c') c.disconnect.new.self c.swap_frames.new.self k.side.near c.swap_frames.ensures.station (c.in-Ok.ensures.state (link_settings c') s.link fits.link))
       (c.note_down.ensures.layer (layer_settings c') s.layer fits.layer)
-      (ap (λ o. o.made) c.swap_frames.ensures.outbox ∙ ap (map (λ frame. frame.items)) c.requires.frames)
+      (ap (λ o. o.made) c.swap_frames.ensures.outbox ∙ ap (map (λ frame. frame.items)) c.reserve.ensures.empty.frames)
       (c.steps_keep_bounds.ensures.command c' s Disconnects fits.kept);
   frames = λ c' s fits.
       let k = disconnect_step (link_settings c') s.link in
       let step : Step = led_by (disconnect_asked ∷ []) (follows c' s.layer k) in
-      sends_unless c' (record { frames = c.swap_frames.new.frames; entries = c.note_down.new.entries; timer = c.args.out.now.timer }) (disconnect_refusal s.link.phase) step
+      sends_unless c' (record { frames = c.swap_frames.new.frames; entries = c.note_down.new.entries; timer = c.reserve.new.self.timer }) (disconnect_refusal s.link.phase) step
       (frames_down c' s.layer k _ (follows c' s.layer k) (disconnect_down c' s.layer s.link) (own_frames c'.role _ _ (map (λ frame. frame.items) c.swap_frames.new.frames.items) k.side.out fits.sent (c.in-Ok.ensures.frames (link_settings c') s.link fits.link) c.swap_frames.ensures.frames));
   entries = λ c' s fits.
       let k = disconnect_step (link_settings c') s.link in
       let step : Step = led_by (disconnect_asked ∷ []) (follows c' s.layer k) in
-      enters_unless (record { frames = c.swap_frames.new.frames; entries = c.note_down.new.entries; timer = c.args.out.now.timer }) (disconnect_refusal s.link.phase) step
+      enters_unless (record { frames = c.swap_frames.new.frames; entries = c.note_down.new.entries; timer = c.reserve.new.self.timer }) (disconnect_refusal s.link.phase) step
       (entries_noted_down s.layer k (disconnect_asked ∷ []) _ _ (follows c' s.layer k) (disconnect_down c' s.layer s.link) (ap (λ n. n.down) (c.in-Ok.ensures.heard (link_settings c') s.link fits.link).notes)
-      (c.note_down.ensures.entries ∙ ap (λ es. map plain_entry es ++ entries_down c.in-Ok.heard.notes.down) (c.push_reserved.ensures.items ∙ ap (λ es. es ++ DisconnectAsked ∷ []) (c.reserve.ensures.items ∙ c.requires.entries))));
+      (c.note_down.ensures.entries ∙ ap (λ es. map plain_entry es ++ entries_down c.in-Ok.heard.notes.down) (c.push_reserved.ensures.items ∙ ap (λ es. es ++ DisconnectAsked ∷ []) c.reserve.ensures.empty.entries)));
   refused = λ c' s fits.
       let step : Step = led_by (disconnect_asked ∷ []) (follows c' s.layer (disconnect_step (link_settings c') s.link)) in
       goes _ (disconnect_refusal s.link.phase) step (c.in-Ok.ensures.refused (link_settings c') s.link fits.link);
@@ -71,13 +71,13 @@ returns-in-Ok c = record {
       own_few c.swap_frames.new.frames.items (λ frame. frame.items) c.args.self.now.link.outbox.made c.disconnect.new.self.outbox.made fits.sent
       (c.in-Ok.ensures.few (link_settings c') s.link fits.link) c.swap_frames.ensures.frames) in
       grind (arith, few, c.swap_frames.new.frames.ok));
-  few_entries = grind (arith, c.note_down.ensures.few.length, c.push_reserved.ensures.len, c.reserve.ensures.len, ap length c.requires.entries, c.args.out.now.entries.ok);
+  few_entries = grind (arith, c.note_down.ensures.few.length, c.push_reserved.ensures.len, ap length c.reserve.ensures.empty.entries, c.reserve.new.self.entries.ok);
 }
 
-pub returns-in-Err : goal.returns-in-Err
-returns-in-Err c = declines c.args.self.now _ _ _ disconnects (λ c' s fits.
+pub returns-in-Err-clause-does : goal.returns-in-Err-clause-does
+returns-in-Err-clause-does c = declines c.args.self.now _ _ _ disconnects (λ c' s fits.
     let step : Step = led_by (disconnect_asked ∷ []) (follows c' s.layer (disconnect_step (link_settings c') s.link)) in
     refused Heard Unit c.in-Err.error _ (disconnect_refusal s.link.phase) step (disconnect_named s.link.phase) c.of_link.ensures
     (c.in-Err.ensures.refused (link_settings c') s.link fits.link))
     (λ c' s fits. subst (λ l. FitsParts c' c.args.self.now.manner l c.args.self.now.layer s) (sym c.in-Err.ensures.err) fits)
-    (record { frames = c.requires.frames; entries = c.reserve.ensures.items ∙ c.requires.entries })
+    c.reserve.ensures.empty

@@ -39,8 +39,8 @@ invariant_of-self c = record {
 pub invariant_of-self-in-Err-1 : goal.invariant_of-self-in-Err-1
 invariant_of-self-in-Err-1 c = record { meant = subst (λ l. AreMeant c.args.self.now.manner l c.args.self.now.layer) (sym c.in-Err.ensures.err) c.args.self.now.meant; aside = subst (λ l. IsFewAside l c.args.self.now.layer c.args.self.now.texts) (sym c.in-Err.ensures.err) c.args.self.now.aside }
 
-pub returns-in-Ok : goal.returns-in-Ok
-returns-in-Ok c = record {
+pub returns-in-Ok-clause-does : goal.returns-in-Ok-clause-does
+returns-in-Ok-clause-does c = record {
   state = λ c' s fits.
       let k = timer_step (link_settings c') s.link in
       let step : Step = follows c' s.layer k in
@@ -70,8 +70,8 @@ returns-in-Ok c = record {
   few_entries = grind (arith, c.note_down.ensures.few.length, ap length c.reserve.ensures.empty.entries, c.reserve.new.self.entries.ok);
 }
 
-pub returns-in-Err : goal.returns-in-Err
-returns-in-Err c = declines c.args.self.now _ _ _ probes (λ c' s fits.
+pub returns-in-Err-clause-does : goal.returns-in-Err-clause-does
+returns-in-Err-clause-does c = declines c.args.self.now _ _ _ probes (λ c' s fits.
     refused Heard Unit c.in-Err.error _ (probe_refusal s.link.phase) (follows c' s.layer (timer_step (link_settings c') s.link)) (probe_named s.link.phase) c.of_link.ensures
     (c.in-Err.ensures.refused (link_settings c') s.link fits.link))
     (λ c' s fits. subst (λ l. FitsParts c' c.args.self.now.manner l c.args.self.now.layer s) (sym c.in-Err.ensures.err) fits)

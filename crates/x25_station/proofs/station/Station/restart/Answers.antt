@@ -40,8 +40,8 @@ invariant_of-self-in-Err-1 c = record {
       record { packets = omega (arith, packets, low); promised = omega (arith, promised, few); texts = before.texts };
 }
 
-pub returns-in-Ok : goal.returns-in-Ok
-returns-in-Ok c =
+pub returns-in-Ok-clause-does : goal.returns-in-Ok-clause-does
+returns-in-Ok-clause-does c =
     let request = Restarts c.args.cause c.args.diagnostic in
     let r : code_step.Step = record { frames = c.swap_frames.new.frames; entries = c.push_reserved.new.self; timer = c.reserve.new.self.timer } in
     did_request c.in-Ok.field-0 c.args.self.now _ c.restart.new.link r request c.in-Ok.ensures.layer c.in-Ok.ensures.link c.swap_frames.ensures.station (ap (λ o. o.made) c.swap_frames.ensures.outbox ∙ ap (map (λ frame. frame.items)) c.reserve.ensures.empty.frames) c.swap_frames.ensures.frames
@@ -50,5 +50,5 @@ returns-in-Ok c =
     restart_enters c' s c.args.cause c.args.diagnostic r (ap (λ es. map plain_entry es) (c.push_reserved.ensures.items ∙ ap (λ es. es ++ RestartAsked c.args.cause c.args.diagnostic ∷ []) c.reserve.ensures.empty.entries)))
     (grind (arith, c.push_reserved.ensures.len, ap length c.reserve.ensures.empty.entries, c.reserve.new.self.entries.ok)) refl
 
-pub returns-in-Err : goal.returns-in-Err
-returns-in-Err c = declines_request _ c.in-Err.error _ c.args.self.now _ _ (Restarts c.args.cause c.args.diagnostic) c.of_layer.ensures c.in-Err.ensures.layer c.in-Err.ensures.layer_stays c.in-Err.ensures.link_stays c.reserve.ensures.empty refl
+pub returns-in-Err-clause-does : goal.returns-in-Err-clause-does
+returns-in-Err-clause-does c = declines_request _ c.in-Err.error _ c.args.self.now _ _ (Restarts c.args.cause c.args.diagnostic) c.of_layer.ensures c.in-Err.ensures.layer c.in-Err.ensures.layer_stays c.in-Err.ensures.link_stays c.reserve.ensures.empty refl

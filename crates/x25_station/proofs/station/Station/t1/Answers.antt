@@ -5,10 +5,10 @@ use Rattle.x25_station.proofs.DoesLemmas.{reused}
 use Rattle.x25_station.proofs.station.Station.t1.Goals as goal
 
 pub returns-clause-does : goal.returns-clause-does
-returns-clause-does c = reused _ c.empty.new.self _ c.fire-answer.new.out c.timer_behind-out.result _ _ c.empty.ensures.fits c.fire-answer.ensures
+returns-clause-does c = reused _ c.empty.new.self _ c.fire-answer.new.out c.timer_behind-out.result _ _ c.empty.ensures.fits c.fire-answer.ensures.does
 
 pub returns-clause-timer : goal.returns-clause-timer
 returns-clause-timer c = λ c' s fits.
     let now = c.empty.ensures.fits c' s fits in
-    timed c' s c.empty.new.self c.fire-answer.new.self c.fire-answer.new.out c.timer_behind-out.result now c.fire-answer.result _ c.is_ok.result true c.fire-answer.ensures (ok_fired c.fire-answer.result c.is_ok.result c.is_ok.ensures.value) (err_fired c.fire-answer.result c.is_ok.result c.is_ok.ensures.value)
+    timed c' s c.empty.new.self c.fire-answer.new.self c.fire-answer.new.out c.timer_behind-out.result now c.fire-answer.result _ c.is_ok.result true c.fire-answer.ensures.does (ok_fired c.fire-answer.result c.is_ok.result c.is_ok.ensures.value) (err_fired c.fire-answer.result c.is_ok.result c.is_ok.ensures.value)
     (λ step near entries. c.timer_behind-out.ensures c' s step (c.clock-before.ensures c' s now) near (ap (map plain_entry) c.as_slice.ensures.value ∙ entries))

@@ -1,4 +1,4 @@
-use Rattle.std.proofs.Common.{◌≡◌, ◌+◌, ◌-◌, ◌<◌, ◌≤◌, ◌++◌, ℕ, List, length, map, All, option_copied, arith, ap, sym, subst, ◌∙◌}
+use Rattle.std.proofs.Common.{◌≡◌, ◌+◌, ◌-◌, ◌<◌, ◌≤◌, ◌++◌, ℕ, nat_le, drop, if◌then◌else◌, List, length, map, All, option_copied, arith, ap, sym, subst, ◌∙◌}
 use Rattle.std.proofs.lemmas.List.{length-map}
 use Rattle.std.proofs.lemmas.List.Elements.{All-from_get_or}
 use Rattle.x25_frame.specs.Spelling.{spelling_of}
@@ -6,7 +6,7 @@ use Rattle.x25_link.specs.declared.phase.Notes.{Notes}
 use Rattle.x25_link.specs.Hearing.{Step as LinkStep}
 use Rattle.x25_link.specs.Link.{take_step}
 use Rattle.x25_link.specs.code.FitsLink.{FitsWhole, up_of}
-use Rattle.x25_layer.specs.Room.{HasRoom, IsNotFull}
+use Rattle.x25_layer.specs.Room.{HasRoom, IsNotFull, named_by}
 use Rattle.x25_station.specs.code.Aside.{IsFewAside}
 use Rattle.x25_station.specs.Entry.{entries_noted}
 use Rattle.x25_station.specs.code.FitsParts.{AreMeant}
@@ -17,7 +17,7 @@ use Rattle.x25_station.specs.Station.{all_put}
 use Rattle.x25_station.specs.Step.{receives, entries_heard}
 use Rattle.x25_station.proofs.FrameLemmas.{few_put}
 use Rattle.x25_station.proofs.OutcomeLemmas.{still_meant}
-use Rattle.x25_station.proofs.TakeLemmas.{handed_short, up_can_put, handed_can_put, handed_was_up, put_by_meaning, least_by_meaning, up_by_meaning, less_room, few_made, if_some}
+use Rattle.x25_station.proofs.TakeLemmas.{handed_short, up_can_put, handed_can_put, handed_was_up, put_by_meaning, least_by_meaning, same_by_meaning, up_by_meaning, handed_named, room_for, no_room, few_made, if_some}
 use Rattle.x25_station.proofs.TookLemmas.{put_behind, took_fits, took_sends, took_enters}
 use Rattle.x25_station.proofs.station.Station.take.Goals as goal
 
@@ -44,19 +44,24 @@ follow-requires-clause-left c = if_some c.in-Ok.heard.packet (λ x. IsNotFull c.
 pub follow-requires-clause-room : goal.follow-requires-clause-room
 follow-requires-clause-room c =
     let bytes : All (λ octet. octet < 256) c.args.octets.now = All-from_get_or (λ octet. octet < 256) c.args.octets.now 0 (λ i low. omega (arith, c.type_inv.octets i)) in
-    if_some c.in-Ok.heard.packet (λ p. HasRoom (length p.now - 3) c.reserve.new.self.layer c.take.new.self.outbox.long) (λ p is.
+    if_some c.in-Ok.heard.packet (λ p. HasRoom (named_by p.now) (length p.now - 3) c.reserve.new.self.layer c.take.new.self.outbox.long) (λ p is.
     let short : length p.now + 4 ≤ length c.args.octets.now = least_by_meaning _ _ (length p.now + 4) (length c.args.octets.now) c.args.self.now.meant (λ c' s fits.
     let lk = link_settings c' in
     handed_short c.reading_is_the_grammar.ensures.spelled c.notes_what_changes.ensures.take_hands_up lk c.args.octets.now s.link p.now bytes
     (sym ((c.in-Ok.ensures.does.heard lk s.link (c.in_ok-reserve.ensures.fits c' s fits).link).packet) ∙ ap option_copied is)) in
-    less_room (length p.now - 3) c.saturating_sub.result c.reserve.new.self.layer c.reserve.new.self.link.outbox.long c.take.new.self.outbox.long
-    (omega (arith, short, c.saturating_sub.ensures))
+    let named : named_by p.now ≡ (if nat_le 3 (length p.now) then named_by (drop 2 c.args.octets.now) else 0) = same_by_meaning _ _ _ _ c.args.self.now.meant (λ c' s fits.
+    let lk = link_settings c' in
+    handed_named c.reading_is_the_grammar.ensures.spelled c.notes_what_changes.ensures.take_hands_up lk c.args.octets.now s.link p.now bytes
+    (sym ((c.in-Ok.ensures.does.heard lk s.link (c.in_ok-reserve.ensures.fits c' s fits).link).packet) ∙ ap option_copied is)) in
+    room_for (nat_le 3 (length p.now)) (named_by p.now) c.channel_of.result (length p.now - 3) c.saturating_sub-len.result c.reserve.new.self.layer c.reserve.new.self.link.outbox.long c.take.new.self.outbox.long
+    (named ∙ ap (λ (h : ℕ). if nat_le 3 (length p.now) then h else 0) (sym c.channel_of.ensures))
+    (omega (arith, short, c.saturating_sub-len.ensures))
     (sym c.in-Ok.ensures.does.promised) c.in_ok-reserve.ensures.room)
 
 pub follow-requires-clause-begun : goal.follow-requires-clause-begun
 follow-requires-clause-begun c =
-    less_room 0 c.saturating_sub.result c.reserve.new.self.layer c.reserve.new.self.link.outbox.long c.take.new.self.outbox.long (omega arith)
-    (sym c.in-Ok.ensures.does.promised) c.in_ok-reserve.ensures.room
+    no_room c.channel_of.result c.saturating_sub-len.result c.reserve.new.self.layer c.reserve.new.self.link.outbox.long c.take.new.self.outbox.long
+    (sym c.in-Ok.ensures.does.promised) c.in_ok-reserve.ensures.room 0
 
 pub invariant_of-self : goal.invariant_of-self
 invariant_of-self c = record {

@@ -1,0 +1,124 @@
+//! Moments at which more than one thing is due or happens, that are earlier than the last one, or the last there is.
+
+use crate::silence::{
+    Act, CALL, CALLED, CLEARED, NONE, RESTART, RESTARTS, RR_1, RR_2, RR_3, Row, TIMES, UA,
+    odd_row_of,
+};
+use x25_clock::{Due, Times};
+use x25_station::{Awaits, Cmd};
+
+const RESET: (Awaits, bool, bool) = (Awaits::ResetConfirmation, false, true);
+
+/// T1, a call on either channel and a restart take as long as each other.
+const ALIKE: Times = Times {
+    t1: 210,
+    t3: 0,
+    t20: 210,
+    t21: 210,
+    t22: 0,
+    t23: 0,
+};
+
+static DUE_AT_ONCE: [Row; 9] = [
+    (0, Act::Ask(Cmd::Connect), 0, None, Some(210), NONE),
+    (0, UA, 0, None, Some(210), RESTARTS),
+    (0, RR_1, 0, None, Some(210), RESTARTS),
+    (0, RESTART, 0, None, None, NONE),
+    (5, CALL, 0, None, Some(215), CALLED),
+    (5, CALL, 0, None, Some(215), CALLED),
+    (215, Act::Obey, 0, Some(Due::T1), Some(215), CALLED),
+    (
+        215,
+        Act::Obey,
+        0,
+        Some(Due::Clear { channel: 1 }),
+        Some(215),
+        CALLED,
+    ),
+    (
+        215,
+        Act::Obey,
+        0,
+        Some(Due::Clear { channel: 2 }),
+        Some(425),
+        CLEARED,
+    ),
+];
+
+static DUE_WITH_A_RESTART: [Row; 5] = [
+    (0, Act::Ask(Cmd::Connect), 0, None, Some(210), NONE),
+    (0, UA, 0, None, Some(210), RESTARTS),
+    (210, Act::Obey, 0, Some(Due::T1), Some(210), RESTARTS),
+    (210, Act::Obey, 0, Some(Due::Relink), Some(420), NONE),
+    (210, Act::Obey, 0, None, Some(420), NONE),
+];
+
+/// CALL ACCEPTED of channel 2.
+const ACCEPTED: Act = Act::Take(&[0x03, 0x42, 0x10, 0x02, 0x0F, 0xA8, 0xB3]);
+
+/// CLEAR of channel 2.
+const CLEAR: Act = Act::Take(&[0x03, 0x64, 0x10, 0x02, 0x13, 0x00, 0x00, 0xC4, 0x54]);
+
+/// As in `TIMES`, but a reset takes as long as a call.
+const RESETS: Times = Times {
+    t1: 10,
+    t3: 1000,
+    t20: 200,
+    t21: 210,
+    t22: 210,
+    t23: 230,
+};
+
+/// The answer to a call and a clearing that ends a reset come as their time passes; and time runs back.
+static ANSWERED: [Row; 14] = [
+    (0, Act::Ask(Cmd::Connect), 0, None, Some(10), NONE),
+    (0, UA, 0, None, Some(10), RESTARTS),
+    (0, RR_1, 0, None, Some(200), RESTARTS),
+    (0, RESTART, 0, None, Some(1000), NONE),
+    (30, CALL, 0, None, Some(40), CALLED),
+    (31, RR_2, 0, None, Some(240), CALLED),
+    (240, ACCEPTED, 0, None, Some(1240), NONE),
+    (240, Act::Obey, 0, None, Some(1240), NONE),
+    (
+        250,
+        Act::Ask(Cmd::Reset {
+            channel: 2,
+            cause: 0,
+            diagnostic: 0,
+        }),
+        0,
+        None,
+        Some(260),
+        RESET,
+    ),
+    (251, RR_3, 0, None, Some(460), RESET),
+    (200, Act::Obey, 0, None, Some(460), RESET),
+    (460, CLEAR, 0, None, Some(470), NONE),
+    (460, Act::Obey, 0, None, Some(470), NONE),
+    (100, Act::Ask(Cmd::Relink), 0, None, Some(110), NONE),
+];
+
+/// What would be due later than any moment never is.
+static LAST: [Row; 3] = [
+    (
+        u64::MAX - 10,
+        Act::Ask(Cmd::Connect),
+        0,
+        None,
+        Some(u64::MAX),
+        NONE,
+    ),
+    (u64::MAX, Act::Obey, 0, Some(Due::T1), None, NONE),
+    (u64::MAX, UA, 0, None, None, RESTARTS),
+];
+
+#[test]
+fn moments_are_told_apart(rt: HostRuntime) {
+    let odd_rows = [
+        odd_row_of(rt.alloc(), ALIKE, &DUE_AT_ONCE),
+        odd_row_of(rt.alloc(), ALIKE, &DUE_WITH_A_RESTART),
+        odd_row_of(rt.alloc(), RESETS, &ANSWERED),
+        odd_row_of(rt.alloc(), TIMES, &LAST),
+    ];
+    assert_eq!(rt; odd_rows, [Some(None); 4]);
+}
