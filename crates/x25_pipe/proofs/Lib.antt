@@ -7,3 +7,6 @@ pub mod LineLemmas
 pub mod PipeLemmas
 pub mod MomentLemmas
 pub mod TimedLemmas
+pub mod ClockedLemmas
+pub mod DueLemmas
+pub mod WatchedLemmas

@@ -1,5 +1,10 @@
-//! What is written for worked input: a law, the contract of a function that does nothing.
+//! What is written for worked input, and that a clock is obeyed: laws, each the contract of a function that does
+//! nothing.
+ghost use Rattle.x25_pipe.specs.laws.ClockedLaw.{DueIsDone, EventIsDone, NothingIsDue, PipeIsWatched};
 ghost use Rattle.x25_pipe.specs.rows.PipeRows.{CallGoesOut, MarkComesFirst, OthersAreRefused};
+
+use x25_clock::pulls_are_heeded_at_once;
+use x25_station::stations_ask_or_rest;
 
 /// The answers to lines of a trace and of a script, each with its mark, as text.
 pub fn answers_as_worked()
@@ -7,3 +12,18 @@ pub fn answers_as_worked()
     ensures call { CallGoesOut }
     ensures others { OthersAreRefused }
 {}
+
+/// What `timed_station` does with its clock is what one does who obeys it, of whom the laws of `x25_clock` speak. An
+/// event that a line asks for happens at the time that was said last, and the pull behind it too, where it is accepted;
+/// and so does what is told as due, which is asked. k is at most 7, and the link is settled, as from a new station on.
+/// Behind a line that says the time nothing is due: no more than 19 are at one moment, and each is asked once. So what
+/// any lines lead to is what some moments do, of which `awaited_deadlines_are_true` speaks.
+pub fn clock_is_obeyed()
+    ensures event { EventIsDone }
+    ensures due { DueIsDone }
+    ensures nothing { NothingIsDue }
+    ensures watched { PipeIsWatched }
+{
+    stations_ask_or_rest();
+    pulls_are_heeded_at_once();
+}

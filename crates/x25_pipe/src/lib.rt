@@ -13,7 +13,7 @@ mod telling;
 mod timed;
 mod timed_answerer;
 
-pub use law::answers_as_worked;
+pub use law::{answers_as_worked, clock_is_obeyed};
 pub use running::{station, timed_station};
 pub use x25_clock::Times;
 pub use x25_io::{Device, Failed, Fault, Sink, Source};

@@ -1,0 +1,354 @@
+-- What is due at one moment is asked so often at most: each time one moment less is past.
+use Rattle.std.proofs.Common.{◌≡◌, ℕ, zero, suc, ◌+◌, ◌^◌, ◌<◌, ◌≤◌, ◌==◌, List, [], ◌∷◌, length, map, Bool, true, false, not, if◌then◌else◌, nat_lt, Option, Some, None, refl, sym, ap, subst, ◌∙◌, arith}
+use Rattle.std.proofs.lemmas.Bool.{true≢false, eq-eqb, lt-leb, ltb-true}
+use Rattle.std.proofs.lemmas.Option.{none-some, same_Some}
+use Rattle.x25_circuit.specs.declared.awaits.Awaits.{Awaits}
+use Rattle.x25_circuit.specs.declared.awaits.Awaits.TheVariants.{Nothing, Acceptance, ResetConfirmation, ClearConfirmation}
+use Rattle.x25_station.specs.Config.{Settings}
+use Rattle.x25_station.specs.declared.timer.Timer.{Timer}
+use Rattle.x25_station.specs.declared.timer.Timer.TheVariants.{Off, Begins, GoesOn}
+use Rattle.x25_clock.specs.declared.due.Due.{Due}
+use Rattle.x25_clock.specs.declared.due.Due.TheVariants as due
+use Rattle.x25_clock.specs.declared.times.Times.{Times}
+use Rattle.x25_clock.specs.declared.wait.Wait.{Wait}
+use Rattle.x25_clock.specs.Due.{command_for}
+use Rattle.x25_clock.specs.Clock.{Deadlines, Seen, nothing_awaited, channels_from, deadline, is_past, number_of, time_of, t1_after, running, wait_after, heeded, overdue_of, asked_for, due_on, unless_on, due_of, renewed, renewed_on, after_due}
+use Rattle.x25_pipe.specs.Pipe.{Act, asked_act, event_act, event_for, event_in, nothing_act}
+use Rattle.x25_pipe.specs.Timed.{Timed, TimedTurn, new_timed, writes, and_then, seen_at, heeds, act_turn, insist_turn, told_due, due_first, due_turns, most_due, answer_turn, time_said, mark_turn, timed_turn, timed_turns}
+use Rattle.x25_pipe.specs.laws.ClockedLaw.{NothingIsDue}
+
+-- ---- how many moments are past
+
+abbrev counted : Bool → ℕ
+counted true = 1
+counted false = 0
+
+abbrev past : ℕ → Option ℕ → ℕ
+past now until = counted (is_past now until)
+
+abbrev all_past : ℕ → List Wait → ℕ
+all_past now [] = 0
+all_past now (w ∷ ws) = past now w.until + all_past now ws
+
+abbrev count : ℕ → Deadlines → ℕ
+count now d = past now d.t1 + (past now d.idle + (past now d.restart + all_past now d.waits))
+
+one_most : (b : Bool) → counted b ≤ 1
+one_most true = omega arith
+one_most false = omega arith
+
+positive : (n : ℕ) → (n == 0) ≡ false → 0 < n
+positive zero is = absurd (true≢false is)
+positive (suc n) is = omega arith
+
+-- one that begins isn't past
+fresh : (now time : ℕ) → past now (deadline now time) ≡ 0
+fresh now time = by (time == 0) refl
+  where
+    later : (time == 0) ≡ false → now < now + time
+    later is = let some : 0 < time = positive time is in omega (arith, some)
+
+    in_range : (b : Bool) → (time == 0) ≡ false → past now (if b then Some (now + time) else None) ≡ 0
+    in_range true is = ap counted (lt-leb (now + time) now (later is))
+    in_range false is = refl
+
+    by : (b : Bool) → (time == 0) ≡ b → past now (if b then None else if nat_lt (now + time) (2 ^ 64) then Some (now + time) else None) ≡ 0
+    by true is = refl
+    by false is = in_range (nat_lt (now + time) (2 ^ 64)) is
+
+begun : (now time n : ℕ) → past now (deadline now time) ≤ n
+begun now time n = let none = fresh now time in omega (arith, none)
+
+-- ---- behind a step no more are past
+
+module _ (times : Times) (now : ℕ) where
+  t1_lower : (timer : Timer) (old : Option ℕ) → past now (t1_after times now timer old) ≤ past now old
+  t1_lower Off old = omega arith
+  t1_lower GoesOn old = omega arith
+  t1_lower Begins old = begun now times.t1 (past now old)
+
+  running_lower : (so anew : Bool) (old : Option ℕ) (time : ℕ) → past now (running so anew old (deadline now time)) ≤ past now old
+  running_lower false anew old time = omega arith
+  running_lower true true old time = begun now time (past now old)
+  running_lower true false None time = begun now time 0
+  running_lower true false (Some moment) time = omega arith
+
+  wait_lower : (a : Awaits) (w : Wait) → past now (wait_after times now a w).until ≤ past now w.until
+  wait_lower a w = by (number_of w.awaits == number_of a)
+    where
+      by : (b : Bool) → (let x : Wait = if b then w else record { channel = w.channel; awaits = a; until = deadline now (time_of times a) } in past now x.until) ≤ past now w.until
+      by true = omega arith
+      by false = begun now (time_of times a) (past now w.until)
+
+  waits_lower : (f : ℕ → Awaits) (ws : List Wait) → all_past now (map (λ w. wait_after times now (f w.channel) w) ws) ≤ all_past now ws
+  waits_lower f [] = omega arith
+  waits_lower f (w ∷ ws) = let first = wait_lower (f w.channel) w in let rest = waits_lower f ws in omega (arith, first, rest)
+
+  heeded_lower : (x : Seen) (d : Deadlines) → count now (heeded times now x d) ≤ count now d
+  heeded_lower x d =
+      let t1 = t1_lower x.timer d.t1 in
+      let idle = running_lower x.at_rest x.come d.idle times.t3 in
+      let restart = running_lower x.restarting x.noted d.restart times.t20 in
+      let waits = waits_lower x.awaited d.waits in
+      omega (arith, t1, idle, restart, waits)
+
+  -- ---- what is told as due is past no more
+
+  renewed_lower : (h : ℕ) (w : Wait) → past now (renewed times now h w).until ≤ past now w.until
+  renewed_lower h w = by (not (w.channel == h))
+    where
+      by : (b : Bool) → (let x : Wait = if b then w else record { channel = w.channel; awaits = w.awaits; until = deadline now (time_of times w.awaits) } in past now x.until) ≤ past now w.until
+      by true = omega arith
+      by false = begun now (time_of times w.awaits) (past now w.until)
+
+  renewed_none : (w : Wait) → past now (renewed times now w.channel w).until ≡ 0
+  renewed_none w =
+      ap (λ (b : Bool). let x : Wait = if not b then w else record { channel = w.channel; awaits = w.awaits; until = deadline now (time_of times w.awaits) } in past now x.until) (eq-eqb w.channel w.channel refl)
+      ∙ fresh now (time_of times w.awaits)
+
+  all_lower : (h : ℕ) (ws : List Wait) → all_past now (map (renewed times now h) ws) ≤ all_past now ws
+  all_lower h [] = omega arith
+  all_lower h (w ∷ ws) = let first = renewed_lower h w in let rest = all_lower h ws in omega (arith, first, rest)
+
+  one_less : (x : Wait) (ws : List Wait) → overdue_of now ws ≡ Some x → all_past now (map (renewed times now x.channel) ws) + 1 ≤ all_past now ws
+  one_less x [] is = absurd (none-some x is)
+  one_less x (w ∷ ws) is = by (is_past now w.until) refl is (one_less x ws)
+    where
+      by : (b : Bool) → is_past now w.until ≡ b → (if b then Some w else overdue_of now ws) ≡ Some x → (overdue_of now ws ≡ Some x → all_past now (map (renewed times now x.channel) ws) + 1 ≤ all_past now ws)
+          → past now (renewed times now x.channel w).until + all_past now (map (renewed times now x.channel) ws) + 1 ≤ past now w.until + all_past now ws
+      by true late same less =
+          let own : w ≡ x = same_Some w x same in
+          let none : past now (renewed times now x.channel w).until ≡ 0 = ap (λ (y : Wait). past now (renewed times now y.channel w).until) (sym own) ∙ renewed_none w in
+          let was : past now w.until ≡ 1 = ap counted late in
+          let rest = all_lower x.channel ws in
+          omega (arith, none, was, rest)
+      by false late same less =
+          let first = renewed_lower x.channel w in
+          let rest = less same in
+          omega (arith, first, rest)
+
+  due_less : (d : Deadlines) (what : Due) → due_of now d ≡ Some what → count now (after_due times now d) + 1 ≤ count now d
+  due_less d what is = by_t1 (is_past now d.t1) refl is
+    where
+      on_idle : (b : Bool) → is_past now d.idle ≡ b → (if b then Some due.Probe else None) ≡ Some what → count now (renewed_on times now None b d) + 1 ≤ count now d
+      on_idle true late same = let was : past now d.idle ≡ 1 = ap counted late in let none = fresh now times.t3 in omega (arith, was, none)
+      on_idle false late same = absurd (none-some what same)
+
+      on_channel : (o : Option Wait) → overdue_of now d.waits ≡ o → unless_on o (if is_past now d.idle then Some due.Probe else None) ≡ Some what → count now (renewed_on times now o (is_past now d.idle) d) + 1 ≤ count now d
+      on_channel None found same = on_idle (is_past now d.idle) refl same
+      on_channel (Some x) found same = let less = one_less x d.waits found in omega (arith, less)
+
+      by_restart : (b : Bool) → is_past now d.restart ≡ b → (if b then Some due.Relink else unless_on (overdue_of now d.waits) (if is_past now d.idle then Some due.Probe else None)) ≡ Some what
+          → count now (if b then record d { restart = deadline now times.t20 } else renewed_on times now (overdue_of now d.waits) (is_past now d.idle) d) + 1 ≤ count now d
+      by_restart true late same = let was : past now d.restart ≡ 1 = ap counted late in let none = fresh now times.t20 in omega (arith, was, none)
+      by_restart false late same = on_channel (overdue_of now d.waits) refl same
+
+      by_t1 : (b : Bool) → is_past now d.t1 ≡ b → (if b then Some due.T1 else if is_past now d.restart then Some due.Relink else unless_on (overdue_of now d.waits) (if is_past now d.idle then Some due.Probe else None)) ≡ Some what
+          → count now (if b then record d { t1 = deadline now times.t1 } else if is_past now d.restart then record d { restart = deadline now times.t20 } else renewed_on times now (overdue_of now d.waits) (is_past now d.idle) d) + 1 ≤ count now d
+      by_t1 true late same = let was : past now d.t1 ≡ 1 = ap counted late in let none = fresh now times.t1 in omega (arith, was, none)
+      by_t1 false late same = by_restart (is_past now d.restart) refl same
+
+-- ---- where none is past nothing is due
+
+not_past : (now : ℕ) (until : Option ℕ) → past now until ≡ 0 → is_past now until ≡ false
+not_past now until none = by (is_past now until) none
+  where
+    by : (b : Bool) → counted b ≡ 0 → b ≡ false
+    by true is = absurd (omega (arith, is))
+    by false is = refl
+
+none_overdue : (now : ℕ) (ws : List Wait) → all_past now ws ≡ 0 → overdue_of now ws ≡ None
+none_overdue now [] none = refl
+none_overdue now (w ∷ ws) none =
+    ap (λ (b : Bool). if b then Some w else overdue_of now ws) (not_past now w.until (omega (arith, none))) ∙ none_overdue now ws (omega (arith, none))
+
+none_due : (now : ℕ) (d : Deadlines) → count now d ≡ 0 → due_of now d ≡ None
+none_due now d none =
+    let channels : Option Due → Option Due = λ o. unless_on (overdue_of now d.waits) o in
+    ap (λ (b : Bool). if b then Some due.T1 else if is_past now d.restart then Some due.Relink else channels (if is_past now d.idle then Some due.Probe else None)) (not_past now d.t1 (omega (arith, none)))
+    ∙ ap (λ (b : Bool). if b then Some due.Relink else channels (if is_past now d.idle then Some due.Probe else None)) (not_past now d.restart (omega (arith, none)))
+    ∙ ap (λ (b : Bool). channels (if b then Some due.Probe else None)) (not_past now d.idle (omega (arith, none)))
+    ∙ ap (λ (o : Option Wait). unless_on o None) (none_overdue now d.waits (omega (arith, none)))
+
+-- ---- nothing awaited has no deadline
+
+abbrev Unawaited : List Wait → Type 0
+Unawaited [] = Unit {0}
+Unawaited (w ∷ ws) = (w.awaits ≡ Nothing → w.until ≡ None) × Unawaited ws
+
+module _ (times : Times) (now : ℕ) where
+  begins_none : (a : Awaits) → a ≡ Nothing → deadline now (time_of times a) ≡ None
+  begins_none a is = ap (λ (b : Awaits). deadline now (time_of times b)) is
+
+  wait_none : (a : Awaits) (w : Wait) → (w.awaits ≡ Nothing → w.until ≡ None) → (let x : Wait = wait_after times now a w in x.awaits ≡ Nothing → x.until ≡ None)
+  wait_none a w h = by (number_of w.awaits == number_of a)
+    where
+      by : (b : Bool) → (let x : Wait = if b then w else record { channel = w.channel; awaits = a; until = deadline now (time_of times a) } in x.awaits ≡ Nothing → x.until ≡ None)
+      by true = h
+      by false = begins_none a
+
+  heeded_none : (f : ℕ → Awaits) (ws : List Wait) → Unawaited ws → Unawaited (map (λ w. wait_after times now (f w.channel) w) ws)
+  heeded_none f [] h = tt
+  heeded_none f (w ∷ ws) h = (wait_none (f w.channel) w h.0, heeded_none f ws h.1)
+
+  renewed_still : (k : ℕ) (w : Wait) → (w.awaits ≡ Nothing → w.until ≡ None) → (let x : Wait = renewed times now k w in x.awaits ≡ Nothing → x.until ≡ None)
+  renewed_still k w h = by (not (w.channel == k))
+    where
+      by : (b : Bool) → (let x : Wait = if b then w else record { channel = w.channel; awaits = w.awaits; until = deadline now (time_of times w.awaits) } in x.awaits ≡ Nothing → x.until ≡ None)
+      by true = h
+      by false = begins_none w.awaits
+
+  all_still : (k : ℕ) (ws : List Wait) → Unawaited ws → Unawaited (map (renewed times now k) ws)
+  all_still k [] h = tt
+  all_still k (w ∷ ws) h = (renewed_still k w h.0, all_still k ws h.1)
+
+-- ---- what holds of the deadlines of a clock, whatever is seen
+
+length_map : {A B : Type 0} (f : A → B) (xs : List A) → length (map f xs) ≡ length xs
+length_map f [] = refl
+length_map f (x ∷ xs) = ap suc (length_map f xs)
+
+record IsClock (d : Deadlines) : Type 0 where
+  none : Unawaited d.waits
+  few : length d.waits ≡ 16
+
+module _ (times : Times) (now : ℕ) where
+  clock_heeds : (x : Seen) (d : Deadlines) → IsClock d → IsClock (heeded times now x d)
+  clock_heeds x d h = record { none = heeded_none times now x.awaited d.waits h.none; few = length_map (λ (w : Wait). wait_after times now (x.awaited w.channel) w) d.waits ∙ h.few }
+
+  clock_tells : (d : Deadlines) → IsClock d → IsClock (after_due times now d)
+  clock_tells d h = by (is_past now d.t1) (is_past now d.restart)
+    where
+      on : (o : Option Wait) (idle : Bool) → IsClock (renewed_on times now o idle d)
+      on None true = record { none = h.none; few = h.few }
+      on None false = h
+      on (Some x) idle = record { none = all_still times now x.channel d.waits h.none; few = length_map (renewed times now x.channel) d.waits ∙ h.few }
+
+      by : (t1 restart : Bool) → IsClock (if t1 then record d { t1 = deadline now times.t1 } else if restart then record d { restart = deadline now times.t20 } else renewed_on times now (overdue_of now d.waits) (is_past now d.idle) d)
+      by true restart = record { none = h.none; few = h.few }
+      by false true = record { none = h.none; few = h.few }
+      by false false = on (overdue_of now d.waits) (is_past now d.idle)
+
+  -- where nothing is due nothing is told as due
+  overdue_none : (ws : List Wait) (x : Wait) → Unawaited ws → overdue_of now ws ≡ Some x → due_on x ≡ None → ⊥
+  overdue_none [] x h found none = none-some x found
+  overdue_none (w ∷ ws) x h found none = by (is_past now w.until) refl found (λ same. overdue_none ws x h.1 same none)
+    where
+      at : (a : Awaits) → w.awaits ≡ a → asked_for w.channel a ≡ None → is_past now w.until ≡ true → ⊥
+      at Nothing is none_asked late = true≢false (sym late ∙ ap (is_past now) (h.0 is))
+      at Acceptance is none_asked late = none-some (due.Clear w.channel) (sym none_asked)
+      at ResetConfirmation is none_asked late = none-some (due.Clear w.channel) (sym none_asked)
+      at ClearConfirmation is none_asked late = none-some (due.Restart w.channel) (sym none_asked)
+
+      by : (b : Bool) → is_past now w.until ≡ b → (if b then Some w else overdue_of now ws) ≡ Some x → (overdue_of now ws ≡ Some x → ⊥) → ⊥
+      by true late same rest = at w.awaits refl (ap due_on (same_Some w x same) ∙ none) late
+      by false late same rest = rest same
+
+  told_none : (d : Deadlines) → IsClock d → due_of now d ≡ None → due_of now (after_due times now d) ≡ None
+  told_none d h none = by_t1 (is_past now d.t1) refl none
+    where
+      on_idle : (b : Bool) → (if b then Some due.Probe else None) ≡ None → due_of now (renewed_on times now None b d) ≡ None
+      on_idle true same = absurd (none-some due.Probe (sym same))
+      on_idle false same = none
+
+      on_channel : (o : Option Wait) → overdue_of now d.waits ≡ o → unless_on o (if is_past now d.idle then Some due.Probe else None) ≡ None → due_of now (renewed_on times now o (is_past now d.idle) d) ≡ None
+      on_channel None found same = on_idle (is_past now d.idle) same
+      on_channel (Some x) found same = absurd (overdue_none d.waits x h.none found same)
+
+      by_restart : (b : Bool) → (if b then Some due.Relink else unless_on (overdue_of now d.waits) (if is_past now d.idle then Some due.Probe else None)) ≡ None
+          → due_of now (if b then record d { restart = deadline now times.t20 } else renewed_on times now (overdue_of now d.waits) (is_past now d.idle) d) ≡ None
+      by_restart true same = absurd (none-some due.Relink (sym same))
+      by_restart false same = on_channel (overdue_of now d.waits) refl same
+
+      by_t1 : (b : Bool) → is_past now d.t1 ≡ b → (if b then Some due.T1 else if is_past now d.restart then Some due.Relink else unless_on (overdue_of now d.waits) (if is_past now d.idle then Some due.Probe else None)) ≡ None
+          → due_of now (if b then record d { t1 = deadline now times.t1 } else if is_past now d.restart then record d { restart = deadline now times.t20 } else renewed_on times now (overdue_of now d.waits) (is_past now d.idle) d) ≡ None
+      by_t1 true late same = absurd (none-some due.T1 (sym same))
+      by_t1 false late same = by_restart (is_past now d.restart) same
+
+  most : (ws : List Wait) → all_past now ws ≤ length ws
+  most [] = omega arith
+  most (w ∷ ws) = let first = one_most (is_past now w.until) in let rest = most ws in omega (arith, first, rest)
+
+  few_past : (d : Deadlines) → IsClock d → count now d ≤ 19
+  few_past d h =
+      let t1 = one_most (is_past now d.t1) in
+      let idle = one_most (is_past now d.idle) in
+      let restart = one_most (is_past now d.restart) in
+      let waits = most d.waits in
+      let few = h.few in
+      omega (arith, t1, idle, restart, waits, few)
+
+-- ---- the turns of a line that says the time
+
+module _ (c : Settings) (times : Times) where
+  act_clock : (w : Timed) (a : Act) → IsClock w.deadlines → IsClock (act_turn c times w a).next.deadlines
+  act_clock w a h = clock_heeds times w.now (seen_at c a) w.deadlines h
+
+  insist_clock : (what : Due) (w : Timed) → IsClock w.deadlines → IsClock (insist_turn c times what w).next.deadlines
+  insist_clock what w h = act_clock w (event_act c w.station (event_for (command_for what))) h
+
+  all_asked : (n : ℕ) (w : Timed) → IsClock w.deadlines → count w.now w.deadlines ≤ n
+      → (let v : Timed = (due_turns c times n w).next in (due_of w.now v.deadlines ≡ None) × IsClock v.deadlines)
+  unfolding due_turns
+  all_asked zero w h low = (none_due w.now w.deadlines (omega (arith, low)), h)
+  all_asked (suc n) w h low = by (due_of w.now w.deadlines) refl (all_asked n)
+    where
+      v : Timed
+      v = told_due times w
+
+      by : (o : Option Due) → due_of w.now w.deadlines ≡ o → ((x : Timed) → IsClock x.deadlines → count x.now x.deadlines ≤ n → (let y : Timed = (due_turns c times n x).next in (due_of x.now y.deadlines ≡ None) × IsClock y.deadlines))
+          → (let u : Timed = (due_first c times (due_turns c times n) w o).next in (due_of w.now u.deadlines ≡ None) × IsClock u.deadlines)
+      by None is rest = (told_none times w.now w.deadlines h is, clock_tells times w.now w.deadlines h)
+      by (Some what) is rest =
+          let u : Timed = (insist_turn c times what v).next in
+          let less = due_less times w.now w.deadlines what is in
+          let lower = heeded_lower times w.now (seen_at c (event_act c v.station (event_for (command_for what)))) v.deadlines in
+          rest u (insist_clock what v (clock_tells times w.now w.deadlines h)) (omega (arith, low, less, lower))
+
+  answer_clock : (line : List ℕ) (w : Timed) (o : Option ℕ) → IsClock w.deadlines → IsClock (answer_turn c times line w o).next.deadlines
+  answer_clock line w None h = act_clock w (asked_act c w.station (event_in c.role line)) h
+  answer_clock line w (Some now) h = by (nat_lt now w.now)
+    where
+      at_now : Timed
+      at_now = record w { now = now }
+
+      by : (b : Bool) → IsClock (let t : TimedTurn = if b then act_turn c times w (nothing_act w.station) else due_turns c times most_due at_now in t.next.deadlines)
+      by true = act_clock w (nothing_act w.station) h
+      by false = (all_asked most_due at_now h (few_past times now w.deadlines h)).1
+
+  line_clock : (line : List ℕ) (w : Timed) → IsClock w.deadlines → IsClock (timed_turn c times line w).next.deadlines
+  unfolding timed_turn
+  line_clock line w h = answer_clock line w (time_said line) h
+
+  lines_clock : (lines : List (List ℕ)) (w : Timed) → IsClock w.deadlines → IsClock (timed_turns c times lines w).next.deadlines
+  unfolding timed_turns
+  lines_clock [] w h = h
+  lines_clock (line ∷ lines) w h = lines_clock lines (timed_turn c times line w).next (line_clock line w h)
+
+first_clock : IsClock nothing_awaited
+first_clock = record { none = all 16 1; few = refl }
+  where
+    all : (n first : ℕ) → Unawaited (channels_from first n)
+    all zero first = tt
+    all (suc n) first = ((λ is. refl), all n (first + 1))
+
+pub nothing_is_due : NothingIsDue
+unfolding timed_turn
+nothing_is_due c times lines line now said later = by (time_said line) said
+  where
+    w : Timed
+    w = (timed_turns c times lines new_timed).next
+
+    at_now : Timed
+    at_now = record w { now = now }
+
+    sound : IsClock w.deadlines
+    sound = lines_clock c times lines new_timed first_clock
+
+    at_time : (b : Bool) → nat_lt now w.now ≡ b → due_of now (let t : TimedTurn = if b then act_turn c times w (nothing_act w.station) else due_turns c times most_due at_now in t.next.deadlines) ≡ None
+    at_time true is = absurd (omega (arith, ltb-true now w.now is, later))
+    at_time false is = (all_asked c times most_due at_now sound (few_past times now w.deadlines sound)).0
+
+    by : (o : Option ℕ) → o ≡ Some now → due_of now (answer_turn c times line w o).next.deadlines ≡ None
+    by None is = absurd (none-some now is)
+    by (Some n) is = subst (λ (m : ℕ). due_of now (answer_turn c times line w (Some m)).next.deadlines ≡ None) (sym (same_Some n now is)) (at_time (nat_lt now w.now) refl)
