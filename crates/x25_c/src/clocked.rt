@@ -4,7 +4,7 @@ ghost use Rattle.x25_station.specs.Config.{Settings};
 ghost use Rattle.x25_station.specs.Station.{Station as State};
 ghost use Rattle.x25_station.specs.code.FitsStation.{FitsStation};
 ghost use Rattle.x25_clock.specs.Clock.{seen};
-ghost use Rattle.x25_c.specs.Clock.{Heeds, Tells, TellsNext, due_in, next_in};
+ghost use Rattle.x25_c.specs.Clocked.{Heeds, Tells, TellsNext, due_in, next_in};
 
 use x25_clock::{Clock, Due};
 use x25_station::{Station, Step};

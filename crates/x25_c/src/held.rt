@@ -214,8 +214,8 @@ impl Held {
         (counts.len(), 0)
     }
 
-    /// Gives the station a clock, by which the time of what is awaited begins. Err: no memory, and it has the clock that
-    /// it had.
+    /// Gives the station a clock, by which the time of what is awaited begins. Err: no memory, and it has the clock
+    /// that it had.
     pub(crate) fn set(&mut self, alloc: Global, times: Times) -> Result<(), AllocError>
         ensures set { OnOk result (Sets self.old self.new times) }
         ensures refused { OnErr result (self.new ≡ self.old) }

@@ -15,7 +15,7 @@ use Rattle.x25_station.specs.code.FitsStation.{FitsStation, FitsStill, IsEmpty}
 use Rattle.x25_link.specs.Link.{timer_runs}
 use Rattle.x25_c.specs.declared.clocked.Passed.{Passed}
 use Rattle.x25_c.specs.declared.held.Held.{Held}
-use Rattle.x25_c.specs.Clock.{Tells, due_in, event_for}
+use Rattle.x25_c.specs.Clocked.{Tells, due_in, event_for}
 use Rattle.x25_c.specs.Held.{IsAlone}
 use Rattle.x25_c.specs.code.Happens.{Happens}
 
