@@ -3,9 +3,9 @@
 
     golden.py [--program PROGRAM] [NAME ..]
 
-A case is a file SUBJECT/NAME.case: a command, its input, what standard output has to be, and the exit status. CONTRIBUTING.md says how one is
-written, and where its answer comes from. A NAME is SUBJECT/NAME, or SUBJECT for all of its cases; with none, all cases. Exit status: 0 all
-agree, 1 one differs, 2 there is no program or no such case.
+A case is a command, its input, what standard output has to be, and the exit status: in a file SUBJECT/NAME.case, or under its name among others
+of a file SUBJECT/FILE.cases. CONTRIBUTING.md says how one is written, and where its answer comes from. A NAME is SUBJECT/NAME, or SUBJECT for all
+of its cases; with none, all cases. Exit status: 0 all agree, 1 one differs, 2 there is no program or no such case.
 """
 
 import argparse
@@ -21,18 +21,19 @@ from program import find_program
 
 FOLDER = os.path.join(os.path.dirname(os.path.abspath(__file__)), "golden")
 SECONDS = 60
-FORM = re.compile(r"\$ x25(.*)\n== input(.*)\n((?:(?!== ).*\n)*)== answer(.*)\n((?:(?!== ).*\n)*)== status (\d)\n")
+FORM = re.compile(r"\$ x25(.*)\n== input(.*)\n((?:(?!== ).*\n)*)== answer(.*)\n((?:(?!== ).*\n)*)== status (\d)\n\n?")
+# The name above a case that stands among others.
+NAMED = re.compile(r"^(\w+)\n(?=\$ x25)", re.MULTILINE)
 
 
 class Case:
     """One stored case: its words, its input, and what the program has to answer."""
 
-    def __init__(self, name):
+    def __init__(self, name, text):
         self.name = name
-        with open(os.path.join(FOLDER, f"{name}.case"), encoding="ascii", newline="") as file:
-            form = FORM.fullmatch(file.read())
+        form = FORM.fullmatch(text)
         if form is None:
-            raise ValueError(f"{name}.case has not the form of a case")
+            raise ValueError(f"{name} has not the form of a case")
         self.words = shlex.split(form[1])
         self.input = octets(form[2], form[3])
         self.output = octets(form[4], form[5])
@@ -74,9 +75,34 @@ def octets(how, text):
     raise ValueError(f"'{how}' doesn't say how a section is written")
 
 
+def texts():
+    """The text of each stored case by its name, in the order of the names."""
+    found = []
+    for path in glob(os.path.join(FOLDER, "*", "*.case*")):
+        file = os.path.relpath(path, FOLDER)
+        with open(path, encoding="ascii", newline="") as opened:
+            text = opened.read()
+        if file.endswith(".case"):
+            found.append((file.removesuffix(".case"), text))
+            continue
+        front, *parts = NAMED.split(text)
+        if front:
+            raise ValueError(f"{file} begins with no name of a case")
+        found += [(f"{os.path.dirname(file)}/{name}", it) for name, it in zip(parts[::2], parts[1::2])]
+    if len(dict(found)) != len(found):
+        raise ValueError("two cases have one name")
+    return dict(sorted(found))
+
+
 def names():
     """The names of the stored cases, in order."""
-    return sorted(os.path.relpath(file, FOLDER).removesuffix(".case") for file in glob(os.path.join(FOLDER, "*", "*.case")))
+    return list(texts())
+
+
+def cases(names):
+    """The stored cases of these names, in their order."""
+    stored = texts()
+    return [Case(name, stored[name]) for name in names]
 
 
 def chosen(words):
@@ -85,15 +111,15 @@ def chosen(words):
     return [name for some in found for name in some], [word for word, some in zip(words, found) if not some]
 
 
-def run(program, cases):
-    """Runs the cases, says of each that differs what differs; answers how many agree and how many differ."""
+def run(program, names):
+    """Runs the cases of these names, says of each that differs what differs; answers how many agree and how many differ."""
     differing = 0
-    for name in cases:
-        difference = Case(name).difference(program)
+    for case in cases(names):
+        difference = case.difference(program)
         if difference is not None:
             differing += 1
-            print(f"golden case {name} differs: {difference}")
-    return len(cases) - differing, differing
+            print(f"golden case {case.name} differs: {difference}")
+    return len(names) - differing, differing
 
 
 def main():
@@ -101,12 +127,12 @@ def main():
     parser.add_argument("--program", default=find_program(), help="the program to run; else the one that was built last")
     parser.add_argument("name", nargs="*", help="a case or a subject to run; else all")
     options = parser.parse_args()
-    cases, unknown = chosen(options.name) if options.name else (names(), [])
+    wanted, unknown = chosen(options.name) if options.name else (names(), [])
     if options.program is None or not os.path.isfile(options.program):
         parser.error("the program x25 isn't built: `make x25` builds it")
     if unknown:
         parser.error(f"no such case: {' '.join(unknown)}")
-    agreeing, differing = run(options.program, cases)
+    agreeing, differing = run(options.program, wanted)
     print(f"golden cases: {agreeing} agree, {differing} differ")
     return 1 if differing else 0
 

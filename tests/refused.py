@@ -94,7 +94,7 @@ def run(program, names, every):
     total = 0
     with tempfile.TemporaryDirectory() as folder, ThreadPoolExecutor(os.cpu_count()) as pool:
         refusing = Refusing(program, folder)
-        for case in map(golden.Case, names):
+        for case in golden.cases(names):
             count = refusing.allocations(case.words, case.input)
             numbers = chosen(count, every)
             answers = list(pool.map(lambda number: case_answer(refusing, case, number), numbers))

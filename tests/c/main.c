@@ -289,6 +289,8 @@ static void try_clock(void)
     x25_event event;
     uint64_t at = 7;
     uint16_t channel = 0;
+    dte.first = dte.next;
+    dce.first = dce.next;
     expect("times of no end", x25_standard_times(2, &times) == X25_BAD_SETTING && times.t1 == 7, true);
     expect("times of a DCE", x25_standard_times(X25_DCE, &times) == 0 && times.t1 == 3000 && times.t20 == 60000, true);
     expect("times of a DTE", x25_standard_times(X25_DTE, &times) == 0 && times.t21 == 200000 && times.t23 == 180000, true);
@@ -327,7 +329,6 @@ static void try_clock(void)
 
 int main(void)
 {
-    try_clock();
     try_texts();
     try_refusals();
     expect("new", x25_new(&dce.station, X25_DCE, one_channel), 0);
@@ -367,5 +368,6 @@ int main(void)
     try_forms(false);
     try_beside();
     try_all();
+    try_clock();
     return 0;
 }

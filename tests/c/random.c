@@ -150,10 +150,11 @@ static uint32_t pass(x25_station *station)
     uint64_t at = UINT64_MAX;
     if (x25_next(station, &at) ? at == UINT64_MAX : at != UINT64_MAX)
         fail("when something is due", 0);
-    bool is_back = draw(64) == 0 && now > 0;
+    if (draw(64) == 0) {
+        uint32_t number = x25_time(station, 0);
+        return number == X25_BAD_PARAMETER ? X25_NO_COMMAND : number; /* the last answer stands after both */
+    }
     now = at > now && at - now < 100000 && draw(4) ? at : now + draw(1000);
-    if (is_back)
-        return x25_time(station, 0) == X25_BAD_PARAMETER ? 1 : 0;
     return x25_time(station, now);
 }
 

@@ -9,6 +9,11 @@ import x25
 FRAME, TIMER = 1, 2
 
 
+def number(size):
+    """The number in a size that was converted for C, `<cparam 'L' (64)>`."""
+    return int(repr(size).rpartition("(")[2].rstrip(")>"))
+
+
 class Library:
     """Each call that lets something happen takes the next row of `plays`: its number, the frames, the kinds of events and the timer that
     it leaves. Without rows it gives back the octets that come. Of frames that come at once, each takes a row."""
@@ -36,20 +41,19 @@ class Library:
         return self._happen(octets)
 
     def x25_receive_all(self, slot, octets, count, counts, most, taken):
-        whole, number, done = [], 0, 0
-        for done in range(most):
-            number = self._happen()
-            if number:
+        whole, refusal, done = [], 0, 0
+        for done in range(number(most)):
+            refusal = self._happen()
+            if refusal:
                 break
             whole += self.items[:-1]
         self.items = [*whole, (TIMER, b"", self.items[-1][2])]
         taken._obj.value = done
-        return number
+        return refusal
 
     def x25_take_all(self, slot, first, items, most, room, size):
         time.sleep(0)
-        first, most = (getattr(number, "value", number) for number in (first, most))
-        taken = self.items[first : first + most]
+        taken = self.items[number(first) : number(first) + number(most)]
         for i, (kind, octets, timer) in enumerate(taken):
             x25._ITEM.pack_into(items._obj, i * x25._ITEM.size, kind, *[0] * 9, timer, 0, 0, 0, len(octets))
         octets = b"".join(octets for _, octets, _ in taken)

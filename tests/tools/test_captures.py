@@ -17,9 +17,9 @@ from x25tools import ahead, captures, pcap2x25, x25lines, xot
 SABM, UA = bytes.fromhex("013f"), bytes.fromhex("0173")
 SET_UP = b"> 013febdf\n< 01738357\n"
 CALL, ACCEPT = bytes.fromhex("10010b43123456700041"), bytes.fromhex("10010f")
-CASES = ["frames_of_each_kind", "packets_of_each_kind", "octets_that_spell_no_frame", "octets_that_spell_no_packet"]
+CASES = [f"decode/{name}" for name in ("frames_of_each_kind", "packets_of_each_kind", "octets_that_spell_no_frame", "octets_that_spell_no_packet")]
 TRACES = {name: support.read("examples", f"{name}.trace") for name in ("exchange", "setup")}
-TRACES |= {name: golden.Case(f"decode/{name}").input for name in CASES}
+TRACES |= {case.name: case.input for case in golden.cases(CASES)}
 
 
 def words(**given):

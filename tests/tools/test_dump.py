@@ -293,7 +293,7 @@ class Dump(ToolCase):
     @support.needs_program
     def test_a_broken_rule_stands_behind_its_frame(self):
         for name, words, status in (("repeats_with_other_octets", [], 1), ("repeats", [], 0), ("over_window", ["--k", "2"], 0)):
-            case = golden.Case(f"judge/{name}")
+            case, = golden.cases([f"judge/{name}"])
             given, expected = case.input, case.output
             for more, answered in ([], status), (["--manners"], 1):
                 self.assertEqual(self.dump(given, "--judge", *words, *more, "--x25", support.PROGRAM, status=answered), expected.decode())

@@ -1,6 +1,7 @@
 """Tests of the runner of the golden cases, and of the cases' files."""
 
 import os
+import re
 import unittest
 from unittest import mock
 
@@ -11,15 +12,15 @@ import golden
 
 
 class Files(unittest.TestCase):
-    def test_each_file_is_a_case_of_its_subject(self):
+    def test_each_case_is_of_its_subject(self):
         """A subject is the word that the program is called by, or its usage."""
         files = [os.path.relpath(os.path.join(folder, name), support.GOLDEN) for folder, _, names in os.walk(support.GOLDEN) for name in names if name != ".gitattributes"]
-        self.assertEqual(sorted(files), sorted(f"{name}.case" for name in golden.names()))
-        subjects = {name: (name.partition("/")[0], golden.Case(name).words) for name in golden.names()}
+        self.assertEqual([file for file in files if not re.fullmatch(r"\w+/\w+\.cases?", file)], [])
+        subjects = {case.name: (case.name.partition("/")[0], case.words) for case in golden.cases(golden.names())}
         self.assertEqual([name for name, (subject, words) in subjects.items() if subject != "usage" and words[0] != subject], [])
 
     def test_usage_writes_nothing(self):
-        cases = [golden.Case(name) for name in golden.names() if name.startswith("usage/")]
+        cases = golden.cases(golden.chosen(["usage"])[0])
         self.assertTrue(cases)
         self.assertEqual({(case.output, case.status) for case in cases}, {(b"", 2)})
 
@@ -30,8 +31,9 @@ class Form(ToolCase):
         os.makedirs(os.path.join(self.folder, "decode"), exist_ok=True)
         self.file("decode/one.case", text)
         with mock.patch.object(golden, "FOLDER", self.folder):
-            self.assertEqual(golden.names(), ["decode/one"])
-            return golden.Case("decode/one")
+            case, = golden.cases(golden.names())
+            self.assertEqual(case.name, "decode/one")
+            return case
 
     def sections(self, text):
         case = self.case(b"$ x25 decode\n%s== status 1\n" % text)
@@ -61,6 +63,24 @@ class Form(ToolCase):
         with self.assertRaisesRegex(ValueError, "doesn't say how"):
             self.sections(b"== input in base64\nAA==\n== answer\n")
 
+    def test_cases_of_one_file(self):
+        one, two = (f"$ x25 decode\n== input\n{text}\n== answer\n== status 1\n".encode() for text in ("a\n\nb", "two"))
+        os.makedirs(os.path.join(self.folder, "decode"))
+        for text, found in (
+            (b"first\n" + one + b"\nsecond\n" + two, [("decode/first", b"a\n\nb\n"), ("decode/second", b"two\n")]),
+            (b"first\n" + one, [("decode/first", b"a\n\nb\n")]),
+            (b"first\n" + one + b"\nfirst\n" + two, "two cases have one name"),
+            (one + b"\nsecond\n" + two, "begins with no name"),
+            (b"first\n" + one + b"\n" + two, "has not the form"),
+        ):
+            self.file("decode/some.cases", text)
+            with self.subTest(text), mock.patch.object(golden, "FOLDER", self.folder):
+                if isinstance(found, list):
+                    self.assertEqual([(case.name, case.input) for case in golden.cases(golden.names())], found)
+                else:
+                    with self.assertRaisesRegex(ValueError, found):
+                        golden.cases(golden.names())
+
     def test_chosen(self):
         self.assertEqual(golden.chosen(["decode/set_up", "frames"]), (["decode/set_up"], ["frames"]))
         self.assertEqual(golden.chosen(["vectors"]), (["vectors/all", "vectors/read_nothing"], []))
@@ -78,7 +98,7 @@ class Runner(ToolCase):
         self.assertEqual(golden.run(program, ["decode/set_up"]), (1, 0))
 
     def test_differences(self):
-        case = golden.Case("decode/set_up")
+        case, = golden.cases(["decode/set_up"])
         for text, difference in (
             (b'printf "> SABM cmd P=1\\n< UA rsp F=1\\n"; exit 1', "status 1, wanted 0"),
             (b'printf "> SABM cmd P=1\\n< UA rsp F=0\\n"', "line 2: wanted b'< UA rsp F=1', got b'< UA rsp F=0'"),
@@ -91,9 +111,9 @@ class Runner(ToolCase):
 
     def test_the_program_gets_words_and_input(self):
         program = self.program(b'[ "$*" = decode ] && [ "$(cat)" = "> 013febdf\n< 01738357" ] || exit 5')
-        self.assertNotIn("status 5", golden.Case("decode/set_up").difference(program))
-        self.assertEqual(golden.Case("usage/empty_word").words, [""])
-        self.assertEqual(golden.Case("usage/no_words").words, [])
+        cases = golden.cases(["decode/set_up", "usage/empty_word", "usage/no_words"])
+        self.assertNotIn("status 5", cases[0].difference(program))
+        self.assertEqual([case.words for case in cases[1:]], [[""], []])
 
 
 if __name__ == "__main__":

@@ -66,7 +66,7 @@ class Cases(unittest.TestCase):
         page = support.read("docs", "JUDGE.md").decode()
         told = [re.findall(r"^- `([^`]+)`", part, re.MULTILINE) for part in re.findall(r"(?:^- `.*\n(?:  .*\n)*)+", page, re.MULTILINE)]
         self.rules, self.manners, self.notes = ([re.sub(r" \d+$", "", text) for text in texts] for texts in told)
-        self.cases = {name: golden.Case(name) for name in golden.names() if name.startswith("judge/")}
+        self.cases = {case.name: case for case in golden.cases(golden.chosen(["judge"])[0])}
 
     def broken(self, mark, rules):
         """What each case has behind a mark. Each of these rules stands alone there in one, and no other does."""

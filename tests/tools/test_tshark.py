@@ -191,7 +191,7 @@ class Tshark(ToolCase):
         self.assertGreaterEqual(compared, least)
 
     def golden(self, name, least):
-        case = golden.Case(f"decode/{name}")
+        case, = golden.cases([f"decode/{name}"])
         self.check(case.input, case.output.decode().splitlines(), least)
 
     def test_frames_of_each_kind(self):

@@ -131,7 +131,8 @@ class Decoder:
     def _answers(child: Child, asked: bytes, count: int) -> list[str]:
         """Writes what is asked and reads so many lines, each as there is room for it or as it is there: so neither pipe can fill."""
         writer, reader = (pipe.fileno() for pipe in pipes(child))
-        left, texts, rest = memoryview(asked), [], ""
+        texts: list[str] = []
+        left, rest = memoryview(asked), ""
         while len(texts) < count:
             readable, writable, _ = select.select([reader], [writer] if left else [], [])
             try:

@@ -188,8 +188,8 @@ class Messages:
             return
         head, _, rest = packet.partition(" data=")
         digits = rest.partition(" ")[0].removeprefix("-")
-        if found := data_of(head):
-            channel, goes_on, q = found
+        if data := data_of(head):
+            channel, goes_on, q = data
             if goes_on or (direction, channel) in self._begun:
                 held = self._begun.setdefault((direction, channel), bytearray())
                 held += digits.encode()

@@ -67,7 +67,7 @@ class Station:
     def ask(self, event: str, now: Optional[int] = None) -> Answer:
         """The answer to an event, a line without its line feed, at a time in milliseconds at which nothing is due."""
         octets = event.encode("latin-1")
-        said = [] if now in (None, self._said) else [b"@ %d" % now]
+        said = [] if now is None or now == self._said else [b"@ %d" % now]
         self._said = now
         try:
             self._given.writelines(line + b"\n" for line in [*said, octets])

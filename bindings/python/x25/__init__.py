@@ -201,12 +201,11 @@ class _Times(ctypes.Structure):
     _fields_ = [(name, ctypes.c_uint32) for name in Times._fields]
 
 
-# Pointers go by `byref`, made once, which takes a fifth of the time of a structure.
 _STATION, _ROOM, _SIZE = ctypes.c_void_p, ctypes.c_void_p, ctypes.c_size_t
 _OCTETS = [ctypes.c_char_p, _SIZE]
 _AT = [_STATION, _SIZE, _ROOM, _SIZE]
-# The functions of x25.h: parameters and result.
-_FUNCTIONS: dict[str, tuple[list[Any], Any]] = {
+# The functions of x25.h: parameters and result. Those of None are called for each frame, and are handed what was converted before.
+_FUNCTIONS: dict[str, tuple[Any, Any]] = {
     "version": ([], ctypes.c_uint32),
     "new": ([_STATION, ctypes.c_uint8, _Settings], ctypes.c_uint32),
     "free": ([_STATION], None),
@@ -225,7 +224,7 @@ _FUNCTIONS: dict[str, tuple[list[Any], Any]] = {
     "pull": ([_STATION], ctypes.c_uint32),
     "t1": ([_STATION], ctypes.c_uint32),
     "receive": ([_STATION, *_OCTETS], ctypes.c_uint32),
-    "receive_all": ([_STATION, *_OCTETS, ctypes.c_char_p, _SIZE, ctypes.c_void_p], ctypes.c_uint32),
+    "receive_all": (None, ctypes.c_uint32),
     "send": ([_STATION, ctypes.c_uint16, ctypes.c_bool, *_OCTETS], ctypes.c_uint32),
     "command": ([_STATION, *_OCTETS], ctypes.c_uint32),
     "standard_times": ([ctypes.c_uint8, ctypes.POINTER(_Times)], ctypes.c_uint32),
@@ -233,7 +232,7 @@ _FUNCTIONS: dict[str, tuple[list[Any], Any]] = {
     "time": ([_STATION, ctypes.c_uint64], ctypes.c_uint32),
     "next": ([_STATION, ctypes.POINTER(ctypes.c_uint64)], ctypes.c_bool),
     "take": ([_STATION, _SIZE, ctypes.c_void_p, _ROOM, _SIZE], ctypes.c_bool),
-    "take_all": ([_STATION, _SIZE, ctypes.c_void_p, _SIZE, _ROOM, _SIZE], _SIZE),
+    "take_all": (None, _SIZE),
     "called": (_AT, _SIZE),
     "calling": (_AT, _SIZE),
     "facilities": (_AT, _SIZE),
@@ -254,7 +253,11 @@ _FRAME, _TIMER = 1, 2
 _ROOM_SIZE, _ITEMS, _PART = 1 << 18, 64, 128
 # An x25_event: kind, channel, q, cause, diagnostic, reason, sizes, timer, stretch, count; and its kind, timer and count alone.
 _ITEM, _HEAD = struct.Struct("@HH?BBB4BI3QN"), struct.Struct("@H10xI24xN")
-_TIMERS = tuple(Timer)
+_ITEM_SIZE = _ITEM.size
+_size = functools.lru_cache(maxsize=1024)(_SIZE.from_param)
+_MOST, _SPACE = _size(_ITEMS), _size(_ROOM_SIZE)
+_TIMERS, _new = tuple(Timer), tuple.__new__
+_LINK_DOWN, _BESIDE, _TIMEOUT = Kind.LINK_DOWN, Kind.BESIDE, Kind.TIMEOUT
 _WITH_ADDRESSES = {Kind.INCOMING, Kind.CALL_ASKED}
 _WITH_SIZES = {*_WITH_ADDRESSES, Kind.CONNECTED, Kind.ACCEPT_ASKED}
 _WITH_STRETCH = {*_WITH_ADDRESSES, Kind.MESSAGE, Kind.SEND_ASKED, Kind.INTERRUPT, Kind.INTERRUPT_ASKED}
@@ -305,11 +308,11 @@ class Station:
         # It is held from a call to the end of its answer.
         self._lock = threading.RLock()
         self._library, self._held, self._taken = load(library), _Slot(), ctypes.c_size_t()
-        self._items, self._buffer = (ctypes.create_string_buffer(size) for size in (_ITEMS * _ITEM.size, _ROOM_SIZE))
+        self._items: Any = ctypes.create_string_buffer(_ITEMS * _ITEM_SIZE)
+        self._buffer: Any = ctypes.create_string_buffer(_ROOM_SIZE)
         self._slot, self._taken_at, self._items_at, self._room = map(ctypes.byref, (self._held, self._taken, self._items, self._buffer))
-        self._items_view, self._view = memoryview(self._items), memoryview(self._buffer)
-        words = self._slot, _SIZE(0), self._items_at, _SIZE(_ITEMS), self._room, _SIZE(_ROOM_SIZE)
-        self._take_first = functools.partial(self._library.x25_take_all, *words)
+        self._receive_all, self._take_all = self._library.x25_receive_all, self._library.x25_take_all
+        self._take_first = functools.partial(self._take_all, self._slot, _size(0), self._items_at, _MOST, self._room, _SPACE)
         self._end = end
         self._check(0 if all(0 <= setting < 256 for setting in (end, k, n2, channels)) else 14)
         self._check(self._library.x25_new(self._slot, end, _Settings(k, n2, channels, long_data, say_sizes, wide)))
@@ -398,7 +401,7 @@ class Station:
         frames = list(frames)
         octets, counts = b"".join(frames), _packer(len(frames))(*map(len, frames))
         with self._lock:
-            number = self._library.x25_receive_all(self._slot, octets, len(octets), counts, len(frames), self._taken_at)
+            number = self._receive_all(self._slot, octets, _size(len(octets)), counts, _size(len(frames)), self._taken_at)
             if number:
                 raise Refused(number, self._text(number), self._taken.value, self._answer())
             return self._answer()
@@ -489,7 +492,7 @@ class Station:
         return name.restarts, name.clears, name.resets
 
     def _octets(self, count: int) -> bytes:
-        return self._view[:count].tobytes()
+        return bytes(self._buffer[:count])
 
     def _text(self, number: int) -> str:
         return self._octets(self._library.x25_refusal_text(number, self._room, _ROOM_SIZE)).decode()
@@ -516,19 +519,20 @@ class Station:
         """Takes the last answer, of which the timer is the last item."""
         frames: list[bytes] = []
         events: list[Event] = []
-        first, count, items, room = 0, self._take_first(), self._items_view, self._view
+        first, count, room = 0, self._take_first(), self._buffer
         while count:
-            at = 0
-            for i, (kind, timer, length) in enumerate(_HEAD.iter_unpack(items[: count * _ITEM.size])):
+            items, at = self._items[: count * _ITEM_SIZE], 0
+            for kind, timer, length in _HEAD.iter_unpack(items):
                 if kind == _FRAME:
-                    frames.append(room[at : at + length].tobytes())
+                    frames.append(room[at : at + length])
                 elif kind == _TIMER:
-                    return Answer(frames, events, _TIMERS[timer])
+                    return _new(Answer, (frames, events, _TIMERS[timer]))
                 else:
-                    events.append(self._event(first + i, _ITEM.unpack_from(items, i * _ITEM.size), room[at : at + length].tobytes()))
+                    i = len(frames) + len(events)
+                    events.append(self._event(i, _ITEM.unpack_from(items, (i - first) * _ITEM_SIZE), room[at : at + length]))
                 at += length
             first += count
-            count = self._library.x25_take_all(self._slot, first, self._items_at, _ITEMS, self._room, _ROOM_SIZE)
+            count = self._take_all(self._slot, _size(first), self._items_at, _MOST, self._room, _SPACE)
         return Answer(frames, events, Timer.GOES_ON)  # the station was closed
 
     def _event(self, i: int, item: tuple[Any, ...], user: bytes) -> Event:
@@ -542,13 +546,13 @@ class Station:
             q=item[2],
             cause=item[3],
             diagnostic=item[4],
-            reason=Down(item[5]) if kind is Kind.LINK_DOWN else None,
+            reason=Down(item[5]) if kind is _LINK_DOWN else None,
             sizes=Sizes(*item[6:10]) if has_sizes else None,
             called=self._part(self._library.x25_called, i).decode() if has_addresses else "",
             calling=self._part(self._library.x25_calling, i).decode() if has_addresses else "",
-            facilities=self._part(self._library.x25_facilities, i) if kind is Kind.BESIDE else b"",
+            facilities=self._part(self._library.x25_facilities, i) if kind is _BESIDE else b"",
             user=user,
-            timeout=item[5] if kind is Kind.TIMEOUT else 0,
+            timeout=item[5] if kind is _TIMEOUT else 0,
         )
         return event
 

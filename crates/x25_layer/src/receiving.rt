@@ -191,8 +191,8 @@ impl Layer {
     /// configured channel, and, but for RESTART and its confirmation, while this end's restart isn't confirmed.
     ///
     /// 70 alone, and not where `reserve` set memory aside on the channel that they name for the octets behind the first
-    /// three. The layer and the link are as before then. Of what `reserve` set aside a call takes as much here as in the link: for each packet that
-    /// it puts. Where it puts none, the promise stands.
+    /// three. The layer and the link are as before then. Of what `reserve` set aside a call takes as much here as in
+    /// the link: for each packet that it puts. Where it puts none, the promise stands.
     pub fn packet<'a, L: OrderedLink>(
         &mut self,
         link: &mut L,

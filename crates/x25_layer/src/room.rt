@@ -41,8 +41,8 @@ fn any_full(circuits: &[Circuit]) -> bool
     false
 }
 
-// Sets memory aside in the circuit of a channel, where it is configured, for so many octets of user data of a packet, but
-// for no more than the longest has.
+// Sets memory aside in the circuit of a channel, where it is configured, for so many octets of user data of a packet,
+// but for no more than the longest has.
 fn reserve_on(circuits: &mut Vec<Circuit>, channel: u16, len: usize) -> Result<(), LayerError>
     ensures fits { (c : LayerSettings) (f : ℕ → Channel) → FitsCircuits c circuits.old.items f
         → FitsCircuits c circuits.new.items f }
