@@ -22,7 +22,7 @@ static OF_A_USER: [Form; 14] = [
     },
     Form {
         word: "clear",
-        form: "END clear CH",
+        form: "END clear CH (and with --wide [cause=N] [diag=N])",
     },
     Form {
         word: "send",
@@ -34,7 +34,7 @@ static OF_A_USER: [Form; 14] = [
     },
     Form {
         word: "reset",
-        form: "END reset CH",
+        form: "END reset CH (and with --wide [cause=N] [diag=N])",
     },
     Form {
         word: "ready",
@@ -46,7 +46,7 @@ static OF_A_USER: [Form; 14] = [
     },
     Form {
         word: "restart",
-        form: "END restart",
+        form: "END restart (and with --wide [cause=N] [diag=N])",
     },
     Form {
         word: "pull",
