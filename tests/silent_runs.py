@@ -44,7 +44,7 @@ TIMES = {"t1": 1000, "t3": 7000, "t20": 20_000, "t21": 31_000, "t22": 24_000, "t
 WAIT = TIMES["t21"] + TIMES["t23"] + TIMES["t20"]
 # That, and a link that is set up, or isn't; what is lost is sent again by T1.
 BOUND = WAIT + 3 * (N2 + 1) * TIMES["t1"]
-LASTS, LOSSES = 600_000, (0.02, 0.1)
+LASTS, LOSSES = 300_000, (0.02, 0.1)
 # RR on a channel that the stations don't have.
 NOTHING = bytes([0x10, 0xFF, 0x01])
 # The event of an entry, and its channel.
