@@ -212,12 +212,11 @@ class Linked(unittest.TestCase):
         self.assert_same("dte", ["--k", "3", "--channels", "2", "--say-sizes", "--wide"], events)
 
     def test_its_clock_is_that_of_the_one_behind_a_pipe(self):
-        names = [name for name in golden.chosen(["station"])[0] if name.startswith("station/clock_") and not name.endswith("_that_are_none")]
-        self.assertGreater(len(names), 3)
-        for name in names:
-            case = golden.Case(name)
+        cases = [it for it in golden.cases(golden.names()) if it.name.startswith("station/clock_") and not it.name.endswith("_that_are_none")]
+        self.assertGreater(len(cases), 3)
+        for case in cases:
             _, end, *words = case.words
-            with self.subTest(name):
+            with self.subTest(case.name):
                 self.assert_same(end, [word for word in words if word != "--clock"], case.input.decode().splitlines())
 
     def test_an_event_at_a_time(self):

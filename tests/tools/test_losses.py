@@ -81,9 +81,9 @@ class Grammar(unittest.TestCase):
             "drain x": "'drain x' isn't of the form 'drain N'",
             "dce call 1 2": "'dce call 1 2' isn't of the form 'END call CALLED CALLING HEX [SIZE SIZE WINDOW WINDOW]'",
             "xyzzy": "no such event 'xyzzy'",
-            "# comment": "no such event '# comment'",
-            "": "empty",
-            "heal\r": "has other characters than text, as a tab or a carriage return",
+            "# comment": "no such event '# comment' (--loose takes comments)",
+            "": "empty (--loose takes empty lines)",
+            "heal\r": "has other characters than text (--loose takes a time and a tab before an event, and a carriage return at its end)",
             "x" * 99: f"no such event '{'x' * 60}'",
             "x" * 131_201: "longer than 131,200 characters",
         }
