@@ -3,17 +3,19 @@
 acknowledged, and how often the one takes the time of the other. Each is the least of nine runs.
 
     c.py [COUNT]
+    c.py --python COUNT LENGTH      sends messages from Python alone
 
 It compiles the program over `build/libx25.a`, and takes Python's binding over `build/libx25.so`; `make lib` leaves both there.
 `bench/station.py` has the same in Rattle. Allocations and instructions are counted by valgrind, where that is there.
 """
 import os
+import shutil
 import subprocess
 import sys
 import time
 
 from building import TOP
-from timing import processor_time, rates
+from timing import instructions, processor_time, rates
 
 sys.path.append(os.path.join(TOP, "bindings", "python"))
 import x25  # noqa: E402
@@ -50,6 +52,12 @@ def least(run, *words):
     return min(run(*words) for _ in range(RUNS))
 
 
+def each_takes(*words):
+    """The instructions that a message of 1,000 octets takes of these words, which are followed by a count and a length."""
+    few, many = (instructions([*words, str(count), "1000"]) for count in (100, 300))
+    return (many - few) / 200
+
+
 def main(count):
     program = os.path.join(TOP, "build", "two_stations_c")
     source, library = os.path.join(TOP, "bench", "two_stations.c"), os.path.join(TOP, "build", "libx25.a")
@@ -60,8 +68,15 @@ def main(count):
         other = least(python, max(count // 20, 1), length) / max(count // 20, 1)
         print(f"messages of {length} octets: {1e6 * one:.2f} us from C, of it {1e6 * (more - one) / (READS - 1):.3f} us to read it; "
               f"{1e6 * other:.1f} us from Python, {other / one:.1f} times as long")
+    if shutil.which("valgrind"):
+        os.environ["PYTHONHASHSEED"] = "0"
+        one, other = each_takes(program), each_takes(sys.executable, __file__, "--python")
+        print(f"messages of 1000 octets: {one:,.0f} instructions from C, {other:,.0f} from Python, {other / one:.1f} times as many")
     rates(program, "message", count)
 
 
 if __name__ == "__main__":
-    main(int(sys.argv[1]) if len(sys.argv) > 1 else 100_000)
+    if sys.argv[1:2] == ["--python"]:
+        python(*map(int, sys.argv[2:]))
+    else:
+        main(int(sys.argv[1]) if len(sys.argv) > 1 else 100_000)

@@ -310,7 +310,7 @@ class Joined(ToolCase):
     def test_a_circuit_that_takes_nothing_is_cleared(self):
         """Its messages go first for as long as one is taken now and then; then they are refused, before anything else is asked."""
         sends = [f"dte send 1 0 {number:02x}" for number in range(60)]
-        for last in ("dte clear 1", "dte clear 1 cause=9 diag=5", "dte reset 1", "dte restart", "dte disconnect"):
+        for last in ("dte clear 1", "dte clear 1 cause=9 diag=5", "dte reset 1 diag=5", "dte restart cause=200", "dte disconnect"):
             with self.subTest(last):
                 turns = [(sends[0], ""), (sends[1], "! 31"), (UA, ""), (sends[1], ""), (sends[2], "! 31"), (last, ""), *((it, "! 30") for it in sends[2:]), ("dte call 1 2 -", "")]
                 self.play(*turns, words=["--quiet", "0.7"], user="\n".join([*sends, last, "dte call 1 2 -"]).encode())

@@ -61,6 +61,14 @@ class Grammar(unittest.TestCase):
         fronts = "dte clear 1", "dte send 1 0 -", "dte int 1 00", "dte call 1 2", "dte restart", "dte accept"
         self.assertEqual(refused([f"{front} 7 7 2 2" for front in fronts]), len(fronts))
 
+    def test_causes_and_diagnostics(self):
+        fronts, given = ("dte clear 1", "dce reset 65535", "dte restart"), ("cause=0", "diag=255", "cause=255 diag=0")
+        lines = [f"{front} {it}" for front in fronts for it in given]
+        self.assertEqual((refused(lines), refused(lines, "--wide")), (len(lines), 0))
+        given = "", "cause=256", "diag=", "diag=-1", "diag=00", "diag=5 cause=9", "cause=9  diag=5", "cause=9 diag=5 ", "cause=9,diag=5", "Cause=9", "9", "9 5"
+        lines = [f"{front} {it}" for front in fronts for it in given] + ["dte accept 1 diag=5", "dce ready 1 cause=9", "dte clear diag=5", "heal diag=5"]
+        self.assertEqual(refused(lines, "--wide"), len(lines))
+
     def test_the_longest_line(self):
         line = "dte send 1 0 " + "00" * 65_593
         self.assertEqual(len(line), 131_199)
@@ -73,9 +81,9 @@ class Grammar(unittest.TestCase):
             "drain x": "'drain x' isn't of the form 'drain N'",
             "dce call 1 2": "'dce call 1 2' isn't of the form 'END call CALLED CALLING HEX [SIZE SIZE WINDOW WINDOW]'",
             "xyzzy": "no such event 'xyzzy'",
-            "# comment": "no such event '# comment'",
-            "": "empty",
-            "heal\r": "has other characters than text, as a tab or a carriage return",
+            "# comment": "no such event '# comment' (--loose takes comments)",
+            "": "empty (--loose takes empty lines)",
+            "heal\r": "has other characters than text (--loose takes a time and a tab before an event, and a carriage return at its end)",
             "x" * 99: f"no such event '{'x' * 60}'",
             "x" * 131_201: "longer than 131,200 characters",
         }

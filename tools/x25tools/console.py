@@ -32,13 +32,13 @@ COMMANDS = {
     "probe": ("", "polls the other end"),
     "call": ("CALLED CALLING [DATA] [S S W W]", "calls an address, from another: digits, or - for none"),
     "accept": ("CHANNEL [S S W W]", "accepts the call that came on a channel"),
-    "clear": ("CHANNEL", "refuses a call, or ends it"),
+    "clear": ("CHANNEL [cause=N] [diag=N]", "refuses a call, or ends it"),
     "send": ("CHANNEL Q DATA", "sends a message; Q, the qualifier, is 0 or 1"),
     "int": ("CHANNEL DATA", "sends an interrupt, of 1 to 32 octets"),
     "ready": ("CHANNEL", "takes messages again"),
     "notready": ("CHANNEL", "takes no messages for now"),
-    "reset": ("CHANNEL", "empties the circuit, which stays"),
-    "restart": ("", "clears all circuits"),
+    "reset": ("CHANNEL [cause=N] [diag=N]", "empties the circuit, which stays"),
+    "restart": ("[cause=N] [diag=N]", "clears all circuits"),
     "pull": ("", "hands down what waits in circuits"),
     "wait": ("TEXT", "holds what is typed behind it until a notice begins so"),
     "help": ("[COMMAND]", "shows this; so does ?"),
@@ -48,6 +48,7 @@ NOTES = """DATA is hexadecimal digits, text in quotes, both, as "ab"0d0a, or - f
 sizes, 8 for 2 to the power of 8, and windows: of the called end's data, and of the calling end's."""
 TEXT = re.compile(r'"([^"]*)"')
 DATA = re.compile(r"-|(?:[0-9a-fA-F]{2})+")
+GIVEN = re.compile(r"(?:cause=\d+)?(?:(?:^| )diag=\d+)?")
 OCTETS = re.compile(r"data=((?:[0-9a-f]{2})+)(?: |$)")
 CHANNEL = re.compile(r" ch=(\d+)")
 RUNS = re.compile(rb"([ !#-~]{3,})")
@@ -107,7 +108,7 @@ def spelled(typed: str, end: str) -> str:
         return f"wait {text}" if re.match("d[tc]e |[#!?] ", text) else f"wait {end} {text}"
     fields = COMMANDS[name][0]
     least, most = (len(text.split()) for text in (fields.partition("[")[0], fields))
-    if not least < len(words) <= most + 1:
+    if not least < len(words) <= most + 1 or "cause=N" in fields and not GIVEN.fullmatch(" ".join(words[least + 1 :])):
         raise Unknown(f"it is `{name} {fields}`" if fields else f"`{name}` stands alone")
     if name == "call" and len(words) == least + 1:
         words.append("-")

@@ -24,7 +24,7 @@ SLOW, FULL = 1 << 18, 1 << 25
 PATIENCE, SILENCE = 2, 10
 # A message of a channel; what waits while messages of a channel, or of any, stand aside. So many octets may stand aside.
 MESSAGE = re.compile(rb"d(?:te|ce) send (\d+) ")
-LATER = re.compile(rb"d(?:te|ce) (?:(?:clear|reset) (\d+)|restart|disconnect)(?: |$)")
+LATER = re.compile(rb"d(?:te|ce) (?:(?:clear|reset) (\d+)|restart|disconnect)(?: (?:cause|diag)=|$)")
 MOST_ASIDE = 1 << 22
 
 

@@ -102,13 +102,14 @@ GROUNDS = ("undefined control", "information that mustn't be there", "informatio
 NUMBER_TYPES = {0: "network-dependent number", 1: "international number", 2: "national number"}
 PLANS = {1: "E.164", 3: "X.121"}
 
-CAUSED = re.compile(r"(CLEAR|RESET|RESTART|cleared|wasreset|restarted)\b.* cause=(\d+)(?: diag=(\d+))?(?: |$)")
+CAUSED = re.compile(r"(CLEAR|RESET|RESTART|clear|reset|restart|cleared|wasreset|restarted)\b.* cause=(\d+)(?: diag=(\d+))?(?: |$)")
 FAULTY = re.compile(r"fault (2\d) diag=\d+$")
-DIAGNOSED = re.compile(r"(?:DIAG|diagnostic|fault ch=\d+) diag=(\d+)(?: |$)")
+DIAGNOSED = re.compile(r"(?:DIAG|diagnostic|restart|(?:fault|clear|reset) ch=\d+) diag=(\d+)(?: |$)")
 EQUIPPED = re.compile(r" fac=((?:[0-9a-f]{2})+)(?: |$)")
 TYPED = re.compile(r" (called|calling)=([0-9a-f])/([0-9a-f])/")
 FRAME_REFUSED = re.compile(r"(?:[<>] )?FRMR .*why=([0-9a-f]{6})$")
-CAUSES = {"CLEAR": CLEARING, "cleared": CLEARING, "RESET": RESETTING, "wasreset": RESETTING, "RESTART": RESTARTING, "restarted": RESTARTING}
+CAUSES = {"CLEAR": CLEARING, "RESET": RESETTING, "RESTART": RESTARTING, "clear": CLEARING, "reset": RESETTING, "restart": RESTARTING}
+CAUSES |= {"cleared": CLEARING, "wasreset": RESETTING, "restarted": RESTARTING}
 
 
 def _cause(names: dict[int, str], cause: int) -> str:

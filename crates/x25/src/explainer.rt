@@ -22,7 +22,7 @@ static OF_A_USER: [Form; 14] = [
     },
     Form {
         word: "clear",
-        form: "END clear CH",
+        form: "END clear CH (and with --wide [cause=N] [diag=N])",
     },
     Form {
         word: "send",
@@ -34,7 +34,7 @@ static OF_A_USER: [Form; 14] = [
     },
     Form {
         word: "reset",
-        form: "END reset CH",
+        form: "END reset CH (and with --wide [cause=N] [diag=N])",
     },
     Form {
         word: "ready",
@@ -46,7 +46,7 @@ static OF_A_USER: [Form; 14] = [
     },
     Form {
         word: "restart",
-        form: "END restart",
+        form: "END restart (and with --wide [cause=N] [diag=N])",
     },
     Form {
         word: "pull",
@@ -193,7 +193,12 @@ impl<'a, E: Eprint + AllocGlobal> Explainer<'a, E> {
             )
             .ok();
         } else {
-            eprintln!(self.rt; "line {number}: no such event '{line:.60}'").ok();
+            let hint = if line.starts_with('#') {
+                " (--loose takes comments)"
+            } else {
+                ""
+            };
+            eprintln!(self.rt; "line {number}: no such event '{line:.60}'{hint}").ok();
         }
     }
 
@@ -207,8 +212,10 @@ impl<'a, E: Eprint + AllocGlobal> Explainer<'a, E> {
             Ok(text) if octets.iter().all(|octet| *octet >= b' ') => self.explain(number, text),
             _ => {
                 eprintln!(self.rt;
-                    "line {number}: has other characters than text, as a tab or a carriage return"
-                ).ok();
+                    "line {number}: has other characters than text (--loose takes a time and a tab before \
+                     an event, and a carriage return at its end)"
+                )
+                .ok();
             }
         }
     }
@@ -219,7 +226,7 @@ impl<'a, E: Eprint + AllocGlobal> Reporter for Explainer<'a, E> {
         if line.is_some_and(|octets| octets.is_empty()) {
             if !self.is_empty_told {
                 self.is_empty_told = true;
-                eprintln!(self.rt; "line {number}: empty").ok();
+                eprintln!(self.rt; "line {number}: empty (--loose takes empty lines)").ok();
             }
             return;
         }

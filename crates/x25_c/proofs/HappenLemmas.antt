@@ -17,7 +17,7 @@ use Rattle.x25_clock.specs.declared.clock.Clock.{Clock}
 use Rattle.x25_clock.specs.Clock.{seen}
 use Rattle.x25_clock.specs.laws.ClockLaw.{comes}
 use Rattle.x25_c.specs.declared.held.Held.{Held}
-use Rattle.x25_c.specs.Clock.{Heeds}
+use Rattle.x25_c.specs.Clocked.{Heeds}
 use Rattle.x25_c.specs.Happening.{and_rest, rest_of, timer_of_rest}
 use Rattle.x25_c.specs.code.Happens.{Happens, IsTimer, PullsBehind}
 

@@ -1,4 +1,4 @@
-pub mod Clock
+pub mod Clocked
 pub mod Copying
 pub mod Dialing
 pub mod Event

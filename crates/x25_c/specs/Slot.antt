@@ -14,7 +14,7 @@ use Rattle.x25_station.specs.Error.{number_of}
 use Rattle.x25_station.specs.laws.TimerLaw.{Event, Asks}
 use Rattle.x25_c.specs.declared.held.Held.{Held}
 use Rattle.x25_c.specs.declared.times.Times as c
-use Rattle.x25_c.specs.Clock.{times_told}
+use Rattle.x25_c.specs.Clocked.{times_told}
 use Rattle.x25_c.specs.Held.{IsAlone}
 use Rattle.x25_c.specs.Making.{role_of, making_refusal}
 use Rattle.x25_c.specs.code.Happens.{Happens, IsNew}

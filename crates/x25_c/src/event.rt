@@ -129,6 +129,7 @@ impl Event {
         }
     }
 
+    #[inline(always)]
     fn of_asked(channel: u16, name: &Stretch, asked: &Asked) -> Event
         ensures { result ≡ asked_event channel (plain_name name.now) (plain_asked asked.now) }
     {
@@ -166,6 +167,7 @@ impl Event {
         }
     }
 
+    #[inline(always)]
     fn of_told(channel: u16, name: &Stretch, told: &Told) -> Event
         ensures { result ≡ told_event channel (plain_name name.now) (plain_told told.now) }
     {
@@ -210,6 +212,7 @@ impl Event {
     }
 
     /// What an entry of the transcript says.
+    #[inline(always)]
     pub(crate) fn of_entry(entry: &Entry) -> Event
         ensures { result ≡ entry_event (plain_entry entry.now) }
     {

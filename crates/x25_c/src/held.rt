@@ -18,7 +18,7 @@ ghost use Rattle.x25_c.specs.code.Happens.{GivesAnswer, Happens, IsNew, PullsBeh
 ghost use Rattle.x25_c.specs.code.Receives.{ReceivesAll};
 
 use crate::answers::{in_both, then};
-use crate::clocked::{Passed, channel_of, heed, take_due, timer_of};
+use crate::clocked::{Passed, heed, take_due};
 use crate::happening::{Happening, happen};
 use crate::item::Item;
 use crate::numbers::{BAD_PARAMETER, NO_MEMORY};
@@ -214,8 +214,8 @@ impl Held {
         (counts.len(), 0)
     }
 
-    /// Gives the station a clock, by which the time of what is awaited begins. Err: no memory, and it has the clock that
-    /// it had.
+    /// Gives the station a clock, by which the time of what is awaited begins. Err: no memory, and it has the clock
+    /// that it had.
     pub(crate) fn set(&mut self, alloc: Global, times: Times) -> Result<(), AllocError>
         ensures set { OnOk result (Sets self.old self.new times) }
         ensures refused { OnErr result (self.new ≡ self.old) }
@@ -244,8 +244,8 @@ impl Held {
     fn insist(&mut self, due: Due) -> Result<(), StationError>
         ensures { Insists self.old self.new result due }
     {
-        let channel = channel_of(due);
-        let timer = timer_of(self.end, self.station.awaits(channel), due);
+        let channel = due.channel();
+        let timer = due.timer(self.end, self.station.awaits(channel));
         let answer = match due.command() {
             Some(command) => self.happen(Happening::Asks(command)),
             None => self.happen(Happening::Fires),
@@ -298,6 +298,7 @@ impl Held {
     }
 
     // Item `i` behind the frames and a timer that passed: the entries, and then what becomes of timer T1.
+    #[inline(always)]
     fn last_item(&self, i: usize) -> Option<Item<'_>>
         ensures { option_map plain_item result ≡ slice_get (last_items self.now) i }
     {
@@ -312,6 +313,7 @@ impl Held {
     }
 
     // Item `i` behind the frames.
+    #[inline(always)]
     fn later_item(&self, i: usize) -> Option<Item<'_>>
         ensures { option_map plain_item result ≡ slice_get (later_items self.now) i }
     {
@@ -323,6 +325,7 @@ impl Held {
     }
 
     /// Item `i` of the answer.
+    #[inline(always)]
     pub(crate) fn item(&self, i: usize) -> Option<Item<'_>>
         ensures { option_map plain_item result ≡ slice_get (items_of self.now) i }
     {

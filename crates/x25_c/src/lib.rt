@@ -37,7 +37,7 @@ ghost use Rattle.x25_station.specs.Station.{Station as State};
 ghost use Rattle.x25_station.specs.Station.Told.{is_idle, room, stretch};
 ghost use Rattle.x25_station.specs.laws.TimerLaw.{Asks, Comes, Fires};
 ghost use Rattle.x25_station.specs.code.FitsStation.{FitsStation};
-ghost use Rattle.x25_c.specs.Clock.{TellsNext, next_in, times_in};
+ghost use Rattle.x25_c.specs.Clocked.{TellsNext, next_in, times_in};
 ghost use Rattle.x25_c.specs.Copying.{Copies};
 ghost use Rattle.x25_c.specs.Dialing.{dialed};
 ghost use Rattle.x25_c.specs.Held.{AreSame, channel_of, frames_of, in_place, lines_of, timer_of};
@@ -405,7 +405,8 @@ pub extern "C" fn x25_send(
     number_of(answer)
 }
 
-/// Does the command that a text spells, as behind the end's name in a line of a script, and pulls behind it.
+/// Does the command that a text spells, as behind the end's name in a line of a script, and pulls behind it. One with a
+/// cause or a diagnostic is taken of any station, since typed calls are.
 ///
 /// 16 where the slot holds no station, 60 where the text spells no command, and the last answer stands; else as
 /// `Station::command`. The station is as before then.
@@ -456,8 +457,8 @@ pub extern "C" fn x25_set_times(alloc: Global, slot: &mut Slot, times: Times) ->
     number
 }
 
-/// The time is this, in milliseconds, until it is said again. The first of what is due is asked for, as by the user, and
-/// the answer tells which timer passed.
+/// The time is this, in milliseconds, until it is said again. The first of what is due is asked for, as by the user,
+/// and the answer tells which timer passed.
 ///
 /// 16 where the slot holds no station, 34 where it is before the time that was said last, and the last answer stands;
 /// else as what is due. The station is as before then.

@@ -1,6 +1,6 @@
 //! How long answers may take, as a C program hands it over.
 ghost use Rattle.std.specs.Prelude.{◌≡◌};
-ghost use Rattle.x25_c.specs.Clock.{times_in, times_told};
+ghost use Rattle.x25_c.specs.Clocked.{times_in, times_told};
 
 use x25_clock::Times as ClockTimes;
 

@@ -8,18 +8,20 @@ use Rattle.x25_script.specs.ScriptLine.{PlainCommand, call, accept, clear, send,
 use Rattle.x25_script.specs.ScriptLine.{restart, pull, connect, disconnect, probe, relink}
 
 -- A call without packet sizes and windows proposes the default, and an acceptance without them accepts what was
--- proposed.
+-- proposed. A cause or a diagnostic that isn't given is 0.
 abbrev pub command_asked : PlainCommand → Command
 command_asked (call called calling user params) = Requests (Dials called calling user
     (in_brief (unwrap_or params default_params)))
 command_asked (accept channel params) = Requests (Asks channel (Accepts (answer_in_brief params)))
-command_asked (clear channel) = Requests (Asks channel (Clears 0 0))
+command_asked (clear channel given) = Requests (Asks channel (Clears (unwrap_or given.cause 0)
+    (unwrap_or given.diagnostic 0)))
 command_asked (send channel q user) = Requests (Asks channel (Sends q user))
 command_asked (interrupt channel user) = Requests (Asks channel (Interrupts user))
-command_asked (reset channel) = Requests (Asks channel (Resets 0 0))
+command_asked (reset channel given) = Requests (Asks channel (Resets (unwrap_or given.cause 0)
+    (unwrap_or given.diagnostic 0)))
 command_asked (ready channel) = Requests (Asks channel SaysReady)
 command_asked (not_ready channel) = Requests (Asks channel SaysNotReady)
-command_asked restart = Requests (Restarts 0 0)
+command_asked (restart given) = Requests (Restarts (unwrap_or given.cause 0) (unwrap_or given.diagnostic 0))
 command_asked pull = Requests PullsAll
 command_asked connect = Connects
 command_asked disconnect = Disconnects

@@ -83,10 +83,10 @@ pub fn station_command<'a>(command: &Command<'a>, user: &'a [u8]) -> Cmd<'a>
             channel: *channel,
             params: *params,
         },
-        Command::Clear { channel } => Cmd::Clear {
+        Command::Clear { channel, given } => Cmd::Clear {
             channel: *channel,
-            cause: 0,
-            diagnostic: 0,
+            cause: given.cause.unwrap_or(0),
+            diagnostic: given.diagnostic.unwrap_or(0),
         },
         Command::Send { channel, q, .. } => Cmd::Send {
             channel: *channel,
@@ -97,16 +97,16 @@ pub fn station_command<'a>(command: &Command<'a>, user: &'a [u8]) -> Cmd<'a>
             channel: *channel,
             user,
         },
-        Command::Reset { channel } => Cmd::Reset {
+        Command::Reset { channel, given } => Cmd::Reset {
             channel: *channel,
-            cause: 0,
-            diagnostic: 0,
+            cause: given.cause.unwrap_or(0),
+            diagnostic: given.diagnostic.unwrap_or(0),
         },
         Command::Ready { channel } => Cmd::Ready { channel: *channel },
         Command::NotReady { channel } => Cmd::NotReady { channel: *channel },
-        Command::Restart => Cmd::Restart {
-            cause: 0,
-            diagnostic: 0,
+        Command::Restart { given } => Cmd::Restart {
+            cause: given.cause.unwrap_or(0),
+            diagnostic: given.diagnostic.unwrap_or(0),
         },
         Command::Pull => Cmd::Pull,
         Command::Connect => Cmd::Connect,

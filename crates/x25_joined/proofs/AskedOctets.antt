@@ -3,9 +3,10 @@ use Rattle.std.proofs.Common.{◌≡◌, ℕ, nat_le, Bool, true, false, cond, L
 use Rattle.x25_bits.specs.declared.role.Role.{Role}
 use Rattle.x25_bits.specs.declared.role.Role.TheVariants.{Dte, Dce}
 use Rattle.x25_station.specs.laws.TimerLaw.{Event, Asks, Gives, Fires}
-use Rattle.x25_script.specs.ScriptLine.{PlainCommand, call, accept, clear, send, interrupt, reset, ready, not_ready, restart, pull, connect, disconnect, probe, relink, PlainLine, command, t1, deliver, lose, damage, drain, heal}
+use Rattle.x25_script.specs.ScriptLine.{PlainCommand, call, accept, clear, send, interrupt, reset, ready, not_ready, restart, pull, connect, disconnect, probe, relink, PlainLine, command, t1, deliver, lose, damage, drain, heal, is_taken, taken}
+use Rattle.std.specs.Option.{unwrap_or}
 use Rattle.x25_script.specs.Reading.{line_in}
-use Rattle.x25_script.specs.laws.ReadingLaw.{AsksInOctets, IsInOctets, ReadsOctets}
+use Rattle.x25_script.specs.laws.ReadingLaw.{IsOctet, AsksInOctets, IsInOctets, ReadsOctets}
 use Rattle.x25_decode.specs.Decoding.{sent_in}
 use Rattle.x25_console.specs.Commands.{command_asked}
 use Rattle.x25_io.specs.HeldLine.{most_line}
@@ -18,21 +19,22 @@ AsksOctets (Some (Asks asked)) = CommandsOctets asked
 AsksOctets (Some (Gives given request)) = ⊥
 AsksOctets event = Unit {0}
 
-zeros : (0 < 256) × (0 < 256)
-zeros = (omega arith, omega arith)
+given : (o : Option ℕ) → IsOctet o → unwrap_or o 0 < 256
+given None h = omega arith
+given (Some n) h = h
 
 handed : (asked : PlainCommand) → AsksInOctets asked → CommandsOctets (command_asked asked)
 handed (call called calling user None) h = h
 handed (call called calling user (Some four)) h = h
 handed (accept channel None) h = tt
 handed (accept channel (Some four)) h = tt
-handed (clear channel) h = zeros
+handed (clear channel g) h = (given g.cause h.0, given g.diagnostic h.1)
 handed (send channel q user) h = h
 handed (interrupt channel user) h = h
-handed (reset channel) h = zeros
+handed (reset channel g) h = (given g.cause h.0, given g.diagnostic h.1)
 handed (ready channel) h = tt
 handed (not_ready channel) h = tt
-handed restart h = zeros
+handed (restart g) h = (given g.cause h.0, given g.diagnostic h.1)
 handed pull h = tt
 handed connect h = tt
 handed disconnect h = tt
@@ -52,21 +54,43 @@ of_line end (damage from place octets) h = tt
 of_line end (drain count) h = tt
 of_line end heal h = tt
 
-of_read : ReadsOctets → (end : Role) (text : List ℕ) (read : Option PlainLine) → line_in text ≡ read → AsksOctets (option_and_then (script_event end) read)
-of_read reads end text None e = tt
-of_read reads end text (Some line) e = of_line end line (reads line text e)
+abbrev InOctets : Option PlainLine → Type 0
+InOctets None = Unit {0}
+InOctets (Some line) = IsInOctets line
 
-of_sent : ReadsOctets → (end : Role) (text : List ℕ) (sent : Option (Role × List ℕ)) → AsksOctets (read_event end text sent)
-of_sent reads end text None = of_read reads end text (line_in text) refl
-of_sent reads Dte text (Some (Dte, octets)) = tt
-of_sent reads Dte text (Some (Dce, octets)) = tt
-of_sent reads Dce text (Some (Dte, octets)) = tt
-of_sent reads Dce text (Some (Dce, octets)) = tt
+read_octets : ReadsOctets → (text : List ℕ) (read : Option PlainLine) → line_in text ≡ read → InOctets read
+read_octets reads text None e = tt
+read_octets reads text (Some line) e = reads line text e
+
+some_octets : (b : Bool) (line : PlainLine) → IsInOctets line → InOctets (cond b (Some line) None)
+some_octets true line h = h
+some_octets false line h = tt
+
+taken_octets : (wide : Bool) (read : Option PlainLine) → InOctets read → InOctets (taken wide read)
+taken_octets wide None h = tt
+taken_octets wide (Some (command end asked)) h = some_octets (is_taken wide asked) (command end asked) h
+taken_octets wide (Some (t1 end)) h = h
+taken_octets wide (Some (deliver from)) h = h
+taken_octets wide (Some (lose from place)) h = h
+taken_octets wide (Some (damage from place octets)) h = h
+taken_octets wide (Some (drain count)) h = h
+taken_octets wide (Some heal) h = h
+
+of_read : (end : Role) (read : Option PlainLine) → InOctets read → AsksOctets (option_and_then (script_event end) read)
+of_read end None h = tt
+of_read end (Some line) h = of_line end line h
+
+of_sent : ReadsOctets → (wide : Bool) (end : Role) (text : List ℕ) (sent : Option (Role × List ℕ)) → AsksOctets (read_event wide end text sent)
+of_sent reads wide end text None = of_read end (taken wide (line_in text)) (taken_octets wide (line_in text) (read_octets reads text (line_in text) refl))
+of_sent reads wide Dte text (Some (Dte, octets)) = tt
+of_sent reads wide Dte text (Some (Dce, octets)) = tt
+of_sent reads wide Dce text (Some (Dte, octets)) = tt
+of_sent reads wide Dce text (Some (Dce, octets)) = tt
 
 of_short : (b : Bool) (event : Option Event) → AsksOctets event → AsksOctets (cond b event None)
 of_short true event h = h
 of_short false event h = tt
 
-pub asks_octets : ReadsOctets → (end : Role) (line : List ℕ) → AsksOctets (event_in end line)
+pub asks_octets : ReadsOctets → (wide : Bool) (end : Role) (line : List ℕ) → AsksOctets (event_in wide end line)
 unfolding event_in
-asks_octets reads end line = of_short (nat_le (length line) most_line) (read_event end line (sent_in line)) (of_sent reads end line (sent_in line))
+asks_octets reads wide end line = of_short (nat_le (length line) most_line) (read_event wide end line (sent_in line)) (of_sent reads wide end line (sent_in line))

@@ -102,14 +102,14 @@ length_words : (from : Role) (octets : List ℕ) → length (frame_words from oc
 length_words Dte octets = let h = length_digits octets in omega (arith, h)
 length_words Dce octets = let h = length_digits octets in omega (arith, h)
 
-words_read : (end : Role) (octets : List ℕ) → read_event end (frame_words (other end) octets) (Some (other end, octets)) ≡ Some (Comes octets)
-words_read Dte octets = refl
-words_read Dce octets = refl
+words_read : (wide : Bool) (end : Role) (octets : List ℕ) → read_event wide end (frame_words (other end) octets) (Some (other end, octets)) ≡ Some (Comes octets)
+words_read wide Dte octets = refl
+words_read wide Dce octets = refl
 
-pub frame_comes : (end : Role) (octets : List ℕ) → AreOfFrame octets → event_in end (frame_words (other end) octets) ≡ Some (Comes octets)
+pub frame_comes : (wide : Bool) (end : Role) (octets : List ℕ) → AreOfFrame octets → event_in wide end (frame_words (other end) octets) ≡ Some (Comes octets)
 unfolding event_in
-frame_comes end octets h =
+frame_comes wide end octets h =
     let line = frame_words (other end) octets in
     let count = length_words (other end) octets in
-    ap (λ (b : Bool). if b then read_event end line (sent_in line) else None) (le-leb (length line) most_line (omega (arith, count, h.short)))
-    ∙ ap (read_event end line) (frame_sent (other end) octets h) ∙ words_read end octets
+    ap (λ (b : Bool). if b then read_event wide end line (sent_in line) else None) (le-leb (length line) most_line (omega (arith, count, h.short)))
+    ∙ ap (read_event wide end line) (frame_sent (other end) octets h) ∙ words_read wide end octets

@@ -212,7 +212,7 @@ module _ (cfg : Cfg) (end : Role) (w : World) (fits : Fits w) where
     something_happens act line step none turns is octets =
         subst (λ (back : List (List ℕ)). Mirrors cfg end w (reads c j back (line ++ 10 ∷ []))) h.back (happens_pulling act line w.back step none fits.back turns is octets)
 
-    commanded : (line : List ℕ) (command : Command) (o : Outcome) → IsOpen line → event_in end line ≡ Some (Asks command) → AsksOctets (Some (Asks command)) → commands c w.near command ≡ o
+    commanded : (line : List ℕ) (command : Command) (o : Outcome) → IsOpen line → event_in cfg.wide end line ≡ Some (Asks command) → AsksOctets (Some (Asks command)) → commands c w.near command ≡ o
         → Mirrors cfg end w (reads c j j.back (line ++ 10 ∷ []))
     commanded line command (Did step) none asks octets is =
         something_happens (world.Commands command) line step none (line_did c w.near line (Asks command) (and_pulls c step) asks (ap (with_pulls c) is)) (ap (of_station c w) is) octets
@@ -223,13 +223,13 @@ module _ (cfg : Cfg) (end : Role) (w : World) (fits : Fits w) where
         ap (λ (s : Station). awaits_ua s.link.phase && world.is_on_line c w) (sym h.near.station)
         ∙ ap₂ (λ (out back : List (List ℕ)). awaits_ua (station_of c j.near).link.phase && (carries Sabm end out || carries Ua (other end) back)) h.out h.back ∙ free
 
-    fired : (line : List ℕ) (o : Outcome) → IsOpen line → event_in end line ≡ Some Fires → IsInTime c j (Some Fires) → fires c w.near ≡ o → Mirrors cfg end w (reads c j j.back (line ++ 10 ∷ []))
+    fired : (line : List ℕ) (o : Outcome) → IsOpen line → event_in cfg.wide end line ≡ Some Fires → IsInTime c j (Some Fires) → fires c w.near ≡ o → Mirrors cfg end w (reads c j j.back (line ++ 10 ∷ []))
     fired line (Did step) none asks free is =
         something_happens world.Fires line step none (line_did c w.near line Fires (and_pulls c step) asks (ap (with_pulls c) is))
         (ap (λ (b : Bool). cond b (Declined error.OnLine) (of_station c w (fires c w.near))) (in_time free) ∙ ap (of_station c w) is) tt
     fired line (Refused e) none asks free is = nothing_happens line none (line_refused c w.near line Fires e asks is)
 
-    asked : (line : List ℕ) (event : Option Event) → IsOpen line → event_in end line ≡ event → IsNoFrame event → IsInTime c j event → AsksOctets event → Mirrors cfg end w (reads c j j.back (line ++ 10 ∷ []))
+    asked : (line : List ℕ) (event : Option Event) → IsOpen line → event_in cfg.wide end line ≡ event → IsNoFrame event → IsInTime c j event → AsksOctets event → Mirrors cfg end w (reads c j j.back (line ++ 10 ∷ []))
     asked line None none asks no_frame free octets = nothing_happens line none (line_none c w.near line asks)
     asked line (Some (Comes x)) none asks no_frame free octets = absurd no_frame
     asked line (Some (Asks command)) none asks no_frame free octets = commanded line command (commands c w.near command) none asks octets refl
@@ -246,7 +246,7 @@ module _ (cfg : Cfg) (end : Role) (w : World) (fits : Fits w) where
         let on_it : w.back ≡ octets ∷ back = h.back ∙ there in
         let all : All AreOfFrame (octets ∷ back) = subst (All AreOfFrame) on_it fits.back in
         let step = receives c w.near octets in
-        let turns = line_did c w.near line (Comes octets) (and_pulls c step) (frame_comes end octets (All-head AreOfFrame octets back all)) refl in
+        let turns = line_did c w.near line (Comes octets) (and_pulls c step) (frame_comes cfg.wide end octets (All-head AreOfFrame octets back all)) refl in
         subst (λ (text : List ℕ). Mirrors cfg end w (reads c j back text)) (sym (frame_text (other end) octets))
         (happens_pulling world.Receives line back step none (All-tail AreOfFrame octets back all) turns (ap (delivered c w) on_it) tt)
 
@@ -282,7 +282,7 @@ module _ (cfg : Cfg) (end : Role) (w : World) (fits : Fits w) where
     -- ---- each act
 
     pub act_shows : ReadsOctets → (act : Act) → IsPossible c j act → Mirrors cfg end w (acts c j act)
-    act_shows octets (Reads line) may = asked line (event_in end line) may.is_line refl may.is_no_frame may.in_time (asks_octets octets end line)
+    act_shows octets (Reads line) may = asked line (event_in cfg.wide end line) may.is_line refl may.is_no_frame may.in_time (asks_octets octets cfg.wide end line)
     act_shows octets Takes may = taken j.back refl
     act_shows octets (Loses place) may = lost place (nat_lt place (length j.back)) refl
     act_shows octets (Damages place x) may = damaged place x (nat_lt place (length j.back)) may.is_seen may.fits refl

@@ -193,7 +193,7 @@ module _ (c : Settings) (p : Program) (k : Kept c p) where
           lines again))
 
   -- a step of the link, and then the layer
-  link_happens : (line : List ℕ) → IsOpen line → (event : Event) → event_in c.role line ≡ Some event → (asked : List StationEntry) → ups_in asked ≡ 0 → (left : List Entry) (met : List Meeting) (l : LinkStep)
+  link_happens : (line : List ℕ) → IsOpen line → (event : Event) → event_in c.wide c.role line ≡ Some event → (asked : List StationEntry) → ups_in asked ≡ 0 → (left : List Entry) (met : List Meeting) (l : LinkStep)
       → (let step = led_by asked (follows c s.layer l) in with_pulls c (outcome c s event) ≡ Did (and_pulls c step))
       → beside.Happens c w (followed c w asked left met l) → Kept c (reads c p (line ++ 10 ∷ []) left met)
   link_happens line none event asks asked quiet left met l is happens =
@@ -209,7 +209,7 @@ module _ (c : Settings) (p : Program) (k : Kept c p) where
   unless_did None done step is = (refl, the_step step done is)
   unless_did (Some e) done step is = refused_did (error.Link e) step is
 
-  commanded : (line : List ℕ) (asked : Command) (o : Outcome) → IsOpen line → event_in c.role line ≡ Some (Asks asked) → AsksOctets (Some (Asks asked)) → commands c s asked ≡ o → Kept c (reads c p (line ++ 10 ∷ []) p.back p.met)
+  commanded : (line : List ℕ) (asked : Command) (o : Outcome) → IsOpen line → event_in c.wide c.role line ≡ Some (Asks asked) → AsksOctets (Some (Asks asked)) → commands c s asked ≡ o → Kept c (reads c p (line ++ 10 ∷ []) p.back p.met)
   commanded line asked (Refused e) none asks octets is = nothing_happens line none (line_refused c s line (Asks asked) e asks is)
   commanded line (Requests request) (Did step) none asks octets is =
       let said = command.said_by c.say_sizes s.layer request in
@@ -236,14 +236,14 @@ module _ (c : Settings) (p : Program) (k : Kept c p) where
       let did = unless_did (relink_refusal s.link.phase) whole step is in
       link_happens line none (Asks Relinks) asks (relink_asked ∷ []) refl p.back p.met l (ap (with_pulls c) (is ∙ ap (λ (x : Step). Did x) (sym did.1))) (beside.Relinks did.0)
 
-  fired : (line : List ℕ) (o : Outcome) → IsOpen line → event_in c.role line ≡ Some Fires → IsInTime c p (Some Fires) → fires c s ≡ o → Kept c (reads c p (line ++ 10 ∷ []) p.back p.met)
+  fired : (line : List ℕ) (o : Outcome) → IsOpen line → event_in c.wide c.role line ≡ Some Fires → IsInTime c p (Some Fires) → fires c s ≡ o → Kept c (reads c p (line ++ 10 ∷ []) p.back p.met)
   fired line (Refused e) none asks due is = nothing_happens line none (line_refused c s line Fires e asks is)
   fired line (Did step) none asks due is =
       let l : LinkStep = timer_step (link_settings c) s.link in
       let did = unless_did (timer_refusal s.link) (follows c s.layer l) step is in
       link_happens line none Fires asks [] refl p.back p.met l (ap (with_pulls c) (is ∙ ap (λ (x : Step). Did x) (sym did.1))) (beside.Fires did.0 due)
 
-  asked_kept : (line : List ℕ) (event : Option Event) → IsOpen line → event_in c.role line ≡ event → IsNoFrame event → IsInTime c p event → AsksOctets event → Kept c (reads c p (line ++ 10 ∷ []) p.back p.met)
+  asked_kept : (line : List ℕ) (event : Option Event) → IsOpen line → event_in c.wide c.role line ≡ event → IsNoFrame event → IsInTime c p event → AsksOctets event → Kept c (reads c p (line ++ 10 ∷ []) p.back p.met)
   asked_kept line None none asks no_frame due octets = nothing_happens line none (line_none c s line asks)
   asked_kept line (Some (Comes x)) none asks no_frame due octets = absurd no_frame
   asked_kept line (Some (Asks asked)) none asks no_frame due octets = commanded line asked (commands c s asked) none asks octets refl
@@ -261,10 +261,10 @@ module _ (c : Settings) (p : Program) (k : Kept c p) where
       by : (full : Bool) → abandons c s ≡ full → Kept c (reads c p (frame_words (other c.role) e.octets ++ 10 ∷ []) rest (met_by c p e))
       by true full =
           subst (λ (x : Bool). Kept c (reads c p (frame_words (other c.role) e.octets ++ 10 ∷ []) rest (if x then p.met else heard_here c (bare c p) e))) (sym full)
-          (link_happens (frame_words (other c.role) e.octets) (frame_open (other c.role) e.octets) (Comes e.octets) (frame_comes c.role e.octets fits) [] refl rest p.met (abandon_step (link_settings c) s.link) (goes_by true full) (beside.Abandons e rest front full))
+          (link_happens (frame_words (other c.role) e.octets) (frame_open (other c.role) e.octets) (Comes e.octets) (frame_comes c.wide c.role e.octets fits) [] refl rest p.met (abandon_step (link_settings c) s.link) (goes_by true full) (beside.Abandons e rest front full))
       by false free =
           subst (λ (x : Bool). Kept c (reads c p (frame_words (other c.role) e.octets ++ 10 ∷ []) rest (if x then p.met else heard_here c (bare c p) e))) (sym free)
-          (link_happens (frame_words (other c.role) e.octets) (frame_open (other c.role) e.octets) (Comes e.octets) (frame_comes c.role e.octets fits) [] refl rest (heard_here c w e) (take_step (link_settings c) e.octets s.link) (goes_by false free) (beside.Receives e rest front free))
+          (link_happens (frame_words (other c.role) e.octets) (frame_open (other c.role) e.octets) (Comes e.octets) (frame_comes c.wide c.role e.octets fits) [] refl rest (heard_here c w e) (take_step (link_settings c) e.octets s.link) (goes_by false free) (beside.Receives e rest front free))
 
   -- ---- the peer and the line
 
@@ -310,7 +310,7 @@ module _ (c : Settings) (p : Program) (k : Kept c p) where
 
 module _ (octets : ReadsOctets) (c : Settings) where
   step_kept : (p q : Program) → Kept c p → Happens c p q → Kept c q
-  step_kept p q k (Reads line may) = asked_kept c p k line (event_in c.role line) may.is_line refl may.is_no_frame may.in_time (asks_octets octets c.role line)
+  step_kept p q k (Reads line may) = asked_kept c p k line (event_in c.wide c.role line) may.is_line refl may.is_no_frame may.in_time (asks_octets octets c.wide c.role line)
   step_kept p q k (Takes e rest front fits) =
       subst (λ (text : List ℕ). Kept c (reads c p text rest (met_by c p e))) (sym (frame_text (other c.role) e.octets)) (comes_kept c p k e rest front fits)
   step_kept p q k (Elsewhere v h there) = elsewhere c p k v h there

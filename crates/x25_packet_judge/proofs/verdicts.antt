@@ -14,6 +14,7 @@ pub mod Innocents
 pub mod Silences
 pub mod Beginnings
 pub mod Books
+pub mod JudgedRestarts
 pub mod Parts
 pub mod Reaching
 pub mod Noting

@@ -1,7 +1,8 @@
 //! What a verdict on a channel means: no end that keeps the rules is told of, and where nothing is told they are kept.
 //! Each law is the contract of a function that does nothing.
 ghost use Rattle.x25_packet_judge.specs.laws.VerdictClaims.{BooksTellOfChannels, BooksJudgeKnownChannels, CallsBegin};
-ghost use Rattle.x25_packet_judge.specs.laws.VerdictClaims.{NoEndingIsTold};
+ghost use Rattle.x25_packet_judge.specs.laws.VerdictClaims.{BooksJudgeConfirmations, BooksJudgeRestarts};
+ghost use Rattle.x25_packet_judge.specs.laws.VerdictClaims.{JudgedConfirmationsAreTold, NoEndingIsTold};
 ghost use Rattle.x25_packet_judge.specs.laws.VerdictClaims.{NoEndOfTapeIsTold, NoInnocentPacketIsTold};
 ghost use Rattle.x25_packet_judge.specs.laws.VerdictClaims.{NoInnocentTapeIsTold, NoNextCallIsTold};
 ghost use Rattle.x25_packet_judge.specs.laws.VerdictClaims.{NoRestartOfTapeIsTold, ResetsBegin, RestartsBegin};
@@ -53,6 +54,15 @@ pub fn stretches_follow()
 pub fn books_tell_of_channels()
     ensures rules { BooksTellOfChannels }
     ensures judged { BooksJudgeKnownChannels }
+{}
+
+/// RESTART counts as judged, and its confirmation exactly where restarts are counted or it answers one that was seen,
+/// and behind a fault of restarts where it answers the last one. Of one that counts so and answers none a rule is told,
+/// where no such fault went before.
+pub fn books_judge_restarts()
+    ensures restarts { BooksJudgeRestarts }
+    ensures confirmations { BooksJudgeConfirmations }
+    ensures told { JudgedConfirmationsAreTold }
 {}
 
 /// On a channel, of an end that keeps the rules neither a rule nor manners are told in the run of a book, over calls,

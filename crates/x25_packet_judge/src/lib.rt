@@ -21,8 +21,9 @@ mod terms;
 
 pub use book::{Book, Verdict};
 pub use law::{
-    books_tell_of_channels, calls_begin, innocent_packets_stay_untold, innocent_tapes_stay_untold,
-    next_calls_stay_untold, resets_begin, silent_packets_keep_the_rules, stretches_follow,
+    books_judge_restarts, books_tell_of_channels, calls_begin, innocent_packets_stay_untold,
+    innocent_tapes_stay_untold, next_calls_stay_untold, resets_begin,
+    silent_packets_keep_the_rules, stretches_follow,
 };
 pub use numbers::apart;
 pub use packet_rule::PacketRule;

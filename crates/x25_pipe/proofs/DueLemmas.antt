@@ -306,7 +306,7 @@ module _ (c : Settings) (times : Times) where
           rest u (insist_clock what v (clock_tells times w.now w.deadlines h)) (omega (arith, low, less, lower))
 
   answer_clock : (line : List ℕ) (w : Timed) (o : Option ℕ) → IsClock w.deadlines → IsClock (answer_turn c times line w o).next.deadlines
-  answer_clock line w None h = act_clock w (asked_act c w.station (event_in c.role line)) h
+  answer_clock line w None h = act_clock w (asked_act c w.station (event_in c.wide c.role line)) h
   answer_clock line w (Some now) h = by (nat_lt now w.now)
     where
       at_now : Timed

@@ -171,13 +171,13 @@ unfolding event_turn event_act
 act_marked c s None = refl
 act_marked c s (Some event) = refl
 
-turn_marked : (c : Settings) (line : List ℕ) (s : Station) → let a = asked_act c s (event_in c.role line) in turn c line s ≡ marked c a.timer a.next a.sayings
+turn_marked : (c : Settings) (line : List ℕ) (s : Station) → let a = asked_act c s (event_in c.wide c.role line) in turn c line s ≡ marked c a.timer a.next a.sayings
 unfolding turn
-turn_marked c line s = act_marked c s (event_in c.role line)
+turn_marked c line s = act_marked c s (event_in c.wide c.role line)
 
 module _ (c : Settings) (old now next : Option (List ℕ)) (told : List ℕ) (refused : Bool) (line : List ℕ) (s : Station) where
   abbrev here : Act
-  here = asked_act c s (event_in c.role line)
+  here = asked_act c s (event_in c.wide c.role line)
 
   pub marks_behind : (q u : Pipe) (result : Result Unit Fault) → IsActed c old now q told refused here → Turns c old now next q u result (mark_turn c q.step.timer)
       → Stood c old next u told refused result (turn c line s)
@@ -190,9 +190,9 @@ module _ (c : Settings) (old now next : Option (List ℕ)) (told : List ℕ) (re
       (λ _ b. begins_behind c old next told refused (mark_turn c here.timer) (said here.next here.sayings) b))
 
 pub begins_marked : (c : Settings) (old now : Option (List ℕ)) (told : List ℕ) (refused : Bool) (line : List ℕ) (s : Station)
-    → AppendsPrefix old now (told ++ sayings_text c.role (asked_act c s (event_in c.role line)).sayings) → BeginsAt c old now told (turn c line s)
+    → AppendsPrefix old now (told ++ sayings_text c.role (asked_act c s (event_in c.wide c.role line)).sayings) → BeginsAt c old now told (turn c line s)
 begins_marked c old now told refused line s b =
-    let a = asked_act c s (event_in c.role line) in
+    let a = asked_act c s (event_in c.wide c.role line) in
     subst (BeginsAt c old now told) (sym (turn_marked c line s)) (begins_before c old now told refused (mark_turn c a.timer) (said a.next a.sayings) b)
 
 -- ---- what is pulled behind it

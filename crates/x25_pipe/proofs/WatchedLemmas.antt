@@ -147,7 +147,7 @@ module _ (done : EventIsDone) (stays : StaysSettled) (c : Settings) (times : Tim
       on w (told_due times v) (due_turns c times most_due v).next (passes w now low) (first_reaches 18 v (due_of now w.deadlines) (all_reach 18) h)
 
   answer_reaches : (line : List ℕ) (w : Timed) (o : Option ℕ) → IsSettled c w.station → Reaches w (answer_turn c times line w o).next
-  answer_reaches line w None h = asked_reaches w (event_in c.role line) h
+  answer_reaches line w None h = asked_reaches w (event_in c.wide c.role line) h
   answer_reaches line w (Some now) h = by (nat_lt now w.now) refl
     where
       by : (b : Bool) → nat_lt now w.now ≡ b → Reaches w (let t : TimedTurn = if b then act_turn c times w (nothing_act w.station) else due_turns c times most_due (record w { now = now }) in t.next)

@@ -9,7 +9,7 @@ use Rattle.x25_bits.specs.declared.role.Role.{Role}
 use Rattle.x25_bits.specs.declared.role.Role.TheVariants.{Dte, Dce}
 use Rattle.x25_frame.specs.Spelling.{spelling_of}
 use Rattle.x25_transcript.specs.EntryText.{entry_line}
-use Rattle.x25_script.specs.ScriptLine.{PlainLine, command, t1, deliver, lose, damage, drain, heal}
+use Rattle.x25_script.specs.ScriptLine.{PlainLine, command, t1, deliver, lose, damage, drain, heal, taken}
 use Rattle.x25_script.specs.Reading.{line_in}
 use Rattle.x25_decode.specs.Decoding.{sent_in}
 use Rattle.x25_io.specs.Lines.{lines_of}
@@ -59,13 +59,13 @@ abbrev pub trace_event : Role → Role × List ℕ → Option Event
 trace_event end sent = only_of (other end) sent.0 (Comes sent.1)
 
 -- what is sent in a line of a trace is read so, and any other line as one of a script
-abbrev pub read_event : Role → List ℕ → Option (Role × List ℕ) → Option Event
-read_event end line None = option_and_then (script_event end) (line_in line)
-read_event end line (Some sent) = trace_event end sent
+abbrev pub read_event : Bool → Role → List ℕ → Option (Role × List ℕ) → Option Event
+read_event wide end line None = option_and_then (script_event end) (taken wide (line_in line))
+read_event wide end line (Some sent) = trace_event end sent
 
 -- a longer line isn't in the grammar
-unfoldable pub event_in : Role → List ℕ → Option Event
-event_in end line = if nat_le (length line) most_line then read_event end line (sent_in line) else None
+unfoldable pub event_in : Bool → Role → List ℕ → Option Event
+event_in wide end line = if nat_le (length line) most_line then read_event wide end line (sent_in line) else None
 
 -- ---- what waits in the circuits
 
@@ -230,7 +230,7 @@ asked_turn c s None = marked c (standing s) s (reads_nothing ∷ [])
 asked_turn c s (Some event) = event_turn c s event
 
 unfoldable pub turn : Settings → List ℕ → Station → Turn
-turn c line s = asked_turn c s (event_in c.role line)
+turn c line s = asked_turn c s (event_in c.wide c.role line)
 
 -- one line after another
 unfoldable pub turns : Settings → List (List ℕ) → Station → Turn

@@ -153,7 +153,7 @@ time_said line = if nat_le (length line) most_line then time_in line else None
 
 -- a time before the one that was said last asks for nothing
 abbrev pub answer_turn : Settings → Times → List ℕ → Timed → Option ℕ → TimedTurn
-answer_turn c times line w None = act_turn c times w (asked_act c w.station (event_in c.role line))
+answer_turn c times line w None = act_turn c times w (asked_act c w.station (event_in c.wide c.role line))
 answer_turn c times line w (Some now) =
     if nat_lt now w.now then act_turn c times w (nothing_act w.station)
     else due_turns c times most_due (record w { now = now })

@@ -51,7 +51,7 @@ impl Pipe {
     ghost use Rattle.x25_io.specs.HeldLine.{most_line};
     ghost use Rattle.x25_io.specs.code.MarksFaults.{MarksFaults};
     ghost use Rattle.x25_io.specs.code.Written.{AppendsPrefix, Tells, TellsMore};
-    ghost use Rattle.x25_script.specs.ScriptLine.{plain_command};
+    ghost use Rattle.x25_script.specs.ScriptLine.{is_taken, plain_command};
     ghost use Rattle.x25_station.specs.code.FitsStation.{FitsStation};
     ghost use Rattle.x25_station.specs.Command.{command_of};
     ghost use Rattle.x25_station.specs.Config.{Settings, config_refusal, settings_from};
@@ -222,6 +222,14 @@ impl Pipe {
         self.read_nothing(writer)
     }
 
+    /// Whether a command is taken: with `--wide` any, else one that a line of the strict profile has.
+    fn takes(&self, asked: &Command) -> bool
+        ensures { (c : Settings) (s : State) → FitsStation c self.now.station s
+            → result ≡ is_taken c.wide (plain_command asked.now) }
+    {
+        !asked.is_wide() || self.station.is_wide()
+    }
+
     /// The user of this end asks for something.
     fn ask<W: Sink>(&mut self, command: Command, writer: &mut W) -> Result<(), Fault>
         ensures acts { (c : Settings) (old : Option (List ℕ))
@@ -283,7 +291,7 @@ impl Pipe {
     fn obey<W: Sink>(&mut self, line: &[u8], writer: &mut W) -> Result<(), Fault>
         ensures acts { length line.now ≤ most_line → (c : Settings) (old : Option (List ℕ))
             → Acts c old (W.contents writer.old) (W.contents writer.new) self.old self.new result
-            (λ s. asked_act c s (event_in c.role line.now)) }
+            (λ s. asked_act c s (event_in c.wide c.role line.now)) }
         ensures faults { MarksFaults W.Sink writer.old writer.new result }
     {
         match read_sent(line, self.octets.as_mut_slice()) {
@@ -301,7 +309,7 @@ impl Pipe {
         ensures acts { (c : Settings) (old : Option (List ℕ)) (text : List ℕ)
             → MatchOption line.entry (most_line < length text) (λ held. (held.now ≡ text) × (length text ≤ most_line))
             → Acts c old (W.contents writer.old) (W.contents writer.new) self.old self.new result
-            (λ s. asked_act c s (event_in c.role text)) }
+            (λ s. asked_act c s (event_in c.wide c.role text)) }
         ensures faults { MarksFaults W.Sink writer.old writer.new result }
     {
         match line {
@@ -324,16 +332,20 @@ impl<W: Sink> ScriptTaker<W> for Pipe {
     ghost use Rattle.x25_io.specs.code.MarksFaults.{MarksFaults};
     ghost use Rattle.x25_station.specs.Config.{Settings};
     ghost use Rattle.x25_pipe.specs.Pipe.{asked_act, script_event};
+    ghost use Rattle.x25_script.specs.ScriptLine.{taken};
     ghost use Rattle.x25_pipe.specs.code.Stands.{Acts};
 
     type Answer = Result<(), Fault>;
 
     ghost gives = { λ p was q is result asked. ((c : Settings) (old : Option (List ℕ))
         → Acts c old (W.contents was) (W.contents is) p q result
-        (λ s. asked_act c s (option_and_then (script_event p.end) asked)))
+        (λ s. asked_act c s (option_and_then (script_event p.end) (taken c.wide asked))))
         × MarksFaults W.Sink was is result };
 
     fn command(&mut self, end: Role, asked: Command, writer: &mut W) -> Result<(), Fault> {
+        if !self.takes(&asked) {
+            return self.read_nothing(writer);
+        }
         if is_same(self.end, end) {
             return self.ask(asked, writer);
         }

@@ -147,7 +147,7 @@ impl TimedPipe {
         ensures turns { (c : Settings) (times : Times) (old : Option (List ℕ)) (text : List ℕ)
             → MatchOption line.entry (most_line < length text) (λ held. (held.now ≡ text) × (length text ≤ most_line))
             → TurnsTimed c times old (W.contents writer.old) (W.contents writer.new) self.old self.new result
-            (λ w. act_turn c times w (asked_act c w.station (event_in c.role text))) }
+            (λ w. act_turn c times w (asked_act c w.station (event_in c.wide c.role text))) }
         ensures faults { MarksFaults W.Sink writer.old writer.new result }
     {
         self.pipe.answer(line, writer)?;

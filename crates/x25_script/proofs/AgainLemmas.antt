@@ -1,6 +1,6 @@
 -- A line that is spelled is read.
-use Rattle.std.proofs.Common.{ℕ, ◌+◌, ◌<◌, ◌≤◌, ◌≡◌, ◌∙◌, Bool, true, false, List, ◌∷◌, ◌++◌, length, get_or, take, drop, Option, Some, None, refl, ap, sym, arith, append-nil}
-use Rattle.std.specs.Prelude.{cond, option_and_then, decimal, IfSome}
+use Rattle.std.proofs.Common.{ℕ, ◌+◌, ◌<◌, ◌≤◌, ◌≡◌, ◌∙◌, Bool, true, false, List, [], ◌∷◌, ◌++◌, length, get_or, take, drop, Option, Some, None, refl, ap, sym, subst, arith, append-nil}
+use Rattle.std.specs.Prelude.{cond, option_and_then, codes, decimal, IfSome}
 use Rattle.std.specs.List.{list_all}
 use Rattle.std.proofs.lemmas.Bool.{lt-ltb, ne_eqb}
 use Rattle.std.proofs.lemmas.Fmt.{digits_decimal}
@@ -8,9 +8,10 @@ use Rattle.std.proofs.lemmas.List.{take-append-drop}
 use Rattle.x25_bits.specs.declared.role.Role.{Role}
 use Rattle.x25_bits.specs.declared.role.Role.TheVariants.{Dte, Dce}
 use Rattle.x25_circuit.specs.declared.params.Params.{Params}
+use Rattle.x25_script.specs.declared.given.Given.{Given}
 use Rattle.x25_script.specs.ScriptLine.{PlainCommand, call, accept, clear, send, interrupt, reset, ready, not_ready, restart, pull, connect, disconnect, probe, relink, PlainLine, command, t1, deliver, lose, damage, drain, heal}
-use Rattle.x25_script.specs.Reading.Spelling.{end_text, direction_text, q_text, address_text, IsAddress, IsNumber, Writes, AreParams, params_text, SpellsCommand, Spells}
-use Rattle.x25_script.specs.Reading.{parts_of, number_in, octets_in, small_number_in, params_in, with_params_of, with_params_in, call_in, accept_in, send_in, interrupt_in, on_channel, with_fields, command_in, lose_in, damage_in, drain_in, line_in}
+use Rattle.x25_script.specs.Reading.Spelling.{end_text, direction_text, q_text, address_text, IsAddress, IsNumber, Writes, AreParams, params_text, IsSmall, IsGiven, given_text, SpellsCommand, Spells}
+use Rattle.x25_script.specs.Reading.{parts_of, number_in, octets_in, small_number_in, params_in, with_params_of, with_params_in, labelled_in, one_given, given_of, given_in, with_given_of, with_given_in, giving_on, restart_in, call_in, accept_in, send_in, interrupt_in, on_channel, with_fields, command_in, lose_in, damage_in, drain_in, line_in}
 use Rattle.x25_script.proofs.NumberLemmas.{number_found, own, number_again}
 use Rattle.x25_script.proofs.PartLemmas.{parts_again, whole_again, no_blank, octets_no_blank, digits_no_blank, address_no_blank, end_again, from_again, q_again, address_again, octets_again, octets_found}
 
@@ -58,6 +59,68 @@ with_params_again field None h k = ap with_params_in (append-nil field) ∙ ap (
 with_params_again field (Some p) h k =
     ap (with_params_of (field ++ params_text (Some p))) (parts_again field _ h) ∙ bind_again _ _ p _ (params_again p k) refl
 
+-- ---- what is given
+
+abbrev given : Option ℕ → Option ℕ → Given
+given cause diagnostic = record { cause = cause; diagnostic = diagnostic }
+
+cause_again : (n : ℕ) → n ≤ 255 → labelled_in (codes "cause=") (codes "cause=" ++ decimal n) ≡ Some n
+cause_again n h = small_read n h
+
+diagnostic_again : (n : ℕ) → n ≤ 255 → labelled_in (codes "diag=") (codes "diag=" ++ decimal n) ≡ Some n
+diagnostic_again n h = small_read n h
+
+no_cause : (n : ℕ) → labelled_in (codes "cause=") (codes "diag=" ++ decimal n) ≡ None
+no_cause n = refl
+
+one_cause_again : (n : ℕ) → n ≤ 255 → given_in (codes "cause=" ++ decimal n) ≡ Some (given (Some n) None)
+one_cause_again n h =
+    let text = codes "cause=" ++ decimal n in
+    ap (given_of text) (whole_again text (small_no_blank n h)) ∙ ap (λ o. one_given o (labelled_in (codes "diag=") text)) (cause_again n h)
+
+one_diagnostic_again : (n : ℕ) → n ≤ 255 → given_in (codes "diag=" ++ decimal n) ≡ Some (given None (Some n))
+one_diagnostic_again n h =
+    let text = codes "diag=" ++ decimal n in
+    ap (given_of text) (whole_again text (small_no_blank n h))
+    ∙ ap (λ o. one_given o (labelled_in (codes "diag=") text)) (no_cause n) ∙ ap (λ o. one_given None o) (diagnostic_again n h)
+
+both_again : (n m : ℕ) → n ≤ 255 → m ≤ 255 → given_in ((codes "cause=" ++ decimal n) ++ (32 ∷ (codes "diag=" ++ decimal m))) ≡ Some (given (Some n) (Some m))
+both_again n m h k =
+    let first = codes "cause=" ++ decimal n in
+    let second = codes "diag=" ++ decimal m in
+    ap (given_of (first ++ (32 ∷ second))) (parts_again first second (small_no_blank n h))
+    ∙ bind_again _ _ n _ (cause_again n h) (bind_again _ _ m _ (diagnostic_again m k) refl)
+
+-- behind a first word
+abbrev ReadsBehind : (List ℕ → Given → Type 0) → Type 0
+ReadsBehind Reads = (rest : List ℕ) (g : Given) → given_in rest ≡ Some g → Reads (32 ∷ rest) g
+
+-- all that may be given is read behind a blank, but nothing
+given_again : (Reads : List ℕ → Given → Type 0) → ReadsBehind Reads → Reads [] (given None None) → (cause diagnostic : Option ℕ) → IsSmall cause → IsSmall diagnostic
+    → Reads (given_text (given cause diagnostic)) (given cause diagnostic)
+given_again Reads behind none None None h k = none
+given_again Reads behind none (Some n) None h k =
+    subst (λ (t : List ℕ). Reads t (given (Some n) None)) (sym (append-nil (32 ∷ (codes "cause=" ++ decimal n)))) (behind _ _ (one_cause_again n h))
+given_again Reads behind none None (Some m) h k = behind _ _ (one_diagnostic_again m k)
+given_again Reads behind none (Some n) (Some m) h k = behind _ _ (both_again n m h k)
+
+with_given_again : (field : List ℕ) (g : Given) → list_all no_blank field ≡ true → IsGiven g → with_given_in (field ++ given_text g) ≡ Some (field, g)
+with_given_again field g h k =
+    given_again (λ text read. with_given_in (field ++ text) ≡ Some (field, read))
+    (λ rest read e. ap (with_given_of (field ++ (32 ∷ rest))) (parts_again field rest h) ∙ bind_again _ _ read _ e refl)
+    (ap with_given_in (append-nil field) ∙ ap (with_given_of field) (whole_again field h)) g.cause g.diagnostic k.0 k.1
+
+giving_again : (asked : ℕ → Given → PlainCommand) (channel : ℕ) (g : Given) → IsNumber channel → IsGiven g → giving_on asked (decimal channel ++ given_text g) ≡ Some (asked channel g)
+giving_again asked channel g h k =
+    bind_again _ _ (decimal channel, g) _ (with_given_again (decimal channel) g (decimal_no_blank channel h) k)
+    (bind_again _ _ channel _ (number_read channel h) refl)
+
+restart_again : (g : Given) → IsGiven g → command_in (codes "restart" ++ given_text g) ≡ Some (restart g)
+unfolding command_in parts_of with_fields
+restart_again g k =
+    given_again (λ text read. command_in (codes "restart" ++ text) ≡ Some (restart read))
+    (λ rest read e. bind_again _ _ read _ e refl) refl g.cause g.diagnostic k.0 k.1
+
 call_again : (called calling user digits : List ℕ) (params : Option Params) → IsAddress called → IsAddress calling → AreParams params → Writes digits user
     → call_in (address_text called ++ (32 ∷ (address_text calling ++ (32 ∷ (digits ++ params_text params))))) ≡ Some (call called calling user params)
 unfolding call_in
@@ -101,13 +164,13 @@ pub command_again : (v : PlainCommand) (text : List ℕ) → SpellsCommand v tex
 unfolding command_in parts_of with_fields
 command_again (call called calling user params) text s = ap command_in s.3.2 ∙ call_again called calling user s.3.0 params s.0 s.1 s.2 s.3.1
 command_again (accept channel params) text s = ap command_in s.2 ∙ accept_again channel params s.0 s.1
-command_again (clear channel) text s = ap command_in s.1 ∙ channel_again clear channel s.0
+command_again (clear channel given) text s = ap command_in s.2 ∙ giving_again clear channel given s.0 s.1
 command_again (send channel q user) text s = ap command_in s.1.2 ∙ send_again channel q user s.1.0 s.0 s.1.1
 command_again (interrupt channel user) text s = ap command_in s.1.2 ∙ interrupt_again channel user s.1.0 s.0 s.1.1
-command_again (reset channel) text s = ap command_in s.1 ∙ channel_again reset channel s.0
+command_again (reset channel given) text s = ap command_in s.2 ∙ giving_again reset channel given s.0 s.1
 command_again (ready channel) text s = ap command_in s.1 ∙ channel_again ready channel s.0
 command_again (not_ready channel) text s = ap command_in s.1 ∙ channel_again not_ready channel s.0
-command_again restart text s = ap command_in s
+command_again (restart given) text s = ap command_in s.1 ∙ restart_again given s.0
 command_again pull text s = ap command_in s
 command_again connect text s = ap command_in s
 command_again disconnect text s = ap command_in s

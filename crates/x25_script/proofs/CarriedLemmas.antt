@@ -1,26 +1,30 @@
 -- What a line carries is octets.
-use Rattle.std.proofs.Common.{ℕ, ◌<◌, List, [], ◌∷◌}
+use Rattle.std.proofs.Common.{ℕ, ◌<◌, List, [], ◌∷◌, Option, Some, None, arith}
 use Rattle.std.proofs.lemmas.List.Elements.{All-nil, All-from_get_or}
 use Rattle.hex.proofs.HexLemmas.{decode_of-ok}
 use Rattle.x25_script.specs.HexDigits.{AreOctets}
 use Rattle.x25_script.specs.ScriptLine.{PlainCommand, call, accept, clear, send, interrupt, reset, ready, not_ready, restart, pull, connect, disconnect, probe, relink, PlainLine, command, t1, deliver, lose, damage, drain, heal}
-use Rattle.x25_script.specs.laws.ReadingLaw.{AsksInOctets, IsInOctets}
-use Rattle.x25_script.specs.Reading.Spelling.{Writes, SpellsCommand, Spells}
+use Rattle.x25_script.specs.laws.ReadingLaw.{IsOctet, AsksInOctets, IsInOctets}
+use Rattle.x25_script.specs.Reading.Spelling.{Writes, IsSmall, SpellsCommand, Spells}
 
 written : (text octets : List ℕ) → Writes text octets → AreOctets octets
 written text [] h = All-nil (λ octet. octet < 256)
 written text (octet ∷ octets) h = All-from_get_or (λ octet. octet < 256) (octet ∷ octets) 0 (λ i few. (decode_of-ok text (octet ∷ octets) h).3 i)
+
+small_octet : (o : Option ℕ) → IsSmall o → IsOctet o
+small_octet None h = tt
+small_octet (Some n) h = omega (arith, h)
 
 asked : (v : PlainCommand) (text : List ℕ) → SpellsCommand v text → AsksInOctets v
 asked (call called calling user params) text h = written h.3.0 user h.3.1
 asked (send channel q user) text h = written h.1.0 user h.1.1
 asked (interrupt channel user) text h = written h.1.0 user h.1.1
 asked (accept channel params) text h = tt
-asked (clear channel) text h = tt
-asked (reset channel) text h = tt
+asked (clear channel given) text h = (small_octet given.cause h.1.0, small_octet given.diagnostic h.1.1)
+asked (reset channel given) text h = (small_octet given.cause h.1.0, small_octet given.diagnostic h.1.1)
 asked (ready channel) text h = tt
 asked (not_ready channel) text h = tt
-asked restart text h = tt
+asked (restart given) text h = (small_octet given.cause h.0.0, small_octet given.diagnostic h.0.1)
 asked pull text h = tt
 asked connect text h = tt
 asked disconnect text h = tt

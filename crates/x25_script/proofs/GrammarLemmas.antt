@@ -1,16 +1,18 @@
 -- A line is read exactly where it is spelled.
-use Rattle.std.proofs.Common.{ℕ, ◌==◌, ◌≤◌, ◌≡◌, ◌∙◌, inl, inr, List, ◌∷◌, ◌++◌, Option, Some, None, refl, ap, sym, subst, arith, append-nil}
+use Rattle.std.proofs.Common.{ℕ, ◌==◌, ◌≤◌, ◌≡◌, ◌∙◌, inl, inr, List, ◌∷◌, ◌++◌, length, take, drop, Option, Some, None, refl, ap, sym, subst, arith, append-nil}
 use Rattle.std.specs.Prelude.{option_map, codes, decimal, nat_lt}
+use Rattle.std.specs.Str.{bytes_eq}
 use Rattle.std.proofs.lemmas.Bool.{eqb-false, ltb-true}
 use Rattle.std.proofs.lemmas.Option.{same_Some, none-some, cond_some}
 use Rattle.x25_bits.specs.declared.role.Role.{Role}
 use Rattle.x25_circuit.specs.declared.params.Params.{Params}
+use Rattle.x25_script.specs.declared.given.Given.{Given}
 use Rattle.x25_script.specs.ScriptLine.{PlainCommand, clear, reset, ready, not_ready, restart, pull, connect, disconnect, probe, relink, PlainLine, heal}
-use Rattle.x25_script.specs.Reading.Spelling.{end_text, direction_text, q_text, address_text, IsNumber, AreParams, params_text, SpellsCommand, Spells}
-use Rattle.x25_script.specs.Reading.{Keyword, End, T1, Deliver, Lose, Damage, Drain, Verb, Call, Accept, Clear, Send, Interrupt, Reset, Ready, NotReady}
-use Rattle.x25_script.specs.Reading.{parts_of, end_in, from_in, q_in, number_in, address_in, octets_in, verb_in, keyword_in, small_number_in, params_in, with_params_of, with_params_in, call_in, accept_in, send_in, interrupt_in, on_channel, with_fields, bare_command_in, command_of, command_in, lose_in, damage_in, drain_in, after, bare_line_in, line_of, line_in}
+use Rattle.x25_script.specs.Reading.Spelling.{end_text, direction_text, q_text, address_text, IsNumber, AreParams, params_text, IsGiven, given_text, SpellsCommand, Spells}
+use Rattle.x25_script.specs.Reading.{Keyword, End, T1, Deliver, Lose, Damage, Drain, Verb, Call, Accept, Clear, Send, Interrupt, Reset, Restart, Ready, NotReady}
+use Rattle.x25_script.specs.Reading.{parts_of, end_in, from_in, q_in, number_in, address_in, octets_in, verb_in, keyword_in, small_number_in, params_in, with_params_of, with_params_in, labelled_in, nothing_given, one_given, given_of, given_in, with_given_of, with_given_in, giving_on, restart_in, call_in, accept_in, send_in, interrupt_in, on_channel, with_fields, bare_command_in, command_of, command_in, lose_in, damage_in, drain_in, after, bare_line_in, line_of, line_in}
 use Rattle.x25_script.proofs.NumberLemmas.{number_found}
-use Rattle.x25_script.proofs.PartLemmas.{chosen, bind_found, IsText, word_step, parts_joined, end_found, from_found, q_found, address_found, octets_found}
+use Rattle.x25_script.proofs.PartLemmas.{chosen, bind_found, begun, IsText, word_step, parts_joined, end_found, from_found, q_found, address_found, octets_found}
 
 -- ---- what is read is spelled so
 
@@ -22,6 +24,7 @@ verb_text Clear = codes "clear"
 verb_text Send = codes "send"
 verb_text Interrupt = codes "int"
 verb_text Reset = codes "reset"
+verb_text Restart = codes "restart"
 verb_text Ready = codes "ready"
 verb_text NotReady = codes "notready"
 
@@ -42,8 +45,9 @@ verb_found text verb e =
     word_step (IsText verb_text) text (codes "send") Send verb _ refl e (λ e.
     word_step (IsText verb_text) text (codes "int") Interrupt verb _ refl e (λ e.
     word_step (IsText verb_text) text (codes "reset") Reset verb _ refl e (λ e.
+    word_step (IsText verb_text) text (codes "restart") Restart verb _ refl e (λ e.
     word_step (IsText verb_text) text (codes "ready") Ready verb _ refl e (λ e.
-    word_step (IsText verb_text) text (codes "notready") NotReady verb _ refl e (λ e. absurd (none-some _ e)))))))))
+    word_step (IsText verb_text) text (codes "notready") NotReady verb _ refl e (λ e. absurd (none-some _ e))))))))))
 
 end_keyword : (text : List ℕ) (read : Option Role) (keyword : Keyword) → ((end : Role) → read ≡ Some end → text ≡ end_text end)
     → option_map (λ end. End end) read ≡ Some keyword → text ≡ keyword_text keyword
@@ -110,6 +114,54 @@ with_params_found : (text : List ℕ) (last : List ℕ × Option Params) → wit
 unfolding with_params_in
 with_params_found text last e = with_params_parts text (parts_of text) last refl e
 
+-- a number of 8 bits behind its label
+labelled_found : (label text : List ℕ) (n : ℕ) → labelled_in label text ≡ Some n → (n ≤ 255) × (text ≡ label ++ decimal n)
+labelled_found label text n e = elim (chosen (bytes_eq label (take (length label) text)) _ _ _ e) [
+  | inl p ↦
+      let small = small_spelled (drop (length label) text) n p.1 in
+      (small.0, begun text label p.0 ∙ ap (λ t. label ++ t) small.1)
+  | inr p ↦ absurd (none-some _ p.1)
+]
+
+abbrev IsGivenText : List ℕ → Given → Type 0
+IsGivenText text given = IsGiven given × (32 ∷ text ≡ given_text given)
+
+one_found : (text : List ℕ) (cause diagnostic : Option ℕ) (given : Given) → labelled_in (codes "cause=") text ≡ cause → labelled_in (codes "diag=") text ≡ diagnostic
+    → one_given cause diagnostic ≡ Some given → IsGivenText text given
+one_found text (Some cause) diagnostic given c d e =
+    let found = labelled_found (codes "cause=") text cause c in
+    subst (λ (g : Given). IsGivenText text g) (same_Some _ _ e) ((found.0, tt), ap (λ t. 32 ∷ t) found.1 ∙ sym (append-nil (32 ∷ (codes "cause=" ++ decimal cause))))
+one_found text None (Some diagnostic) given c d e =
+    let found = labelled_found (codes "diag=") text diagnostic d in
+    subst (λ (g : Given). IsGivenText text g) (same_Some _ _ e) ((tt, found.0), ap (λ t. 32 ∷ t) found.1)
+one_found text None None given c d e = absurd (none-some _ e)
+
+given_parts : (text : List ℕ) (parts : Option (List ℕ × List ℕ)) (given : Given) → parts_of text ≡ parts → given_of text parts ≡ Some given → IsGivenText text given
+given_parts text None given same e = one_found text (labelled_in (codes "cause=") text) (labelled_in (codes "diag=") text) given refl refl e
+given_parts text (Some parts) given same e =
+    let cause = bind_found (labelled_in (codes "cause=") parts.0) _ given e in
+    let diagnostic = bind_found (labelled_in (codes "diag=") parts.1) _ given cause.2 in
+    let one = labelled_found (codes "cause=") parts.0 cause.0 cause.1 in
+    let two = labelled_found (codes "diag=") parts.1 diagnostic.0 diagnostic.1 in
+    let all = fields_two text (codes "cause=" ++ decimal cause.0) _ parts same one.1 two.1 in
+    subst (λ (g : Given). IsGivenText text g) (same_Some _ _ diagnostic.2) ((one.0, two.0), ap (λ t. 32 ∷ t) all)
+
+given_found : (text : List ℕ) (given : Given) → given_in text ≡ Some given → IsGivenText text given
+given_found text given e = given_parts text (parts_of text) given refl e
+
+with_given_parts : (text : List ℕ) (parts : Option (List ℕ × List ℕ)) (last : List ℕ × Given) → parts_of text ≡ parts
+    → with_given_of text parts ≡ Some last → IsGiven last.1 × (text ≡ last.0 ++ given_text last.1)
+with_given_parts text None last same e =
+    subst (λ (l : List ℕ × Given). IsGiven l.1 × (text ≡ l.0 ++ given_text l.1)) (same_Some _ _ e) ((tt, tt), sym (append-nil text))
+with_given_parts text (Some parts) last same e =
+    let given = bind_found (given_in parts.1) _ last e in
+    let found = given_found parts.1 given.0 given.1 in
+    subst (λ (l : List ℕ × Given). IsGiven l.1 × (text ≡ l.0 ++ given_text l.1)) (same_Some _ _ given.2)
+    (found.0, parts_joined text parts same ∙ ap (λ t. parts.0 ++ t) found.1)
+
+with_given_found : (text : List ℕ) (last : List ℕ × Given) → with_given_in text ≡ Some last → IsGiven last.1 × (text ≡ last.0 ++ given_text last.1)
+with_given_found text last e = with_given_parts text (parts_of text) last refl e
+
 call_found : (fields : List ℕ) (v : PlainCommand) → call_in fields ≡ Some v → SpellsCommand v (codes "call " ++ fields)
 unfolding call_in
 call_found fields v e =
@@ -172,20 +224,39 @@ channel_found asked word fields v e spell =
     subst (λ (w : PlainCommand). SpellsCommand w (word ++ fields)) (same_Some _ _ channel.2)
     (subst (λ (t : List ℕ). SpellsCommand (asked channel.0) (word ++ t)) (sym one.1) (spell channel.0 one.0))
 
+giving_found : (asked : ℕ → Given → PlainCommand) (word fields : List ℕ) (v : PlainCommand) → giving_on asked fields ≡ Some v
+    → ((n : ℕ) (given : Given) → IsNumber n → IsGiven given → SpellsCommand (asked n given) (word ++ (decimal n ++ given_text given))) → SpellsCommand v (word ++ fields)
+giving_found asked word fields v e spell =
+    let last = bind_found (with_given_in fields) _ v e in
+    let channel = bind_found (number_in last.0.0) _ v last.2 in
+    let one = number_spelled last.0.0 channel.0 channel.1 in
+    let behind = with_given_found fields last.0 last.1 in
+    let all = behind.1 ∙ ap (λ t. t ++ given_text last.0.1) one.1 in
+    subst (λ (w : PlainCommand). SpellsCommand w (word ++ fields)) (same_Some _ _ channel.2)
+    (subst (λ (t : List ℕ). SpellsCommand (asked channel.0 last.0.1) (word ++ t)) (sym all) (spell channel.0 last.0.1 one.0 behind.0))
+
+restart_found : (fields : List ℕ) (v : PlainCommand) → restart_in fields ≡ Some v → SpellsCommand v (codes "restart " ++ fields)
+restart_found fields v e =
+    let given = bind_found (given_in fields) _ v e in
+    let found = given_found fields given.0 given.1 in
+    subst (λ (w : PlainCommand). SpellsCommand w (codes "restart " ++ fields)) (same_Some _ _ given.2)
+    (found.0, ap (λ t. codes "restart" ++ t) found.1)
+
 with_fields_found : (verb : Verb) (fields : List ℕ) (v : PlainCommand) → with_fields verb fields ≡ Some v → SpellsCommand v (verb_text verb ++ (32 ∷ fields))
 unfolding with_fields
 with_fields_found Call fields v e = call_found fields v e
 with_fields_found Accept fields v e = accept_found fields v e
-with_fields_found Clear fields v e = channel_found clear (codes "clear ") fields v e (λ n h. (h, refl))
+with_fields_found Clear fields v e = giving_found clear (codes "clear ") fields v e (λ n given h k. (h, k, refl))
 with_fields_found Send fields v e = send_found fields v e
 with_fields_found Interrupt fields v e = interrupt_found fields v e
-with_fields_found Reset fields v e = channel_found reset (codes "reset ") fields v e (λ n h. (h, refl))
+with_fields_found Reset fields v e = giving_found reset (codes "reset ") fields v e (λ n given h k. (h, k, refl))
+with_fields_found Restart fields v e = restart_found fields v e
 with_fields_found Ready fields v e = channel_found ready (codes "ready ") fields v e (λ n h. (h, refl))
 with_fields_found NotReady fields v e = channel_found not_ready (codes "notready ") fields v e (λ n h. (h, refl))
 
 pub bare_found : (text : List ℕ) (v : PlainCommand) → bare_command_in text ≡ Some v → SpellsCommand v text
 bare_found text v e =
-    word_step SpellsCommand text (codes "restart") restart v _ refl e (λ e.
+    word_step SpellsCommand text (codes "restart") (restart nothing_given) v _ ((tt, tt), refl) e (λ e.
     word_step SpellsCommand text (codes "pull") pull v _ refl e (λ e.
     word_step SpellsCommand text (codes "connect") connect v _ refl e (λ e.
     word_step SpellsCommand text (codes "disconnect") disconnect v _ refl e (λ e.

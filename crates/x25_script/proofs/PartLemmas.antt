@@ -1,5 +1,5 @@
 -- Fields apart by a blank.
-use Rattle.std.proofs.Common.{ℕ, ◌==◌, ◌≡◌, ◌≢◌, ◌∙◌, ◌⊎◌, inl, inr, Bool, true, false, List, [], ◌∷◌, ◌++◌, length, Option, Some, None, Result, Ok, Err, refl, ap, sym, subst, arith}
+use Rattle.std.proofs.Common.{ℕ, ◌==◌, ◌≡◌, ◌≢◌, ◌∙◌, ◌⊎◌, inl, inr, Bool, true, false, List, [], ◌∷◌, ◌++◌, length, take, drop, Option, Some, None, Result, Ok, Err, refl, ap, sym, subst, arith}
 use Rattle.std.specs.Prelude.{cond, not, option_map, option_and_then, ◌&&◌, if◌then◌else◌, codes, nat_eq}
 use Rattle.std.specs.Char.{is_ascii_digit, is_ascii_hexdigit}
 use Rattle.std.specs.List.{list_all}
@@ -7,10 +7,12 @@ use Rattle.std.specs.Str.{bytes_eq}
 use Rattle.std.proofs.lemmas.Bool.{and_parts, and_from, eqb-true, eqb-false, false_from_ne_true, not-true}
 use Rattle.std.proofs.lemmas.Bool.Decides.{nat_tests}
 use Rattle.std.proofs.lemmas.Slice.Eq.{bytes_eq-Decides}
+use Rattle.std.proofs.lemmas.List.{take-append-drop}
+use Rattle.std.proofs.Math.Seq.{take_at, drop-append_seam}
 use Rattle.x25_bits.specs.declared.role.Role.{Role}
 use Rattle.x25_bits.specs.declared.role.Role.TheVariants.{Dte, Dce}
 use Rattle.x25_script.specs.Reading.Spelling.{end_text, direction_text, q_text, address_text, IsAddress, Writes}
-use Rattle.x25_script.specs.Reading.{parts_of, onto_first, end_in, from_in, q_in, digits_in, address_in, octets_in}
+use Rattle.x25_script.specs.Reading.{parts_of, onto_first, end_in, from_in, q_in, digits_in, address_in, octets_in, small_number_in, labelled_in, IsNotBehind}
 use Rattle.x25_script.specs.HexDigits.{octets_of}
 use Rattle.hex.specs.declared.error.FromHexError.{FromHexError}
 use Rattle.hex.specs.Hex.{decode_of}
@@ -38,6 +40,31 @@ bytes_same a b h = (bytes_eq-Decides a b).0 h
 
 pub bytes_other : (a b : List ℕ) → bytes_eq a b ≡ false → a ≢ b
 bytes_other a b h e = let same = (bytes_eq-Decides a b).1 e in absurd (cc)
+
+-- a text that begins with a word, and one that doesn't
+pub begun : (text word : List ℕ) → bytes_eq word (take (length word) text) ≡ true → text ≡ word ++ drop (length word) text
+begun text word h =
+    sym (take-append-drop (length word) text) ∙ ap (λ front. front ++ drop (length word) text) (sym ((bytes_eq-Decides word (take (length word) text)).0 h))
+
+pub not_begun : (text word : List ℕ) → bytes_eq word (take (length word) text) ≡ false → IsNotBehind word text
+not_begun text word h rest e =
+    let front : word ≡ take (length word) text = sym (ap (take (length word)) e ∙ take_at word rest (length word) refl) in
+    let is = (bytes_eq-Decides word (take (length word) text)).1 front in
+    absurd (cc)
+
+-- a number behind a label
+pub labelled_some : (label text rest : List ℕ) → text ≡ label ++ rest → labelled_in label text ≡ small_number_in rest
+labelled_some label text rest e =
+    ap (labelled_in label) e
+    ∙ ap (λ b. cond b (small_number_in (drop (length label) (label ++ rest))) None) ((bytes_eq-Decides label (take (length label) (label ++ rest))).1 (sym (take_at label rest (length label) refl)))
+    ∙ ap small_number_in (drop-append_seam label rest)
+
+pub labelled_none : (label text : List ℕ) → IsNotBehind label text → labelled_in label text ≡ None
+labelled_none label text none = test (bytes_eq label (take (length label) text)) refl
+  where
+    test : (b : Bool) → bytes_eq label (take (length label) text) ≡ b → cond b (small_number_in (drop (length label) text)) None ≡ None
+    test true is = absurd (none _ (begun text label is))
+    test false is = refl
 
 -- what a text is read as, where each text has its own
 abbrev pub IsText : {A : Type 0} → (A → List ℕ) → A → List ℕ → Type 0

@@ -1,27 +1,13 @@
 -- A line is read by its first word.
-use Rattle.std.proofs.Common.{ℕ, ◌≡◌, ◌∙◌, ◌≢◌, List, [], ◌∷◌, ◌++◌, true, false, Option, Some, None, refl, ap, sym, take, drop, length, codes}
-use Rattle.std.specs.Str.{bytes_eq}
+use Rattle.std.proofs.Common.{ℕ, ◌≡◌, ◌∙◌, ◌≢◌, List, ◌∷◌, ◌++◌, Option, Some, None, refl, ap, sym, codes}
 use Rattle.std.proofs.lemmas.Option.{none-some}
-use Rattle.std.proofs.lemmas.Slice.Eq.{bytes_eq-Decides}
-use Rattle.std.proofs.lemmas.List.{take-append-drop}
-use Rattle.std.proofs.Math.Seq.{take_at}
 use Rattle.x25_bits.specs.declared.role.Role.TheVariants.{Dte, Dce}
+use Rattle.x25_script.specs.declared.given.Given.{Given}
 use Rattle.x25_script.specs.ScriptLine.{PlainCommand, call, accept, clear, send, interrupt, reset, ready, not_ready, restart, pull, connect, disconnect, probe, relink, PlainLine, command, t1, deliver, lose, damage, drain, heal}
-use Rattle.x25_script.specs.Reading.Spelling.{Spells, SpellsCommand}
-use Rattle.x25_script.specs.Reading.{parts_of, Keyword, End, T1, Deliver, Lose, Damage, Drain, Verb, Call, Accept, Clear, Send, Interrupt, Reset, Ready, NotReady, with_fields, bare_command_in, command_in, after, line_in, IsNotBehind}
+use Rattle.x25_script.specs.Reading.Spelling.{Spells, SpellsCommand, given_text}
+use Rattle.x25_script.specs.Reading.{parts_of, Keyword, End, T1, Deliver, Lose, Damage, Drain, Verb, Call, Accept, Clear, Send, Interrupt, Reset, Restart, Ready, NotReady, with_fields, bare_command_in, command_in, after, line_in, IsNotBehind}
 use Rattle.x25_script.proofs.AgainLemmas.{command_again}
 use Rattle.x25_script.proofs.GrammarLemmas.{bare_found, command_found, keyword_text, line_found, verb_text}
-
--- a text that begins with a word, and one that doesn't
-pub begun : (text word : List ℕ) → bytes_eq word (take (length word) text) ≡ true → text ≡ word ++ drop (length word) text
-begun text word h =
-    sym (take-append-drop (length word) text) ∙ ap (λ front. front ++ drop (length word) text) (sym ((bytes_eq-Decides word (take (length word) text)).0 h))
-
-pub not_begun : (text word : List ℕ) → bytes_eq word (take (length word) text) ≡ false → IsNotBehind word text
-not_begun text word h rest e =
-    let front : word ≡ take (length word) text = sym (ap (take (length word)) e ∙ take_at word rest (length word) refl) in
-    let is = (bytes_eq-Decides word (take (length word) text)).1 front in
-    absurd (cc)
 
 -- ---- a word with a blank behind it
 
@@ -47,6 +33,7 @@ command_behind Clear text fields e = ap command_in e
 command_behind Send text fields e = ap command_in e
 command_behind Interrupt text fields e = ap command_in e
 command_behind Reset text fields e = ap command_in e
+command_behind Restart text fields e = ap command_in e
 command_behind Ready text fields e = ap command_in e
 command_behind NotReady text fields e = ap command_in e
 
@@ -72,20 +59,26 @@ no_line text no_deliver no_dte no_dce no_drain no_t1 no_lose no_damage no_heal =
 
 -- what is left are the commands without fields
 pub bare_alone : (text : List ℕ) → IsNotBehind (codes "send ") text → IsNotBehind (codes "accept ") text → IsNotBehind (codes "call ") text → IsNotBehind (codes "int ") text
-    → IsNotBehind (codes "reset ") text → IsNotBehind (codes "clear ") text → IsNotBehind (codes "ready ") text → IsNotBehind (codes "notready ") text
+    → IsNotBehind (codes "reset ") text → IsNotBehind (codes "clear ") text → IsNotBehind (codes "ready ") text → IsNotBehind (codes "notready ") text → IsNotBehind (codes "restart ") text
     → command_in text ≡ bare_command_in text
-bare_alone text no_send no_accept no_call no_int no_reset no_clear no_ready no_not_ready = go (command_in text) refl
+bare_alone text no_send no_accept no_call no_int no_reset no_clear no_ready no_not_ready no_restart = go (command_in text) refl
   where
+    restarts : (cause diagnostic : Option ℕ) → (let given : Given = record { cause = cause; diagnostic = diagnostic } in text ≡ codes "restart" ++ given_text given)
+        → command_in text ≡ Some (restart (record { cause = cause; diagnostic = diagnostic })) → command_in text ≡ bare_command_in text
+    restarts None None s e = e ∙ sym (ap bare_command_in s)
+    restarts (Some cause) diagnostic s e = absurd (no_restart _ s)
+    restarts None (Some diagnostic) s e = absurd (no_restart _ s)
+
     spelled : (v : PlainCommand) → SpellsCommand v text → command_in text ≡ Some v → command_in text ≡ bare_command_in text
     spelled (call called calling user params) s e = absurd (no_call _ s.3.2)
     spelled (accept channel params) s e = absurd (no_accept _ s.2)
-    spelled (clear channel) s e = absurd (no_clear _ s.1)
+    spelled (clear channel given) s e = absurd (no_clear _ s.2)
     spelled (send channel q user) s e = absurd (no_send _ s.1.2)
     spelled (interrupt channel user) s e = absurd (no_int _ s.1.2)
-    spelled (reset channel) s e = absurd (no_reset _ s.1)
+    spelled (reset channel given) s e = absurd (no_reset _ s.2)
     spelled (ready channel) s e = absurd (no_ready _ s.1)
     spelled (not_ready channel) s e = absurd (no_not_ready _ s.1)
-    spelled restart s e = e ∙ sym (ap bare_command_in s)
+    spelled (restart given) s e = restarts given.cause given.diagnostic s.1 e
     spelled pull s e = e ∙ sym (ap bare_command_in s)
     spelled connect s e = e ∙ sym (ap bare_command_in s)
     spelled disconnect s e = e ∙ sym (ap bare_command_in s)

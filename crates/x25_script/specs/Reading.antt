@@ -1,6 +1,6 @@
 -- What characters read as: the line that they spell, or none (profile).
 use Rattle.std.specs.Prelude.{ℕ, ◌≡◌, ◌≢◌, ◌++◌, ◌==◌, ◌&&◌, nat_lt, Bool, true, false, List, [], ◌∷◌, length, codes}
-use Rattle.std.specs.Prelude.{decimal}
+use Rattle.std.specs.Prelude.{decimal, drop, take}
 use Rattle.std.specs.Prelude.{if◌then◌else◌, Option, Some, None, option_map, option_and_then}
 use Rattle.std.specs.Char.{is_ascii_digit}
 use Rattle.std.specs.List.{list_all}
@@ -10,6 +10,7 @@ use denote.Ref.{Bor}
 use Rattle.x25_bits.specs.declared.role.Role.{Role}
 use Rattle.x25_bits.specs.declared.role.Role.TheVariants.{Dte, Dce}
 use Rattle.x25_circuit.specs.declared.params.Params.{Params}
+use Rattle.x25_script.specs.declared.given.Given.{Given}
 use Rattle.x25_script.specs.declared.script_line.Command.{Command}
 use Rattle.x25_script.specs.HexDigits.{octets_of}
 use Rattle.x25_script.specs.ScriptLine.{PlainCommand, call, accept, clear, send, interrupt, reset, ready, not_ready}
@@ -35,6 +36,7 @@ pub data Verb : Type 0 where
   Send : Verb
   Interrupt : Verb
   Reset : Verb
+  Restart : Verb
   Ready : Verb
   NotReady : Verb
 
@@ -93,6 +95,7 @@ verb_in text =
     else if bytes_eq text (codes "send") then Some Send
     else if bytes_eq text (codes "int") then Some Interrupt
     else if bytes_eq text (codes "reset") then Some Reset
+    else if bytes_eq text (codes "restart") then Some Restart
     else if bytes_eq text (codes "ready") then Some Ready
     else if bytes_eq text (codes "notready") then Some NotReady
     else None
@@ -134,6 +137,42 @@ with_params_of text (Some parts) = do
 unfoldable pub with_params_in : List ℕ → Option (List ℕ × Option Params)
 with_params_in text = with_params_of text (parts_of text)
 
+-- the number of 8 bits behind this label
+abbrev pub labelled_in : List ℕ → List ℕ → Option ℕ
+labelled_in label text = if bytes_eq label (take (length label) text) then small_number_in (drop (length label) text)
+    else None
+
+abbrev pub nothing_given : Given
+nothing_given = record { cause = None; diagnostic = None }
+
+-- a cause, or else a diagnostic
+abbrev pub one_given : Option ℕ → Option ℕ → Option Given
+one_given (Some cause) diagnostic = Some (record { cause = Some cause; diagnostic = None })
+one_given None (Some diagnostic) = Some (record { cause = None; diagnostic = Some diagnostic })
+one_given None None = None
+
+-- of a text and its parts at the first blank: one of these, or first the one and then the other
+abbrev pub given_of : List ℕ → Option (List ℕ × List ℕ) → Option Given
+given_of text None = one_given (labelled_in (codes "cause=") text) (labelled_in (codes "diag=") text)
+given_of text (Some parts) = do
+  cause ← labelled_in (codes "cause=") parts.0
+  diagnostic ← labelled_in (codes "diag=") parts.1
+  Some (record { cause = Some cause; diagnostic = Some diagnostic })
+
+abbrev pub given_in : List ℕ → Option Given
+given_in text = given_of text (parts_of text)
+
+-- of a text and its parts at the first blank
+abbrev pub with_given_of : List ℕ → Option (List ℕ × List ℕ) → Option (List ℕ × Given)
+with_given_of text None = Some (text, nothing_given)
+with_given_of text (Some parts) = do
+  given ← given_in parts.1
+  Some (parts.0, given)
+
+-- the last field that has to stand, and what is given where a blank follows it
+abbrev pub with_given_in : List ℕ → Option (List ℕ × Given)
+with_given_in text = with_given_of text (parts_of text)
+
 unfoldable pub call_in : List ℕ → Option PlainCommand
 call_in text = do
   first ← parts_of text
@@ -172,18 +211,32 @@ on_channel asked text = do
   channel ← number_in text
   Some (asked channel)
 
+-- a command of a channel, with what is given
+abbrev pub giving_on : (ℕ → Given → PlainCommand) → List ℕ → Option PlainCommand
+giving_on asked text = do
+  last ← with_given_in text
+  channel ← number_in last.0
+  Some (asked channel last.1)
+
+-- a restart with what is given
+abbrev pub restart_in : List ℕ → Option PlainCommand
+restart_in text = do
+  given ← given_in text
+  Some (restart given)
+
 unfoldable pub with_fields : Verb → List ℕ → Option PlainCommand
 with_fields Call text = call_in text
 with_fields Accept text = accept_in text
-with_fields Clear text = on_channel clear text
+with_fields Clear text = giving_on clear text
 with_fields Send text = send_in text
 with_fields Interrupt text = interrupt_in text
-with_fields Reset text = on_channel reset text
+with_fields Reset text = giving_on reset text
+with_fields Restart text = restart_in text
 with_fields Ready text = on_channel ready text
 with_fields NotReady text = on_channel not_ready text
 
 abbrev pub bare_command_in : List ℕ → Option PlainCommand
-bare_command_in text = if bytes_eq text (codes "restart") then Some restart
+bare_command_in text = if bytes_eq text (codes "restart") then Some (restart nothing_given)
     else if bytes_eq text (codes "pull") then Some pull
     else if bytes_eq text (codes "connect") then Some connect
     else if bytes_eq text (codes "disconnect") then Some disconnect
@@ -263,6 +316,10 @@ GivesText (Some text) read = read ≡ Some text.now
 abbrev pub GivesWithParams : Option (Bor (List ℕ) × Option Params) → Option (List ℕ × Option Params) → Type 0
 GivesWithParams None read = read ≡ None
 GivesWithParams (Some last) read = read ≡ Some (last.0.now, last.1)
+
+abbrev pub GivesWithGiven : Option (Bor (List ℕ) × Given) → Option (List ℕ × Given) → Type 0
+GivesWithGiven None read = read ≡ None
+GivesWithGiven (Some last) read = read ≡ Some (last.0.now, last.1)
 
 abbrev pub GivesCommand : Option Command → Option PlainCommand → Type 0
 GivesCommand None read = read ≡ None

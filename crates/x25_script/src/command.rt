@@ -1,10 +1,12 @@
 //! What the user of an end asks for.
 ghost use Rattle.std.specs.Prelude.{codes};
 ghost use Rattle.x25_script.specs.Reading.{accept_in, bare_command_in, call_in, command_in, interrupt_in, send_in};
-ghost use Rattle.x25_script.specs.Reading.{with_fields, GivesCommand};
-ghost use Rattle.x25_script.specs.Reading.{Clear, IsNotBehind, NotReady, Ready, Reset};
+ghost use Rattle.x25_script.specs.Reading.{giving_on, restart_in, with_fields, GivesCommand};
+ghost use Rattle.x25_script.specs.Reading.{IsNotBehind, NotReady, Ready};
+ghost use Rattle.x25_script.specs.ScriptLine.{clear as command_clear, reset as command_reset};
 
 use crate::fields::{address, behind, is, number, octets, q, split_blank};
+use crate::given::{Given, read_given, with_given};
 use crate::params::with_params;
 use crate::script_line::Command;
 
@@ -60,20 +62,31 @@ fn interrupt(text: &[u8]) -> Option<Command<'_>>
     })
 }
 
-#[tactic(auto, unfolding(crate::specs::Reading::with_fields))]
 fn clear(text: &[u8]) -> Option<Command<'_>>
-    ensures { GivesCommand result (with_fields Clear text.now) }
+    ensures { GivesCommand result (giving_on command_clear text.now) }
 {
-    let channel = number(text)?;
-    Some(Command::Clear { channel })
+    let (channel, given) = with_given(text)?;
+    Some(Command::Clear {
+        channel: number(channel)?,
+        given,
+    })
 }
 
-#[tactic(auto, unfolding(crate::specs::Reading::with_fields))]
 fn reset(text: &[u8]) -> Option<Command<'_>>
-    ensures { GivesCommand result (with_fields Reset text.now) }
+    ensures { GivesCommand result (giving_on command_reset text.now) }
 {
-    let channel = number(text)?;
-    Some(Command::Reset { channel })
+    let (channel, given) = with_given(text)?;
+    Some(Command::Reset {
+        channel: number(channel)?,
+        given,
+    })
+}
+
+fn restart(text: &[u8]) -> Option<Command<'_>>
+    ensures { GivesCommand result (restart_in text.now) }
+{
+    let given = read_given(text)?;
+    Some(Command::Restart { given })
 }
 
 #[tactic(auto, unfolding(crate::specs::Reading::with_fields))]
@@ -97,7 +110,9 @@ fn bare_command(text: &[u8]) -> Option<Command<'_>>
     ensures { GivesCommand result (bare_command_in text.now) }
 {
     if is(text, "restart") {
-        Some(Command::Restart)
+        Some(Command::Restart {
+            given: Given::nothing(),
+        })
     } else if is(text, "pull") {
         Some(Command::Pull)
     } else if is(text, "connect") {
@@ -136,6 +151,9 @@ pub(crate) fn other_command(text: &[u8]) -> Option<Command<'_>>
     }
     if let Some(fields) = behind(text, b"notready ") {
         return not_ready(fields);
+    }
+    if let Some(fields) = behind(text, b"restart ") {
+        return restart(fields);
     }
     bare_command(text)
 }

@@ -5,12 +5,14 @@
 
 mod command;
 mod fields;
+mod given;
 mod hex_digits;
 mod law;
 mod params;
 mod reading;
 mod script_line;
 
+pub use given::Given;
 pub use hex_digits::HexDigits;
 pub use law::{lines_are_in_octets, reading_is_the_grammar};
 pub use reading::{read_command, read_line};

@@ -1,7 +1,8 @@
-ghost use Rattle.std.specs.Prelude.{Option, None, Some};
+ghost use Rattle.std.specs.Prelude.{◌≡◌, Option, None, Some};
 ghost use Rattle.x25_script.specs.ScriptLine.{PlainLine, command, damage, deliver, drain, heal, lose, plain_command};
-ghost use Rattle.x25_script.specs.ScriptLine.{t1};
+ghost use Rattle.x25_script.specs.ScriptLine.{is_wide, t1};
 
+use crate::given::Given;
 use crate::hex_digits::HexDigits;
 use x25_bits::Role;
 use x25_circuit::Params;
@@ -11,7 +12,8 @@ use x25_circuit::Params;
 /// Addresses are digits `0` to `9`, any number of them; whether a call may have them is judged by the call. `user` is
 /// user data as octets. `channel` is any number of 16 bits; whether there is such a channel is judged by the call.
 /// `params` are the packet sizes and windows that are proposed, or answered, where the line has them: any numbers of 8
-/// bits; whether a call may propose them, or its acceptance answer them, is judged by the call.
+/// bits; whether a call may propose them, or its acceptance answer them, is judged by the call. `given` are a cause and
+/// a diagnostic, where the line has them; whether the user of this end may give them is judged by the call.
 #[derive(Debug, Drop)]
 pub enum Command<'a> {
     Call {
@@ -28,6 +30,7 @@ pub enum Command<'a> {
     },
     Clear {
         channel: u16,
+        given: Given,
     },
     Send {
         channel: u16,
@@ -40,6 +43,7 @@ pub enum Command<'a> {
     },
     Reset {
         channel: u16,
+        given: Given,
     },
     Ready {
         channel: u16,
@@ -47,12 +51,29 @@ pub enum Command<'a> {
     NotReady {
         channel: u16,
     },
-    Restart,
+    Restart {
+        given: Given,
+    },
     Pull,
     Connect,
     Disconnect,
     Probe,
     Relink,
+}
+
+impl Command<'_> {
+    /// Whether the line gives more than one of the strict profile has.
+    #[inline(always)]
+    pub fn is_wide(&self) -> bool
+        ensures { result ≡ is_wide (plain_command self.now) }
+    {
+        match self {
+            Command::Clear { given, .. }
+            | Command::Reset { given, .. }
+            | Command::Restart { given } => given.is_any(),
+            _ => false,
+        }
+    }
 }
 
 /// What takes lines of a script: each kind comes to a method of its own, so that no value of a line is made. `with` is

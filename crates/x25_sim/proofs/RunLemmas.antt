@@ -10,9 +10,10 @@ use Rattle.x25_line.specs.laws.Stations.{is_visible, replaced}
 use Rattle.x25_station.specs.declared.config.Cfg.{Cfg}
 use Rattle.x25_station.specs.Config.{Settings, settings_from}
 use Rattle.x25_station.specs.Step.{Outcome, Did, Refused, fires, commands}
-use Rattle.x25_script.specs.ScriptLine.{PlainCommand, call, accept, clear, send, interrupt, reset, ready, not_ready, restart, pull, connect, disconnect, probe, relink, PlainLine, command, t1, deliver, lose, damage, drain, heal}
+use Rattle.x25_script.specs.ScriptLine.{PlainCommand, call, accept, clear, send, interrupt, reset, ready, not_ready, restart, pull, connect, disconnect, probe, relink, PlainLine, command, t1, deliver, lose, damage, drain, heal, is_taken, taken}
+use Rattle.std.specs.Option.{unwrap_or}
 use Rattle.x25_script.specs.Reading.{line_in}
-use Rattle.x25_script.specs.laws.ReadingLaw.{AsksInOctets, IsInOctets, ReadsOctets}
+use Rattle.x25_script.specs.laws.ReadingLaw.{IsOctet, AsksInOctets, IsInOctets, ReadsOctets}
 use Rattle.x25_io.specs.Lines.{lines_of}
 use Rattle.x25_world.specs.World.{World, OnTap, AtEnd, swapped, Act, Commands, Receives, Fires, Loses, Damages, Event, WorldOutcome, Happened, Declined, of_station, delivered, on_line, is_on_line, acts, swapped_back, acts_at, happens, refusal_of, after, run, AreAccepted, start, connected, established}
 use Rattle.x25_world.specs.declared.error.WorldError.{WorldError}
@@ -125,21 +126,22 @@ no_frames_marked false e = refl
 
 -- ---- what users hand down is octets
 
-zeros : (0 < 256) × (0 < 256)
-zeros = (omega arith, omega arith)
+given : (o : Option ℕ) → IsOctet o → unwrap_or o 0 < 256
+given None h = omega arith
+given (Some n) h = h
 
 handed : (asked : PlainCommand) → AsksInOctets asked → ActsInOctets (Commands (command_asked asked))
 handed (call called calling user None) h = h
 handed (call called calling user (Some four)) h = h
 handed (accept channel None) h = tt
 handed (accept channel (Some four)) h = tt
-handed (clear channel) h = zeros
+handed (clear channel g) h = (given g.cause h.0, given g.diagnostic h.1)
 handed (send channel q user) h = h
 handed (interrupt channel user) h = h
-handed (reset channel) h = zeros
+handed (reset channel g) h = (given g.cause h.0, given g.diagnostic h.1)
 handed (ready channel) h = tt
 handed (not_ready channel) h = tt
-handed restart h = zeros
+handed (restart g) h = (given g.cause h.0, given g.diagnostic h.1)
 handed pull h = tt
 handed connect h = tt
 handed disconnect h = tt
@@ -171,13 +173,13 @@ octets-append (e ∷ events) more h k = (h.0, octets-append events more h.1 k)
 other_asked : (end : Role) (asked : PlainCommand) (refusal : Option WorldError) → IsNoConnectLine (Some (command end asked)) → IsNoConnect (Commands (command_asked asked)) refusal
 other_asked end (call called calling user params) refusal h = tt
 other_asked end (accept channel params) refusal h = tt
-other_asked end (clear channel) refusal h = tt
+other_asked end (clear channel given) refusal h = tt
 other_asked end (send channel q user) refusal h = tt
 other_asked end (interrupt channel user) refusal h = tt
-other_asked end (reset channel) refusal h = tt
+other_asked end (reset channel given) refusal h = tt
 other_asked end (ready channel) refusal h = tt
 other_asked end (not_ready channel) refusal h = tt
-other_asked end restart refusal h = tt
+other_asked end (restart given) refusal h = tt
 other_asked end pull refusal h = tt
 other_asked end connect refusal h = absurd h
 other_asked end disconnect refusal h = tt
@@ -321,9 +323,37 @@ asked_runs : (P : Type 0) (cfg : Cfg) (shown : Shown) (w : World) (asked : Optio
 asked_runs P cfg shown w None h other = stays P cfg shown w (reads_nothing ∷ []) refl refl
 asked_runs P cfg shown w (Some line) h other = line_runs P cfg shown line w h other
 
+taken_some : (b : Bool) (line : PlainLine) → IsInOctets line → AskedInOctets (cond b (Some line) None)
+taken_some true line h = h
+taken_some false line h = tt
+
+taken_octets : (wide : Bool) (read : Option PlainLine) → AskedInOctets read → AskedInOctets (taken wide read)
+taken_octets wide None h = tt
+taken_octets wide (Some (command end asked)) h = taken_some (is_taken wide asked) (command end asked) h
+taken_octets wide (Some (t1 end)) h = h
+taken_octets wide (Some (deliver from)) h = h
+taken_octets wide (Some (lose from place)) h = h
+taken_octets wide (Some (damage from place octets)) h = h
+taken_octets wide (Some (drain count)) h = h
+taken_octets wide (Some heal) h = h
+
+taken_no_connect : (b : Bool) (line : PlainLine) → IsNoConnectLine (Some line) → IsNoConnectLine (cond b (Some line) None)
+taken_no_connect true line h = h
+taken_no_connect false line h = tt
+
+taken_none : (wide : Bool) (read : Option PlainLine) → IsNoConnectLine read → IsNoConnectLine (taken wide read)
+taken_none wide None h = tt
+taken_none wide (Some (command end asked)) h = taken_no_connect (is_taken wide asked) (command end asked) h
+taken_none wide (Some (t1 end)) h = tt
+taken_none wide (Some (deliver from)) h = tt
+taken_none wide (Some (lose from place)) h = tt
+taken_none wide (Some (damage from place octets)) h = tt
+taken_none wide (Some (drain count)) h = tt
+taken_none wide (Some heal) h = tt
+
 turn_runs : (P : Type 0) → ReadsOctets → (cfg : Cfg) (shown : Shown) (line : List ℕ) (w : World) → (P → IsNoConnectLine (asked_in line)) → Runs P cfg shown w (turn cfg shown line w)
 unfolding turn
-turn_runs P reads cfg shown line w other = asked_runs P cfg shown w (asked_in line) (asked_octets reads line) other
+turn_runs P reads cfg shown line w other = asked_runs P cfg shown w (taken cfg.wide (asked_in line)) (taken_octets cfg.wide (asked_in line) (asked_octets reads line)) (λ p. taken_none cfg.wide (asked_in line) (other p))
 
 lines_run : (P : Type 0) → ReadsOctets → (cfg : Cfg) (shown : Shown) (lines : List (List ℕ)) (w : World) → (P → NoneAsks lines) → Runs P cfg shown w (turns cfg shown lines w)
 unfolding turns

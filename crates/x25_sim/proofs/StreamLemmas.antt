@@ -7,6 +7,7 @@ use Rattle.x25_io.specs.HeldLine.{most_line}
 use Rattle.x25_io.specs.code.Written.{AppendsPrefix}
 use Rattle.x25_io.specs.declared.fault.Fault.{Fault}
 use Rattle.x25_script.specs.Reading.{line_in}
+use Rattle.x25_script.specs.ScriptLine.{taken}
 use Rattle.x25_station.specs.declared.config.Cfg.{Cfg}
 use Rattle.x25_world.specs.World.{World}
 use Rattle.x25_sim.specs.declared.stage.Shown.{Shown}
@@ -76,7 +77,7 @@ asks line few = ap (λ b. if b then line_in line else None) (le-leb (length line
 
 -- what a line asks for happens, where it isn't too long
 pub obeyed : (cfg : Cfg) (shown : Shown) (old now next : Option (List ℕ)) (s u : Stage) (result : Result Unit Fault) (line : List ℕ) → length line ≤ most_line
-    → Turns cfg shown old now next s u result (λ w. asked_turn cfg shown w (line_in line)) → Turns cfg shown old now next s u result (turn cfg shown line)
+    → Turns cfg shown old now next s u result (λ w. asked_turn cfg shown w (taken cfg.wide (line_in line))) → Turns cfg shown old now next s u result (turn cfg shown line)
 unfolding turn
 obeyed cfg shown old now next s u result line few h = λ w told refused stands.
-    subst (λ read. Stood cfg shown old next u told refused result (asked_turn cfg shown w read)) (sym (asks line few)) (h w told refused stands)
+    subst (λ read. Stood cfg shown old next u told refused result (asked_turn cfg shown w (taken cfg.wide read))) (sym (asks line few)) (h w told refused stands)

@@ -6,7 +6,7 @@ use Rattle.x25_bits.specs.Role.{other}
 use Rattle.x25_bits.specs.declared.role.Role.{Role}
 use Rattle.x25_bits.specs.declared.role.Role.TheVariants.{Dte, Dce}
 use Rattle.x25_station.specs.declared.config.Cfg.{Cfg}
-use Rattle.x25_script.specs.ScriptLine.{PlainLine, command, t1, deliver, lose, damage, drain, heal, pull}
+use Rattle.x25_script.specs.ScriptLine.{PlainLine, command, t1, deliver, lose, damage, drain, heal, pull, taken}
 use Rattle.x25_script.specs.Reading.{line_in}
 use Rattle.x25_io.specs.Lines.{lines_of}
 use Rattle.x25_console.specs.Commands.{command_asked}
@@ -139,7 +139,7 @@ asked_turn cfg shown w None = record { next = w; sayings = reads_nothing ∷ [] 
 asked_turn cfg shown w (Some line) = line_turn cfg shown line w
 
 unfoldable pub turn : Cfg → Shown → List ℕ → World → Turn
-turn cfg shown line w = asked_turn cfg shown w (asked_in line)
+turn cfg shown line w = asked_turn cfg shown w (taken cfg.wide (asked_in line))
 
 -- one line after another
 unfoldable pub turns : Cfg → Shown → List (List ℕ) → World → Turn

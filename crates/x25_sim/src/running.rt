@@ -71,11 +71,12 @@ fn play<P: Reporter, R: Source, W: Sink>(
 /// With `loose` comments, which begin with `#`, and empty lines are passed over, and what may stand beside what a line
 /// asks: a time and its tab before it, a carriage return at its end.
 ///
-/// A line outside of the grammar, or of more than 131,200 characters, becomes `? 60`, and is reported; an event that is
-/// refused `! ` and its number, which is the station's own where the station refuses. `drain` is several deliveries,
-/// and `heal` deliveries, firings of timer T1 and pulls, each a step. What was told is let go of. Buffers are made
-/// first; a growth that is refused later ends the run with `NoMemory`. A reader is called at most 2^64 - 1 times; the
-/// clauses on the text speak of scripts of fewer octets than that. Profile.
+/// A line outside of the grammar, of more than 131,200 characters, or with a cause or a diagnostic where `Cfg::wide`
+/// isn't set, becomes `? 60`, and is reported; an event that is refused `! ` and its number, which is the station's own
+/// where the station refuses. `drain` is several deliveries, and `heal` deliveries, firings of timer T1 and pulls, each
+/// a step. What was told is let go of. Buffers are made first; a growth that is refused later ends the run with
+/// `NoMemory`. A reader is called at most 2^64 - 1 times; the clauses on the text speak of scripts of fewer octets than
+/// that. Profile.
 pub fn sim<P: Reporter, R: Source, W: Sink>(
     alloc: Global,
     down: bool,

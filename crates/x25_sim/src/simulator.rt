@@ -22,6 +22,7 @@ impl<P: Reporter> Simulator<P> {
     ghost use Rattle.std.specs.Prelude.{◌≡◌, Bool, List, ℕ, Option};
     ghost use Rattle.x25_io.specs.code.MarksFaults.{MarksFaults};
     ghost use Rattle.x25_script.specs.Reading.{line_in};
+    ghost use Rattle.x25_script.specs.ScriptLine.{taken};
     ghost use Rattle.x25_station.specs.declared.config.Cfg.{Cfg as Settings};
     ghost use Rattle.x25_sim.specs.Stage.{asked_turn};
     ghost use Rattle.x25_sim.specs.code.Stands.{Turns};
@@ -54,7 +55,7 @@ impl<P: Reporter> Simulator<P> {
     fn read<W: Sink>(&mut self, line: &[u8], writer: &mut W) -> Result<(), Fault>
         ensures turns { (cfg : Settings) (shown : Show) (old : Option (List ℕ))
             → Turns cfg shown old (W.contents writer.old) (W.contents writer.new) self.old.stage self.new.stage result
-            (λ w. asked_turn cfg shown w (line_in line.now)) }
+            (λ w. asked_turn cfg shown w (taken cfg.wide (line_in line.now))) }
         ensures faults { MarksFaults W.Sink writer.old writer.new result }
     {
         let result = read_line(line, self, writer);
@@ -68,6 +69,7 @@ impl<W: Sink, P: Reporter> ScriptTaker<W> for Simulator<P> {
     ghost use Rattle.std.specs.Prelude.{Bool, List, ℕ, Option};
     ghost use Rattle.x25_io.specs.code.MarksFaults.{MarksFaults};
     ghost use Rattle.x25_station.specs.declared.config.Cfg.{Cfg as Settings};
+    ghost use Rattle.x25_script.specs.ScriptLine.{taken};
     ghost use Rattle.x25_sim.specs.Stage.{asked_turn};
     ghost use Rattle.x25_sim.specs.code.Stands.{Turns};
     ghost use Rattle.x25_sim.specs.declared.stage.Shown.{Shown as Show};
@@ -76,12 +78,16 @@ impl<W: Sink, P: Reporter> ScriptTaker<W> for Simulator<P> {
 
     ghost gives = { λ s was u is result asked. ((cfg : Settings) (shown : Show) (old : Option (List ℕ))
         → Turns cfg shown old (W.contents was) (W.contents is) s.stage u.stage result
-        (λ w. asked_turn cfg shown w asked))
+        (λ w. asked_turn cfg shown w (taken cfg.wide asked)))
         × MarksFaults W.Sink was is result };
 
     #[inline(always)]
     #[tactic(auto, unfolding(crate::specs::Stage::line_turn))]
     fn command(&mut self, end: Role, asked: Command, writer: &mut W) -> Result<(), Fault> {
+        if !self.stage.takes(&asked) {
+            self.is_none = true;
+            return self.stage.read_nothing(writer);
+        }
         let count = read_user(&asked, &mut self.octets)?;
         let command = station_command(&asked, &self.octets[..count]);
         self.stage.happen(Event::Command(end, command), writer)

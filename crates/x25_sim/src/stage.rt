@@ -10,6 +10,7 @@ use crate::telling::{tell_entries, tell_frames, tell_mark, tell_refusal};
 use std::alloc::Global;
 use x25_console::tell_nothing;
 use x25_io::{Fault, Output, Sink};
+use x25_script::Command;
 use x25_station::{Cfg, Cmd, Step};
 use x25_world::{
     Direction, Event, Role, SABM_ARRIVES, UA_ARRIVES, World, WorldError, two_stations_keep_order,
@@ -80,6 +81,7 @@ impl Stage {
     ghost use Rattle.x25_world.specs.World.{World as State, start, entered, tapped, WorldOutcome, event_of, happens};
     ghost use Rattle.x25_world.specs.World.{refusal_of};
     ghost use Rattle.x25_world.specs.Healing.{next_end};
+    ghost use Rattle.x25_script.specs.ScriptLine.{is_taken, plain_command};
     ghost use Rattle.x25_sim.specs.Telling.{taps, sayings_text};
     ghost use Rattle.x25_sim.specs.Stage.{and_then, asked_turn, drained, emptied, event_turn, fired, healed, marked};
     ghost use Rattle.x25_sim.specs.Stage.{most_times, opened, pulled, told_between, tried, turn_of};
@@ -348,6 +350,14 @@ impl Stage {
     {
         self.fire(writer)?;
         self.empty(writer)
+    }
+
+    /// Whether a command is taken: with `--wide` any, else one that a line of the strict profile has.
+    pub(crate) fn takes(&self, asked: &Command) -> bool
+        ensures { (cfg : Settings) (w : State) → FitsWorld cfg self.now.world w
+            → result ≡ is_taken cfg.wide (plain_command asked.now) }
+    {
+        !asked.is_wide() || self.world.station(Role::Dte).is_wide()
     }
 
     /// Tells that a line isn't in the grammar.

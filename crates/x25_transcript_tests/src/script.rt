@@ -52,6 +52,12 @@ heal = heals\n\
 dce send 100 0 00 = DCE: sends on 100 with Q false 00\n\
 dte send 99 1 00FF = DTE: sends on 99 with Q true 00ff\n\
 dte reset 1 = DTE: resets 1\n\
+dte clear 1 cause=0 = DTE: clears 1, cause 0\n\
+dce clear 4095 diag=255 = DCE: clears 4095, diagnostic 255\n\
+dte clear 65535 cause=128 diag=5 = DTE: clears 65535, cause 128, diagnostic 5\n\
+dce reset 1 cause=255 diag=0 = DCE: resets 1, cause 255, diagnostic 0\n\
+dte restart diag=5 = DTE: restarts, diagnostic 5\n\
+dce restart cause=7 diag=250 = DCE: restarts, cause 7, diagnostic 250\n\
 ";
 
 // Whether the line says what it is to say.
@@ -74,7 +80,15 @@ fn lines_say_what_they_spell(rt: HostRuntime) {
 }
 
 /// Texts that are no lines; `tests/golden` has others.
-static OTHERS: [&[u8]; 3] = [b"", b"t1 dte\n", b"dte send 1 0 0g"];
+static OTHERS: [&[u8]; 7] = [
+    b"",
+    b"t1 dte\n",
+    b"dte send 1 0 0g",
+    b"dte clear 1 cause=256",
+    b"dte reset 1 diag=5 cause=7",
+    b"dte restart cause=",
+    b"dte ready 1 diag=5",
+];
 
 fn is_no_line(line: &[u8], mut alloc: Global) -> bool {
     matches!(read_line(line, &mut Shown, &mut alloc), Ok(None))

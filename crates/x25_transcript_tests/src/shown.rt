@@ -1,7 +1,7 @@
 //! What a line reads as, in words of the tests' own.
 use std::alloc::{AllocError, Global};
 use x25_circuit::Params;
-use x25_script::{Command, HexDigits, Role, ScriptTaker};
+use x25_script::{Command, Given, HexDigits, Role, ScriptTaker};
 
 fn end_name(end: Role) -> &'static str {
     match end {
@@ -36,6 +36,17 @@ fn params_shown(alloc: Global, params: Option<Params>) -> Result<String, AllocEr
     )
 }
 
+fn given_shown(alloc: Global, given: Given) -> Result<String, AllocError> {
+    match (given.cause, given.diagnostic) {
+        (None, None) => String::from_str(alloc, ""),
+        (Some(cause), None) => format!(in alloc; ", cause {cause}"),
+        (None, Some(diagnostic)) => format!(in alloc; ", diagnostic {diagnostic}"),
+        (Some(cause), Some(diagnostic)) => {
+            format!(in alloc; ", cause {cause}, diagnostic {diagnostic}")
+        }
+    }
+}
+
 fn command_shown(alloc: Global, command: &Command<'_>) -> Result<String, AllocError> {
     match command {
         Command::Call {
@@ -52,7 +63,10 @@ fn command_shown(alloc: Global, command: &Command<'_>) -> Result<String, AllocEr
             let params = params_shown(alloc, *params)?;
             format!(in alloc; "accepts {channel}{params}")
         }
-        Command::Clear { channel } => format!(in alloc; "clears {channel}"),
+        Command::Clear { channel, given } => {
+            let given = given_shown(alloc, *given)?;
+            format!(in alloc; "clears {channel}{given}")
+        }
         Command::Send { channel, q, user } => {
             let user = octets_shown(alloc, user)?;
             format!(in alloc; "sends on {channel} with Q {q} {user}")
@@ -61,10 +75,16 @@ fn command_shown(alloc: Global, command: &Command<'_>) -> Result<String, AllocEr
             let user = octets_shown(alloc, user)?;
             format!(in alloc; "interrupts {channel} by {user}")
         }
-        Command::Reset { channel } => format!(in alloc; "resets {channel}"),
+        Command::Reset { channel, given } => {
+            let given = given_shown(alloc, *given)?;
+            format!(in alloc; "resets {channel}{given}")
+        }
         Command::Ready { channel } => format!(in alloc; "is ready on {channel}"),
         Command::NotReady { channel } => format!(in alloc; "is not ready on {channel}"),
-        Command::Restart => String::from_str(alloc, "restarts"),
+        Command::Restart { given } => {
+            let given = given_shown(alloc, *given)?;
+            format!(in alloc; "restarts{given}")
+        }
         Command::Pull => String::from_str(alloc, "pulls"),
         Command::Connect => String::from_str(alloc, "connects"),
         Command::Disconnect => String::from_str(alloc, "disconnects"),

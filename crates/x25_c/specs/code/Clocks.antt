@@ -4,6 +4,7 @@ use Rattle.x25_circuit.specs.declared.awaits.Awaits.{Awaits}
 use Rattle.x25_clock.specs.declared.due.Due.{Due}
 use Rattle.x25_clock.specs.declared.times.Times.{Times}
 use Rattle.x25_clock.specs.Clock.{Seen, heeded, nothing_awaited, plain}
+use Rattle.x25_clock.specs.Due.{channel_for, timer_number}
 use Rattle.x25_layer.specs.code.FitsLayer.{awaited_at}
 use Rattle.x25_station.specs.declared.error.StationError.{StationError}
 use Rattle.x25_station.specs.declared.timer.Timer.TheVariants.{Off, Begins, GoesOn}
@@ -14,7 +15,7 @@ use Rattle.x25_station.specs.code.FitsStation.{FitsStation, FitsStill, IsEmpty}
 use Rattle.x25_link.specs.Link.{timer_runs}
 use Rattle.x25_c.specs.declared.clocked.Passed.{Passed}
 use Rattle.x25_c.specs.declared.held.Held.{Held}
-use Rattle.x25_c.specs.Clock.{Tells, channel_for, due_in, event_for, timer_number}
+use Rattle.x25_c.specs.Clocked.{Tells, due_in, event_for}
 use Rattle.x25_c.specs.Held.{IsAlone}
 use Rattle.x25_c.specs.code.Happens.{Happens}
 

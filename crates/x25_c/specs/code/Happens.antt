@@ -17,7 +17,7 @@ use Rattle.x25_station.specs.code.FitsStation.{FitsStation, IsEmpty, Leaves, Sen
 use Rattle.x25_station.specs.laws.TimerLaw.{Event, Comes, Asks, Fires, outcome}
 use Rattle.x25_clock.specs.Clock.{seen}
 use Rattle.x25_clock.specs.laws.ClockLaw.{comes}
-use Rattle.x25_c.specs.Clock.{Heeds}
+use Rattle.x25_c.specs.Clocked.{Heeds}
 use Rattle.x25_c.specs.declared.happening.Happening as code
 use Rattle.x25_c.specs.declared.happening.Happening.TheVariants as variant
 use Rattle.x25_c.specs.declared.held.Held.{Held}
@@ -34,8 +34,8 @@ abbrev pub IsTimer : Bool → Settings → Station → Event → Timer → Resul
 IsTimer waits c s event timer (Ok u) o = timer ≡ timer_at_both waits c s event o
 IsTimer waits c s event timer (Err e) o = timer ≡ standing s
 
--- The station does what the definition says of the event and of a pull behind it, and what it answers is kept. Its clock
--- heeds both. Where it is refused the station and its clock are as before, and nothing is answered.
+-- The station does what the definition says of the event and of a pull after it, and what it answers is kept. Its
+-- clock heeds both. Where it is refused the station and its clock are as before, and nothing is answered.
 pub record Happens (old new : Held) (result : Result Unit StationError) (event : Event) : Type 0 where
   pub end : new.end ≡ old.end
   pub state : (c : Settings) (s : Station) → FitsStation c old.station s →

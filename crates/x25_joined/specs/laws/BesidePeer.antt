@@ -87,8 +87,8 @@ IsInTime c p event = Unit {0}
 
 pub record IsOfUser (c : Settings) (p : Program) (line : List ℕ) : Type 0 where
   pub is_line : IsOpen line
-  pub is_no_frame : IsNoFrame (event_in c.role line)
-  pub in_time : IsInTime c p (event_in c.role line)
+  pub is_no_frame : IsNoFrame (event_in c.wide c.role line)
+  pub in_time : IsInTime c p (event_in c.wide c.role line)
 
 -- it happens at the peer, or on the line
 abbrev pub IsElsewhere : {c : Settings} {w v : BesideSessions} → beside.Happens c w v → Type 0

@@ -121,8 +121,8 @@ IsInTime c j event = Unit {0}
 
 pub record IsOfUser (c : Settings) (j : Joined) (line : List ℕ) : Type 0 where
   pub is_line : IsOpen line
-  pub is_no_frame : IsNoFrame (event_in c.role line)
-  pub in_time : IsInTime c j (event_in c.role line)
+  pub is_no_frame : IsNoFrame (event_in c.wide c.role line)
+  pub in_time : IsInTime c j (event_in c.wide c.role line)
 
 -- what comes in the place of a frame fails its frame check sequence
 pub record IsDamage (octets : List ℕ) : Type 0 where

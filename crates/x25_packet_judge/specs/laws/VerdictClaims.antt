@@ -1,16 +1,18 @@
 -- What the laws say of the judge of packets.
-use Rattle.std.specs.Prelude.{◌≡◌, ℕ, true, false, ◌||◌, List, [], None, is_some}
+use Rattle.std.specs.Prelude.{◌≡◌, ℕ, true, false, ◌||◌, if◌then◌else◌, List, [], Some, None, is_some}
 use Rattle.x25_bits.specs.declared.role.Role.{Role}
 use Rattle.x25_packet.specs.Packet.{PlainPacket, call, accept, reset, reset_conf, restart, restart_conf}
 use Rattle.x25_packet_judge.specs.Book.{other, layers_of, pair_of, takes}
 use Rattle.x25_packet_judge.specs.Layer.{is_begun}
-use Rattle.x25_packet_judge.specs.Layers.{runs_early, are_sure, are_level}
+use Rattle.x25_packet_judge.specs.Layers.{runs_early, are_sure, are_level, are_lost, are_counted}
+use Rattle.x25_packet_judge.specs.Layers.{is_answer, is_last_answer, is_second_answer}
 use Rattle.x25_packet_judge.specs.Message.{octets_of}
 use Rattle.x25_packet_judge.specs.Packets.{sends, follows}
 use Rattle.x25_packet_judge.specs.Pair.{is_known, may_talk_in}
 use Rattle.x25_packet_judge.specs.Port as port
 use Rattle.x25_packet_judge.specs.Terms.{said, usual}
 use Rattle.x25_packet_judge.specs.declared.book.Book.{Book}
+use Rattle.x25_packet_judge.specs.declared.packet_rule.PacketRule.TheVariants.{RestartUnasked}
 use Rattle.x25_packet_judge.specs.declared.pair.Pair.{Pair}
 use Rattle.x25_packet_judge.specs.declared.port.Call.TheVariants.{Idle}
 use Rattle.x25_packet_judge.specs.declared.port.Port.{Port}
@@ -110,6 +112,28 @@ BooksJudgeKnownChannels =
     → (takes from channel packet b).verdict.is_judged
     ≡ (is_known (follows packet (pair_of from (are_level (layers_of from b)) channel b))
     || is_some (follows packet (pair_of from (are_level (layers_of from b)) channel b)).rule)
+
+-- RESTART counts as judged
+abbrev pub BooksJudgeRestarts : Type 0
+BooksJudgeRestarts =
+    (from : Role) (channel cause diagnostic : ℕ) (b : Book)
+    → (takes from channel (restart cause diagnostic) b).verdict.is_judged ≡ true
+
+-- and its confirmation exactly where restarts are counted or it answers one that was seen, and behind a fault of
+-- restarts where it answers the last one
+abbrev pub BooksJudgeConfirmations : Type 0
+BooksJudgeConfirmations =
+    (from : Role) (channel : ℕ) (b : Book) → (takes from channel restart_conf b).verdict.is_judged
+    ≡ (if are_lost (layers_of from b) then is_last_answer (layers_of from b)
+    else are_counted (layers_of from b) || is_answer (layers_of from b))
+
+-- a rule is told of one that counts so and answers none, with no fault of restarts before it
+abbrev pub JudgedConfirmationsAreTold : Type 0
+JudgedConfirmationsAreTold =
+    (from : Role) (channel : ℕ) (b : Book) → (takes from channel restart_conf b).verdict.is_judged ≡ true
+    → are_lost (layers_of from b) ≡ false → is_answer (layers_of from b) ≡ false
+    → is_second_answer (layers_of from b) ≡ false
+    → (takes from channel restart_conf b).verdict.rule ≡ Some RestartUnasked
 
 -- of an end, whatever the other end sends on any channel, in as many stretches of its call as there are
 abbrev pub NoInnocentTapeIsTold : Type 0

@@ -7,6 +7,7 @@ use Rattle.hex.specs.Hex.{decode_of}
 use Rattle.x25_bits.specs.declared.role.Role.{Role}
 use Rattle.x25_bits.specs.declared.role.Role.TheVariants.{Dte, Dce}
 use Rattle.x25_circuit.specs.declared.params.Params.{Params}
+use Rattle.x25_script.specs.declared.given.Given.{Given}
 use Rattle.x25_script.specs.ScriptLine.{PlainCommand, call, accept, clear, send, interrupt, reset, ready, not_ready}
 use Rattle.x25_script.specs.ScriptLine.{restart, pull, connect, disconnect, probe, relink, PlainLine, command, t1}
 use Rattle.x25_script.specs.ScriptLine.{deliver, lose}
@@ -55,6 +56,22 @@ params_text None = []
 params_text (Some p) = codes " " ++ (decimal p.size_called ++ (codes " " ++ (decimal p.size_calling
     ++ (codes " " ++ (decimal p.win_called ++ (codes " " ++ decimal p.win_calling))))))
 
+-- a number of 8 bits, or none
+abbrev pub IsSmall : Option ℕ → Type 0
+IsSmall None = Unit
+IsSmall (Some n) = n ≤ 255
+
+abbrev pub IsGiven : Given → Type 0
+IsGiven given = IsSmall given.cause × IsSmall given.diagnostic
+
+-- behind a blank and its label, where there is one
+abbrev pub labelled_text : List ℕ → Option ℕ → List ℕ
+labelled_text label None = []
+labelled_text label (Some n) = codes " " ++ (label ++ decimal n)
+
+abbrev pub given_text : Given → List ℕ
+given_text given = labelled_text (codes "cause=") given.cause ++ labelled_text (codes "diag=") given.diagnostic
+
 -- what follows the end that is commanded
 abbrev pub SpellsCommand : PlainCommand → List ℕ → Type 0
 SpellsCommand (call called calling user params) text = IsAddress called × IsAddress calling × AreParams params
@@ -63,17 +80,19 @@ SpellsCommand (call called calling user params) text = IsAddress called × IsAdd
     ++ (codes " " ++ (digits ++ params_text params)))))))
 SpellsCommand (accept channel params) text = IsNumber channel × AreParams params
     × (text ≡ codes "accept " ++ (decimal channel ++ params_text params))
-SpellsCommand (clear channel) text = IsNumber channel × (text ≡ codes "clear " ++ decimal channel)
+SpellsCommand (clear channel given) text = IsNumber channel × IsGiven given
+    × (text ≡ codes "clear " ++ (decimal channel ++ given_text given))
 SpellsCommand (send channel q user) text = IsNumber channel
     × ((digits : List ℕ) × Writes digits user
     × (text ≡ codes "send " ++ (decimal channel ++ (codes " " ++ (q_text q ++ (codes " " ++ digits))))))
 SpellsCommand (interrupt channel user) text = IsNumber channel
     × ((digits : List ℕ) × Writes digits user
     × (text ≡ codes "int " ++ (decimal channel ++ (codes " " ++ digits))))
-SpellsCommand (reset channel) text = IsNumber channel × (text ≡ codes "reset " ++ decimal channel)
+SpellsCommand (reset channel given) text = IsNumber channel × IsGiven given
+    × (text ≡ codes "reset " ++ (decimal channel ++ given_text given))
 SpellsCommand (ready channel) text = IsNumber channel × (text ≡ codes "ready " ++ decimal channel)
 SpellsCommand (not_ready channel) text = IsNumber channel × (text ≡ codes "notready " ++ decimal channel)
-SpellsCommand restart text = text ≡ codes "restart"
+SpellsCommand (restart given) text = IsGiven given × (text ≡ codes "restart" ++ given_text given)
 SpellsCommand pull text = text ≡ codes "pull"
 SpellsCommand connect text = text ≡ codes "connect"
 SpellsCommand disconnect text = text ≡ codes "disconnect"

@@ -1,7 +1,9 @@
 -- What characters read as, and the grammar of a script's lines.
-use Rattle.std.specs.Prelude.{◌≡◌, ◌↔◌, ℕ, List, Some}
+use Rattle.std.specs.Prelude.{◌≡◌, ◌↔◌, ℕ, ◌<◌, List, Option, Some, None}
 use Rattle.x25_script.specs.HexDigits.{AreOctets}
-use Rattle.x25_script.specs.ScriptLine.{PlainCommand, call, send, interrupt, PlainLine, command, damage}
+use Rattle.x25_script.specs.declared.given.Given.{Given}
+use Rattle.x25_script.specs.ScriptLine.{PlainCommand, call, clear, send, interrupt, reset, restart, PlainLine, command}
+use Rattle.x25_script.specs.ScriptLine.{damage}
 use Rattle.x25_script.specs.Reading.Spelling.{Spells}
 use Rattle.x25_script.specs.Reading.{line_in}
 
@@ -9,11 +11,22 @@ use Rattle.x25_script.specs.Reading.{line_in}
 abbrev pub ReadsWhatIsSpelled : Type 0
 ReadsWhatIsSpelled = (v : PlainLine) (text : List ℕ) → (line_in text ≡ Some v) ↔ Spells v text
 
--- the user data of a command
+-- a number of a line, where it has it
+abbrev pub IsOctet : Option ℕ → Type 0
+IsOctet None = Unit {0}
+IsOctet (Some n) = n < 256
+
+abbrev pub AreGivenOctets : Given → Type 0
+AreGivenOctets given = IsOctet given.cause × IsOctet given.diagnostic
+
+-- the user data of a command, and what it gives
 abbrev pub AsksInOctets : PlainCommand → Type 0
 AsksInOctets (call called calling user params) = AreOctets user
+AsksInOctets (clear channel given) = AreGivenOctets given
 AsksInOctets (send channel q user) = AreOctets user
 AsksInOctets (interrupt channel user) = AreOctets user
+AsksInOctets (reset channel given) = AreGivenOctets given
+AsksInOctets (restart given) = AreGivenOctets given
 AsksInOctets asked = Unit {0}
 
 -- and what comes in the place of a frame

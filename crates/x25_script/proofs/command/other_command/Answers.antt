@@ -1,4 +1,4 @@
-use Rattle.x25_script.specs.Reading.{Call, Clear, Interrupt, NotReady, Ready, Reset, with_fields}
+use Rattle.x25_script.specs.Reading.{Call, Clear, Interrupt, NotReady, Ready, Reset, Restart, with_fields}
 use Rattle.x25_script.proofs.WordLemmas.{bare_alone, command_behind}
 use Rattle.x25_script.proofs.command.other_command.Goals as goal
 
@@ -11,9 +11,11 @@ unfolding with_fields
 returns-in-Some-behind c = λ no_send no_accept. rw (command_behind Interrupt _ _ c.in-Some-behind.ensures) c.interrupt.ensures
 
 pub returns-in-Some-behind-2 : goal.returns-in-Some-behind-2
+unfolding with_fields
 returns-in-Some-behind-2 c = λ no_send no_accept. rw (command_behind Reset _ _ c.in-Some-behind-2.ensures) c.reset.ensures
 
 pub returns-in-Some-behind-3 : goal.returns-in-Some-behind-3
+unfolding with_fields
 returns-in-Some-behind-3 c = λ no_send no_accept. rw (command_behind Clear _ _ c.in-Some-behind-3.ensures) c.clear.ensures
 
 pub returns-in-Some-behind-4 : goal.returns-in-Some-behind-4
@@ -22,8 +24,12 @@ returns-in-Some-behind-4 c = λ no_send no_accept. rw (command_behind Ready _ _ 
 pub returns-in-Some-behind-5 : goal.returns-in-Some-behind-5
 returns-in-Some-behind-5 c = λ no_send no_accept. rw (command_behind NotReady _ _ c.in-Some-behind-5.ensures) c.not_ready.ensures
 
+pub returns-in-Some-behind-6 : goal.returns-in-Some-behind-6
+unfolding with_fields
+returns-in-Some-behind-6 c = λ no_send no_accept. rw (command_behind Restart _ _ c.in-Some-behind-6.ensures) c.restart.ensures
+
 pub returns : goal.returns
 returns c = λ no_send no_accept.
     rw (bare_alone _ no_send no_accept c.in_default.ensures c.in_default-behind.ensures c.in_default-behind-2.ensures
-    c.in_default-behind-3.ensures c.in_default-behind-4.ensures c.in_default-behind-5.ensures)
+    c.in_default-behind-3.ensures c.in_default-behind-4.ensures c.in_default-behind-5.ensures c.in_default-behind-6.ensures)
     c.bare_command.ensures

@@ -1,6 +1,6 @@
 use Rattle.std.proofs.Common.{◌∙◌, ◌++◌, ap, length, sym}
 use Rattle.std.proofs.lemmas.List.{take_rest}
-use Rattle.x25_script.proofs.WordLemmas.{begun, not_begun}
+use Rattle.x25_script.proofs.PartLemmas.{begun, not_begun}
 use Rattle.x25_script.proofs.fields.behind.Goals as goal
 
 pub returns-then-begins_with : goal.returns-then-begins_with

@@ -1,12 +1,7 @@
 -- The clock of a station that C holds, where it has one (profile): what it makes of what happens, and what is due.
 use Rattle.std.specs.Prelude.{◌≡◌, ℕ, Bool, true, false, Option, Some, None}
-use Rattle.x25_bits.specs.declared.role.Role.{Role}
-use Rattle.x25_bits.specs.declared.role.Role.TheVariants.{Dte, Dce}
-use Rattle.x25_circuit.specs.declared.awaits.Awaits.{Awaits}
-use Rattle.x25_circuit.specs.declared.awaits.Awaits.TheVariants.{ResetConfirmation}
 use Rattle.x25_clock.specs.declared.clock.Clock.{Clock}
 use Rattle.x25_clock.specs.declared.due.Due.{Due}
-use Rattle.x25_clock.specs.declared.due.Due.TheVariants as due
 use Rattle.x25_clock.specs.declared.times.Times as clock
 use Rattle.x25_clock.specs.Clock.{Seen, after_due, due_of, heeded, next_of, plain}
 use Rattle.x25_clock.specs.Due.{command_for}
@@ -56,23 +51,3 @@ event_of_command (Some asked) = Asks asked
 
 abbrev pub event_for : Due → Event
 event_for due = event_of_command (command_for due)
-
-abbrev pub channel_for : Due → ℕ
-channel_for due.T1 = 0
-channel_for due.Probe = 0
-channel_for due.Relink = 0
-channel_for (due.Clear h) = h
-channel_for (due.Restart h) = h
-
--- the number in the name of the timer that has passed, which each end has of its own
-abbrev pub timer_number : Role → Awaits → Due → ℕ
-timer_number end awaits due.T1 = 1
-timer_number end awaits due.Probe = 3
-timer_number Dte awaits due.Relink = 20
-timer_number Dce awaits due.Relink = 10
-timer_number Dte ResetConfirmation (due.Clear h) = 22
-timer_number Dce ResetConfirmation (due.Clear h) = 12
-timer_number Dte awaits (due.Clear h) = 21
-timer_number Dce awaits (due.Clear h) = 11
-timer_number Dte awaits (due.Restart h) = 23
-timer_number Dce awaits (due.Restart h) = 13
