@@ -307,6 +307,7 @@ class Station:
     ) -> None:
         # It is held from a call to the end of its answer.
         self._lock = threading.RLock()
+        self._acquire, self._release = self._lock.acquire, self._lock.release
         self._library, self._held, self._taken = load(library), _Slot(), ctypes.c_size_t()
         self._items: Any = ctypes.create_string_buffer(_ITEMS * _ITEM_SIZE)
         self._buffer: Any = ctypes.create_string_buffer(_ROOM_SIZE)
@@ -400,11 +401,14 @@ class Station:
         what was answered up to there."""
         frames = list(frames)
         octets, counts = b"".join(frames), _packer(len(frames))(*map(len, frames))
-        with self._lock:
+        self._acquire()  # takes half as long as `with`
+        try:
             number = self._receive_all(self._slot, octets, _size(len(octets)), counts, _size(len(frames)), self._taken_at)
             if number:
                 raise Refused(number, self._text(number), self._taken.value, self._answer())
             return self._answer()
+        finally:
+            self._release()
 
     def send(self, channel: int, user: bytes, q: bool = False) -> Answer:
         """Sends a message of at most 65,535 octets, with or without the qualifier."""
