@@ -139,13 +139,13 @@ enum {
     X25_EVENT_INTERRUPT_DONE = 19, /* this end's interrupt is confirmed: channel */
     X25_EVENT_CONNECT_ASKED = 20,  /* from here on, what this end asked, which is the first event of its answer */
     X25_EVENT_DISCONNECT_ASKED = 21,
-    X25_EVENT_RESTART_ASKED = 22,
+    X25_EVENT_RESTART_ASKED = 22,  /* cause, diagnostic */
     X25_EVENT_CALL_ASKED = 23,     /* channel, stretch, sizes, both addresses, user data */
     X25_EVENT_ACCEPT_ASKED = 24,   /* channel, sizes */
-    X25_EVENT_CLEAR_ASKED = 25,    /* channel, as those below */
+    X25_EVENT_CLEAR_ASKED = 25,    /* channel, as those below have too; cause, diagnostic */
     X25_EVENT_SEND_ASKED = 26,     /* stretch, q, user data too */
     X25_EVENT_INTERRUPT_ASKED = 27,/* stretch, user data too */
-    X25_EVENT_RESET_ASKED = 28,
+    X25_EVENT_RESET_ASKED = 28,    /* cause, diagnostic too */
     X25_EVENT_READY_ASKED = 29,
     X25_EVENT_NOT_READY_ASKED = 30,
     X25_EVENT_RELINK_ASKED = 31,   /* no channel */
@@ -204,8 +204,9 @@ uint32_t x25_disconnect(x25_station *station);
 uint32_t x25_probe(x25_station *station);
 /* Sets a link that is up up anew: the way out where the other end doesn't confirm a restart. 9, 12, 13. */
 uint32_t x25_relink(x25_station *station);
-/* Restarts the packet layer: each call ends. 9, 40, 10. */
-uint32_t x25_restart(x25_station *station);
+/* Restarts the packet layer: each call ends. A DTE gives 0 as the cause, or one of 129 to 255, a DCE any but those by which a
+   station tells of an error of procedure, and either any diagnostic; so it is with x25_clear and x25_reset. 9, 40, 10, 34. */
+uint32_t x25_restart(x25_station *station, uint8_t cause, uint8_t diagnostic);
 /* Calls the other end on a free channel, which is written to channel, with two addresses of at most 15 digits, as "123", and
    at most 16 octets of user data, or 128 with long_data. 9, 40, 41, 10, 34; channel is then as before. */
 uint32_t x25_call(x25_station *station, const char *called, size_t called_count, const char *calling, size_t calling_count,
@@ -213,10 +214,10 @@ uint32_t x25_call(x25_station *station, const char *called, size_t called_count,
 /* Accepts the call that came on a channel, with sizes and windows each from the one proposed to the default.
    9, 40, 42, 10, 30, 34. */
 uint32_t x25_accept(x25_station *station, uint16_t channel, x25_sizes sizes);
-/* Clears a call, whatever its state. 9, 40, 42, 10, 30. */
-uint32_t x25_clear(x25_station *station, uint16_t channel);
-/* Resets a call: messages on the way are lost. 9, 40, 42, 10, 30. */
-uint32_t x25_reset(x25_station *station, uint16_t channel);
+/* Clears a call, whatever its state. 9, 40, 42, 10, 30, 34. */
+uint32_t x25_clear(x25_station *station, uint16_t channel, uint8_t cause, uint8_t diagnostic);
+/* Resets a call: messages on the way are lost. 9, 40, 42, 10, 30, 34. */
+uint32_t x25_reset(x25_station *station, uint16_t channel, uint8_t cause, uint8_t diagnostic);
 /* Sends an interrupt of 1 to 32 octets. 9, 40, 42, 10, 30, 34, 33. */
 uint32_t x25_interrupt(x25_station *station, uint16_t channel, const uint8_t *user, size_t user_count);
 /* Tells the other end that this one takes data packets, or takes none for now. 9, 40, 42, 10, 30. */

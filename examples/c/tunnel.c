@@ -103,7 +103,7 @@ static void go_on(uint16_t channel, struct circuit *c)
         if (c->end_came && c->out_count == 0 && !c->told_came)
             shutdown(c->file, SHUT_WR), c->told_came = did(x25_send(&station, channel, true, (const uint8_t *)"K", 1));
         if (listener >= 0 && c->told_came && c->all_came)
-            did(x25_clear(&station, channel));
+            did(x25_clear(&station, channel, 0, 0));
     }
     if (c->state == GONE && c->out_count == 0)
         begin(c, FREE, -1);

@@ -62,12 +62,12 @@ static void try_refusals(void)
     expect("entry of none", x25_entry(station, 0, text, 4, &count), X25_NO_STATION);
     expect("entry of none, its length", (uint32_t)count, 7);
     expect("disconnect of none", x25_disconnect(station), X25_NO_STATION);
-    expect("restart of none", x25_restart(station), X25_NO_STATION);
+    expect("restart of none", x25_restart(station, 0, 0), X25_NO_STATION);
     expect("call of none", x25_call(station, "1", 1, "2", 1, room, 4, (x25_sizes){0, 0, 0, 0}, &channel), X25_NO_STATION);
     expect("call of none, its channel", channel, 78);
     expect("accept of none", x25_accept(station, 1, (x25_sizes){0, 0, 0, 0}), X25_NO_STATION);
-    expect("clear of none", x25_clear(station, 1), X25_NO_STATION);
-    expect("reset of none", x25_reset(station, 1), X25_NO_STATION);
+    expect("clear of none", x25_clear(station, 1, 0, 0), X25_NO_STATION);
+    expect("reset of none", x25_reset(station, 1, 0, 0), X25_NO_STATION);
     expect("interrupt of none", x25_interrupt(station, 1, room, 4), X25_NO_STATION);
     expect("ready of none", x25_ready(station, 1), X25_NO_STATION);
     expect("not ready of none", x25_not_ready(station, 1), X25_NO_STATION);
@@ -281,6 +281,43 @@ static void try_all(void)
     x25_free(&twin);
 }
 
+/* A cause and a diagnostic: what a user gives is told at both ends, and a cause that isn't his to give is refused. */
+static void try_reasons(void)
+{
+    x25_event event;
+    expect("new", x25_new(&dte.station, X25_DTE, one_channel), 0);
+    expect("new", x25_new(&dce.station, X25_DCE, one_channel), 0);
+    expect("connect", x25_connect(&dte.station), 0);
+    take(&dte);
+    deliver_all();
+    expect("a network's cause", x25_restart(&dte.station, 7, 0), X25_BAD_PARAMETER);
+    expect("restart", x25_restart(&dte.station, 200, 5), 0);
+    expect("its event", x25_take(&dte.station, x25_frames(&dte.station), &event, NULL, 0) && event.kind == X25_EVENT_RESTART_ASKED, true);
+    expect("what it gave", event.cause == 200 && event.diagnostic == 5, true);
+    take(&dte);
+    dce.length = 0;
+    deliver_all();
+    expect("what is told", memcmp(dce.told, "dce restarted cause=200 diag=5\n", 31), 0);
+    ask(&dte, "call 1 2 -");
+    deliver_all();
+    expect("reset where there is no data yet", x25_reset(&dte.station, 1, 0, 5), X25_BAD_STATE);
+    ask(&dce, "accept 1");
+    deliver_all();
+    expect("reset", x25_reset(&dte.station, 1, 255, 6), 0);
+    take(&dte);
+    dce.length = 0;
+    deliver_all();
+    expect("what is told", memcmp(dce.told, "dce wasreset ch=1 cause=255 diag=6\n", 35), 0);
+    expect("clear", x25_clear(&dce.station, 1, 9, 250), 0);
+    take(&dce);
+    dte.length = 0;
+    deliver_all();
+    expect("what is told", memcmp(dte.told, "dte cleared ch=1 cause=9 diag=250\n", 34), 0);
+    dte.length = dce.length = 0;
+    x25_free(&dte.station);
+    x25_free(&dce.station);
+}
+
 /* By a clock what isn't answered is asked for by itself, and the answer tells the timer: of a call that isn't accepted. */
 static void try_clock(void)
 {
@@ -367,6 +404,7 @@ int main(void)
     try_forms(true);
     try_forms(false);
     try_beside();
+    try_reasons();
     try_all();
     try_clock();
     return 0;

@@ -54,10 +54,16 @@ static x25_sizes sizes(void)
     return few[draw(sizeof few / sizeof *few)];
 }
 
+/* Mostly one that a DTE may give. */
+static uint8_t cause(void)
+{
+    return draw(4) ? (uint8_t)(128 * draw(2) + draw(2)) : (uint8_t)draw(256);
+}
+
 static uint32_t command(x25_station *station)
 {
     static const char *const texts[] = {
-        "connect", "call 1 2 41", "accept 1", "clear 1", "send 1 0 4142", "int 1 01", "reset 1", "restart", "pull", "notready 1", "ready 1", "x", ""};
+        "connect", "call 1 2 41", "accept 1", "clear 1", "send 1 0 4142", "int 1 01", "reset 1 diag=5", "restart cause=200", "pull", "notready 1", "ready 1", "x", ""};
     const char *text = texts[draw(sizeof texts / sizeof *texts)];
     size_t count = strlen(text);
     uint8_t *copy = room(0, count);
@@ -187,9 +193,9 @@ static uint32_t call(end_t *end, end_t *other)
     case 8: case 9:
         return x25_accept(station, channel, sizes());
     case 10:
-        return draw(8) ? x25_pull(station) : x25_clear(station, channel);
+        return draw(8) ? x25_pull(station) : x25_clear(station, channel, cause(), (uint8_t)draw(256));
     case 11:
-        return draw(8) ? x25_pull(station) : x25_reset(station, channel);
+        return draw(8) ? x25_pull(station) : x25_reset(station, channel, cause(), (uint8_t)draw(256));
     case 12:
         return x25_interrupt(station, channel, octets(0, count), count);
     case 13:
@@ -197,7 +203,7 @@ static uint32_t call(end_t *end, end_t *other)
     case 14:
         return draw(4) ? x25_pull(station) : x25_not_ready(station, channel);
     case 15:
-        return draw(64) ? x25_pull(station) : x25_restart(station);
+        return draw(64) ? x25_pull(station) : x25_restart(station, cause(), (uint8_t)draw(256));
     case 16:
         return draw(64) ? x25_probe(station) : x25_relink(station);
     case 17:
@@ -309,6 +315,10 @@ static void write_event(end_t *end, size_t i, const x25_event *event, const uint
         put_sizes(event->sizes);
     if (kind == X25_EVENT_RESTARTED || kind == X25_EVENT_CLEARED || kind == X25_EVENT_RESET)
         put_reason(event);
+    if ((kind == X25_EVENT_RESTART_ASKED || kind == X25_EVENT_CLEAR_ASKED || kind == X25_EVENT_RESET_ASKED) && event->cause)
+        put(" cause=%llu", event->cause);
+    if ((kind == X25_EVENT_RESTART_ASKED || kind == X25_EVENT_CLEAR_ASKED || kind == X25_EVENT_RESET_ASKED) && event->diagnostic)
+        put(" diag=%llu", event->diagnostic);
     if (kind == X25_EVENT_FAULT || kind == X25_EVENT_DIAGNOSTIC)
         put(" diag=%llu", event->diagnostic);
     put("\n", 0);

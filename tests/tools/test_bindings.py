@@ -116,6 +116,26 @@ class Python(unittest.TestCase):
         os.environ["X25_LIBRARY"] = os.path.dirname(LIBRARY)
         self.assertEqual(doctest.testmod(x25, verbose=False).failed, 0)
 
+    def test_causes_and_diagnostics(self):
+        def told(answer, near, far):
+            events = []
+            while answer.frames:
+                near, far, answer = far, near, far.receive_all(answer.frames)
+                events += answer.events
+            return events
+
+        with x25.Station(x25.DTE, library=LIBRARY) as dte, x25.Station(x25.DCE, library=LIBRARY) as dce:
+            told(dte.connect(), dte, dce)
+            answer = dte.restart(200, 5)
+            self.assertEqual(answer.events, [x25.Event(x25.Kind.RESTART_ASKED, cause=200, diagnostic=5)])
+            self.assertEqual(told(answer, dte, dce)[0], x25.Event(x25.Kind.RESTARTED, cause=200, diagnostic=5))
+            channel, answer = dte.call("1", "2")
+            told(answer, dte, dce)
+            self.assertEqual(told(dce.clear(channel, cause=9), dce, dte)[0], x25.Event(x25.Kind.CLEARED, channel, cause=9))
+            for cause, diagnostic in ((7, 0), (256, 0), (0, 256), (-1, 0)):
+                with self.assertRaisesRegex(x25.Refused, "34: "):
+                    dte.restart(cause, diagnostic)
+
     def test_a_station_that_was_closed(self):
         with x25.Station(x25.DCE, library=LIBRARY) as station:
             self.assertEqual(station.timer, x25.Timer.OFF)

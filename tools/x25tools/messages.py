@@ -105,13 +105,15 @@ class Way:
 
     def acknowledge(self, number: int) -> Sequence[str | None]:
         """Takes an N(R); returns the packets that it shows were taken, and None for each of these that is missing."""
-        taken: list[str | None] = []
         if self.due is None:
-            taken += self._begin(number)
-        elif self.acknowledged is not None and self._after(number) > self._after(self.due):
-            if (number - 1) % MODULUS not in self.held:
-                # What it acknowledges wasn't seen: it tells nothing, and may be wrong.
-                return taken
+            taken: list[str | None] = [*self._begin(number)]
+        elif self.acknowledged is None or (number - self.acknowledged) % MODULUS <= (self.due - self.acknowledged) % MODULUS:
+            taken = []
+        elif (number - 1) % MODULUS not in self.held:
+            # What it acknowledges wasn't seen: it tells nothing, and may be wrong.
+            return []
+        else:
+            taken = []
             while self.due != number:
                 taken.append(self.held.get(self.due))
                 self.due = (self.due + 1) % MODULUS
@@ -187,10 +189,10 @@ class Messages:
             self._complete(direction, None, "packet not recorded")
             return
         head, _, rest = packet.partition(" data=")
-        digits = rest.partition(" ")[0].removeprefix("-")
+        digits = "" if rest[:1] == "-" else rest.partition(" ")[0]
         if data := data_of(head):
             channel, goes_on, q = data
-            if goes_on or (direction, channel) in self._begun:
+            if goes_on or (self._begun and (direction, channel) in self._begun):
                 held = self._begun.setdefault((direction, channel), bytearray())
                 held += digits.encode()
                 if goes_on and len(held) < 2 * MOST_MESSAGE:

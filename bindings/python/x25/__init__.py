@@ -202,7 +202,7 @@ class _Times(ctypes.Structure):
 
 
 _STATION, _ROOM, _SIZE = ctypes.c_void_p, ctypes.c_void_p, ctypes.c_size_t
-_OCTETS = [ctypes.c_char_p, _SIZE]
+_OCTETS, _REASON = [ctypes.c_char_p, _SIZE], [ctypes.c_uint8, ctypes.c_uint8]
 _AT = [_STATION, _SIZE, _ROOM, _SIZE]
 # The functions of x25.h: parameters and result. Those of None are called for each frame, and are handed what was converted before.
 _FUNCTIONS: dict[str, tuple[Any, Any]] = {
@@ -213,11 +213,11 @@ _FUNCTIONS: dict[str, tuple[Any, Any]] = {
     "disconnect": ([_STATION], ctypes.c_uint32),
     "probe": ([_STATION], ctypes.c_uint32),
     "relink": ([_STATION], ctypes.c_uint32),
-    "restart": ([_STATION], ctypes.c_uint32),
+    "restart": ([_STATION, *_REASON], ctypes.c_uint32),
     "call": ([_STATION, *_OCTETS * 3, _Sizes, ctypes.POINTER(ctypes.c_uint16)], ctypes.c_uint32),
     "accept": ([_STATION, ctypes.c_uint16, _Sizes], ctypes.c_uint32),
-    "clear": ([_STATION, ctypes.c_uint16], ctypes.c_uint32),
-    "reset": ([_STATION, ctypes.c_uint16], ctypes.c_uint32),
+    "clear": ([_STATION, ctypes.c_uint16, *_REASON], ctypes.c_uint32),
+    "reset": ([_STATION, ctypes.c_uint16, *_REASON], ctypes.c_uint32),
     "interrupt": ([_STATION, ctypes.c_uint16, *_OCTETS], ctypes.c_uint32),
     "ready": ([_STATION, ctypes.c_uint16], ctypes.c_uint32),
     "not_ready": ([_STATION, ctypes.c_uint16], ctypes.c_uint32),
@@ -349,9 +349,10 @@ class Station:
         """Sets a link that is up up anew. 9, 12, 13."""
         return self._call(self._library.x25_relink)
 
-    def restart(self) -> Answer:
-        """Restarts the packet layer: each call ends."""
-        return self._call(self._library.x25_restart)
+    def restart(self, cause: int = 0, diagnostic: int = 0) -> Answer:
+        """Restarts the packet layer: each call ends. A DTE gives 0 as the cause, or one of 129 to 255, a DCE any but those of an error of
+        procedure, and either any diagnostic."""
+        return self._call(self._library.x25_restart, *self._reason(cause, diagnostic))
 
     def call(self, called: str, calling: str, user: bytes = b"", sizes: Sizes | None = None) -> tuple[int, Answer]:
         """Calls the other end, from one address to another, each of at most 15 digits; answers the channel of the call too."""
@@ -364,13 +365,13 @@ class Station:
         """Accepts the call that came on a channel."""
         return self._on(self._library.x25_accept, channel, _sizes(sizes))
 
-    def clear(self, channel: int) -> Answer:
-        """Clears a call, whatever its state."""
-        return self._on(self._library.x25_clear, channel)
+    def clear(self, channel: int, cause: int = 0, diagnostic: int = 0) -> Answer:
+        """Clears a call, whatever its state, with a cause and a diagnostic, as `restart`."""
+        return self._on(self._library.x25_clear, channel, *self._reason(cause, diagnostic))
 
-    def reset(self, channel: int) -> Answer:
-        """Resets a call: messages on the way are lost."""
-        return self._on(self._library.x25_reset, channel)
+    def reset(self, channel: int, cause: int = 0, diagnostic: int = 0) -> Answer:
+        """Resets a call, as `clear` clears it: messages on the way are lost."""
+        return self._on(self._library.x25_reset, channel, *self._reason(cause, diagnostic))
 
     def interrupt(self, channel: int, user: bytes) -> Answer:
         """Sends an interrupt of 1 to 32 octets."""
@@ -505,6 +506,11 @@ class Station:
         if number:
             with self._lock:
                 raise Refused(number, self._text(number))
+
+    def _reason(self, cause: int, diagnostic: int) -> tuple[int, int]:
+        """A cause and a diagnostic, which have to be octets."""
+        self._check(0 if 0 <= cause < 256 and 0 <= diagnostic < 256 else 34)
+        return cause, diagnostic
 
     def _on(self, function: Callable[..., int], channel: int, *words: Any) -> Answer:
         """Makes a call that names a channel; one that no number of 16 bits names isn't configured."""

@@ -182,7 +182,10 @@ pub enum Event {
     /// This end asked, as below, which is the first event of that answer.
     ConnectAsked,
     DisconnectAsked,
-    RestartAsked,
+    RestartAsked {
+        cause: u8,
+        diagnostic: u8,
+    },
     CallAsked {
         channel: u16,
         stretch: Stretch,
@@ -197,6 +200,8 @@ pub enum Event {
     },
     ClearAsked {
         channel: u16,
+        cause: u8,
+        diagnostic: u8,
     },
     SendAsked {
         channel: u16,
@@ -211,6 +216,8 @@ pub enum Event {
     },
     ResetAsked {
         channel: u16,
+        cause: u8,
+        diagnostic: u8,
     },
     ReadyAsked {
         channel: u16,
@@ -296,7 +303,7 @@ impl Event {
             19 => Event::InterruptDone { channel },
             20 => Event::ConnectAsked,
             21 => Event::DisconnectAsked,
-            22 => Event::RestartAsked,
+            22 => Event::RestartAsked { cause, diagnostic },
             23 => Event::CallAsked {
                 channel,
                 stretch,
@@ -306,7 +313,11 @@ impl Event {
                 user,
             },
             24 => Event::AcceptAsked { channel, sizes },
-            25 => Event::ClearAsked { channel },
+            25 => Event::ClearAsked {
+                channel,
+                cause,
+                diagnostic,
+            },
             26 => Event::SendAsked {
                 channel,
                 stretch,
@@ -318,7 +329,11 @@ impl Event {
                 stretch,
                 user,
             },
-            28 => Event::ResetAsked { channel },
+            28 => Event::ResetAsked {
+                channel,
+                cause,
+                diagnostic,
+            },
             29 => Event::ReadyAsked { channel },
             30 => Event::NotReadyAsked { channel },
             31 => Event::RelinkAsked,

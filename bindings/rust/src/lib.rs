@@ -184,9 +184,10 @@ impl Station {
         self.answer(number)
     }
 
-    /// Restarts the packet layer: each call ends.
-    pub fn restart(&mut self) -> Result<Answer, Refused> {
-        let number = unsafe { raw::x25_restart(self.slot.get()) };
+    /// Restarts the packet layer: each call ends. A DTE gives 0 as the cause, or one of 129 to 255, a DCE any but those of an error of
+    /// procedure, and either any diagnostic; so it is with `clear` and `reset`.
+    pub fn restart(&mut self, cause: u8, diagnostic: u8) -> Result<Answer, Refused> {
+        let number = unsafe { raw::x25_restart(self.slot.get(), cause, diagnostic) };
         self.answer(number)
     }
 
@@ -224,14 +225,14 @@ impl Station {
     }
 
     /// Clears a call, whatever its state.
-    pub fn clear(&mut self, channel: u16) -> Result<Answer, Refused> {
-        let number = unsafe { raw::x25_clear(self.slot.get(), channel) };
+    pub fn clear(&mut self, channel: u16, cause: u8, diagnostic: u8) -> Result<Answer, Refused> {
+        let number = unsafe { raw::x25_clear(self.slot.get(), channel, cause, diagnostic) };
         self.answer(number)
     }
 
     /// Resets a call: messages on the way are lost.
-    pub fn reset(&mut self, channel: u16) -> Result<Answer, Refused> {
-        let number = unsafe { raw::x25_reset(self.slot.get(), channel) };
+    pub fn reset(&mut self, channel: u16, cause: u8, diagnostic: u8) -> Result<Answer, Refused> {
+        let number = unsafe { raw::x25_reset(self.slot.get(), channel, cause, diagnostic) };
         self.answer(number)
     }
 
@@ -522,11 +523,19 @@ mod tests {
         talk(answer, &mut dce, &mut dte);
         let answer = dce.ready(channel).unwrap();
         talk(answer, &mut dce, &mut dte);
-        let answer = dte.reset(channel).unwrap();
+        let answer = dte.reset(channel, 0, 5).unwrap();
         assert!(talk(answer, &mut dte, &mut dce).contains(&Event::ResetDone { channel }));
-        let answer = dte.clear(channel).unwrap();
-        assert!(talk(answer, &mut dte, &mut dce).contains(&Event::ClearDone { channel }));
-        let answer = dce.restart().unwrap();
+        assert_eq!(dte.clear(channel, 9, 0).unwrap_err().0, 34);
+        let (cause, diagnostic) = (200, 5);
+        let answer = dte.clear(channel, cause, diagnostic).unwrap();
+        let cleared = Event::Cleared {
+            channel,
+            cause,
+            diagnostic,
+        };
+        let told = talk(answer, &mut dte, &mut dce);
+        assert!(told.contains(&cleared) && told.contains(&Event::ClearDone { channel }));
+        let answer = dce.restart(3, 0).unwrap();
         assert!(talk(answer, &mut dce, &mut dte).contains(&Event::RestartDone));
         let answer = dte.pull().unwrap();
         talk(answer, &mut dte, &mut dce);
@@ -556,7 +565,13 @@ mod tests {
         assert!(dte.time(200_999).unwrap().events.is_empty());
         let answer = dte.time(201_000).unwrap();
         let passed = Event::Timeout { timer: 21, channel };
-        assert_eq!(answer.events, [passed, Event::ClearAsked { channel }]);
+        let (cause, diagnostic) = (0, 0);
+        let asked = Event::ClearAsked {
+            channel,
+            cause,
+            diagnostic,
+        };
+        assert_eq!(answer.events, [passed, asked]);
         assert_eq!(dte.time(0), Err(Refused(34)));
     }
 

@@ -64,7 +64,7 @@ extern "C" {
     pub fn x25_disconnect(slot: *mut Slot) -> u32;
     pub fn x25_probe(slot: *mut Slot) -> u32;
     pub fn x25_relink(slot: *mut Slot) -> u32;
-    pub fn x25_restart(slot: *mut Slot) -> u32;
+    pub fn x25_restart(slot: *mut Slot, cause: u8, diagnostic: u8) -> u32;
     pub fn x25_call(
         slot: *mut Slot,
         called: *const u8,
@@ -77,8 +77,8 @@ extern "C" {
         channel: *mut u16,
     ) -> u32;
     pub fn x25_accept(slot: *mut Slot, channel: u16, sizes: Sizes) -> u32;
-    pub fn x25_clear(slot: *mut Slot, channel: u16) -> u32;
-    pub fn x25_reset(slot: *mut Slot, channel: u16) -> u32;
+    pub fn x25_clear(slot: *mut Slot, channel: u16, cause: u8, diagnostic: u8) -> u32;
+    pub fn x25_reset(slot: *mut Slot, channel: u16, cause: u8, diagnostic: u8) -> u32;
     pub fn x25_interrupt(slot: *mut Slot, channel: u16, user: *const u8, count: usize) -> u32;
     pub fn x25_ready(slot: *mut Slot, channel: u16) -> u32;
     pub fn x25_not_ready(slot: *mut Slot, channel: u16) -> u32;

@@ -179,21 +179,15 @@ pub extern "C" fn x25_relink(alloc: Global, slot: &mut Slot) -> u32
     ask(alloc, slot, Cmd::Relink)
 }
 
-/// Restarts the packet layer: all calls are cleared.
+/// Restarts the packet layer, with a cause that this end may give and any diagnostic: all calls are cleared.
 ///
 /// 16 where the slot holds no station, else as `Station::command` of `Cmd::Restart`. The station is as before then.
 #[unsafe(no_mangle)]
-pub extern "C" fn x25_restart(alloc: Global, slot: &mut Slot) -> u32
-    ensures { Answers slot.old.handle.held slot.new.handle.held result (Asks (Requests (Restarts 0 0))) }
+pub extern "C" fn x25_restart(alloc: Global, slot: &mut Slot, cause: u8, diagnostic: u8) -> u32
+    ensures { Answers slot.old.handle.held slot.new.handle.held result
+        (Asks (Requests (Restarts cause diagnostic))) }
 {
-    ask(
-        alloc,
-        slot,
-        Cmd::Restart {
-            cause: 0,
-            diagnostic: 0,
-        },
-    )
+    ask(alloc, slot, Cmd::Restart { cause, diagnostic })
 }
 
 /// Calls the other end on a free channel, with addresses in digits, and packet sizes and windows where some are named;
@@ -246,42 +240,48 @@ pub extern "C" fn x25_accept(alloc: Global, slot: &mut Slot, channel: u16, sizes
     ask(alloc, slot, Cmd::Accept { channel, params })
 }
 
-/// Clears a call.
+/// Clears a call, with a cause that this end may give and any diagnostic.
 ///
 /// 16 where the slot holds no station, else as `Station::command` of `Cmd::Clear`. The station is as before then.
 #[unsafe(no_mangle)]
-pub extern "C" fn x25_clear(alloc: Global, slot: &mut Slot, channel: u16) -> u32
+pub extern "C" fn x25_clear(
+    alloc: Global,
+    slot: &mut Slot,
+    channel: u16,
+    cause: u8,
+    diagnostic: u8,
+) -> u32
     ensures { Answers slot.old.handle.held slot.new.handle.held result
-        (Asks (Requests (OnChannel channel (Clears 0 0)))) }
+        (Asks (Requests (OnChannel channel (Clears cause diagnostic)))) }
 {
-    ask(
-        alloc,
-        slot,
-        Cmd::Clear {
-            channel,
-            cause: 0,
-            diagnostic: 0,
-        },
-    )
+    let clear = Cmd::Clear {
+        channel,
+        cause,
+        diagnostic,
+    };
+    ask(alloc, slot, clear)
 }
 
-/// Resets a call.
+/// Resets a call, with a cause that this end may give and any diagnostic.
 ///
 /// 16 where the slot holds no station, else as `Station::command` of `Cmd::Reset`. The station is as before then.
 #[unsafe(no_mangle)]
-pub extern "C" fn x25_reset(alloc: Global, slot: &mut Slot, channel: u16) -> u32
+pub extern "C" fn x25_reset(
+    alloc: Global,
+    slot: &mut Slot,
+    channel: u16,
+    cause: u8,
+    diagnostic: u8,
+) -> u32
     ensures { Answers slot.old.handle.held slot.new.handle.held result
-        (Asks (Requests (OnChannel channel (Resets 0 0)))) }
+        (Asks (Requests (OnChannel channel (Resets cause diagnostic)))) }
 {
-    ask(
-        alloc,
-        slot,
-        Cmd::Reset {
-            channel,
-            cause: 0,
-            diagnostic: 0,
-        },
-    )
+    let reset = Cmd::Reset {
+        channel,
+        cause,
+        diagnostic,
+    };
+    ask(alloc, slot, reset)
 }
 
 /// Sends an interrupt of 1 to 32 octets.

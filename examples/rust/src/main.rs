@@ -86,7 +86,7 @@ impl Circuit {
             self.told_came = port.did(|station| station.send(channel, true, b"K"));
         }
         if listens && self.told_came && self.all_came {
-            port.did(|station| station.clear(channel));
+            port.did(|station| station.clear(channel, 0, 0));
         }
     }
 }

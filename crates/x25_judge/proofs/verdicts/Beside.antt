@@ -189,7 +189,6 @@ SeenBy from j m u g t = Seen (end_of from j) (end_of (other from) j) m u g t
 
 -- in a session, with such frames on the way
 pub record Beside (from : Role) (j : Judge) (p : Peer) (frames : List PlainFrame) : Type 0 where
-  pub window : 7 ≤ j.window
   pub seen : SeenBy from j p.sent (heard_all frames p.acked) (took_all frames (length p.taken)) p.told
   pub held : IsHeld (held_of from j) p.given p.sent
 
@@ -316,7 +315,6 @@ pub came_beside : (from : Role) (j : Judge) (p q : Peer) (frame : PlainFrame) (f
 came_beside from j p q frame frames may h =
     let c = comes frame p q may in
     record {
-      window = h.window;
       seen = subst (λ m. SeenBy from j m (heard_all frames q.acked) (took_all frames (length q.taken)) q.told) (sym c.sent)
           (subst (λ t. SeenBy from j p.sent (heard_all frames q.acked) (took_all frames (length q.taken)) t) (sym c.told)
           (seen_less (end_of from j) (end_of (other from) j) p.sent (heard_all frames (acks frame p.acked)) (heard_all frames q.acked) (took_all frames (brings frame (length p.taken))) (took_all frames (length q.taken)) p.told
@@ -472,7 +470,6 @@ untold from j k p q frames frame nr mine last h g s plain own heeds held =
     record {
       quiet = ap is_of_order s.rule ∙ first_of_order (sides.first s.before (way.heard nr (sides_of from j).other.way).rule) last (first_of_order s.before (way.heard nr (sides_of from j).other.way).rule s.plain (ap is_of_order heard_none)) plain;
       beside = record {
-        window = subst (λ x. 7 ≤ x) (sym g.window) h.window;
         seen = record {
           up = ap (λ (e : End). sides.may_run e.phase) g.own ∙ ap sides.may_run s.up ∙ runs_on (sides_of from j).own.phase (is_up from j p frames h);
           own = subst (λ w. OwnIf w q.sent (heard_all frames q.acked)) (sym (ap (λ (e : End). e.way) g.own ∙ s.own)) own;
@@ -508,8 +505,8 @@ steady_own ns w m u h = cond_both ((nat_lt 0 w.former && not (w.next == ns)) && 
     deafens (inr o) e = inr (record { seen = refl; next = o.next; ever = o.ever; kept = o.kept; whole = o.whole; numbered = deaf_numbered (way.deaf w) _ refl })
 
 -- a number that the rules allow, new or again
-sent_fair : (w : Way) (window m u n ns : ℕ) (p s : Bool) → 7 ≤ window → ns ≡ n % 8 → n ≤ m → m ≤ n + 7 → n < u + 7 → (n < m → s ≡ true) → OwnIf w m u → Fair (way.sent window ns p s w) (max m (n + 1)) u
-sent_fair w window m u n ns p s large number le near room same h = subst (λ x. Fair (way.sent window x p s w) (max m (n + 1)) u) (sym number) (go (cases_eq n m))
+sent_fair : (w : Way) (window m u n ns : ℕ) (p s : Bool) → ns ≡ n % 8 → n ≤ m → m ≤ n + 7 → n < u + 7 → (n < m → s ≡ true) → OwnIf w m u → Fair (way.sent window ns p s w) (max m (n + 1)) u
+sent_fair w window m u n ns p s number le near room same h = subst (λ x. Fair (way.sent window x p s w) (max m (n + 1)) u) (sym number) (go (cases_eq n m))
   where
     new_top : n ≡ m → m + 1 ≡ max m (n + 1)
     new_top e = omega arith
@@ -522,7 +519,7 @@ sent_fair w window m u n ns p s large number le near room same h = subst (λ x. 
 
     go : ((n ≡ m) ⊎ (n ≡ m → ⊥)) → Fair (way.sent window (n % 8) p s w) (max m (n + 1)) u
     go (inl e) = subst (λ x. Fair (way.sent window (n % 8) p s w) x u) (new_top e)
-        (subst (λ x. Fair (way.sent window (x % 8) p s w) (m + 1) u) (sym e) (new_fair w window m u p s large (subst (λ x. x < u + 7) e room) h))
+        (subst (λ x. Fair (way.sent window (x % 8) p s w) (m + 1) u) (sym e) (new_fair w window m u p s (subst (λ x. x < u + 7) e room) h))
     go (inr ne) = subst (λ x. Fair (way.sent window (n % 8) p s w) x u) (old_top (below ne)) (old_fair w window m u n p s (below ne) near (same (below ne)) h)
 
 acknowledged : (from : Role) (j : Judge) (p : Peer) (frames : List PlainFrame) (nr t : ℕ) → MayAcknowledge p nr t → Beside from j p frames
@@ -552,7 +549,7 @@ sends from j k p q frames (info ns nr pf packet) (n, t, number, le, fits, may, i
     let s = info_sees j.window ns nr pf (is_same hs frame) (sides_of from j) (is_up from j p frames h) (stands j from).none in
     let own_is = ap (λ (e : End). e.way) (stands j from).own in
     let f : Fair (way.sent j.window ns pf (is_same hs frame) w) (max p.sent (n + 1)) (heard_all frames p.acked) =
-    sent_fair w j.window p.sent (heard_all frames p.acked) n ns pf (is_same hs frame) h.window number.number le number.again (near (heard_all frames p.acked) (heard_low frames p.acked))
+    sent_fair w j.window p.sent (heard_all frames p.acked) n ns pf (is_same hs frame) number.number le number.again (near (heard_all frames p.acked) (heard_low frames p.acked))
     (λ before. same_octets hs p.given p.sent n ns nr pf packet number.number before number.again number.same h.held) (steady_own ns (end_of from j).way p.sent (heard_all frames p.acked) h.seen.own) in
     let f0 = subst (λ (x : Way). Fair (way.sent j.window ns pf (is_same hs frame) (way.steady ns x)) (max p.sent (n + 1)) (heard_all frames p.acked)) (sym own_is) f in
     subst (λ (x : Peer). IsUntold from j k x frames frame) (sym is)

@@ -88,7 +88,6 @@ failed_seen Dce j k m u g t go h = subst (λ (a : End). Seen a k.dte m u g t) (s
 
 pub failed_beside : (from : Role) (j k : Judge) (p : Peer) (frames : List PlainFrame) → Past j k (other from) → Beside from j p frames → Beside from k p frames
 failed_beside from j k p frames go h = record {
-  window = subst (λ x. 7 ≤ x) (sym go.window) h.window;
   seen = failed_seen from j k p.sent (heard_all frames p.acked) (took_all frames (length p.taken)) p.told go h.seen;
   held = subst (λ (hs : List (List ℕ)). IsHeld hs p.given p.sent) (sym go.other_held ∙ ap (λ r. held_of r k) (other_twice from)) (subst (λ (hs : List (List ℕ)). IsHeld hs p.given p.sent) (ap (λ r. held_of r j) (sym (other_twice from))) h.held);
 }

@@ -2,6 +2,7 @@
 use Rattle.std.proofs.Common.{◌≡◌, ◌==◌, ◌⊎◌, inl, inr, ℕ, ◌+◌, ◌-◌, ◌%◌, ◌<◌, ◌≤◌, arith, min, Bool, true, false, if◌then◌else◌, Some, None, refl, sym, ap, ◌∙◌, subst}
 use Rattle.std.specs.Prelude.{nat_le, nat_lt, ◌&&◌, ◌||◌, not}
 use Rattle.std.proofs.lemmas.Bool.{eqb-true, leb-true, leb-false, ltb-false, le-leb, and_parts, and_from, or_left, both_ways, cond_both}
+use Rattle.std.proofs.lemmas.Bool.Decides.{nat_tests}
 use Rattle.x25_judge.specs.Way as way
 use Rattle.x25_judge.specs.declared.note.Note.TheVariants.{SentBehindDamage, HeardBehindDamage, NumbersUnjudged}
 use Rattle.x25_judge.specs.declared.rule.Rule.{Rule}
@@ -68,11 +69,11 @@ gone_back_own true w m u back h = repeated_own w m u back h
 gone_back_own false w m u back h = record { seen = h.seen; next = h.next; ever = h.ever; kept = h.kept; whole = h.whole; numbered = same_numbered w (way.went_back back w) _ _ refl refl refl refl (λ x y next fit. fit) h.numbered }
 
 -- the next new number, in the window
-new_at : (w : Way) (window m u : ℕ) (is_poll is_same : Bool) → 7 ≤ window → m < u + 7 → Own w m u → Fair (way.sent_number window is_poll is_same 0 w) (m + 1) u
-new_at w window m u is_poll is_same large near h =
+new_at : (w : Way) (window m u : ℕ) (is_poll is_same : Bool) → m < u + 7 → Own w m u → Fair (way.sent_number window is_poll is_same 0 w) (m + 1) u
+new_at w window m u is_poll is_same near h =
     cond_both (w.behind == 0 || way.known_pending w == 0) (way.sent_new window w) (way.unexplained is_same 0 w) (λ (t : Told). Fair t (m + 1) u)
     (λ _. cond_both (way.is_sure w && nat_le window w.pending) (way.breaks (OverWindow (way.passed window w)) (way.grown 1 w)) (way.quiet (way.grown 1 w)) (λ (t : Told). Fair t (m + 1) u)
-    (λ test. let parts = and_parts (way.is_sure w) (nat_le window w.pending) test in absurd (never (leb-true window w.pending parts.1) (h.numbered.counts (sure_hears w.sight parts.0))))
+    (λ test. let parts = and_parts (way.is_sure w) (nat_le window w.pending) test in record { quiet = of_manners (leb-true window w.pending parts.1) (six (h.numbered.counts (sure_hears w.sight parts.0))); own = inr (grown_own w m u h) })
     (λ _. record { quiet = refl; own = inr (grown_own w m u h) }))
     (λ _. subst (λ b. Fair (way.skips b 1 w) (m + 1) u) (sym room) (told_fair (way.grown 1 w) w (Skips (way.place w)) (m + 1) u refl (grown_own w m u h)))
   where
@@ -87,11 +88,23 @@ new_at w window m u is_poll is_same large near h =
         (λ sure. le-leb (min (w.pending + 1) 255) 7 (few (h.numbered.counts (sure_hears w.sight sure))))
         (λ _. refl)
 
-    never : window ≤ w.pending → ((x : ℕ) × (y : ℕ) × ((x ≡ m) × (u ≤ y)) × Counts w x y) → ⊥
-    never full (x, y, fit, c) = over w.pending x y full c.pending fit.0 fit.1
+    six : ((x : ℕ) × (y : ℕ) × ((x ≡ m) × (u ≤ y)) × Counts w x y) → w.pending ≤ 6
+    six (x, y, fit, c) = within w.pending x y c.pending fit.0 fit.1
       where
-        over : (p x y : ℕ) → window ≤ p → p + y ≡ x → x ≡ m → u ≤ y → ⊥
-        over p x y full is same le = omega (arith, large, near)
+        within : (p x y : ℕ) → p + y ≡ x → x ≡ m → u ≤ y → p ≤ 6
+        within p x y is same le = omega (arith, near)
+
+    -- a window of fewer than seven that is full
+    of_manners : window ≤ w.pending → w.pending ≤ 6 → nat_le 7 (way.passed window w) ≡ false
+    of_manners full few = cond_both (nat_lt w.pending 7) window 7 (λ k. nat_le 7 k ≡ false)
+        (λ _. small window w.pending full few)
+        (λ test. absurd (over w.pending few (ltb-false w.pending 7 test)))
+      where
+        small : (k p : ℕ) → k ≤ p → p ≤ 6 → nat_le 7 k ≡ false
+        small k p full few = grind (arith, nat_tests)
+
+        over : (p : ℕ) → p ≤ 6 → 7 ≤ p → ⊥
+        over p few many = omega arith
 
 -- one of the seven before the next new number, with the same octets
 old_at : (w : Way) (window m u back : ℕ) (is_poll : Bool) → 0 < back → back ≤ 7 → back ≤ m → Own w m u → Fair (way.sent_number window is_poll true back w) m u
@@ -134,12 +147,12 @@ unseen_fair w window ns m u is_poll is_same unseen =
     (λ _. record { quiet = refl; own = inl unseen })
     (λ test. absurd (both_ways (way.is_unseen w) test unseen))
 
-pub new_fair : (w : Way) (window m u : ℕ) (is_poll is_same : Bool) → 7 ≤ window → m < u + 7 → OwnIf w m u → Fair (way.sent window (m % 8) is_poll is_same w) (m + 1) u
-new_fair w window m u is_poll is_same large near (inl unseen) = unseen_fair w window (m % 8) (m + 1) u is_poll is_same unseen
-new_fair w window m u is_poll is_same large near (inr h) =
+pub new_fair : (w : Way) (window m u : ℕ) (is_poll is_same : Bool) → m < u + 7 → OwnIf w m u → Fair (way.sent window (m % 8) is_poll is_same w) (m + 1) u
+new_fair w window m u is_poll is_same near (inl unseen) = unseen_fair w window (m % 8) (m + 1) u is_poll is_same unseen
+new_fair w window m u is_poll is_same near (inr h) =
     cond_both (way.is_unseen w) (way.quiet (way.counted w)) (way.sent_number window is_poll is_same (apart w.next (m % 8)) w) (λ (t : Told). Fair t (m + 1) u)
     (λ test. absurd (both_ways (way.is_unseen w) h.seen test))
-    (λ _. subst (λ b. Fair (way.sent_number window is_poll is_same b w) (m + 1) u) (sym (ap (λ x. apart x (m % 8)) h.next ∙ same m)) (new_at w window m u is_poll is_same large near h))
+    (λ _. subst (λ b. Fair (way.sent_number window is_poll is_same b w) (m + 1) u) (sym (ap (λ x. apart x (m % 8)) h.next ∙ same m)) (new_at w window m u is_poll is_same near h))
   where
     same : (m : ℕ) → apart (m % 8) (m % 8) ≡ 0
     same m = omega arith

@@ -1,5 +1,5 @@
 -- An end that keeps the rules is told of by no rule of order, from a set-up on.
-use Rattle.std.proofs.Common.{◌≡◌, inl, inr, ℕ, ◌≤◌, arith, true, List, [], ◌∷◌, refl, sym, ap, subst}
+use Rattle.std.proofs.Common.{◌≡◌, inl, inr, ℕ, arith, true, List, [], ◌∷◌, refl, sym, ap, subst}
 use Rattle.x25_bits.specs.declared.role.Role.{Role}
 use Rattle.x25_bits.specs.Role.{other}
 use Rattle.x25_frame.specs.Frame.{PlainFrame}
@@ -40,18 +40,17 @@ begun_hears w is = record {
   begun = λ hears ever. (ap (λ (x : Way). x.behind) is, ap (λ (x : Way). x.kept) is);
 }
 
-begins : (from : Role) (j : Judge) → IsSetUp j → 7 ≤ j.window → Beside from j fresh_peer []
-begins from j h large = record {
-  window = large;
+begins : (from : Role) (j : Judge) → IsSetUp j → Beside from j fresh_peer []
+begins from j h = record {
   seen = record { up = (h from).up; own = inr (begun_own (end_of from j).way (h from).way); hears = begun_hears (end_of (other from) j).way (h (other from)).way };
   held = begun_held (held_of from j) (h from).room;
 }
 
 beside : (from : Role) (j : Judge) (p : Peer) (frames : List PlainFrame) → MayBe from j p frames → Beside from j p frames
-beside from j p frames (Begins k up large) = begins from j up large
+beside from j p frames (Begins k up) = begins from j up
 beside from j q frames (HandsDown k p way packet h) =
     let b = beside from j p frames h in
-    record { window = b.window; seen = b.seen; held = pushed_held (held_of from j) p.given packet p.sent b.held }
+    record { seen = b.seen; held = pushed_held (held_of from j) p.given packet p.sent b.held }
 beside from k q frames (Sends j p r way line octets frame shows may h) = (sends from j k p q frames frame may (beside from j p frames h) (goes j line from octets frame shows)).beside
 beside from k p all (Shown j r frames line octets frame shows is h) = shown_beside from j k p frames frame is (beside from j p frames h) (goes j line (other from) octets frame shows)
 beside from k p frames (Fails j r way line octets broken h) = failed_beside from j (answer_to j line).next p frames (past j line (other from) octets broken) (beside from j p frames h)

@@ -583,19 +583,19 @@ ua_fits window s f t stand p frames none h =
 
 -- ---- any frame
 
-pub shown_sides : (window : ℕ) (s : Bool) (frame : PlainFrame) (t : Sides) (stand : Stand) (p : Peer) (frames : List PlainFrame) → 7 ≤ window → t.rule ≡ None → Fits t.other t.own stand p frames
+pub shown_sides : (window : ℕ) (s : Bool) (frame : PlainFrame) (t : Sides) (stand : Stand) (p : Peer) (frames : List PlainFrame) → t.rule ≡ None → Fits t.other t.own stand p frames
     → Fits (sides.sees window s frame t).other (sides.sees window s frame t).own stand p (frames ++ frame ∷ [])
-shown_sides window s (info ns nr pf packet) t stand p frames large none h = numbered_fits t _ stand p frames (info ns nr pf packet) tt (gives window s (info ns nr pf packet) t tt large none) h
-shown_sides window s (rr command nr pf) t stand p frames large none h = numbered_fits t _ stand p frames (rr command nr pf) tt (gives window s (rr command nr pf) t tt large none) h
-shown_sides window s (rnr command nr pf) t stand p frames large none h = numbered_fits t _ stand p frames (rnr command nr pf) tt (gives window s (rnr command nr pf) t tt large none) h
-shown_sides window s (rej command nr pf) t stand p frames large none h = numbered_fits t _ stand p frames (rej command nr pf) tt (gives window s (rej command nr pf) t tt large none) h
-shown_sides window s (sabm b) t stand p frames large none h = sabm_fits t _ stand p frames b (sabm_is window s b t none) h
-shown_sides window s (disc b) t stand p frames large none h =
+shown_sides window s (info ns nr pf packet) t stand p frames none h = numbered_fits t _ stand p frames (info ns nr pf packet) tt (gives window s (info ns nr pf packet) t tt none) h
+shown_sides window s (rr command nr pf) t stand p frames none h = numbered_fits t _ stand p frames (rr command nr pf) tt (gives window s (rr command nr pf) t tt none) h
+shown_sides window s (rnr command nr pf) t stand p frames none h = numbered_fits t _ stand p frames (rnr command nr pf) tt (gives window s (rnr command nr pf) t tt none) h
+shown_sides window s (rej command nr pf) t stand p frames none h = numbered_fits t _ stand p frames (rej command nr pf) tt (gives window s (rej command nr pf) t tt none) h
+shown_sides window s (sabm b) t stand p frames none h = sabm_fits t _ stand p frames b (sabm_is window s b t none) h
+shown_sides window s (disc b) t stand p frames none h =
     aside_fits t _ stand p frames (disc b) (disc_aside window s b t none) (λ _. subst (λ x. RestsOther x t.own.way) (sym (disc_phase window s b t)) tt) (λ on. absurd (subst On (disc_phase window s b t) on)) (λ x. x) (λ x. x) (λ x. x) h
-shown_sides window s (ua f) t stand p frames large none h = ua_fits window s f t stand p frames none h
-shown_sides window s (dm f) t stand p frames large none h =
+shown_sides window s (ua f) t stand p frames none h = ua_fits window s f t stand p frames none h
+shown_sides window s (dm f) t stand p frames none h =
     aside_fits t _ stand p frames (dm f) (dm_aside window s f t none) (λ r. subst (λ x. RestsOther x t.own.way) (sym (dm_phase window s f t none)) (declining_other t.own.phase t.own.way r))
     (λ on. (on_declining t.own.phase (subst On (dm_phase window s f t none) on), refl, kept_declining t.own.phase t.own.asked t.own.late (subst On (dm_phase window s f t none) on))) (λ x. x) (λ x. x) (λ x. x) h
-shown_sides window s (frmr f why) t stand p frames large none h =
+shown_sides window s (frmr f why) t stand p frames none h =
     aside_fits t _ stand p frames (frmr f why) (frmr_aside window s f why t none) (λ _. subst (λ x. RestsOther x t.own.way) (sym (frmr_phase window s f why t)) tt)
     (λ on. absurd (subst On (frmr_phase window s f why t) on)) (λ x. x) (λ x. x) (λ x. x) h

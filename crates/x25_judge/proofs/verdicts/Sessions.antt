@@ -48,7 +48,6 @@ stays : (from : Role) (j : Judge) (line : List ℕ) → ((r : Role) → length (
 stays from j line rooms = line_stays j.window j line (record { rooms = rooms; counts = refl })
 
 pub record Keeps (from : Role) (j : Judge) (stand : Stand) (p : Peer) (frames : List PlainFrame) : Type 0 where
-  pub window : 7 ≤ j.window
   pub rooms : (r : Role) → length (held_of r j) ≡ 8
   pub held : stand ≡ In → IsHeld (held_of from j) p.given p.sent
   pub fits : Fits (end_of from j) (end_of (other from) j) stand p frames
@@ -58,16 +57,16 @@ keeps_other : (from : Role) (j : Judge) (stand : Stand) (p : Peer) (frames more 
     → Fits (end_of from (answer_to j line).next) (end_of (other from) (answer_to j line).next) stand p more → Keeps from (answer_to j line).next stand p more
 keeps_other from j stand p frames more line h held fits =
     let s = stays from j line h.rooms in
-    record { window = subst (λ x. 7 ≤ x) (sym s.counts) h.window; rooms = s.rooms; held = λ is. subst (λ (hs : List (List ℕ)). IsHeld hs p.given p.sent) (sym held) (h.held is); fits = fits }
+    record { rooms = s.rooms; held = λ is. subst (λ (hs : List (List ℕ)). IsHeld hs p.given p.sent) (sym held) (h.held is); fits = fits }
 
-shown_fits : (from : Role) (j k : Judge) (stand : Stand) (p : Peer) (frames : List PlainFrame) (frame : PlainFrame) → 7 ≤ j.window → Goes j k (other from) (seen_by j (other from) frame) frame
+shown_fits : (from : Role) (j k : Judge) (stand : Stand) (p : Peer) (frames : List PlainFrame) (frame : PlainFrame) → Goes j k (other from) (seen_by j (other from) frame) frame
     → Fits (end_of from j) (end_of (other from) j) stand p frames → Fits (end_of from k) (end_of (other from) k) stand p (frames ++ frame ∷ [])
-shown_fits Dte j k stand p frames frame large go h =
+shown_fits Dte j k stand p frames frame go h =
     subst (λ (a : End). Fits a k.dce stand p (frames ++ frame ∷ [])) (sym go.opposite) (subst (λ (b : End). Fits (seen_by j Dce frame).other b stand p (frames ++ frame ∷ [])) (sym go.own)
-    (shown_sides j.window (is_same j.dce_held frame) frame (sides_of Dce j) stand p frames large refl h))
-shown_fits Dce j k stand p frames frame large go h =
+    (shown_sides j.window (is_same j.dce_held frame) frame (sides_of Dce j) stand p frames refl h))
+shown_fits Dce j k stand p frames frame go h =
     subst (λ (a : End). Fits a k.dte stand p (frames ++ frame ∷ [])) (sym go.opposite) (subst (λ (b : End). Fits (seen_by j Dte frame).other b stand p (frames ++ frame ∷ [])) (sym go.own)
-    (shown_sides j.window (is_same j.dte_held frame) frame (sides_of Dte j) stand p frames large refl h))
+    (shown_sides j.window (is_same j.dte_held frame) frame (sides_of Dte j) stand p frames refl h))
 
 failed_fits : (from : Role) (j k : Judge) (stand : Stand) (p : Peer) (frames : List PlainFrame) → Past j k (other from)
     → Fits (end_of from j) (end_of (other from) j) stand p frames → Fits (end_of from k) (end_of (other from) k) stand p frames
@@ -171,7 +170,7 @@ module _ (from : Role) (j k : Judge) (p : Peer) (frames : List PlainFrame) where
   }
     where
       u : IsUntold from j k q frames frame
-      u = sends from j k p q frames frame may (record { window = h.window; seen = h.fits.holds.seen; held = h.held refl }) go
+      u = sends from j k p q frames frame may (record { seen = h.fits.holds.seen; held = h.held refl }) go
 
       v : Sides
       v = seen_by j from frame
@@ -311,10 +310,9 @@ untold from j k stand n p r frames w g (waits_on b f rest waits is) h s go =
     ua_untold from j k stand Asking p p rest (sabm b) f (stands j from).none refl fits
     (λ v a. waiting (sides_of from j) v p b rest a (subst (λ (x : Stand). Fits (sides_of from j).own (sides_of from j).other x p (sabm b ∷ rest)) waits fits)) (λ e. absurd (asking_in e))
 
-says_keeps : (from : Role) (j k : Judge) (next : Stand) (q : Peer) (rest : List PlainFrame) (frame : PlainFrame) → 7 ≤ j.window → Stays j.window k → Goes j k from (seen_by j from frame) frame
+says_keeps : (from : Role) (j k : Judge) (next : Stand) (q : Peer) (rest : List PlainFrame) (frame : PlainFrame) → Stays j.window k → Goes j k from (seen_by j from frame) frame
     → Untold from j k next q rest frame → Keeps from k next q rest
-says_keeps from j k next q rest frame large s go u = record {
-  window = subst (λ x. 7 ≤ x) (sym s.counts) large;
+says_keeps from j k next q rest frame s go u = record {
   rooms = s.rooms;
   held = u.held;
   fits = subst (λ (x : End). Fits x (end_of (other from) k) next q rest) (sym go.own) (subst (λ (x : End). Fits (seen_by j from frame).own x next q rest) (sym go.opposite) u.fits);
@@ -356,12 +354,11 @@ handed a b Asking p packet frames h = h
 handed a b In p packet frames h = record { seen = h.seen; first = h.first }
 
 pub keeps : (from : Role) (j : Judge) (stand : Stand) (p : Peer) (frames : List PlainFrame) → MayStand from j stand p frames → Keeps from j stand p frames
-keeps from j stand p frames (Starts window reading strictness large) =
-    record { window = large; rooms = (begins_so window reading strictness).rooms; held = λ is. absurd (out_in is); fits = begins_fits from window reading strictness }
+keeps from j stand p frames (Starts window reading strictness) =
+    record { rooms = (begins_so window reading strictness).rooms; held = λ is. absurd (out_in is); fits = begins_fits from window reading strictness }
 keeps from j stand q frames (HandsDown k s p w packet may) =
     let h = keeps from j stand p frames may in
     record {
-      window = h.window;
       rooms = h.rooms;
       held = λ is. pushed_held (held_of from j) p.given packet p.sent (h.held is);
       fits = record {
@@ -378,7 +375,6 @@ keeps from j stand q frames (HandsDown k s p w packet may) =
 keeps from j next p frames (Leaves k stand q w may) =
     let h = keeps from j stand p frames may in
     record {
-      window = h.window;
       rooms = h.rooms;
       held = λ is. absurd (out_in is);
       fits = record { asked = h.fits.asked; late = h.fits.late; own = h.fits.own; count = h.fits.count; sent = h.fits.sent; other = h.fits.other; sabms = h.fits.sabms; holds = tt };
@@ -387,23 +383,22 @@ keeps from k next q rest (Says j stand n p r frames s line octets frame shows sa
     let h = keeps from j stand p frames may in
     let g = goes j line from octets frame shows in
     let st = stays from j line h.rooms in
-    says_keeps from j (answer_to j line).next next q rest frame h.window st g (untold from j (answer_to j line).next stand next p q frames rest frame says h st g)
+    says_keeps from j (answer_to j line).next next q rest frame st g (untold from j (answer_to j line).next stand next p q frames rest frame says h st g)
 keeps from k stand p more (Shown j s r frames line octets frame shows may) =
     let h = keeps from j stand p frames may in
     let g = goes j line (other from) octets frame shows in
-    keeps_other from j stand p frames (frames ++ frame ∷ []) line h (held_goes from j (answer_to j line).next (seen_by j (other from) frame) frame g) (shown_fits from j (answer_to j line).next stand p frames frame h.window g h.fits)
+    keeps_other from j stand p frames (frames ++ frame ∷ []) line h (held_goes from j (answer_to j line).next (seen_by j (other from) frame) frame g) (shown_fits from j (answer_to j line).next stand p frames frame g h.fits)
 keeps from k stand p frames (Fails j s r w line octets broken may) =
     let h = keeps from j stand p frames may in
     let g = past j line (other from) octets broken in
     keeps_other from j stand p frames frames line h (held_past from j (answer_to j line).next g) (failed_fits from j (answer_to j line).next stand p frames g h.fits)
 keeps from j stand p frames (Passes k s r frame w may) =
     let h = keeps from j stand p (frame ∷ frames) may in
-    record { window = h.window; rooms = h.rooms; held = h.held; fits = fits_less (end_of from j) (end_of (other from) j) stand stand p p frame frames h.fits (passed (end_of from j) (end_of (other from) j) stand p frame frames h.fits.holds) }
+    record { rooms = h.rooms; held = h.held; fits = fits_less (end_of from j) (end_of (other from) j) stand stand p p frame frames h.fits (passed (end_of from j) (end_of (other from) j) stand p frame frames h.fits.holds) }
 keeps from j stand q frames (Comes k p r frame w may_hear may) =
     let h = keeps from j In p (frame ∷ frames) may in
-    let b = came_beside from j p q frame frames may_hear (record { window = h.window; seen = h.fits.holds.seen; held = h.held refl }) in
+    let b = came_beside from j p q frame frames may_hear (record { seen = h.fits.holds.seen; held = h.held refl }) in
     record {
-      window = h.window;
       rooms = h.rooms;
       held = λ is. b.held;
       fits = fits_less (end_of from j) (end_of (other from) j) In In p q frame frames h.fits (record {
@@ -413,7 +408,7 @@ keeps from j stand q frames (Comes k p r frame w may_hear may) =
     }
 keeps from j stand q frames (TakesUa k p f w may) =
     let h = keeps from j Asking p (ua f ∷ frames) may in
-    record { window = h.window; rooms = h.rooms; held = λ is. begun_held (held_of from j) (h.rooms from); fits = fits_less (end_of from j) (end_of (other from) j) Asking In p fresh_peer (ua f) frames h.fits (h.fits.holds.1.0 tt).1 }
+    record { rooms = h.rooms; held = λ is. begun_held (held_of from j) (h.rooms from); fits = fits_less (end_of from j) (end_of (other from) j) Asking In p fresh_peer (ua f) frames h.fits (h.fits.holds.1.0 tt).1 }
 
 pub no_session_is_accused : NoSessionIsAccused
 no_session_is_accused from j stand next p q frames rest line octets frame may shows says =

@@ -139,17 +139,17 @@ abbrev Known_fit : Way → ℕ → ℕ → Type 0
 Known_fit w x y = way.may_hear w ≡ true
 
 -- N(R)s about its numbers are judged only where they were before
-sent_hearing : (w : Way) (window ns g told : ℕ) (p s : Bool) → 7 ≤ window → Hears w g told → way.may_hear (way.sent window ns p s w).way ≡ true → way.may_hear w ≡ true
-sent_hearing w window ns g told p s large h hears = let (m, u, is, c) = known.counts hears in is
+sent_hearing : (w : Way) (window ns g told : ℕ) (p s : Bool) → Hears w g told → way.may_hear (way.sent window ns p s w).way ≡ true → way.may_hear w ≡ true
+sent_hearing w window ns g told p s h hears = let (m, u, is, c) = known.counts hears in is
   where
     before : Numbered w (Known_fit w)
     before = record { counts = λ is. let (m, u, fit, c) = h.numbered.counts is in (m, u, is, c) }
 
     known : Numbered (way.sent window ns p s w).way (Known_fit w)
-    known = sent_numbered w (Known_fit w) (Known_fit w) before (λ m u c one next is. is) ns (λ m u ne is. is) window p s large
+    known = sent_numbered w (Known_fit w) (Known_fit w) before (λ m u c one next is. is) ns (λ m u ne is. is) window p s
 
 -- the N(S) of the other end
-module _ (w : Way) (window ns g told : ℕ) (p s : Bool) (large : 7 ≤ window) where
+module _ (w : Way) (window ns g told : ℕ) (p s : Bool) where
   abbrev All_fit : ℕ → ℕ → ℕ → Type 0
   All_fit h x y = (h ≤ x) × (y ≡ told)
 
@@ -158,7 +158,7 @@ module _ (w : Way) (window ns g told : ℕ) (p s : Bool) (large : 7 ≤ window) 
 
   -- none of before counts
   sent_alone : Numbered w (All_fit g) → Numbered (way.sent window ns p s w).way (Hears_fit (way.sent window ns p s w).way.former (takes ns g) told)
-  sent_alone h = sent_numbered w (All_fit g) (Hears_fit (way.sent window ns p s w).way.former (takes ns g) told) h (λ m u c one next fit. (inl (takes_more ns g m c fit.0 one), fit.1)) ns (λ m u ne fit. (inl (takes_still ns g m fit.0 ne), fit.1)) window p s large
+  sent_alone h = sent_numbered w (All_fit g) (Hears_fit (way.sent window ns p s w).way.former (takes ns g) told) h (λ m u c one next fit. (inl (takes_more ns g m c fit.0 one), fit.1)) ns (λ m u ne fit. (inl (takes_still ns g m fit.0 ne), fit.1)) window p s
 
   alone : w.former ≡ 0 → Numbered w (Hears_fit w.former g told) → Numbered w (All_fit g)
   alone none h = record { counts = λ hears. let (x, y, fit, c) = h.counts hears in (x, y, (all w.pending w.former x y none c.pending fit.0, fit.1), c) }
@@ -245,9 +245,9 @@ seen_hears Deaf e = refl
 seen_hears Astray e = refl
 seen_hears Sure e = refl
 
-module _ (w : Way) (window ns g told : ℕ) (p s : Bool) (large : 7 ≤ window) (h : Hears w g told) where
+module _ (w : Way) (window ns g told : ℕ) (p s : Bool) (h : Hears w g told) where
   steady_hearing : way.may_hear (way.sent window ns p s (way.steady ns w)).way ≡ true → way.may_hear (way.steady ns w) ≡ true
-  steady_hearing hears = sent_hearing (way.steady ns w) window ns g told p s large (steady_hears ns w g told h) hears
+  steady_hearing hears = sent_hearing (way.steady ns w) window ns g told p s (steady_hears ns w g told h) hears
 
   others_hearing : way.may_hear (way.sent window ns p s (way.steady ns w)).way ≡ true → way.may_hear w ≡ true
   others_hearing hears = let still = steady_hearing hears in sym (ap way.may_hear (steady_same ns w still)) ∙ still
@@ -255,12 +255,12 @@ module _ (w : Way) (window ns g told : ℕ) (p s : Bool) (large : 7 ≤ window) 
   -- what is said is said of the way as it was
   sent_hears : way.may_hear w ≡ true → (w.former ≡ 0) ⊎ (w.next ≡ ns) → Hears (way.sent window ns p s w).way (takes ns g) told
   sent_hears hears (inl none) = record {
-    numbered = sent_alone w window ns g told p s large (alone w window ns g told p s large none h.numbered);
+    numbered = sent_alone w window ns g told p s (alone w window ns g told p s none h.numbered);
     begun = λ is e. absurd (sent_some w window ns p s h.begun is e);
   }
   sent_hears hears (inr next) = record {
-    numbered = subst (λ v. Numbered v (Hears_fit v.former (takes ns g) told)) (sym (grows_next w window ns g told p s large (at w.next next) (seen_hears w.sight hears)))
-        (sent_next w window ns g told p s large next (seen_hears w.sight hears) h.numbered);
+    numbered = subst (λ v. Numbered v (Hears_fit v.former (takes ns g) told)) (sym (grows_next w window ns g told p s (at w.next next) (seen_hears w.sight hears)))
+        (sent_next w window ns g told p s next (seen_hears w.sight hears) h.numbered);
     begun = λ is e. absurd (sent_some w window ns p s h.begun is e);
   }
     where
@@ -322,43 +322,42 @@ out_gives t v frame s = record {
   hearing = λ g told h is. absurd (both_ways (way.may_hear v.own.way) (unseen_deaf v.own.way.sight s.own) is);
 }
 
-up_frame : (window : ℕ) (s : Bool) (frame : PlainFrame) (t : Sides) → IsNumbered frame → 7 ≤ window → t.rule ≡ None → IsUp t → Gives t (sides.sees window s frame t) frame
+up_frame : (window : ℕ) (s : Bool) (frame : PlainFrame) (t : Sides) → IsNumbered frame → t.rule ≡ None → IsUp t → Gives t (sides.sees window s frame t) frame
 unfolding sides.sees
-up_frame window s (info ns nr pf packet) t is large none up =
+up_frame window s (info ns nr pf packet) t is none up =
     up_gives t (sides.sends_info window ns nr pf s t) (info ns nr pf packet) nr (way.sent window ns pf s (way.steady ns t.own.way)).way (way.sent window ns pf s (way.steady ns t.own.way)).rule up (info_sees window ns nr pf s t up none) (λ u. refl)
-    (λ g told h. others_sent t.own.way window ns g told pf s large h) (λ g told h. others_hearing t.own.way window ns g told pf s large h)
-up_frame window s (rr command nr pf) t is large none up = up_gives t (sides.sends_ready command nr pf t) (rr command nr pf) nr t.own.way None up (ready_sees command nr pf t up none) (λ u. refl) (λ g told h. h) (λ g told h is. is)
-up_frame window s (rnr command nr pf) t is large none up = up_gives t (sides.sends_ready command nr pf t) (rnr command nr pf) nr t.own.way None up (ready_sees command nr pf t up none) (λ u. refl) (λ g told h. h) (λ g told h is. is)
-up_frame window s (rej command nr pf) t is large none up =
+    (λ g told h. others_sent t.own.way window ns g told pf s h) (λ g told h. others_hearing t.own.way window ns g told pf s h)
+up_frame window s (rr command nr pf) t is none up = up_gives t (sides.sends_ready command nr pf t) (rr command nr pf) nr t.own.way None up (ready_sees command nr pf t up none) (λ u. refl) (λ g told h. h) (λ g told h is. is)
+up_frame window s (rnr command nr pf) t is none up = up_gives t (sides.sends_ready command nr pf t) (rnr command nr pf) nr t.own.way None up (ready_sees command nr pf t up none) (λ u. refl) (λ g told h. h) (λ g told h is. is)
+up_frame window s (rej command nr pf) t is none up =
     let r = reject_sees command nr pf t up none in
     up_gives t (sides.sends_reject command nr pf t) (rej command nr pf) nr t.own.way r.last up r.sees (λ u. refl) (λ g told h. h) (λ g told h is. is)
-up_frame window s (sabm b) t is large none up = absurd is
-up_frame window s (disc b) t is large none up = absurd is
-up_frame window s (ua f) t is large none up = absurd is
-up_frame window s (dm f) t is large none up = absurd is
-up_frame window s (frmr f why) t is large none up = absurd is
+up_frame window s (sabm b) t is none up = absurd is
+up_frame window s (disc b) t is none up = absurd is
+up_frame window s (ua f) t is none up = absurd is
+up_frame window s (dm f) t is none up = absurd is
+up_frame window s (frmr f why) t is none up = absurd is
 
-pub gives : (window : ℕ) (s : Bool) (frame : PlainFrame) (t : Sides) → IsNumbered frame → 7 ≤ window → t.rule ≡ None → Gives t (sides.sees window s frame t) frame
-gives window s frame t is large none = elim (is_bool (sides.may_run t.own.phase)) [ inl up ↦ up_frame window s frame t is large none up | inr out ↦ out_gives t (sides.sees window s frame t) frame (strays window s frame t is out) ]
+pub gives : (window : ℕ) (s : Bool) (frame : PlainFrame) (t : Sides) → IsNumbered frame → t.rule ≡ None → Gives t (sides.sees window s frame t) frame
+gives window s frame t is none = elim (is_bool (sides.may_run t.own.phase)) [ inl up ↦ up_frame window s frame t is none up | inr out ↦ out_gives t (sides.sees window s frame t) frame (strays window s frame t is out) ]
 
 pub gives_seen : (t v : Sides) (frame : PlainFrame) (m u g told : ℕ) → Gives t v frame → Seen t.other t.own m u g told → Seen v.other v.own m (acks frame u) (brings frame g) told
 gives_seen t v frame m u g told h s = record { up = ap sides.may_run h.same.phase ∙ s.up; own = h.own m u s.own; hears = h.hears g told s.hears }
 
-shown_seen : (from : Role) (j k : Judge) (m u g t : ℕ) (frame : PlainFrame) → IsNumbered frame → 7 ≤ j.window → SeenBy from j m u g t → Goes j k (other from) (seen_by j (other from) frame) frame
+shown_seen : (from : Role) (j k : Judge) (m u g t : ℕ) (frame : PlainFrame) → IsNumbered frame → SeenBy from j m u g t → Goes j k (other from) (seen_by j (other from) frame) frame
     → SeenBy from k m (acks frame u) (brings frame g) t
-shown_seen Dte j k m u g t frame is large h go =
+shown_seen Dte j k m u g t frame is h go =
     subst (λ (a : End). Seen a k.dce m (acks frame u) (brings frame g) t) (sym go.opposite) (subst (λ (b : End). Seen (seen_by j Dce frame).other b m (acks frame u) (brings frame g) t) (sym go.own)
-    (gives_seen (sides_of Dce j) (seen_by j Dce frame) frame m u g t (gives j.window (is_same j.dce_held frame) frame (sides_of Dce j) is large refl) h))
-shown_seen Dce j k m u g t frame is large h go =
+    (gives_seen (sides_of Dce j) (seen_by j Dce frame) frame m u g t (gives j.window (is_same j.dce_held frame) frame (sides_of Dce j) is refl) h))
+shown_seen Dce j k m u g t frame is h go =
     subst (λ (a : End). Seen a k.dte m (acks frame u) (brings frame g) t) (sym go.opposite) (subst (λ (b : End). Seen (seen_by j Dte frame).other b m (acks frame u) (brings frame g) t) (sym go.own)
-    (gives_seen (sides_of Dte j) (seen_by j Dte frame) frame m u g t (gives j.window (is_same j.dte_held frame) frame (sides_of Dte j) is large refl) h))
+    (gives_seen (sides_of Dte j) (seen_by j Dte frame) frame m u g t (gives j.window (is_same j.dte_held frame) frame (sides_of Dte j) is refl) h))
 
 pub shown_beside : (from : Role) (j k : Judge) (p : Peer) (frames : List PlainFrame) (frame : PlainFrame) → IsNumbered frame → Beside from j p frames → Goes j k (other from) (seen_by j (other from) frame) frame
     → Beside from k p (frames ++ frame ∷ [])
 shown_beside from j k p frames frame is h go = record {
-  window = subst (λ x. 7 ≤ x) (sym go.window) h.window;
   seen = subst (λ x. SeenBy from k p.sent x (took_all (frames ++ frame ∷ []) (length p.taken)) p.told) (sym (heard_more frames frame p.acked))
       (subst (λ x. SeenBy from k p.sent (acks frame (heard_all frames p.acked)) x p.told) (sym (took_more frames frame (length p.taken)))
-      (shown_seen from j k p.sent (heard_all frames p.acked) (took_all frames (length p.taken)) p.told frame is h.window h.seen go));
+      (shown_seen from j k p.sent (heard_all frames p.acked) (took_all frames (length p.taken)) p.told frame is h.seen go));
   held = subst (λ (hs : List (List ℕ)). IsHeld hs p.given p.sent) (sym go.other_held ∙ ap (λ r. held_of r k) (other_twice from)) (subst (λ (hs : List (List ℕ)). IsHeld hs p.given p.sent) (ap (λ r. held_of r j) (sym (other_twice from))) h.held);
 }

@@ -1,5 +1,5 @@
 -- A station of ours keeps the rules, whatever the other end and the line do.
-use Rattle.std.proofs.Common.{◌≡◌, ℕ, ◌+◌, ◌≤◌, List, [], ◌∷◌, ◌++◌, inl, length, Bool, true, false, Option, Some, None, Result, Ok, Err, refl, sym, ap, ◌∙◌, subst, arith}
+use Rattle.std.proofs.Common.{◌≡◌, ℕ, ◌+◌, ◌≤◌, List, [], ◌∷◌, ◌++◌, inl, length, Bool, true, false, Some, Result, Ok, Err, refl, sym, ap, ◌∙◌, subst, arith}
 use Rattle.std.specs.List.{slice_get}
 use Rattle.std.proofs.lemmas.Option.{same_Some, slice_get_within}
 use Rattle.x25_decode.specs.Decoding.{n1}
@@ -143,10 +143,10 @@ module _ (c : Settings) (high : c.window ≤ 7) (longest : c.longest ≡ n1) (re
       record { peer = h.peer; reached = reached; fits = h.fits; room = h.room; told = h.told; within = h.within; down = h.down; up = h.up; fine = λ never. absurd never }
 
   watched : (w : Watched) → IsAny c w → w.near.came_up ≡ false → Watches w
-  watched w (Begins j up large) once =
+  watched w (Begins j up any) once =
       record {
         peer = fresh_peer;
-        reached = record { before = fresh_peer; way = []; may = first j up large; left = []; did = did_nothing; line = empty; within = tt };
+        reached = record { before = fresh_peer; way = []; may = first j up; left = []; did = did_nothing; line = empty; within = tt };
         fits = inl (record { up = refl; sound = record { place_low = omega arith; place_high = omega arith; sent_high = omega arith; room = omega arith }; same = refl });
         room = omega arith;
         told = omega arith;

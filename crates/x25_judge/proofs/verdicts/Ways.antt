@@ -251,21 +251,20 @@ module _ (w : Way) (Fit Fits : ℕ → ℕ → Type 0) (h : Numbered w Fit) (mor
         (λ _. again_way is_same back (way.gone_back is_poll back w) w (λ v. Numbered v Fits) (gone_back_numbered is_poll gone))
         (λ _. unexplained_numbered is_same))
 
-    -- a window that is full counts seven at least
-    sent_new_numbered : (window : ℕ) → 7 ≤ window → P (way.sent_new window w)
-    sent_new_numbered window large =
+    sent_new_numbered : (window : ℕ) → P (way.sent_new window w)
+    sent_new_numbered window =
         cond_both (way.is_sure w && nat_le window w.pending) (way.breaks (OverWindow (way.passed window w)) (way.grown 1 w)) (way.quiet (way.grown 1 w)) P
         (λ _. grown_by 1 (omega arith) (omega arith))
         (λ _. grown_by 1 (omega arith) (omega arith))
 
-    pub sent_numbered : (window : ℕ) (is_poll is_same : Bool) → 7 ≤ window → P (way.sent window ns is_poll is_same w)
-    sent_numbered window is_poll is_same large =
+    pub sent_numbered : (window : ℕ) (is_poll is_same : Bool) → P (way.sent window ns is_poll is_same w)
+    sent_numbered window is_poll is_same =
         cond_both (way.is_unseen w) (way.quiet (way.counted w)) (way.sent_number window is_poll is_same back w) P
         (λ test. deaf_numbered (way.counted w) Fits (unseen w.sight test))
         (λ _. cond_both (nat_lt 0 back) (way.sent_again is_poll is_same back w) _ P
         (λ test. sent_again_numbered is_poll is_same (ltb-true 0 back test))
         (λ _. cond_both (w.behind == 0 || way.known_pending w == 0) (way.sent_new window w) (way.unexplained is_same back w) P
-        (λ _. sent_new_numbered window large)
+        (λ _. sent_new_numbered window)
         (λ _. unexplained_numbered is_same)))
       where
         unseen : (s : Sight) → way.is_unseen_sight s ≡ true → way.may_hear_sight s ≡ false

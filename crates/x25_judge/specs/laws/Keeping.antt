@@ -24,8 +24,8 @@ MaySend p frame q = ⊥
 -- The end `from` is in such a state where the judge is behind such lines, and such frames of the other end are on the
 -- way to it, front first.
 pub data MayBe (from : Role) : Judge → Peer → List PlainFrame → Type 0 where
-  -- the trace has shown a set-up; at most seven I frames may be unacknowledged
-  Begins : (j : Judge) → IsSetUp j → 7 ≤ j.window → MayBe from j fresh_peer []
+  -- the trace has shown a set-up
+  Begins : (j : Judge) → IsSetUp j → MayBe from j fresh_peer []
   -- it is handed down a packet
   HandsDown : (j : Judge) (p : Peer) (way : List PlainFrame) (packet : List ℕ) → MayBe from j p way
       → MayBe from j (record p { given = p.given ++ packet ∷ [] }) way

@@ -2,7 +2,7 @@
 -- trace from its first line on: where the end stands, what it may send there, and what may still come to it. Its rules
 -- of set-up are those of `PeerSessions` of x25_line, and of frames with numbers those of `Keeping`. ITU-T X.25
 -- (10/96), sections 2.4.4 and 2.4.5.
-use Rattle.std.specs.Prelude.{◌≡◌, ℕ, ◌≤◌, Bool, List, [], ◌∷◌, ◌++◌, Ok}
+use Rattle.std.specs.Prelude.{◌≡◌, ℕ, Bool, List, [], ◌∷◌, ◌++◌, Ok}
 use Rattle.x25_bits.specs.declared.role.Role.{Role}
 use Rattle.x25_decode.specs.declared.answer.Reading.{Reading}
 use Rattle.x25_frame.specs.Frame.{PlainFrame, sabm, disc, ua, dm, frmr}
@@ -60,8 +60,8 @@ pub data MaySay (stand : Stand) (p : Peer) (way : List PlainFrame) : PlainFrame 
 
 -- The end `from` may stand so where the judge is behind such lines, and such frames are on the way to it.
 pub data MayStand (from : Role) : Judge → Stand → Peer → List PlainFrame → Type 0 where
-  -- nothing was shown or set up; at most seven I frames may be unacknowledged
-  Starts : (window : ℕ) (reading : Reading) (strictness : Strictness) → 7 ≤ window
+  -- nothing was shown or set up
+  Starts : (window : ℕ) (reading : Reading) (strictness : Strictness)
       → MayStand from (begins window reading strictness) Out fresh_peer []
   -- it is handed down a packet
   HandsDown : (j : Judge) (stand : Stand) (p : Peer) (way : List PlainFrame) (packet : List ℕ)

@@ -65,6 +65,6 @@ pub data IsWatched (MayBegin : Judge → Type 0) (Passes : Judge → List ℕ �
 abbrev pub IsSilent : Settings → Watched → Type 0
 IsSilent = IsWatched (λ j. j.window ≤ 7) (λ j line. (answer_to j line).is_faulty ≡ false) ⊥
 
--- whatever is told, and seven I frames at least may be
+-- whatever is told
 abbrev pub IsAny : Settings → Watched → Type 0
-IsAny = IsWatched (λ j. 7 ≤ j.window) (λ j line. Unit {0}) (Unit {0})
+IsAny = IsWatched (λ j. Unit {0}) (λ j line. Unit {0}) (Unit {0})
