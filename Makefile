@@ -136,9 +136,10 @@ SCRIPTS = x25dump:x25dump pcap2x25:pcap2x25 x25pcap:x25pcap x25bridge:bridge x25
 # No dependency has the program proved: `sudo make install` is to install what is there.
 install:
 	@test -x $(PROGRAM) || { echo "There is no $(PROGRAM): make x25 leaves it there." >&2; exit 1; }
-	install -d $(INSTALLED)/bin $(INSTALLED)/lib/x25/x25tools $(INSTALLED)/share/man/man1 $(INSTALLED)/share/bash-completion/completions
+	install -d $(INSTALLED)/bin $(INSTALLED)/libexec $(INSTALLED)/lib/x25/x25tools $(INSTALLED)/share/man/man1 $(INSTALLED)/share/bash-completion/completions
 	install -d $(DOCUMENTS)/examples/embed $(DOCUMENTS)/examples/c $(DOCUMENTS)/examples/python $(DOCUMENTS)/examples/rust/src
-	install -m 755 $(PROGRAM) $(INSTALLED)/bin/x25
+	install -m 755 $(PROGRAM) $(INSTALLED)/libexec/x25
+	install -m 755 share/x25.sh $(INSTALLED)/bin/x25
 	install -m 644 $(filter-out tools/manpage.py,$(wildcard tools/*.py)) $(INSTALLED)/lib/x25
 	install -m 644 $(wildcard tools/x25tools/*.py) $(INSTALLED)/lib/x25/x25tools
 	for pair in $(SCRIPTS); do \
@@ -182,7 +183,7 @@ uninstall:
 	    rm -f $(INSTALLED)/bin/$${pair%:*} $(INSTALLED)/share/man/man1/$${pair%:*}.1 $(INSTALLED)/share/bash-completion/completions/$${pair%:*}; \
 	done
 	rm -f $(INSTALLED)/include/x25.h $(DESTDIR)$(LIBDIR)/libx25.* $(DESTDIR)$(LIBDIR)/pkgconfig/x25.pc $(DESTDIR)$(PYTHONDIR)/x25
-	rm -rf $(INSTALLED)/lib/x25 $(INSTALLED)/share/x25 $(DOCUMENTS)
+	rm -rf $(INSTALLED)/libexec/x25 $(INSTALLED)/lib/x25 $(INSTALLED)/share/x25 $(DOCUMENTS)
 
 dist:
 	mkdir -p build

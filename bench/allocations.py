@@ -18,7 +18,7 @@ program = sys.argv[1] if len(sys.argv) > 1 else os.path.join(TOP, "build", "x25"
 
 
 def messages(octets, rounds):
-    """A script that sends so many messages of so many octets, and delivers all frames behind each."""
+    """A script that sends so many messages of so many octets, and delivers all frames after each."""
     return SET_UP_OF_THREE + f"dte send 3 0 {'a5' * octets}\ndrain 65535\n" * rounds
 
 

@@ -237,8 +237,9 @@ uint32_t x25_receive_all(x25_station *station, const uint8_t *octets, size_t oct
 /* Sends a message of at most 65,535 octets on a channel, with or without the qualifier. 9, 40, 42, 30, 32, 31. */
 uint32_t x25_send(x25_station *station, uint16_t channel, bool q, const uint8_t *user, size_t user_count);
 /* Does what a text asks, as a line of a script without the name of its end and the line feed: "call 123 4567 41",
-   "accept 1", "clear 1", "int 1 2a", "disconnect" .. A cause and a diagnostic are taken of any station: "clear 1 diag=5".
-   60, and what the call for it answers. */
+   "accept 1", "clear 1", "int 1 2a", "disconnect" .. A cause and a diagnostic are taken of any station: "clear 1 diag=5"; what
+   is given by "with 0101 - call 123 4567 41" of one that is wide, and refused by 34 of others. 60, and what the call for it
+   answers. */
 uint32_t x25_command(x25_station *station, const char *text, size_t text_count);
 
 /* Writes the times of Annex D for an end, and 3 and 60 seconds for T1 and T3. 14. */

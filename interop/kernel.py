@@ -57,11 +57,11 @@ class Talker:
             raise Missing(f"{self.name} has ended") from error
 
     def mark(self):
-        """A place in what it says: `hear` looks behind it."""
+        """A place in what it says: `hear` looks after it."""
         return len(self.said)
 
     def hear(self, since, beginning, seconds, count=1):
-        """The lines behind a place that begin so, once there are so many; an error where they don't come."""
+        """The lines after a place that begin so, once there are so many; an error where they don't come."""
         last = time.monotonic() + seconds
         with self._changed:
             while True:

@@ -77,9 +77,9 @@ class Joined:
 
     def both(self, act, ours, guests):
         """Does something that both are told of; answers both lines."""
-        since, behind = self.ours.mark(), self.guest.mark()
+        since, there = self.ours.mark(), self.guest.mark()
         act()
-        return self.ours.hear(since, ours, self.patience)[0], self.guest.hear(behind, guests, self.patience)[0]
+        return self.ours.hear(since, ours, self.patience)[0], self.guest.hear(there, guests, self.patience)[0]
 
 
 # ---- the rows
@@ -140,10 +140,10 @@ def negotiated(it):
 def calls(it):
     """a call, a message and a clear by the kernel, with these"""
     it.order("facilities 8 8 3 3", "set")
-    behind = it.guest.mark()
+    there = it.guest.mark()
     channel = channel_of(it.heed("call 111 222 aabb", "dce incoming"))
     it.ours.tell(f"dce accept {channel}")
-    slot = it.guest.hear(behind, "connected", it.patience)[0].split()[1]
+    slot = it.guest.hear(there, "connected", it.patience)[0].split()[1]
     message = it.heed(f"send {slot} 700 5", f"dce message ch={channel} ")
     if not message.endswith(pattern(700, 5)):
         raise Missing("the guest's message came otherwise")
@@ -152,15 +152,15 @@ def calls(it):
 
 
 def facilities_of(throughput, reverse, calling, called):
-    """The facilities that a call of the kernel has with these options, those before sizes and windows, and those behind them."""
+    """The facilities that a call of the kernel has with these options, those before sizes and windows, and those after them."""
     before = f"01{reverse:>02}" if reverse != "0" else ""
     before += f"02{throughput}" if throughput != "0" else ""
     extensions = [(code, digits) for code, digits in (("cb", calling), ("c9", called)) if digits != "-"]
-    behind = "000f" if extensions else ""
+    after = "000f" if extensions else ""
     for code, digits in extensions:
         octets = digits + "0" * (len(digits) % 2)
-        behind += f"{code}{1 + len(octets) // 2:02x}{len(digits):02x}{octets}"
-    return bytes.fromhex(before), bytes.fromhex(behind)
+        after += f"{code}{1 + len(octets) // 2:02x}{len(digits):02x}{octets}"
+    return bytes.fromhex(before), bytes.fromhex(after)
 
 
 def is_call(octets):
@@ -171,13 +171,13 @@ def is_call(octets):
 def taken(it, options, data):
     """Has the kernel call with these options; the call comes with their facilities, stands, and is cleared."""
     it.order(f"options {' '.join(options)}", "set")
-    behind = it.guest.mark()
+    there = it.guest.mark()
     notice = it.heed(f"call 111 222 {data}", "dce incoming")
     channel = channel_of(notice)
     it.ours.tell(f"dce accept {channel}")
-    slot = it.guest.hear(behind, "connected", it.patience)[0].split()[1]
+    slot = it.guest.hear(there, "connected", it.patience)[0].split()[1]
     clear(it, channel, slot)
-    # The bridge writes what came to the trace behind the notice of it.
+    # The bridge writes what came to the trace after the notice of it.
     call = [octets for octets in heard(it.trace) if is_call(octets)][-1]
     if not all(field in call for field in facilities_of(*options)) or not notice.endswith(f" data={data}"):
         raise Missing(f"{call.hex()} was told as {notice}")
@@ -240,17 +240,17 @@ def q_bit(it):
 def interrupts(it):
     """an interrupt either way"""
     channel, slot, _, _ = call(it)
-    since, behind = it.ours.mark(), it.guest.mark()
+    since, there = it.ours.mark(), it.guest.mark()
     it.ours.tell(f"dce int {channel} 07")
     it.ours.hear(since, f"dce intdone ch={channel}", it.patience)
-    it.guest.hear(behind, f"interrupt {slot} 7", it.patience)
+    it.guest.hear(there, f"interrupt {slot} 7", it.patience)
     it.heed(f"interrupt {slot} 9", f"dce interrupt ch={channel}")
     echoed(it, channel, 3, 1)
     clear(it, channel, slot)
 
 
 def resets(it):
-    """a reset by the station, a message before and behind it"""
+    """a reset by the station, a message before and after it"""
     channel, slot, _, _ = call(it)
     echoed(it, channel, 100, 3)
     it.ask(f"dce reset {channel}", f"dce resetdone ch={channel}")
@@ -266,10 +266,10 @@ def is_not_ready(octets, channel):
 def too_long(it):
     """a message larger than the kernel's receive buffer"""
     channel, slot, _, _ = call(it, " 8 8 3 3", LARGE)
-    behind = it.guest.mark()
+    there = it.guest.mark()
     it.ours.tell(f"dce send {channel} 0 {pattern(60_000, 1)}")
     time.sleep(30)
-    if any(line.startswith(f"message {slot} ") for line in it.guest.said[behind:]):
+    if any(line.startswith(f"message {slot} ") for line in it.guest.said[there:]):
         raise Missing("RNR: the message came whole")
     if not any(is_not_ready(octets, channel) for octets in heard(it.trace)):
         raise Missing("RNR: none came")
@@ -313,7 +313,7 @@ def frmrs(trace):
     return sum(1 for frame in frames if len(frame) == 2 and int(frame[1][2:4] or "0", 16) & 0xEF == 0x87)
 
 
-# What is counted of each probability, in the rows behind those that are played.
+# What is counted of each probability, in the rows after those that are played.
 COUNTED = ("frames sent, come", "frames lost out, in", "firings of T1 here", "FRMR")
 
 

@@ -5,9 +5,10 @@ _x25() {
     local word=${COMP_WORDS[COMP_CWORD]} before=${COMP_WORDS[COMP_CWORD - 1]} words=
     COMPREPLY=()
     if ((COMP_CWORD == 1)); then
-        words="decode vectors sim station judge deframe frame help --help --version"
+        words="decode vectors sim station judge deframe frame help --help --version dump convert pcap chart losses bridge pad"
     else
         case ${COMP_WORDS[1]}:$before in
+            dump:* | convert:* | pcap:* | chart:* | losses:* | bridge:* | pad:*) words=$(_x25_options "${COMP_WORDS[@]:0:2}") ;;
             sim:--k | station:--k | judge:--k) words="1 2 3 4 5 6 7" ;;
             sim:--n2 | station:--n2) words="1 10 255" ;;
             sim:--channels | station:--channels) words="1 2 3 4 5 6 7 8 9 10 11 12 13 14 15 16" ;;
@@ -26,13 +27,13 @@ _x25() {
     mapfile -t COMPREPLY < <(compgen -W "$words" -- "$word")
 }
 
-# The words that a script itself says it has; else files.
+# The options that a command itself says it has, where one is begun; else files.
+_x25_options() {
+    [[ ${COMP_WORDS[COMP_CWORD]} != -* ]] || "$@" --help 2> /dev/null | grep -oE -- '--[a-z][a-z0-9-]*' | sort -u
+}
+
 _x25_script() {
-    local word=${COMP_WORDS[COMP_CWORD]}
-    COMPREPLY=()
-    if [[ $word == -* ]]; then
-        mapfile -t COMPREPLY < <(compgen -W "$("${COMP_WORDS[0]}" --help 2> /dev/null | grep -oE -- '--[a-z][a-z0-9-]*' | sort -u)" -- "$word")
-    fi
+    mapfile -t COMPREPLY < <(compgen -W "$(_x25_options "${COMP_WORDS[0]}")" -- "${COMP_WORDS[COMP_CWORD]}")
 }
 
 complete -F _x25 -o default x25

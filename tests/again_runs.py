@@ -14,14 +14,12 @@ import sys
 
 import runs
 from runs import ACCEPTED, CALL, CLEAR, CLEAR_CONFIRMATION, INTERRUPT, INTERRUPT_CONFIRMATION
-from runs import RESET, RESET_CONFIRMATION, RESTART, RESTART_CONFIRMATION, RR
+from runs import OTHERS, RESET, RESET_CONFIRMATION, RESTART, RESTART_CONFIRMATION, RR, Numbers
 
 from x25tools import losses  # where runs finds it
-from x25tools.x25lines import fcs
 
 CHANNELS = (1, 2)
 STEPS = 120
-OTHERS = {">": "<", "<": ">"}
 # Where an end stands on a channel, or with a restart.
 IDLE, CALLS, WAS_CALLED, TALKS, ASKS, WAS_ASKED = "idle", "calls", "was called", "talks", "asks", "was asked"
 CONFIRMATIONS = {RESTART: RESTART_CONFIRMATION, CLEAR: CLEAR_CONFIRMATION, RESET: RESET_CONFIRMATION}
@@ -36,8 +34,8 @@ class Channel:
         self.begin()
 
     def begin(self):
-        self.sent = self.acked = self.taken = self.told = self.interrupts = 0
-        self.is_out = False
+        self.numbers = Numbers()
+        self.interrupts, self.is_out = 0, False
 
 
 class End:
@@ -96,8 +94,8 @@ class End:
         elif kind == INTERRUPT_CONFIRMATION:
             channel.is_out = False
         elif pr is not None:
-            channel.acked += (pr - channel.acked) % 8
-            channel.taken += ps == channel.taken % 8
+            channel.numbers.hears(pr)
+            channel.numbers.takes(ps)
 
     # ---- what it sends: a channel, a kind, and where it has them P(S) and P(R)
 
@@ -144,11 +142,12 @@ class End:
         if not channel.is_out and dice.chance(0.2):
             channel.is_out = True
             return number, INTERRUPT, None, None
-        channel.told += dice.below(channel.taken - channel.told + 1)
-        if channel.sent < channel.acked + 2 and dice.chance(0.7):
-            channel.sent += 1
-            return number, 0, (channel.sent - 1) % 8, channel.told % 8
-        return number, RR, None, channel.told % 8
+        numbers = channel.numbers
+        numbers.told += dice.below(numbers.taken - numbers.told + 1)
+        if numbers.sent < numbers.acked + 2 and dice.chance(0.7):
+            numbers.sent += 1
+            return number, 0, (numbers.sent - 1) % 8, numbers.told % 8
+        return number, RR, None, numbers.told % 8
 
 
 def octets(number, kind, ps, pr):
@@ -159,8 +158,7 @@ def octets(number, kind, ps, pr):
 
 
 def line(mark, is_command, control, information=b""):
-    frame = bytes([1 if is_command == (mark == ">") else 3, control]) + information
-    return f"{mark} {(frame + fcs(frame)).hex()}\n"
+    return f"{mark} {runs.frame(mark, is_command, control, information).hex()}\n"
 
 
 def trace(seed):

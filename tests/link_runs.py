@@ -14,16 +14,13 @@ import sys
 from collections import namedtuple
 
 import runs
+from runs import DISC, DM, FRMR, P_OR_F, REJ, RNR, RR, SABM, UA
 
 from x25tools import losses  # where runs finds it
-from x25tools.x25lines import fcs
 
 NAMES = {">": "dte", "<": "dce"}
 # What `judge` tells of a frame that breaks a rule of order of the link layer.
 ORDER = ("no frame of LAPB", "UA answers", "no I frame", "N(R) ", "an I frame sent again", "more I frames are unacknowledged")
-SABM, DISC, UA, DM, FRMR = 0x2F, 0x43, 0x63, 0x0F, 0x87
-RR, RNR, REJ = 0x01, 0x05, 0x09
-P_OR_F = 0x10
 # What the other end sends, the kinds that it sends most several times.
 KINDS = (SABM,) * 12 + (DISC,) * 2 + (UA,) * 8 + (DM, FRMR) + ("I",) * 16 + (RR,) * 8 + (REJ,) * 4
 OUT, ASKING, IN = "out", "asking", "in"
@@ -32,12 +29,12 @@ OUT, ASKING, IN = "out", "asking", "in"
 Frame = namedtuple("Frame", "kind ns nr")
 
 
-class Numbers:
-    """What the end counts in a session: the packets that it was handed down, and whole numbers."""
+class Numbers(runs.Numbers):
+    """What the end counts in a session, and the packets that it was handed down."""
 
     def __init__(self):
+        super().__init__()
         self.given = []
-        self.sent = self.acked = self.told = self.taken = 0
 
 
 class Run:
@@ -55,9 +52,9 @@ class Run:
 
     def put(self, mark, is_command, control, information=b""):
         """Lays a frame on the trace, damaged at times, and says whether it is good."""
-        octets = bytes([1 if is_command == (mark == ">") else 3, control]) + information
+        octets = runs.frame(mark, is_command, control, information)
         is_good = not self.dice.chance(self.damage[mark])
-        self.trace.append(f"{mark} {(octets + (fcs(octets) if is_good else bytes(2))).hex()}\n")
+        self.trace.append(f"{mark} {(octets if is_good else octets[:-2] + bytes(2)).hex()}\n")
         return is_good
 
     def bit(self):
@@ -117,11 +114,11 @@ class Run:
         elif frame.kind == UA and self.stand == ASKING and self.dice.chance(0.85):
             self.stand, self.numbers = IN, Numbers()
         elif frame.nr is not None and self.stand == IN and self.dice.chance(0.9):
-            self.numbers.acked += (frame.nr - self.numbers.acked) % 8
-            self.numbers.taken += frame.ns == self.numbers.taken % 8
+            self.numbers.hears(frame.nr)
+            self.numbers.takes(frame.ns)
 
     def answer(self, kind):
-        """UA; behind one to SABM it is in a session, or awaits its own UA on."""
+        """UA; after one to SABM it is in a session, or awaits its own UA on."""
         self.put(self.mark, False, UA | self.bit())
         if kind == DISC:
             self.stand = OUT

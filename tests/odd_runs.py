@@ -16,16 +16,14 @@ import sys
 
 import runs
 from runs import ACCEPTED, CALL, CLEAR, CLEAR_CONFIRMATION, INTERRUPT, INTERRUPT_CONFIRMATION
-from runs import RESET, RESET_CONFIRMATION, RESTART, RESTART_CONFIRMATION, RNR, RR
+from runs import P_OR_F, RESET, RESET_CONFIRMATION, RESTART, RESTART_CONFIRMATION, RNR, RR, SABM, Numbers
 
 from x25tools import losses  # where runs finds it
 from x25tools.piped import Station
-from x25tools.x25lines import fcs
 
 STEPS, MOST_OUT = 80, 6
 MARKS = {"dte": ">", "dce": "<"}
 OTHERS = {"dte": "dce", "dce": "dte"}
-SABM = 0x3F
 # What a request is answered by.
 ANSWERS = {CALL: ACCEPTED, CLEAR: CLEAR_CONFIRMATION, RESET: RESET_CONFIRMATION, INTERRUPT: INTERRUPT_CONFIRMATION, RESTART: RESTART_CONFIRMATION}
 
@@ -134,22 +132,20 @@ class Run:
         self.dice = losses.Dice(seed)
         self.end = "dce" if seed % 2 else "dte"
         self.other = OTHERS[self.end]
-        channels = self.dice.one_of((1, 2, 3))
-        self.numbers = range(1, channels + 1)
-        self.station = Station(program, self.end, ["--channels", str(channels), "--n2", "255"])
-        self.packets = Packets(self.dice, channels)
-        self.command, self.response = (1, 3) if self.other == "dte" else (3, 1)
+        self.channels = self.dice.one_of((1, 2, 3))
+        self.station = Station(program, self.end, ["--channels", str(self.channels), "--n2", "255"])
+        self.packets = Packets(self.dice, self.channels)
         self.trace, self.there, self.back = [], [], []
-        self.sent = self.acked = self.taken = 0
+        self.numbers = Numbers()
 
-    def put(self, octets):
-        octets = bytes(octets)
-        self.trace.append(f"{MARKS[self.other]} {(octets + fcs(octets)).hex()}\n")
+    def put(self, is_command, control, information=b""):
+        mark = MARKS[self.other]
+        self.trace.append(f"{mark} {runs.frame(mark, is_command, control, information).hex()}\n")
         self.there.append(self.trace[-1])
 
     def put_packet(self, packet):
-        self.put([self.command, self.taken % 8 << 5 | self.sent % 8 << 1] + packet)
-        self.sent += 1
+        self.put(True, self.numbers.taken % 8 << 5 | self.numbers.sent % 8 << 1, bytes(packet))
+        self.numbers.sent += 1
 
     def says(self, line):
         """The station is asked something, and sends frames."""
@@ -167,34 +163,33 @@ class Run:
             return
         octets = bytes.fromhex(self.back.pop(0)[2:])
         if octets[1] & 3 != 3:
-            self.acked += ((octets[1] >> 5) - self.acked) % 8
-        if not octets[1] & 1 and octets[1] >> 1 & 7 == self.taken % 8:
-            self.taken += 1
+            self.numbers.hears(octets[1] >> 5)
+        if not octets[1] & 1 and self.numbers.takes(octets[1] >> 1 & 7):
             self.packets.take(octets[2:-2])
 
     def asks(self):
         """What the user of the station asks for."""
-        channel = 1 + self.dice.below(len(self.numbers))
+        channel = 1 + self.dice.below(self.channels)
         kinds = ("call 1 2 -", f"accept {channel}", f"accept {channel}", f"clear {channel}", f"send {channel} 0 {'ab' * self.dice.one_of((1, 5, 200))}")
         more = (f"send {channel} 0 aa", f"int {channel} 01", f"reset {channel}", "restart" if self.dice.chance(0.2) else "pull")
         return f"{self.end} {self.dice.one_of(kinds + more)}"
 
     def step(self):
         chance = self.dice.fraction()
-        if chance < 0.35 and self.sent - self.acked < MOST_OUT:
+        if chance < 0.35 and self.numbers.sent - self.numbers.acked < MOST_OUT:
             self.put_packet(self.packets.next())
         elif chance < 0.6:
             self.deliver()
         elif chance < 0.8:
             self.take()
         elif chance < 0.85:
-            self.put([self.response, self.taken % 8 << 5 | RR])
+            self.put(False, self.numbers.taken % 8 << 5 | RR)
         else:
             self.says(self.asks())
 
     def play(self):
         with self.station:
-            self.put([self.command, SABM])
+            self.put(True, SABM | P_OR_F)
             self.deliver()
             self.take()
             self.put_packet([0x10, 0, RESTART, 0, 0])

@@ -24,14 +24,13 @@ from typing import NamedTuple
 
 import judge_runs
 import runs
-from runs import ACCEPTED, CALL, RESTART, RESTART_CONFIRMATION, RNR, RR
+from runs import ACCEPTED, CALL, DISC, OTHERS, RESTART, RESTART_CONFIRMATION, RNR, RR, SABM, UA
 
 from x25tools import losses  # where runs finds it
 from x25tools.x25lines import fcs
 
 COPIES = 10
 LINES = 120
-SABM, DISC, UA = 0x2F, 0x43, 0x63
 
 # What `judge` says of an end that breaks a rule of order.
 OF_ORDER = re.compile(
@@ -85,22 +84,18 @@ class Frame(NamedTuple):
         return Frame(self.end, self.octets[:place] + bytes((octet,)) + self.octets[place + 1 :])
 
 
-OTHERS = {">": "<", "<": ">"}
-
-
 def resolved(low, number):
     """The first whole number from `low` on that is this one modulo 8."""
     return low + (number - low) % 8
 
 
-class Sender:
-    """What an end that keeps the rules may have come to, at most: it heard and took all that was sent to it, as it might."""
+class Sender(runs.Numbers):
+    """What an end that keeps the rules may have come to, at most: it heard and took all that was sent to it, as it might. What went under each
+    number is `given`, and `told` is what its last N(R) stood for, at least."""
 
     def __init__(self):
-        self.given = []  # what went under each number
-        self.acked = 0  # how many of these are acknowledged to it, at most
-        self.told = 0  # what its last N(R) stood for, at least
-        self.taken = 0  # how many it took, at most
+        super().__init__()
+        self.given = []
 
     def numbers(self, ns, octets):
         """An I frame goes: the rule that is broken, if any."""
@@ -121,13 +116,6 @@ class Sender:
             return "not acknowledged so"
         self.told = told
         return None
-
-    def hears(self, nr):
-        self.acked = resolved(self.acked, nr)
-
-    def takes(self, ns):
-        if ns == self.taken % 8:
-            self.taken += 1
 
 
 class Call:

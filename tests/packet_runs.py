@@ -17,13 +17,13 @@ from collections import defaultdict
 
 from peer_runs import Failed, Run, Station, begins, main, outcome
 from runs import ACCEPTED, CALL, CLEAR, CLEAR_CONFIRMATION, INTERRUPT, INTERRUPT_CONFIRMATION
-from runs import RESET, RESET_CONFIRMATION, RESTART, RESTART_CONFIRMATION
+from runs import RESET, RESET_CONFIRMATION, RESTART, RESTART_CONFIRMATION, Numbers
 
 CHANNELS = (1, 2)
 FREE, CALLING, CALLED, OPEN = range(4)
 
 
-class Channel:
+class Channel(Numbers):
     """A channel of the peer; `out` is its RESET or CLEAR that isn't confirmed."""
 
     def __init__(self, clears=0):
@@ -32,9 +32,9 @@ class Channel:
 
     def begin(self, resets):
         """A stretch begins: rule 12."""
+        super().__init__()
         self.resets, self.out = resets, None
-        self.sent = self.taken = self.acked = self.told = self.owed = 0
-        self.interrupts = False
+        self.owed, self.interrupts = 0, False
         self.begun, self.joined = None, b""
 
 
@@ -128,7 +128,7 @@ class Layer:
     def hears_open(self, channel, h, kind, packet):
         name = self.name(h, channel)
         if kind & 1 == 0 or kind & 31 in (1, 5):
-            channel.acked += (kind // 32 - channel.acked) % 8
+            channel.hears(kind // 32)
         if kind & 1 == 0:
             channel.taken += 1
             channel.joined += packet[3:]
@@ -325,7 +325,7 @@ class PacketRun(Run):
 
     @staticmethod
     def plain(key, octets):
-        """The user data of a call behind its addresses and its empty facilities; else what it is."""
+        """The user data of a call after its addresses and its empty facilities; else what it is."""
         return octets[5:] if key[0] == "call" else octets
 
     def settle(self):

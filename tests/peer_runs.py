@@ -14,14 +14,13 @@ import random
 import sys
 
 import runs
-from runs import RNR, RR
+from runs import P_OR_F, REJ, RNR, RR, UA
 
 from x25tools import piped  # where runs finds it
-from x25tools.x25lines import BadInput, fcs
+from x25tools.x25lines import BadInput
 
 STEPS, MESSAGES = 250, 12
-REJ = 0x09
-COMMAND, RESPONSE = 3, 1
+RESPONSE = 1
 
 
 class Failed(Exception):
@@ -33,13 +32,13 @@ def begins(taken, given, what):
         raise Failed(f"{what}: {taken} of {given}")
 
 
-class Peer:
-    """The link of the peer: numbers are whole. Its rules are those of docs/PEER.md, by their number."""
+class Peer(runs.Numbers):
+    """The link of the peer, and the packets that it was handed down. Its rules are those of docs/PEER.md, by their number; it hears (6) and
+    wants (4) what `Numbers` says."""
 
     def __init__(self, dice):
-        self.dice = dice
-        self.given, self.taken = [], []
-        self.acked = self.sent = self.told = 0
+        super().__init__()
+        self.dice, self.given = dice, []
 
     def numbers(self):
         """The numbers that it may send (2, 3)."""
@@ -51,21 +50,12 @@ class Peer:
 
     def acknowledges(self, late):
         """What an N(R) stands for: any from the last one to the number of packets that it took (5)."""
-        return self.dice.randint(self.told, len(self.taken)) if late else len(self.taken)
-
-    def wants(self, number):
-        """Whether it may take the packet of an I frame with this N(S) (4)."""
-        return number == len(self.taken) % 8
-
-    def hears(self, number):
-        """By an N(R) all below it is acknowledged (6)."""
-        self.acked += (number - self.acked) % 8
+        return self.dice.randint(self.told, self.taken) if late else self.taken
 
     def frame(self, control, command, poll, late, packet=b""):
         """A frame with an N(R)."""
         self.told = self.acknowledges(late)
-        octets = bytes([COMMAND if command else RESPONSE, self.told % 8 << 5 | poll << 4 | control]) + packet
-        return octets + fcs(octets)
+        return runs.frame("<", command, self.told % 8 << 5 | poll << 4 | control, packet)
 
     def item(self, number, poll=False, late=False):
         """The I frame of this number."""
@@ -79,10 +69,7 @@ class Peer:
             return None
         if hears:
             self.hears(control // 32)
-        if control & 1 == 0 and takes and self.wants(control // 2 % 8):
-            self.taken.append(packet)
-            return packet
-        return None
+        return packet if control & 1 == 0 and takes and self.takes(control // 2 % 8) else None
 
 
 class Call:
@@ -259,8 +246,7 @@ class Run:
     def play(self):
         self.station.ask("dte connect")
         self.out.clear()
-        ua = bytes([RESPONSE, 0x73])
-        self.station.ask("< " + (ua + fcs(ua)).hex())
+        self.station.ask("< " + runs.frame("<", False, UA | P_OR_F).hex())
         self.go()
 
     def go(self):

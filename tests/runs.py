@@ -1,4 +1,4 @@
-"""What the scripts of random runs share: their words, the seeds, what they say of runs that are judged, and the codes of packets."""
+"""What the scripts of random runs share: their words, the seeds, what they say of runs that are judged, codes, and the numbers of an end."""
 
 import argparse
 import os
@@ -9,13 +9,46 @@ from program import ROOT, find_program
 
 sys.path.insert(0, os.path.join(ROOT, "tools"))
 
+from x25tools.x25lines import fcs  # noqa: E402
+
 CALL, ACCEPTED, CLEAR, CLEAR_CONFIRMATION, RESET, RESET_CONFIRMATION = 0x0B, 0x0F, 0x13, 0x17, 0x1B, 0x1F
 INTERRUPT, INTERRUPT_CONFIRMATION = 0x23, 0x27
 RESTART, RESTART_CONFIRMATION = 0xFB, 0xFF
-RR, RNR = 0x01, 0x05
+RR, RNR, REJ = 0x01, 0x05, 0x09
+SABM, DISC, UA, DM, FRMR = 0x2F, 0x43, 0x63, 0x0F, 0x87
+P_OR_F = 0x10
+OTHERS = {">": "<", "<": ">"}
 
-# What `judge` tells of a frame, a rule or manners: what stands behind its mark.
+# What `judge` tells of a frame, a rule or manners: what stands after its mark.
 TOLD = re.compile(r" (?:!|~ manners:) (d[tc]e: .*)")
+
+
+def frame(mark, is_command, control, information=b""):
+    """The octets of a frame of the end whose lines have this mark."""
+    octets = bytes([1 if is_command == (mark == ">") else 3, control]) + information
+    return octets + fcs(octets)
+
+
+class Numbers:
+    """What an end counts by whole numbers, of its link or of a channel: what it sent, what of this is acknowledged, what it took, and what of
+    that it acknowledged."""
+
+    def __init__(self):
+        self.sent = self.acked = self.taken = self.told = 0
+
+    def hears(self, number):
+        """By an N(R) or P(R) all below it is acknowledged."""
+        self.acked += (number - self.acked) % 8
+
+    def wants(self, number):
+        """Whether this N(S) or P(S) is that of what it takes next."""
+        return number == self.taken % 8
+
+    def takes(self, number):
+        """Takes what has this number, where it is wanted, and says whether it was."""
+        is_wanted = self.wants(number)
+        self.taken += is_wanted
+        return is_wanted
 
 
 def words(about, runs):

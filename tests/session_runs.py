@@ -17,13 +17,11 @@ import sys
 from collections import defaultdict
 
 from packet_runs import Layer, PacketRun, User
-from peer_runs import COMMAND, RESPONSE, Failed, Peer, main, outcome
-from runs import RR
+from peer_runs import Failed, Peer, main, outcome
+from runs import DISC, DM, FRMR, RR, SABM, UA, frame
+from runs import P_OR_F as P
 
-from x25tools.x25lines import fcs, is_sealed  # where runs finds it
-
-SABM, DISC, UA, DM, FRMR = 0x2F, 0x43, 0x63, 0x0F, 0x87
-P = 0x10
+from x25tools.x25lines import is_sealed  # where runs finds it
 
 
 def kind_of(octets):
@@ -121,27 +119,26 @@ class SessionRun(PacketRun):
         """It is patient (24)."""
         return not {SABM, DISC} & set(self.back.kinds()) and UA not in self.out.kinds()
 
-    def puts(self, address, control, rest=b""):
-        octets = bytes([address, control]) + rest
-        self.back.append(octets + fcs(octets))
+    def puts(self, is_command, control, rest=b""):
+        self.back.append(frame("<", is_command, control, rest))
 
     def asks(self, poll=P):
         """It sends SABM, and leaves its session (23)."""
         self.leaves()
         self.is_asking = True
-        self.puts(COMMAND, SABM | poll)
+        self.puts(True, SABM | poll)
 
     def closes(self):
         """It sends DISC, and leaves its session (23)."""
         self.leaves()
         self.is_asking = False
-        self.puts(COMMAND, DISC | self.dice.choice((0, P)))
+        self.puts(True, DISC | self.dice.choice((0, P)))
 
     def answers(self, control, plain):
         """It answers a SABM by UA; where it awaits UA itself, it may wait on (21, 22)."""
         if plain or not self.is_asking or self.chance(0.5):
             self.begins()
-        self.puts(RESPONSE, UA | control & P if plain or self.chance(0.9) else UA)
+        self.puts(False, UA | control & P if plain or self.chance(0.9) else UA)
 
     def hears_numbers(self):
         """It hears frames with N(R) and takes packets in a session alone (20)."""
@@ -174,7 +171,7 @@ class SessionRun(PacketRun):
         elif self.chance(self.odds / 3):
             self.leaves()
         elif self.chance(self.odds / 3):
-            self.puts(RESPONSE, *self.dice.choice(((DM | P,), (DM,), (FRMR, b"\0\0\x01"))))
+            self.puts(False, *self.dice.choice(((DM | P,), (DM,), (FRMR, b"\0\0\x01"))))
 
     # ---- the line
 
@@ -204,7 +201,7 @@ class SessionRun(PacketRun):
     def meets(self, near, far):
         """An end hears, in its session, a frame with N(R) of the other's."""
         if any((near < a) != (far < b) or (near == a) != (far == b) for a, b in self.met):
-            raise Failed(f"sessions {near} and {far} meet behind {self.met}")
+            raise Failed(f"sessions {near} and {far} meet after {self.met}")
         if (near, far) not in self.met:
             self.met.append((near, far))
 

@@ -51,16 +51,6 @@ NOTHING = bytes([0x10, 0xFF, 0x01])
 NOTICE = re.compile(r"\w+ (\w+)(?: ch=(\d+))?")
 
 
-class Station(piped.Station):
-    """A station, and the word of its mark on what is left to do."""
-
-    work = ""
-
-    def _mark(self, line):
-        self.work = line.split(b" ")[2].decode()
-        return super()._mark(line)
-
-
 class Told:
     """What the entries of an end tell: whether its link is up, and what it awaits, by channel; a restart by channel 0, the link by LINK."""
 
@@ -99,7 +89,7 @@ class End:
     def __init__(self, program, end, times, n2):
         self.name, self.told = end, Told()
         words = [word for name, time in times.items() for word in (f"--{name}", str(time))]
-        self.station = Station(program, end, ["--channels", str(CHANNELS), "--n2", str(n2), "--clock", *words])
+        self.station = piped.Station(program, end, ["--channels", str(CHANNELS), "--n2", str(n2), "--clock", *words])
         self.setting_up = (n2 + 1) * TIMES["t1"]
         self.due, self.since, self.heard, self.entries = None, {}, 0, []
 
@@ -168,8 +158,8 @@ class Run:
         end.due = answer.due
         if end.due is not None and end.due <= self.now:
             raise Failed(f"{end.name}: something is due at {end.due} still, after {event} at {self.now}")
-        if end.station.work != "busy" and (end.station.work == "due") != bool(end.told.awaited):
-            raise Failed(f"{end.name}: the mark says {end.station.work}, and awaited is {end.told.awaited}, after {event}")
+        if answer.is_idle and answer.awaits != bool(end.told.awaited):
+            raise Failed(f"{end.name}: the mark says {'due' if answer.awaits else 'idle'}, and awaited is {end.told.awaited}, after {event}")
 
     def push(self, end, event):
         heapq.heappush(self.line, (self.now + LATENCY, next(self.count), end.name, event))

@@ -49,7 +49,7 @@ def relay(near, far, ends, loss, seed, is_over):
 
 
 def echo(server):
-    """Gives each client of a server its octets back, and ends behind it, until the server is closed."""
+    """Gives each client of a server its octets back, and ends after it, until the server is closed."""
 
     def serve(client):
         with client:

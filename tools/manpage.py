@@ -19,11 +19,12 @@ import os
 import re
 import subprocess
 import sys
+from typing import Iterable, Iterator
 
 from x25tools import x25lines
 
 MANUAL = os.path.join(os.path.dirname(os.path.dirname(os.path.abspath(__file__))), "docs", "MANUAL.md")
-# What stands behind the program and each of its subcommands.
+# What stands after the program and each of its subcommands.
 SYNOPSIS = {
     "decode": "[--long] [--loose] [--wide] [FILE]",
     "vectors": "",
@@ -45,7 +46,7 @@ PROGRAM = re.compile(r"\bbuild/x25(?:-unproved)?(?![\w.])")
 OF_THE_REPOSITORY = re.compile("`make |`source share/|<!--")
 
 
-def head():
+def head() -> list[str]:
     """The lines up to the description."""
     lines = [".TH X25 1", ".SH NAME", "x25 \\- X.25 packet layer over LAPB, on lines of text", ".SH SYNOPSIS"]
     for place, (name, words) in enumerate(SYNOPSIS.items()):
@@ -53,25 +54,25 @@ def head():
     return [*lines, ".SH DESCRIPTION"]
 
 
-def escaped(text):
+def escaped(text: str) -> str:
     """A text whose characters stand for themselves in roff."""
     text = text.replace("\\", "\\e").replace("-", "\\-")
     return "\\&" + text if text[:1] in (".", "'") else text
 
 
-def inline(text):
+def inline(text: str) -> str:
     """A text with its code and bold words in bold type."""
     parts = re.split(r"(`[^`]*`|\*\*[^*]+\*\*)", text)
     drawn = [f"\\fB{escaped(part.strip('`*'))}\\fR" if part[:1] == "`" or part[:2] == "**" else escaped(part) for part in parts if part]
     return "".join(drawn)
 
 
-def table_row(line):
-    """The cells of a row of a table; a bar that is part of a cell stands behind a backslash."""
+def table_row(line: str) -> list[str]:
+    """The cells of a row of a table; a bar that is part of a cell stands after a backslash."""
     return [cell.strip().replace("\\|", "|") for cell in re.split(r"(?<!\\)\|", line)[1:-1]]
 
 
-def roff(lines):
+def roff(lines: Iterable[str]) -> Iterator[str]:
     """Yields the lines of the manual page."""
     yield from head()
     is_example = False
@@ -90,7 +91,7 @@ def roff(lines):
     yield from SEE_ALSO
 
 
-def prose(line):
+def prose(line: str) -> Iterator[str]:
     """Yields what a line outside of the examples becomes; the heading of the whole is that of the page."""
     if found := re.fullmatch(r"(#+) (.*)", line):
         if len(found[1]) > 1:
@@ -105,7 +106,7 @@ def prose(line):
         yield inline(line.strip())
 
 
-def installed(lines, prefix):
+def installed(lines: Iterable[str], prefix: str) -> Iterator[str]:
     """The lines of the manual as they are true of what is installed below a prefix."""
     documents = f"{prefix}/share/doc/x25"
     for paragraph in "\n".join(lines).split("\n\n"):
@@ -115,13 +116,13 @@ def installed(lines, prefix):
             yield from [*text.split("\n"), ""]
 
 
-def installed_text(lines, prefix):
+def installed_text(lines: Iterable[str], prefix: str) -> str:
     """A document as it is true of what is installed below a prefix."""
     text = "\n".join(installed(lines, prefix)).rstrip("\n") + "\n"
     return PROGRAM.sub("x25", text).replace(f"{prefix}/share/doc/x25/", "")
 
 
-def script_page(name):
+def script_page(name: str) -> Iterator[str]:
     """The lines of the page of a script, by the name that it has where it is installed."""
     script, = (script for script, known in NAMES.items() if known == name)
     command = [sys.executable, os.path.join(os.path.dirname(os.path.abspath(__file__)), f"{script}.py"), "--help"]
@@ -136,7 +137,7 @@ def script_page(name):
     yield ".SH SEE ALSO\n\\fBx25\\fR(1)"
 
 
-def main():
+def main() -> int:
     parser = argparse.ArgumentParser(description=__doc__, formatter_class=argparse.RawDescriptionHelpFormatter)
     parser.add_argument("file", nargs="?", default=MANUAL, metavar="FILE", help="the manual; docs/MANUAL.md where it is missing")
     parser.add_argument("--prefix", metavar="FOLDER", help="the folder in which the program is installed")

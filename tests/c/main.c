@@ -318,6 +318,45 @@ static void try_reasons(void)
     x25_free(&dce.station);
 }
 
+/* Facilities with a call and user data with its clearing, by text: what goes out, and what is told. A station that isn't wide refuses them. */
+static void try_given(bool wide)
+{
+    static const uint8_t call[] = {0x50, 0x01, 0x0b, 0x11, 0x12, 0x02, 0x01, 0x01, 0x41};
+    static const char told[] = "dce incoming ch=1 at 1.0.0 called=1 calling=2 data=41\ndce beside ch=1 fac=0101 data=-\n";
+    static const char cleared[] = "dce cleared ch=1 cause=0 diag=0\ndce beside ch=1 fac=- data=6279\n";
+    x25_settings settings = one_channel;
+    settings.wide = wide;
+    expect("new", x25_new(&dte.station, X25_DTE, settings), 0);
+    settings.wide = true;
+    expect("new", x25_new(&dce.station, X25_DCE, settings), 0);
+    expect("connect", x25_connect(&dte.station), 0);
+    take(&dte);
+    deliver_all();
+    if (!wide) {
+        expect("facilities", x25_command(&dte.station, "with 0101 - call 1 2 -", 22), X25_BAD_PARAMETER);
+        dte.length = dce.length = 0;
+        x25_free(&dte.station);
+        x25_free(&dce.station);
+        return;
+    }
+    expect("packet sizes", x25_command(&dte.station, "with 420707 - call 1 2 -", 24), X25_BAD_PARAMETER);
+    expect("no command", x25_command(&dte.station, "with 0101 call 1 2 -", 20), X25_NO_COMMAND);
+    ask(&dte, "with 0101 - d call 1 2 41");
+    size_t place = dte.first % MOST;
+    expect("a call, its length", (uint32_t)dte.counts[place], sizeof call + 4);
+    expect("its octets", memcmp(dte.octets[place] + 2, call, sizeof call) != 0, 0);
+    dce.length = 0;
+    deliver_all();
+    expect("what is told", memcmp(dce.told, told, sizeof told - 1) != 0, 0);
+    ask(&dte, "with - 6279 clear 1");
+    dce.length = 0;
+    deliver_all();
+    expect("what is told", memcmp(dce.told, cleared, sizeof cleared - 1) != 0, 0);
+    dte.length = dce.length = 0;
+    x25_free(&dte.station);
+    x25_free(&dce.station);
+}
+
 /* By a clock what isn't answered is asked for by itself, and the answer tells the timer: of a call that isn't accepted. */
 static void try_clock(void)
 {
@@ -405,6 +444,8 @@ int main(void)
     try_forms(false);
     try_beside();
     try_reasons();
+    try_given(false);
+    try_given(true);
     try_all();
     try_clock();
     return 0;

@@ -69,7 +69,7 @@ def ipv4(to_server, segment, fragment=0, client=1):
 
 
 def ipv6(to_server, segment):
-    """A packet of IPv6 with a segment behind an extension header."""
+    """A packet of IPv6 with a segment after an extension header."""
     ends = (b"\xfe\x80" + bytes(13) + b"\x01", b"\xfe\x80" + bytes(13) + b"\x02")
     source, target = ends if to_server else ends[::-1]
     extended = struct.pack(">BBHI", 6, 0, 0x0104, 0) + segment

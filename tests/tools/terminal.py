@@ -26,7 +26,7 @@ class Display:
         self._saved, self._open = (0, 0), ""
 
     def text(self):
-        """The lines that were shown, but for empty ones behind the last."""
+        """The lines that were shown, but for empty ones after the last."""
         return "\n".join("".join(row).rstrip() for row in [*self._gone, *self._rows]).rstrip()
 
     def write(self, text):

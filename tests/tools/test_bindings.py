@@ -136,6 +136,23 @@ class Python(unittest.TestCase):
                 with self.assertRaisesRegex(x25.Refused, "34: "):
                     dte.restart(cause, diagnostic)
 
+    def test_what_a_line_gives(self):
+        """Facilities go out with a call, as `decode --wide` reads it, and the other end is told them."""
+        with x25.Station(x25.DTE, library=LIBRARY, wide=True) as dte, x25.Station(x25.DCE, library=LIBRARY, wide=True) as dce:
+            answer = dte.connect()
+            near, far = dte, dce
+            while answer.frames:
+                near, far, answer = far, near, far.receive_all(answer.frames)
+            for text, number in (("with 42 - call 1 2 -", 34), ("with 0101 - send 1 0 41", 60)):
+                with self.assertRaisesRegex(x25.Refused, f"{number}: "):
+                    dte.command(text)
+            call, = dte.command("with 01800312 - d call 1 2 41").frames
+            events = dce.receive(call).events
+            self.assertEqual([(event.kind, event.facilities) for event in events], [(x25.Kind.INCOMING, b""), (x25.Kind.BESIDE, bytes.fromhex("01800312"))])
+        if support.PROGRAM:
+            line = support.decode(f"> {call.hex()}\n".encode(), "--wide")[0]
+            self.assertEqual(line.partition(" | ")[2], "CALL ch=1 D=1 called=1 calling=2 fac=01800312 data=41 ~ wide")
+
     def test_a_station_that_was_closed(self):
         with x25.Station(x25.DCE, library=LIBRARY) as station:
             self.assertEqual(station.timer, x25.Timer.OFF)

@@ -18,7 +18,7 @@ def bits_of(octets):
 
 
 def stuffed(bits):
-    """The bits with a 0 behind each five 1 bits."""
+    """The bits with a 0 after each five 1 bits."""
     return bits.replace("11111", "111110")
 
 

@@ -310,7 +310,7 @@ class Joined(ToolCase):
     def test_a_circuit_that_takes_nothing_is_cleared(self):
         """Its messages go first for as long as one is taken now and then; then they are refused, before anything else is asked."""
         sends = [f"dte send 1 0 {number:02x}" for number in range(60)]
-        for last in ("dte clear 1", "dte clear 1 cause=9 diag=5", "dte reset 1 diag=5", "dte restart cause=200", "dte disconnect"):
+        for last in ("dte clear 1", "dte clear 1 cause=9 diag=5", "dte with - 6279 clear 1", "dte reset 1 diag=5", "dte restart cause=200", "dte disconnect"):
             with self.subTest(last):
                 turns = [(sends[0], ""), (sends[1], "! 31"), (UA, ""), (sends[1], ""), (sends[2], "! 31"), (last, ""), *((it, "! 30") for it in sends[2:]), ("dte call 1 2 -", "")]
                 self.play(*turns, words=["--quiet", "0.7"], user="\n".join([*sends, last, "dte call 1 2 -"]).encode())
@@ -654,7 +654,7 @@ class Joined(ToolCase):
         """The call is cleared, then the station restarts, then the link is set up anew, and that begins again: nothing waits for ever."""
         call = "dte call 1 12 - - - - - -"
         answers = f". off idle\n= {UA}\ndte linkup\ndte restarted\n. off idle\n= {call}\ndte call ch=1\n. +600 due\n"
-        answers += f"= clear\ndte timeout T21 ch=1\ndte clear ch=1\n. +700 due\n= restart\ndte timeout T23 ch=1\ndte restart\n. +500 due\n"
+        answers += "= clear\ndte timeout T21 ch=1\ndte clear ch=1\n. +700 due\n= restart\ndte timeout T23 ch=1\ndte restart\n. +500 due\n"
         answers += "= relink\ndte timeout T20\ndte relink\ndte linkdown local\n. start busy\n"
         answers += f"= {UA}\ndte linkup\n. +500 due\n= relink\ndte timeout T20\n. start busy\n"
         self.begin(answers, "--t3", "0", "--t1", "60", "--t20", "0.5", "--t21", "0.6", "--t22", "0", "--t23", "0.7", "--stay", is_left_open=True)

@@ -97,7 +97,7 @@ class Two(ToolCase):
         self.assertEqual([text for text in decoded if "fault" in text], [])
 
     def test_an_end_that_begins_by_sabme(self):
-        """It is answered DM at once, and SABM behind that by UA."""
+        """It is answered DM at once, and SABM after that by UA."""
         dce, words = self.listening("--quiet", "3")
         host, port = words[1].split(":")
         with socket.create_connection((host, int(port)), timeout=SECONDS) as joined, joined.makefile("rw") as lines:
@@ -373,7 +373,7 @@ class Two(ToolCase):
         comes() {{ for i in $(seq 300); do grep -q "$2" "$1" && return; sleep 0.1; done; echo "no $2" >&2; exit 1; }}
         comes "$1/dte.out" 'x1 is down; waiting for it'
         ip link set x1 up
-        printf 'dte connect\nwait dte restarted\ndte call 1 2 - 10 10 2 2\ndte call 1 2 - 9 9 2 2\n' >&4
+        printf 'dte connect\nwait dte restarted\ndte call 1 2 - 10 10 2 2\ndte with 0101 - d call 1 2 - 10 10 2 2\ndte call 1 2 - 9 9 2 2\n' >&4
         comes "$1/dce.out" incoming
         echo 'dce accept 1' >&3
         comes "$1/dte.out" connected
@@ -397,7 +397,8 @@ class Two(ToolCase):
         told = {name: support.read(os.path.join(self.folder, name)).decode() for name in ("dte.out", "dce.out", "dte.err", "dce.err")}
         self.assertEqual((done.returncode, done.stderr), (0, b"bridge.py: x9: No such device\n"), told)
         self.assertEqual(told["dte.err"], "bridge.py: x1 has an MTU of 1000: packets of up to 512 octets fit (size 9)\n")
-        self.assertIn("! 34\n# ! 34, packet sizes over 9 (512 octets) don't fit the line: 'dte call 1 2 - 10 10 2 2'\n", told["dte.out"])
+        for command in ("dte call 1 2 - 10 10 2 2", "dte with 0101 - d call 1 2 - 10 10 2 2"):
+            self.assertIn(f"! 34\n# ! 34, packet sizes over 9 (512 octets) don't fit the line: {command!r}\n", told["dte.out"])
 
     def exchange(self, count, *words):
         """Joins two by TCP, and sends so many messages each way; answers what both said at the end."""

@@ -483,7 +483,7 @@ class Hostile(ToolCase):
             "record 1 names the interface 7": whole + samples.packet(SABM, index=7),
             "a section header has no byte order": samples.section()[:8] + bytes(20),
             "the two lengths": whole[:-1] + b"\x01",
-            "a block behind record 0 has a wrong length": whole + b"\x06\x00\x00\x00\xff\xff\xff\xff",
+            "a block after record 0 has a wrong length": whole + b"\x06\x00\x00\x00\xff\xff\xff\xff",
             "record 1 is too short": whole + samples.block(6, bytes(4)),
             "an option of record 1 has a wrong length": whole + samples.block(6, samples.packet(b"\x01" + SABM)[8:-4] + b"\x02\x00\xff\xff"),
             "record 1 is shorter than its header": samples.pcap([(0, 0, b"\x00")], link_type=196),
@@ -513,6 +513,10 @@ class Hostile(ToolCase):
         for line in (b"x", b"> 0", b"> 013febdf\r\r", b" ", b">013febdf", b"> " + b"00" * 4104, b"1.5 > 013febdf", b"99999999999\t> 013febdf", b"\xff\xfe\x00"):
             with self.subTest(line[:20]):
                 self.assert_refused(support.run("x25pcap.py", given=SET_UP + line + b"\n"), "line 3 is no line of a trace")
+
+    def test_a_capture_is_no_trace(self):
+        for capture in (samples.pcap([]), samples.section()):
+            self.assert_refused(support.run("x25pcap.py", given=capture), "this is a capture already; pcap2x25.py makes lines of one")
 
     def test_what_was_left_out_makes_status_1(self):
         done = support.run("pcap2x25.py", given=samples.pcap([(0, 0, b"\x01" + SABM, 40)]))

@@ -115,7 +115,7 @@ class Linked:
         return self.heard(self.station.ask(f"{self.mark} {(octets + fcs(octets)).hex()}"))
 
     def heard(self, answer):
-        """The entries of an answer, each without the end and the stretch, behind its refusal, and the packets that were sent."""
+        """The entries of an answer, each without the end and the stretch, after its refusal, and the packets that were sent."""
         told = [answer.refusal, *answer.notices] if answer.refusal else answer.notices
         packets = []
         for frame in answer.frames:

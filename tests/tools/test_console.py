@@ -13,7 +13,7 @@ import support
 from support import ToolCase
 from terminal import Terminal, script
 
-from test_bridge import FAKE, RESTART, SABM, UA
+from test_bridge import FAKE, SABM, UA
 from x25tools import console
 
 MESSAGE = "dte message ch=1 at 1.0.0 q=0 data="
@@ -37,6 +37,9 @@ class Typed(unittest.TestCase):
             ("clear 1 cause=200 diag=5", "dte clear 1 cause=200 diag=5"),
             ("reset 1 diag=5", "dte reset 1 diag=5"),
             ("restart cause=200", "dte restart cause=200"),
+            ("with 0101 - call 123 4567", "dte with 0101 - call 123 4567 -"),
+            ('with - "bye" clear 1 cause=200', "dte with - 627965 clear 1 cause=200"),
+            ("with - - d accept 1 8 8 3 3", "dte with - - d accept 1 8 8 3 3"),
             ("wait incoming", "wait dte incoming"),
             ('wait message ch=1 at 1.0.0 q=0 data="', None),
             ("wait dte incoming ch=1", "wait dte incoming ch=1"),
@@ -62,6 +65,11 @@ class Typed(unittest.TestCase):
             ("clear 1 5", "it is `clear CHANNEL [cause=N] [diag=N]`"),
             ("clear 1 diag=5 cause=200", "it is `clear "),
             ("wait", "it is `wait TEXT`"),
+            ("with", "it is `with FAC DATA [d] COMMAND`"),
+            ("with 0101 call 1 2", "it is `with FAC DATA [d] COMMAND`"),
+            ("with 0101 - d send 1 0 41", "it is `with FAC DATA [d] COMMAND`"),
+            ("with 0101 - accept", "it is `accept CHANNEL [S S W W]`"),
+            ("with 010 - accept 1", "'010' is no octets"),
             ('send 1 0 "hello', "a quote isn't closed"),
             ("send 1 0 hello", """'hello' is no octets: these are hexadecimal digits in pairs, or "text\""""),
             ("call 1 2 4", "'4' is no octets"),
@@ -203,7 +211,7 @@ class Live(ToolCase):
         self.terminal.shows("no command 'dance'")
 
     def test_other_ends(self):
-        """The terminal is left as it was, behind CTRL-D, CTRL-C, and the end of the line."""
+        """The terminal is left as it was, after CTRL-D, CTRL-C, and the end of the line."""
         for typed, status in (("\x04", 0), ("\x03", 130), (None, 0)):
             with self.subTest(typed):
                 self.begin(f". off idle\n= {UA}\ndte linkup\n. off idle\n= dte disconnect\ndte linkdown local\n. off idle\n")

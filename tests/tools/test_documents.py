@@ -4,8 +4,11 @@ A name is a word of code in the text, between backticks, that has a line below o
 """
 
 import fnmatch
+import functools
+import io
 import os
 import re
+import tokenize
 import unittest
 from collections import defaultdict
 from glob import glob
@@ -13,6 +16,7 @@ from glob import glob
 import support
 
 import english
+from x25tools.command import COMMANDS
 
 WIDTH = 100
 LENGTHS = {"README.md": 100, "docs/ARCHITECTURE.md": 110, "docs/PROOFS.md": 181, "docs/DECISIONS.md": 200, "docs/PERFORMANCE.md": 98, "CONTRIBUTING.md": 149, "docs/READING.md": 80}
@@ -25,22 +29,27 @@ ENDINGS = ("rt", "antt", "md", "py", "sh", "c", "h", "txt", "svg", "edit", "edit
 OF_TESTS = ("x25_embed", "x25_refusals")
 
 
+@functools.cache
 def text_of(*path):
     return support.read(*path).decode()
 
 
+@functools.cache
 def documents():
     """The paths of all documents, from the root on."""
     patterns = ("*.md", "docs/*.md", "crates/*/README.md", "interop/*.md", "examples/*/*.md")
     return sorted(os.path.relpath(path, support.ROOT) for pattern in patterns for path in glob(os.path.join(support.ROOT, pattern)))
 
 
+@functools.cache
 def files():
     """The paths of all files of the repository but for what was built, from the root on."""
+    found = []
     for folder, folders, names in os.walk(support.ROOT):
         at = os.path.relpath(folder, support.ROOT)
-        folders[:] = [name for name in folders if name not in (".git", "out", "__pycache__") and not (at == "." and name == "build")]
-        yield from (os.path.normpath(os.path.join(at, name)) for name in names)
+        folders[:] = [name for name in folders if name not in (".git", "out", "__pycache__", ".mypy_cache") and not (at == "." and name == "build")]
+        found += (os.path.normpath(os.path.join(at, name)) for name in names)
+    return found
 
 
 def code_of(text):
@@ -95,24 +104,32 @@ class English(unittest.TestCase):
                 self.assertLessEqual(mean, 25)
                 self.assertLessEqual(most, 45, f"line {line}: {worst}")
 
+    # What is behind something else as a man is in a queue.
+    IN_PLACE = re.compile(r"\b(?:fell|far|stations|commands?(?:\{.*?\})?|leave) behind\b|\bbehind (?:a pipe|the other|the next one|`0`)|is behind it")
+
     def test_what_comes_later_comes_after(self):
-        for document, text in self.texts(*self.WITH_NUMBERS):
-            with self.subTest(document):
-                self.assertEqual(re.findall(r"[^.\n]*(?<!')\b[Bb]ehind\b(?! a pipe)[^.\n]*", re.sub("`[^`]*`", "", text)), [])
+        """In documents, and in what Python says in comments and in texts."""
+        texts = dict(self.texts(*self.WITH_NUMBERS))
+        for path in (path for path in files() if path.endswith(".py") and os.path.basename(path) != os.path.basename(__file__)):
+            tokens = tokenize.generate_tokens(io.StringIO(text_of(path)).readline)
+            texts[path] = "\n".join(token.string for token in tokens if token.type in (tokenize.COMMENT, tokenize.STRING))
+        for path, text in texts.items():
+            with self.subTest(path):
+                self.assertEqual(re.findall(r"[^.\n]*(?<!')\b[Bb]ehind\b[^.\n]*", self.IN_PLACE.sub("", re.sub("`[^`]*`", lambda code: code[0] if code[0] == "`0`" else "", text))), [])
 
 
 class Names(unittest.TestCase):
-    def setUp(self):
-        self.files = list(files())
-        sources = [path for path in self.files if path.rpartition(".")[2] in ("rt", "antt", "py", "c", "txt", "bash") or path == "Makefile"]
-        self.words = {word for path in sources for word in re.findall(r"\w+", text_of(path))}
-        self.words |= {os.path.splitext(os.path.basename(path))[0] for path in self.files}
-        self.words |= support.names_of_edits()
+    @classmethod
+    def setUpClass(cls):
+        sources = [path for path in files() if path.rpartition(".")[2] in ("rt", "antt", "py", "c", "txt", "bash") or path == "Makefile"]
+        cls.words = {word for path in sources for word in re.findall(r"\w+", text_of(path))}
+        cls.words |= {os.path.splitext(os.path.basename(path))[0] for path in files()}
+        cls.words |= support.names_of_edits()
 
     def test_each_path_is_there(self):
         """At the root, or within a folder; of a source its crate may be told without `src`."""
-        folders = {path[: at.end()] for path in self.files for at in re.finditer("/", path)}
-        paths = {f"/{path}" for path in folders.union(self.files)} | {f"/{path}".replace("/src/", "/", 1) for path in self.files}
+        folders = {path[: at.end()] for path in files() for at in re.finditer("/", path)}
+        paths = {f"/{path}" for path in folders.union(files())} | {f"/{path}".replace("/src/", "/", 1) for path in files()}
         ends = {path[at.start() :] for path in paths for at in re.finditer("/(?=.)", path)}
         for document in documents():
             for code in filter(is_path, code_of(text_of(document))):
@@ -141,8 +158,9 @@ class Names(unittest.TestCase):
 class Commands(unittest.TestCase):
     """Commands, in examples and in the text, have words that are there."""
 
-    def setUp(self):
-        self.commands = {document: re.findall(r"^    .*$", text_of(document), re.MULTILINE) + code_of(text_of(document)) for document in documents()}
+    @classmethod
+    def setUpClass(cls):
+        cls.commands = {document: re.findall(r"^    .*$", text_of(document), re.MULTILINE) + code_of(text_of(document)) for document in documents()}
 
     def check(self, pattern, known):
         for document, commands in self.commands.items():
@@ -154,7 +172,7 @@ class Commands(unittest.TestCase):
     def test_each_task_of_the_program_is_there(self):
         tasks = re.findall(r'^        name: "(\w+)"', text_of("crates", "x25_settings", "src", "parser.rt"), re.MULTILINE)
         self.assertGreater(len(tasks), 5)
-        self.check(r"(?<![\w/.-])x25 ([a-z]+)\b", {*tasks, "help"})
+        self.check(r"(?<![\w/.-])x25 ([a-z]+)\b", {*tasks, *COMMANDS, "help"})
 
     def test_each_option_is_there(self):
         sources = [path for path in files() if path.endswith(".py") or path.startswith(".ci/") or os.path.basename(path) == "parser.rt"]

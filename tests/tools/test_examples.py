@@ -58,7 +58,7 @@ class Scripts(unittest.TestCase):
                 self.assertEqual(done.returncode, 0)
 
 
-# What the DCE's user does in the capture, behind so many lines of it.
+# What the DCE's user does in the capture, after so many lines of it.
 OF_THE_USER = {8: "dce accept 1"}
 
 

@@ -10,8 +10,8 @@ import support
 
 sys.path.append(os.path.join(support.ROOT, "interop"))
 
-import gateway
-from x25tools import wires
+import gateway  # noqa: E402
+from x25tools import wires  # noqa: E402
 
 CALL, ACCEPT, CLEARED = bytes.fromhex("10050b00"), bytes.fromhex("10050f"), bytes.fromhex("100517")
 

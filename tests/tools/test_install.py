@@ -16,6 +16,7 @@ from test_manual import EXAMPLE
 
 import manpage
 from program import find_library
+from x25tools.command import COMMANDS
 
 PREFIX = "/usr/local"
 SCRIPTS = ("x25dump", "pcap2x25", "x25pcap", "x25bridge", "x25chart", "x25pad", "x25tools")
@@ -52,6 +53,10 @@ class Installed(ToolCase):
 
     def test_each_script_runs(self):
         self.assertRegex(self.run_there("x25 --version"), r"^x25 \d+\.\d+\.\d+\n$")
+        for words in COMMANDS:
+            self.assertIn(f"usage: x25tools {words} ", self.run_there(f"x25 {words} --help"))
+        self.assertIn("x25tools COMMAND", self.run_there("x25 help"))
+        self.assertNotIn("x25tools", self.run_there("x25 help decode; x25 decode --help; x25; x25 dance"))
         for name in SCRIPTS:
             self.assertIn(f"usage: {name} ", self.run_there(f"{name} --help"))
         with open(f"{self.documents}/examples/setup.trace", "rb") as file:
@@ -138,7 +143,7 @@ class Installed(ToolCase):
         self.assertIn("17 lines", check)
         shown = subprocess.run([f"{there}/bin/x25dump", f"{there}/share/doc/x25/examples/line.pcapng"], env={"PATH": os.environ["PATH"]}, capture_output=True, text=True, timeout=60)
         self.assertIn("RESET ch=1 cause=5 diag=1", shown.stdout)
-        with open(f"{there}/bin/x25", "ab") as program:
+        with open(f"{there}/libexec/x25", "ab") as program:
             program.write(b"more")
         self.assertNotEqual(subprocess.run(["bash", "-c", commands[0]], cwd=there, capture_output=True, timeout=60).returncode, 0)
 

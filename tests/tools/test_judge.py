@@ -55,7 +55,7 @@ def in_other_forms(trace):
 
 
 def remarks(mark, output):
-    """What stands behind a mark in the lines of an answer, each without the number at its end."""
+    """What stands after a mark in the lines of an answer, each without the number at its end."""
     return [re.sub(r" \d+$", "", line.partition(mark)[2]) for line in output.decode().splitlines() if mark in line]
 
 
@@ -69,7 +69,7 @@ class Cases(unittest.TestCase):
         self.cases = {case.name: case for case in golden.cases(golden.chosen(["judge"])[0])}
 
     def broken(self, mark, rules):
-        """What each case has behind a mark. Each of these rules stands alone there in one, and no other does."""
+        """What each case has after a mark. Each of these rules stands alone there in one, and no other does."""
         broken = {name: [rule.partition(": ")[2] for rule in remarks(mark, case.output)] for name, case in self.cases.items()}
         self.assertEqual([rule for rule in rules if [rule] not in broken.values()], [])
         self.assertEqual([told for told in broken.values() if not set(told) <= set(rules)], [])
@@ -181,7 +181,7 @@ class Recorded(support.ToolCase):
         self.assertEqual(done.returncode, 0)
 
     def test_what_is_told_of_a_soak(self):
-        """Four rounds of interop/soak.py with Linux 6.1 as the DTE, with 0, 10, 10 and 3 of 100 frames lost, one behind another."""
+        """Four rounds of interop/soak.py with Linux 6.1 as the DTE, with 0, 10, 10 and 3 of 100 frames lost, one after another."""
         trace = gzip.decompress(support.read("tests", "traces", "soak.trace.gz"))
         done = subprocess.run([PROGRAM, "judge", "--wide"], input=trace, stdout=subprocess.PIPE, timeout=60)
         lines = [line for line in done.stdout.decode().splitlines() if not line.startswith("# ")]

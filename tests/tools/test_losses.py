@@ -69,6 +69,15 @@ class Grammar(unittest.TestCase):
         lines = [f"{front} {it}" for front in fronts for it in given] + ["dte accept 1 diag=5", "dce ready 1 cause=9", "dte clear diag=5", "heal diag=5"]
         self.assertEqual(refused(lines, "--wide"), len(lines))
 
+    def test_what_is_given(self):
+        fronts, rests = ("dte with - -", "dce with 0A 00", "dte with - - d"), ("call 1 2 -", "call - - 41 7 7 2 2", "accept 1", "accept 65535 8 8 3 3", "clear 1", "clear 0 cause=9")
+        lines = [f"{front} {rest}" for front in fronts for rest in rests]
+        self.assertEqual((refused(lines), refused(lines, "--wide")), (len(lines), 0))
+        fronts = "dte with", "dte with -", "dte with - - D", "dte with - - d d", "dte with 0 -", "dte with - 0", "dte with  - -", "dte with - - -", "with - -", "dte With - -", "dte with - 0g"
+        rests = "send 1 0 41", "int 1 00", "reset 1", "ready 1", "restart", "pull", "connect", "with - - clear 1", "call 1 2", "accept", "clear 1 9", "", "d"
+        lines = [f"{front} clear 1" for front in fronts] + [f"dte with - - {rest}" for rest in rests]
+        self.assertEqual(refused(lines, "--wide"), len(lines))
+
     def test_the_longest_line(self):
         line = "dte send 1 0 " + "00" * 65_593
         self.assertEqual(len(line), 131_199)
@@ -80,6 +89,7 @@ class Grammar(unittest.TestCase):
             "dte sned 1 0 -": "no such event 'dte sned 1 0 -' (did you mean send?)",
             "drain x": "'drain x' isn't of the form 'drain N'",
             "dce call 1 2": "'dce call 1 2' isn't of the form 'END call CALLED CALLING HEX [SIZE SIZE WINDOW WINDOW]'",
+            "dte with 01 call 1 2 -": "'dte with 01 call 1 2 -' isn't of the form 'END with FAC HEX [d] call .., accept .. or clear .. (with --wide)'",
             "xyzzy": "no such event 'xyzzy'",
             "# comment": "no such event '# comment' (--loose takes comments)",
             "": "empty (--loose takes empty lines)",
@@ -151,7 +161,7 @@ class Scripts(ToolCase):
 
 
 RUNS = 300
-# Behind `heal` nothing is on the line, and timer T1 runs at neither end.
+# After `heal` nothing is on the line, and timer T1 runs at neither end.
 AT_REST = "t1 dte\nt1 dce\ndeliver >\ndeliver <\n"
 REFUSED_AT_REST = ["! 11", "! 11", "! 50", "! 50"]
 DATA = re.compile("(dte|dce) (send|message|int|interrupt) ch=([0-9]+) (at .*)")

@@ -10,6 +10,7 @@ import support
 from support import ToolCase
 
 import manpage
+from x25tools import command
 
 COMPLETION = os.path.join(support.ROOT, "share", "x25.bash")
 
@@ -38,7 +39,7 @@ class Page(ToolCase):
         self.assertEqual(lines.count(".nf"), lines.count(".fi"))
 
     def test_the_synopsis_has_the_options_that_the_completion_offers(self):
-        self.assertEqual(list(manpage.SYNOPSIS), [word for word in complete("") if word != "help" and word[0] != "-"])
+        self.assertEqual([*manpage.SYNOPSIS, *command.COMMANDS], [word for word in complete("") if word != "help" and word[0] != "-"])
         for name, words in manpage.SYNOPSIS.items():
             ends = re.findall(r"^(dte)\|dce", words)
             self.assertEqual({*re.findall(r"--[\w-]+", words), "--help"}, set(complete(name, *ends, "--")), name)
@@ -70,6 +71,7 @@ class Completion(unittest.TestCase):
             done = subprocess.run([support.PROGRAM, *words, "--help"], capture_output=True, text=True, timeout=60)
             usage = done.stdout + done.stderr
             said = set(re.findall(r"^  (?:    |-[hV], )?(--[\w-]+)", usage, re.MULTILINE)) | set(re.findall(r"^  (\w+)  ", usage, re.MULTILINE) if not words else [])
+            said |= set() if words else set(command.COMMANDS)
             self.assertTrue(said)
             self.assertEqual(set(complete(*words, "")) | set(complete(*words, "--")), said, words)
 

@@ -1,6 +1,6 @@
 """Runs the examples of the documents: indented lines that begin with `$`, with what they have to write below them.
 
-A command goes on behind a line that ends with a bar or a backslash.
+A command goes on after a line that ends with a bar or a backslash.
 """
 
 import os
@@ -90,7 +90,6 @@ class Examples(ToolCase):
         commands = "\n".join(command for command, _ in examples("docs/MANUAL.md"))
         self.assertTrue(subcommands)
         self.assertEqual({name for name in subcommands if not re.search(rf"\bx25 {name}\b", commands)}, set())
-
 
     def test_each_example_of_the_help_runs(self):
         for words in ([], ["decode"], ["vectors"], ["sim"], ["judge"], ["frame"]):

@@ -18,7 +18,7 @@ ADDRESSES = ("-", "7", "0123456789", "999999999999999")
 OFTEN = {"call": 8, "accept": 9, "clear": 2, "send": 19, "int": 6, "reset": 1, "ready": 2, "notready": 1, "call with": 6, "accept with": 7}
 OFTEN |= {"restart": 1, "connect": 1, "disconnect": 1}
 COMMANDS = [kind for kind, often in OFTEN.items() for _ in range(often)]
-# Behind each event, a line that is none parts what it told from what the next one tells.
+# After each event, a line that is none parts what it told from what the next one tells.
 MARK, ANSWERED = "x", "? 60"
 HANDED = re.compile(r"(dte|dce) (call|send|int|incoming|message|interrupt) ch=(\d+) at (\S+) (.*)")
 DOWN_OF = {"incoming": "call", "message": "send", "interrupt": "int"}
@@ -41,7 +41,7 @@ def command(dice, channels):
     """A command of either end, and its kind."""
     kind, end, channel = dice.one_of(COMMANDS), dice.one_of(ENDS), 1 + dice.below(channels)
     word = kind.split()[0]
-    behind = {
+    rest = {
         "call": lambda: f" {dice.one_of(ADDRESSES)} {dice.one_of(ADDRESSES)} {octets(dice, 17)}",
         "send": lambda: f" {channel} {dice.below(2)} {octets(dice, 400)}",
         "int": lambda: f" {channel} {octets(dice, 33)}",
@@ -49,7 +49,7 @@ def command(dice, channels):
         "connect": str,
         "disconnect": str,
     }.get(word, lambda: f" {channel}")()
-    return kind, f"{end} {word}{behind}{params(dice) if word != kind else ''}"
+    return kind, f"{end} {word}{rest}{params(dice) if word != kind else ''}"
 
 
 def event(dice, channels):
@@ -76,7 +76,7 @@ def played(seed):
     words = ["sim", "--k", str(k), "--n2", str(n2), "--channels", str(channels)]
     done = subprocess.run([PROGRAM, *words], input=script.encode(), stdout=subprocess.PIPE, timeout=60)
     told = [part.splitlines() for part in done.stdout.decode().split(f"{ANSWERED}\n")]
-    # The first is what set-up told, the second is between two marks, and the last is behind all.
+    # The first is what set-up told, the second is between two marks, and the last is after all.
     return [(kind, lines) for (kind, _), lines in zip(events, told[2:-1], strict=True)]
 
 

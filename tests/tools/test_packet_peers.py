@@ -41,7 +41,7 @@ class TakesWhileResetting(Layer):
 
 
 class KeepsNumbers(Layer):
-    """Rule 12 is broken: behind a reset its P(S) goes on."""
+    """Rule 12 is broken: after a reset its P(S) goes on."""
 
     def number(self, channel):
         return (channel.sent + channel.resets) % 8 << 1

@@ -35,14 +35,14 @@ class AcknowledgesMore(Peer):
     """Rule 5 is broken: one more than it took."""
 
     def acknowledges(self, late):
-        return len(self.taken) + late
+        return self.taken + late
 
 
 class AcknowledgesLess(Peer):
     """Rule 5 is broken: N(R) falls."""
 
     def acknowledges(self, late):
-        return self.dice.randint(0, len(self.taken)) if late else len(self.taken)
+        return self.dice.randint(0, self.taken) if late else self.taken
 
 
 class HearsMore(Peer):

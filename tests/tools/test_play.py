@@ -46,7 +46,7 @@ class Standing:
 
 class Facilities(ToolCase):
     def test_how_they_are_spelled(self):
-        """Fast select with reverse charging, throughput, and behind a marker address extensions, of both ends (7.2.2)."""
+        """Fast select with reverse charging, throughput, and after a marker address extensions, of both ends (7.2.2)."""
         self.assertEqual(play.facilities_of("0", "0", "-", "-"), (b"", b""))
         self.assertEqual(play.facilities_of("bb", "81", "-", "-"), (bytes.fromhex("018102bb"), b""))
         self.assertEqual(play.facilities_of("0", "0", "12345", "678"), (b"", bytes.fromhex("000fcb0405123450c903036780")))

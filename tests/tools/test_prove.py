@@ -7,7 +7,7 @@ import subprocess
 import support
 from support import ToolCase
 
-# Proves the crates of the rows in order, but for one with a file `false`, and those that come behind it; and builds a program of each. It
+# Proves the crates of the rows in order, but for one with a file `false`, and those that come after it; and builds a program of each. It
 # refuses a copy with wrong bodies, or with what was built before. Of a static library it builds the archive by `rt lib`.
 RT = b"""#!/bin/sh
 if [ "$1" = lib ]; then

@@ -5,7 +5,7 @@ import unittest
 import support
 
 import session_runs
-from session_runs import RESPONSE, UA, P, SessionRun
+from session_runs import UA, P, SessionRun
 
 RUNS = 30
 
@@ -23,7 +23,7 @@ class KeepsNumbers(SessionRun):
     def begins(self):
         before = self.peer
         super().begins()
-        self.peer.taken, self.peer.told = list(before.taken), before.told
+        self.peer.taken, self.peer.told = before.taken, before.told
 
 
 class AnswersUnasked(SessionRun):
@@ -31,12 +31,12 @@ class AnswersUnasked(SessionRun):
 
     def sets_up(self):
         if self.chance(0.1):
-            self.puts(RESPONSE, UA | P)
+            self.puts(False, UA | P)
         super().sets_up()
 
 
 class StaysAsItAsks(SessionRun):
-    """Rule 23 is broken: it goes on in its session behind SABM."""
+    """Rule 23 is broken: it goes on in its session after SABM."""
 
     def asks(self, poll=P):
         is_in = self.peer.is_in

@@ -17,7 +17,7 @@ from support import ToolCase
 
 sys.path.append(os.path.join(support.ROOT, "interop"))
 
-import soak
+import soak  # noqa: E402
 
 
 def message(number, length=5):
@@ -47,7 +47,7 @@ class Checked(unittest.TestCase):
         self.assertEqual(self.ways.all_under_way(), 1)
 
     def test_what_comes_twice(self):
-        self.assert_wrong("message 1 came behind 1", 1, 1)
+        self.assert_wrong("message 1 came after 1", 1, 1)
 
     def test_what_comes_out_of_order(self):
         self.assert_wrong("came for 00000001", 2, 1)
@@ -63,9 +63,9 @@ class Checked(unittest.TestCase):
         self.ways.begin_age([4])
         self.ways.send(4, message(6))
         self.assertEqual(self.ways.all_under_way(), 1)
-        # An echo of before may still come, but not behind a later one.
+        # An echo of before may still come, but not after a later one.
         self.come(3, 6)
-        self.assert_wrong("message 2 came behind 6", 2)
+        self.assert_wrong("message 2 came after 6", 2)
 
     def test_what_an_age_does_not_excuse(self):
         self.ways.begin_age([4])

@@ -37,7 +37,7 @@ class Joined(unittest.TestCase):
         self.assertEqual([station.ask("t1 " + end) for end, station in self.ends.items()], [([], [], "! 11", "off", True, False, None)] * 2)
 
     def test_the_end(self):
-        """Nothing comes behind the last mark, and the status says that something was refused."""
+        """Nothing comes after the last mark, and the status says that something was refused."""
         for line, answer, status in ((b"t1 dte\n", b"! 11\n. off busy\n", 1), (b"", b"", 0)):
             done = subprocess.run([support.PROGRAM, "station", "dte"], input=line, capture_output=True, timeout=60)
             self.assertEqual((done.stdout, done.returncode), (b". off busy\n" + answer, status))

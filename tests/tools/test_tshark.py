@@ -43,7 +43,7 @@ PARTS = {
     0xC6: [("facility.nui", 99)],
 }
 DELAYS = [f"facility.{of}_ete_transit_delay" for of in ("cumulative", "requested", "mac_acceptable")]
-# An address as digits, behind the field of how many they are.
+# An address as digits, after the field of how many they are.
 EXTENSIONS = {0xC9: "facility.called_addr_ext_num_semi_octets", 0xCB: "facility.calling_addr_ext_num_semi_octets"}
 DIVERTED = {0xC3: ("call_transfer", "dte_address"), 0xD1: ("call_deflect", "alternative_dte_address")}
 TEXTS = ("_address", "data.data", "duration", "segments_to_dte", "segments_from_dte", "monetary_unit", "nui", "classD_unknown")
@@ -53,7 +53,7 @@ FACILITY_FIELDS += [f"facility.{of}_{what}" for of, _ in DIVERTED.values() for w
 FACILITY_FIELDS += ["facility.classA_unknown", "facility.classB_unknown", "facility.classD_unknown"]
 FIELDS += [f"x25.{name}" for name in FACILITY_FIELDS]
 
-# What tshark reads otherwise: a cause alone it takes for cut off, of two addresses with nothing behind them it has none, where A is 1 it has some
+# What tshark reads otherwise: a cause alone it takes for cut off, of two addresses with nothing after them it has none, where A is 1 it has some
 # addresses cut off and some facilities as user data, and of a registration it has fields.
 OTHERWISE = re.compile(r"\| (?:\w+ (?:ch=\d+ )?(?:A=1 )?cause=\d+|\w+ ch=\d+ (?:D=1 )?called=\d+ calling=\d+|\w+ ch=\d+ A=1 (?:D=1 )?called=(?:-|5|1/3/1)\S* .*|REG.*) ~ wide$")
 
@@ -103,7 +103,7 @@ def x25(packet, fields):
     if packet in ("CALL", "ACCEPT", "DATA"):
         said["x25.d"] = int(fields.get("D", 0))
     if packet == "CLEAR" and "called" in fields:
-        # Of these tshark has all that is behind the diagnostic as it is.
+        # Of these tshark has all that is after the diagnostic as it is.
         return said | {"data.data": test_wide.block(fields).hex()}
     texts = {"called": "x25.called_address", "calling": "x25.calling_address"}
     said |= {texts[name]: shown(test_wide.halves(value)) for name, value in fields.items() if name in texts and value != "-"}
@@ -222,6 +222,14 @@ class Tshark(ToolCase):
     def test_packets_in_each_form(self):
         trace = corpus.trace(corpus.frames())
         self.check(trace, support.decode(trace, "--wide"), 440)
+
+    @support.needs_program
+    def test_what_users_give(self):
+        """With a call, its acceptance and its clearing."""
+        for name, least in (("sim/wide_given_with_calls", 16), ("station/wide_dte_gives_facilities", 10)):
+            case, = golden.cases([name])
+            trace = b"".join(line for line in (case.input + case.output).splitlines(True) if line[:1] in (b"<", b">"))
+            self.check(trace, support.decode(trace, "--wide"), least)
 
     def test_facilities_have_their_names(self):
         table = subprocess.run(["tshark", "-G", "values"], capture_output=True, text=True, timeout=60, check=True).stdout

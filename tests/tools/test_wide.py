@@ -11,7 +11,7 @@ import corpus
 import support
 from x25tools.x25lines import fcs
 
-# Packets of which each cut is tried, and each with more behind it: in other forms, and one of each in the form that a station writes.
+# Packets of which each cut is tried, and each with more after it: in other forms, and one of each in the form that a station writes.
 PACKETS = """
 10010b431234567000 50010b43123456700041 10010b1112 10010b11120201014142 10010b111208000fc902123401ff 10010b0000
 10010b111206420707430202 10010b11120143 10010b11120201804e4e4e4e4e4e4e4e4e4e4e4e4e4e4e4e4e4e 10010b1112034302024142
@@ -33,12 +33,12 @@ def octets(text):
 
 
 def halves(address):
-    """The half octets of an address: its digits, or the type of address, the numbering plan and the digits, with a stroke behind each of the first two."""
+    """The half octets of an address: its digits, or the type of address, the numbering plan and the digits, with a stroke after each of the first two."""
     return address.replace("/", "").replace("-", "")
 
 
 def block(fields):
-    """Addresses, and the facilities and user data behind them."""
+    """Addresses, and the facilities and user data after them."""
     called, calling = halves(fields["called"]), halves(fields["calling"])
     digits = called + calling
     lengths = [len(called), len(calling)] if "A" in fields else [len(calling) * 16 + len(called)]
@@ -90,7 +90,7 @@ def decoded(frames):
 
 
 def packets_decoded(packets):
-    """The texts of packets, each behind the bar of an I frame."""
+    """The texts of packets, each after the bar of an I frame."""
     return [line.partition(" | ")[2] for line in decoded([b"\x01\x00" + it for it in packets])]
 
 
@@ -155,3 +155,34 @@ class Wide(unittest.TestCase):
 
 if __name__ == "__main__":
     unittest.main()
+
+
+@support.needs_program
+class Given(unittest.TestCase):
+    """What users give beside calls, acceptances and clearings goes out as they gave it."""
+
+    ROUNDS = 100
+    # Packet and window sizes before a marker are the station's own.
+    MAY = [it for it in corpus.FACILITIES if it[:2] not in ("42", "43")]
+    BEHIND = ("", "", "000f420808", "00ffcb0304abcd")
+
+    def test_random_lines_come_back(self):
+        dice, script, given = random.Random(11), ["drain 9"], []
+        for _ in range(self.ROUNDS):
+            for end, name in (("dte", "CALL"), ("dce", "ACCEPT"), (dice.choice(("dte", "dce")), "CLEAR")):
+                facilities = "".join(dice.choices(self.MAY, k=dice.randrange(5))) + dice.choice(self.BEHIND) or "-"
+                user = dice.randbytes(dice.choice((0, 1, 16) if name == "CALL" else (0, 1, 16, 128))).hex() or "-"
+                d = name != "CLEAR" and dice.random() < 0.5
+                rest = f"- {'d ' * d}call 123 4567 {user}" if name == "CALL" else f"{user} {'d ' * d}{name.lower()} 1"
+                script += [f"{end} with {facilities} {rest}", "drain 9"]
+                given.append((name, facilities, user, str(int(d))))
+        done = subprocess.run([support.PROGRAM, "sim", "--wide", "--tap"], input="\n".join(script), capture_output=True, text=True, timeout=60)
+        self.assertEqual((done.returncode, done.stderr), (0, ""))
+        trace = "".join(line for line in done.stdout.splitlines(True) if line[0] in "<>")
+        said = []
+        for line in support.decode(trace.encode(), "--wide"):
+            name, *words = line.partition(" | ")[2].removesuffix(" ~ wide").split(" ")
+            if name in ("CALL", "ACCEPT", "CLEAR"):
+                fields = dict(word.split("=") for word in words)
+                said.append((name, fields.get("fac", "-"), fields.get("data", "-"), fields.get("D", "0")))
+        self.assertEqual(said, given)

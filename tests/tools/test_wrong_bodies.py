@@ -54,7 +54,7 @@ GONE = "`returns`: record `After-one` has no field `two`"
 
 
 def edit(function, state, error=None, alone=""):
-    """An edit behind which the prover says something else of a function, and of its proof files; and what it says where that is tried alone."""
+    """An edit after which the prover says something else of a function, and of its proof files; and what it says where that is tried alone."""
     lines = [f"old: says fn a::{function}: proved", f"new: says fn a::{function}: {state}"]
     if error:
         lines += [f"old: no error in {function}", f"new: says ./proofs/{function}/Answers.antt:1:2: error: {error}"]

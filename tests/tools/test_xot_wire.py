@@ -154,7 +154,7 @@ class Circuits(ToolCase):
     def test_one_who_calls(self):
         child, port = self.listening()
         line = self.client(port)
-        # In two parts, and behind a packet of the other end that it hasn't to know.
+        # In two parts, and after a packet of the other end that it hasn't to know.
         line.sendall(samples.xot(b"\x10\x07" + CALL[2:])[:9])
         time.sleep(0.1)
         line.sendall(samples.xot(b"\x10\x07" + CALL[2:])[9:])

@@ -13,11 +13,11 @@ T = TypeVar("T")
 
 
 class End(Exception):
-    """Stands behind the last thing that was made."""
+    """Stands after the last thing that was made."""
 
 
 def ahead(things: Iterable[T]) -> Iterator[T]:
-    """Yields what an iterable makes, which a process of its own goes over. What it raises is raised here, behind what was made before."""
+    """Yields what an iterable makes, which a process of its own goes over. What it raises is raised here, after what was made before."""
     reader, writer = os.pipe()
     child = os.fork()
     if child == 0:

@@ -23,19 +23,19 @@ The line is one of these:
 An address of IPv6 stands in brackets, [::1]:7000. With --library the station is that of `libx25.so` at a path, in this process.
 
 Commands are lines of a script of this end (`dte call 123 4567 41`), of standard input or --commands, and `wait TEXT`, which holds those
-behind it until a notice comes that begins so; a carriage return at the end of a line is left out. Notices are the entries of the
+after it until a notice comes that begins so; a carriage return at the end of a line is left out. Notices are the entries of the
 transcript; `! N` for a command that is refused, and `? 60` for one that is none; and lines that begin with `#`, the bridge's own words,
 in UTF-8: why that was, and what becomes of the line. They go to standard output or to --notices. With --stdio commands have to come by
 --commands, and notices go to standard error. A `wait` for what can't come any more, as the answer to a call that was cleared, and one
-that has lasted --wait seconds, is refused (61), and those behind it go on; one that holds some for 10 seconds says so.
+that has lasted --wait seconds, is refused (61), and those after it go on; one that holds some for 10 seconds says so.
 
 At a terminal the bridge is a console: `help` shows what can be typed there, without this end and with octets as text in quotes, too, and
 `quit`, as the end of the input, ends the bridge as SIGTERM does, but with status 0, or 1.
 
-A message that is refused because 8 of its circuit wait (31) stands aside, with those behind it for that circuit, and is asked again
-behind the next frame; all else goes on, but for `clear` and `reset` of the circuit, `restart` and `disconnect`, which let the messages go
-first as long as one is taken every --quiet seconds. A command that is refused because 256 packets wait (10) is asked again behind the
-next frame, and those behind it wait; so do all while the line isn't there. `connect` behind `disconnect` begins a new station, once DISC
+A message that is refused because 8 of its circuit wait (31) stands aside, with those after it for that circuit, and is asked again
+after the next frame; all else goes on, but for `clear` and `reset` of the circuit, `restart` and `disconnect`, which let the messages go
+first as long as one is taken every --quiet seconds. A command that is refused because 256 packets wait (10) is asked again after the
+next frame, and those after it wait; so do all while the line isn't there. `connect` after `disconnect` begins a new station, once DISC
 is answered or T1 has passed.
 
 T1 fires --t1 seconds after it began anew, where nothing that came is unread; let it be longer than the way to the other end and
@@ -54,7 +54,7 @@ its trace is whole. The station reads packets in other forms than it writes too 
 with --no-wide it doesn't.
 
 Exit status: 0; 1 where a command was refused or was none, the line ended before all was done, or nobody reads notices any more; 2 for
-bad words, or anything else that stops the bridge, which standard error names; 130 behind CTRL-C and 143 behind SIGTERM.
+bad words, or anything else that stops the bridge, which standard error names; 130 after CTRL-C and 143 after SIGTERM.
 """
 
 from __future__ import annotations
@@ -99,7 +99,7 @@ OTHER_END = {"dte": "dce ", "dce": "dte "}
 CALL, UA, DM = 0x0B, 0x63, 0x0F
 SABME, DISC, P_OR_F = 0x6F, 0x43, 0x10
 # A call, and an acceptance, with the two packet sizes that they may say.
-SIZED = re.compile(r"(?:call \S+ \S+ \S+|accept (?P<channel>\d+))(?: (?P<called>\d{1,3}) (?P<calling>\d{1,3}) \d+ \d+)?")
+SIZED = re.compile(r"(?:with \S+ \S+ (?:d )?)?(?:call \S+ \S+ \S+|accept (?P<channel>\d+))(?: (?P<called>\d{1,3}) (?P<calling>\d{1,3}) \d+ \d+)?")
 SENDS = re.compile(r"\w+ send ")
 TIMEOUT = re.compile(r"\w+ timeout (?P<timer>T\d+)(?: ch=(?P<channel>\d+))?")
 # What it means that a timer of the packet layer has passed, by the last figure of its name.
@@ -189,7 +189,8 @@ class Bridge:
         return True
 
     def _ready(self) -> set[int]:
-        """Waits until the bridge has something to do; answers the files that are ready."""
+        """Waits until the bridge has something to do; answers the files that are ready. Nothing else waits: as the station is asked one line at a
+        time, tasks of asyncio would all wait for it."""
         wire = self._wire
         if not wire.has_begun:
             self._last_frame = time.monotonic()
@@ -480,7 +481,7 @@ def add_station_words(parser: argparse.ArgumentParser) -> None:
 
 
 def station_words(options: argparse.Namespace) -> list[str]:
-    """The words that the station gets behind its end."""
+    """The words that the station gets after its end."""
     given = {name: getattr(options, name) for name in ("k", "n2", "channels")} | milliseconds(options)
     pairs = [(f"--{name}", str(number)) for name, number in given.items() if number is not None]
     flags = {"--long": options.long, "--say-sizes": is_xot(options), "--wide": options.wide, "--clock": True}

@@ -13,7 +13,7 @@ import functools
 import math
 import struct
 from collections import Counter
-from typing import Any, BinaryIO, Callable, Iterator, NamedTuple, Optional
+from typing import BinaryIO, Iterator, NamedTuple, Optional
 
 from x25tools import x25lines
 from x25tools.x25lines import NANOSECONDS, BadInput
@@ -66,7 +66,7 @@ class Interface(NamedTuple):
 def blocks(file: x25lines.Readable, notes: Counter[str] | None = None) -> Iterator[list[Record]]:
     """Yields the records of a capture, of whichever format, in lists, each of those that are there at once.
 
-    A file that isn't one, or breaks off, is bad input, told behind the records before that. `notes` counts what the capture says was dropped, of
+    A file that isn't one, or breaks off, is bad input, told after the records before that. `notes` counts what the capture says was dropped, of
     which no record says where.
     """
     reader: _Pcap | _Pcapng | None = None
@@ -163,7 +163,7 @@ class _Pcapng:
 
     def next(self) -> str:
         """What is read next."""
-        return f"a block behind record {self._number}" if self._order else "a section header"
+        return f"a block after record {self._number}" if self._order else "a section header"
 
     def read(self, octets: bytes, records: list[Record]) -> int:
         """Adds the records of these octets that are whole; answers how many octets these are."""

@@ -33,7 +33,7 @@ DECODING = "--loose", "--wide"
 
 
 def rows(decoder: decoding.Decoder, blocks: Iterable[tuple[int, list[bytes]]]) -> Iterator[list[Row]]:
-    """Yields the rows of the lines of each block, which is given with the number of its first line. Bad input is told behind the rows before."""
+    """Yields the rows of the lines of each block, which is given with the number of its first line. Bad input is told after the rows before."""
     for first, lines in blocks:
         found: list[Row] = []
         try:

@@ -7,12 +7,12 @@ import re
 CHANNEL = re.compile(r" ch=(\d+)")
 PROPOSED = re.compile(r" size=(\d+),(\d+) ")
 EVENT = re.compile(r"(d[tc]e) ([a-z]+)(?: |$)")
-# The state of a circuit behind an event; behind a fault the station clears or resets it.
+# The state of a circuit after an event; after a fault the station clears or resets it.
 BECOMES = {"call": "calling", "incoming": "called", "accept": "open", "connected": "open", "clear": "clearing", "reset": "resetting"}
 BECOMES |= {"resetdone": "open", "wasreset": "open", "fault": "fault"}
 ENDS = ("cleared", "cleardone", "collided")
 OPEN = ("open", "resetting", "fault")
-# In which states of a circuit an event may come next, or behind what the other end does first; and what is said where none is in such a one.
+# In which states of a circuit an event may come next, or after what the other end does first; and what is said where none is in such a one.
 COMES_IN = {
     "connected": (("calling",), "no call waits for an answer"),
     "cleardone": (("clearing", "fault"), "nothing is being cleared"),
@@ -60,7 +60,7 @@ class Circuits:
         elif event in ("ready", "notready"):
             (self.not_ready.add if event == "notready" else self.not_ready.discard)(channel)
         elif event in ("clear", "cleared", "cleardone", "reset", "wasreset", "resetdone"):
-            # Both ends are ready behind a reset.
+            # Both ends are ready after a reset.
             self.not_ready.discard(channel)
 
     def _heed_the_link(self, event: str) -> None:
@@ -98,5 +98,5 @@ class Circuits:
 
 
 def _may_begin(notice: str, text: str) -> bool:
-    """Whether a notice that goes on behind these words, or ends there, may begin with a text."""
+    """Whether a notice that goes on after these words, or ends there, may begin with a text."""
     return f"{notice} ".startswith(text) or text.startswith(f"{notice} ")

@@ -33,6 +33,7 @@ COMMANDS = {
     "call": ("CALLED CALLING [DATA] [S S W W]", "calls an address, from another: digits, or - for none"),
     "accept": ("CHANNEL [S S W W]", "accepts the call that came on a channel"),
     "clear": ("CHANNEL [cause=N] [diag=N]", "refuses a call, or ends it"),
+    "with": ("FAC DATA [d] COMMAND", "calls, accepts or clears with facilities, user data and D"),
     "send": ("CHANNEL Q DATA", "sends a message; Q, the qualifier, is 0 or 1"),
     "int": ("CHANNEL DATA", "sends an interrupt, of 1 to 32 octets"),
     "ready": ("CHANNEL", "takes messages again"),
@@ -40,12 +41,12 @@ COMMANDS = {
     "reset": ("CHANNEL [cause=N] [diag=N]", "empties the circuit, which stays"),
     "restart": ("[cause=N] [diag=N]", "clears all circuits"),
     "pull": ("", "hands down what waits in circuits"),
-    "wait": ("TEXT", "holds what is typed behind it until a notice begins so"),
+    "wait": ("TEXT", "holds what is typed after it until a notice begins so"),
     "help": ("[COMMAND]", "shows this; so does ?"),
     "quit": ("", "ends the link, and this program"),
 }
-NOTES = """DATA is hexadecimal digits, text in quotes, both, as "ab"0d0a, or - for none. S S W W are packet
-sizes, 8 for 2 to the power of 8, and windows: of the called end's data, and of the calling end's."""
+NOTES = """DATA and FAC are hexadecimal digits, text in quotes, both, as "ab"0d0a, or - for none. S S W W are
+packet sizes, 8 for 2 to the power of 8, and windows: of the called end's data and of the calling's."""
 TEXT = re.compile(r'"([^"]*)"')
 DATA = re.compile(r"-|(?:[0-9a-fA-F]{2})+")
 GIVEN = re.compile(r"(?:cause=\d+)?(?:(?:^| )diag=\d+)?")
@@ -99,23 +100,39 @@ def spelled(typed: str, end: str) -> str:
     words = TEXT.sub(lambda found: found[1].encode(errors="surrogateescape").hex() or "-", typed).split()
     if words[0] == end and len(words) > 1:
         del words[0]
+    if words[0] == "wait" and len(words) > 1:
+        text = typed.split(None, 1)[1].strip()
+        return f"wait {text}" if re.match("d[tc]e |[#!?] ", text) else f"wait {end} {text}"
+    return " ".join([end, *command(words)])
+
+
+def command(words: list[str]) -> list[str]:
+    """The words of a command, where it has the fields that it needs; text is digits in them."""
     name = words[0]
     if name not in COMMANDS:
         near = difflib.get_close_matches(name, COMMANDS, 1)
         raise Unknown(f"no command {name!r}: " + (f"did you mean `{near[0]}`?" if near else "`help` names all"))
-    if name == "wait" and len(words) > 1:
-        text = typed.split(None, 1)[1].strip()
-        return f"wait {text}" if re.match("d[tc]e |[#!?] ", text) else f"wait {end} {text}"
     fields = COMMANDS[name][0]
+    if name == "with":
+        at = 4 if words[3:4] == ["d"] else 3
+        if words[at : at + 1] not in (["call"], ["accept"], ["clear"]):
+            raise Unknown(f"it is `with {fields}`, with call, accept or clear as COMMAND")
+        return [name, *map(checked, words[1:3]), *words[3:at], *command(words[at:])]
     least, most = (len(text.split()) for text in (fields.partition("[")[0], fields))
     if not least < len(words) <= most + 1 or "cause=N" in fields and not GIVEN.fullmatch(" ".join(words[least + 1 :])):
         raise Unknown(f"it is `{name} {fields}`" if fields else f"`{name}` stands alone")
     if name == "call" and len(words) == least + 1:
         words.append("-")
-    at = fields.replace("[", "").replace("]", "").split().index("DATA") + 1 if "DATA" in fields else None
-    if at and not DATA.fullmatch(words[at]):
-        raise Unknown(f'{words[at]!r} is no octets: these are hexadecimal digits in pairs, or "text"')
-    return " ".join([end, *words])
+    if "DATA" in fields:
+        checked(words[fields.replace("[", "").replace("]", "").split().index("DATA") + 1])
+    return words
+
+
+def checked(word: str) -> str:
+    """A word that is octets."""
+    if not DATA.fullmatch(word):
+        raise Unknown(f'{word!r} is no octets: these are hexadecimal digits in pairs, or "text"')
+    return word
 
 
 def helped(name: str = "") -> str:
@@ -136,7 +153,7 @@ def text_of(octets: bytes) -> str:
 
 
 def shown(notice: str) -> list[str]:
-    """The lines that a notice is shown by; none for a refusal, which the bridge's own words behind it repeat."""
+    """The lines that a notice is shown by; none for a refusal, which the bridge's own words after it repeat."""
     first, _, entry = notice.partition(" ")
     if first not in ENDS:
         return [] if first in ("!", "?") else [notice]
@@ -241,7 +258,7 @@ class Console:
             print(error)
 
     def _completion(self, text: str, number: int) -> str | None:
-        """The completion of a word, by its number: of the first one, or behind `help`, a command; behind `wait` an event."""
+        """The completion of a word, by its number: of the first one, or after `help`, a command; after `wait` an event."""
         before = readline.get_line_buffer()[: readline.get_begidx()].split()
         words = {(): COMMANDS, ("help",): COMMANDS, ("?",): COMMANDS, ("wait",): sorted([*MEANS, "message", "interrupt", "linkdown"])}
         found = [f"{word} " for word in words.get(tuple(before), ()) if word.startswith(text)]

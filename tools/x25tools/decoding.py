@@ -18,7 +18,7 @@ from x25tools.x25lines import BadInput
 # The program that was built or installed together with the scripts, which stand in tools/ or lib/x25/; then the one of `make look`.
 FOLDER = os.path.dirname(os.path.dirname(os.path.realpath(__file__)))
 UNPROVED = "x25-unproved"
-PLACES = [os.path.normpath(os.path.join(FOLDER, place)) for place in ("../build/x25", "../../bin/x25", f"../build/{UNPROVED}")]
+PLACES = [os.path.normpath(os.path.join(FOLDER, place)) for place in ("../build/x25", "../../libexec/x25", f"../build/{UNPROVED}")]
 MISSING = "frames in hexadecimal digits need the program x25: build it (make look, make x25) or name it (--x25)"
 MISSING_STATION = "a station needs the program x25: build it (make look, make x25) or name it (--x25)"
 # The answer to a line that is none of a trace.

@@ -160,7 +160,7 @@ class Svg:
 
 
 def label(frame: Frame, most: int) -> str:
-    """The text of a frame with its time before it and what became of it behind it, where there is that to say."""
+    """The text of a frame with its time before it and what became of it after it, where there is that to say."""
     time = f"{frame.time}  " if frame.time else ""
     fate = f"  ({frame.fate})" if frame.fate else ""
     return time + elided(frame.text, max(most - len(time) - len(fate), 2)) + fate

@@ -27,11 +27,11 @@ SET_UP = ["> 013febdf", "< 01738357"]
 SABM, SABME, UA, P_OR_F = 0x2F, 0x6F, 0x63, 0x10
 
 # Before the end and the rule that it breaks, and before the same of manners; where frames that the capture lacks would explain it; and what is
-# said behind that.
+# said after that.
 RULE, MANNERS = " ! ", " ~ manners: "
 IN_DOUBT = {RULE: " !? ", MANNERS: " ~? manners: "}
 IF_LACKING = ", or the capture lacks frames"
-# No frame that is missing explains this; and this one of the other end may, which the line lost before it came: behind it the number is a new one.
+# No frame that is missing explains this; and this one of the other end may, which the line lost before it came: after it the number is a new one.
 CERTAIN, OTHER_OCTETS = "no frame of LAPB", "an I frame sent again has other octets"
 UNJUDGED = " ~ note: not judged from here on: SABME and UA, so numbers are modulo 128"
 
@@ -59,7 +59,7 @@ def _control(line: str) -> int | None:
 
 
 def _sealed(direction: str, octets: bytes) -> str:
-    """The line of some octets, with their frame check sequence behind them."""
+    """The line of some octets, with their frame check sequence after them."""
     return f"{direction} {(octets + fcs(octets)).hex()}"
 
 
@@ -88,7 +88,7 @@ class Judge:
             line.close()
 
     def texts(self, asked: str, connections: Sequence[Connection]) -> list[str | None]:
-        """The answers to the lines of a trace in a text, each of a connection, with what is told of each behind it; None for a gap."""
+        """The answers to the lines of a trace in a text, each of a connection, with what is told of each after it; None for a gap."""
         lines = asked.splitlines()
         places_of: dict[Connection, list[int]] = {}
         for place, connection in enumerate(connections):
@@ -153,7 +153,7 @@ class Frames:
         return [*texts, *self._answers(waiting)]
 
     def _begin_anew(self) -> None:
-        """Behind a gap nothing is known."""
+        """After a gap nothing is known."""
         self._add_counts()
         self._judge.__exit__()
         self._judge, self._is_behind_gap = self._begun(), True
@@ -217,7 +217,7 @@ class Frames:
         return line
 
     def _behind(self, _: str) -> list[str]:
-        """What is judged behind a line."""
+        """What is judged after a line."""
         return []
 
     def _said(self, direction: str, text: str) -> str:

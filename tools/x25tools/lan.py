@@ -1,6 +1,6 @@
 """What a local network carries of X.25: the header of a captured frame, lapbether's frames of LAPB, LLC's packets.
 
-lapbether (Linux) sends a frame of LAPB, without its frame check sequence, behind its length in two octets, the low one first,
+lapbether (Linux) sends a frame of LAPB, without its frame check sequence, after its length in two octets, the low one first,
 by Ethernet type 6000 and to all stations. LLC (ISO 8802-2) carries the packets of ISO 8208 by the service access point 7e.
 """
 

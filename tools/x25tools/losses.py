@@ -2,7 +2,7 @@
 
     losses.py SEED LINES [--loss P] [--damage P] [--t1 P] [--channels N] [--heal] | x25 sim --channels N
 
-P is the probability that a line is of that kind. With --heal the users are ready to take messages behind these lines, and then the line
+P is the probability that a line is of that kind. With --heal the users are ready to take messages after these lines, and then the line
 between the stations is good for a moment: what was sent arrives. The same numbers give the same script, on any machine and any Python. The
 script doesn't know what the stations do with it, so some of its lines are refused (`! N`); that is meant.
 

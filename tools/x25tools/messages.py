@@ -27,7 +27,7 @@ Message = tuple[str, str, Optional[int], str, str, str]
 A_ROW = 16
 # Each octet as it is shown as text.
 SHOWN = bytes(octet if 0x20 <= octet < 0x7F else ord(".") for octet in range(256))
-# A row behind its line feed, with four digits of its place, and where these, the digits of its octets and their text stand; and how many rows have so few.
+# A row after its line feed, with four digits of its place, and where these, the digits of its octets and their text stand; and how many rows have so few.
 ROW = "\n    0000  " + "   " * A_ROW + " " * (1 + A_ROW)
 PLACE_AT, DIGITS_AT, TEXT_AT, PLACE_DIGITS = 5, 11, 12 + 3 * A_ROW, 4
 MOST_ROWS = 0x10000 // A_ROW

@@ -134,7 +134,7 @@ class Converter:
 
     def blocks(self, blocks: Iterable[list[captures.Record]]) -> Iterator[Found]:
         """Yields, for each block of records, the connections, the times and the lines of its frames; a record without a time stands at 0. Bad input
-        is told behind the frames before it."""
+        is told after the frames before it."""
         for records in blocks:
             self._found = [], [], []
             try:
@@ -268,7 +268,7 @@ class Converter:
     def _begun(self, key: str, name: str, is_made_up: bool) -> Connection | None:
         """A new connection, or None where there are too many."""
         if len(self._connections) == MOST_CONNECTIONS:
-            self.notes[f"frame of a connection behind the first {MOST_CONNECTIONS:,}"] += 1
+            self.notes[f"frame of a connection after the first {MOST_CONNECTIONS:,}"] += 1
             return None
         self._connections[key] = Connection(len(self._connections) + 1, name, is_made_up)
         return self._connections[key]

@@ -94,7 +94,7 @@ class Station:
                 notices.append(line.decode())
             else:
                 raise BadInput(f"{self._name} wrote {x25lines.shown(line)}, which is no part of an answer")
-        raise BadInput(f"{self._name} ended without a mark" + (f" behind {x25lines.shown(event)}" if event else ": is it a program with that word?"))
+        raise BadInput(f"{self._name} ended without a mark" + (f" after {x25lines.shown(event)}" if event else ": is it a program with that word?"))
 
     def _mark(self, line: bytes) -> tuple[str, bool, bool, Optional[int]]:
         words = line.split(b" ")

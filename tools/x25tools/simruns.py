@@ -10,7 +10,7 @@ from x25tools import decoding
 from x25tools.drawing import DAMAGED, LOST, WAITING
 from x25tools.x25lines import BadInput
 
-# What stands before an event in a run, behind the lines that it made.
+# What stands before an event in a run, after the lines that it made.
 MARK = ". "
 SECONDS = 60
 DIRECTIONS = (">", "<")

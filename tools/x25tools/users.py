@@ -18,13 +18,13 @@ from x25tools.wires import ROOM
 
 # How many notices a `wait` may find that came before it, and how much of each.
 MOST_NOTICES, MOST_OF_A_NOTICE = 10_000, 200
-# A reader is slow while so many octets wait for it, and those behind so many more are left out.
+# A reader is slow while so many octets wait for it, and those after so many more are left out.
 SLOW, FULL = 1 << 18, 1 << 25
 # How long a reader is waited for at the end, and how long a `wait` holds commands before that is told, in seconds.
 PATIENCE, SILENCE = 2, 10
 # A message of a channel; what waits while messages of a channel, or of any, stand aside. So many octets may stand aside.
 MESSAGE = re.compile(rb"d(?:te|ce) send (\d+) ")
-LATER = re.compile(rb"d(?:te|ce) (?:(?:clear|reset) (\d+)|restart|disconnect)(?: (?:cause|diag)=|$)")
+LATER = re.compile(rb"d(?:te|ce) (?:(?:(?:with \S+ \S+ (?:d )?)?clear|reset) (\d+)|restart|disconnect)(?: (?:cause|diag)=|$)")
 MOST_ASIDE = 1 << 22
 
 
@@ -84,7 +84,7 @@ class Outlet:
 
 
 def kind(notice: str) -> str:
-    """What a notice is about: the word behind the end; of others the sign that they begin with."""
+    """What a notice is about: the word after the end; of others the sign that they begin with."""
     first, _, rest = notice.partition(" ")
     return rest.split(" ")[0] if first in ("dte", "dce") else first
 
@@ -133,7 +133,7 @@ class Signals:
 class Commands:
     """Lines that wait to be asked, in the order in which they came.
 
-    A message for which its circuit has no room stands aside, and behind it those of the same channel, so that it holds nothing else; but
+    A message for which its circuit has no room stands aside, and after it those of the same channel, so that it holds nothing else; but
     `clear`, `reset`, `restart` and `disconnect` let the messages go first, as long as one of the circuit is taken within `patience` seconds.
     """
 
@@ -175,7 +175,7 @@ class Commands:
         return line
 
     def next(self) -> bytes | None:
-        """The command whose time has come, or None; a `wait` holds those behind it."""
+        """The command whose time has come, or None; a `wait` holds those after it."""
         self._at = next((channel for channel in self._aside if channel not in self._full), None)
         if self._at is not None:
             return self._aside[self._at][0]
@@ -272,7 +272,7 @@ class User:
         return None
 
     def _has_come(self, text: str) -> bool:
-        """Whether a notice that begins so has come, behind the one that was waited for before; those up to it are forgotten."""
+        """Whether a notice that begins so has come, after the one that was waited for before; those up to it are forgotten."""
         while self._heard:
             if self._heard.popleft().startswith(text):
                 return True
@@ -293,7 +293,7 @@ class User:
         self._is_told = True
 
     def held(self) -> str:
-        """How many commands stand behind the first one, in words."""
+        """How many commands stand after the first one, in words."""
         count = len(self.commands) - 1
         return f"{count:,} command{'s' * (count != 1)} behind it" if count else ""
 

@@ -297,7 +297,7 @@ class Calling(OverTcp):
         self._wait()
 
     def _wait(self) -> None:
-        """Sets when the next address is called: at once, but for a pause behind the last one."""
+        """Sets when the next address is called: at once, but for a pause after the last one."""
         pause = 0.0 if self._turns % len(self._addresses) else self._pause
         self.due = time.monotonic() + pause
         if self._comes_again and pause:
@@ -354,7 +354,7 @@ class Datagrams(Wire):
 
 
 def ethernet_frame(source: bytes, frame: bytes) -> bytes:
-    """A frame of LAPB in one of Ethernet, as lapbether sends it: to all, behind its length, without a frame check sequence."""
+    """A frame of LAPB in one of Ethernet, as lapbether sends it: to all, after its length, without a frame check sequence."""
     octets = BROADCAST + source + lan.LAPBETHER.to_bytes(2, "big") + len(frame).to_bytes(2, "little") + frame
     return octets.ljust(LEAST_ETHERNET, b"\0")
 

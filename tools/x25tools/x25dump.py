@@ -14,12 +14,12 @@ Of a capture all connections are shown, each but the first with its number befor
   --messages  shows what the ends' users sent: data packets joined by M, and interrupts, as hexadecimal digits and text. Each comes
               once, though its frame be repeated
   --stats     writes at the end how many frames, packets and octets of data went each way, and how many I frames came out of order or again
-  --judge     says behind a frame which end broke which rule or which manners of the link or the packet layer with it, and what may be noted (`x25 judge`), of each
+  --judge     says after a frame which end broke which rule or which manners of the link or the packet layer with it, and what may be noted (`x25 judge`), of each
               connection by itself; --k is the window. Of packets without frames (XOT, LLC) the rules of the packet layer alone; not of lines of `x25 decode`. At the
               end it says how many frames and packets there were, and how many of them were judged
   --at        says where a capture was made: `dte` or `dce`, in front of that end, so that of the other one's frames those are missing that the line lost; or on the
-              `line`, and it has all frames. Where nothing is said a capture may lack any frame. What such frames would explain stands behind ` !? ` and ` ~? manners: `,
-              and makes the status 1 with --strict alone. Behind frames that the capture says are missing an end is judged anew; nothing is judged of a link modulo 128.
+              `line`, and it has all frames. Where nothing is said a capture may lack any frame. What such frames would explain stands after ` !? ` and ` ~? manners: `,
+              and makes the status 1 with --strict alone. After frames that the capture says are missing an end is judged anew; nothing is judged of a link modulo 128.
               Lines of a trace are all that was on the line, where nothing is said
   --strict, --manners
               make the status 1 too where a frame or a packet wasn't judged, or where manners were broken
@@ -32,7 +32,7 @@ The program is the one that --x25 or the variable X25 names, or `x25` of the PAT
 installed with this script, or that of `make look`, which is unproved. Colours are for a terminal alone, and not where the variable NO_COLOR is set.
 
 Exit status: 0; 1 where a line was none, a rule was broken, nothing was found in a capture, or something was left out; 2 for bad
-words or bad input, behind what stands before it.
+words or bad input, after what stands before it.
 """
 
 from __future__ import annotations
@@ -45,7 +45,7 @@ import os
 import re
 import sys
 from collections import Counter, defaultdict
-from typing import Any, Callable, Iterable, Iterator, TextIO
+from typing import Callable, Iterable, Iterator, TextIO
 
 from x25tools import captures, decoding, judging, pcap2x25, x25lines, x25names
 from x25tools.ahead import ahead
@@ -65,7 +65,7 @@ PACKET_AT = len("> I cmd P=0 S=0 R=0 | ")
 # What stands before what is told of a frame, or noted.
 RULES, NOTES = (judging.RULE, judging.IN_DOUBT[judging.RULE]), (judging.IN_DOUBT[judging.MANNERS], " ~ ")
 # Texts without any of these letters are shown as they are. Others may be refusals, or have rules, notes, or numbers that x25names has words for: `diag=`,
-# `why=`, and `fac=`, which stands behind `calling=` or in an ACCEPT.
+# `why=`, and `fac=`, which stands after `calling=` or in an ACCEPT.
 SIGNS = "!?~gyE"
 # Something to show: see `Reader`; and what puts a text into a colour.
 Thing = tuple[str, Connection, str]
@@ -133,7 +133,7 @@ class Reader:
                 yield [("", trace, answer) if answer[:1] in COLOURS else self._other(line, answer, trace) for line, answer in zip(lines, answers)]
 
     def _judged(self, lines: list[bytes], answers: list[str], trace: Connection) -> list[str]:
-        """The answers to lines, those to frames with what is told of each behind it."""
+        """The answers to lines, those to frames with what is told of each after it."""
         frames = [line.rpartition(b"\t")[2].decode() if decoding.parted(line, answer) else None for line, answer in zip(lines, answers)]
         asked = [f"{frame}\n" for frame in frames if frame]
         texts = iter(self._decoder.texts("".join(asked), [trace] * len(asked)))
@@ -287,7 +287,7 @@ class Joined:
 
 
 AGAIN, OCTETS = "I frames out of order, or again", "octets of data"
-# The frames of a text, each in a line with a blank at its end: of an I frame N(S); the kind of the frame or, behind a bar, of its packet; the data of
+# The frames of a text, each in a line with a blank at its end: of an I frame N(S); the kind of the frame or, after a bar, of its packet; the data of
 # DATA.
 COUNTED = re.compile(
     r"^.(?: I cmd P=[01] S=([0-7]) R=[0-7])? (\| DATA(?= ch=\d+ S=[0-7] R=[0-7] M=[01] Q=[01](?: D=1)? data=-?([^ ]*))|(?:\| )?[^ ]+).*$", re.MULTILINE

@@ -8,7 +8,7 @@ The other words are those of bridge.py, which it runs: the line, --trace and so 
 X.28, parameters of X.3 (profile 90, with a prompt, and editing for a screen) and messages of X.29, and a CALL has the protocol identifier of
 these, 01000000. What is typed goes in packets of up to 128 octets.
 
-At a terminal, what is typed where there is no call is a command: an address calls it, with text behind D or P as user data; HELP shows the
+At a terminal, what is typed where there is no call is a command: an address calls it, with text after D or P as user data; HELP shows the
 others. CTRL-P (parameter 1) leads from the call to a command, and QUIT ends. A call that comes is taken where its user data begins with 01,
 or is empty, and no call is there.
 
@@ -16,7 +16,7 @@ Where input or output is no terminal, lines of the input are what would be typed
 wait for a call that comes. The output is what the host sends, with line feeds; all else goes to standard error. At the end of the input the
 call is cleared once nothing has come for --quiet seconds, and the script ends.
 
-Exit status: 0; 1 where a call wasn't taken, a command was none, or the line ended; 2 for bad words; 143 behind SIGTERM.
+Exit status: 0; 1 where a call wasn't taken, a command was none, or the line ended; 2 for bad words; 143 after SIGTERM.
 """
 
 import argparse
@@ -45,7 +45,7 @@ PARAMETERS: Dict[int, Tuple[Iterable[int], Tuple[int, int]]] = {
     7: (range(32), (2, 2)),  # what a break does
     8: ((0, 1), (0, 0)),  # what comes is thrown away
     11: ((), (14, 14)),  # the speed
-    13: (range(8), (0, 0)),  # LF behind CR: 1 in what comes, 2 in what goes, 4 in the echo
+    13: (range(8), (0, 0)),  # LF after CR: 1 in what comes, 2 in what goes, 4 in the echo
     15: ((0, 1), (0, 0)),  # editing in the call
     16: (range(128), (127, 127)),  # takes a character back
     17: (range(128), (24, 24)),  # takes the line back
@@ -54,12 +54,12 @@ PARAMETERS: Dict[int, Tuple[Iterable[int], Tuple[int, int]]] = {
     **dict.fromkeys((5, 9, 10, 12, 14, 20, 21, 22), ((0,), (0, 0))),
 }
 RECALL, ECHO, FORWARD, IDLE, SIGNALS, BREAK, DISCARD, FEED, EDITING, BACK, DELETE, SHOW = 1, 2, 3, 4, 6, 7, 8, 13, 15, 16, 17, 18
-# What each bit of parameter 3 forwards behind; 1 is for letters and digits, and 64 for the other control characters.
+# What each bit of parameter 3 forwards after; 1 is for letters and digits, and 64 for the other control characters.
 FORWARDS = {2: b"\r", 4: b"\x1b\x07\x05\x06", 8: b"\x7f\x18\x12", 16: b"\x03\x04", 32: b"\t\n\x0b\x0c"}
-# Messages of X.29, and those by which a terminal asks for parameters, of its own PAD or, behind R, of the one at the other end.
+# Messages of X.29, and those by which a terminal asks for parameters, of its own PAD or, after R, of the one at the other end.
 INDICATION, INVITATION, SET, BREAK_CAME, READ, ERROR, SET_AND_READ = range(7)
 ASKS = {"PAR?": READ, "SET": SET, "SET?": SET_AND_READ}
-# What an indication says of a parameter that isn't there, a value that isn't, and a parameter that is only read, behind the number and this bit.
+# What an indication says of a parameter that isn't there, a value that isn't, and a parameter that is only read, after the number and this bit.
 NO_PARAMETER, NO_VALUE, ONLY_READ, INVALID = 1, 2, 4, 128
 # Service signals by the causes of clears and resets.
 CLEARED = {1: "OCC", 3: "INV", 5: "NC", 9: "DER", 11: "NA", 13: "NP", 17: "RPE", 19: "ERR", 21: "ROO", 25: "RNA", 33: "ID", 41: "FNA", 57: "SA"}
@@ -441,12 +441,12 @@ class Session:
         return pad.status
 
     def _takes(self) -> bool:
-        """Whether what was typed is taken: of a file, what stands behind a call waits until that is answered."""
+        """Whether what was typed is taken: of a file, what stands after a call waits until that is answered."""
         stages = ("open",) if self._options.answer else ("free", "open")
         return self._face.is_terminal or (self._pad.is_up and self._pad.stage in stages)
 
     def _has_done(self) -> bool:
-        """Whether nothing is left to do behind the end of the input."""
+        """Whether nothing is left to do after the end of the input."""
         if not self._is_over or self._typed or not self._pad.is_up:
             return False
         if self._pad.stage == "open":
@@ -504,7 +504,7 @@ def parameters(text: str) -> Dict[int, int]:
 
 
 def words() -> Tuple[argparse.Namespace, List[str]]:
-    """The words behind the script's name, and those of them that the bridge gets."""
+    """The words after the script's name, and those of them that the bridge gets."""
     usage = "%(prog)s [-h] dte|dce [--address DIGITS] [--set N:V,..] [--answer] [--quiet SECONDS] [words of bridge.py]"
     parser = argparse.ArgumentParser(usage=usage, description=__doc__, formatter_class=argparse.RawDescriptionHelpFormatter, allow_abbrev=False)
     parser.add_argument("end", choices=["dte", "dce"], help="which end the station is")

@@ -63,6 +63,8 @@ def main() -> int:
     if options.output is None and sys.stdout.isatty():
         parser.error("a capture isn't for a terminal: give -o CAPTURE, or send standard output to a file")
     with x25lines.opened(options.file) as file:
+        if captures.is_capture(file):
+            raise BadInput("this is a capture already; pcap2x25.py makes lines of one")
         if options.output is None:
             convert(file, sys.stdout.buffer)
         else:

@@ -1,6 +1,6 @@
 """X.25 over TCP (XOT, RFC 1613): from captured packets of IP to the X.25 packets of their connections.
 
-TCP's segments are put in order here. What the capture lacks is told by `Xot.notes`, and reading goes on behind it.
+TCP's segments are put in order here. What the capture lacks is told by `Xot.notes`, and reading goes on after it.
 """
 
 from __future__ import annotations
@@ -8,7 +8,6 @@ from __future__ import annotations
 import ipaddress
 import struct
 from collections import Counter
-from typing import Optional
 
 XOT_PORT = 1998
 # What a packet of IP carries; and the ends of a segment: addresses, and ports.
@@ -49,7 +48,7 @@ def _of_ipv4(octets: bytes) -> Carried | None:
 
 
 def _of_ipv6(octets: bytes) -> Carried | None:
-    """The same of a packet of IPv6, behind its extension headers."""
+    """The same of a packet of IPv6, after its extension headers."""
     if len(octets) < 40:
         return None
     protocol, length = octets[6], int.from_bytes(octets[4:6], "big")
@@ -136,7 +135,7 @@ class Stream:
         return packets
 
     def end(self) -> list[bytes | None]:
-        """Gives up what is missing; answers the packets behind it, each behind None, and notes what was left within one."""
+        """Gives up what is missing; answers the packets after it, each after None, and notes what was left within one."""
         packets: list[bytes | None] = []
         while self._ahead:
             self._pass_gap()
@@ -147,7 +146,7 @@ class Stream:
         return packets
 
     def _begin(self, sequence: int) -> None:
-        """Begins a connection, whose first octet stands behind the number of its SYN."""
+        """Begins a connection, whose first octet stands after the number of its SYN."""
         self._start = sequence
         self._next = (sequence + 1) % SEQUENCES
         self._is_lost = self._has_packets = False

@@ -1,6 +1,6 @@
 """X.25 over TCP (XOT, RFC 1613) as a bridge's wire: each circuit of the station is a connection, and the link below is played here.
 
-A connection carries the packets of one virtual circuit, each behind a header of four octets, the version, 0, and its length. There is
+A connection carries the packets of one virtual circuit, each after a header of four octets, the version, 0, and its length. There is
 neither LAPB nor RESTART on it. What a station needs of these comes from here: SABM, or UA to its own; an acknowledgement of each I frame
 as soon as it was sent, since TCP loses nothing; and a RESTART of the other end. A CALL of the station makes a connection, and one that
 another makes brings a CALL, which gets a channel that is free. A CALL and its acceptance say packet sizes and windows on a connection,
@@ -96,7 +96,7 @@ class Circuit:
         self.connection.send(b"\0\0" + len(packet).to_bytes(2, "big") + packet)
 
     def packets(self, octets: bytes) -> Iterator[bytes | None]:
-        """Yields the packets that are whole now, and None behind the last one where the connection isn't XOT."""
+        """Yields the packets that are whole now, and None after the last one where the connection isn't XOT."""
         self._open += octets
         while len(self._open) >= HEADER:
             version, length = int.from_bytes(self._open[:2], "big"), int.from_bytes(self._open[2:4], "big")

@@ -25,7 +25,7 @@ Event(kind=<Kind.MESSAGE: 17>, channel=1, stretch=(1, 0, 0), user=b'hello')
 Traceback (most recent call last):
 x25.Refused: 15: the link is up
 
-A station may be used by any thread: one call, with all of its answer, is done behind another. It is let go of by `close`, at the end
+A station may be used by any thread: one call, with all of its answer, is done after another. It is let go of by `close`, at the end
 of a `with` block, or with its last name.
 """
 
@@ -398,7 +398,7 @@ class Station:
         return self._call(self._library.x25_receive, octets, len(octets))
 
     def receive_all(self, frames: Iterable[bytes]) -> Answer:
-        """Several frames came, one behind another; what is answered to all of them. It ends at one that is refused, and the error has
+        """Several frames came, one after another; what is answered to all of them. It ends at one that is refused, and the error has
         what was answered up to there."""
         frames = list(frames)
         octets, counts = b"".join(frames), _packer(len(frames))(*map(len, frames))
@@ -462,7 +462,7 @@ class Station:
 
     @property
     def waits(self) -> bool:
-        """Whether memory was refused for messages that wait, behind the last call."""
+        """Whether memory was refused for messages that wait, after the last call."""
         with self._lock:
             return bool(self._library.x25_waits(self._slot))
 

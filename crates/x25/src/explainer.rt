@@ -11,7 +11,7 @@ struct Form {
 }
 
 /// The lines of a user, whose second word says what he asks for.
-static OF_A_USER: [Form; 14] = [
+static OF_A_USER: [Form; 15] = [
     Form {
         word: "call",
         form: "END call CALLED CALLING HEX [SIZE SIZE WINDOW WINDOW]",
@@ -23,6 +23,10 @@ static OF_A_USER: [Form; 14] = [
     Form {
         word: "clear",
         form: "END clear CH (and with --wide [cause=N] [diag=N])",
+    },
+    Form {
+        word: "with",
+        form: "END with FAC HEX [d] call .., accept .. or clear .. (with --wide)",
     },
     Form {
         word: "send",

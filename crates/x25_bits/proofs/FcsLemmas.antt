@@ -134,10 +134,6 @@ low_bits-xor (suc k) a b =
     let high : (bit_xor a b / 2) ≡ bit_xor (a / 2) (b / 2) = xor_shr a b 1 in
     rw (low, high, low_bits-xor k (a / 2) (b / 2), xor-odd a b) refl
 
-pub low_bits-suc : (k n : ℕ) → low_bits (suc k) n ≡ (n % 2 == 1) ∷ low_bits k (n / 2)
-unfolding low_bits
-low_bits-suc k n = refl
-
 -- what is above the bits doesn't count
 pub low_bits-mod : (k n : ℕ) → low_bits k (n % 2 ^ k) ≡ low_bits k n
 unfolding low_bits

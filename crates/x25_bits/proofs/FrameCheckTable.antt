@@ -1,5 +1,5 @@
 -- The table of what an octet leaves in the register, entry by entry: by the closed form of what eight octets leave.
-use Rattle.std.proofs.Common.{ℕ, suc, zero, ◌+◌, ◌*◌, ◌/◌, ◌%◌, ◌^◌, ◌<◌, ◌≡◌, ◌∙◌, Bool, true, false, ◌==◌, ◌&&◌, List, [], ◌∷◌, length, refl, ap, sym, subst, arith, bit_xor}
+use Rattle.std.proofs.Common.{ℕ, suc, zero, ◌+◌, ◌*◌, ◌/◌, ◌%◌, ◌^◌, ◌<◌, ◌≡◌, ◌∙◌, Bool, true, ◌==◌, ◌&&◌, List, [], ◌∷◌, length, refl, ap, sym, subst, arith, bit_xor}
 use Rattle.std.specs.Prelude.{slice_index_or}
 use Rattle.std.proofs.lemmas.Bool.{eqb-true}
 use lib.Bits.{xor_shifted}

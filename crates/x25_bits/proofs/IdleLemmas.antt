@@ -3,8 +3,6 @@ use Rattle.std.proofs.Common.{ℕ, zero, suc, ◌+◌, ◌-◌, ◌*◌, ◌^◌
 use Rattle.std.specs.Prelude.{slice_index_or, Option, Some, None, IfSome}
 use Rattle.std.proofs.lemmas.Nat.{one_shl, pow_pos}
 use Rattle.std.proofs.lemmas.Bool.{eqb-true}
-use Rattle.std.proofs.lemmas.List.{take-append-drop, drop-drop}
-use Rattle.std.proofs.Math.Seq.{drop-append-add, drop-nil}
 use Rattle.x25_bits.specs.FrameCheck.{bits_of, low_bits}
 use Rattle.x25_bits.specs.code.FitsSeen.{FitsSeen}
 use Rattle.x25_bits.specs.code.Held.{Seen, seen_from, found_from, closing, kept_found}
@@ -173,20 +171,3 @@ one_more_found d at i o octets low high e one seen_all found_all v f =
     ∙ ap (λ w. found_from w last) (seen_all v f)
     ∙ ap (found_from v) (part_one i octets high ∙ ap (low_bits 8) e)
     ∙ one v f
-
-drop_octets : (k : ℕ) (octets : List ℕ) → drop (8 * k) (bits_of octets) ≡ bits_of (drop k octets)
-drop_octets zero octets = refl
-drop_octets (suc k) [] = drop-nil (8 * suc k)
-drop_octets (suc k) (o ∷ octets) =
-    let size = length-low_bits 8 o in
-    let there : 8 * suc k ≡ length (low_bits 8 o) + 8 * k = omega arith in
-    ap (λ n. drop n (low_bits 8 o ++ bits_of octets)) there ∙ drop-append-add (low_bits 8 o) (bits_of octets) (8 * k) ∙ drop_octets k octets
-
--- the bits from one octet on
-pub octets_left : (at next : ℕ) (octets : List ℕ) → at ≤ next → bits_of (drop at octets) ≡ part (8 * at) (8 * next) (bits_of octets) ++ bits_of (drop next octets)
-octets_left at next octets h =
-    let bits = bits_of octets in
-    let n = 8 * next - 8 * at in
-    let there : 8 * at + n ≡ 8 * next = omega arith in
-    sym (drop_octets at octets) ∙ sym (take-append-drop n (drop (8 * at) bits))
-    ∙ ap (λ l. take n (drop (8 * at) bits) ++ l) (drop-drop n (8 * at) bits ∙ ap (λ m. drop m bits) there ∙ drop_octets next octets)

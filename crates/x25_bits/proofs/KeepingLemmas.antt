@@ -1,5 +1,5 @@
 -- Bits that are kept, in memory that was set aside.
-use Rattle.std.proofs.Common.{ℕ, ◌*◌, ◌≤◌, ◌≡◌, List, Bool, length, take, arith}
+use Rattle.std.proofs.Common.{ℕ, ◌≤◌, ◌≡◌, List, Bool, length, take, arith}
 use Rattle.x25_bits.specs.FrameCheck.{bits_of}
 use Rattle.x25_bits.proofs.OctetLemmas.{count_is}
 

@@ -1,7 +1,7 @@
 -- Bits filled up to whole octets.
-use Rattle.std.proofs.Common.{ℕ, zero, suc, ◌+◌, ◌-◌, ◌*◌, ◌/◌, ◌%◌, ◌<◌, ◌≤◌, ◌≡◌, ◌∙◌, Bool, true, List, [], ◌∷◌, ◌++◌, length, take, drop, get_or, refl, ap, sym, arith, length-append, append_assoc}
+use Rattle.std.proofs.Common.{ℕ, zero, suc, ◌+◌, ◌-◌, ◌/◌, ◌%◌, ◌<◌, ◌≤◌, ◌≡◌, ◌∙◌, Bool, true, List, [], ◌∷◌, ◌++◌, length, get_or, refl, ap, sym, arith, length-append, append_assoc}
 use Rattle.std.specs.Prelude.{replicate}
-use Rattle.std.proofs.lemmas.List.{append-nil, length-replicate, length-take-le, take-append-drop}
+use Rattle.std.proofs.lemmas.List.{append-nil, length-replicate}
 use Rattle.x25_bits.specs.FrameCheck.{bits_of}
 use Rattle.x25_bits.specs.Found.{Content, found_of, octets_of}
 use Rattle.x25_bits.specs.Deframer.{flag}
@@ -10,7 +10,7 @@ use Rattle.x25_bits.specs.code.Held.{Seen, seen_next, seen_of, found_from}
 use Rattle.x25_bits.proofs.ContentLemmas.{bits_of-octets_by}
 use Rattle.x25_bits.proofs.FoundLemmas.{found_more}
 use Rattle.x25_bits.proofs.LawLemmas.{put_found_behind}
-use Rattle.x25_bits.proofs.OctetLemmas.{bits_of-append, octets_by-take}
+use Rattle.x25_bits.proofs.OctetLemmas.{bits_of-append}
 
 -- 1 bits end no flag
 ones_find : (n : ℕ) (v : Seen) → found_from v (replicate n true) ≡ []
@@ -38,12 +38,3 @@ line_found before all octets small low high e =
     ap found_of (e ∙ sym (append_assoc before (framed octets) (replicate more true)))
     ∙ found_filled (before ++ framed octets) more
     ∙ put_found_behind before octets small low high
-
--- bits are those of their whole octets and the rest
-pub whole_and_rest : (bits : List Bool) (octets : List ℕ) (size : ℕ) → octets ≡ octets_of bits → size ≡ length bits → bits ≡ bits_of octets ++ drop (8 * (size / 8)) bits
-whole_and_rest bits octets size e s =
-    let m = length bits / 8 in
-    let inside : 8 * m ≤ length bits = omega arith in
-    let whole : bits_of octets ≡ take (8 * m) bits =
-    ap bits_of (e ∙ sym (octets_by-take m (8 * m) bits (omega arith))) ∙ bits_of-octets_by m (take (8 * m) bits) (length-take-le (8 * m) bits inside) in
-    sym (ap (λ l. l ++ drop (8 * (size / 8)) bits) whole ∙ ap (λ n. take (8 * m) bits ++ drop (8 * (n / 8)) bits) s ∙ take-append-drop (8 * m) bits)

@@ -1,5 +1,5 @@
 -- Bits in which no flag ends and no seventh 1 bit comes.
-use Rattle.std.proofs.Common.{ℕ, ◌+◌, ◌-◌, ◌*◌, ◌/◌, ◌%◌, ◌^◌, ◌<◌, ◌≤◌, ◌≡◌, ◌∙◌, Bool, true, false, not, ◌==◌, ◌&&◌, List, [], ◌∷◌, ◌++◌, length, take, drop, get_or, refl, ap, sym, subst, arith, append_assoc, length-append}
+use Rattle.std.proofs.Common.{ℕ, ◌+◌, ◌-◌, ◌*◌, ◌<◌, ◌≤◌, ◌≡◌, ◌∙◌, Bool, true, false, not, ◌==◌, ◌&&◌, List, [], ◌∷◌, ◌++◌, length, take, drop, get_or, refl, ap, sym, subst, arith, append_assoc, length-append}
 use Rattle.std.specs.Prelude.{if◌then◌else◌, ◌||◌}
 use Rattle.std.proofs.lemmas.List.{append-nil, take_all}
 use Rattle.x25_bits.specs.FrameCheck.{bits_of, low_bits}
@@ -13,7 +13,6 @@ use Rattle.x25_bits.specs.declared.deframer.Deframer.{Deframer}
 use Rattle.x25_bits.specs.declared.passing.Passed.{Passed}
 use Rattle.x25_bits.proofs.FcsLemmas.{length-low_bits}
 use Rattle.x25_bits.proofs.KeptLemmas.{take_short}
-use Rattle.x25_bits.proofs.LinearLemmas.{low_bits-join}
 use Rattle.x25_bits.proofs.OctetLemmas.{octet_at}
 use Rattle.x25_bits.proofs.ReadingLemmas.{part_join}
 
@@ -52,11 +51,6 @@ kept_from-append : (run : ℕ) (a b : List Bool) → kept_from run (a ++ b) ≡ 
 unfolding ones_from kept_from
 kept_from-append run [] b = refl
 kept_from-append run (x ∷ a) b = if_more (keeps run x) x (kept_from (up run x) (a ++ b)) (kept_from (up run x) a) (kept_from (ones_from (up run x) a) b) (kept_from-append (up run x) a b)
-
-pub octet_halves : (o : ℕ) → low_bits 8 o ≡ low_bits 4 (o % 16) ++ low_bits 4 (o / 16)
-octet_halves o =
-    let whole : o ≡ o % 16 + o / 16 * 2 ^ 4 = omega arith in
-    ap (low_bits 8) whole ∙ low_bits-join 4 4 (o % 16) (o / 16) (omega arith)
 
 -- ---- what is seen
 

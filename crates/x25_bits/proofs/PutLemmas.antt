@@ -1,11 +1,10 @@
 -- What is put is found.
-use Rattle.std.proofs.Common.{ℕ, zero, suc, ◌+◌, ◌-◌, ◌*◌, ◌/◌, ◌%◌, ◌<◌, ◌≤◌, ◌≡◌, ◌∙◌, Bool, true, false, nat_eq, bit_and, List, [], ◌∷◌, ◌++◌, length, get_or, refl, ap, sym, arith, append_assoc}
+use Rattle.std.proofs.Common.{ℕ, zero, suc, ◌*◌, ◌/◌, ◌%◌, ◌<◌, ◌≤◌, ◌≡◌, ◌∙◌, Bool, true, false, List, [], ◌∷◌, ◌++◌, length, get_or, refl, ap, sym, arith, append_assoc}
 use Rattle.std.specs.Prelude.{nat_lt}
 use Rattle.std.proofs.lemmas.List.{append-nil, take_all}
 use Rattle.std.proofs.lemmas.Bool.Decides.{nat_tests}
 use Rattle.x25_bits.specs.Deframer.{places_below, between, flag}
-use Rattle.x25_bits.specs.FrameCheck.{bits_of, low_bits}
-use Rattle.x25_bits.proofs.FcsLemmas.{and_one, low_bits-suc}
+use Rattle.x25_bits.specs.FrameCheck.{bits_of}
 use Rattle.x25_bits.specs.Found.{Content, class_by, found_of, octets_by}
 use Rattle.x25_bits.specs.Stuffing.{stuffed_from, framed}
 use Rattle.x25_bits.specs.code.Held.{kept_found, Seen, none_seen, closing, seen_from, found_from}
@@ -72,15 +71,3 @@ put_found octets small low high =
     ∙ opened (stuffed_from 0 (bits_of octets) ++ flag)
     ∙ stuffed_found 0 false [] (bits_of octets) (omega arith)
     ∙ class_content octets small low high
-
--- ---- steps of the code
-
-pub next_fours : (k left : ℕ) → k < 4 → low_bits (4 - k) left ≡ nat_eq (bit_and left 1) 1 ∷ low_bits (4 - (k + 1)) (left / 2)
-next_fours k left h =
-    let at : 4 - k ≡ suc (4 - (k + 1)) = omega arith in
-    rw (at, low_bits-suc (4 - (k + 1)) left, and_one left) refl
-
-pub next_bits : (k left : ℕ) → k < 8 → low_bits (8 - k) left ≡ nat_eq (bit_and left 1) 1 ∷ low_bits (8 - (k + 1)) (left / 2)
-next_bits k left h =
-    let at : 8 - k ≡ suc (8 - (k + 1)) = omega arith in
-    rw (at, low_bits-suc (8 - (k + 1)) left, and_one left) refl

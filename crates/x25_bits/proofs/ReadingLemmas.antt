@@ -1,6 +1,6 @@
 -- Reading bits from place to place.
 use Rattle.std.proofs.Common.{ℕ, ◌+◌, ◌-◌, ◌<◌, ◌≤◌, ◌≡◌, ◌∙◌, Bool, false, List, [], ◌∷◌, ◌++◌, length, take, drop, refl, ap, sym, arith, get_or}
-use Rattle.std.proofs.lemmas.List.{take_all, get_or-drop, drop-take, take-take, take-append-drop, length-drop, drop-drop}
+use Rattle.std.proofs.lemmas.List.{get_or-drop, drop-take, take-take, take-append-drop, length-drop, drop-drop}
 use Rattle.std.proofs.Math.Seq.{take-add}
 use Rattle.x25_bits.specs.Found.{Class}
 use Rattle.x25_bits.specs.code.Held.{Seen, seen_next, seen_found, seen_from, found_from}
@@ -16,10 +16,6 @@ part_same at n all bits h k e =
 
 pub part_none : (at : ℕ) (bits : List Bool) → part at at bits ≡ []
 part_none at bits = let none : at - at ≡ 0 = omega arith in ap (λ n. take n (drop at bits)) none
-
--- up to the end
-pub part_rest : (at n : ℕ) (bits : List Bool) → length bits ≤ n → part at n bits ≡ drop at bits
-part_rest at n bits h = take_all (n - at) (drop at bits) (rw length-drop (omega arith))
 
 inside : (at p : ℕ) (bits : List Bool) → at ≤ p → p < length bits → p - at < length (drop at bits)
 inside at p bits h k = rw length-drop (omega arith)

@@ -1,11 +1,9 @@
 -- Some bits of one octet that pass: from behind a flag to the octet's end, or up to a flag's last 0.
-use Rattle.std.proofs.Common.{ℕ, zero, suc, ◌+◌, ◌-◌, ◌*◌, ◌/◌, ◌%◌, ◌^◌, ◌<◌, ◌≤◌, ◌≡◌, ◌∙◌, Bool, true, false, List, [], ◌∷◌, ◌++◌, length, take, drop, get_or, refl, ap, sym, subst, arith, length-append}
+use Rattle.std.proofs.Common.{ℕ, zero, suc, ◌+◌, ◌-◌, ◌*◌, ◌/◌, ◌%◌, ◌^◌, ◌<◌, ◌≤◌, ◌≡◌, ◌∙◌, Bool, true, false, List, ◌∷◌, ◌++◌, length, take, drop, get_or, refl, ap, sym, subst, arith, length-append}
 use Rattle.std.specs.Prelude.{replicate}
 use Rattle.std.proofs.Math.Nat.{div-one}
-use Rattle.std.proofs.lemmas.List.{append-nil, drop-drop, take-append-drop}
 use Rattle.x25_bits.specs.FrameCheck.{bits_of, low_bits}
 use Rattle.x25_bits.specs.code.Fits.{ones_from}
-use Rattle.x25_bits.specs.code.Reading.{part}
 use Rattle.x25_bits.specs.Passing.{passes, kept_from, inserted_after, Passes}
 use Rattle.x25_bits.specs.declared.passing.Passed.{Passed}
 use Rattle.x25_bits.proofs.FcsLemmas.{length-low_bits, low_bits-mod}
@@ -124,12 +122,3 @@ part_first place k octets e few inside =
     let o = get_or octets (place / 8) 0 in
     let one : o / 2 ^ (place % 8) ≡ o = ap (λ n. o / 2 ^ n) e ∙ div-one o in
     part_low place k octets (omega arith) inside ∙ ap (low_bits k) one
-
--- the bits from one place on
-pub part_left : (place next : ℕ) (bits : List Bool) → place ≤ next → drop place bits ≡ part place next bits ++ drop next bits
-part_left place next bits h =
-    let there : place + (next - place) ≡ next = omega (h, arith) in
-    sym (take-append-drop (next - place) (drop place bits)) ∙ ap (λ l. part place next bits ++ l) (drop-drop (next - place) place bits ∙ ap (λ m. drop m bits) there)
-
-pub one_octet : (o : ℕ) → bits_of (o ∷ []) ≡ low_bits 8 o
-one_octet o = append-nil (low_bits 8 o)

@@ -39,7 +39,7 @@ pub use laws::{
 };
 pub use line_octets::put_octets;
 pub use no_memory::NoMemory;
-pub use octets::Octets;
+pub use octets::{Octets, append_octets, with_octets};
 pub use pool::Pool;
 pub use promise::Promise;
 pub use role::Role;

@@ -9,9 +9,9 @@ ghost use Rattle.x25_bits.specs.Stuffing.{framed, filled};
 
 use crate::bits::Bits;
 use crate::no_memory::NoMemory;
+use crate::octets::append_octets;
 use crate::stuffing::put;
 use std::alloc::Global;
-use std::mem;
 
 /// Eight 1 bits.
 const ONES: u8 = 0xFF;
@@ -60,20 +60,6 @@ fn make_room(line: &mut Vec<u8>, more: usize) -> Result<(), NoMemory>
     Ok(())
 }
 
-// The line, and these octets behind it, in room that there is. It owns it, so that they are copied as a block.
-fn with_octets(line: Vec<u8>, octets: &[u8]) -> Vec<u8>
-    requires { vec_len line + length octets.now ≤ vec_capacity line }
-    ensures items { result.items ≡ line.items ++ octets.now }
-    ensures len { vec_len result ≡ vec_len line + length octets.now }
-    ensures capacity { vec_capacity result ≡ vec_capacity line }
-{
-    let mut all = line;
-    for octet in octets {
-        all.push_reserved(*octet);
-    }
-    all
-}
-
 /// Appends octets of a synchronous line, whose bits, lowest first, are those that `put` appends, and then as few 1 bits
 /// as fill the last octet. Of 4 to 4,103 octets the content between the flags is found, behind any octets before it. It
 /// takes memory for no more than twice the octets that are there then. Error 70 where there is none.
@@ -89,6 +75,6 @@ pub fn put_octets(octets: &[u8], line: &mut Vec<u8>) -> Result<(), NoMemory>
     let bits = whole_frame(octets, alloc)?;
     let whole = bits.whole_octets();
     make_room(line, whole.len())?;
-    *line = with_octets(mem::replace(line, Vec::new(alloc)), whole);
+    append_octets(line, whole);
     Ok(())
 }

@@ -1,6 +1,7 @@
-ghost use Rattle.std.specs.Prelude.{◌≡◌, ◌≤◌, length, vec_len};
+ghost use Rattle.std.specs.Prelude.{◌≡◌, ◌+◌, ◌≤◌, ◌++◌, length, vec_len, vec_capacity};
 
 use std::marker::Model;
+use std::mem;
 
 /// Octets, at most LONGEST of them. Contracts see the list of them.
 #[derive(Debug, Drop)]
@@ -41,4 +42,31 @@ impl<const LONGEST: usize> Octets<LONGEST> {
     {
         self.octets.as_slice()
     }
+}
+
+/// A vector, and these octets behind those that it has, in memory that there is. It owns it, so that they are copied as
+/// a block.
+pub fn with_octets(octets: Vec<u8>, more: &[u8]) -> Vec<u8>
+    requires { vec_len octets + length more.now ≤ vec_capacity octets }
+    ensures items { result.items ≡ octets.items ++ more.now }
+    ensures len { vec_len result ≡ vec_len octets + length more.now }
+    ensures capacity { vec_capacity result ≡ vec_capacity octets }
+{
+    let mut all = octets;
+    for octet in more {
+        all.push_reserved(*octet);
+    }
+    all
+}
+
+/// Appends octets in memory that there is, and takes no other.
+#[inline(always)]
+pub fn append_octets(octets: &mut Vec<u8>, more: &[u8])
+    requires { vec_len octets.old + length more.now ≤ vec_capacity octets.old }
+    ensures items { octets.new.items ≡ octets.old.items ++ more.now }
+    ensures len { vec_len octets.new ≡ vec_len octets.old + length more.now }
+    ensures capacity { vec_capacity octets.new ≡ vec_capacity octets.old }
+{
+    let none = Vec::new(*octets.allocator());
+    *octets = with_octets(mem::replace(octets, none), more);
 }

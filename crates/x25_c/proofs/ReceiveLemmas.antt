@@ -11,7 +11,7 @@ use Rattle.x25_station.specs.declared.timer.Timer.TheVariants.{GoesOn}
 use Rattle.x25_station.specs.code.FitsStation.{FitsStation, FitsStill, IsEmpty}
 use Rattle.x25_station.specs.laws.TimerLaw.{Comes, outcome}
 use Rattle.x25_c.specs.declared.held.Held.{Held}
-use Rattle.x25_c.specs.Held.{Whole, IsAlone, whole_of, part_of, and_then, no_answer}
+use Rattle.x25_c.specs.Held.{Whole, IsAlone, whole_of, part_before, part_of, and_then, no_answer}
 use Rattle.x25_c.specs.code.Happens.{Happens}
 use Rattle.x25_c.specs.code.Receives.{IsClocked, Received, ReceivesAll, frame_at}
 use Rattle.x25_c.proofs.HappenLemmas.{from_still, no_memory}
@@ -21,20 +21,20 @@ pub nothing_yet : (h : Held) → IsAlone h → IsEmpty h.step → h.step.timer �
 nothing_yet h alone empty timer = rw (alone.frames, alone.entries, alone.timer, empty.frames, empty.entries, timer) refl
 
 -- it is that of the frames before and that of the last
-whole_parts : (h : Held) → whole_of h ≡ and_then (part_of h.earlier) (part_of h.step)
-whole_parts h = rw (map-append (λ frame. frame.items) h.earlier.frames.items h.step.frames.items, map-append plain_entry h.earlier.entries.items h.step.entries.items) refl
+whole_parts : (h : Held) → whole_of h ≡ and_then (part_before h.earlier) (part_of h.step)
+whole_parts h = rw (map-append plain_entry h.earlier.entries.items h.step.entries.items) refl
 
 -- an answer and none behind it
 and_nothing : (w : Whole) → and_then w no_answer ≡ w
 and_nothing w = rw (append-nil w.frames, append-nil w.entries) refl
 
 -- what stood before the last answer is all that was answered, where that is none
-pub earlier_is : (h : Held) → part_of h.step ≡ no_answer → part_of h.earlier ≡ whole_of h
-earlier_is h none = sym (whole_parts h ∙ ap (and_then (part_of h.earlier)) none ∙ and_nothing (part_of h.earlier))
+pub earlier_is : (h : Held) → part_of h.step ≡ no_answer → part_before h.earlier ≡ whole_of h
+earlier_is h none = sym (whole_parts h ∙ ap (and_then (part_before h.earlier)) none ∙ and_nothing (part_before h.earlier))
 
 module _ (octets counts : List ℕ) (place : ℕ) (old self kept new : Held) where
   behind : whole_of kept ≡ whole_of self → part_of kept.step ≡ no_answer → new.earlier ≡ kept.earlier → whole_of new ≡ and_then (whole_of self) (part_of new.step)
-  behind same none earlier = whole_parts new ∙ ap (λ step. and_then (part_of step) (part_of new.step)) earlier ∙ ap (λ w. and_then w (part_of new.step)) (earlier_is kept none ∙ same)
+  behind same none earlier = whole_parts new ∙ ap (λ before. and_then (part_before before) (part_of new.step)) earlier ∙ ap (λ w. and_then w (part_of new.step)) (earlier_is kept none ∙ same)
 
   -- one frame more was taken
   pub one_more : Received octets counts place old self (whole_of self) → whole_of kept ≡ whole_of self → part_of kept.step ≡ no_answer → FitsStill self.station kept.station → kept.end ≡ self.end
@@ -97,7 +97,7 @@ module _ (octets counts : List ℕ) (place at : ℕ) (old self : Held) (there : 
       → part_of last.step ≡ no_answer → IsClocked self kept → IsClocked new last → last.passed ≡ None → ReceivesAll octets counts old last place number
   unfolding ReceivesAll
   ends_refused kept new last e number same none station end happens earlier is_number last_station last_end last_earlier last_none kept_clocked last_clocked passed =
-      let whole : whole_of last ≡ whole_of self = sym (earlier_is last last_none) ∙ ap part_of (last_earlier ∙ earlier) ∙ earlier_is kept none ∙ same in (
+      let whole : whole_of last ≡ whole_of self = sym (earlier_is last last_none) ∙ ap part_before (last_earlier ∙ earlier) ∙ earlier_is kept none ∙ same in (
         self,
         subst (Received octets counts place old self) (sym whole) before,
         (λ c s fits. subst (λ v. FitsStation c v s) (sym last_station) (happens.stays c s (subst (λ v. FitsStation c v s) (sym station) fits))),

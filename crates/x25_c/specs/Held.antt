@@ -6,6 +6,7 @@ use Rattle.x25_station.specs.declared.timer.Timer.TheVariants.{Off, Begins, Goes
 use Rattle.x25_station.specs.code.PlainEntry.{plain_entry}
 use Rattle.x25_station.specs.Entry.{StationEntry, of_channel}
 use Rattle.x25_transcript.specs.EntryText.{entry_line}
+use Rattle.x25_c.specs.declared.earlier.Earlier.{Earlier}
 use Rattle.x25_c.specs.declared.held.Held.{Held}
 
 -- what was answered: the octets of each frame, the entries, and what becomes of T1
@@ -16,9 +17,16 @@ pub record Whole : Type 0 where
 
 abbrev pub part_of : Step → Whole
 part_of step = record {
-  frames = map (λ frame. frame.items) step.frames.items;
+  frames = step.frames;
   entries = map plain_entry step.entries.items;
   timer = step.timer;
+}
+
+abbrev pub part_before : Earlier → Whole
+part_before earlier = record {
+  frames = map (λ frame. frame.items) earlier.frames.items;
+  entries = map plain_entry earlier.entries.items;
+  timer = earlier.timer;
 }
 
 abbrev pub no_answer : Whole
@@ -40,7 +48,7 @@ and_then first later = record {
 -- of all frames, or of the one call
 abbrev pub whole_of : Held → Whole
 whole_of h = record {
-  frames = map (λ frame. frame.items) (h.earlier.frames.items ++ h.step.frames.items);
+  frames = map (λ frame. frame.items) h.earlier.frames.items ++ h.step.frames;
   entries = map plain_entry (h.earlier.entries.items ++ h.step.entries.items);
   timer = timer_then h.earlier.timer h.step.timer;
 }

@@ -9,7 +9,7 @@ ghost use Rattle.x25_station.specs.declared.config.Cfg.{Cfg};
 ghost use Rattle.x25_station.specs.Config.{settings_from};
 ghost use Rattle.x25_station.specs.Station.{new_station};
 ghost use Rattle.x25_station.specs.laws.TimerLaw.{Asks, Event};
-ghost use Rattle.x25_station.specs.code.FitsStation.{FitsStation, FitsStill};
+ghost use Rattle.x25_station.specs.code.FitsStation.{FitsStation, FitsStill, IsEmpty};
 ghost use Rattle.x25_c.specs.Held.{channel_of, entries_of, frames_of, in_place, lines_of, no_answer, part_of};
 ghost use Rattle.x25_c.specs.Held.{timer_of, whole_of, IsAlone};
 ghost use Rattle.x25_c.specs.Item.{items_of, last_items, later_items, plain_item};
@@ -19,6 +19,7 @@ ghost use Rattle.x25_c.specs.code.Receives.{ReceivesAll};
 
 use crate::answers::{in_both, then};
 use crate::clocked::{Passed, heed, take_due};
+use crate::earlier::{Earlier, append_copies};
 use crate::happening::{Happening, happen};
 use crate::item::Item;
 use crate::numbers::{BAD_PARAMETER, NO_MEMORY};
@@ -37,7 +38,7 @@ use x25_transcript::push_entry;
 pub struct Held {
     pub end: Role,
     pub station: Station,
-    pub earlier: Step,
+    pub earlier: Earlier,
     pub step: Step,
     pub waits: bool,
     pub clock: Option<Clock>,
@@ -47,19 +48,17 @@ pub struct Held {
 }
 
 impl Held {
-    pub(crate) fn new(alloc: Global, end: Role, station: Station, line: Text) -> Held
+    pub(crate) fn new(alloc: Global, end: Role, station: Station, step: Step, line: Text) -> Held
+        requires empty { IsEmpty step }
+        requires timer { step.timer ≡ Timer.Off }
         ensures { (cfg : Cfg) → FitsStation (settings_from end cfg) station new_station →
             IsNew end cfg result }
     {
         Held {
             end,
             station,
-            earlier: Step {
-                frames: Vec::new(alloc),
-                entries: Vec::new(alloc),
-                timer: Timer::GoesOn,
-            },
-            step: Step::new(alloc),
+            earlier: Earlier::new(alloc),
+            step,
             waits: false,
             clock: None,
             time: 0,
@@ -68,7 +67,7 @@ impl Held {
         }
     }
 
-    // Takes back what frames before the last were answered.
+    // Lets go of what frames before the last were answered.
     fn begin(&mut self)
         ensures station { FitsStill self.old.station self.new.station }
         ensures alone { IsAlone self.new }
@@ -78,8 +77,7 @@ impl Held {
         ensures clock { self.new.clock ≡ self.old.clock }
         ensures time { self.new.time ≡ self.old.time }
     {
-        self.station.reuse(&mut self.earlier);
-        self.earlier.timer = Timer::GoesOn;
+        self.earlier.clear();
         self.passed = None;
     }
 
@@ -177,8 +175,9 @@ impl Held {
         ensures time { self.new.time ≡ self.old.time }
         ensures passed { self.new.passed ≡ self.old.passed }
     {
-        self.earlier.frames.append(&mut self.step.frames)?;
         self.earlier.entries.append(&mut self.step.entries)?;
+        append_copies(&mut self.earlier.frames, self.step.frames.as_slice())?;
+        self.step.frames.clear();
         self.earlier.timer = then(self.earlier.timer, self.step.timer);
         self.step.timer = Timer::GoesOn;
         Ok(())
@@ -221,7 +220,9 @@ impl Held {
         ensures refused { OnErr result (self.new ≡ self.old) }
     {
         let mut clock = Clock::new(alloc, times)?;
-        let mut step = Step::new(alloc);
+        let Ok(mut step) = Step::new(alloc) else {
+            return Err(AllocError);
+        };
         if self.station.timer_runs() {
             step.timer = Timer::Begins;
         }
@@ -291,7 +292,11 @@ impl Held {
     pub(crate) fn frame(&self, i: usize) -> &[u8]
         ensures { result.now ≡ in_place (frames_of self.now) i }
     {
-        match in_both(&self.earlier.frames, &self.step.frames, i) {
+        let before = self.earlier.frames.len();
+        if i < before {
+            return self.earlier.frames[i].as_slice();
+        }
+        match self.step.frames.as_slice().get(i - before) {
             Some(frame) => frame.as_slice(),
             None => &[],
         }

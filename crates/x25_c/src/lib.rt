@@ -7,6 +7,7 @@ mod answers;
 mod clocked;
 mod copying;
 mod dialing;
+mod earlier;
 mod event;
 mod handle;
 mod happening;

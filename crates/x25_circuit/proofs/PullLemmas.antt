@@ -1,5 +1,5 @@
 -- The next data packet of a circuit.
-use Rattle.std.proofs.Common.{arith, ◌≡◌, ◌≢◌, ℕ, ◌+◌, ◌%◌, Bool, true, false, ◌&&◌, nat_lt, List, [], ◌∷◌, length, Option, Some, None, IfSome, IfNone, inl, inr, refl, sym, ap, subst, ◌∙◌}
+use Rattle.std.proofs.Common.{arith, ◌≡◌, ℕ, ◌+◌, ◌%◌, Bool, true, false, ◌&&◌, nat_lt, List, [], ◌∷◌, length, Option, Some, None, IfSome, IfNone, inl, inr, refl, sym, ap, subst, ◌∙◌}
 use Rattle.x25_packet.specs.Packet.{user_data}
 use Rattle.x25_circuit.specs.declared.circuit.Circuit as code
 use Rattle.x25_circuit.specs.declared.state.State.{State}

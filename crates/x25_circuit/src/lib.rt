@@ -34,7 +34,7 @@ pub use error::CircuitError;
 pub use law::{messages_are_carried, values_are_agreed, what_waits_is_pulled};
 pub use message::Message;
 pub use notice::{Notice, Reply};
-pub use octets::{LONGEST_MESSAGE, Octets, with_octets};
+pub use octets::{LONGEST_MESSAGE, Octets};
 pub use owed::Owed;
 pub use params::Params;
 pub use proposal::Proposal;

@@ -1,4 +1,4 @@
-ghost use Rattle.std.specs.Prelude.{◌≡◌, ◌+◌, ◌≤◌, ◌++◌, length, vec_len, vec_capacity};
+ghost use Rattle.std.specs.Prelude.{◌≡◌, ◌≤◌, length, vec_len, vec_capacity};
 
 use std::marker::Model;
 
@@ -46,19 +46,4 @@ impl Octets {
     {
         self.octets.as_slice()
     }
-}
-
-/// A vector, and these octets behind those that it has, in memory that there is. It owns it, so that they are copied as
-/// a block.
-pub fn with_octets(octets: Vec<u8>, more: &[u8]) -> Vec<u8>
-    requires { vec_len octets + length more.now ≤ vec_capacity octets }
-    ensures items { result.items ≡ octets.items ++ more.now }
-    ensures len { vec_len result ≡ vec_len octets + length more.now }
-    ensures capacity { vec_capacity result ≡ vec_capacity octets }
-{
-    let mut all = octets;
-    for octet in more {
-        all.push_reserved(*octet);
-    }
-    all
 }

@@ -3,11 +3,11 @@ ghost use Rattle.std.specs.Prelude.{vec_capacity, IfNone, IfSome, Option, IfOk, 
 
 use crate::codes::{MIXED_QUALIFIERS, PACKET_TOO_LONG};
 use crate::message::Message;
-use crate::octets::{LONGEST_MESSAGE, Octets, with_octets};
+use crate::octets::{LONGEST_MESSAGE, Octets};
 use std::alloc::{AllocError, Global};
 use std::marker::Model;
 use std::mem;
-use x25_bits::Pool;
+use x25_bits::{Pool, with_octets};
 
 /// The most octets of user data in a data packet.
 const LONGEST_DATA: usize = 4096;

@@ -12,12 +12,12 @@ ghost use Rattle.x25_circuit.specs.code.Changes.{with_own, with_sent};
 use crate::codes::INVALID_PS;
 use crate::error::CircuitError;
 use crate::message::Message;
-use crate::octets::{Octets, with_octets};
+use crate::octets::Octets;
 use crate::partial::PartialMessage;
 use crate::queue::Queue;
 use crate::terms::Terms;
 use std::alloc::{AllocError, Global};
-use x25_bits::Seq;
+use x25_bits::{Seq, with_octets};
 use x25_window::{Receiver, Sender};
 
 /// The most packets of a window.

@@ -146,13 +146,11 @@ waits_runs s is = ap (λ (p : Phase). timer_runs p s) is
 quiet_event : (s : Station) (event : timer.Event) → IsUnheard s event → runs s ≡ false → comes event ≡ false
 quiet_event s (timer.Comes octets) is off = absurd (true≢false (sym (waits_runs s.link is) ∙ off))
 quiet_event s (timer.Asks command) is off = refl
-quiet_event s (timer.Gives given request) is off = refl
 quiet_event s timer.Fires is off = refl
 
 one_firing : (event : timer.Event) → timer.is_firing event ≡ true → takes event ≡ 1
 one_firing (timer.Comes octets) is = false_true is
 one_firing (timer.Asks command) is = false_true is
-one_firing (timer.Gives given request) is = false_true is
 one_firing timer.Fires is = refl
 
 same_acked : (before after : LinkStation) → after.outgoing.acked ≡ before.outgoing.acked → is_acknowledged before after ≡ false

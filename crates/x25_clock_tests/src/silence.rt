@@ -157,7 +157,7 @@ fn odd_row(
 pub(crate) fn odd_row_of(alloc: Global, times: Times, rows: &[Row]) -> Option<Option<usize>> {
     let mut station = station(alloc)?;
     let mut clock = clock(alloc, times)?;
-    let mut out = Step::new(alloc);
+    let mut out = Step::new(alloc).ok()?;
     Some(odd_row(rows, &mut station, &mut clock, &mut out))
 }
 

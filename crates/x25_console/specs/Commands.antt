@@ -1,20 +1,28 @@
 -- What a line of a script asks of a station (profile).
-use Rattle.std.specs.Prelude.{ℕ, List, [], unwrap_or}
+use Rattle.std.specs.Prelude.{ℕ, List, [], ◌++◌, unwrap_or}
 use Rattle.x25_circuit.specs.Params.{in_brief, default_params}
 use Rattle.x25_circuit.specs.Calling.{Accepts, Clears, Sends, Interrupts, Resets, SaysReady, SaysNotReady}
-use Rattle.x25_layer.specs.Calls.{Asks, Dials, Restarts, PullsAll}
-use Rattle.x25_station.specs.Command.{Command, Requests, Connects, Disconnects, Probes, Relinks, answer_in_brief}
+use Rattle.x25_layer.specs.Calls.{LayerRequest, Asks, Dials, Restarts, PullsAll}
+use Rattle.x25_station.specs.Command.{Command, Requests, RequestsWith, Connects, Disconnects, Probes, Relinks}
+use Rattle.x25_station.specs.Command.{answer_in_brief}
 use Rattle.x25_script.specs.ScriptLine.{PlainCommand, call, accept, clear, send, interrupt, reset, ready, not_ready}
-use Rattle.x25_script.specs.ScriptLine.{restart, pull, connect, disconnect, probe, relink}
+use Rattle.x25_script.specs.ScriptLine.{restart, pull, connect, disconnect, probe, relink, with_given}
 
--- A call without packet sizes and windows proposes the default, and an acceptance without them accepts what was
--- proposed. A cause or a diagnostic that isn't given is 0.
+-- What is asked of a call; of others it isn't read. A call without packet sizes and windows proposes the default, and
+-- an acceptance without them accepts what was proposed. A cause or a diagnostic that isn't given is 0.
+abbrev pub part_asked : PlainCommand → LayerRequest
+part_asked (call called calling user params) =
+    Dials called calling user (in_brief (unwrap_or params default_params))
+part_asked (accept channel params) = Asks channel (Accepts (answer_in_brief params))
+part_asked (clear channel given) = Asks channel (Clears (unwrap_or given.cause 0) (unwrap_or given.diagnostic 0))
+part_asked asked = PullsAll
+
 abbrev pub command_asked : PlainCommand → Command
-command_asked (call called calling user params) = Requests (Dials called calling user
-    (in_brief (unwrap_or params default_params)))
-command_asked (accept channel params) = Requests (Asks channel (Accepts (answer_in_brief params)))
-command_asked (clear channel given) = Requests (Asks channel (Clears (unwrap_or given.cause 0)
-    (unwrap_or given.diagnostic 0)))
+command_asked (call called calling user params) = Requests (part_asked (call called calling user params))
+command_asked (accept channel params) = Requests (part_asked (accept channel params))
+command_asked (clear channel given) = Requests (part_asked (clear channel given))
+command_asked (with_given facilities user d asked) = RequestsWith
+    (record { facilities = facilities; user = user; d = d }) (part_asked asked)
 command_asked (send channel q user) = Requests (Asks channel (Sends q user))
 command_asked (interrupt channel user) = Requests (Asks channel (Interrupts user))
 command_asked (reset channel given) = Requests (Asks channel (Resets (unwrap_or given.cause 0)
@@ -28,9 +36,18 @@ command_asked disconnect = Disconnects
 command_asked probe = Probes
 command_asked relink = Relinks
 
--- the user data of a command, none where it has no such field
+-- the user data of a command that gives nothing beside it, none where it has no such field
+abbrev pub part_user : PlainCommand → List ℕ
+part_user (call called calling user params) = user
+part_user (send channel q user) = user
+part_user (interrupt channel user) = user
+part_user asked = []
+
+-- facilities, user data beside what is asked of a call, and the user data in it
+abbrev pub given_in : List ℕ → List ℕ → PlainCommand → List ℕ
+given_in facilities user asked = facilities ++ (user ++ part_user asked)
+
+-- the octets of a command
 abbrev pub user_in : PlainCommand → List ℕ
-user_in (call called calling user params) = user
-user_in (send channel q user) = user
-user_in (interrupt channel user) = user
-user_in asked = []
+user_in (with_given facilities user d asked) = given_in facilities user asked
+user_in asked = part_user asked

@@ -1,12 +1,12 @@
 //! Commands of a script, as a station takes them.
-ghost use Rattle.std.specs.Prelude.{◌≡◌, ◌≤◌, IfOk, OnOk, OnErr, length, max, take};
-ghost use Rattle.x25_script.specs.ScriptLine.{plain_command};
-ghost use Rattle.x25_station.specs.Command.{command_of};
-ghost use Rattle.x25_console.specs.Commands.{command_asked, user_in};
+ghost use Rattle.std.specs.Prelude.{◌≡◌, ◌≤◌, ◌++◌, IfOk, OnOk, OnErr, length, max, take};
+ghost use Rattle.x25_script.specs.ScriptLine.{plain_command, plain_part, with_given};
+ghost use Rattle.x25_station.specs.Command.{command_of, request_of};
+ghost use Rattle.x25_console.specs.Commands.{command_asked, given_in, part_asked, part_user, user_in};
 
 use std::alloc::AllocError;
-use x25_script::{Command, HexDigits};
-use x25_station::Cmd;
+use x25_script::{CallPart, Command, HexDigits};
+use x25_station::{CallCmd, Cmd, Given};
 
 /// Makes a list that has fewer octets so long. Err: no memory; the list is as it was then.
 fn reserve(octets: &mut Vec<u8>, count: usize) -> Result<(), AllocError>
@@ -44,8 +44,83 @@ pub fn read_octets(digits: &HexDigits, octets: &mut Vec<u8>) -> Result<usize, Al
     Ok(count)
 }
 
-/// The octets of user data that a command has, none where it has no such field, at the front of the list, and how many
-/// these are. Err: no memory; the list is as it was then.
+/// How many octets of user data there are in what is asked of a call.
+fn part_count(call: &CallPart) -> usize
+    ensures { result ≡ length (part_user (plain_part call.now)) }
+{
+    match call {
+        CallPart::Call { user, .. } => user.len(),
+        _ => 0,
+    }
+}
+
+/// Writes these octets; `octets` has room for just these.
+fn write_part(call: &CallPart, octets: &mut [u8])
+    requires { length octets.old ≡ length (part_user (plain_part call.now)) }
+    ensures { octets.new ≡ part_user (plain_part call.now) }
+{
+    match call {
+        CallPart::Call { user, .. } => user.write_to(octets),
+        _ => {}
+    }
+}
+
+/// Writes facilities, user data beside what is asked of a call, and the user data in it; `octets` has room for just
+/// these.
+fn write_parts(facilities: &HexDigits, user: &HexDigits, call: &CallPart, octets: &mut [u8])
+    requires { length octets.old ≡ length (given_in facilities.now user.now (plain_part call.now)) }
+    ensures { octets.new ≡ given_in facilities.now user.now (plain_part call.now) }
+{
+    let (front, rest) = octets.split_at_mut(facilities.len());
+    facilities.write_to(front);
+    let (middle, last) = rest.split_at_mut(user.len());
+    user.write_to(middle);
+    write_part(call, last);
+}
+
+/// Puts these octets, so many, in the place of as many others, from the first on.
+fn write_given(
+    facilities: &HexDigits,
+    user: &HexDigits,
+    call: &CallPart,
+    count: usize,
+    octets: &mut [u8],
+)
+    requires count { count ≡ length (given_in facilities.now user.now (plain_part call.now)) }
+    requires room { count ≤ length octets.old }
+    ensures front { take count octets.new ≡ given_in facilities.now user.now (plain_part call.now) }
+    ensures size { length octets.new ≡ length octets.old }
+{
+    write_parts(facilities, user, call, &mut octets[..count]);
+}
+
+/// These octets, at the front of the list, and how many they are. Err: no memory; the list is as it was then.
+fn read_given(
+    facilities: &HexDigits,
+    user: &HexDigits,
+    call: &CallPart,
+    octets: &mut Vec<u8>,
+) -> Result<usize, AllocError>
+    ensures read { IfOk result
+        (λ count. take count octets.new.items ≡ given_in facilities.now user.now (plain_part call.now)) }
+    ensures few { IfOk result (λ count. count ≤ length octets.new.items) }
+    ensures memory { length octets.new.items ≤ max (length octets.old.items)
+        (length (given_in facilities.now user.now (plain_part call.now))) }
+    ensures unchanged { OnErr result (octets.new.items ≡ octets.old.items) }
+{
+    let Some(both) = user.len().checked_add(part_count(call)) else {
+        return Err(AllocError);
+    };
+    let Some(count) = facilities.len().checked_add(both) else {
+        return Err(AllocError);
+    };
+    reserve(octets, count)?;
+    write_given(facilities, user, call, count, octets.as_mut_slice());
+    Ok(count)
+}
+
+/// The octets of facilities and of user data that a command has, none where it has no such field, at the front of the
+/// list, and how many these are. Err: no memory; the list is as it was then.
 #[inline(always)]
 pub fn read_user(command: &Command, octets: &mut Vec<u8>) -> Result<usize, AllocError>
     ensures read { IfOk result (λ count. take count octets.new.items ≡ user_in (plain_command command.now)) }
@@ -57,11 +132,69 @@ pub fn read_user(command: &Command, octets: &mut Vec<u8>) -> Result<usize, Alloc
     match command {
         Command::Call { user, .. } | Command::Send { user, .. } | Command::Interrupt { user, .. } =>
             read_octets(user, octets),
+        Command::With {
+            facilities,
+            user,
+            call,
+            ..
+        } => read_given(facilities, user, call, octets),
         _ => Ok(0),
     }
 }
 
-/// The command with its octets of user data.
+/// What is asked of a call, with its octets of user data.
+fn call_command<'a>(call: &CallPart<'a>, user: &'a [u8]) -> CallCmd<'a>
+    requires { user.now ≡ part_user (plain_part call.now) }
+    ensures { request_of result ≡ part_asked (plain_part call.now) }
+{
+    match call {
+        CallPart::Call {
+            called,
+            calling,
+            params,
+            ..
+        } => CallCmd::Call {
+            called,
+            calling,
+            user,
+            params: *params,
+        },
+        CallPart::Accept { channel, params } => CallCmd::Accept {
+            channel: *channel,
+            params: *params,
+        },
+        CallPart::Clear { channel, given } => CallCmd::Clear {
+            channel: *channel,
+            cause: given.cause.unwrap_or(0),
+            diagnostic: given.diagnostic.unwrap_or(0),
+        },
+    }
+}
+
+/// What is asked of a call with something beside it, with the octets of both.
+fn given_command<'a>(
+    facilities: &HexDigits,
+    user: &HexDigits,
+    d: bool,
+    call: &CallPart<'a>,
+    octets: &'a [u8],
+) -> Cmd<'a>
+    requires { octets.now ≡ given_in facilities.now user.now (plain_part call.now) }
+    ensures { command_of result ≡ command_asked (with_given facilities.now user.now d (plain_part call.now)) }
+{
+    let (facilities, rest) = octets.split_at(facilities.len());
+    let (user, data) = rest.split_at(user.len());
+    Cmd::With {
+        given: Given {
+            facilities,
+            user,
+            d,
+        },
+        call: call_command(call, data),
+    }
+}
+
+/// The command with its octets of facilities and user data.
 #[inline(always)]
 pub fn station_command<'a>(command: &Command<'a>, user: &'a [u8]) -> Cmd<'a>
     requires { user.now ≡ user_in (plain_command command.now) }
@@ -88,6 +221,12 @@ pub fn station_command<'a>(command: &Command<'a>, user: &'a [u8]) -> Cmd<'a>
             cause: given.cause.unwrap_or(0),
             diagnostic: given.diagnostic.unwrap_or(0),
         },
+        Command::With {
+            facilities,
+            user: beside,
+            d,
+            call,
+        } => given_command(facilities, beside, *d, call, user),
         Command::Send { channel, q, .. } => Cmd::Send {
             channel: *channel,
             q: *q,

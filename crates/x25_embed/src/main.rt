@@ -46,7 +46,7 @@ impl End {
         };
         let end = End {
             station: Station::new(alloc, role, SETTINGS)?,
-            step: Step::new(alloc),
+            step: Step::new(alloc)?,
             out: Frames::new(alloc),
             timer: Flag { runs: false },
             told,

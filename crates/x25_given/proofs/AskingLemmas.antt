@@ -53,9 +53,9 @@ pub went_through : {D F T : Type 0} (g : Ghosts D) (form : F → List ℕ → Li
     → LinkGives (λ z. FitsPassage g.fits g.lists outside stands z) (passed g.after_put form) y result (calls (seen g form y) c l request))
     → ((c : LayerSettings) (l : Layer) → FitsLayer c old l → OnErr result (FitsLayer c new l))
     → ((y : Passage g.State F) → FitsPassage g.fits g.lists inside stood y → OnErr result (FitsPassage g.fits g.lists outside stands y))
-    → new.memory ≤ max old.memory 16 → g.promised outside ≤ max (g.promised inside) 16
+    → new.memory ≤ max old.memory 16
     → AsksThrough g form f old below new below₂ result request
-went_through {D = D} {F = F} {T = T} g form f old below new below₂ result request inside outside stood stands in_is stood_is out_is layer link layer_stays link_stays memory promised = record {
+went_through {D = D} {F = F} {T = T} g form f old below new below₂ result request inside outside stood stands in_is stood_is out_is layer link layer_stays link_stays memory = record {
   layer = λ c l x fits below_fits.
       subst (λ (view : LinkView). LayerGives c new result (calls view c l request)) (same_view g.up_in g.waits_in g.after_put form g.lists f x)
       (layer c l (passage g.lists f x) fits (enters x below_fits));
@@ -67,7 +67,6 @@ went_through {D = D} {F = F} {T = T} g form f old below new below₂ result requ
   link_stays = λ x below_fits.
       subst (λ (d : D). OnErr result (g.fits d x)) (sym out_is) (stays_below g.fits g.lists outside stands result (passage g.lists f x) (link_stays (passage g.lists f x) (enters x below_fits)));
   most_memory = memory;
-  most_promised = subst (λ (d : D). g.promised d ≤ max (g.promised below) 16) (sym out_is) (subst (λ (d : D). g.promised outside ≤ max (g.promised d) 16) in_is promised);
 }
   where
     enters : (x : g.State) → g.fits below x → FitsPassage g.fits g.lists inside stood (passage g.lists f x)

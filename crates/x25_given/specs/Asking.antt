@@ -32,8 +32,8 @@ GoesInForm fits after form link result f x (Went s) = OnOk result (fits link (al
 GoesInForm fits after form link result f x (Refuses e) = Unit {0}
 
 -- A call of the user does to a layer what the definition says of it, and to the link below too, in which its own packet
--- goes in this form; or it is refused and both are as before. Of what was set aside no more than for 16 packets is
--- kept, or what there was.
+-- goes in this form; or it is refused and both are as before. Of what was set aside in the layer no more than for 16
+-- packets is kept, or what there was.
 pub record AsksThrough {D F T : Type 0} (g : Ghosts D) (form : F → List ℕ → List ℕ) (f : F) (old : code.Layer)
     (below : D) (new : code.Layer) (below₂ : D) (result : Result T LayerError) (request : LayerRequest) : Type 0 where
   pub layer : (c : LayerSettings) (l : Layer) (x : g.State) → FitsLayer c old l → g.fits below x
@@ -44,4 +44,3 @@ pub record AsksThrough {D F T : Type 0} (g : Ghosts D) (form : F → List ℕ �
   pub layer_stays : (c : LayerSettings) (l : Layer) → FitsLayer c old l → OnErr result (FitsLayer c new l)
   pub link_stays : (x : g.State) → g.fits below x → OnErr result (g.fits below₂ x)
   pub most_memory : new.memory ≤ max old.memory 16
-  pub most_promised : g.promised below₂ ≤ max (g.promised below) 16

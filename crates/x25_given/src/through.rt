@@ -68,13 +68,6 @@ impl<L: OrderedLink + Drop, F: Form + Drop> OrderedLink for Through<L, F> {
         self.link.promised()
     }
 
-    fn reserve(&mut self, count: usize) -> Result<(), LinkError> {
-        match self.link.reserve(count) {
-            Ok(()) => Ok(()),
-            Err(error) => Err(error),
-        }
-    }
-
     fn spent_memory(&mut self, length: usize) -> Option<Vec<u8>> {
         self.link.spent_memory(length)
     }

@@ -10,7 +10,7 @@ use crate::form::Form;
 use crate::given::Given;
 use std::alloc::Global;
 use std::marker::Model;
-use x25_bits::NoMemory;
+use x25_bits::{NoMemory, append_octets};
 use x25_packet::{Packet, decode_within};
 use x25_wide::FAST_SELECT_OCTETS;
 
@@ -72,16 +72,6 @@ impl<'a> Form for Writing<'a> {
     }
 }
 
-// Appends octets that there is room for.
-fn append(octets: &mut Vec<u8>, more: &[u8])
-    requires { vec_len octets.old + length more.now ≤ vec_capacity octets.old }
-    ensures items { octets.new.items ≡ octets.old.items ++ more.now }
-    ensures len { vec_len octets.new ≡ vec_len octets.old + length more.now }
-    ensures capacity { vec_capacity octets.old ≤ vec_capacity octets.new }
-{
-    octets.extend_from_slice(more).unwrap();
-}
-
 // Appends a facility field, in two parts, and user data.
 fn append_fields(octets: &mut Vec<u8>, own: &[u8], more: &[u8], user: &[u8])
     requires own { length own.now ≤ 6 }
@@ -92,10 +82,10 @@ fn append_fields(octets: &mut Vec<u8>, own: &[u8], more: &[u8], user: &[u8])
         ++ fields_octets (Some (fields (own.now ++ more.now) user.now)) }
     ensures len { vec_len octets.new ≡ vec_len octets.old + (1 + length own.now + length more.now + length user.now) }
 {
-    append(octets, &[(own.len() + more.len()) as u8]);
-    append(octets, own);
-    append(octets, more);
-    append(octets, user);
+    append_octets(octets, &[(own.len() + more.len()) as u8]);
+    append_octets(octets, own);
+    append_octets(octets, more);
+    append_octets(octets, user);
 }
 
 // A packet's first three octets: with D or without, the channel, and the type.
@@ -129,8 +119,8 @@ fn spelled(
     ensures few { vec_len result ≤ 257 }
 {
     let mut octets = memory;
-    append(&mut octets, head);
-    append(&mut octets, front);
+    append_octets(&mut octets, head);
+    append_octets(&mut octets, front);
     append_fields(&mut octets, own, more, user);
     octets
 }

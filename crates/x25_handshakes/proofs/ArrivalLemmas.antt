@@ -9,7 +9,7 @@ use Rattle.x25_circuit.specs.Notice.{CallRequest}
 use Rattle.x25_handshakes.specs.laws.Handshake.{Side, Live, Left, At, state_of}
 use Rattle.x25_handshakes.specs.laws.Stretch.{Stretch}
 use Rattle.x25_handshakes.specs.laws.Transfer.{d1}
-use Rattle.x25_handshakes.specs.laws.Calls.{Phase, Unused, Waiting, Offered, Crossed, Talking, Connection}
+use Rattle.x25_handshakes.specs.laws.Calls.{Phase, Talking, Connection}
 use Rattle.x25_handshakes.specs.laws.Channel.{live}
 use Rattle.x25_handshakes.specs.laws.Layers.{LayerPacket, Channels, ready, Pair, turned, pair_run, pair_start}
 use Rattle.x25_handshakes.specs.laws.Names.{Name}

@@ -1,5 +1,5 @@
 -- Calls: what is indicated at an end, the other end made.
-use Rattle.std.proofs.Common.{◌≡◌, ◌⊎◌, inl, inr, ℕ, List, [], ◌∷◌, ◌++◌, Option, Some, None, refl, sym, subst, ◌∙◌}
+use Rattle.std.proofs.Common.{◌≡◌, inr, ℕ, List, [], ◌∷◌, ◌++◌, Option, Some, None, refl, sym, ◌∙◌}
 use Rattle.std.proofs.lemmas.List.{append-nil}
 use Rattle.std.proofs.lemmas.Bool.{cond_both}
 use Rattle.x25_bits.specs.declared.role.Role.{Role}
@@ -11,48 +11,20 @@ use Rattle.x25_handshakes.specs.laws.Handshake.{Inner}
 use Rattle.x25_handshakes.specs.laws.Stretch.{Packet, Call, Accept}
 use Rattle.x25_handshakes.specs.laws.Calls.{Phase, Unused, Waiting, Offered, Crossed, Talking, Connection, CallStep, goes, unexpected, calling_talk, called_talk, is_answered, accepts, phase_takes, call_takes, CallAct, PlacesCall, AcceptsCall, Talks, phase_acts}
 use Rattle.x25_handshakes.specs.laws.Histories.{calls, IsPrefix}
-use Rattle.x25_handshakes.proofs.CallsRelation.{Joint, ConnectionsRelated, GoodDte, GoodDce}
+use Rattle.x25_handshakes.proofs.CallsRelation.{TalksRelated, stage_of}
+use Rattle.x25_handshakes.proofs.JointLemmas.{joint_order}
+use Rattle.x25_handshakes.specs.laws.Transfer.{fresh_transfer}
 use Rattle.x25_handshakes.proofs.ChannelRelation.{clear_mark, Seen}
-use Rattle.x25_handshakes.proofs.CallLemmas.{GoodDte-takes, GoodDce-takes}
+use Rattle.x25_handshakes.proofs.CallLemmas.{Seen-takes}
 use Rattle.x25_handshakes.proofs.HistoryLemmas.{Stays, alike}
 use Rattle.x25_handshakes.proofs.TurnLemmas.{MayIndicate, WithinCall, IsHandled}
 
-empty_begins : (i m : List CallRequest) → i ≡ [] → IsPrefix i m
-empty_begins i m is = subst (λ (l : List CallRequest). IsPrefix l m) (sym is) (m, refl)
-
-same_begins : (i m : List CallRequest) → i ≡ m → IsPrefix i m
-same_begins i m is = ([], append-nil i ∙ is)
-
--- in every phase of a call
-joint_begins : (a b : Phase) (ma ia mb ib : List CallRequest) (u v : List Packet) → Joint a b ma ia mb ib u v → IsPrefix ia mb × IsPrefix ib ma
-joint_begins Unused Unused ma ia mb ib u v h = (empty_begins ia mb h.3, empty_begins ib ma h.5)
-joint_begins Unused (Waiting q) ma ia mb ib u v h = (empty_begins ia mb h.3, empty_begins ib ma h.4)
-joint_begins (Waiting p) Unused ma ia mb ib u v h = (empty_begins ia mb h.2, empty_begins ib ma h.4)
-joint_begins (Waiting p) (Waiting q) ma ia mb ib u v h = (empty_begins ia mb h.2, empty_begins ib ma h.3)
-joint_begins (Waiting p) (Offered q) ma ia mb ib u v h = (empty_begins ia mb h.2, same_begins ib ma h.3)
-joint_begins (Waiting p) (Talking t₂ b₂ y) ma ia mb ib u v h = (empty_begins ia mb h.2, same_begins ib ma h.3)
-joint_begins (Crossed p) (Waiting q) ma ia mb ib u v h = (empty_begins ia mb h.2, empty_begins ib ma h.3)
-joint_begins (Crossed p) (Offered q) ma ia mb ib u v h = (empty_begins ia mb h.2, same_begins ib ma h.3)
-joint_begins (Crossed p) (Talking t₂ b₂ y) ma ia mb ib u v h = (empty_begins ia mb h.2, same_begins ib ma h.3)
-joint_begins (Offered p) (Waiting q) ma ia mb ib u v h = (same_begins ia mb h.2, empty_begins ib ma h.3)
-joint_begins (Talking t b x) (Waiting q) ma ia mb ib u v h = (same_begins ia mb h.2, empty_begins ib ma h.3)
-joint_begins (Talking t b x) (Talking t₂ b₂ y) ma ia mb ib u v h = whose h.1
-  where
-    whose : (((ia ≡ []) × (ib ≡ ma)) ⊎ ((ia ≡ mb) × (ib ≡ []))) → IsPrefix ia mb × IsPrefix ib ma
-    whose (inl g) = (empty_begins ia mb g.0, same_begins ib ma g.1)
-    whose (inr g) = (same_begins ia mb g.0, empty_begins ib ma g.1)
-joint_begins a b ma ia mb ib u v h = absurd h
-
-calls_begin : (a : Connection) (u v : List Packet) (b : Connection) → ConnectionsRelated a u v b → IsPrefix a.indicated b.made × IsPrefix b.indicated a.made
-calls_begin a u v b h = joint_begins a.phase b.phase a.made a.indicated b.made b.indicated u v h.joint
+seen_begins : (r : Role) (x : Connection) (u v : List Packet) (y : Connection) → Seen r x u v y → IsPrefix x.indicated y.made
+seen_begins Dte x u v y h = (joint_order TalksRelated fresh_transfer fresh_transfer (λ a b. Unit {0}) tt (λ t k x u v t₂ k₂ y h. tt) (stage_of x.phase) (stage_of y.phase) x.made x.indicated y.made y.indicated u v h).0
+seen_begins Dce x u v y h = (joint_order TalksRelated fresh_transfer fresh_transfer (λ a b. Unit {0}) tt (λ t k x u v t₂ k₂ y h. tt) (stage_of y.phase) (stage_of x.phase) y.made y.indicated x.made x.indicated v u h).1
 
 indicated_begins : (r : Role) (c : Connection) (u : List Packet) (p : Packet) (v : List Packet) (y : Connection) → Seen r c u (p ∷ v) y → IsPrefix (call_takes r c p).next.indicated y.made
-indicated_begins Dte c u p v y h =
-    let good : GoodDte (call_takes Dte c p) u v y = GoodDte-takes c u p v y h in
-    (calls_begin (call_takes Dte c p).next (u ++ (call_takes Dte c p).out) v y good.kept).0
-indicated_begins Dce c u p v y h =
-    let good : GoodDce y v u (call_takes Dce c p) = GoodDce-takes y v p u c h in
-    (calls_begin y v (u ++ (call_takes Dce c p).out) (call_takes Dce c p).next good.kept).1
+indicated_begins r c u p v y h = seen_begins r (call_takes r c p).next (u ++ (call_takes r c p).out) v y (Seen-takes r c u p v y h).kept
 
 -- a packet makes no call
 answered_made : (a : Phase) (mine : Params) (m i : List CallRequest) (q : Params) → (is_answered a mine m i q).next.made ≡ m

@@ -9,7 +9,9 @@ use Rattle.x25_handshakes.specs.laws.Transfer.{fresh_transfer, transfer_takes, T
 use Rattle.x25_handshakes.specs.laws.Calls.{Phase, Unused, Waiting, Connection, call_takes, CallAct, call_acts, fresh_call}
 use Rattle.x25_handshakes.proofs.TermsLemmas.{Laws, IsSound}
 use Rattle.x25_handshakes.proofs.TransferRelation.{TransfersRelated, GoodTransfer}
-use Rattle.x25_handshakes.proofs.CallsRelation.{TalksRelated, GoodTalk, stage_of, Joint, ConnectionsRelated, GoodDte, GoodDce, IsCalled}
+use Rattle.x25_handshakes.proofs.CallsRelation.{TalksRelated, GoodTalk, stage_of, Joint, GoodCall, IsCalled}
+use Rattle.x25_handshakes.proofs.ChannelRelation.{Seen}
+use Rattle.x25_bits.specs.declared.role.Role.{Role}
 use Rattle.x25_handshakes.proofs.TransferLemmas.{TransfersRelated-flip, TransfersRelated-fresh, GoodTransfer-acts, GoodTransfer-takes}
 use Rattle.x25_handshakes.proofs.OwnCallLemmas.{DteTalks, DceTalks, dte_takes, dte_acts, dce_takes, dce_acts}
 
@@ -67,28 +69,27 @@ dce_talks = record {
   };
 }
 
-pub GoodDte-takes : (a : Connection) (u : List Packet) (p : Packet) (v : List Packet) (b : Connection) → ConnectionsRelated a u (p ∷ v) b → GoodDte (call_takes Dte a p) u v b
-GoodDte-takes a u p v b h =
-    let good = dte_takes TalksRelated fresh_transfer dte_talks a.phase (stage_of b.phase) a.made a.indicated b.made b.indicated u p v h.joint in
-    record { quiet = good.quiet; kept = record { joint = good.kept } }
+-- ---- the two roles at once
 
-pub GoodDce-takes : (a : Connection) (u : List Packet) (p : Packet) (v : List Packet) (b : Connection) → ConnectionsRelated a (p ∷ u) v b → GoodDce a u v (call_takes Dce b p)
-GoodDce-takes a u p v b h =
-    let good = dce_takes TalksRelated fresh_transfer dce_talks (stage_of a.phase) b.phase a.made a.indicated b.made b.indicated u p v h.joint in
-    record { quiet = good.quiet; kept = record { joint = good.kept } }
+pub Seen-takes : (r : Role) (x : Connection) (u : List Packet) (p : Packet) (v : List Packet) (y : Connection) → Seen r x u (p ∷ v) y → GoodCall (Seen r) (call_takes r x p) u v y
+Seen-takes Dte x u p v y h =
+    let good = dte_takes TalksRelated fresh_transfer dte_talks x.phase (stage_of y.phase) x.made x.indicated y.made y.indicated u p v h in
+    record { quiet = good.quiet; kept = good.kept }
+Seen-takes Dce x u p v y h =
+    let good = dce_takes TalksRelated fresh_transfer dce_talks (stage_of y.phase) x.phase y.made y.indicated x.made x.indicated v p u h in
+    record { quiet = good.quiet; kept = good.kept }
 
-pub GoodDte-acts : Laws → (a : Connection) (u v : List Packet) (b : Connection) (act : CallAct) → ConnectionsRelated a u v b → GoodDte (call_acts a act) u v b
-GoodDte-acts laws a u v b act h =
-    let good = dte_acts TalksRelated fresh_transfer dte_talks laws a.phase (stage_of b.phase) a.made a.indicated b.made b.indicated u v act h.joint in
-    record { quiet = good.quiet; kept = record { joint = good.kept } }
+pub Seen-acts : Laws → (r : Role) (x : Connection) (u v : List Packet) (y : Connection) (a : CallAct) → Seen r x u v y → GoodCall (Seen r) (call_acts x a) u v y
+Seen-acts laws Dte x u v y a h =
+    let good = dte_acts TalksRelated fresh_transfer dte_talks laws x.phase (stage_of y.phase) x.made x.indicated y.made y.indicated u v a h in
+    record { quiet = good.quiet; kept = good.kept }
+Seen-acts laws Dce x u v y a h =
+    let good = dce_acts TalksRelated fresh_transfer dce_talks laws (stage_of y.phase) x.phase y.made y.indicated x.made x.indicated v u a h in
+    record { quiet = good.quiet; kept = good.kept }
 
-pub GoodDce-acts : Laws → (a : Connection) (u v : List Packet) (b : Connection) (act : CallAct) → ConnectionsRelated a u v b → GoodDce a u v (call_acts b act)
-GoodDce-acts laws a u v b act h =
-    let good = dce_acts TalksRelated fresh_transfer dce_talks laws (stage_of a.phase) b.phase a.made a.indicated b.made b.indicated u v act h.joint in
-    record { quiet = good.quiet; kept = record { joint = good.kept } }
-
-pub ConnectionsRelated-fresh : ConnectionsRelated fresh_call [] [] fresh_call
-ConnectionsRelated-fresh = record { joint = (tt, tt, refl, refl, refl, refl) }
+pub Seen-fresh : (r : Role) → Seen r fresh_call [] [] fresh_call
+Seen-fresh Dte = (tt, tt, refl, refl, refl, refl)
+Seen-fresh Dce = (tt, tt, refl, refl, refl, refl)
 
 -- no CLEAR comes in p1: nothing is on the way to an end in p1 from one that has left another phase
 quiet_free_a : (b : Phase) (ma ia mb ib : List CallRequest) (u : List Packet) → (b ≡ Unused → ⊥) → Joint Unused b ma ia mb ib u [] → ⊥
@@ -101,10 +102,6 @@ quiet_free_b Unused ma ia mb ib v gone h = gone refl
 quiet_free_b (Waiting p) ma ia mb ib v gone h = h.0
 quiet_free_b other ma ia mb ib v gone h = h
 
-pub free_a : (a b : Connection) (u : List Packet) → a.phase ≡ Unused → IsCalled b → ConnectionsRelated a u [] b → ⊥
-free_a a b u is gone h = quiet_free_a b.phase a.made a.indicated b.made b.indicated u gone
-    (subst (λ (p : Phase). Joint p b.phase a.made a.indicated b.made b.indicated u []) is h.joint)
-
-pub free_b : (a b : Connection) (v : List Packet) → b.phase ≡ Unused → IsCalled a → ConnectionsRelated a [] v b → ⊥
-free_b a b v is gone h = quiet_free_b a.phase a.made a.indicated b.made b.indicated v gone
-    (subst (λ (p : Phase). Joint a.phase p a.made a.indicated b.made b.indicated [] v) is h.joint)
+pub Seen-free : (r : Role) (x y : Connection) (u : List Packet) → x.phase ≡ Unused → IsCalled y → Seen r x u [] y → ⊥
+Seen-free Dte x y u is gone h = quiet_free_a y.phase x.made x.indicated y.made y.indicated u gone (subst (λ (p : Phase). Joint p y.phase x.made x.indicated y.made y.indicated u []) is h)
+Seen-free Dce x y u is gone h = quiet_free_b y.phase y.made y.indicated x.made x.indicated u gone (subst (λ (p : Phase). Joint y.phase p y.made y.indicated x.made x.indicated [] u) is h)

@@ -110,17 +110,10 @@ JointOf R a b stage other ma ia mb ib u v = ⊥
 abbrev pub Joint : Phase → Phase → List CallRequest → List CallRequest → List CallRequest → List CallRequest → List Packet → List Packet → Type 0
 Joint a b ma ia mb ib u v = JointOf TalksRelated fresh_transfer fresh_transfer (stage_of a) (stage_of b) ma ia mb ib u v
 
-pub record ConnectionsRelated (a : Connection) (u v : List Packet) (b : Connection) : Type 0 where
-  pub joint : Joint a.phase b.phase a.made a.indicated b.made b.indicated u v
-
--- a step of the DTE, of the DCE, that is no error and keeps the relation
-pub record GoodDte (s : CallStep) (u v : List Packet) (b : Connection) : Type 0 where
+-- a step of our own end that is no error, and keeps what R says of it and the other end
+pub record GoodCall {T : Type 0} (R : Connection → List Packet → List Packet → T → Type 0) (s : CallStep) (u v : List Packet) (y : T) : Type 0 where
   pub quiet : s.error ≡ None
-  pub kept : ConnectionsRelated s.next (u ++ s.out) v b
-
-pub record GoodDce (a : Connection) (u v : List Packet) (s : CallStep) : Type 0 where
-  pub quiet : s.error ≡ None
-  pub kept : ConnectionsRelated a u (v ++ s.out) s.next
+  pub kept : R s.next (u ++ s.out) v y
 
 -- where an end is not in p1
 abbrev pub IsCalled : Connection → Type 0

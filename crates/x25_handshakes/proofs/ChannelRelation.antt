@@ -1,13 +1,12 @@
 -- What is kept of the two ends of a channel.
-use Rattle.std.proofs.Common.{◌≡◌, List, ◌++◌, None}
+use Rattle.std.proofs.Common.{List}
 use Rattle.x25_handshakes.specs.laws.Handshake.{Mark, Inner, Request, Confirm, At}
 use Rattle.x25_bits.specs.declared.role.Role.{Role}
 use Rattle.x25_bits.specs.declared.role.Role.TheVariants.{Dte, Dce}
 use Rattle.x25_handshakes.specs.laws.Stretch.{Packet, Clear, ClearConf}
 use Rattle.x25_handshakes.specs.laws.Calls.{Connection, fresh_call}
-use Rattle.x25_handshakes.specs.laws.Channel.{ChannelStep}
-use Rattle.x25_handshakes.proofs.HandshakeRelation.{Level, Handshake}
-use Rattle.x25_handshakes.proofs.CallsRelation.{ConnectionsRelated, IsCalled}
+use Rattle.x25_handshakes.proofs.HandshakeRelation.{Level, Handshaken}
+use Rattle.x25_handshakes.proofs.CallsRelation.{Joint, IsCalled}
 
 abbrev pub clear_mark : Packet → Mark
 clear_mark Clear = Request
@@ -16,15 +15,15 @@ clear_mark other = Inner
 
 -- the relation of the calls, seen from the end of this role
 abbrev pub Seen : Role → Connection → List Packet → List Packet → Connection → Type 0
-Seen Dte x u v y = ConnectionsRelated x u v y
-Seen Dce x u v y = ConnectionsRelated y v u x
+Seen Dte x u v y = Joint x.phase y.phase x.made x.indicated y.made y.indicated u v
+Seen Dce x u v y = Joint y.phase x.phase y.made y.indicated x.made x.indicated v u
+
+-- our own end and the other one, of whatever kind: R is kept between two clears, y₀ is the other end as one begins, and `left` is so of an end that sent CLEAR
+abbrev pub own_call_level : {T : Type 0} → (Connection → Type 0) → (T → Type 0) → (Connection → List Packet → List Packet → T → Type 0) → T → Level Connection T Packet
+own_call_level left left_there R y₀ = record { mark = clear_mark; fresh = fresh_call; fresh_there = y₀; gone = left; gone_there = left_there; related = R }
 
 abbrev pub connection_level : Role → Level Connection Connection Packet
-connection_level r = record { mark = clear_mark; fresh = fresh_call; fresh_there = fresh_call; gone = IsCalled; gone_there = IsCalled; related = Seen r }
+connection_level r = own_call_level IsCalled IsCalled (Seen r) fresh_call
 
-pub record ChannelRelated (r : Role) (x : At Connection) (L K : List Packet) (y : At Connection) : Type 0 where
-  pub hand : Handshake (connection_level r) x.epoch y.epoch x.side y.side L K
-
-pub record GoodChannel (r : Role) (s : ChannelStep) (L K : List Packet) (y : At Connection) : Type 0 where
-  pub quiet : s.error ≡ None
-  pub kept : ChannelRelated r s.next (L ++ s.out) K y
+abbrev pub ChannelRelated : Role → At Connection → List Packet → List Packet → At Connection → Type 0
+ChannelRelated r x L K y = Handshaken (connection_level r) x L K y

@@ -23,8 +23,8 @@ use Rattle.x25_handshakes.proofs.CallLemmas.{TalksRelated-flip}
 
 Seen-p4 : (r : Role) (t b t₂ b₂ : Terms) (m i n j : List CallRequest) (x y : At Stretch) (u v : List Packet)
     → Seen r (record { phase = Talking t b x; made = m; indicated = i }) u v (record { phase = Talking t₂ b₂ y; made = n; indicated = j }) → TransfersRelated t b x u v y
-Seen-p4 Dte t b t₂ b₂ m i n j x y u v h = h.joint.0.related
-Seen-p4 Dce t b t₂ b₂ m i n j x y u v h = (TalksRelated-flip t₂ b₂ y v u t b x h.joint.0).related
+Seen-p4 Dte t b t₂ b₂ m i n j x y u v h = h.0.related
+Seen-p4 Dce t b t₂ b₂ m i n j x y u v h = (TalksRelated-flip t₂ b₂ y v u t b x h.0).related
 
 pub open_stretch : (r : Role) (t b t₂ b₂ : Terms) (rs cs ss : ℕ) (x y : Channels) (h : ℕ) (m i n j : List CallRequest) (p q : Stretch) (K : List LayerPacket)
     → x h ≡ live cs (record { phase = Talking t b (d1 ss p); made = m; indicated = i }) → y h ≡ live cs (record { phase = Talking t₂ b₂ (d1 ss q); made = n; indicated = j })
@@ -63,5 +63,5 @@ joint_b t b other y ma ia mb ib v u p h = absurd h
 
 pub Seen-joint : (r : Role) (t b : Terms) (m i : List CallRequest) (x : At Stretch) (y : Connection) (u : List Packet) (p : Packet) (v : List Packet)
     → Seen r (record { phase = Talking t b x; made = m; indicated = i }) u (p ∷ v) y → BothTalk t b x u (p ∷ v) y.phase
-Seen-joint Dte t b m i x y u p v h = joint_a t b x y.phase m i y.made y.indicated u p v h.joint
-Seen-joint Dce t b m i x y u p v h = joint_b t b y.phase x y.made y.indicated m i v u p h.joint
+Seen-joint Dte t b m i x y u p v h = joint_a t b x y.phase m i y.made y.indicated u p v h
+Seen-joint Dce t b m i x y u p v h = joint_b t b y.phase x y.made y.indicated m i v u p h

@@ -9,7 +9,7 @@ use Rattle.x25_circuit.specs.Notice.{CallRequest}
 use Rattle.x25_handshakes.specs.laws.Handshake.{Side, Live, Left, At, state_of}
 use Rattle.x25_handshakes.specs.laws.Stretch.{Data, Stretch, StretchStep, Pull, stretch_does, pulls}
 use Rattle.x25_handshakes.specs.laws.Transfer.{Inside, d1, lifted}
-use Rattle.x25_handshakes.specs.laws.Calls.{Phase, Unused, Waiting, Offered, Crossed, Talking, Connection, Talks, in_transfer}
+use Rattle.x25_handshakes.specs.laws.Calls.{Phase, Waiting, Crossed, Talking, Connection, Talks, in_transfer}
 use Rattle.x25_handshakes.specs.laws.Channel.{Within, live, lifted_call, channel_acts}
 use Rattle.x25_handshakes.specs.laws.Layers.{LayerPacket, Channels, addressed, ready, Pair, turned, pair_run, pair_start}
 use Rattle.x25_handshakes.specs.laws.Names.{Name}
@@ -57,8 +57,8 @@ rest_b t b (Crossed q) y ma ia mb ib h = absurd h.1
 rest_b t b a y ma ia mb ib h = absurd h
 
 rest_seen : (r : Role) (t b : Terms) (m i : List CallRequest) (x : At Stretch) (y : Connection) → Seen r (record { phase = Talking t b x; made = m; indicated = i }) [] [] y → BothTalk t b x [] [] y.phase
-rest_seen Dte t b m i x y h = rest_a t b x y.phase m i y.made y.indicated h.joint
-rest_seen Dce t b m i x y h = rest_b t b y.phase x y.made y.indicated m i h.joint
+rest_seen Dte t b m i x y h = rest_a t b x y.phase m i y.made y.indicated h
+rest_seen Dce t b m i x y h = rest_b t b y.phase x y.made y.indicated m i h
 
 -- what a pull sends in a stretch, on its channel
 abbrev sent_by : ℕ → ℕ → Terms → Terms → List CallRequest → List CallRequest → ℕ → StretchStep → List LayerPacket

@@ -1,8 +1,9 @@
 -- Each event of a handshake keeps its relation.
 use Rattle.std.proofs.Common.{◌≡◌, inl, inr, ℕ, suc, List, [], ◌∷◌, ◌++◌, Bool, true, false, refl, sym, ap, subst, ◌∙◌}
 use Rattle.std.proofs.lemmas.Bool.{true≢false}
-use Rattle.x25_handshakes.specs.laws.Handshake.{Mark, Inner, Request, Confirm, Side, Live, Left, has_left, state_of}
-use Rattle.x25_handshakes.proofs.HandshakeRelation.{kept_before, before, kept_past, past, ends_at, Ends, behind_at, Behind, Extended, Level, Handshake, AllInner}
+use Rattle.std.proofs.lemmas.List.{append-nil}
+use Rattle.x25_handshakes.specs.laws.Handshake.{Mark, Inner, Request, Confirm, Side, Live, Left, At, has_left, state_of}
+use Rattle.x25_handshakes.proofs.HandshakeRelation.{Handshaken, kept_before, before, kept_past, past, ends_at, Ends, behind_at, Behind, Extended, Level, Handshake, AllInner}
 
 -- behind the last marker of a line whose sender is in its epoch
 inner_ends : {P : Type 0} (mark : P → Mark) (o : List P) → AllInner mark o → Ends mark false o
@@ -429,3 +430,12 @@ pub both_live : {S T P : Type 0} (l : Level S T P) (e : ℕ) (x : S) (y : T) (L 
 both_live l e x y L K (inl same) = same.inner
 both_live l e x y L K (inr (inl ahead)) = absurd (true≢false (sym ahead.waits))
 both_live l e x y L K (inr (inr later)) = absurd (true≢false (sym later.waits))
+
+-- ---- two ends, each in its epoch
+
+pub still : {S T P : Type 0} (l : Level S T P) (x : At S) (L K : List P) (y : At T) → Handshaken l x L K y → Handshaken l x (L ++ []) K y
+still l x L K y h = subst (λ (u : List _). Handshaken l x u K y) (sym (append-nil L)) h
+
+-- the same, seen from the second
+pub turned : {S T P : Type 0} (l : Level S T P) (x : At S) (L K : List P) (y : At T) → Handshaken l x L K y → Handshaken (flip l) y K L x
+turned l x L K y h = record { hand = hand_flip l x.epoch y.epoch x.side y.side L K h.hand }

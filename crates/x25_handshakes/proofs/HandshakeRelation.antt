@@ -1,7 +1,7 @@
 -- What a handshake keeps of two ends and the two lines between them, over any relation of the states within an epoch. The two ends may be of two
 -- kinds: ours, and any peer.
-use Rattle.std.proofs.Common.{◌≡◌, ◌⊎◌, ℕ, suc, List, [], ◌∷◌, Bool, true, false}
-use Rattle.x25_handshakes.specs.laws.Handshake.{Mark, Inner, Request, Confirm, Side, Live, Left, has_left}
+use Rattle.std.proofs.Common.{◌≡◌, ◌⊎◌, ℕ, suc, List, [], ◌∷◌, ◌++◌, Option, None, Bool, true, false}
+use Rattle.x25_handshakes.specs.laws.Handshake.{Mark, Inner, Request, Confirm, Side, Live, Left, At, has_left}
 
 abbrev pub kept_before : {P : Type 0} → Mark → P → List P → List P
 kept_before Inner p rest = p ∷ rest
@@ -83,6 +83,15 @@ pub record Later {S T P : Type 0} (l : Level S T P) (ex ey : ℕ) (x : Side S) (
 
 abbrev pub Handshake : {S T P : Type 0} → Level S T P → ℕ → ℕ → Side S → Side T → List P → List P → Type 0
 Handshake l ex ey x y L K = Same l ex ey x y L K ⊎ Ahead l ex ey x y L K ⊎ Later l ex ey x y L K
+
+-- of two ends, each in its epoch
+pub record Handshaken {S T P : Type 0} (l : Level S T P) (x : At S) (L K : List P) (y : At T) : Type 0 where
+  pub hand : Handshake l x.epoch y.epoch x.side y.side L K
+
+-- a step of the first that is no error, and keeps this
+pub record GoodStep {S T P : Type 0} (l : Level S T P) (error : Option ℕ) (next : At S) (out L K : List P) (y : At T) : Type 0 where
+  pub quiet : error ≡ None
+  pub kept : Handshaken l next (L ++ out) K y
 
 -- no packet of these is a marker
 abbrev pub AllInner : {P : Type 0} → (P → Mark) → List P → Type 0

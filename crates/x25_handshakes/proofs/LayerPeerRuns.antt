@@ -10,13 +10,13 @@ use Rattle.x25_circuit.specs.Notice.{CallRequest}
 use Rattle.x25_handshakes.specs.laws.Handshake.{Side, Live, Left, At}
 use Rattle.x25_handshakes.specs.laws.Stretch.{Packet, Stretch, Clear}
 use Rattle.x25_handshakes.specs.laws.Transfer.{fresh_transfer}
-use Rattle.x25_handshakes.specs.laws.Calls.{Phase, Unused, Waiting, Offered, Crossed, Talking, Connection}
+use Rattle.x25_handshakes.specs.laws.Calls.{Phase, Waiting, Offered, Crossed, Talking, Connection}
 use Rattle.x25_handshakes.specs.laws.Channel.{ChannelStep, channel_takes, channel_acts}
 use Rattle.x25_handshakes.specs.laws.Layers.{LayerPacket, On, Restart, RestartConf, Channels, put, addressed, all_fresh, LayerStep, ready, restarting, layer_side_takes, layer_takes, LayerAct, OnChannel, SendsRestart, layer_side_acts, layer_acts, Pair, Move, Acts, Takes, LinkDown, turned, pair_moves, Event, pair_happens, pair_run, pair_start}
 use Rattle.x25_handshakes.specs.laws.PeerCalls.{PeerCall}
 use Rattle.x25_handshakes.specs.laws.PeerChannel.{MayDoChannel, does_channel, channel_packet_of, PeerChannelStep, channel_taking}
 use Rattle.x25_handshakes.specs.laws.PeerLayer.{PeerChannels, put_peer, peer_ready, InChannel, Restarts, MayDoLayer, does_layer, layer_packet_of, PeerLayerStep, layer_taking}
-use Rattle.x25_handshakes.specs.laws.PeerLayers.{other_role, found, layer_found, JoinedLayers, IsReached}
+use Rattle.x25_handshakes.specs.laws.PeerLayers.{other_role, found, layer_found, IsReached}
 use Rattle.x25_handshakes.specs.laws.PeerLayers as joined
 use Rattle.x25_handshakes.specs.laws.LayerPeers.{as_side, as_at, as_peer_call, as_peer_channels, as_peer, IsPeerOf, LayersArePeers}
 use Rattle.x25_handshakes.proofs.TermsLemmas.{Laws}
@@ -66,8 +66,8 @@ dce_known other (Talking t b y) ma ia mb ib u v h = absurd h
 dce_known a b ma ia mb ib u v h = tt
 
 seen_known : (r : Role) (x : Connection) (u v : List Packet) (y : Connection) → Seen r x u v y → IsKnown x.phase
-seen_known Dte x u v y h = dte_known x.phase y.phase x.made x.indicated y.made y.indicated u v h.joint
-seen_known Dce x u v y h = dce_known y.phase x.phase y.made y.indicated x.made x.indicated v u h.joint
+seen_known Dte x u v y h = dte_known x.phase y.phase x.made x.indicated y.made y.indicated u v h
+seen_known Dce x u v y h = dce_known y.phase x.phase y.made y.indicated x.made x.indicated v u h
 
 channel_known : (r : Role) (e f : ℕ) (x y : Side Connection) (L K : List Packet) → Handshake (connection_level r) e f x y L K → IsKnownSide x
 channel_known r e f (Live x) y L K h = let some = inner_live (connection_level r) e f x y L K h in seen_known r x some.0 some.1 some.2 some.3
@@ -219,11 +219,11 @@ acts_kept laws r x y out back a rel h =
       first = did_reached (other_role r) y (as_peer x) (as_peer s.next) back out s.out (layer_did laws r x.epoch y.epoch x.side y.side out back rel.hand a quiet) h.first;
     }
 
-takes_kept : (r : Role) (x y : At Channels) (out : List LayerPacket) (p : LayerPacket) (K : List LayerPacket) → LayersRelated r x out (p ∷ K) y → Both r (Live x) (Live y) out (p ∷ K)
+takes_kept : Laws → (r : Role) (x y : At Channels) (out : List LayerPacket) (p : LayerPacket) (K : List LayerPacket) → LayersRelated r x out (p ∷ K) y → Both r (Live x) (Live y) out (p ∷ K)
     → Both r (Live (layer_takes r x p).next) (Live y) (out ++ (layer_takes r x p).out) K
-takes_kept r x y out p K rel h =
+takes_kept laws r x y out p K rel h =
     let s : LayerStep = layer_takes r x p in
-    let quiet : s.error ≡ None = (GoodLayer-takes r x out p K y rel).quiet in
+    let quiet : s.error ≡ None = (GoodLayer-takes laws r x out p K y rel).quiet in
     record {
       second = reached_at r s.next (as_peer y) (as_peer y) (out ++ s.out) (out ++ s.out) K K (layer_found p s.error) None refl refl refl (found_none p s.error quiet)
           (joined.goes_on _ _ h.second (joined.Takes p K refl));
@@ -243,7 +243,7 @@ moves_kept laws r (Live x) (Left y) out back error (Acts a) rel h = both_far_out
 moves_kept laws r (Live x) (Live y) out back error (Acts a) rel h = acts_kept laws r x y out back a rel h
 moves_kept laws r (Live x) far out [] error Takes rel h = h
 moves_kept laws r (Live x) (Left y) out (p ∷ K) error Takes rel h = both_far_out r (Live (layer_takes r x p).next) y (out ++ (layer_takes r x p).out) K
-moves_kept laws r (Live x) (Live y) out (p ∷ K) error Takes rel h = takes_kept r x y out p K rel h
+moves_kept laws r (Live x) (Live y) out (p ∷ K) error Takes rel h = takes_kept laws r x y out p K rel h
 
 record Kept (w : Pair) : Type 0 where
   stands : Stands Dte w

@@ -1,10 +1,11 @@
 -- What is kept of two layers, and of two ends of which each may be out.
-use Rattle.std.proofs.Common.{◌≡◌, ℕ, List, [], ◌∷◌, ◌++◌, None, Bool, true, false, ◌==◌}
+use Rattle.std.proofs.Common.{ℕ, List, [], ◌∷◌, Bool, true, false, ◌==◌}
 use Rattle.x25_handshakes.specs.laws.Handshake.{Mark, Inner, Request, Confirm, Side, At}
 use Rattle.x25_bits.specs.declared.role.Role.{Role}
 use Rattle.x25_handshakes.specs.laws.Stretch.{Packet}
+use Rattle.x25_handshakes.specs.laws.Calls.{Connection}
 use Rattle.x25_handshakes.specs.laws.Layers.{LayerPacket, On, Restart, RestartConf, Channels, all_fresh, LayerStep}
-use Rattle.x25_handshakes.proofs.HandshakeRelation.{Extended, Level, Handshake}
+use Rattle.x25_handshakes.proofs.HandshakeRelation.{Extended, Level, Handshaken, GoodStep}
 use Rattle.x25_handshakes.proofs.ChannelRelation.{ChannelRelated}
 
 abbrev pub kept_on : Bool → Packet → List Packet → List Packet
@@ -18,23 +19,26 @@ on h (On k p ∷ L) = kept_on (h == k) p (on h L)
 on h (Restart ∷ L) = on h L
 on h (RestartConf ∷ L) = on h L
 
-pub record ChannelsRelated (r : Role) (x : Channels) (L K : List LayerPacket) (y : Channels) : Type 0 where
-  pub each : (h : ℕ) → ChannelRelated r (x h) (on h L) (on h K) (y h)
+-- our own end and the other one, of whatever kind: R is kept on each channel
+pub record OnEach {Z : Type 0} (R : At Connection → List Packet → List Packet → Z → Type 0) (x : Channels) (L K : List LayerPacket) (y : ℕ → Z) : Type 0 where
+  pub each : (h : ℕ) → R (x h) (on h L) (on h K) (y h)
 
 abbrev pub restart_mark : LayerPacket → Mark
 restart_mark (On h p) = Inner
 restart_mark Restart = Request
 restart_mark RestartConf = Confirm
 
+abbrev pub own_channels_level : {Z : Type 0} → (At Connection → List Packet → List Packet → Z → Type 0) → (ℕ → Z) → Level Channels (ℕ → Z) LayerPacket
+own_channels_level R y₀ = record { mark = restart_mark; fresh = all_fresh; fresh_there = y₀; gone = λ x. Unit {0}; gone_there = λ y. Unit {0}; related = OnEach R }
+
 abbrev pub channels_level : Role → Level Channels Channels LayerPacket
-channels_level r = record { mark = restart_mark; fresh = all_fresh; fresh_there = all_fresh; gone = λ x. Unit {0}; gone_there = λ x. Unit {0}; related = ChannelsRelated r }
+channels_level r = own_channels_level (ChannelRelated r) all_fresh
 
-pub record LayersRelated (r : Role) (x : At Channels) (L K : List LayerPacket) (y : At Channels) : Type 0 where
-  pub hand : Handshake (channels_level r) x.epoch y.epoch x.side y.side L K
+abbrev pub LayersRelated : Role → At Channels → List LayerPacket → List LayerPacket → At Channels → Type 0
+LayersRelated r x L K y = Handshaken (channels_level r) x L K y
 
-pub record GoodLayer (r : Role) (s : LayerStep) (L K : List LayerPacket) (y : At Channels) : Type 0 where
-  pub quiet : s.error ≡ None
-  pub kept : LayersRelated r s.next (L ++ s.out) K y
+abbrev pub GoodLayer : Role → LayerStep → List LayerPacket → List LayerPacket → At Channels → Type 0
+GoodLayer r s L K y = GoodStep (channels_level r) s.error s.next s.out L K y
 
 -- what is kept of the two ends
 abbrev pub EndsRelated : Role → Side (At Channels) → List LayerPacket → List LayerPacket → Side (At Channels) → Type 0

@@ -14,8 +14,11 @@ pub mod StretchLemmas
 pub mod OwnTransferLemmas
 pub mod TransferLemmas
 pub mod OwnCallLemmas
+pub mod JointLemmas
 pub mod CallLemmas
+pub mod OwnChannelLemmas
 pub mod ChannelLemmas
+pub mod OwnLayerLemmas
 pub mod LayerLemmas
 pub mod ClaimLemmas
 pub mod NameLemmas

@@ -2,11 +2,11 @@
 use Rattle.std.proofs.Common.{◌≡◌, ℕ, ◌+◌, ◌%◌, ◌≤◌, List, [], ◌∷◌, ◌++◌, length, Option, Some, None, Bool, true, false, refl, sym, ap, subst, ◌∙◌, arith, append_assoc, length-append}
 use Rattle.std.proofs.lemmas.List.{length_push, append-nil}
 use Rattle.x25_circuit.specs.declared.message.Message.{Message}
-use Rattle.x25_circuit.specs.Message.{Piece, no_part, joining, completed, carried_from, carried, piece_ground, AreSound, cut}
+use Rattle.x25_circuit.specs.Message.{Piece, no_part, joining, completed, carried_from, carried, AreSound, cut}
 use Rattle.x25_window.specs.code.Modulo.{resolved}
 use Rattle.x25_handshakes.specs.laws.Stretch.{Packet, Data, Int, IntConf}
 use Rattle.x25_handshakes.proofs.StretchRelation.{Numbering, numbering, ack_in, int_in, conf_in, piece_of, pieces, number_at, Numbered, hears, heard, ints, confs, Flow, Acks, Ints, Text}
-use Rattle.x25_handshakes.proofs.TextLemmas.{joining-append, carried-append, AreSound-back, AreSound-append, AreSound-cut, joining-cut, carried-cut}
+use Rattle.x25_handshakes.proofs.TextLemmas.{joining-append, carried-append, AreSound-append, AreSound-cut, joining-cut, carried-cut}
 use Rattle.x25_handshakes.proofs.LineLemmas.{resolved_is, heard_least, heard_push, pieces_push, ints_push, confs_push, Numbered_push}
 
 -- the data packets on the way, in their numbers
@@ -120,13 +120,6 @@ Text-pull size sent p rest down h =
       whole = ap (joining no_part) (sym e) ∙ h.whole;
       messages = h.messages ∙ ap carried e;
     }
-
--- a packet on the way is refused on no ground
-pub Text-ground : (size : ℕ) (sent rest : List Piece) (down : List Message) (taken : List Piece) (p : Piece) (later : List Piece) → sent ≡ taken ++ (p ∷ later) → Text size sent rest down
-    → piece_ground size (joining no_part taken) p ≡ None
-Text-ground size sent rest down taken p later is h =
-    (AreSound-back size no_part taken ((p ∷ later) ++ rest)
-    (subst (λ (l : List Piece). AreSound size no_part l) (ap (λ l. l ++ rest) is ∙ append_assoc taken (p ∷ later) rest) h.fits)).0
 
 pub up-take : (up : List Message) (taken : List Piece) (p : Piece) → up ≡ carried taken → up ++ completed (joining no_part taken) p ≡ carried (taken ++ p ∷ [])
 up-take up taken p is =

@@ -5,7 +5,7 @@ use Rattle.std.proofs.lemmas.Bool.{le-leb, leb-true, ltb-true, cond_both}
 use Rattle.x25_circuit.specs.Message.{Piece, no_part, joining, piece_ground, cut, wholes, AreSound}
 use Rattle.x25_window.specs.code.Modulo.{resolved}
 use Rattle.x25_circuit.specs.Params.{Terms}
-use Rattle.x25_handshakes.specs.laws.Stretch.{Packet, Data, Rr, Rnr, Int, IntConf, Reset, ResetConf, Call, Accept, Clear, ClearConf, Stretch, StretchStep, stretch_does, stretch_fails, StretchAct, Send, Pull, Ready, NotReady, Interrupt, status, sends, pulls, interrupts, stretch_acts, ack_ground, data_ground, by_ground, takes_data, takes_status, stretch_takes}
+use Rattle.x25_handshakes.specs.laws.Stretch.{Packet, Data, Rr, Rnr, Int, IntConf, Stretch, StretchStep, stretch_does, stretch_fails, StretchAct, Send, Pull, Ready, NotReady, Interrupt, status, sends, pulls, interrupts, stretch_acts, ack_ground, data_ground, by_ground, takes_data, takes_status, stretch_takes}
 use Rattle.x25_handshakes.proofs.StretchRelation.{numbering, ack_in, int_in, conf_in, InFlowControl, pieces, heard, Text}
 use Rattle.x25_handshakes.proofs.LineLemmas.{AllOpen_push}
 use Rattle.x25_handshakes.proofs.TextLemmas.{AreSound-back}

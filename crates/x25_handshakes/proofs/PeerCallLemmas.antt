@@ -1,5 +1,5 @@
 -- What our circuit and a peer do between two clears keeps what is kept of them, and our circuit finds no procedure error.
-use Rattle.std.proofs.Common.{◌≡◌, inl, inr, ℕ, List, [], ◌∷◌, ◌++◌, None, true, refl, sym, subst}
+use Rattle.std.proofs.Common.{◌≡◌, inl, inr, ℕ, List, [], ◌∷◌, ◌++◌, true, refl, sym, subst}
 use Rattle.std.proofs.lemmas.List.{append-nil}
 use Rattle.x25_bits.specs.declared.role.Role.{Role}
 use Rattle.x25_bits.specs.declared.role.Role.TheVariants.{Dte, Dce}
@@ -9,12 +9,12 @@ use Rattle.x25_circuit.specs.Notice.{CallRequest}
 use Rattle.x25_handshakes.specs.laws.Handshake.{At}
 use Rattle.x25_handshakes.specs.laws.Stretch.{Packet, Call, Accept, Stretch}
 use Rattle.x25_handshakes.specs.laws.Transfer.{fresh_transfer, transfer_takes, transfer_acts}
-use Rattle.x25_handshakes.specs.laws.Calls.{Connection, CallStep, call_takes, CallAct, call_acts, fresh_call}
+use Rattle.x25_handshakes.specs.laws.Calls.{Connection, call_takes, CallAct, call_acts, fresh_call}
 use Rattle.x25_handshakes.specs.laws.PeerStretch.{PeerStretch}
 use Rattle.x25_handshakes.specs.laws.PeerTransfer.{fresh_peer_transfer, TransferDeed, MayDoTransfer, does_transfer, transfer_packet_of, transfer_taking}
 use Rattle.x25_handshakes.specs.laws.PeerCalls.{Stage, Free, Calling, Called, Collided, InData, PeerCall, fresh_peer_call, CallDeed, PlacesCall, AcceptsCall, InTransfer, MayDoCall, calling_in_data, does_call, call_packet_of, PeerCallStep, call_taking}
 use Rattle.x25_handshakes.proofs.TermsLemmas.{Laws, IsSound}
-use Rattle.x25_handshakes.proofs.CallsRelation.{Nil, OneCall, MaybeCall, IsProposal, IsAnswer, stage_of, JointOf}
+use Rattle.x25_handshakes.proofs.CallsRelation.{Nil, OneCall, MaybeCall, IsProposal, IsAnswer, stage_of, JointOf, GoodCall}
 use Rattle.x25_handshakes.specs.laws.PeerLayers.{other_role}
 use Rattle.x25_handshakes.proofs.OwnCallLemmas.{Agreed, agreed, said, proposes, push_first, nil_is, call_first, accept_first, accept_behind, Accepted-map, CallAccepted-map, DteTalks, dte_takes, dte_acts, DceTalks, dce_takes, dce_acts}
 use Rattle.x25_handshakes.proofs.PeerRelation.{Kept-start}
@@ -265,11 +265,7 @@ peer_dte_does laws (InData t b y) c ma ia mb ib u v d may h = absurd may
 
 -- ---- the two roles at once, seen from our end
 
-pub record GoodPeerCall (r : Role) (s : CallStep) (u v : List Packet) (y : PeerCall) : Type 0 where
-  pub quiet : s.error ≡ None
-  pub kept : PeerSeen r s.next (u ++ s.out) v y
-
-pub PeerSeen-takes : (r : Role) (x : Connection) (u : List Packet) (p : Packet) (v : List Packet) (y : PeerCall) → PeerSeen r x u (p ∷ v) y → GoodPeerCall r (call_takes r x p) u v y
+pub PeerSeen-takes : (r : Role) (x : Connection) (u : List Packet) (p : Packet) (v : List Packet) (y : PeerCall) → PeerSeen r x u (p ∷ v) y → GoodCall (PeerSeen r) (call_takes r x p) u v y
 PeerSeen-takes Dte x u p v y h =
     let good = dte_takes PeerTalks fresh_peer_transfer dte_talks x.phase y.stage x.made x.indicated y.made y.indicated u p v h in
     record { quiet = good.quiet; kept = good.kept }
@@ -277,7 +273,7 @@ PeerSeen-takes Dce x u p v y h =
     let good = dce_takes TalksPeer fresh_peer_transfer dce_talks y.stage x.phase y.made y.indicated x.made x.indicated v p u h in
     record { quiet = good.quiet; kept = good.kept }
 
-pub PeerSeen-acts : Laws → (r : Role) (x : Connection) (u v : List Packet) (y : PeerCall) (a : CallAct) → PeerSeen r x u v y → GoodPeerCall r (call_acts x a) u v y
+pub PeerSeen-acts : Laws → (r : Role) (x : Connection) (u v : List Packet) (y : PeerCall) (a : CallAct) → PeerSeen r x u v y → GoodCall (PeerSeen r) (call_acts x a) u v y
 PeerSeen-acts laws Dte x u v y a h =
     let good = dte_acts PeerTalks fresh_peer_transfer dte_talks laws x.phase y.stage x.made x.indicated y.made y.indicated u v a h in
     record { quiet = good.quiet; kept = good.kept }

@@ -4,117 +4,55 @@ use Rattle.std.proofs.lemmas.List.{append-nil}
 use Rattle.x25_handshakes.specs.laws.Handshake.{Side, Live, Left, At}
 use Rattle.x25_bits.specs.declared.role.Role.{Role}
 use Rattle.x25_bits.specs.declared.role.Role.TheVariants.{Dte, Dce}
-use Rattle.x25_handshakes.specs.laws.Stretch.{Packet, Data, Rr, Rnr, Int, IntConf, Reset, ResetConf, Call, Accept, Clear, ClearConf}
-use Rattle.x25_handshakes.specs.laws.Channel.{ChannelStep, channel_takes, ChannelAct, channel_acts}
-use Rattle.x25_handshakes.specs.laws.Layers.{LayerPacket, On, Restart, RestartConf, Channels, put, addressed, all_fresh, LayerStep, ready, restarting, layer_side_takes, layer_takes, LayerAct, OnChannel, SendsRestart, layer_side_acts, layer_acts}
-use Rattle.x25_handshakes.specs.laws.PeerCalls.{PeerCall}
+use Rattle.x25_handshakes.specs.laws.Stretch.{Packet}
+use Rattle.x25_handshakes.specs.laws.Layers.{LayerPacket, On, Restart, RestartConf, Channels, addressed, all_fresh, LayerStep, layer_takes, LayerAct, layer_acts}
+use Rattle.x25_handshakes.specs.laws.PeerCalls.{PeerCall, fresh_peer_call}
 use Rattle.x25_handshakes.specs.laws.PeerChannel.{does_channel, channel_packet_of, PeerChannelStep, channel_taking}
 use Rattle.x25_handshakes.specs.laws.PeerLayer.{PeerChannels, put_peer, peer_fresh, peer_ready, peer_restarting, LayerDeed, InChannel, Restarts, MayDoLayer, does_layer, layer_packet_of, ready_taking, layer_taking}
 use Rattle.x25_handshakes.specs.laws.PeerLayers.{other_role, found, layer_found, AreElsewhere}
 use Rattle.x25_handshakes.proofs.TermsLemmas.{Laws}
-use Rattle.x25_handshakes.proofs.HandshakeRelation.{Level, Handshake, AllInner}
-use Rattle.x25_handshakes.proofs.HandshakeLemmas.{request_live, confirm_never, leave, inner_act, inner_take, inner_take_behind, drops, marker_left, flip, hand_flip, inner_live, live_front}
-use Rattle.x25_handshakes.proofs.LayersRelation.{kept_on, on, restart_mark}
-use Rattle.x25_handshakes.proofs.LayerLemmas.{put_kept, on-append, inner_addressed, on-front, on-past}
-use Rattle.x25_handshakes.proofs.PeerChannelLemmas.{PeerChannelRelated, GoodPeerChannel, PeerChannelRelated-fresh, channel_takes_kept, channel_acts_kept, channel_taking_kept, channel_does_kept}
-
--- r is the role of our end
-pub record PeerChannelsRelated (r : Role) (x : Channels) (L K : List LayerPacket) (y : PeerChannels) : Type 0 where
-  pub each : (h : ℕ) → PeerChannelRelated r (x h) (on h L) (on h K) (y h)
+use Rattle.x25_handshakes.proofs.HandshakeRelation.{Level, Handshake, Handshaken, GoodStep, AllInner}
+use Rattle.x25_handshakes.proofs.HandshakeLemmas.{turned, request_live, confirm_never, leave, inner_act, inner_take_behind, drops, marker_left, flip}
+use Rattle.x25_handshakes.proofs.LayersRelation.{kept_on, on, OnEach, restart_mark, own_channels_level}
+use Rattle.x25_handshakes.proofs.OwnLayerLemmas.{put_kept, on-append, inner_addressed, on-front, on-past, OwnChannels, layer_takes_good, layer_acts_good}
+use Rattle.x25_handshakes.proofs.OwnChannelLemmas.{channel_takes_good, channel_acts_good}
+use Rattle.x25_handshakes.proofs.PeerCallsRelation.{PeerSeen}
+use Rattle.x25_handshakes.proofs.PeerChannelLemmas.{PeerChannelRelated, PeerChannelRelated-fresh, found_none, peer_calls, channel_taking_kept, channel_does_kept}
 
 abbrev pub peer_channels_level : Role → Level Channels PeerChannels LayerPacket
-peer_channels_level r = record { mark = restart_mark; fresh = all_fresh; fresh_there = peer_fresh; gone = λ x. Unit {0}; gone_there = λ y. Unit {0}; related = PeerChannelsRelated r }
+peer_channels_level r = own_channels_level (PeerChannelRelated r) peer_fresh
 
-pub record PeerLayersRelated (r : Role) (x : At Channels) (L K : List LayerPacket) (y : At PeerChannels) : Type 0 where
-  pub hand : Handshake (peer_channels_level r) x.epoch y.epoch x.side y.side L K
+-- r is the role of our end
+abbrev pub PeerLayersRelated : Role → At Channels → List LayerPacket → List LayerPacket → At PeerChannels → Type 0
+PeerLayersRelated r x L K y = Handshaken (peer_channels_level r) x L K y
 
-pub record GoodPeerLayer (r : Role) (e : Option ℕ) (s : LayerStep) (L K : List LayerPacket) (y : At PeerChannels) : Type 0 where
-  pub quiet : e ≡ None
-  pub kept : PeerLayersRelated r s.next (L ++ s.out) K y
+abbrev pub GoodPeerLayer : Role → Option ℕ → LayerStep → List LayerPacket → List LayerPacket → At PeerChannels → Type 0
+GoodPeerLayer r e s L K y = GoodStep (peer_channels_level r) e s.next s.out L K y
 
-pub PeerChannelsRelated-fresh : (r : Role) → PeerChannelsRelated r all_fresh [] [] peer_fresh
+pub PeerChannelsRelated-fresh : (r : Role) → OnEach (PeerChannelRelated r) all_fresh [] [] peer_fresh
 PeerChannelsRelated-fresh r = record { each = λ h. PeerChannelRelated-fresh r }
 
 -- ---- our end
 
-record GoodChannels (r : Role) (e : Option ℕ) (x : Channels) (h : ℕ) (s : ChannelStep) (L K : List LayerPacket) (y : PeerChannels) : Type 0 where
-  quiet : e ≡ None
-  kept : PeerChannelsRelated r (put x h s.next) (L ++ addressed h s.out) K y
+layer_found_none : (p : LayerPacket) → layer_found p None ≡ None
+layer_found_none (On h p) = found_none p
+layer_found_none p = refl
 
-channels_take : (r : Role) (x : Channels) (h : ℕ) (p : Packet) (L K : List LayerPacket) (y : PeerChannels) → PeerChannelsRelated r x L (On h p ∷ K) y
-    → GoodChannels r (found p (channel_takes r (x h) p).error) x h (channel_takes r (x h) p) L K y
-channels_take r x h p L K y all =
-    let s : ChannelStep = channel_takes r (x h) p in
-    let good : GoodPeerChannel r (found p s.error) s (on h L) (on h K) (y h) =
-    channel_takes_kept r (x h) (on h L) p (on h K) (y h) (subst (λ (l : List Packet). PeerChannelRelated r (x h) (on h L) l (y h)) (on-front h p K) (all.each h)) in
-    record { quiet = good.quiet; kept = record { each = put_kept (PeerChannelRelated r) x s.next s.out L K (On h p ∷ K) y h all.each (λ k not. on-past k h p K not) good.kept } }
-
-channels_act : Laws → (r : Role) (x : Channels) (h : ℕ) (a : ChannelAct) (L K : List LayerPacket) (y : PeerChannels) → PeerChannelsRelated r x L K y
-    → GoodChannels r (channel_acts (x h) a).error x h (channel_acts (x h) a) L K y
-channels_act laws r x h a L K y all =
-    let s : ChannelStep = channel_acts (x h) a in
-    let good : GoodPeerChannel r s.error s (on h L) (on h K) (y h) = channel_acts_kept laws r (x h) (on h L) (on h K) (y h) a (all.each h) in
-    record { quiet = good.quiet; kept = record { each = put_kept (PeerChannelRelated r) x s.next s.out L K K y h all.each (λ k not. refl) good.kept } }
-
-still : (r : Role) (x : At Channels) (L K : List LayerPacket) (y : At PeerChannels) → PeerLayersRelated r x L K y → PeerLayersRelated r x (L ++ []) K y
-still r x L K y h = subst (λ (u : List LayerPacket). PeerLayersRelated r x u K y) (sym (append-nil L)) h
-
-side_takes : (r : Role) (e : ℕ) (x : Side Channels) (L : List LayerPacket) (p : LayerPacket) (K : List LayerPacket) (y : At PeerChannels)
-    → PeerLayersRelated r (record { epoch = e; side = x }) L (p ∷ K) y → GoodPeerLayer r (layer_found p (layer_side_takes r e x p).error) (layer_side_takes r e x p) L K y
-side_takes r e (Live x) L (On h p) K y k =
-    let l = peer_channels_level r in
-    let s : ChannelStep = channel_takes r (x h) p in
-    let some = live_front l (On h p) refl e y.epoch x y.side L K k.hand in
-    record {
-      quiet = (channels_take r x h p some.0 some.1 some.2 some.3).quiet;
-      kept = record {
-        hand = inner_take l (On h p) (addressed h s.out) refl (inner_addressed h s.out) e y.epoch x (put x h s.next) y.side L K
-            (λ w v z c. (channels_take r x h p w v z c).kept) k.hand;
-      };
-    }
-side_takes r e (Live x) L Restart K y k =
-    record { quiet = refl; kept = record { hand = request_live (peer_channels_level r) (PeerChannelsRelated-fresh r) RestartConf Restart refl refl e y.epoch x y.side L K k.hand } }
-side_takes r e (Live x) L RestartConf K y k = absurd (confirm_never (peer_channels_level r) RestartConf refl e y.epoch x y.side L K k.hand)
-side_takes r e (Left x) L (On h p) K y k = record {
-  quiet = none p;
-  kept = still r (restarting e x) L K y (record { hand = drops (peer_channels_level r) (On h p) refl e y.epoch x y.side L K k.hand });
-}
-  where
-    none : (p : Packet) → found p None ≡ None
-    none p = elim p as (λ p. found p None ≡ None) [ Data s r q ↦ refl | Rr r ↦ refl | Rnr r ↦ refl | Int xs ↦ refl | IntConf ↦ refl | Reset ↦ refl | ResetConf ↦ refl | Call i ↦ refl | Accept field ↦ refl | Clear ↦ refl | ClearConf ↦ refl ]
-side_takes r e (Left x) L Restart K y k = record {
-  quiet = refl;
-  kept = still r (ready (suc e) all_fresh) L K y (record { hand = marker_left (peer_channels_level r) (PeerChannelsRelated-fresh r) Restart (λ q. cc) e y.epoch x y.side L K k.hand });
-}
-side_takes r e (Left x) L RestartConf K y k = record {
-  quiet = refl;
-  kept = still r (ready (suc e) all_fresh) L K y (record { hand = marker_left (peer_channels_level r) (PeerChannelsRelated-fresh r) RestartConf (λ q. cc) e y.epoch x y.side L K k.hand });
+peer_channels : Laws → (r : Role) → OwnChannels (PeerChannelRelated r) peer_fresh r layer_found
+peer_channels laws r = record {
+  empty = λ h. PeerChannelRelated-fresh r;
+  acts = λ x L K y a h. (let good = channel_acts_good (λ x. Unit {0}) (λ y. Unit {0}) (PeerSeen r) fresh_peer_call r found (peer_calls laws r) x L K y a h in (good.quiet, good.kept));
+  takes = λ k x L p K y h. (let good = channel_takes_good (λ x. Unit {0}) (λ y. Unit {0}) (PeerSeen r) fresh_peer_call r found (peer_calls laws r) x L p K y h in (good.quiet, good.kept));
+  none = layer_found_none;
 }
 
-pub layer_takes_kept : (r : Role) (x : At Channels) (L : List LayerPacket) (p : LayerPacket) (K : List LayerPacket) (y : At PeerChannels) → PeerLayersRelated r x L (p ∷ K) y
+pub layer_takes_kept : Laws → (r : Role) (x : At Channels) (L : List LayerPacket) (p : LayerPacket) (K : List LayerPacket) (y : At PeerChannels) → PeerLayersRelated r x L (p ∷ K) y
     → GoodPeerLayer r (layer_found p (layer_takes r x p).error) (layer_takes r x p) L K y
-layer_takes_kept r x L p K y h = side_takes r x.epoch x.side L p K y h
-
-side_acts : Laws → (r : Role) (e : ℕ) (x : Side Channels) (L K : List LayerPacket) (y : At PeerChannels) (a : LayerAct)
-    → PeerLayersRelated r (record { epoch = e; side = x }) L K y → GoodPeerLayer r (layer_side_acts e x a).error (layer_side_acts e x a) L K y
-side_acts laws r e (Live x) L K y (OnChannel h a) k =
-    let l = peer_channels_level r in
-    let s : ChannelStep = channel_acts (x h) a in
-    let some = inner_live l e y.epoch x y.side L K k.hand in
-    record {
-      quiet = (channels_act laws r x h a some.0 some.1 some.2 some.3).quiet;
-      kept = record {
-        hand = inner_act l (addressed h s.out) (inner_addressed h s.out) e y.epoch x (put x h s.next) y.side L K
-            (λ w v z c. (channels_act laws r x h a w v z c).kept) k.hand;
-      };
-    }
-side_acts laws r e (Live x) L K y SendsRestart k =
-    record { quiet = refl; kept = record { hand = leave (peer_channels_level r) Restart refl e y.epoch x y.side L K tt k.hand } }
-side_acts laws r e (Left x) L K y a k = record { quiet = refl; kept = still r (restarting e x) L K y k }
+layer_takes_kept laws r x L p K y h = layer_takes_good (PeerChannelRelated r) peer_fresh r layer_found (peer_channels laws r) x L p K y h
 
 pub layer_acts_kept : Laws → (r : Role) (x : At Channels) (L K : List LayerPacket) (y : At PeerChannels) (a : LayerAct) → PeerLayersRelated r x L K y
     → GoodPeerLayer r (layer_acts x a).error (layer_acts x a) L K y
-layer_acts_kept laws r x L K y a h = side_acts laws r x.epoch x.side L K y a h
+layer_acts_kept laws r x L K y a h = layer_acts_good (PeerChannelRelated r) peer_fresh r layer_found (peer_channels laws r) x L K y a h
 
 -- ---- the peer
 
@@ -133,21 +71,21 @@ elsewhere_none h (RestartConf ∷ j) all = absurd all.0
 module _ (r : Role) where
   -- seen from the peer
   seen : (x : At Channels) (L K : List LayerPacket) (y : At PeerChannels) → PeerLayersRelated r x L K y → Handshake (flip (peer_channels_level r)) y.epoch x.epoch y.side x.side K L
-  seen x L K y h = hand_flip (peer_channels_level r) x.epoch y.epoch x.side y.side L K h.hand
+  seen x L K y h = (turned (peer_channels_level r) x L K y h).hand
 
   unseen : (x : At Channels) (L K : List LayerPacket) (y : At PeerChannels) → Handshake (flip (peer_channels_level r)) y.epoch x.epoch y.side x.side K L → PeerLayersRelated r x L K y
-  unseen x L K y h = record { hand = hand_flip (flip (peer_channels_level r)) y.epoch x.epoch y.side x.side K L h }
+  unseen x L K y h = turned (flip (peer_channels_level r)) y K L x (record { hand = h })
 
   taken_still : (x : At Channels) (L K : List LayerPacket) (y : At PeerChannels) → PeerLayersRelated r x L K y → PeerLayersRelated r x L (K ++ []) y
   taken_still x L K y h = subst (λ (u : List LayerPacket). PeerLayersRelated r x L u y) (sym (append-nil K)) h
 
   -- the peer's step on channel h
-  peer_put : (x : Channels) (L M K : List LayerPacket) (y : PeerChannels) (h : ℕ) (z : At PeerCall) (o : List Packet) → PeerChannelsRelated r x M K y → ((k : ℕ) → (k == h) ≡ false → on k M ≡ on k L)
-      → PeerChannelRelated r (x h) (on h L) (on h K ++ o) z → PeerChannelsRelated r x L (K ++ addressed h o) (put_peer y h z)
+  peer_put : (x : Channels) (L M K : List LayerPacket) (y : PeerChannels) (h : ℕ) (z : At PeerCall) (o : List Packet) → OnEach (PeerChannelRelated r) x M K y → ((k : ℕ) → (k == h) ≡ false → on k M ≡ on k L)
+      → PeerChannelRelated r (x h) (on h L) (on h K ++ o) z → OnEach (PeerChannelRelated r) x L (K ++ addressed h o) (put_peer y h z)
   peer_put x L M K y h z o all others here = record { each = put_kept (λ z w v x. PeerChannelRelated r x v w z) y z o K L M x h all.each others here }
 
-  taken_at : (x : Channels) (j : List LayerPacket) (h : ℕ) (p : Packet) (L K : List LayerPacket) (y : PeerChannels) → AreElsewhere h j → PeerChannelsRelated r x (j ++ On h p ∷ L) K y
-      → PeerChannelsRelated r x (j ++ L) (K ++ addressed h (channel_taking (other_role r) (y h).epoch (y h).side p).out) (put_peer y h (channel_taking (other_role r) (y h).epoch (y h).side p).next)
+  taken_at : (x : Channels) (j : List LayerPacket) (h : ℕ) (p : Packet) (L K : List LayerPacket) (y : PeerChannels) → AreElsewhere h j → OnEach (PeerChannelRelated r) x (j ++ On h p ∷ L) K y
+      → OnEach (PeerChannelRelated r) x (j ++ L) (K ++ addressed h (channel_taking (other_role r) (y h).epoch (y h).side p).out) (put_peer y h (channel_taking (other_role r) (y h).epoch (y h).side p).next)
   taken_at x j h p L K y apart all =
       let s : PeerChannelStep = channel_taking (other_role r) (y h).epoch (y h).side p in
       let none : on h j ≡ [] = elsewhere_none h j apart in

@@ -26,7 +26,7 @@ happens_holds : Laws → (r : Role) (w v : JoinedLayers) → Happens r w v → H
 happens_holds laws r w v (Acts act) h = stepped_holds r w w.back (layer_acts w.near act) (layer_acts w.near act).error h.quiet (layer_acts_kept laws r w.near w.out w.back w.peer act h.kept)
 happens_holds laws r w v (Takes p rest is) h =
     stepped_holds r w rest (layer_takes r w.near p) (layer_found p (layer_takes r w.near p).error) h.quiet
-    (layer_takes_kept r w.near w.out p rest w.peer (subst (λ (l : List LayerPacket). PeerLayersRelated r w.near w.out l w.peer) is h.kept))
+    (layer_takes_kept laws r w.near w.out p rest w.peer (subst (λ (l : List LayerPacket). PeerLayersRelated r w.near w.out l w.peer) is h.kept))
 happens_holds laws r w v (Does deed may) h = record { quiet = h.quiet; kept = does_kept r laws w.near w.out w.back w.peer.epoch w.peer.side deed may h.kept }
 happens_holds laws r w v (Hears p rest is) h =
     record { quiet = h.quiet; kept = hears_kept r w.near p rest w.back w.peer.epoch w.peer.side (subst (λ (l : List LayerPacket). PeerLayersRelated r w.near l w.back w.peer) is h.kept) }

@@ -11,11 +11,10 @@ use Rattle.x25_circuit.specs.Notice.{CallRequest}
 use Rattle.x25_handshakes.specs.laws.Handshake.{Side, Live, Left, At, state_of}
 use Rattle.x25_handshakes.specs.laws.Stretch.{Packet, Stretch}
 use Rattle.x25_handshakes.specs.laws.Transfer.{fresh_transfer}
-use Rattle.x25_handshakes.specs.laws.Calls.{Phase, Unused, Waiting, Offered, Crossed, Talking, Connection}
-use Rattle.x25_handshakes.specs.laws.Histories.{IsPrefix}
+use Rattle.x25_handshakes.specs.laws.Calls.{Phase, Talking, Connection}
 use Rattle.x25_handshakes.specs.laws.PeerStretch.{PeerStretch}
 use Rattle.x25_handshakes.specs.laws.PeerTransfer.{fresh_peer_transfer}
-use Rattle.x25_handshakes.specs.laws.PeerCalls.{Stage, Free, Calling, Called, Collided, InData, PeerCall}
+use Rattle.x25_handshakes.specs.laws.PeerCalls.{Stage, InData, PeerCall}
 use Rattle.x25_handshakes.specs.laws.Arrivals.{open_in, open_phase, open_call}
 use Rattle.x25_handshakes.specs.laws.PeerClaims.{InEpochs, AreInOrder, StretchesAreInOrder, transfer_of, peer_transfer_of, CallIsInOrder, ChannelIsInOrder, is_open_stage, is_open_call, TookAll, TookCall, TookChannel}
 use Rattle.x25_handshakes.proofs.StretchRelation.{pieces, ints, confs, one_if}
@@ -24,11 +23,11 @@ use Rattle.x25_handshakes.proofs.LineLemmas.{heard_least}
 use Rattle.x25_handshakes.proofs.HandshakeRelation.{before, past, Extended, Level, Handshake}
 use Rattle.x25_handshakes.proofs.HandshakeLemmas.{both_fresh}
 use Rattle.x25_handshakes.proofs.CallsRelation.{stage_of, JointOf}
-use Rattle.x25_handshakes.proofs.OwnCallLemmas.{Accepted-some, CallAccepted-some}
 use Rattle.x25_handshakes.proofs.ArrivalLemmas.{nothing_waits}
 use Rattle.x25_handshakes.proofs.PeerRelation.{Kept, Kept-start}
 use Rattle.x25_handshakes.proofs.PeerTransferActs.{peer_level}
 use Rattle.x25_handshakes.proofs.PeerCallsRelation.{PeerTalks, TalksPeer, PeerSeen}
+use Rattle.x25_handshakes.proofs.JointLemmas.{in_stage, joint_order}
 use Rattle.x25_handshakes.proofs.PeerChannelLemmas.{peer_call_level, PeerChannelRelated}
 
 -- ---- a handshake
@@ -119,63 +118,21 @@ talks_order t b x u v t₂ b₂ y h = stretches_order t b.size x u v y h.related
 
 -- ---- calls
 
-none_begins : {M : Type 0} (xs ys : List M) → xs ≡ [] → IsPrefix xs ys
-none_begins xs ys e = (ys, ap (λ l. l ++ ys) e)
+ours : (p : Phase) → in_stage fresh_transfer (stage_of p) ≡ transfer_of p
+ours (Talking t b at) = refl
+ours other = refl
 
-all_begins : {M : Type 0} (xs ys : List M) → xs ≡ ys → IsPrefix xs ys
-all_begins xs ys e = ([], append-nil xs ∙ e)
-
--- our end is the DTE, with the calls ma and ia; and the DCE, with mb and ib
-
-dte_order : (a : Phase) (b : Stage (At PeerStretch)) (ma ia mb ib : List CallRequest) (u v : List Packet) → JointOf PeerTalks fresh_transfer fresh_peer_transfer (stage_of a) b ma ia mb ib u v
-    → IsPrefix ia mb × IsPrefix ib ma × StretchesAreInOrder (transfer_of a) (peer_transfer_of b)
-dte_order Unused Free ma ia mb ib u v h = (none_begins ia mb h.3, none_begins ib ma h.5, fresh_order)
-dte_order Unused (Calling q) ma ia mb ib u v h = (none_begins ia mb h.3, none_begins ib ma h.4, fresh_order)
-dte_order (Waiting p) Free ma ia mb ib u v h = (none_begins ia mb h.2, none_begins ib ma h.4, fresh_order)
-dte_order (Waiting p) (Calling q) ma ia mb ib u v h = (none_begins ia mb h.2, none_begins ib ma h.3, fresh_order)
-dte_order (Waiting p) (Called q) ma ia mb ib u v h = (none_begins ia mb h.2, all_begins ib ma h.3, fresh_order)
-dte_order (Waiting p) (InData t k y) ma ia mb ib u v h =
-    let some = CallAccepted-some p t k (λ w. PeerTalks k t fresh_transfer [] w t k y) mb v h.1 in
-    (none_begins ia mb h.2, all_begins ib ma h.3, talks_order k t fresh_transfer [] some.0 t k y some.1)
-dte_order (Crossed p) (Calling q) ma ia mb ib u v h = (none_begins ia mb h.2, none_begins ib ma h.3, fresh_order)
-dte_order (Crossed p) (Called q) ma ia mb ib u v h = (none_begins ia mb h.2, all_begins ib ma h.3, fresh_order)
-dte_order (Crossed p) (InData t k y) ma ia mb ib u v h =
-    let some = Accepted-some p t k (λ w. PeerTalks k t fresh_transfer [] w t k y) v h.1 in
-    (none_begins ia mb h.2, all_begins ib ma h.3, talks_order k t fresh_transfer [] some.0 t k y some.1)
-dte_order (Offered p) (Calling q) ma ia mb ib u v h = (all_begins ia mb h.2, none_begins ib ma h.3, fresh_order)
-dte_order (Talking t k x) (Calling q) ma ia mb ib u v h =
-    let some = Accepted-some q t k (λ w. PeerTalks t k x w [] k t fresh_peer_transfer) u h.0 in
-    (all_begins ia mb h.2, none_begins ib ma h.3, talks_order t k x some.0 [] k t fresh_peer_transfer some.1)
-dte_order (Talking t k x) (InData t₂ k₂ y) ma ia mb ib u v (talk, inl e) = (none_begins ia mb e.0, all_begins ib ma e.1, talks_order t k x u v t₂ k₂ y talk)
-dte_order (Talking t k x) (InData t₂ k₂ y) ma ia mb ib u v (talk, inr e) = (all_begins ia mb e.0, none_begins ib ma e.1, talks_order t k x u v t₂ k₂ y talk)
-dte_order a b ma ia mb ib u v h = absurd h
-
-dce_order : (a : Stage (At PeerStretch)) (b : Phase) (ma ia mb ib : List CallRequest) (u v : List Packet) → JointOf TalksPeer fresh_peer_transfer fresh_transfer a (stage_of b) ma ia mb ib u v
-    → IsPrefix ib ma × IsPrefix ia mb × StretchesAreInOrder (transfer_of b) (peer_transfer_of a)
-dce_order Free Unused ma ia mb ib u v h = (none_begins ib ma h.5, none_begins ia mb h.3, fresh_order)
-dce_order Free (Waiting q) ma ia mb ib u v h = (none_begins ib ma h.4, none_begins ia mb h.3, fresh_order)
-dce_order (Calling p) Unused ma ia mb ib u v h = (none_begins ib ma h.4, none_begins ia mb h.2, fresh_order)
-dce_order (Calling p) (Waiting q) ma ia mb ib u v h = (none_begins ib ma h.3, none_begins ia mb h.2, fresh_order)
-dce_order (Calling p) (Offered q) ma ia mb ib u v h = (all_begins ib ma h.3, none_begins ia mb h.2, fresh_order)
-dce_order (Calling p) (Talking t k x) ma ia mb ib u v h =
-    let some = CallAccepted-some p t k (λ w. TalksPeer k t fresh_peer_transfer [] w t k x) mb v h.1 in
-    (all_begins ib ma h.3, none_begins ia mb h.2, talks_order t k x some.0 [] k t fresh_peer_transfer some.1)
-dce_order (Collided p) (Waiting q) ma ia mb ib u v h = (none_begins ib ma h.3, none_begins ia mb h.2, fresh_order)
-dce_order (Collided p) (Offered q) ma ia mb ib u v h = (all_begins ib ma h.3, none_begins ia mb h.2, fresh_order)
-dce_order (Collided p) (Talking t k x) ma ia mb ib u v h =
-    let some = Accepted-some p t k (λ w. TalksPeer k t fresh_peer_transfer [] w t k x) v h.1 in
-    (all_begins ib ma h.3, none_begins ia mb h.2, talks_order t k x some.0 [] k t fresh_peer_transfer some.1)
-dce_order (Called p) (Waiting q) ma ia mb ib u v h = (none_begins ib ma h.3, all_begins ia mb h.2, fresh_order)
-dce_order (InData t k y) (Waiting q) ma ia mb ib u v h =
-    let some = Accepted-some q t k (λ w. TalksPeer t k y w [] k t fresh_transfer) u h.0 in
-    (none_begins ib ma h.3, all_begins ia mb h.2, talks_order k t fresh_transfer [] some.0 t k y some.1)
-dce_order (InData t k y) (Talking t₂ k₂ x) ma ia mb ib u v (talk, inl e) = (all_begins ib ma e.1, none_begins ia mb e.0, talks_order t₂ k₂ x v u t k y talk)
-dce_order (InData t k y) (Talking t₂ k₂ x) ma ia mb ib u v (talk, inr e) = (none_begins ib ma e.1, all_begins ia mb e.0, talks_order t₂ k₂ x v u t k y talk)
-dce_order a b ma ia mb ib u v h = absurd h
+theirs : (s : Stage (At PeerStretch)) → in_stage fresh_peer_transfer s ≡ peer_transfer_of s
+theirs (InData t b at) = refl
+theirs other = refl
 
 call_order : (r : Role) (x : Connection) (u v : List Packet) (y : PeerCall) → PeerSeen r x u v y → CallIsInOrder x y
-call_order Dte x u v y h = let o = dte_order x.phase y.stage x.made x.indicated y.made y.indicated u v h in record { up = o.0; there = o.1; stretches = o.2 }
-call_order Dce x u v y h = let o = dce_order y.stage x.phase y.made y.indicated x.made x.indicated v u h in record { up = o.0; there = o.1; stretches = o.2 }
+call_order Dte x u v y h =
+    let o = joint_order PeerTalks fresh_transfer fresh_peer_transfer StretchesAreInOrder fresh_order talks_order (stage_of x.phase) y.stage x.made x.indicated y.made y.indicated u v h in
+    record { up = o.0; there = o.1; stretches = subst (λ (a : At Stretch). StretchesAreInOrder a (peer_transfer_of y.stage)) (ours x.phase) (subst (StretchesAreInOrder (in_stage fresh_transfer (stage_of x.phase))) (theirs y.stage) o.2) }
+call_order Dce x u v y h =
+    let o = joint_order TalksPeer fresh_peer_transfer fresh_transfer (λ b a. StretchesAreInOrder a b) fresh_order (λ t b y u v t₂ b₂ x h. talks_order t₂ b₂ x v u t b y h) y.stage (stage_of x.phase) y.made y.indicated x.made x.indicated v u h in
+    record { up = o.1; there = o.0; stretches = subst (λ (a : At Stretch). StretchesAreInOrder a (peer_transfer_of y.stage)) (ours x.phase) (subst (StretchesAreInOrder (in_stage fresh_transfer (stage_of x.phase))) (theirs y.stage) o.2) }
 
 pub channel_order : (r : Role) (x : At Connection) (L K : List Packet) (y : At PeerCall) → PeerChannelRelated r x L K y → ChannelIsInOrder x y
 channel_order r x L K y h = in_epochs (peer_call_level r) CallIsInOrder (call_order r) x L K y h.hand

@@ -3,7 +3,7 @@ use Rattle.std.proofs.Common.{◌≡◌, ℕ, suc, ◌≤◌, List, [], ◌∷�
 use Rattle.std.proofs.lemmas.List.{append-nil}
 use Rattle.x25_handshakes.specs.laws.Handshake.{Inner, Side, Live, Left, At}
 use Rattle.x25_circuit.specs.Params.{Terms}
-use Rattle.x25_handshakes.specs.laws.Stretch.{Packet, Data, Rr, Rnr, Int, IntConf, Reset, ResetConf, Call, Accept, Clear, ClearConf, Stretch}
+use Rattle.x25_handshakes.specs.laws.Stretch.{Packet, Data, Rr, Rnr, Int, IntConf, Reset, ResetConf, Stretch}
 use Rattle.x25_handshakes.proofs.StretchRelation.{InFlowControl}
 use Rattle.x25_handshakes.proofs.TransferRelation.{reset_mark, AllInTransfer}
 use Rattle.x25_handshakes.specs.laws.PeerStretch.{PeerStretch, fresh_peer, Deed, Sends, Says, Interrupts, Confirms, does, packet_of, taking}

@@ -10,7 +10,7 @@ use Rattle.x25_circuit.specs.Params.{Proposal, Terms, may_propose, may_answer, f
 use Rattle.x25_circuit.specs.Notice.{CallRequest}
 use Rattle.x25_handshakes.proofs.TermsLemmas.{IsSound}
 use Rattle.x25_handshakes.specs.laws.Handshake.{Inner, Side, Live, Left, At, state_of}
-use Rattle.x25_handshakes.specs.laws.Stretch.{Packet, Data, Rr, Rnr, Int, IntConf, Reset, ResetConf, Call, Accept, Clear, ClearConf, Stretch, fresh, StretchStep, stretch_does, stretch_fails, StretchAct, Send, Pull, Ready, NotReady, Interrupt, pulls, stretch_acts, by_ground, data_ground, ack_ground, takes_data, takes_status, stretch_takes}
+use Rattle.x25_handshakes.specs.laws.Stretch.{Packet, Data, Rr, Rnr, IntConf, Reset, ResetConf, Call, Accept, Clear, ClearConf, Stretch, fresh, StretchStep, stretch_does, stretch_fails, StretchAct, Send, Pull, Interrupt, pulls, stretch_acts, by_ground, data_ground, ack_ground, takes_data, takes_status, stretch_takes}
 use Rattle.x25_handshakes.specs.laws.Transfer.{d1, rst, fresh_transfer, lifted, transfer_side_takes, transfer_takes, TransferAct, Inside, SendsReset, transfer_side_acts}
 use Rattle.x25_handshakes.specs.laws.Calls.{Phase, Unused, Waiting, Offered, Crossed, Talking, Connection, CallStep, goes, unexpected, calling_talk, called_talk, is_answered, accepts, phase_takes, call_takes, CallAct, PlacesCall, AcceptsCall, Talks, phase_acts}
 use Rattle.x25_handshakes.specs.laws.Histories.{Lists, none, resets_in, held_in, of_stretch, messages, interrupts, IsPrefix}

@@ -114,15 +114,6 @@ pub record Direction (t : Terms) (x : Stretch) (u v : List Packet) (y : Stretch)
   pub up : y.up ≡ carried y.taken
   pub kinds : AllInFlowControl u
 
-pub record DirectionsRelated (t b : Terms) (x : Stretch) (u v : List Packet) (y : Stretch) : Type 0 where
-  pub there : Direction t x u v y
-  pub back : Direction b y v u x
-
--- a step that is no error, and keeps both directions
-pub record GoodDirections (t b : Terms) (s : StretchStep) (u v : List Packet) (y : Stretch) : Type 0 where
-  pub quiet : s.error ≡ None
-  pub kept : DirectionsRelated t b s.next (u ++ s.out) v y
-
 -- whether the other end is ready, once this packet has come
 abbrev pub readied : Bool → Packet → Bool
 readied b (Rr r) = true

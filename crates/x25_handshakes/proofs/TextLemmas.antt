@@ -16,6 +16,10 @@ carried-append j (p ∷ a) b =
     ap (λ l. completed j p ++ l) (carried-append (joined j p) a b)
     ∙ sym (append_assoc (completed j p) (carried_from (joined j p) a) (carried_from (joining (joined j p) a) b))
 
+pub AreSound-front : (size : ℕ) (j : Partial) (a b : List Piece) → AreSound size j (a ++ b) → AreSound size j a
+AreSound-front size j [] b h = tt
+AreSound-front size j (p ∷ a) b h = (h.0, AreSound-front size (joined j p) a b h.1)
+
 pub AreSound-back : (size : ℕ) (j : Partial) (a b : List Piece) → AreSound size j (a ++ b) → AreSound size (joining j a) b
 AreSound-back size j [] b h = h
 AreSound-back size j (p ∷ a) b h = AreSound-back size (joined j p) a b h.1

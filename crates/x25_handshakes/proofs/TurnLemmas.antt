@@ -6,13 +6,13 @@ use Rattle.x25_handshakes.specs.laws.Handshake.{Inner, Side, Live, Left, At, sta
 use Rattle.x25_handshakes.specs.laws.Stretch.{Packet, Clear, ClearConf}
 use Rattle.x25_handshakes.specs.laws.Calls.{Phase, Unused, Connection, CallStep, call_takes, CallAct, call_acts, fresh_call}
 use Rattle.x25_handshakes.specs.laws.Channel.{live, lifted_call, channel_side_takes, channel_takes, ChannelAct, Within, SendsClear, clears, channel_side_acts, channel_acts}
-use Rattle.x25_handshakes.specs.laws.Layers.{LayerPacket, On, Restart, RestartConf, Channels, put, ready, layer_side_takes, LayerAct, OnChannel, SendsRestart, layer_side_acts}
+use Rattle.x25_handshakes.specs.laws.Layers.{LayerPacket, On, RestartConf, Channels, put, ready, layer_side_takes, LayerAct, OnChannel, SendsRestart, layer_side_acts}
 use Rattle.x25_handshakes.specs.laws.Names.{Name}
 use Rattle.x25_handshakes.specs.laws.Histories.{Lists, none, Kind, circuit_at, name_at, channel_view, IsPrefix}
 use Rattle.x25_handshakes.proofs.HandshakeLemmas.{meets}
 use Rattle.x25_handshakes.proofs.ChannelRelation.{clear_mark, Seen, connection_level, ChannelRelated}
 use Rattle.x25_handshakes.proofs.LayersRelation.{on, channels_level, LayersRelated, EndsRelated}
-use Rattle.x25_handshakes.proofs.LayerLemmas.{on-front}
+use Rattle.x25_handshakes.proofs.OwnLayerLemmas.{on-front}
 use Rattle.x25_handshakes.proofs.NameLemmas.{name_eq}
 use Rattle.x25_handshakes.proofs.HistoryLemmas.{Change, Stays, MoreResets, MoreClears, Turn, Remained, Restarted, MayHandUp, alike}
 

@@ -1,14 +1,15 @@
--- What a line of a user hands down is octets, and nothing is given beside a packet.
+-- What a line of a user hands down is octets.
 use Rattle.std.proofs.Common.{◌≡◌, ℕ, nat_le, Bool, true, false, cond, List, length, Option, Some, None, refl, arith, ◌<◌}
 use Rattle.x25_bits.specs.declared.role.Role.{Role}
 use Rattle.x25_bits.specs.declared.role.Role.TheVariants.{Dte, Dce}
-use Rattle.x25_station.specs.laws.TimerLaw.{Event, Asks, Gives, Fires}
-use Rattle.x25_script.specs.ScriptLine.{PlainCommand, call, accept, clear, send, interrupt, reset, ready, not_ready, restart, pull, connect, disconnect, probe, relink, PlainLine, command, t1, deliver, lose, damage, drain, heal, is_taken, taken}
+use Rattle.x25_station.specs.laws.ReadLaw.{RequestsOctets}
+use Rattle.x25_station.specs.laws.TimerLaw.{Event, Asks, Fires}
+use Rattle.x25_script.specs.ScriptLine.{PlainCommand, call, accept, clear, send, interrupt, reset, ready, not_ready, restart, pull, connect, disconnect, probe, relink, with_given, PlainLine, command, t1, deliver, lose, damage, drain, heal, is_taken, taken}
 use Rattle.std.specs.Option.{unwrap_or}
 use Rattle.x25_script.specs.Reading.{line_in}
-use Rattle.x25_script.specs.laws.ReadingLaw.{IsOctet, AsksInOctets, IsInOctets, ReadsOctets}
+use Rattle.x25_script.specs.laws.ReadingLaw.{IsOctet, PartInOctets, AsksInOctets, IsInOctets, ReadsOctets}
 use Rattle.x25_decode.specs.Decoding.{sent_in}
-use Rattle.x25_console.specs.Commands.{command_asked}
+use Rattle.x25_console.specs.Commands.{command_asked, part_asked}
 use Rattle.x25_io.specs.HeldLine.{most_line}
 use Rattle.x25_pipe.specs.Pipe.{is_same, script_event, read_event, event_in}
 use Rattle.x25_world.specs.laws.Claims.{CommandsOctets}
@@ -16,12 +17,31 @@ use Rattle.std.specs.Prelude.{option_and_then}
 
 abbrev pub AsksOctets : Option Event → Type 0
 AsksOctets (Some (Asks asked)) = CommandsOctets asked
-AsksOctets (Some (Gives given request)) = ⊥
 AsksOctets event = Unit {0}
 
 given : (o : Option ℕ) → IsOctet o → unwrap_or o 0 < 256
 given None h = omega arith
 given (Some n) h = h
+
+-- of what is asked of a call
+part_handed : (asked : PlainCommand) → PartInOctets asked → RequestsOctets (part_asked asked)
+part_handed (call called calling user None) h = h
+part_handed (call called calling user (Some four)) h = h
+part_handed (accept channel None) h = tt
+part_handed (accept channel (Some four)) h = tt
+part_handed (clear channel g) h = (given g.cause h.0, given g.diagnostic h.1)
+part_handed (with_given facilities user d asked) h = tt
+part_handed (send channel q user) h = tt
+part_handed (interrupt channel user) h = tt
+part_handed (reset channel g) h = tt
+part_handed (ready channel) h = tt
+part_handed (not_ready channel) h = tt
+part_handed (restart g) h = tt
+part_handed pull h = tt
+part_handed connect h = tt
+part_handed disconnect h = tt
+part_handed probe h = tt
+part_handed relink h = tt
 
 handed : (asked : PlainCommand) → AsksInOctets asked → CommandsOctets (command_asked asked)
 handed (call called calling user None) h = h
@@ -29,6 +49,7 @@ handed (call called calling user (Some four)) h = h
 handed (accept channel None) h = tt
 handed (accept channel (Some four)) h = tt
 handed (clear channel g) h = (given g.cause h.0, given g.diagnostic h.1)
+handed (with_given facilities user d asked) h = ((h.0, h.1), part_handed asked h.2)
 handed (send channel q user) h = h
 handed (interrupt channel user) h = h
 handed (reset channel g) h = (given g.cause h.0, given g.diagnostic h.1)

@@ -17,7 +17,7 @@ use Rattle.x25_station.specs.Entry.{StationEntry}
 use Rattle.x25_station.specs.Config.{Settings, settings_from}
 use Rattle.x25_station.specs.Station.{Station}
 use Rattle.x25_station.specs.Step.{Step, Outcome, Did, Refused, commands, fires, receives}
-use Rattle.x25_station.specs.laws.TimerLaw.{Event, Comes, Asks, Gives, Fires}
+use Rattle.x25_station.specs.laws.TimerLaw.{Event, Comes, Asks, Fires}
 use Rattle.x25_pipe.specs.Pipe.{pulled_behind, and_pulls, with_pulls, event_in, turn, piped}
 use Rattle.x25_world.specs.SetUp.{carries}
 use Rattle.x25_world.specs.declared.set_up.SetUpFrame.TheVariants.{Sabm, Ua}
@@ -233,7 +233,6 @@ module _ (cfg : Cfg) (end : Role) (w : World) (fits : Fits w) where
     asked line None none asks no_frame free octets = nothing_happens line none (line_none c w.near line asks)
     asked line (Some (Comes x)) none asks no_frame free octets = absurd no_frame
     asked line (Some (Asks command)) none asks no_frame free octets = commanded line command (commands c w.near command) none asks octets refl
-    asked line (Some (Gives given request)) none asks no_frame free octets = absurd octets
     asked line (Some Fires) none asks no_frame free octets = fired line (fires c w.near) none asks free refl
 
     -- ---- a frame comes

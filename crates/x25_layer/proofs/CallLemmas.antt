@@ -23,7 +23,7 @@ use Rattle.x25_layer.specs.Rounds.{LinkView, Answered, Went, Refuses, went, call
 use Rattle.x25_layer.specs.Rounds.{refusal_of as answered_refusal}
 use Rattle.x25_layer.specs.code.FitsLayer.{FitsCircuits, FitsLayer}
 use Rattle.x25_link.specs.declared.ordered_link.OrderedLink.{Ghosts}
-use Rattle.x25_layer.specs.code.OverLink.{LayerGives, LinkGives, LacksMemory, MayLack, Does, view_of}
+use Rattle.x25_layer.specs.code.OverLink.{LayerGives, LinkGives, UsesMemory, LacksMemory, MayLack, Does, view_of}
 use Rattle.x25_layer.specs.Asking.{with_circuit, AsksCircuit, error_without_memory, refusal_on}
 use Rattle.x25_layer.proofs.FitLemmas.{read_at}
 use Rattle.x25_layer.proofs.PullLemmas.{fits_put, fits_same}
@@ -211,6 +211,12 @@ pub same_err : {T : Type 0} (r : Result T LayerError) (e f : LayerError) → IsE
 same_err (Ok x) e f is same = absurd is
 same_err (Err g) e f is same = sym is ∙ err_is g f same
 
+-- a refused call uses none of what was set aside
+pub uses_none : {T : Type 0} (r : Result T LayerError) (m m₂ : ℕ) (e : LayerError) (a : Answered) → IsErrAnd r (λ x. x ≡ e) → UsesMemory m m₂ r a
+uses_none (Ok x) m m₂ e a is = absurd is
+uses_none (Err f) m m₂ e (Went s) is = tt
+uses_none (Err f) m m₂ e (Refuses d) is = tt
+
 -- ---- where memory may be missing
 
 pub may_lack : (b : Bool) (count : ℕ) (v : code.Layer) (n : ℕ) → LacksMemory count v n → MayLack b count v n
@@ -233,7 +239,7 @@ refuses_all T g v below e count copied said named is = record {
   longest = refl;
   missing = λ none. absurd (named (err_is e error.NoMemory none));
   most_memory = omega arith;
-  most_promised = omega arith;
-  room = λ h len has still. has;
-  room_stays = λ h len has. has;
+  used = λ c l x fits link. subst (λ (a : Answered). UsesMemory {T = T} v.memory v.memory (Err e) a) (sym (is c l x fits link)) tt;
+  memory_stays = omega arith;
+  room = λ h len has. has;
 }

@@ -1,5 +1,5 @@
 -- A layer's circuits, one by one.
-use Rattle.std.proofs.Common.{◌≡◌, ◌⊎◌, inl, inr, ℕ, zero, suc, ◌+◌, ◌-◌, ◌^◌, ◌<◌, ◌≤◌, List, [], ◌∷◌, ◌++◌, length, Option, Some, None, Bool, true, false, slice_get, set, take, if◌then◌else◌, refl, sym, ap, subst, ◌∙◌, arith, IfSome, IfNone, MatchOption, Bor, Result, Ok, Err, OnErr, drop, get_or, not, ◌&&◌, ◌||◌, ◌==◌, eq-eqb}
+use Rattle.std.proofs.Common.{◌≡◌, ◌⊎◌, inl, inr, ℕ, zero, suc, ◌+◌, ◌-◌, ◌^◌, ◌<◌, ◌≤◌, List, [], ◌∷◌, ◌++◌, length, Option, Some, None, Bool, true, false, slice_get, set, take, if◌then◌else◌, refl, sym, ap, subst, ◌∙◌, arith, IfSome, IfNone, MatchOption, option_to_list, Bor, Result, Ok, Err, OnErr, drop, get_or, not, ◌&&◌, ◌||◌, ◌==◌, eq-eqb}
 use Rattle.std.specs.Result.{is_err}
 use Rattle.std.proofs.lemmas.Option.{none-some, same_Some, slice_get_within, slice_get-get_or}
 use Rattle.std.proofs.lemmas.List.{append-nil, take_all}
@@ -11,7 +11,8 @@ use Rattle.x25_circuit.specs.Circuit.{Circuit, is_open, waits}
 use Rattle.x25_circuit.specs.code.FitsCircuit.{FitsCircuit, clears_of, resets_of}
 use Rattle.x25_layer.specs.code.Counts.{HasCountsLeft, HaveCountsLeft}
 use Rattle.x25_layer.specs.declared.layer.Layer as code
-use Rattle.x25_layer.specs.Layer.{LayerSettings, Layer, is_channel}
+use Rattle.x25_packet.specs.Packet.{PlainPacket}
+use Rattle.x25_layer.specs.Layer.{LayerSettings, Layer, is_channel, packet_on}
 use Rattle.x25_handshakes.specs.laws.Names.{Name}
 use Rattle.x25_layer.specs.laws.Transcript.{name_of}
 use Rattle.x25_layer.specs.code.FitsLayer.{FitsCircuits, FitsLayer, name_at, params_at, is_open_at, awaited_at, awaited_up_to, waits_up_to, is_most, full_up_to}
@@ -222,10 +223,10 @@ pub if_none : {X : Type 0} {P Q : Type 0} (o : Option X) → (P → Q) → IfNon
 if_none None by p = by p
 if_none (Some x) by p = tt
 
--- what stands where there is none, and there is one only where a number falls
-pub kept_unless : {X : Type 0} {P : Type 0} (o : Option X) (n m : ℕ) → IfNone o P → IfSome o (λ _. n + 1 ≡ m) → n ≡ m → P
-kept_unless None n m p falls still = p
-kept_unless (Some x) n m p falls still = absurd (omega (arith, falls, still))
+-- what stands where there is no packet, and for each a number falls
+pub kept_unless : {P : Type 0} (h : ℕ) (o : Option PlainPacket) (n m : ℕ) → IfNone o P → n + length (option_to_list (packet_on h o)) ≡ m → m ≤ n → P
+kept_unless h None n m p used still = p
+kept_unless h (Some packet) n m p used still = absurd (omega (arith, used, still))
 
 pub none_owed : (P : Type 0) (o : Option Owed) → IfNone o P → IfNone (plain_owed o) P
 none_owed P None p = p

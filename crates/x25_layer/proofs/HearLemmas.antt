@@ -1,5 +1,5 @@
 -- What octets are read as, and the channel that they name.
-use Rattle.std.proofs.Common.{◌≡◌, ℕ, suc, ◌-◌, ◌<◌, ◌≤◌, ◌∙◌, All, List, [], ◌∷◌, length, Option, Some, None, Bool, true, false, Result, Ok, Err, if◌then◌else◌, IfOk, slice_get, get_or, option_to_list, refl, sym, ap, subst, arith}
+use Rattle.std.proofs.Common.{◌≡◌, ℕ, suc, ◌+◌, ◌-◌, ◌<◌, ◌≤◌, ◌∙◌, All, List, [], ◌∷◌, length, Option, Some, None, Bool, true, false, Result, Ok, Err, if◌then◌else◌, IfOk, slice_get, get_or, option_to_list, refl, sym, ap, subst, arith}
 use Rattle.std.proofs.lemmas.Option.{same_Some}
 use Rattle.x25_packet.specs.declared.packet.Packet.{Packet}
 use Rattle.x25_packet.specs.declared.error.PacketError.{PacketError}
@@ -108,6 +108,7 @@ heard_same g old below new below₂ told f h same by = record {
   nothing = by.nothing;
   takes = by.takes;
   memory = by.memory;
+  used = λ c l fits. ap (λ (a : LayerAnswer). new.memory + length (option_to_list a.owed)) (sym (same c l)) ∙ by.used c l fits;
   room = by.room;
 }
 

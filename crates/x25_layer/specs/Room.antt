@@ -37,13 +37,8 @@ abbrev pub HaveAtMost : ℕ → List circuit_code.Circuit → Type 0
 HaveAtMost bound vs = (k : ℕ) (v : circuit_code.Circuit) → slice_get vs k ≡ Some v → room_of v ≤ bound
 
 -- Memory is set aside for a packet on a channel with at most so many octets of user data, or for LinkDown and LinkUp:
--- for 16 packets that are put, in the layer and in its link (n), which are the owed one and 15 data packets, and in the
--- circuit of the channel for the user data.
-pub record HasRoom (h len : ℕ) (v : code.Layer) (n : ℕ) : Type 0 where
+-- for 16 packets that are put, which are the owed one and 15 data packets, and in the circuit of the channel for the
+-- user data.
+pub record HasRoom (h len : ℕ) (v : code.Layer) : Type 0 where
   pub memory : 16 ≤ v.memory
-  pub promised : 16 ≤ n
   pub circuits : HasRoomOn h len v.circuits.items
-
--- A promise of this kind stands across a call that takes nothing of what is set aside in the link: it puts nothing.
-abbrev pub KeepsRoom : code.Layer → ℕ → code.Layer → ℕ → Type 0
-KeepsRoom v n v₂ n₂ = (h len : ℕ) → HasRoom h len v n → n₂ ≡ n → HasRoom h len v₂ n₂

@@ -223,7 +223,7 @@ impl Layer {
     /// until `up` sets them to 0. Memory that was set aside is kept.
     pub fn down(&mut self)
         ensures layer { (c : LayerSettings) (l : State) → FitsLayer c self.old l → FitsLayer c self.new (rested l) }
-        ensures room { (h len promised : ℕ) → HasRoom h len self.old promised → HasRoom h len self.new promised }
+        ensures room { (h len : ℕ) → HasRoom h len self.old → HasRoom h len self.new }
         ensures memory { self.new.memory ≡ self.old.memory }
     {
         self.restarting = false;

@@ -1,5 +1,5 @@
 //! Packets that a layer puts into its link.
-ghost use Rattle.std.specs.Prelude.{◌≡◌, ℕ, ◌+◌, ◌-◌, ◌<◌, ◌≤◌, [], length, max, vec_capacity, true, IfErr, OnOk};
+ghost use Rattle.std.specs.Prelude.{◌≡◌, ℕ, ◌+◌, ◌<◌, ◌≤◌, [], length, max, vec_capacity, true, IfErr, OnOk};
 ghost use Rattle.std.specs.Prelude.{OnErr};
 ghost use Rattle.x25_layer.specs.Layer.{LayerSettings};
 ghost use Rattle.x25_layer.specs.Layer.{Layer as State};
@@ -21,37 +21,28 @@ pub(crate) const MOST_PUT: usize = 16;
 pub(crate) type PacketMemory = Promise<N1, MOST_PUT>;
 
 impl Layer {
-    /// Sets memory aside, here and in the link, for so many packets.
+    /// Sets memory aside for so many packets that are put into a link with a place for each.
     ///
-    /// 70 alone, and only where memory is set aside for fewer.
+    /// 70 alone, and only where memory is set aside for fewer, or the link has places for fewer.
     #[inline(always)]
     pub(crate) fn reserve_packets<L: OrderedLink>(
         &mut self,
-        link: &mut L,
+        link: &L,
         count: usize,
     ) -> Result<(), LayerError>
         ensures layer { self.new ≡ record self.old { memory = self.new.memory } }
         ensures fits { (c : LayerSettings) (l : State) → FitsLayer c self.old l → FitsLayer c self.new l }
         ensures memory { OnOk result (count ≤ self.new.memory) }
-        ensures promised { OnOk result (count ≤ L.promised link.new) }
+        ensures promised { OnOk result (count ≤ L.promised link.now) }
         ensures no_fewer { self.old.memory ≤ self.new.memory }
-        ensures no_fewer_promised { L.promised link.old ≤ L.promised link.new }
         ensures most_memory { self.new.memory ≤ max self.old.memory count }
-        ensures most_promised { L.promised link.new ≤ max (L.promised link.old) count }
-        ensures link { (x : L.State) → L.fits link.old x → L.fits link.new x }
-        ensures longest { L.longest link.new ≡ L.longest link.old }
-        ensures waits { L.waits link.new ≡ L.waits link.old }
-        ensures up { L.up link.new ≡ L.up link.old }
-        ensures missing { OnErr result (LacksMemory count self.old (L.promised link.old)) }
+        ensures missing { OnErr result (LacksMemory count self.old (L.promised link.now)) }
         ensures err { IfErr result (λ e. e ≡ LayerError.NoMemory) }
     {
-        if self.memory.promised() >= count && link.promised() >= count {
-            return Ok(());
-        }
-        if self.memory.reserve(count).is_err() {
+        if link.promised() < count {
             return Err(LayerError::NoMemory);
         }
-        if link.reserve(count).is_err() {
+        if self.memory.reserve(count).is_err() {
             return Err(LayerError::NoMemory);
         }
         Ok(())
@@ -73,7 +64,7 @@ impl Layer {
         ensures memory { self.new.memory + 1 ≡ self.old.memory }
         ensures link { (x : L.State) → L.fits link.old x
             → L.fits link.new (L.after_put x (spelling_of (plain packet.now))) }
-        ensures promised { L.promised link.new ≡ L.promised link.old - 1 }
+        ensures promised { L.promised link.old ≤ L.promised link.new + 1 }
         ensures longest { L.longest link.new ≡ L.longest link.old }
         ensures up { L.up link.new ≡ L.up link.old }
         ensures waits { L.waits link.new ≤ L.waits link.old + 1 }
@@ -101,7 +92,7 @@ pub(crate) fn put<L: OrderedLink>(
     ensures memory { memory.new + 1 ≡ memory.old }
     ensures link { (x : L.State) → L.fits link.old x
         → L.fits link.new (L.after_put x (spelling_of (plain packet.now))) }
-    ensures promised { L.promised link.new ≡ L.promised link.old - 1 }
+    ensures promised { L.promised link.old ≤ L.promised link.new + 1 }
     ensures longest { L.longest link.new ≡ L.longest link.old }
     ensures up { L.up link.new ≡ L.up link.old }
     ensures waits { L.waits link.new ≤ L.waits link.old + 1 }
@@ -120,7 +111,7 @@ fn hand_down<L: OrderedLink>(link: &mut L, packet: Vec<u8>)
     requires free { L.waits link.old < 256 }
     requires longest { 4099 ≤ L.longest link.old }
     ensures link { (x : L.State) → L.fits link.old x → L.fits link.new (L.after_put x packet.items) }
-    ensures promised { L.promised link.new ≡ L.promised link.old - 1 }
+    ensures promised { L.promised link.old ≤ L.promised link.new + 1 }
     ensures longest { L.longest link.new ≡ L.longest link.old }
     ensures up { L.up link.new ≡ L.up link.old }
     ensures waits { L.waits link.new ≤ L.waits link.old + 1 }

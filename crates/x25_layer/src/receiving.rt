@@ -14,7 +14,7 @@ ghost use Rattle.x25_layer.specs.code.OverLink.{view_of, after_all, TakesPacket,
 ghost use Rattle.x25_layer.specs.Rounds.{LinkView, answer_to, hears};
 ghost use Rattle.x25_layer.specs.Asking.{with_circuit};
 ghost use Rattle.x25_layer.specs.Room.{HasCountsLeft, HaveCountsLeft, IsNotFull, HasRoomOn, HaveRoomStill};
-ghost use Rattle.x25_layer.specs.Room.{HasRoom, KeepsRoom, named_by};
+ghost use Rattle.x25_layer.specs.Room.{HasRoom, named_by};
 ghost use Rattle.x25_layer.specs.Report.{plain_report};
 ghost use Rattle.x25_layer.specs.Receiving.{plain_read, IsOfChannel, brings, circuit_hears, hears_on};
 
@@ -191,8 +191,8 @@ impl Layer {
     /// configured channel, and, but for RESTART and its confirmation, while this end's restart isn't confirmed.
     ///
     /// 70 alone, and not where `reserve` set memory aside on the channel that they name for the octets behind the first
-    /// three. The layer and the link are as before then. Of what `reserve` set aside a call takes as much here as in
-    /// the link: for each packet that it puts. Where it puts none, the promise stands.
+    /// three, and the link has 16 places. The layer and the link are as before then. Of what `reserve` set aside a call
+    /// takes memory for each packet that it puts. Where it puts none, the promise stands.
     pub fn packet<'a, L: OrderedLink>(
         &mut self,
         link: &mut L,
@@ -215,17 +215,18 @@ impl Layer {
         ensures longest { L.longest link.new ≡ L.longest link.old }
         ensures err { IfErr result (λ e. e ≡ LayerError.NoMemory) }
         ensures enough { (len : ℕ) → length octets.now ≤ len + 3
-            → HasRoom (named_by octets.now) len self.old (L.promised link.old) → IsOk result }
+            → HasRoom (named_by octets.now) len self.old → 16 ≤ L.promised link.old → IsOk result }
         ensures most_memory { self.new.memory ≤ max self.old.memory 16 }
-        ensures most_promised { L.promised link.new ≤ max (L.promised link.old) 16 }
         ensures layer_stays { (c : LayerSettings) (l : State) → FitsLayer c self.old l
             → OnErr result (FitsLayer c self.new l) }
         ensures link_stays { (x : L.State) → L.fits link.old x → OnErr result (L.fits link.new x) }
-        ensures used { 16 ≤ self.old.memory → 16 ≤ L.promised link.old
-            → OnOk result (self.old.memory + L.promised link.new ≡ self.new.memory + L.promised link.old) }
-        ensures room { OnOk result (KeepsRoom self.old (L.promised link.old) self.new (L.promised link.new)) }
-        ensures room_stays { (h len : ℕ) → HasRoom h len self.old (L.promised link.old)
-            → OnErr result (HasRoom h len self.new (L.promised link.new)) }
+        ensures used { (c : LayerSettings) (l : State) (x : L.State) → FitsLayer c self.old l → L.fits link.old x
+            → 16 ≤ self.old.memory → OnOk result (self.new.memory
+            + length (hears (view_of L.up_in L.waits_in L.after_put x) c wide l octets.now).step.put
+            ≡ self.old.memory) }
+        ensures room { (h len : ℕ) → HasRoom h len self.old → self.old.memory ≤ self.new.memory
+            → HasRoom h len self.new }
+        ensures memory_stays { OnErr result (self.old.memory ≤ self.new.memory) }
     {
         self.reserve_packets(link, MOST_PUT)?;
         let told = self.hear(link, wide, octets)?;

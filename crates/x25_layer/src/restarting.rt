@@ -54,7 +54,8 @@ impl Layer {
     /// Begins afresh with a RESTART, at LinkUp. The link is up, fewer than 256 packets wait in it, and it takes packets
     /// of 4,099 octets.
     ///
-    /// 70 alone, and not where `reserve` set memory aside. The layer and the link are as before then.
+    /// 70 alone, and not where `reserve` set memory aside and the link has a place. The layer and the link are as
+    /// before then.
     pub fn up<L: OrderedLink>(&mut self, link: &mut L) -> Result<(), LayerError>
         requires up { L.up link.old ≡ true }
         requires free { L.waits link.old < 256 }
@@ -68,8 +69,7 @@ impl Layer {
         ensures longest { L.longest link.new ≡ L.longest link.old }
         ensures missing { OnErr result (LacksMemory 1 self.old (L.promised link.old)) }
         ensures most_memory { self.new.memory ≤ max self.old.memory 16 }
-        ensures most_promised { L.promised link.new ≤ max (L.promised link.old) 16 }
-        ensures enough { (h len : ℕ) → HasRoom h len self.old (L.promised link.old) → IsOk result }
+        ensures enough { (h len : ℕ) → HasRoom h len self.old → 16 ≤ L.promised link.old → IsOk result }
         ensures layer_stays { (c : LayerSettings) (l : State) → FitsLayer c self.old l
             → OnErr result (FitsLayer c self.new l) }
         ensures link_stays { (x : L.State) → L.fits link.old x → OnErr result (L.fits link.new x) }
@@ -93,7 +93,7 @@ impl Layer {
     ///
     /// 9 NotUp, then 40 Restarting, then 10 QueueFull where 256 packets wait, then 34 BadParameter where the cause is
     /// none that the user of this end may give, and else 70 alone, and that only where memory for no packet is set
-    /// aside. The layer and the link are as before then.
+    /// aside, or the link has no place. The layer and the link are as before then.
     pub fn restart<L: OrderedLink>(
         &mut self,
         link: &mut L,
@@ -125,7 +125,7 @@ impl Layer {
         ensures link { (x : L.State) → L.fits link.old x
             → L.fits link.new (L.after_put x (spelling_of (restart cause diagnostic))) }
         ensures memory { self.new.memory + 1 ≡ self.old.memory }
-        ensures promised { L.promised link.new ≡ L.promised link.old - 1 }
+        ensures promised { L.promised link.old ≤ L.promised link.new + 1 }
         ensures longest { L.longest link.new ≡ L.longest link.old }
         ensures up { L.up link.new ≡ L.up link.old }
         ensures room { HaveRoomStill self.old.circuits.items self.new.circuits.items }

@@ -15,7 +15,6 @@ use crate::layer::Layer;
 use crate::places::Places;
 use crate::putting::MOST_PUT;
 use x25_circuit::Circuit;
-use x25_link::OrderedLink;
 
 /// Whether a count of the circuit is at its most.
 pub(crate) fn is_full(circuit: &Circuit) -> bool
@@ -81,36 +80,28 @@ impl Layer {
         self.restarts == u64::MAX || any_full(&self.circuits)
     }
 
-    /// Sets memory aside, here and in the link, for one `packet` on a channel with at most `len` octets of user data,
-    /// which are those behind its header of three, or for `up`, or for `down` and then `up`, which are then not refused
-    /// with 70. It changes nothing else. However much is asked, and however often, memory is set aside for 16 packets
-    /// that are put, and in the circuit of the channel, where it is configured, for 4,096 octets, or for what was
-    /// before.
+    /// Sets memory aside for one `packet` on a channel with at most `len` octets of user data, which are those behind
+    /// its header of three, or for `up`, or for `down` and then `up`, which are then not refused with 70 where the link
+    /// has 16 places. It changes nothing else. However much is asked, and however often, memory is set aside for 16
+    /// packets that are put, and in the circuit of the channel, where it is configured, for 4,096 octets, or for what
+    /// was before.
     ///
     /// 70 alone, and only where less was set aside.
-    pub fn reserve<L: OrderedLink>(
-        &mut self,
-        link: &mut L,
-        channel: u16,
-        len: usize,
-    ) -> Result<(), LayerError>
+    pub fn reserve(&mut self, channel: u16, len: usize) -> Result<(), LayerError>
         ensures layer { FitsStill self.old self.new }
-        ensures link { (x : L.State) → L.fits link.old x → L.fits link.new x }
-        ensures room { OnOk result (HasRoom channel len self.new (L.promised link.new)) }
+        ensures room { OnOk result (HasRoom channel len self.new) }
         ensures left { IsNotFull self.old → IsNotFull self.new }
-        ensures longest { L.longest link.new ≡ L.longest link.old }
-        ensures waits { L.waits link.new ≡ L.waits link.old }
-        ensures up { L.up link.new ≡ L.up link.old }
-        ensures enough { HasRoom channel len self.old (L.promised link.old) → IsOk result }
+        ensures enough { HasRoom channel len self.old → IsOk result }
         ensures most_memory { self.new.memory ≤ max self.old.memory 16 }
-        ensures most_promised { L.promised link.new ≤ max (L.promised link.old) 16 }
         ensures most_circuits { (bound : ℕ) → 4096 ≤ bound → HaveAtMost bound self.old.circuits.items
             → HaveAtMost bound self.new.circuits.items }
         ensures others { KeepOthers channel self.old.circuits.items self.new.circuits.items }
         ensures err { IfErr result (λ e. e ≡ LayerError.NoMemory) }
     {
         self.counts_left = !self.full();
-        reserve_on(&mut self.circuits, channel, len)?;
-        self.reserve_packets(link, MOST_PUT)
+        if self.memory.reserve(MOST_PUT).is_err() {
+            return Err(LayerError::NoMemory);
+        }
+        reserve_on(&mut self.circuits, channel, len)
     }
 }

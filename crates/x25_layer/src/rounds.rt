@@ -1,9 +1,9 @@
 //! Rounds of pulls of data packets (profile): channels in rising order, one packet each, until a round gives none.
-ghost use Rattle.std.specs.Prelude.{◌≡◌, ◌<◌, ◌≤◌, length, true, nat_lt};
+ghost use Rattle.std.specs.Prelude.{◌≡◌, ◌+◌, ◌<◌, ◌≤◌, length, true, nat_lt};
 ghost use Rattle.x25_packet.specs.Spelling.{IsChannel};
 ghost use Rattle.x25_layer.specs.Layer.{LayerSettings};
 ghost use Rattle.x25_layer.specs.code.FitsLayer.{FitsLayer};
-ghost use Rattle.x25_layer.specs.code.OverLink.{view_of, after_all, TakesAlike, Answers};
+ghost use Rattle.x25_layer.specs.code.OverLink.{view_of, after_all, Takes, Answers};
 ghost use Rattle.x25_layer.specs.Calls.{PullsAll};
 ghost use Rattle.x25_layer.specs.Rounds.{Putting, rounds};
 ghost use Rattle.x25_layer.specs.code.Pulling.{IsEnough, PullsOne, GoesRound};
@@ -21,7 +21,7 @@ use x25_link::OrderedLink;
 /// A data packet is pulled where fewer packets than these wait in the link.
 const FEW: usize = 8;
 
-// Whether fewer than 8 packets wait in the link. Memory that was set aside for 15 packets lasts as long as that.
+// Whether fewer than 8 packets wait in the link. Memory and places for 15 packets last as long as that.
 #[inline(always)]
 fn may_pull<L: OrderedLink>(link: &L, memory: &PacketMemory) -> bool
     ensures few { result ≡ true → L.waits link.now < 8 }
@@ -131,8 +131,8 @@ impl Layer {
     /// nothing else (profile). Each accepted call does so behind its own packet; what the link does by itself doesn't,
     /// so that without a call a message may wait though nothing is on its way.
     ///
-    /// 9 NotUp, 40 Restarting, and else 70 alone, and that only where the layer or its link has set memory aside for
-    /// fewer than 16 packets. The layer and the link are as before then.
+    /// 9 NotUp, 40 Restarting, and else 70 alone, and that only where the layer has set memory aside, or its link has
+    /// places, for fewer than 16 packets. The layer and the link are as before then.
     pub fn pull<L: OrderedLink>(&mut self, link: &mut L) -> Result<(), LayerError>
         requires { 4099 ≤ L.longest link.old }
         ensures { Answers L.OrderedLink self.old link.old self.new link.new result 16 PullsAll }
@@ -162,7 +162,11 @@ impl Layer {
             → L.fits link.old (after_all L.after_put x s.put)
             → L.fits link.new (after_all L.after_put x (rounds (view_of L.up_in L.waits_in L.after_put x) c s).put) }
         ensures room { HaveRoomStill self.old.circuits.items self.new.circuits.items }
-        ensures takes { TakesAlike L.OrderedLink self.old.memory link.old self.new.memory link.new }
+        ensures takes { Takes L.OrderedLink self.old.memory link.old self.new.memory link.new }
+        ensures used { (c : LayerSettings) (s : Putting) (x : L.State) → FitsLayer c self.old s.layer
+            → L.fits link.old (after_all L.after_put x s.put)
+            → self.new.memory + length (rounds (view_of L.up_in L.waits_in L.after_put x) c s).put
+            ≡ self.old.memory + length s.put }
     {
         while round(&mut self.circuits, link, &mut self.memory, &mut self.asked) {}
     }

@@ -1,10 +1,7 @@
 -- What the code's variables stand for after a small change.
-use Rattle.std.proofs.Common.{◌≡◌, ℕ, ◌%◌, List, [], ◌∷◌, ◌++◌, length, Bool, true, false, None, if◌then◌else◌, refl, sym, ap, ◌∙◌, append_assoc, add-one, ◌+◌, ◌<◌, ◌≤◌, ◌==◌, arith}
+use Rattle.std.proofs.Common.{◌≡◌, ℕ, ◌%◌, List, [], ◌∷◌, ◌++◌, Bool, true, false, None, if◌then◌else◌, refl, sym, ap, ◌∙◌, append_assoc, add-one, ◌+◌, ◌<◌, ◌==◌, arith}
 use Rattle.std.proofs.lemmas.Bool.{eq-eqb, ne_eqb}
-use Rattle.std.proofs.lemmas.List.{length_push}
 use Rattle.x25_window.specs.code.Modulo.{resolved}
-use Rattle.x25_window.specs.Receiver.{FitsTaken}
-use Rattle.x25_window.specs.declared.receiver.Receiver.{Receiver}
 use Rattle.std.proofs.lemmas.List.{map-append}
 use Rattle.x25_bits.specs.declared.role.Role.{Role}
 use Rattle.x25_frame.specs.Frame.{PlainFrame, info}
@@ -16,7 +13,7 @@ use Rattle.x25_link.specs.code.OutgoingHeld.{FitsOutgoing}
 use Rattle.x25_link.specs.declared.phase.Phase.{Phase}
 use Rattle.x25_link.specs.declared.phase.Phase.TheVariants.{Up}
 use Rattle.x25_link.specs.Station.{Settings, LinkStation, Side, with_near, with_nothing, fresh, is_up, wanted, may_send, pumped, pumped_once}
-use Rattle.x25_link.specs.Hearing.{Step, acknowledged, is_taken, takes, hears_info, peer_is, goes_back}
+use Rattle.x25_link.specs.Hearing.{Step, acknowledged, is_taken, hears_info, peer_is, goes_back}
 use Rattle.x25_link.specs.declared.phase.Notes.{Notes}
 use Rattle.x25_link.specs.code.Fits.{FitsStation, FitsSide, Made}
 
@@ -131,29 +128,6 @@ not_risen c v b before made t count nr side none number outgoing =
       out = side.out;
     })
 
--- ---- a packet that is taken
-
-pub taken_fits : (c : Settings) (v : StationCode) (r : Receiver) (before made : List (List ℕ)) (t : Side) (packet : List ℕ) → FitsSide c v before made t → FitsTaken r (length t.near.taken + 1)
-    → FitsSide c (record v { receiver = r; rejecting = false }) before made (takes packet t)
-taken_fits c v r before made t packet side taken =
-    let fits = side.near in
-    record {
-      near = record {
-        role = fits.role;
-        longest = fits.longest;
-        retries = fits.retries;
-        outgoing = fits.outgoing;
-        taken = rw length_push taken;
-        phase = fits.phase;
-        tries = fits.tries;
-        recovery = fits.recovery;
-        peer_busy = fits.peer_busy;
-        rejecting = refl;
-        said_busy = fits.said_busy;
-      };
-      out = side.out;
-    }
-
 pub no_tries : (c : Settings) (v : StationCode) (before made : List (List ℕ)) (t : Side) → FitsSide c v before made (with_near t (with_nothing Up t.near.tries))
     → FitsSide c (record v { tries = 0 }) before made (with_near t fresh)
 no_tries c v before made t side = record { near = tries_fits c v _ 0 0 refl side.near; out = side.out }
@@ -224,16 +198,3 @@ recovery_fits c v s b fits = record {
   rejecting = fits.rejecting;
   said_busy = fits.said_busy;
 }
-
--- a frame that is sent uses memory for one, and moves the place to send from on
-pub room_kept : (b : Bool) (k long left before after : ℕ) → k ≤ long + before → after ≡ (if b then before + 1 else before) → long ≡ (if b then left + 1 else left) → k ≤ left + after
-room_kept true k long left before after room place used = omega (arith, room, place, used)
-room_kept false k long left before after room place used = omega (arith, room, place, used)
-
--- where it goes only while fewer than k stand before that place, no more than k have used theirs
-pub used_few : (b : Bool) (most k long left before after : ℕ) → most ≤ long + before → most ≤ long + k → (b ≡ true → before < k)
-    → after ≡ (if b then before + 1 else before) → long ≡ (if b then left + 1 else left) → (most ≤ left + after) × (most ≤ left + k)
-used_few true most k long left before after low high inside place used =
-    let room = inside refl in
-    (omega (arith, low, place, used), omega (arith, low, room, used))
-used_few false most k long left before after low high inside place used = (omega (arith, low, place, used), omega (arith, high, used))

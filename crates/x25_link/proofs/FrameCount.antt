@@ -1,18 +1,14 @@
 -- How many frames a step sends: one for what it hears, seven by the sending rule, and the RR that ends an RNR.
-use Rattle.std.proofs.Common.{◌≡◌, ℕ, zero, suc, ◌+◌, ◌≤◌, List, [], ◌∷◌, ◌++◌, length, map, Bool, true, false, not, if◌then◌else◌, nat_lt, Result, Ok, Err, refl, ap, arith, length-append, subst, sym}
-use Rattle.std.proofs.lemmas.List.{length-map}
+use Rattle.std.proofs.Common.{◌≡◌, ℕ, zero, suc, ◌+◌, ◌≤◌, List, [], ◌∷◌, ◌++◌, length, Bool, true, false, not, if◌then◌else◌, Result, Ok, Err, refl, ap, arith, length-append, subst, sym}
 use Rattle.x25_frame.specs.Frame.{PlainFrame, info, rr, rnr, rej, sabm, disc, ua, dm, frmr}
 use Rattle.x25_frame.specs.Reading.{frame_of}
 use Rattle.x25_frame.specs.declared.error.FrameError.{FrameError}
 use Rattle.x25_frame.specs.declared.error.FrameError.TheVariants.{Short, BadFcs, BadAddress, Undefined, NoInfoAllowed, TooLong}
 use Rattle.x25_link.specs.declared.phase.Phase.{Phase}
 use Rattle.x25_link.specs.declared.phase.Phase.TheVariants.{Down, Waiting, Up, Closed}
-use Rattle.x25_link.specs.declared.phase.Reason.TheVariants.{Retries, Counts}
-use Rattle.x25_frame.specs.Spelling.{spelling_of}
-use Rattle.x25_link.specs.Station.{Settings, LinkStation, Side, with_near, is_busy, wanted, next_frame, sends, ready, send_next, may_send, pumped, owes_ready, ended}
-use Rattle.x25_link.specs.Hearing.{Step, quiet, leaves, other, is_valid, acknowledged, is_taken, takes, answers, passes_over, hears_info, peer_is, goes_back, polls, numbered, rejects, reject_of, row_of_frame, row_of}
-use Rattle.x25_link.specs.Link.{alone, hears, when_down, when_waiting, asks_again, fires, timer_step, connects, connect_step, disconnects, disconnect_step, abandon_step, relinks, relink_step}
-use Rattle.x25_link.specs.code.Fits.{Made}
+use Rattle.x25_link.specs.Station.{Settings, LinkStation, Side, is_busy, wanted, next_frame, sends, ready, send_next, may_send, pumped, owes_ready, ended}
+use Rattle.x25_link.specs.Hearing.{Step, quiet, other, is_valid, acknowledged, is_taken, takes, answers, passes_over, hears_info, peer_is, goes_back, polls, numbered, rejects, reject_of, row_of_frame, row_of}
+use Rattle.x25_link.specs.Link.{alone, hears, when_down, when_waiting}
 use Rattle.x25_link.specs.code.Bounds.{TakeSendsFew, PutSendsOne}
 use Rattle.x25_link.proofs.OutgoingLemmas.{sent_length}
 use Rattle.x25_link.proofs.EndLemmas.{with_packet, put_once}
@@ -147,49 +143,6 @@ pub take_sends_few : TakeSendsFew
 take_sends_few c octets s =
     let step = hears c octets (frame_of (other c.role) c.longest octets) s.phase (alone s) in
     omega (arith, ended_count c.window step.side, hears_few c octets (frame_of (other c.role) c.longest octets) s.phase s)
-
--- so many frames stand behind those that were made before
-pub made_nine : (c : Settings) (before made : List (List ℕ)) (frames : List PlainFrame) → Made c before made frames → length frames ≤ 9
-    → length made ≤ length before + 9
-made_nine c before made frames is few =
-    let all = ap length is in
-    let parts = length-append before (map (spelling_of c.role) frames) in
-    let same = length-map frames (spelling_of c.role) in
-    omega (arith, all, parts, same, few)
-
--- ---- the calls of the user
-
--- at most one frame, and those of the end of the step
-closed_few : (k : ℕ) (t : Side) → Few t → length (ended k t).out ≤ 9
-closed_few k t few = omega (arith, ended_count k t, few)
-
-pub connect_sends_few : (c : Settings) (s : LinkStation) → length (connect_step c s).side.out ≤ 9
-connect_sends_few c s = let step : Step = connects (alone s) in closed_few c.window step.side (first (sabm true) [] refl)
-
-pub disconnect_sends_few : (c : Settings) (s : LinkStation) → length (disconnect_step c s).side.out ≤ 9
-disconnect_sends_few c s = let step : Step = disconnects (alone s) in closed_few c.window step.side (first (disc true) [] refl)
-
-pub abandon_sends_few : (c : Settings) (s : LinkStation) → length (abandon_step c s).side.out ≤ 9
-abandon_sends_few c s = let step : Step = leaves Counts (alone s) in closed_few c.window step.side (nothing step.side refl)
-
-pub relink_sends_few : (c : Settings) (s : LinkStation) → length (relink_step c s).side.out ≤ 9
-relink_sends_few c s = let step : Step = relinks (alone s) in closed_few c.window step.side (first (sabm true) [] refl)
-
--- ---- timer T1
-
-asks_few : (p : Phase) (t : Side) → t.out ≡ [] → Few (asks_again p t)
-asks_few Down t none = first (sabm true) t.out none
-asks_few Waiting t none = first (sabm true) t.out none
-asks_few Up t none = F-ready true true (with_near t (record t.near { recovery = true })) none
-asks_few Closed t none = first (sabm true) t.out none
-
-fires_few : (c : Settings) (s : LinkStation) → Few (fires c (alone s)).side
-fires_few c s =
-    few_step (nat_lt s.tries c.retries) (quiet (asks_again s.phase (with_near (alone s) (record s { tries = s.tries + 1 })))) (leaves Retries (alone s))
-    (asks_few s.phase (with_near (alone s) (record s { tries = s.tries + 1 })) refl) (nothing (alone s) refl)
-
-pub timer_sends_few : (c : Settings) (s : LinkStation) → length (timer_step c s).side.out ≤ 9
-timer_sends_few c s = let step : Step = fires c (alone s) in closed_few c.window step.side (fires_few c s)
 
 pub put_sends_one : PutSendsOne
 put_sends_one c v s packet fits =

@@ -1,5 +1,5 @@
 -- A link between its calls.
-use Rattle.std.proofs.Common.{length, max, append-nil, arith, ◌≤◌, ◌≡◌, ℕ, ◌+◌, List, Bool, true, false, refl, sym, ap, ◌∙◌, subst}
+use Rattle.std.proofs.Common.{length, arith, ◌≤◌, ◌≡◌, ℕ, ◌+◌, List, [], Bool, true, false, refl, sym, ap, ◌∙◌, subst}
 use Rattle.std.proofs.lemmas.Bool.{and_left, and_right}
 use Rattle.std.proofs.lemmas.List.{length-drop}
 use Rattle.std.specs.Prelude.{nat_lt}
@@ -13,23 +13,14 @@ use Rattle.x25_link.specs.code.Bounds.{FewWait, FewStand, WindowIsSmall}
 use Rattle.x25_link.specs.code.FitsLink.{ShownLink, FitsLink}
 use Rattle.x25_link.proofs.EndLemmas.{ready_sends, ended_stays}
 
--- ---- a call begins: its frames go behind those that were made
+-- ---- a call begins: no frame is made yet
 
-pub begins : (c : Settings) (old inside : ShownLink) (made : List (List ℕ)) (s : LinkStation) → inside ≡ old → FitsLink c old s
-    → made ≡ inside.outbox.made → FitsSide c inside.station old.outbox.made made (alone s)
-begins c old inside made s same fits is = record {
+pub begins : (c : Settings) (old inside : ShownLink) (made : List (List ℕ)) (s : LinkStation) → inside ≡ old → FitsLink c old s → made ≡ []
+    → FitsSide c inside.station [] made (alone s)
+begins c old inside made s same fits none = record {
   near = (subst (λ (v : ShownLink). FitsLink c v s) (sym same) fits).near;
-  out = is ∙ ap (λ (v : ShownLink). v.outbox.made) same ∙ sym (append-nil _);
+  out = none;
 }
-
--- ---- memory: the list of frames
-
--- it has places for what is kept, for what is set aside, and for so many I frames and two others
-pub few_places : (old inside : ShownLink) (grown places long : ℕ) → inside ≡ old
-    → grown ≤ max inside.outbox.places (length inside.outbox.made + (max inside.outbox.long long + max inside.outbox.short 2))
-    → places ≡ grown → long ≤ inside.outbox.long + 7 → places ≤ max old.outbox.places (length old.outbox.made + (old.outbox.long + 7 + max old.outbox.short 2))
-few_places old inside grown places long same few is low = subst (λ (v : ShownLink). places ≤ max v.outbox.places (length v.outbox.made + (v.outbox.long + 7 + max v.outbox.short 2))) same
-    (omega (arith, few, is, low))
 
 -- ---- a step after which nothing may be sent
 

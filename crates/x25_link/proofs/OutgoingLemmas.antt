@@ -106,13 +106,6 @@ below_of n m le differs = by_test (nat_lt n m) refl
 
 -- ---- packets that are acknowledged, one by one
 
-pub none_released : (h : Held (List ℕ)) (w : Sending (List ℕ)) → Fits h w → Fits h (acknowledged w (w.acked + 0))
-none_released h w fits =
-    let low = fits.sound.place_low in
-    let same : max w.place (w.acked + 0) ≡ w.place = omega arith in
-    let none : w.acked + 0 ≡ w.acked = omega arith in
-    rw same (rw none fits)
-
 pub one_released : (h : Held (List ℕ)) (w : Sending (List ℕ)) (n : ℕ) → Fits h (acknowledged (acknowledged w (w.acked + n)) (w.acked + n + 1))
     → Fits h (acknowledged w (w.acked + (n + 1)))
 one_released h w n fits =

@@ -1,7 +1,7 @@
 -- Each call of a link: when it is refused, and what it does.
 -- ITU-T X.25 (10/96), section 2.4.4, and where it leaves a choice the profile.
 use Rattle.std.specs.Prelude.{◌≡◌, ℕ, ◌+◌, ◌==◌, nat_lt, nat_le, Bool, true, false, not, ◌&&◌, ◌||◌, if◌then◌else◌}
-use Rattle.std.specs.Prelude.{List, [], Option, Some, None, Result, Ok, Err, IfErr}
+use Rattle.std.specs.Prelude.{List, [], Option, Some, None, Result, Ok, Err, IfErr, IsOk}
 use Rattle.x25_frame.specs.Frame.{PlainFrame, sabm, disc, ua, dm}
 use Rattle.x25_frame.specs.Spelling.{is_command, poll_or_final}
 use Rattle.x25_frame.specs.Reading.{frame_of}
@@ -28,6 +28,11 @@ alone s = record { near = s; out = [] }
 abbrev pub Refuses : {T : Type 0} → Option LinkError → Result T LinkError → Type 0
 Refuses None result = IfErr result (λ e. e ≡ error.NoMemory)
 Refuses (Some e) result = result ≡ Err e
+
+-- a refusal where one is due, and else none
+abbrev pub RefusesOnly : {T : Type 0} → Option LinkError → Result T LinkError → Type 0
+RefusesOnly None result = IsOk result
+RefusesOnly (Some e) result = result ≡ Err e
 
 -- the link is set up
 abbrev pub goes_up : Side → Step

@@ -2,10 +2,9 @@
 use Rattle.std.specs.Prelude.{◌≡◌, ℕ, ◌-◌, ◌≤◌, List, length, drop}
 use Rattle.x25_link.specs.OrderedLink.{Lists}
 
--- the packets that wait, and for how many calls of `put` memory is set aside
+-- the packets that wait
 pub record ShownPlain : Type 0 where
   pub queue : List (List ℕ)
-  pub promised : ℕ
 
 -- what waits is what was handed down and isn't acknowledged
 pub record FitsPlain (v : ShownPlain) (x : Lists) : Type 0 where

@@ -1,6 +1,6 @@
 -- What the code's values stand for: contracts and proofs need it, and a reader of the claims doesn't.
 pub mod OutgoingHeld
-pub mod Outbox
+pub mod Frames
 pub mod Fits
 pub mod FitsLink
 pub mod Bounds

@@ -6,45 +6,39 @@ ghost use Rattle.x25_link.specs.Hearing.{quiet};
 ghost use Rattle.x25_link.specs.Link.{alone, puts, connects, disconnects, fires, timer_runs, is_idle, asks_again};
 ghost use Rattle.x25_link.specs.Link.{closed_by, relinks};
 
+use crate::frames::Frames;
 use crate::heard::Heard;
 use crate::octets::Octets;
-use crate::outbox::Outbox;
 use crate::phase::{Phase, Reason};
 use crate::station::LinkStation;
 use x25_frame::Frame;
 
 impl LinkStation {
-    /// Lets a packet wait, and sends it where it may go. Memory for one I frame is used or let go.
-    pub fn put(&mut self, packet: Octets, out: &mut Outbox)
+    /// Lets a packet wait, and sends it where it may go.
+    pub fn put(&mut self, packet: Octets, out: &mut Frames)
         requires free { length self.old.outgoing.queue < 256 }
-        requires long { 0 < out.old.long }
+        requires place { length out.old < 25 }
         ensures step { (c : Settings) (before : List (List ℕ)) (s : StationState)
-            → FitsSide c self.old before out.old.made (alone s) → may_send c.window s ≡ false → owes_ready s ≡ false →
-            FitsSide c self.new before out.new.made (closed_by c.window (puts packet (alone s))).side }
+            → FitsSide c self.old before out.old (alone s) → may_send c.window s ≡ false → owes_ready s ≡ false →
+            FitsSide c self.new before out.new (closed_by c.window (puts packet (alone s))).side }
         ensures kept { self.new ≡ record self.old { outgoing = self.new.outgoing } }
         ensures queue { length self.new.outgoing.queue ≤ length self.old.outgoing.queue + 1 }
-        ensures long { out.new.long + 1 ≡ out.old.long }
-        ensures short { out.new.short ≡ out.old.short }
-        ensures places { out.new.places ≡ out.old.places }
+        ensures one { length out.new ≤ length out.old + 1 }
     {
         if !self.phase.is_up() || self.recovery || self.peer_busy {
             self.outgoing.add(packet);
-            out.discard();
             return;
         }
         let nr = self.receiver.wanted();
-        if !self.outgoing.send_at_once(packet, self.role, nr, out) {
-            out.discard();
-        }
+        self.outgoing.send_at_once(packet, self.role, nr, out);
     }
 
     /// Begins to set the link up.
-    pub fn connect(&mut self, out: &mut Outbox)
-        requires { 0 < out.old.short }
-        ensures step { (c : Settings) (before : List (List ℕ)) (t : Side) → FitsSide c self.old before out.old.made t
-            → FitsSide c self.new before out.new.made (connects t).side }
-        ensures long { out.new.long ≡ out.old.long }
-        ensures places { out.new.places ≡ out.old.places }
+    pub fn connect(&mut self, out: &mut Frames)
+        requires { length out.old < 25 }
+        ensures step { (c : Settings) (before : List (List ℕ)) (t : Side) → FitsSide c self.old before out.old t
+            → FitsSide c self.new before out.new (connects t).side }
+        ensures one { length out.new ≤ length out.old + 1 }
     {
         self.phase = Phase::Waiting;
         self.tries = 0;
@@ -52,11 +46,10 @@ impl LinkStation {
     }
 
     /// Disconnects, for good.
-    pub fn disconnect<'a>(&mut self, out: &mut Outbox) -> Heard<'a>
-        requires { 0 < out.old.short }
+    pub fn disconnect<'a>(&mut self, out: &mut Frames) -> Heard<'a>
+        requires { length out.old < 25 }
         ensures step { Hears self.old self.new out.old out.new result (λ c t. disconnects t) }
-        ensures long { out.new.long ≡ out.old.long }
-        ensures places { out.new.places ≡ out.old.places }
+        ensures one { length out.new ≤ length out.old + 1 }
     {
         let down = if self.phase.is_up() {
             Some(Reason::Local)
@@ -69,11 +62,10 @@ impl LinkStation {
     }
 
     /// Leaves Up without a frame, and begins to set the link up anew.
-    pub fn relink<'a>(&mut self, out: &mut Outbox) -> Heard<'a>
-        requires { 0 < out.old.short }
+    pub fn relink<'a>(&mut self, out: &mut Frames) -> Heard<'a>
+        requires { length out.old < 25 }
         ensures step { Hears self.old self.new out.old out.new result (λ c t. relinks t) }
-        ensures long { out.new.long ≡ out.old.long }
-        ensures places { out.new.places ≡ out.old.places }
+        ensures one { length out.new ≤ length out.old + 1 }
     {
         let heard = self.leave(Reason::Local);
         self.connect(out);
@@ -92,11 +84,10 @@ impl LinkStation {
     }
 
     /// A firing of timer T1, where it runs.
-    pub fn fire<'a>(&mut self, out: &mut Outbox) -> Heard<'a>
-        requires { 0 < out.old.short }
+    pub fn fire<'a>(&mut self, out: &mut Frames) -> Heard<'a>
+        requires { length out.old < 25 }
         ensures step { Hears self.old self.new out.old out.new result (λ c t. fires c t) }
-        ensures long { out.new.long ≡ out.old.long }
-        ensures places { out.new.places ≡ out.old.places }
+        ensures one { length out.new ≤ length out.old + 1 }
     {
         if self.tries >= self.parameters.n2 {
             return self.leave(Reason::Retries);
@@ -107,11 +98,10 @@ impl LinkStation {
     }
 
     // SABM again while UA is awaited, and a poll in Up.
-    fn ask_again(&mut self, out: &mut Outbox)
-        requires { 0 < out.old.short }
+    fn ask_again(&mut self, out: &mut Frames)
+        requires { length out.old < 25 }
         ensures step { Leads self.old self.new out.old out.new (λ c t. asks_again t.near.phase t) }
-        ensures long { out.new.long ≡ out.old.long }
-        ensures places { out.new.places ≡ out.old.places }
+        ensures one { length out.new ≤ length out.old + 1 }
     {
         match self.phase {
             Phase::Up => {

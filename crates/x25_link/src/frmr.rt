@@ -3,11 +3,11 @@ ghost use Rattle.std.specs.Prelude.{◌≡◌, ◌+◌, ◌*◌, ◌/◌, ◌%�
 ghost use Rattle.x25_frame.specs.Frame.{plain};
 ghost use Rattle.x25_frame.specs.Spelling.{information_of};
 ghost use Rattle.x25_link.specs.Station.{Settings, LinkStation as StationState};
-ghost use Rattle.x25_link.specs.code.Fits.{FitsStation, Hears, SendsShort};
+ghost use Rattle.x25_link.specs.code.Fits.{FitsStation, Hears};
 ghost use Rattle.x25_link.specs.Hearing.{rejects, reject_of};
 
+use crate::frames::Frames;
 use crate::heard::Heard;
-use crate::outbox::Outbox;
 use crate::phase::Reason;
 use crate::station::LinkStation;
 use x25_frame::{Frame, command_address};
@@ -37,10 +37,10 @@ fn octet_at(octets: &[u8], place: usize) -> u8
 
 impl LinkStation {
     /// Sends FRMR for these octets, with the third octet of its information, and leaves Up.
-    pub fn reject<'a>(&mut self, octets: &[u8], why: u8, out: &mut Outbox) -> Heard<'a>
-        requires { 0 < out.old.short }
+    pub fn reject<'a>(&mut self, octets: &[u8], why: u8, out: &mut Frames) -> Heard<'a>
+        requires { length out.old < 25 }
         ensures step { Hears self.old self.new out.old out.new result (λ c t. rejects c octets.now why t) }
-        ensures sent { SendsShort self.old self.new out.old out.new }
+        ensures one { length out.new ≤ length out.old + 1 }
     {
         let frame = self.rejection(octets, why);
         self.send(&frame, out);

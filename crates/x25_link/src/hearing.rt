@@ -1,18 +1,17 @@
 //! What a station does with the octets that it takes, phase by phase.
-ghost use Rattle.std.specs.Prelude.{◌≡◌, ℕ, ◌+◌, ◌<◌, ◌≤◌, List, Ok, Err, true, false};
+ghost use Rattle.std.specs.Prelude.{◌≡◌, ℕ, ◌+◌, ◌<◌, ◌≤◌, List, length, Ok, Err, true, false};
 ghost use Rattle.x25_frame.specs.Frame.{plain};
 ghost use Rattle.x25_frame.specs.Reading.{frame_of};
 ghost use Rattle.x25_frame.specs.Spelling.{is_command};
 ghost use Rattle.x25_link.specs.Station.{Settings, LinkStation as StationState, is_up, may_send, owes_ready};
-ghost use Rattle.x25_link.specs.code.OutgoingHeld.{window_of};
-ghost use Rattle.x25_link.specs.code.Fits.{FitsStation, FitsSide, FitsHeard, Leads, Hears, SendsShort, SendsInfo};
+ghost use Rattle.x25_link.specs.code.Fits.{FitsStation, FitsSide, FitsHeard, Leads, Hears};
 ghost use Rattle.x25_link.specs.Hearing.{numbered, hears_info, polls, peer_is, goes_back, quiet, row_of_frame, row_of};
 ghost use Rattle.x25_link.specs.Hearing.{other};
 ghost use Rattle.x25_link.specs.Link.{declines, when_down, when_waiting, hears, alone, take_step};
 
+use crate::frames::Frames;
 use crate::frmr::{BAD_INFORMATION, INVALID_NR, LONG_INFORMATION, UNDEFINED_CONTROL};
 use crate::heard::Heard;
-use crate::outbox::Outbox;
 use crate::phase::{Phase, Reason};
 use crate::station::LinkStation;
 use x25_bits::Seq;
@@ -29,13 +28,12 @@ impl LinkStation {
         nr: Seq,
         p: bool,
         info: &'a [u8],
-        out: &mut Outbox,
+        out: &mut Frames,
     ) -> Heard<'a>
-        requires room { window_of self.old.outgoing ≤ out.old.long }
-        requires short { 0 < out.old.short }
+        requires place { length out.old < 25 }
         ensures step { Hears self.old self.new out.old out.new result
             (λ c t. numbered c octets.now nr.number (hears_info c.window ns.number p info.now) t) }
-        ensures sent { SendsInfo self.old self.new out.old out.new }
+        ensures one { length out.new ≤ length out.old + 1 }
     {
         if !self.acknowledge(nr) {
             return self.reject(octets, INVALID_NR, out);
@@ -55,12 +53,12 @@ impl LinkStation {
         command: bool,
         nr: Seq,
         pf: bool,
-        out: &mut Outbox,
+        out: &mut Frames,
     ) -> Heard<'a>
-        requires { 0 < out.old.short }
+        requires { length out.old < 25 }
         ensures step { Hears self.old self.new out.old out.new result
             (λ c t. numbered c octets.now nr.number (λ u. quiet (polls command pf (peer_is busy u))) t) }
-        ensures sent { SendsShort self.old self.new out.old out.new }
+        ensures one { length out.new ≤ length out.old + 1 }
     {
         if !self.acknowledge(nr) {
             return self.reject(octets, INVALID_NR, out);
@@ -77,12 +75,12 @@ impl LinkStation {
         command: bool,
         nr: Seq,
         pf: bool,
-        out: &mut Outbox,
+        out: &mut Frames,
     ) -> Heard<'a>
-        requires { 0 < out.old.short }
+        requires { length out.old < 25 }
         ensures step { Hears self.old self.new out.old out.new result
             (λ c t. numbered c octets.now nr.number (λ u. quiet (polls command pf (goes_back (peer_is false u)))) t) }
-        ensures sent { SendsShort self.old self.new out.old out.new }
+        ensures one { length out.new ≤ length out.old + 1 }
     {
         if !self.acknowledge(nr) {
             return self.reject(octets, INVALID_NR, out);
@@ -94,12 +92,11 @@ impl LinkStation {
     }
 
     // A frame, in Up.
-    fn hear_frame<'a>(&mut self, octets: &[u8], frame: Frame<'a>, out: &mut Outbox) -> Heard<'a>
-        requires room { window_of self.old.outgoing ≤ out.old.long }
-        requires short { 0 < out.old.short }
+    fn hear_frame<'a>(&mut self, octets: &[u8], frame: Frame<'a>, out: &mut Frames) -> Heard<'a>
+        requires place { length out.old < 25 }
         ensures step { Hears self.old self.new out.old out.new result
             (λ c t. row_of_frame c octets.now (plain frame.entry) t) }
-        ensures sent { SendsInfo self.old self.new out.old out.new }
+        ensures one { length out.new ≤ length out.old + 1 }
     {
         match frame {
             Frame::I { ns, nr, p, info } => self.hear_i(octets, ns, nr, p, info, out),
@@ -122,10 +119,10 @@ impl LinkStation {
     }
 
     // Octets that spell no frame, in Up.
-    fn hear_error<'a>(&mut self, octets: &[u8], error: FrameError, out: &mut Outbox) -> Heard<'a>
-        requires { 0 < out.old.short }
+    fn hear_error<'a>(&mut self, octets: &[u8], error: FrameError, out: &mut Frames) -> Heard<'a>
+        requires { length out.old < 25 }
         ensures step { Hears self.old self.new out.old out.new result (λ c t. row_of c octets.now (Err error) t) }
-        ensures sent { SendsShort self.old self.new out.old out.new }
+        ensures one { length out.new ≤ length out.old + 1 }
     {
         match error {
             FrameError::Undefined { .. } => self.reject(octets, UNDEFINED_CONTROL, out),
@@ -137,12 +134,11 @@ impl LinkStation {
 
     // Octets, in Up.
     #[inline(always)]
-    fn hear_up<'a>(&mut self, octets: &'a [u8], out: &mut Outbox) -> Heard<'a>
-        requires room { window_of self.old.outgoing ≤ out.old.long }
-        requires short { 0 < out.old.short }
+    fn hear_up<'a>(&mut self, octets: &'a [u8], out: &mut Frames) -> Heard<'a>
+        requires place { length out.old < 25 }
         ensures step { Hears self.old self.new out.old out.new result
             (λ c t. row_of c octets.now (frame_of (other c.role) c.longest octets.now) t) }
-        ensures sent { SendsInfo self.old self.new out.old out.new }
+        ensures one { length out.new ≤ length out.old + 1 }
     {
         match decode(self.role.other(), self.parameters.n1, octets) {
             Ok(frame) => self.hear_frame(octets, frame, out),
@@ -153,12 +149,10 @@ impl LinkStation {
     // ---- the other phases
 
     // A command with P=1 is answered by DM.
-    fn decline(&self, frame: &Frame, out: &mut Outbox)
-        requires { 0 < out.old.short }
+    fn decline(&self, frame: &Frame, out: &mut Frames)
+        requires { length out.old < 25 }
         ensures step { Leads self.now self.now out.old out.new (λ c t. declines (plain frame.now) t) }
-        ensures long { out.new.long ≡ out.old.long }
-        ensures short { out.old.short ≤ out.new.short + 1 }
-        ensures places { out.new.places ≡ out.old.places }
+        ensures one { length out.new ≤ length out.old + 1 }
     {
         if frame.is_poll() {
             self.send(&Frame::Dm { f: true }, out);
@@ -167,10 +161,10 @@ impl LinkStation {
 
     // A frame, in Down.
     #[cold]
-    fn hear_down<'a>(&mut self, frame: &Frame, out: &mut Outbox) -> Heard<'a>
-        requires { 0 < out.old.short }
+    fn hear_down<'a>(&mut self, frame: &Frame, out: &mut Frames) -> Heard<'a>
+        requires { length out.old < 25 }
         ensures step { Hears self.old self.new out.old out.new result (λ c t. when_down (plain frame.now) t) }
-        ensures sent { SendsShort self.old self.new out.old out.new }
+        ensures one { length out.new ≤ length out.old + 1 }
     {
         match frame {
             Frame::Sabm { p } => {
@@ -191,10 +185,10 @@ impl LinkStation {
 
     // A frame, in Waiting.
     #[cold]
-    fn hear_waiting<'a>(&mut self, frame: &Frame, out: &mut Outbox) -> Heard<'a>
-        requires { 0 < out.old.short }
+    fn hear_waiting<'a>(&mut self, frame: &Frame, out: &mut Frames) -> Heard<'a>
+        requires { length out.old < 25 }
         ensures step { Hears self.old self.new out.old out.new result (λ c t. when_waiting (plain frame.now) t) }
-        ensures sent { SendsShort self.old self.new out.old out.new }
+        ensures one { length out.new ≤ length out.old + 1 }
     {
         match frame {
             Frame::Ua { f: true } => {
@@ -216,12 +210,12 @@ impl LinkStation {
     // Octets, in a phase other than Up.
     #[cold]
     #[inline(never)]
-    fn hear_apart<'a>(&mut self, octets: &[u8], out: &mut Outbox) -> Heard<'a>
+    fn hear_apart<'a>(&mut self, octets: &[u8], out: &mut Frames) -> Heard<'a>
         requires apart { is_up self.old.phase ≡ false }
-        requires short { 0 < out.old.short }
+        requires place { length out.old < 25 }
         ensures step { Hears self.old self.new out.old out.new result
             (λ c t. hears c octets.now (frame_of (other c.role) c.longest octets.now) t.near.phase t) }
-        ensures sent { SendsShort self.old self.new out.old out.new }
+        ensures one { length out.new ≤ length out.old + 1 }
     {
         let read = decode(self.role.other(), self.parameters.n1, octets);
         let Ok(frame) = read else {
@@ -242,12 +236,11 @@ impl LinkStation {
 
     // What the octets bring, before the sending rule.
     #[inline(always)]
-    fn hear_octets<'a>(&mut self, octets: &'a [u8], out: &mut Outbox) -> Heard<'a>
-        requires room { window_of self.old.outgoing ≤ out.old.long }
-        requires short { 0 < out.old.short }
+    fn hear_octets<'a>(&mut self, octets: &'a [u8], out: &mut Frames) -> Heard<'a>
+        requires place { length out.old < 25 }
         ensures step { Hears self.old self.new out.old out.new result
             (λ c t. hears c octets.now (frame_of (other c.role) c.longest octets.now) t.near.phase t) }
-        ensures sent { SendsInfo self.old self.new out.old out.new }
+        ensures one { length out.new ≤ length out.old + 1 }
     {
         if self.phase.is_up() {
             return self.hear_up(octets, out);
@@ -256,18 +249,16 @@ impl LinkStation {
     }
 
     /// Takes octets, and sends what they ask for.
-    pub fn hear<'a>(&mut self, octets: &'a [u8], out: &mut Outbox) -> Heard<'a>
-        requires long { window_of self.old.outgoing ≤ out.old.long }
-        requires short { 2 ≤ out.old.short }
+    pub fn hear<'a>(&mut self, octets: &'a [u8], out: &mut Frames) -> Heard<'a>
+        requires places { length out.old + 9 ≤ 25 }
         ensures step { (c : Settings) (before : List (List ℕ)) (s : StationState)
-            → FitsSide c self.old before out.old.made (alone s) →
-            FitsHeard c self.new before out.new.made result (take_step c octets.now s) }
+            → FitsSide c self.old before out.old (alone s) →
+            FitsHeard c self.new before out.new result (take_step c octets.now s) }
         ensures settled { (c : Settings) (s : StationState) → FitsStation c self.old s
             → may_send c.window (take_step c octets.now s).side.near ≡ false }
         ensures calm { (c : Settings) (s : StationState) → FitsStation c self.old s
             → owes_ready (take_step c octets.now s).side.near ≡ false }
-        ensures left { out.old.long ≤ out.new.long + window_of self.old.outgoing }
-        ensures places { out.new.places ≡ out.old.places }
+        ensures few { length out.new ≤ length out.old + 9 }
     {
         let heard = self.hear_octets(octets, out);
         self.end(out);

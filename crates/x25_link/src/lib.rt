@@ -3,6 +3,7 @@
 
 mod calls;
 mod error;
+mod frames;
 mod frmr;
 mod heard;
 mod hearing;
@@ -11,7 +12,6 @@ mod link;
 mod numbered_frames;
 mod octets;
 mod ordered_link;
-mod outbox;
 mod outgoing;
 mod phase;
 mod plain_link;
@@ -19,6 +19,7 @@ mod station;
 mod waiting_packets;
 
 pub use error::LinkError;
+pub use frames::Frames;
 pub use heard::Heard;
 pub use law::{
     asks_and_answers, comes_to_rest, follows_the_window, holds_few, notes_what_changes,

@@ -1,5 +1,5 @@
-ghost use Rattle.std.specs.Prelude.{◌≡◌, ℕ, ◌+◌, ◌-◌, ◌%◌, ◌<◌, ◌≤◌, ◌↔◌, ◌++◌, List, [], length, map, max, vec_len};
-ghost use Rattle.std.specs.Prelude.{vec_capacity, Bool, true, false, Some, None, Ok, IfOk, IfErr, OnOk, OnErr, IsOk};
+ghost use Rattle.std.specs.Prelude.{◌≡◌, ℕ, ◌+◌, ◌%◌, ◌<◌, ◌≤◌, ◌↔◌, ◌++◌, List, [], map, vec_len};
+ghost use Rattle.std.specs.Prelude.{Bool, true, false, Some, None, Ok, IfOk, IfErr, OnOk, OnErr, IsOk};
 ghost use Rattle.std.specs.Prelude.{IsErrOf};
 ghost use Rattle.x25_frame.specs.Spelling.{spelling_of};
 ghost use Rattle.x25_link.specs.Station.{Settings, LinkStation as StationState, awaits_ua, with_nothing};
@@ -8,35 +8,34 @@ ghost use Rattle.x25_link.specs.Link.{connect_step, disconnect_refusal, disconne
 ghost use Rattle.x25_link.specs.Link.{timer_step, abandon_step, is_idle, probe_refusal, relink_refusal, relink_step};
 ghost use Rattle.x25_link.specs.Error.{RefusesPut};
 ghost use Rattle.x25_link.specs.code.FitsLink.{FitsLink, Does, limit_of, up_of, waiting_of};
-ghost use Rattle.x25_link.specs.code.Outbox.{IsEmpty, KeepsOne};
+ghost use Rattle.x25_link.specs.code.Frames.{places_left};
 ghost use Rattle.x25_link.specs.declared.phase.Phase.TheVariants.{Down};
 
 mod in_order;
 
 use crate::error::LinkError;
+use crate::frames::{Frames, MOST_FRAMES};
 use crate::heard::Heard;
 use crate::octets::Octets;
-use crate::outbox::Outbox;
 use crate::outgoing::Outgoing;
 use crate::phase::{Phase, Reason};
 use crate::station::{FRAMES, LinkStation, Parameters};
 use crate::waiting_packets::PLACES;
 use std::alloc::Global;
 use std::marker::Model;
+use std::mem;
 use x25_bits::{Role, Seq};
 use x25_frame::N1;
 use x25_window::Receiver;
 
-/// The most other frames that one call sends.
-const SHORT_FRAMES: usize = 2;
-
 /// A LAPB station, DTE or DCE. ITU-T X.25 (10/96), section 2.
 ///
-/// Each call keeps the frames to send, behind those of earlier calls, until `swap_frames` hands them out.
+/// Each call leaves its frames for `swap_frames`, in place of those of the call before, and `put` leaves its own behind
+/// those.
 #[derive(Drop)]
 pub struct Link {
     station: LinkStation,
-    outbox: Outbox,
+    frames: Frames,
 }
 
 impl Model for Link {
@@ -44,7 +43,7 @@ impl Model for Link {
 
     ghost Value = { ShownLink };
 
-    ghost view = { λ l. record { station = l.station; outbox = l.outbox } };
+    ghost view = { λ l. record { station = l.station; frames = l.frames } };
 
     ghost invariant = { λ _. Unit {0} };
 }
@@ -57,7 +56,7 @@ impl Link {
     pub fn new(alloc: Global, role: Role, k: u8, n1: usize, n2: u8) -> Result<Link, LinkError>
         ensures state { IfOk result (λ l. FitsLink (record { role = role; window = k; longest = n1; retries = n2 }) l
             (with_nothing Down 0)) }
-        ensures none_kept { IfOk result (λ l. IsEmpty l.outbox) }
+        ensures no_frames { IfOk result (λ l. l.frames ≡ []) }
         ensures refused { Refuses (config_refusal k n1 n2) result }
     {
         if k < 1 || k > FRAMES || n1 < 1 || n1 > N1 || n2 < 1 {
@@ -79,13 +78,13 @@ impl Link {
                 rejecting: false,
                 said_busy: false,
             },
-            outbox: Outbox::new(alloc),
+            frames: Frames::new(alloc)?,
         })
     }
 
     /// Begins to set the link up: SABM with P=1.
     ///
-    /// 12 where it is being set up, 13 where it is closed, 15 where it is up, then 70.
+    /// 12 where it is being set up, 13 where it is closed, 15 where it is up.
     pub fn connect(&mut self) -> Result<Heard<'static>, LinkError>
         ensures { Does self.old self.new result (λ s. connect_refusal s.phase) connect_step }
     {
@@ -95,31 +94,22 @@ impl Link {
             Phase::Up => return Err(LinkError::AlreadyUp),
             Phase::Closed => return Err(LinkError::Closed),
         }
-        self.outbox.reserve(0, SHORT_FRAMES)?;
-        self.station.connect(&mut self.outbox);
+        self.frames.clear();
+        self.station.connect(&mut self.frames);
         Ok(Heard::quiet())
     }
 
     /// Takes octets, frame check sequence included, and does what they ask for by the must-send table and the phases.
-    ///
-    /// 70 alone, as where memory is set aside for more than 25 calls of `put`: a call takes that of 7 I frames more,
-    /// and there is memory for 32.
-    pub fn take<'a>(&mut self, octets: &'a [u8]) -> Result<Heard<'a>, LinkError>
-        ensures does { Does self.old self.new result (λ s. None) (λ c s. take_step c octets.now s) }
-        ensures refused { IfErr result (λ e. e ≡ LinkError.NoMemory) }
+    pub fn take<'a>(&mut self, octets: &'a [u8]) -> Heard<'a>
+        ensures { Does self.old self.new (Ok result) (λ s. None) (λ c s. take_step c octets.now s) }
     {
-        let promised = self.outbox.long();
-        let window = self.station.outgoing.window() as usize;
-        let long = promised + window;
-        self.outbox.reserve(long, SHORT_FRAMES)?;
-        let heard = self.station.hear(octets, &mut self.outbox);
-        self.outbox.limit(promised);
-        Ok(heard)
+        self.frames.clear();
+        self.station.hear(octets, &mut self.frames)
     }
 
     /// Disconnects this end, for good: DISC with P=1. It notes LinkDown(local) where the link was up.
     ///
-    /// 13 where it is closed, then 70.
+    /// 13 where it is closed.
     pub fn disconnect(&mut self) -> Result<Heard<'static>, LinkError>
         ensures { Does self.old self.new result (λ s. disconnect_refusal s.phase) disconnect_step }
     {
@@ -127,27 +117,27 @@ impl Link {
             Phase::Down | Phase::Waiting | Phase::Up => {}
             Phase::Closed => return Err(LinkError::Closed),
         }
-        self.outbox.reserve(0, SHORT_FRAMES)?;
-        Ok(self.station.disconnect(&mut self.outbox))
+        self.frames.clear();
+        Ok(self.station.disconnect(&mut self.frames))
     }
 
     /// A firing of timer T1: a SABM or a poll again, or after `n2` of these LinkDown(retries).
     ///
-    /// 11 where the timer doesn't run, then 70.
+    /// 11 where the timer doesn't run.
     pub fn t1(&mut self) -> Result<Heard<'static>, LinkError>
         ensures { Does self.old self.new result timer_refusal timer_step }
     {
         if !self.station.timer_runs() {
             return Err(LinkError::NotRunning);
         }
-        self.outbox.reserve(0, SHORT_FRAMES)?;
-        Ok(self.station.fire(&mut self.outbox))
+        self.frames.clear();
+        Ok(self.station.fire(&mut self.frames))
     }
 
     /// Polls the other end, whether timer T1 runs or not: RR with P=1, or RNR where this end is busy. It counts as a
     /// firing of T1 does, so after `n2` of these without an answer it notes LinkDown(retries).
     ///
-    /// 9 where the link isn't up, 13 where it is closed, then 70.
+    /// 9 where the link isn't up, 13 where it is closed.
     pub fn probe(&mut self) -> Result<Heard<'static>, LinkError>
         ensures { Does self.old self.new result (λ s. probe_refusal s.phase) timer_step }
     {
@@ -156,14 +146,14 @@ impl Link {
             Phase::Down | Phase::Waiting => return Err(LinkError::NotUp),
             Phase::Closed => return Err(LinkError::Closed),
         }
-        self.outbox.reserve(0, SHORT_FRAMES)?;
-        let heard = self.station.fire(&mut self.outbox);
+        self.frames.clear();
+        let heard = self.station.fire(&mut self.frames);
         Ok(heard)
     }
 
     /// Sets a link that is up up anew: it notes LinkDown(local), and sends SABM with P=1.
     ///
-    /// 9 where the link is down, 12 where it is being set up, 13 where it is closed, then 70.
+    /// 9 where the link is down, 12 where it is being set up, 13 where it is closed.
     pub fn relink(&mut self) -> Result<Heard<'static>, LinkError>
         ensures { Does self.old self.new result (λ s. relink_refusal s.phase) relink_step }
     {
@@ -173,34 +163,25 @@ impl Link {
             Phase::Waiting => return Err(LinkError::AlreadyWaiting),
             Phase::Closed => return Err(LinkError::Closed),
         }
-        self.outbox.reserve(0, SHORT_FRAMES)?;
-        Ok(self.station.relink(&mut self.outbox))
+        self.frames.clear();
+        Ok(self.station.relink(&mut self.frames))
     }
 
-    /// Leaves Up without a frame, and notes LinkDown(counts) (profile). It takes no memory.
+    /// Leaves Up without a frame, and notes LinkDown(counts) (profile).
     pub fn abandon(&mut self) -> Heard<'static>
         requires { up_of self.old ≡ true }
         ensures { Does self.old self.new (Ok result) (λ s. None) abandon_step }
     {
+        self.frames.clear();
         self.station.leave(Reason::Counts)
     }
 
-    /// Exchanges the frames to send, in the order in which the calls made them, with those of a list, which stand
-    /// before the frames of later calls: so one who sent them empties the list first. It takes no memory, and none is
-    /// set aside for further calls of `put` after it.
-    pub fn swap_frames(&mut self, frames: &mut Vec<Vec<u8>>)
-        ensures frames { map (λ f. f.items) frames.new.items ≡ self.old.outbox.made }
-        ensures places { vec_capacity frames.new ≡ self.old.outbox.places }
-        ensures outbox { self.new.outbox ≡ record {
-          made = map (λ f. f.items) frames.old.items;
-          places = vec_capacity frames.old;
-          long = 0;
-          short = 0;
-          sent = self.old.outbox.sent;
-        } }
-        ensures station { self.new.station ≡ self.old.station }
+    /// Exchanges the frames to send with those of a list, which stand before the frames of later calls of `put`.
+    pub fn swap_frames(&mut self, frames: &mut Frames)
+        ensures frames { frames.new ≡ self.old.frames }
+        ensures link { self.new ≡ record self.old { frames = frames.old } }
     {
-        self.outbox.swap(frames);
+        mem::swap(&mut self.frames, frames);
     }
 
     /// Whether the link is up, nothing waits and all that was sent is acknowledged.
@@ -231,53 +212,22 @@ impl Link {
         self.station.outgoing.first()
     }
 
-    /// How many buffers of the longest frame, of 4,103 octets each, are kept: as many at least as memory is set aside
-    /// for, and 32 at most. They are used where memory for a frame is refused.
-    pub fn blanks(&self) -> usize
-        ensures least { self.now.outbox.long ≤ result }
-        ensures most { result ≤ 32 }
-    {
-        self.outbox.blanks()
-    }
-
-    /// How many buffers of frames that were sent are kept, of at most 4,103 octets each: 32 at most. They are used for
-    /// frames that are sent later.
-    pub fn kept(&self) -> usize
-        ensures value { result ≡ self.now.outbox.sent.kept }
-        ensures few { result ≤ 32 }
-    {
-        self.outbox.kept()
-    }
-
-    /// Keeps the memory of a frame that was sent, of this link or of another, for a later one. The link is as before.
-    ///
-    /// It is let go of where it is for more than 4,103 octets, and where 32 are kept.
-    #[inline(always)]
-    pub fn keep(&mut self, octets: Vec<u8>)
-        ensures station { self.new.station ≡ self.old.station }
-        ensures kept { KeepsOne self.old.outbox self.new.outbox (vec_capacity octets) }
-    {
-        self.outbox.keep(octets);
-    }
-
-    // Hands a packet down, and keeps the frames.
+    // Hands a packet down, and leaves its frame behind the others.
     #[inline(always)]
     fn hand_down(&mut self, packet: Vec<u8>) -> Result<(), LinkError>
         requires { vec_len packet ≤ limit_of self.old }
         ensures state { (c : Settings) (s : StationState) → FitsLink c self.old s
             → OnOk result (FitsLink c self.new (put_step c packet.items s).side.near) }
-        ensures made { (c : Settings) (s : StationState) → FitsLink c self.old s →
-            OnOk result (self.new.outbox.made
-            ≡ self.old.outbox.made ++ map (spelling_of c.role) (put_step c packet.items s).side.out) }
-        ensures promised { OnOk result (self.new.outbox.long ≡ self.old.outbox.long - 1) }
-        ensures places { self.new.outbox.places ≤ max self.old.outbox.places
-            (length self.old.outbox.made + (max self.old.outbox.long 1 + self.old.outbox.short)) }
+        ensures frames { (c : Settings) (s : StationState) → FitsLink c self.old s → OnOk result
+            (self.new.frames ≡ self.old.frames ++ map (spelling_of c.role) (put_step c packet.items s).side.out) }
+        ensures places { OnOk result (places_left self.old.frames ≤ places_left self.new.frames + 1) }
         ensures refused { (c : Settings) (s : StationState) → FitsLink c self.old s → Refuses (put_refusal s) result }
         ensures not_up { IsErrOf result LinkError.NotUp ↔ (up_of self.old ≡ false) }
         ensures full { IsErrOf result LinkError.QueueFull ↔ ((up_of self.old ≡ true) × (waiting_of self.old ≡ 256)) }
         ensures kinds { IfErr result RefusesPut }
-        ensures memory { IsErrOf result LinkError.NoMemory → self.old.outbox.long ≡ 0 }
-        ensures accepted { up_of self.old ≡ true → waiting_of self.old < 256 → 0 < self.old.outbox.long → IsOk result }
+        ensures no_place { IsErrOf result LinkError.NoMemory → places_left self.old.frames ≡ 0 }
+        ensures accepted { up_of self.old ≡ true → waiting_of self.old < 256 → 0 < places_left self.old.frames
+            → IsOk result }
         ensures up_stays { up_of self.new ≡ up_of self.old }
         ensures longest_stays { limit_of self.new ≡ limit_of self.old }
         ensures waits_more { OnOk result (waiting_of self.new ≤ waiting_of self.old + 1) }
@@ -289,8 +239,10 @@ impl Link {
         if self.station.outgoing.waiting() == PLACES {
             return Err(LinkError::QueueFull);
         }
-        self.outbox.reserve(1, 0)?;
-        self.station.put(Octets::of(packet), &mut self.outbox);
+        if self.frames.len() == MOST_FRAMES {
+            return Err(LinkError::NoMemory);
+        }
+        self.station.put(Octets::of(packet), &mut self.frames);
         Ok(())
     }
 }

@@ -1,12 +1,11 @@
 //! What a station that is Up does with frames that carry an N(R).
-ghost use Rattle.std.specs.Prelude.{◌≡◌, ℕ, ◌+◌, ◌<◌, ◌≤◌, List, true, false, option_copied};
+ghost use Rattle.std.specs.Prelude.{◌≡◌, ℕ, ◌+◌, ◌<◌, ◌≤◌, List, length, true, false, option_copied};
 ghost use Rattle.x25_link.specs.Station.{Settings, LinkStation as StationState, Side};
-ghost use Rattle.x25_link.specs.code.OutgoingHeld.{window_of};
-ghost use Rattle.x25_link.specs.code.Fits.{FitsStation, FitsSide, Leads, SendsShort, SendsInfo};
+ghost use Rattle.x25_link.specs.code.Fits.{FitsStation, FitsSide, Leads};
 ghost use Rattle.x25_link.specs.Hearing.{is_valid, acknowledged, is_taken, takes, answers, passes_over, hears_info};
 ghost use Rattle.x25_link.specs.Hearing.{polls};
 
-use crate::outbox::Outbox;
+use crate::frames::Frames;
 use crate::station::LinkStation;
 use x25_bits::Seq;
 use x25_frame::Frame;
@@ -18,7 +17,6 @@ impl LinkStation {
         ensures valid { (c : Settings) (s : StationState) → FitsStation c self.old s → result ≡ is_valid nr.number s }
         ensures step { (c : Settings) (before made : List (List ℕ)) (t : Side) → FitsSide c self.old before made t
             → result ≡ true → FitsSide c self.new before made (acknowledged nr.number t) }
-        ensures window { window_of self.new.outgoing ≡ window_of self.old.outgoing }
         ensures unchanged { result ≡ false → self.new ≡ self.old }
     {
         let Ok(count) = self.outgoing.ack(nr) else {
@@ -37,16 +35,15 @@ impl LinkStation {
         ns: Seq,
         p: bool,
         info: &'a [u8],
-        out: &mut Outbox,
+        out: &mut Frames,
     ) -> Option<&'a [u8]>
-        requires room { window_of self.old.outgoing ≤ out.old.long }
-        requires short { 0 < out.old.short }
-        ensures step { (c : Settings) (before : List (List ℕ)) (t : Side) → FitsSide c self.old before out.old.made t →
-            FitsSide c self.new before out.new.made (hears_info c.window ns.number p info.now t).side }
+        requires place { length out.old < 25 }
+        ensures step { (c : Settings) (before : List (List ℕ)) (t : Side) → FitsSide c self.old before out.old t →
+            FitsSide c self.new before out.new (hears_info c.window ns.number p info.now t).side }
         ensures packet { (c : Settings) (before : List (List ℕ)) (t : Side)
-            → FitsSide c self.old before out.old.made t →
+            → FitsSide c self.old before out.old t →
             option_copied result ≡ (hears_info c.window ns.number p info.now t).packet }
-        ensures sent { SendsInfo self.old self.new out.old out.new }
+        ensures one { length out.new ≤ length out.old + 1 }
     {
         if self.takes(ns) {
             self.answer(p, out);
@@ -61,7 +58,6 @@ impl LinkStation {
         ensures value { (c : Settings) (s : StationState) → FitsStation c self.old s → result ≡ is_taken ns.number s }
         ensures taken { (c : Settings) (packet : List ℕ) (before made : List (List ℕ)) (t : Side)
             → FitsSide c self.old before made t → result ≡ true → FitsSide c self.new before made (takes packet t) }
-        ensures outgoing { self.new.outgoing ≡ self.old.outgoing }
         ensures passed { (c : Settings) (s : StationState) → FitsStation c self.old s → result ≡ false
             → FitsStation c self.new s }
     {
@@ -77,11 +73,10 @@ impl LinkStation {
     }
 
     // Answers an I frame that was taken.
-    fn answer(&mut self, p: bool, out: &mut Outbox)
-        requires room { window_of self.old.outgoing ≤ out.old.long }
-        requires short { 0 < out.old.short }
+    fn answer(&mut self, p: bool, out: &mut Frames)
+        requires place { length out.old < 25 }
         ensures step { Leads self.old self.new out.old out.new (λ c t. answers c.window p t) }
-        ensures sent { SendsInfo self.old self.new out.old out.new }
+        ensures one { length out.new ≤ length out.old + 1 }
     {
         if p {
             self.ready(false, true, out);
@@ -93,13 +88,10 @@ impl LinkStation {
     }
 
     // Passes over an I frame that isn't taken.
-    fn pass_over(&mut self, p: bool, out: &mut Outbox)
-        requires { 0 < out.old.short }
+    fn pass_over(&mut self, p: bool, out: &mut Frames)
+        requires { length out.old < 25 }
         ensures step { Leads self.old self.new out.old out.new (λ c t. passes_over p t) }
-        ensures outgoing { self.new.outgoing ≡ self.old.outgoing }
-        ensures long { out.new.long ≡ out.old.long }
-        ensures short { out.old.short ≤ out.new.short + 1 }
-        ensures places { out.new.places ≡ out.old.places }
+        ensures one { length out.new ≤ length out.old + 1 }
     {
         if self.is_busy() {
             self.ready(false, p, out);
@@ -120,10 +112,10 @@ impl LinkStation {
     }
 
     /// Answers a command with P=1. A response with F=1 ends recovery.
-    pub fn poll(&mut self, command: bool, pf: bool, out: &mut Outbox)
-        requires { 0 < out.old.short }
+    pub fn poll(&mut self, command: bool, pf: bool, out: &mut Frames)
+        requires { length out.old < 25 }
         ensures step { Leads self.old self.new out.old out.new (λ c t. polls command pf t) }
-        ensures sent { SendsShort self.old self.new out.old out.new }
+        ensures one { length out.new ≤ length out.old + 1 }
     {
         match (command, pf) {
             (true, true) => self.ready(false, true, out),

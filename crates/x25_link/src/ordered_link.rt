@@ -1,4 +1,4 @@
-ghost use Rattle.std.specs.Prelude.{◌≡◌, ℕ, ◌+◌, ◌-◌, ◌<◌, ◌≤◌, ◌↔◌, List, [], length, max, vec_len, vec_capacity};
+ghost use Rattle.std.specs.Prelude.{◌≡◌, ℕ, ◌+◌, ◌<◌, ◌≤◌, ◌↔◌, List, [], length, vec_len, vec_capacity};
 ghost use Rattle.std.specs.Prelude.{Bool, true, false, IfErr, IfSome, OnOk, OnErr, IsOk, IsErrOf};
 ghost use Rattle.x25_link.specs.Error.{RefusesPut};
 ghost use Rattle.x25_link.specs.OrderedLink.{Lists, handed_down};
@@ -37,7 +37,7 @@ pub trait OrderedLink {
     /// Whether packets are taken.
     ghost up: { Self → Bool };
 
-    /// For how many calls of `put` memory is set aside.
+    /// For how many calls of `put` places are left.
     ghost promised: { Self → ℕ };
 
     /// The most octets of a packet.
@@ -53,25 +53,9 @@ pub trait OrderedLink {
     fn is_up(&self) -> bool
         ensures { result ≡ up self.now };
 
-    /// For how many calls of `put` memory is set aside.
+    /// For how many calls of `put` places are left.
     fn promised(&self) -> usize
         ensures { result ≡ promised self.now };
-
-    /// Sets memory aside for at least so many calls of `put`, and for no more than these or those before. It changes
-    /// nothing else.
-    ///
-    /// Refused with 70 alone, and only where memory is set aside for fewer: also where the link has memory for fewer.
-    fn reserve(&mut self, count: usize) -> Result<(), LinkError>
-        ensures enough { OnOk result (count ≤ promised self.new) }
-        ensures no_fewer { promised self.old ≤ promised self.new }
-        ensures most { promised self.new ≤ max (promised self.old) count }
-        ensures state { (x : State) → fits self.old x → fits self.new x }
-        ensures longest_stays { longest self.new ≡ longest self.old }
-        ensures waits_stays { waits self.new ≡ waits self.old }
-        ensures up_stays { up self.new ≡ up self.old }
-        ensures refused { IfErr result (λ e. e ≡ LinkError.NoMemory) }
-        ensures missing { OnErr result (promised self.old < count) }
-        ensures err { OnErr result (self.new ≡ self.old) };
 
     /// Memory of a packet that is no longer kept, for one of so many octets and for 4,099 at most, where there is some.
     /// The link is as before.
@@ -88,18 +72,18 @@ pub trait OrderedLink {
     /// Hands a packet of at most `limit()` octets down.
     ///
     /// Refused with 9 where the link isn't up, then with 10 where 256 packets wait, and else with 70 alone, and that
-    /// only where no memory is set aside. An accepted call uses the memory of one `put`, where some is set aside.
+    /// only where no place is left. An accepted call takes one place at most.
     fn put(&mut self, packet: Vec<u8>) -> Result<(), LinkError>
         requires { vec_len packet ≤ longest self.old }
         ensures state { (x : State) → fits self.old x → OnOk result (fits self.new (after_put x packet.items)) }
-        ensures promised_fall { OnOk result (promised self.new ≡ promised self.old - 1) }
+        ensures places { OnOk result (promised self.old ≤ promised self.new + 1) }
         ensures longest_stays { longest self.new ≡ longest self.old }
         ensures up_stays { up self.new ≡ up self.old }
         ensures waits_more { OnOk result (waits self.new ≤ waits self.old + 1) }
         ensures not_up { IsErrOf result LinkError.NotUp ↔ (up self.old ≡ false) }
         ensures full { IsErrOf result LinkError.QueueFull ↔ ((up self.old ≡ true) × (waits self.old ≡ 256)) }
         ensures kinds { IfErr result RefusesPut }
-        ensures memory { IsErrOf result LinkError.NoMemory → promised self.old ≡ 0 }
+        ensures no_place { IsErrOf result LinkError.NoMemory → promised self.old ≡ 0 }
         ensures accepted { up self.old ≡ true → waits self.old < 256 → 0 < promised self.old → IsOk result }
         ensures err { OnErr result (self.new ≡ self.old) };
 

@@ -11,8 +11,8 @@ ghost use Rattle.x25_link.specs.Outgoing.{is_open, next_packet, waits};
 ghost use Rattle.x25_link.specs.Outgoing.{moved_on as sent_on};
 
 use crate::error::LinkError;
+use crate::frames::Frames;
 use crate::octets::Octets;
-use crate::outbox::Outbox;
 use crate::waiting_packets::WaitingPackets;
 use std::alloc::Global;
 use x25_bits::{Pool, Role, Seq};
@@ -32,7 +32,7 @@ pub struct Outgoing {
 }
 
 impl Outgoing {
-    ghost use Rattle.x25_link.specs.code.OutgoingHeld.{FitsOutgoing, window_of, before_in};
+    ghost use Rattle.x25_link.specs.code.OutgoingHeld.{FitsOutgoing};
 
     /// No packet, or `None` where the window k isn't 1 to 7. 70 alone.
     pub fn new(alloc: Global, window: u8) -> Result<Option<Outgoing>, LinkError>
@@ -58,14 +58,6 @@ impl Outgoing {
         ensures few { result ≤ 256 }
     {
         self.queue.len()
-    }
-
-    /// The window k, 1 to 7.
-    pub fn window(&self) -> u8
-        ensures value { result ≡ window_of self.now }
-        ensures few { result ≤ 7 }
-    {
-        self.sender.window()
     }
 
     /// How many frames were sent and aren't acknowledged.
@@ -116,7 +108,6 @@ impl Outgoing {
             → IfOk result (λ count. o.acked + count ≤ o.sent) }
         ensures beyond { (k : ℕ) (o : OutgoingState) → FitsOutgoing k self.old o
             → OnErr result (o.sent < resolved o.acked nr.number) }
-        ensures window { window_of self.new ≡ window_of self.old }
         ensures err { OnErr result (self.new ≡ self.old) }
     {
         let count = self.sender.acknowledges(nr)?;
@@ -134,7 +125,6 @@ impl Outgoing {
         ensures sender { (w : Sending (List ℕ)) → Fits self.old.sender w
             → Fits self.new.sender (acknowledged w (w.acked + count)) }
         ensures queue { self.new.queue ≡ self.old.queue }
-        ensures window { window_of self.new ≡ window_of self.old }
     {
         for _packet in 0..count {
             let packet = self.sender.release();
@@ -158,7 +148,6 @@ impl Outgoing {
     pub fn go_back(&mut self)
         ensures state { (k : ℕ) (o : OutgoingState) → FitsOutgoing k self.old o
             → FitsOutgoing k self.new (gone_back o) }
-        ensures window { window_of self.new ≡ window_of self.old }
     {
         self.sender.go_back();
     }
@@ -167,7 +156,6 @@ impl Outgoing {
     #[cold]
     pub fn clear(&mut self)
         ensures state { (k : ℕ) (o : OutgoingState) → FitsOutgoing k self.old o → FitsOutgoing k self.new no_packet }
-        ensures window { window_of self.new ≡ window_of self.old }
     {
         self.sender.clear();
         self.queue.clear();
@@ -176,22 +164,20 @@ impl Outgoing {
     /// As `add` and then `send_next`, where before it nothing may be sent: so where the window is open no packet waits,
     /// and this one goes at once. It says whether it did.
     #[inline(always)]
-    pub fn send_at_once(&mut self, packet: Octets, from: Role, nr: Seq, out: &mut Outbox) -> bool
+    pub fn send_at_once(&mut self, packet: Octets, from: Role, nr: Seq, out: &mut Frames) -> bool
         requires few { length self.old.queue < 256 }
-        requires long { 0 < out.old.long }
+        requires place { length out.old < 25 }
         ensures sent { (k : ℕ) (o : OutgoingState) → FitsOutgoing k self.old o → is_open k o ≡ false
             → result ≡ is_open k (added packet o) }
         ensures step { (k : ℕ) (o : OutgoingState) → FitsOutgoing k self.old o → is_open k o ≡ false
             → FitsOutgoing k self.new (if result then sent_on (added packet o) else added packet o) }
         ensures made { (k : ℕ) (o : OutgoingState) → FitsOutgoing k self.old o → is_open k o ≡ false →
-            out.new.made ≡ (if result
-            then out.old.made
+            out.new ≡ (if result
+            then out.old
             ++ spelling_of from (info (o.place % 8) nr.number false (next_packet (added packet o))) ∷ []
-            else out.old.made) }
+            else out.old) }
         ensures queue { length self.new.queue ≤ length self.old.queue + 1 }
-        ensures long { out.old.long ≡ (if result then out.new.long + 1 else out.new.long) }
-        ensures short { out.new.short ≡ out.old.short }
-        ensures places { out.new.places ≡ out.old.places }
+        ensures one { length out.new ≤ length out.old + 1 }
     {
         if self.sender.is_full() {
             self.queue.push(packet);
@@ -203,22 +189,18 @@ impl Outgoing {
 
     /// Sends the next packet, again or new, where the window is open and there is one. It says whether it did.
     #[inline(always)]
-    pub fn send_next(&mut self, from: Role, nr: Seq, out: &mut Outbox) -> bool
-        requires { before_in self.old < window_of self.old → 0 < out.old.long }
+    pub fn send_next(&mut self, from: Role, nr: Seq, out: &mut Frames) -> bool
+        requires { length out.old < 25 }
         ensures sent { (k : ℕ) (o : OutgoingState) → FitsOutgoing k self.old o → result ≡ is_open k o }
         ensures step { (k : ℕ) (o : OutgoingState) → FitsOutgoing k self.old o
             → FitsOutgoing k self.new (if result then sent_on o else o) }
         ensures made { (k : ℕ) (o : OutgoingState) → FitsOutgoing k self.old o →
-            out.new.made ≡ (if result
-            then out.old.made ++ spelling_of from (info (o.place % 8) nr.number false (next_packet o)) ∷ []
-            else out.old.made) }
+            out.new ≡ (if result
+            then out.old ++ spelling_of from (info (o.place % 8) nr.number false (next_packet o)) ∷ []
+            else out.old) }
         ensures queue { length self.new.queue ≤ length self.old.queue }
-        ensures window { window_of self.new ≡ window_of self.old }
-        ensures before { before_in self.new ≡ (if result then before_in self.old + 1 else before_in self.old) }
-        ensures inside { result ≡ true → before_in self.old < window_of self.old }
-        ensures long { out.old.long ≡ (if result then out.new.long + 1 else out.new.long) }
-        ensures short { out.new.short ≡ out.old.short }
-        ensures places { out.new.places ≡ out.old.places }
+        ensures one { length out.new ≤ length out.old + 1 }
+        ensures none { result ≡ false → out.new ≡ out.old }
     {
         let is_closed = self.sender.is_full();
         if send_again(&mut self.sender, from, nr, out) {
@@ -236,44 +218,39 @@ impl Outgoing {
 }
 
 // Sends the packet at the place to send from again, where it was sent before. It says whether it did.
-fn send_again(sender: &mut Sender<Octets>, from: Role, nr: Seq, out: &mut Outbox) -> bool
-    requires few { length sender.old.items ≤ sender.old.window }
-    requires long { sender.old.before < sender.old.window → 0 < out.old.long }
+fn send_again(sender: &mut Sender<Octets>, from: Role, nr: Seq, out: &mut Frames) -> bool
+    requires { length out.old < 25 }
     ensures sent { (w : Sending (List ℕ)) → Fits sender.old w → result ≡ nat_lt w.place (length w.given) }
     ensures step { (w : Sending (List ℕ)) → Fits sender.old w → Fits sender.new (if result then moved_on w else w) }
     ensures made { (w : Sending (List ℕ)) → Fits sender.old w →
-        out.new.made ≡ (if result
-        then out.old.made
+        out.new ≡ (if result
+        then out.old
         ++ spelling_of from (info (w.place % 8) nr.number false (slice_index_or w.given w.place [])) ∷ []
-        else out.old.made) }
+        else out.old) }
     ensures held { sender.new ≡ (if result then record sender.old { before = sender.old.before + 1 } else sender.old) }
     ensures last { result ≡ false → sender.old.before ≡ length sender.old.items }
-    ensures inside { result ≡ true → sender.old.before < length sender.old.items }
-    ensures long { out.old.long ≡ (if result then out.new.long + 1 else out.new.long) }
-    ensures short { out.new.short ≡ out.old.short }
-    ensures places { out.new.places ≡ out.old.places }
+    ensures one { length out.new ≤ length out.old + 1 }
+    ensures none { result ≡ false → out.new ≡ out.old }
 {
     let Some((ns, packet)) = sender.next() else {
         return false;
     };
-    out.send_packet(from, ns, nr, packet.as_slice());
+    out.push_packet(from, ns, nr, packet.as_slice());
     true
 }
 
 // Sends a packet for the first time.
 #[inline(always)]
-fn send_new(sender: &mut Sender<Octets>, packet: Octets, from: Role, nr: Seq, out: &mut Outbox)
-    requires ready { 0 < out.old.long }
+fn send_new(sender: &mut Sender<Octets>, packet: Octets, from: Role, nr: Seq, out: &mut Frames)
+    requires place { length out.old < 25 }
     requires open { ¬ (length sender.old.items ≡ sender.old.window) }
     ensures step { (w : Sending (List ℕ)) → Fits sender.old w → length w.given < w.acked + w.window
         → Fits sender.new (offered w packet) }
     ensures made { (w : Sending (List ℕ)) → Fits sender.old w →
-        out.new.made ≡ out.old.made ++ spelling_of from (info (length w.given % 8) nr.number false packet) ∷ [] }
+        out.new ≡ out.old ++ spelling_of from (info (length w.given % 8) nr.number false packet) ∷ [] }
     ensures held { sender.new ≡ with_item sender.old packet }
-    ensures long { out.old.long ≡ out.new.long + 1 }
-    ensures short { out.new.short ≡ out.old.short }
-    ensures places { out.new.places ≡ out.old.places }
+    ensures one { length out.new ≡ length out.old + 1 }
 {
-    out.send_packet(from, sender.top(), nr, packet.as_slice());
+    out.push_packet(from, sender.top(), nr, packet.as_slice());
     sender.offer(packet).unwrap();
 }

@@ -1,9 +1,10 @@
-ghost use Rattle.std.specs.Prelude.{◌≡◌, ℕ, ◌+◌, ◌-◌, ◌<◌, ◌≤◌, List, [], ◌∷◌, ◌++◌, length, drop, true, IfOk, IfErr};
+ghost use Rattle.std.specs.Prelude.{◌≡◌, ℕ, ◌+◌, ◌<◌, ◌≤◌, List, [], ◌∷◌, ◌++◌, length, drop, true, IfOk, IfErr};
 ghost use Rattle.std.specs.Prelude.{OnOk, OnErr, OnSome, IfSome, MatchOption, slice_get};
 ghost use Rattle.x25_link.specs.OrderedLink.{Lists, no_packets, acked_more};
 ghost use Rattle.x25_link.specs.PlainLink.{ShownPlain, FitsPlain};
 
 use crate::error::LinkError;
+use crate::frames::MOST_FRAMES;
 use crate::octets::Octets;
 use crate::ordered_link::OrderedLink;
 use crate::waiting_packets::{PLACES, WaitingPackets};
@@ -15,7 +16,6 @@ use x25_frame::N1;
 #[derive(Drop)]
 pub struct PlainLink {
     queue: WaitingPackets,
-    promised: usize,
 }
 
 impl Model for PlainLink {
@@ -23,7 +23,7 @@ impl Model for PlainLink {
 
     ghost Value = { ShownPlain };
 
-    ghost view = { λ l. record { queue = l.queue; promised = l.promised } };
+    ghost view = { λ l. record { queue = l.queue } };
 
     ghost invariant = { λ _. Unit {0} };
 }
@@ -32,11 +32,10 @@ impl PlainLink {
     /// A link in which nothing waits. Refused with 70 alone.
     pub fn new(alloc: Global) -> Result<PlainLink, LinkError>
         ensures ok { IfOk result (λ l. FitsPlain l no_packets) }
-        ensures promised { IfOk result (λ l. l.promised ≡ 0) }
         ensures err { IfErr result (λ e. e ≡ LinkError.NoMemory) }
     {
         let queue = WaitingPackets::new(alloc)?;
-        Ok(PlainLink { queue, promised: 0 })
+        Ok(PlainLink { queue })
     }
 
     /// Takes the first packet that waits, which counts as acknowledged by that. It takes no memory.
@@ -46,7 +45,7 @@ impl PlainLink {
         ensures front { (x : Lists) → FitsPlain self.old x
             → IfSome result (λ packet. slice_get x.given x.acked ≡ Some packet.items) }
         ensures value { MatchOption result ((self.old.queue ≡ []) × (self.new ≡ self.old))
-            (λ packet. (self.old.queue ≡ packet.items ∷ self.new.queue) × (self.new.promised ≡ self.old.promised)) }
+            (λ packet. self.old.queue ≡ packet.items ∷ self.new.queue) }
     {
         let packet = self.queue.pop()?;
         Some(packet.into_vec())
@@ -91,7 +90,7 @@ impl OrderedLink for PlainLink {
 
     ghost up = { λ _. true };
 
-    ghost promised = { λ l. l.promised };
+    ghost promised = { λ _. 25 };
 
     fn limit(&self) -> usize {
         N1
@@ -105,15 +104,9 @@ impl OrderedLink for PlainLink {
         true
     }
 
+    // It makes no frames.
     fn promised(&self) -> usize {
-        self.promised
-    }
-
-    fn reserve(&mut self, count: usize) -> Result<(), LinkError> {
-        if self.promised < count {
-            self.promised = count;
-        }
-        Ok(())
+        MOST_FRAMES
     }
 
     // It keeps no memory.
@@ -126,7 +119,6 @@ impl OrderedLink for PlainLink {
             return Err(LinkError::QueueFull);
         }
         self.queue.push(Octets::of(packet));
-        self.promised = self.promised.saturating_sub(1);
         Ok(())
     }
 }

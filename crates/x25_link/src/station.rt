@@ -1,4 +1,4 @@
-ghost use Rattle.std.specs.Prelude.{◌≡◌, ℕ, ◌+◌, ◌<◌, ◌≤◌, ◌&&◌, true, List, length, if◌then◌else◌};
+ghost use Rattle.std.specs.Prelude.{◌≡◌, ℕ, ◌+◌, ◌<◌, ◌≤◌, ◌&&◌, true, false, List, length, if◌then◌else◌};
 ghost use Rattle.x25_frame.specs.Frame.{plain};
 ghost use Rattle.x25_frame.specs.Spelling.{information_of};
 ghost use Rattle.x25_link.specs.Hearing.{leaves};
@@ -6,8 +6,8 @@ ghost use Rattle.x25_link.specs.Station.{Settings, LinkStation as StationState, 
 ghost use Rattle.x25_link.specs.Station.{with_nothing, with_near, fresh, may_send, pumped_once, pumped, finished};
 ghost use Rattle.x25_link.specs.Station.{ended};
 
+use crate::frames::Frames;
 use crate::heard::Heard;
-use crate::outbox::Outbox;
 use crate::outgoing::Outgoing;
 use crate::phase::{Phase, Reason};
 use x25_bits::Role;
@@ -45,7 +45,6 @@ pub struct LinkStation {
 }
 
 impl LinkStation {
-    ghost use Rattle.x25_link.specs.code.OutgoingHeld.{window_of, before_in};
     ghost use Rattle.x25_link.specs.code.Fits.{FitsStation, FitsSide, FitsHeard, Leads, Turns};
 
     /// Whether the station is busy, and takes no I frame.
@@ -58,39 +57,32 @@ impl LinkStation {
     // Sends a frame that carries no packet, in its caller's place.
     #[inline(always)]
     #[tactic(auto, using(crate::proofs::FitsLemmas::made_more))]
-    fn send_here(&self, frame: &Frame, out: &mut Outbox)
-        requires ready { 0 < out.old.short }
+    fn send_here(&self, frame: &Frame, out: &mut Frames)
+        requires place { length out.old < 25 }
         requires short { length (information_of (plain frame.now)) ≤ 3 }
         ensures step { Leads self.now self.now out.old out.new (λ c t. sends (plain frame.now) t) }
-        ensures short { out.old.short ≡ out.new.short + 1 }
-        ensures long { out.new.long ≡ out.old.long }
-        ensures places { out.new.places ≡ out.old.places }
+        ensures one { length out.new ≡ length out.old + 1 }
     {
-        out.send_short(self.role, frame);
+        out.push(self.role, frame);
     }
 
     /// Sends a frame that carries no packet.
     #[inline(never)]
-    pub fn send(&self, frame: &Frame, out: &mut Outbox)
-        requires ready { 0 < out.old.short }
+    pub fn send(&self, frame: &Frame, out: &mut Frames)
+        requires place { length out.old < 25 }
         requires short { length (information_of (plain frame.now)) ≤ 3 }
         ensures step { Leads self.now self.now out.old out.new (λ c t. sends (plain frame.now) t) }
-        ensures short { out.old.short ≡ out.new.short + 1 }
-        ensures long { out.new.long ≡ out.old.long }
-        ensures places { out.new.places ≡ out.old.places }
+        ensures one { length out.new ≡ length out.old + 1 }
     {
         self.send_here(frame, out);
     }
 
     /// Sends RR, or RNR where the station is busy.
     #[inline(always)]
-    pub fn ready(&mut self, command: bool, pf: bool, out: &mut Outbox)
-        requires { 0 < out.old.short }
+    pub fn ready(&mut self, command: bool, pf: bool, out: &mut Frames)
+        requires { length out.old < 25 }
         ensures step { Leads self.old self.new out.old out.new (λ c t. ready command pf t) }
-        ensures outgoing { self.new.outgoing ≡ self.old.outgoing }
-        ensures short { out.old.short ≡ out.new.short + 1 }
-        ensures long { out.new.long ≡ out.old.long }
-        ensures places { out.new.places ≡ out.old.places }
+        ensures one { length out.new ≡ length out.old + 1 }
     {
         let nr = self.receiver.wanted();
         if self.is_busy() {
@@ -104,28 +96,20 @@ impl LinkStation {
 
     /// Sends by the sending rule, for at most seven frames, and then an RR where RNR was the last and the station is no
     /// longer busy.
-    pub fn end(&mut self, out: &mut Outbox)
-        requires long { window_of self.old.outgoing ≤ out.old.long + before_in self.old.outgoing }
-        requires short { 0 < out.old.short }
+    pub fn end(&mut self, out: &mut Frames)
+        requires { length out.old + 8 ≤ 25 }
         ensures step { Leads self.old self.new out.old out.new (λ c t. ended c.window t) }
-        ensures left { (most : ℕ) → most ≤ out.old.long + before_in self.old.outgoing
-            → most ≤ out.old.long + window_of self.old.outgoing →
-            most ≤ out.new.long + window_of self.old.outgoing }
-        ensures places { out.new.places ≡ out.old.places }
+        ensures few { length out.new ≤ length out.old + 8 }
     {
         self.pump(out);
         self.finish(out);
     }
 
     // The sending rule, for the frames of a window: where it sends no first one, it sends none.
-    fn pump(&mut self, out: &mut Outbox)
-        requires long { window_of self.old.outgoing ≤ out.old.long + before_in self.old.outgoing }
+    fn pump(&mut self, out: &mut Frames)
+        requires { length out.old + 7 ≤ 25 }
         ensures step { Leads self.old self.new out.old out.new (λ c t. pumped 7 c.window t) }
-        ensures short { out.new.short ≡ out.old.short }
-        ensures left { (most : ℕ) → most ≤ out.old.long + before_in self.old.outgoing
-            → most ≤ out.old.long + window_of self.old.outgoing →
-            most ≤ out.new.long + window_of self.old.outgoing }
-        ensures places { out.new.places ≡ out.old.places }
+        ensures few { length out.new ≤ length out.old + 7 }
     {
         if self.pump_once(out) {
             self.pump_on(out);
@@ -133,14 +117,10 @@ impl LinkStation {
     }
 
     // The sending rule, for the frames behind the first one of a window.
-    fn pump_on(&mut self, out: &mut Outbox)
-        requires long { window_of self.old.outgoing ≤ out.old.long + before_in self.old.outgoing }
+    fn pump_on(&mut self, out: &mut Frames)
+        requires { length out.old + 6 ≤ 25 }
         ensures step { Leads self.old self.new out.old out.new (λ c t. pumped 6 c.window t) }
-        ensures short { out.new.short ≡ out.old.short }
-        ensures left { (most : ℕ) → most ≤ out.old.long + before_in self.old.outgoing
-            → most ≤ out.old.long + window_of self.old.outgoing →
-            most ≤ out.new.long + window_of self.old.outgoing }
-        ensures places { out.new.places ≡ out.old.places }
+        ensures few { length out.new ≤ length out.old + 6 }
     {
         for _frame in 0..FRAMES - 1 {
             if !self.pump_once(out) {
@@ -151,20 +131,12 @@ impl LinkStation {
 
     /// The sending rule, once. It says whether a frame was sent.
     #[inline(always)]
-    pub fn pump_once(&mut self, out: &mut Outbox) -> bool
-        requires { before_in self.old.outgoing < window_of self.old.outgoing → 0 < out.old.long }
+    pub fn pump_once(&mut self, out: &mut Frames) -> bool
+        requires { length out.old < 25 }
         ensures sent { (c : Settings) (s : StationState) → FitsStation c self.old s → result ≡ may_send c.window s }
         ensures step { Leads self.old self.new out.old out.new (λ c t. pumped_once c.window t) }
-        ensures long { out.old.long ≤ out.new.long + 1 }
-        ensures kept { self.new ≡ record self.old { outgoing = self.new.outgoing } }
-        ensures queue { length self.new.outgoing.queue ≤ length self.old.outgoing.queue }
-        ensures window { window_of self.new.outgoing ≡ window_of self.old.outgoing }
-        ensures before { before_in self.new.outgoing
-            ≡ (if result then before_in self.old.outgoing + 1 else before_in self.old.outgoing) }
-        ensures used { out.old.long ≡ (if result then out.new.long + 1 else out.new.long) }
-        ensures inside { result ≡ true → before_in self.old.outgoing < window_of self.old.outgoing }
-        ensures short { out.new.short ≡ out.old.short }
-        ensures places { out.new.places ≡ out.old.places }
+        ensures one { length out.new ≤ length out.old + 1 }
+        ensures none { result ≡ false → out.new ≡ out.old }
     {
         if !self.phase.is_up() || self.recovery || self.peer_busy {
             return false;
@@ -174,12 +146,10 @@ impl LinkStation {
     }
 
     // RR, where RNR was the last and the station is no longer busy.
-    fn finish(&mut self, out: &mut Outbox)
-        requires { 0 < out.old.short }
+    fn finish(&mut self, out: &mut Frames)
+        requires { length out.old < 25 }
         ensures step { Leads self.old self.new out.old out.new (λ c t. finished t) }
-        ensures long { out.new.long ≡ out.old.long }
-        ensures outgoing { self.new.outgoing ≡ self.old.outgoing }
-        ensures places { out.new.places ≡ out.old.places }
+        ensures one { length out.new ≤ length out.old + 1 }
     {
         if self.phase.is_up() && self.said_busy && !self.is_busy() {
             self.ready(false, false, out);
@@ -190,7 +160,6 @@ impl LinkStation {
     #[cold]
     pub fn clear(&mut self, phase: Phase)
         ensures step { Turns self.old self.new (λ c t. with_near t (with_nothing phase t.near.tries)) }
-        ensures window { window_of self.new.outgoing ≡ window_of self.old.outgoing }
     {
         self.phase = phase;
         self.outgoing.clear();
@@ -204,7 +173,6 @@ impl LinkStation {
     /// The link is set up: all variables are 0.
     pub fn set_up(&mut self)
         ensures step { Turns self.old self.new (λ c t. with_near t fresh) }
-        ensures window { window_of self.new.outgoing ≡ window_of self.old.outgoing }
     {
         self.clear(Phase::Up);
         self.tries = 0;
@@ -215,7 +183,6 @@ impl LinkStation {
     pub fn leave<'a>(&mut self, reason: Reason) -> Heard<'a>
         ensures step { (c : Settings) (before made : List (List ℕ)) (t : Side) → FitsSide c self.old before made t
             → FitsHeard c self.new before made result (leaves reason t) }
-        ensures window { window_of self.new.outgoing ≡ window_of self.old.outgoing }
     {
         self.clear(Phase::Down);
         Heard::down(reason)

@@ -2,7 +2,7 @@
 
 use std::alloc::Global;
 use x25_bits::Role;
-use x25_link::{Heard, Link, LinkError, OrderedLink, PlainLink};
+use x25_link::{Frames, Heard, Link, LinkError, OrderedLink, PlainLink};
 
 // A value in a place of its own: a body that holds the box lets go of it by one call, and not of each part of the
 // value, and so does one that doesn't know what it is.
@@ -31,11 +31,14 @@ pub fn plain_link(alloc: Global) -> Result<Box<PlainLink>, LinkError> {
     boxed(alloc, PlainLink::new(alloc)?).ok_or(LinkError::NoMemory)
 }
 
-/// The frames to send.
-pub fn sent(link: &mut Link, alloc: Global) -> Vec<Vec<u8>> {
-    let mut frames = Vec::new(alloc);
-    link.swap_frames(&mut frames);
-    frames
+/// A list of no frames.
+pub fn no_frames(alloc: Global) -> Result<Box<Frames>, LinkError> {
+    boxed(alloc, Frames::new(alloc)?).ok_or(LinkError::NoMemory)
+}
+
+/// Exchanges the frames to send with those of a list.
+pub fn swap(link: &mut Link, frames: &mut Frames) {
+    link.swap_frames(frames);
 }
 
 pub fn connect(link: &mut Link) -> Result<Heard<'static>, LinkError> {
@@ -67,7 +70,7 @@ pub fn fire(link: &mut Link) -> Result<Heard<'static>, LinkError> {
     link.t1()
 }
 
-pub fn take<'a>(link: &mut Link, octets: &'a [u8]) -> Result<Heard<'a>, LinkError> {
+pub fn take<'a>(link: &mut Link, octets: &'a [u8]) -> Heard<'a> {
     link.take(octets)
 }
 
@@ -77,6 +80,5 @@ pub fn put(link: &mut Link, alloc: Global, octet: u8) -> Result<(), LinkError> {
     if packet.len() > link.limit() {
         return Err(LinkError::BadConfig);
     }
-    link.reserve(1)?;
     link.put(packet)
 }

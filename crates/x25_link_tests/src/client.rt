@@ -1,5 +1,5 @@
 //! A client of any link that keeps order, as a packet layer is one.
-ghost use Rattle.std.specs.Prelude.{◌≡◌, ◌<◌, ◌≤◌, nat_lt, true, if◌then◌else◌, vec_len, IfErr, OnOk, OnErr};
+ghost use Rattle.std.specs.Prelude.{◌≡◌, ◌<◌, ◌≤◌, nat_lt, true, if◌then◌else◌, vec_len};
 
 use crate::calls::{link, plain_link};
 use std::alloc::Global;
@@ -7,28 +7,21 @@ use x25_bits::Role;
 use x25_link::{Link, LinkError, OrderedLink, PlainLink};
 
 // Puts an answer, and behind it a further packet where fewer than 8 packets wait. Which of them is a function of the
-// state that the link fits. Refused with 70 alone, and the link is as it was then.
-fn answer_and_pull<L: OrderedLink>(
-    link: &mut L,
-    answer: Vec<u8>,
-    further: Vec<u8>,
-) -> Result<(), LinkError>
+// state that the link fits. Neither is refused where two places are left.
+fn answer_and_pull<L: OrderedLink>(link: &mut L, answer: Vec<u8>, further: Vec<u8>)
     requires up { L.up link.old ≡ true }
     requires free { L.waits link.old < 256 }
+    requires places { 2 ≤ L.promised link.old }
     requires answer_short { vec_len answer ≤ L.longest link.old }
     requires further_short { vec_len further ≤ L.longest link.old }
     ensures state { (x : L.State) → L.fits link.old x →
-        OnOk result (L.fits link.new (if nat_lt (L.waits_in (L.after_put x answer.items)) 8
-        then L.after_put (L.after_put x answer.items) further.items else L.after_put x answer.items)) }
-    ensures refused { IfErr result (λ e. e ≡ LinkError.NoMemory) }
-    ensures err { OnErr result (link.new ≡ link.old) }
+        L.fits link.new (if nat_lt (L.waits_in (L.after_put x answer.items)) 8
+        then L.after_put (L.after_put x answer.items) further.items else L.after_put x answer.items) }
 {
-    link.reserve(2)?;
     link.put(answer).unwrap();
     if link.waiting() < 8 {
         link.put(further).unwrap();
     }
-    Ok(())
 }
 
 // Puts two packets of no octets so, and says how many wait then.
@@ -39,7 +32,10 @@ fn waiting_after<L: OrderedLink>(link: &mut L, alloc: Global) -> Result<usize, L
     if link.waiting() == 256 {
         return Err(LinkError::QueueFull);
     }
-    answer_and_pull(link, Vec::new(alloc), Vec::new(alloc))?;
+    if link.promised() < 2 {
+        return Err(LinkError::NoMemory);
+    }
+    answer_and_pull(link, Vec::new(alloc), Vec::new(alloc));
     Ok(link.waiting())
 }
 

@@ -1,9 +1,10 @@
-//! The list of frames that a link exchanges with its caller's, and memory of frames that serves again.
+//! The list of frames that a link exchanges with its caller's.
 
-use crate::calls::{connect, link, take};
+use crate::calls::{connect, link, no_frames, put, swap, take};
 use std::alloc::Global;
-use x25_bits::Role;
-use x25_link::{Link, LinkError};
+use x25_bits::{Role, Seq};
+use x25_frame::{Frame, encode};
+use x25_link::{Frames, Link, LinkError};
 
 /// SABM with P=1 of the DTE.
 static SABM: [u8; 4] = [0x01, 0x3F, 0xEB, 0xDF];
@@ -11,100 +12,109 @@ static SABM: [u8; 4] = [0x01, 0x3F, 0xEB, 0xDF];
 /// UA with F=1 of the DCE.
 static UA: [u8; 4] = [0x01, 0x73, 0x83, 0x57];
 
-fn is_ua(frame: Option<&Vec<u8>>) -> bool {
+/// The I frame with N(S) 0 that carries the octet 0, of the DCE.
+static FIRST: [u8; 5] = [0x03, 0x00, 0x00, 0xA8, 0x29];
+
+fn is(frame: Option<&Vec<u8>>, octets: &[u8]) -> bool {
     match frame {
-        Some(frame) => frame.as_slice() == UA.as_slice(),
+        Some(frame) => frame.as_slice() == octets,
         None => false,
     }
 }
 
-/// How many frames a list holds, and whether the first two are UA.
-type Two = (usize, bool, bool);
+/// How many frames a list holds, whether the first is UA, and whether the last is the I frame.
+type Ends = (usize, bool, bool);
 
-fn two(frames: &[Vec<u8>]) -> Two {
-    (frames.len(), is_ua(frames.get(0)), is_ua(frames.get(1)))
+fn ends(frames: &Frames) -> Ends {
+    let list = frames.as_slice();
+    (frames.len(), is(list.first(), &UA), is(list.last(), &FIRST))
 }
 
-// Frames of two calls come in order.
-fn answers_twice(link: &mut Link, frames: &mut Vec<Vec<u8>>) -> Result<(), LinkError> {
-    take(link, &SABM)?;
-    take(link, &SABM)?;
-    link.swap_frames(frames);
-    Ok(())
-}
-
-// Frames that are left in the list stand before those of the next call. Answers how many are in it before that.
-fn answers_behind_others(link: &mut Link, frames: &mut Vec<Vec<u8>>) -> Result<usize, LinkError> {
-    take(link, &SABM)?;
-    link.swap_frames(frames);
-    link.swap_frames(frames);
+// What stands in the list behind two SABMs; once it is given back, exchanged again, how many are in it; and what stands
+// there once it is given back and a packet is handed down.
+fn answers(
+    link: &mut Link,
+    frames: &mut Frames,
+    alloc: Global,
+) -> Result<(Ends, usize, Ends), LinkError> {
+    take(link, &SABM);
+    take(link, &SABM);
+    swap(link, frames);
+    let twice = ends(frames);
+    swap(link, frames);
     let count = frames.len();
-    take(link, &SABM)?;
-    link.swap_frames(frames);
-    Ok(count)
+    put(link, alloc, 0)?;
+    swap(link, frames);
+    Ok((twice, count, ends(frames)))
 }
 
-fn answers(link: &mut Link, frames: &mut Vec<Vec<u8>>) -> Result<(Two, usize, Two), LinkError> {
-    answers_twice(link, frames)?;
-    let twice = two(frames.as_slice());
-    frames.clear();
-    let count = answers_behind_others(link, frames)?;
-    Ok((twice, count, two(frames.as_slice())))
-}
-
-fn answers_of_a_dce(alloc: Global) -> Result<(Two, usize, Two), LinkError> {
+fn answers_of_a_dce(alloc: Global) -> Result<(Ends, usize, Ends), LinkError> {
     let mut link = link(alloc, Role::Dce, 7, 10)?;
-    answers(&mut link, &mut Vec::new(alloc))
+    let mut frames = no_frames(alloc)?;
+    answers(&mut link, &mut frames, alloc)
 }
 
 #[test]
 fn frames_come_in_order(rt: HostRuntime) {
-    let wanted = ((2, true, true), 0, (2, true, true));
+    let wanted = ((1, true, false), 0, (2, true, true));
     assert_eq!(rt; answers_of_a_dce(rt.alloc()), Ok(wanted));
 }
 
-/// How many buffers are kept before SABM is sent, and behind it; whether SABM stands in the memory that was given,
-/// where it is sent; and how many are kept once its frame is given back.
-type Kept = (usize, usize, Option<bool>, usize);
-
-/// For how many octets memory is given, and what comes of it: what is too small is let go of.
-static MEMORY: [(usize, Kept); 2] = [(40, (1, 0, Some(true), 1)), (3, (1, 0, Some(false), 1))];
-
-// Whether the first frame has memory for so many octets, where it is SABM.
-fn sabm_stands_in(frames: &[Vec<u8>], octets: usize) -> Option<bool> {
-    match frames {
-        [frame, ..] if frame.as_slice() == SABM.as_slice() => Some(frame.capacity() == octets),
-        _ => None,
-    }
+// The DCE acknowledges all frames below this number.
+fn acknowledge(link: &mut Link, alloc: Global, nr: Seq) -> Result<(), LinkError> {
+    let mut octets = Vec::new(alloc);
+    let frame = Frame::Rr {
+        command: false,
+        nr,
+        pf: false,
+    };
+    encode(Role::Dce, &frame, &mut octets)?;
+    take(link, octets.as_slice());
+    Ok(())
 }
 
-fn sends(
+// Hands seven packets down, which go behind the frames of the list, and acknowledges them.
+fn seven_more(
     link: &mut Link,
-    memory: Vec<u8>,
-    octets: usize,
-    frames: &mut Vec<Vec<u8>>,
-) -> Result<Kept, LinkError> {
-    link.keep(memory);
-    let before = link.kept();
-    connect(link)?;
-    link.swap_frames(frames);
-    let behind = link.kept();
-    let stands = sabm_stands_in(frames.as_slice(), octets);
-    for frame in frames.drain(..) {
-        link.keep(frame);
+    frames: &mut Frames,
+    alloc: Global,
+    nr: u8,
+) -> Result<(), LinkError> {
+    for _ in 0..7u8 {
+        put(link, alloc, 0)?;
     }
-    Ok((before, behind, stands, link.kept()))
+    swap(link, frames);
+    acknowledge(link, alloc, Seq::modulo(nr))?;
+    swap(link, frames);
+    Ok(())
 }
 
-fn sends_in(alloc: Global, octets: usize) -> Result<Kept, LinkError> {
+// How many packets go until no place is left, and the number of the refusal of the next.
+fn fills(
+    link: &mut Link,
+    frames: &mut Frames,
+    alloc: Global,
+) -> Result<(usize, Option<u8>), LinkError> {
+    connect(link)?;
+    take(link, &UA);
+    for nr in [7, 6, 5] {
+        seven_more(link, frames, alloc, nr)?;
+    }
+    for _ in 0..4u8 {
+        put(link, alloc, 0)?;
+    }
+    let refused = put(link, alloc, 0).err().map(LinkError::number);
+    swap(link, frames);
+    Ok((frames.len(), refused))
+}
+
+fn fills_of_a_dte(alloc: Global) -> Result<(usize, Option<u8>), LinkError> {
     let mut link = link(alloc, Role::Dte, 7, 10)?;
-    let memory = vec![in alloc; 9u8; octets]?;
-    sends(&mut link, memory, octets, &mut Vec::new(alloc))
+    let mut frames = no_frames(alloc)?;
+    fills(&mut link, &mut frames, alloc)
 }
 
 #[test]
-fn a_frame_is_sent_in_memory_that_was_kept(rt: HostRuntime) {
-    for &(octets, wanted) in &MEMORY {
-        assert_eq!(rt; sends_in(rt.alloc(), octets), Ok(wanted), "{octets}");
-    }
+fn twenty_five_frames_have_places(rt: HostRuntime) {
+    assert_eq!(rt; fills_of_a_dte(rt.alloc()), Ok((25, Some(70))));
 }

@@ -9,7 +9,6 @@ use x25_link::{LinkError, OrderedLink, PlainLink};
 fn put_one<L: OrderedLink>(link: &mut L, alloc: Global, octet: u8) -> Result<(), LinkError>
     requires { 1 ≤ L.longest link.old }
 {
-    link.reserve(1)?;
     link.put(vec![in alloc; octet]?)
 }
 
@@ -62,14 +61,13 @@ fn put_empty(link: &mut PlainLink, alloc: Global) -> Result<(), LinkError> {
 }
 
 fn fill(link: &mut PlainLink, alloc: Global) -> Result<(), LinkError> {
-    link.reserve(2)?;
     for _ in 0..256u16 {
         put_empty(link, alloc)?;
     }
     Ok(())
 }
 
-/// The number of the refusal of one more, how many are promised, and how many wait.
+/// The number of the refusal of one more, how many places are left, and how many packets wait.
 type Full = (Option<u8>, usize, usize);
 
 fn one_more(link: &mut PlainLink, alloc: Global) -> Full {
@@ -85,5 +83,5 @@ fn one_more_when_full(alloc: Global) -> Result<Full, LinkError> {
 
 #[test]
 fn is_full_at_256(rt: HostRuntime) {
-    assert_eq!(rt; one_more_when_full(rt.alloc()), Ok((Some(10), 0, 256)));
+    assert_eq!(rt; one_more_when_full(rt.alloc()), Ok((Some(10), 25, 256)));
 }

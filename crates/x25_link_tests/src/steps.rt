@@ -1,12 +1,12 @@
 //! What a link answers, and what it says of itself then; `tests/golden` has the frames of whole sessions.
 
 use crate::calls::{
-    abandon, connect, disconnect, fire, link, link_for, probe, put, relink, sent, take,
+    abandon, connect, disconnect, fire, link, link_for, no_frames, probe, put, relink, swap, take,
 };
 use std::alloc::Global;
 use x25_bits::{Role, Seq};
 use x25_frame::{Frame, encode};
-use x25_link::{Heard, Link, LinkError, OrderedLink, Reason};
+use x25_link::{Frames, Heard, Link, LinkError, OrderedLink, Reason};
 
 /// What happens at a link.
 #[derive(Clone, Copy)]
@@ -27,37 +27,35 @@ enum Act {
     TakeLong,
     /// Memory of a packet of one octet that was acknowledged is taken, which refuses where there is none.
     Reuse,
-    /// So many times memory of so many octets is to be kept for a frame.
-    Keep(u8, usize),
 }
 
 /// What it answers: the number of a refusal, or 0; why the link went down; and whether it came up.
 type Answer = (u8, Option<Reason>, bool);
 
 /// The frames that it sends: how many, and the octets of the last.
-type Frames = (usize, &'static [u8]);
+type Sent = (usize, &'static [u8]);
 
 /// What a link says: whether it is idle, awaits UA, and T1 runs; the number of the first I frame that isn't
-/// acknowledged; how many packets wait, and how many buffers are kept for frames.
-type Says = (bool, bool, bool, u8, usize, usize);
+/// acknowledged; and how many packets wait.
+type Says = (bool, bool, bool, u8, usize);
 
-type Row = (Act, Answer, Frames, Says);
+type Row = (Act, Answer, Sent, Says);
 
 const OK: Answer = (0, None, false);
 
 const UP: Answer = (0, None, true);
 
-const NONE: Frames = (0, &[]);
+const NONE: Sent = (0, &[]);
 
-const DOWN: Says = (false, false, false, 0, 0, 0);
+const DOWN: Says = (false, false, false, 0, 0);
 
-const AWAITS_UA: Says = (false, true, true, 0, 0, 0);
+const AWAITS_UA: Says = (false, true, true, 0, 0);
 
-const IDLE: Says = (true, false, false, 0, 0, 0);
+const IDLE: Says = (true, false, false, 0, 0);
 
-const IDLE_RUNS: Says = (true, false, true, 0, 0, 0);
+const IDLE_RUNS: Says = (true, false, true, 0, 0);
 
-const BUSY: Says = (false, false, true, 0, 0, 0);
+const BUSY: Says = (false, false, true, 0, 0);
 
 /// SABM with P=1 of the DTE.
 const SABM: &[u8] = &[0x01, 0x3F, 0xEB, 0xDF];
@@ -86,28 +84,28 @@ static DTE: [Row; 26] = [
         Act::Take(&[0x01, 0x41, 0x12, 0x45]),
         OK,
         NONE,
-        (false, false, true, 2, 0, 0),
+        (false, false, true, 2, 0),
     ),
-    (Act::Reuse, OK, NONE, (false, false, true, 2, 0, 0)),
-    (Act::Reuse, OK, NONE, (false, false, true, 2, 0, 0)),
+    (Act::Reuse, OK, NONE, (false, false, true, 2, 0)),
+    (Act::Reuse, OK, NONE, (false, false, true, 2, 0)),
     (
         Act::Reuse,
         (70, None, false),
         NONE,
-        (false, false, true, 2, 0, 0),
+        (false, false, true, 2, 0),
     ),
     (
         Act::Put(6),
         OK,
         (6, &[0x01, 0x00, 0x00, 0x10, 0x9C]),
-        (false, false, true, 2, 0, 0),
+        (false, false, true, 2, 0),
     ),
-    (Act::Put(256), OK, NONE, (false, false, true, 2, 256, 0)),
+    (Act::Put(256), OK, NONE, (false, false, true, 2, 256)),
     (
         Act::Put(1),
         (10, None, false),
         NONE,
-        (false, false, true, 2, 256, 0),
+        (false, false, true, 2, 256),
     ),
     (
         Act::Disconnect,
@@ -132,12 +130,6 @@ static DCE: [Row; 5] = [
         (1, &[0x01, 0x87, 0x00, 0x00, 0x04, 0x58, 0xF8]),
         DOWN,
     ),
-];
-
-/// Memory that a link is given for frames: what is for too many octets isn't kept, nor are more than 32 buffers.
-static MEMORY: [Row; 2] = [
-    (Act::Keep(1, 4104), OK, NONE, DOWN),
-    (Act::Keep(40, 7), OK, NONE, (false, false, false, 0, 0, 32)),
 ];
 
 /// RR with P=1 of the DTE, and with F=1 of the DCE: it goes under one address, as a command and as its response.
@@ -171,17 +163,6 @@ fn put_many(link: &mut Link, alloc: Global, count: u16) -> Result<(), LinkError>
     Ok(())
 }
 
-fn keep_many(
-    link: &mut Link,
-    alloc: Global,
-    (count, octets): (u8, usize),
-) -> Result<(), LinkError> {
-    for _ in 0..count {
-        link.keep(vec![in alloc; 9u8; octets]?);
-    }
-    Ok(())
-}
-
 fn long_frame(alloc: Global) -> Result<Vec<u8>, LinkError> {
     let info = vec![in alloc; 0u8; 4100]?;
     let frame = Frame::I {
@@ -211,7 +192,7 @@ fn heard(answer: Result<Heard, LinkError>) -> Answer {
 
 fn take_long(link: &mut Link, alloc: Global) -> Answer {
     match long_frame(alloc) {
-        Ok(octets) => heard(take(link, octets.as_slice())),
+        Ok(octets) => heard(Ok(take(link, octets.as_slice()))),
         Err(error) => number(Err(error)),
     }
 }
@@ -232,10 +213,9 @@ fn happens(link: &mut Link, alloc: Global, act: Act) -> Answer {
         Act::Abandon => heard(abandon(link)),
         Act::T1 => heard(fire(link)),
         Act::Put(count) => number(put_many(link, alloc, count)),
-        Act::Take(octets) => heard(take(link, octets)),
+        Act::Take(octets) => heard(Ok(take(link, octets))),
         Act::TakeLong => take_long(link, alloc),
         Act::Reuse => reuse(link),
-        Act::Keep(count, octets) => number(keep_many(link, alloc, (count, octets))),
     }
 }
 
@@ -246,7 +226,6 @@ fn says(link: &Link) -> Says {
         link.timer_runs(),
         link.acknowledged().get(),
         link.waiting(),
-        link.kept(),
     )
 }
 
@@ -258,16 +237,17 @@ fn last(frames: &[Vec<u8>]) -> &[u8] {
 }
 
 // Whether the frames that are to send are these.
-fn sends(link: &mut Link, alloc: Global, (count, octets): Frames) -> bool {
-    let frames = sent(link, alloc);
+fn sends(link: &mut Link, frames: &mut Frames, (count, octets): Sent) -> bool {
+    frames.clear();
+    swap(link, frames);
     frames.len() == count && last(frames.as_slice()) == octets
 }
 
 // The first row in which something else comes of what happens.
-fn odd_row(link: &mut Link, alloc: Global, rows: &[Row]) -> Option<usize> {
-    for (place, &(act, answer, frames, wanted)) in rows.iter().enumerate() {
+fn odd_row(link: &mut Link, frames: &mut Frames, alloc: Global, rows: &[Row]) -> Option<usize> {
+    for (place, &(act, answer, sent, wanted)) in rows.iter().enumerate() {
         let found = happens(link, alloc, act);
-        if !sends(link, alloc, frames) || (found, says(link)) != (answer, wanted) {
+        if !sends(link, frames, sent) || (found, says(link)) != (answer, wanted) {
             return Some(place);
         }
     }
@@ -277,7 +257,8 @@ fn odd_row(link: &mut Link, alloc: Global, rows: &[Row]) -> Option<usize> {
 // That of a link just made, which sends again so often.
 fn odd_row_of(alloc: Global, role: Role, n2: u8, rows: &[Row]) -> Result<Option<usize>, LinkError> {
     let mut link = link(alloc, role, 7, n2)?;
-    Ok(odd_row(&mut link, alloc, rows))
+    let mut frames = no_frames(alloc)?;
+    Ok(odd_row(&mut link, &mut frames, alloc, rows))
 }
 
 #[test]
@@ -300,14 +281,6 @@ fn an_idle_link_is_asked_and_set_up_anew(rt: HostRuntime) {
 fn steps_of_a_dce(rt: HostRuntime) {
     assert_eq!(rt;
         odd_row_of(rt.alloc(), Role::Dce, 10, DCE.as_slice()),
-        Ok(None)
-    );
-}
-
-#[test]
-fn no_more_than_thirty_two_are_kept(rt: HostRuntime) {
-    assert_eq!(rt;
-        odd_row_of(rt.alloc(), Role::Dte, 10, MEMORY.as_slice()),
         Ok(None)
     );
 }

@@ -12,8 +12,7 @@ ghost use Rattle.x25_packet.specs.Spelling.{spelling_of, type_of};
 use crate::codes;
 use crate::digits::Digits;
 use crate::packet::Packet;
-use std::mem;
-use x25_bits::NoMemory;
+use x25_bits::{NoMemory, append_octets};
 
 fn channel(packet: &Packet) -> u16
     ensures { result ≡ channel_of (plain packet.now) }
@@ -116,22 +115,6 @@ fn body_len(packet: &Packet) -> usize
     }
 }
 
-/// Appends octets that there is room for. It owns the vector meanwhile, so that they are copied as a block.
-#[inline(always)]
-fn append(octets: &mut Vec<u8>, more: &[u8])
-    requires { vec_len octets.old + length more.now ≤ vec_capacity octets.old }
-    ensures items { octets.new.items ≡ octets.old.items ++ more.now }
-    ensures len { vec_len octets.new ≡ vec_len octets.old + length more.now }
-    ensures capacity { vec_capacity octets.new ≡ vec_capacity octets.old }
-{
-    let none = Vec::new(*octets.allocator());
-    let mut all = mem::replace(octets, none);
-    for octet in more {
-        all.push_reserved(*octet);
-    }
-    *octets = all;
-}
-
 /// The digit at a place of the called and then the calling digits, 0 behind them.
 fn digit_at(called: &Digits, calling: &Digits, place: usize) -> u8
     ensures value { result ≡ slice_index (called.now ++ calling.now) place }
@@ -178,11 +161,11 @@ fn append_call(
     ensures items { octets.new.items ≡ octets.old.items ++ call_body called.now calling.now facilities.now user.now }
     ensures capacity { vec_capacity octets.new ≡ vec_capacity octets.old }
 {
-    append(octets, &[16 * calling.len() as u8 + called.len() as u8]);
+    append_octets(octets, &[16 * calling.len() as u8 + called.len() as u8]);
     append_digits(called, calling, octets);
-    append(octets, &[facilities.len() as u8]);
-    append(octets, facilities);
-    append(octets, user);
+    append_octets(octets, &[facilities.len() as u8]);
+    append_octets(octets, facilities);
+    append_octets(octets, user);
 }
 
 /// Appends what follows the type of an ACCEPT.
@@ -195,8 +178,8 @@ fn append_accept(facilities: &[u8], octets: &mut Vec<u8>)
     if facilities.is_empty() {
         return;
     }
-    append(octets, &[0, facilities.len() as u8]);
-    append(octets, facilities);
+    append_octets(octets, &[0, facilities.len() as u8]);
+    append_octets(octets, facilities);
 }
 
 /// Appends what follows the type.
@@ -216,7 +199,7 @@ fn append_body(packet: &Packet, octets: &mut Vec<u8>)
             ..
         } => append_call(called, calling, facilities.as_slice(), user, octets),
         Packet::Accept { facilities, .. } => append_accept(facilities.as_slice(), octets),
-        Packet::Data { user, .. } | Packet::Interrupt { user, .. } => append(octets, user),
+        Packet::Data { user, .. } | Packet::Interrupt { user, .. } => append_octets(octets, user),
         Packet::Clear {
             cause,
             diagnostic,
@@ -227,7 +210,7 @@ fn append_body(packet: &Packet, octets: &mut Vec<u8>)
             diagnostic,
             ..
         }
-        | Packet::Restart { cause, diagnostic } => append(octets, &[*cause, *diagnostic]),
+        | Packet::Restart { cause, diagnostic } => append_octets(octets, &[*cause, *diagnostic]),
         _ => {}
     }
 }
@@ -245,7 +228,7 @@ fn append_packet(packet: &Packet, octets: &mut Vec<u8>) -> Result<(), NoMemory>
     octets.reserve_exact(3 + body_len(packet))?;
     let [group, number] = channel(packet).to_be_bytes();
     let head = [16 * format(packet) + group, number, kind(packet)];
-    append(octets, &head);
+    append_octets(octets, &head);
     append_body(packet, octets);
     Ok(())
 }

@@ -116,7 +116,7 @@ none_refused (e ∷ entries) frames = none_refused entries frames
 -- what is said of it is what the definition says
 pub answer_is : (c : Settings) (v : code.Station) (step : code_step.Step) (plain : Step) → IsStep c v step (Did plain) → answer_told step ≡ step_told c plain
 answer_is c v step plain h =
-    ap (λ entries. map enters entries ++ map sends (map (λ frame. frame.items) step.frames.items)) h.enters
+    ap (λ entries. map enters entries ++ map sends step.frames) h.enters
     ∙ ap (λ frames. map enters plain.entries ++ map sends frames) h.sends
 
 -- a step of which entries and frames are told
@@ -221,7 +221,7 @@ none_entered c s =
     none_in c s (layer_outcome lc (waiting_after (link_settings c) s.link [] == 256) s.layer PullsAll) (calls (view_of (link_settings c) s.link) lc s.layer PullsAll)
 
 module _ (c : Settings) (v u : code.Station) (step both : code_step.Step) where
-  pub pulled_step : (w : Unit) (o : Outcome) → IsStep c v step o → Pulls v u (map (λ frame. frame.items) step.frames.items) (map (λ frame. frame.items) both.frames.items) (Ok w)
+  pub pulled_step : (w : Unit) (o : Outcome) → IsStep c v step o → Pulls v u step.frames both.frames (Ok w)
       → both.entries ≡ step.entries → IsStep c u both (with_pulls c o)
   pulled_step w (Did plain) h p entries =
       let pulls : Step = pulled c plain.near in

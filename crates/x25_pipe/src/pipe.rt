@@ -72,13 +72,16 @@ impl Pipe {
         ensures memory { IfErr result (λ fault. fault ≡ Fault.NoMemory) }
     {
         let output = Output::new(alloc)?;
+        let Ok(step) = Step::new(alloc) else {
+            return Err(Fault::NoMemory);
+        };
         let Ok(station) = Station::new(alloc, end, cfg) else {
             return Err(Fault::NoMemory);
         };
         Ok(Pipe {
             end,
             station,
-            step: Step::new(alloc),
+            step,
             has_come: false,
             octets: [0; MOST_OCTETS],
             user: Vec::new(alloc),

@@ -5,7 +5,7 @@ use x25_station::Cmd;
 use x25_world::Event;
 
 /// How many kinds of call there are.
-const KINDS: usize = 23;
+const KINDS: usize = 24;
 
 /// A kind of call: two ends are made, an event happens, or the line is good for a moment.
 #[derive(Clone, Copy)]
@@ -16,6 +16,7 @@ pub(crate) enum Kind {
     CallWith,
     Accept,
     AcceptWith,
+    With,
     Clear,
     Send,
     Interrupt,
@@ -53,6 +54,7 @@ impl Kind {
             Cmd::Call { .. } => Kind::CallWith,
             Cmd::Accept { params: None, .. } => Kind::Accept,
             Cmd::Accept { .. } => Kind::AcceptWith,
+            Cmd::With { .. } => Kind::With,
             Cmd::Clear { .. } => Kind::Clear,
             Cmd::Send { .. } => Kind::Send,
             Cmd::Interrupt { .. } => Kind::Interrupt,

@@ -1,5 +1,4 @@
-//! A link. What its user sends is handed down as one packet by `reserve` and `put`, as the packet layer hands packets
-//! down.
+//! A link. What its user sends is handed down as one packet by `put`, as the packet layer hands packets down.
 ghost use Rattle.std.specs.Prelude.{◌≤◌, vec_len};
 ghost use Rattle.x25_link.specs.code.FitsLink.{limit_of};
 
@@ -9,7 +8,7 @@ use crate::lines::{Lines, end_name};
 use crate::two::{Happens, Party};
 use crate::wire::Wire;
 use std::alloc::{AllocError, Global};
-use x25_link::{Heard, Link, LinkError, N1, OrderedLink, Reason};
+use x25_link::{Frames, Heard, Link, LinkError, N1, OrderedLink, Reason};
 use x25_station::{Cfg, Cmd, Role};
 
 /// A link, and the frames that it sent last.
@@ -18,7 +17,7 @@ pub(crate) struct LinkParty {
     alloc: Global,
     role: Role,
     link: Box<Link>,
-    out: Vec<Vec<u8>>,
+    out: Frames,
 }
 
 // The calls of a link without their claims: a body that makes one of the link's own carries all that it promises.
@@ -38,7 +37,7 @@ fn call<'a>(link: &mut Link, what: Happens<'a>) -> Result<Result<Heard<'a>, Link
         Happens::Asked(Cmd::Relink) => Ok(link.relink()),
         Happens::Asked(_) => Err(Trouble::NoSuchCall),
         Happens::Fired => Ok(link.t1()),
-        Happens::Frame(octets) => Ok(link.take(octets)),
+        Happens::Frame(octets) => Ok(Ok(link.take(octets))),
     }
 }
 
@@ -82,11 +81,9 @@ fn packet_of(alloc: Global, octets: &[u8]) -> Result<Vec<u8>, AllocError> {
     }
 }
 
-/// Sets memory aside, and hands a packet down.
-fn room_and_put(link: &mut Link, packet: Vec<u8>) -> Result<(), LinkError>
+fn put(link: &mut Link, packet: Vec<u8>) -> Result<(), LinkError>
     requires { vec_len packet ≤ limit_of link.old }
 {
-    link.reserve(1)?;
     link.put(packet)
 }
 
@@ -96,10 +93,9 @@ impl LinkParty {
         self.link.swap_frames(&mut self.out);
         for frame in self.out.as_slice() {
             shown.push_frame(self.role, frame.as_slice())?;
+            to.put(frame.as_slice())?;
         }
-        for frame in self.out.drain(..) {
-            to.put(frame)?;
-        }
+        self.out.clear();
         Ok(Outcome::Accepted)
     }
 
@@ -113,7 +109,7 @@ impl LinkParty {
         if packet.len() > self.link.limit() {
             return Err(Trouble::NoSuchCall);
         }
-        match room_and_put(&mut self.link, packet) {
+        match put(&mut self.link, packet) {
             Ok(()) => self.sends(to, shown),
             Err(error) => Ok(Outcome::of_number(error.number())),
         }
@@ -123,11 +119,12 @@ impl LinkParty {
 impl Party for LinkParty {
     fn new(alloc: Global, role: Role, cfg: Cfg) -> Option<LinkParty> {
         let link = made(alloc, role, cfg)?;
+        let out = Frames::new(alloc).ok()?;
         Some(LinkParty {
             alloc,
             role,
             link,
-            out: Vec::new(alloc),
+            out,
         })
     }
 

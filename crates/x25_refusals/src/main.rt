@@ -45,12 +45,13 @@ static CALLS_OF_LINKS: [(Kind, &str); 9] = [
 ];
 
 /// The calls of a station.
-static CALLS_OF_STATIONS: [(Kind, &str); 20] = [
+static CALLS_OF_STATIONS: [(Kind, &str); 21] = [
     (Kind::New, "Station::new"),
     (Kind::Call, "Station::command(Call)"),
     (Kind::CallWith, "Station::command(Call) with sizes"),
     (Kind::Accept, "Station::command(Accept)"),
     (Kind::AcceptWith, "Station::command(Accept) with sizes"),
+    (Kind::With, "Station::command(With)"),
     (Kind::Clear, "Station::command(Clear)"),
     (Kind::Send, "Station::command(Send)"),
     (Kind::Interrupt, "Station::command(Interrupt)"),
@@ -69,13 +70,14 @@ static CALLS_OF_STATIONS: [(Kind, &str); 20] = [
 ];
 
 /// The calls of a world.
-static CALLS_OF_WORLDS: [(Kind, &str); 23] = [
+static CALLS_OF_WORLDS: [(Kind, &str); 24] = [
     (Kind::New, "World::start"),
     (Kind::Establish, "World::establish"),
     (Kind::Call, "World::step(Call)"),
     (Kind::CallWith, "World::step(Call) with sizes"),
     (Kind::Accept, "World::step(Accept)"),
     (Kind::AcceptWith, "World::step(Accept) with sizes"),
+    (Kind::With, "World::step(With)"),
     (Kind::Clear, "World::step(Clear)"),
     (Kind::Send, "World::step(Send)"),
     (Kind::Interrupt, "World::step(Interrupt)"),

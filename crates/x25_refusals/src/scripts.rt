@@ -1,7 +1,7 @@
 //! Scripts of two stations, and stories of two links.
 use Act::{Do, Drain, Heal, Send};
 use x25_layer::Params;
-use x25_station::{Cfg, Cmd};
+use x25_station::{CallCmd, Cfg, Cmd, Given};
 use x25_world::Direction::{ToDce, ToDte};
 use x25_world::Event::{Command, Damage, Deliver, Lose, T1};
 use x25_world::Role::{Dce, Dte};
@@ -54,6 +54,15 @@ const WINDOW_OF_ONE: Cfg = Cfg {
     wide: false,
 };
 
+const WIDE: Cfg = Cfg {
+    k: 7,
+    n2: 10,
+    channels: 1,
+    long_data: false,
+    say_sizes: false,
+    wide: true,
+};
+
 const CONNECTS: Act = Do(Command(Dte, Cmd::Connect));
 
 const DISCONNECTS: Act = Do(Command(Dte, Cmd::Disconnect));
@@ -104,6 +113,39 @@ const PROPOSES: Act = Do(Command(
             win_called: 3,
             win_calling: 3,
         }),
+    },
+));
+
+/// Reverse charging.
+const CALLS_WITH: Act = Do(Command(
+    Dte,
+    Cmd::With {
+        given: Given {
+            facilities: &[0x01, 0x01],
+            user: &[],
+            d: false,
+        },
+        call: CallCmd::Call {
+            called: "1",
+            calling: "2",
+            user: b"A",
+            params: None,
+        },
+    },
+));
+
+const ACCEPTS_WITH: Act = Do(Command(
+    Dce,
+    Cmd::With {
+        given: Given {
+            facilities: &[],
+            user: b"hi",
+            d: true,
+        },
+        call: CallCmd::Accept {
+            channel: 1,
+            params: None,
+        },
     },
 ));
 
@@ -178,7 +220,7 @@ const COMES: Act = Do(Deliver(ToDce));
 const COMES_BACK: Act = Do(Deliver(ToDte));
 
 /// Played at two stations, and at a world.
-pub(crate) static SCRIPTS: [Script; 11] = [
+pub(crate) static SCRIPTS: [Script; 12] = [
     Script {
         name: "a call, and two messages",
         cfg: USUAL,
@@ -258,6 +300,11 @@ pub(crate) static SCRIPTS: [Script; 11] = [
         name: "a call that proposes sizes and windows",
         cfg: USUAL,
         acts: &[CONNECTS, Drain, PROPOSES, Drain, ANSWERS, Drain],
+    },
+    Script {
+        name: "facilities with a call, and user data with its acceptance",
+        cfg: WIDE,
+        acts: &[CONNECTS, Drain, CALLS_WITH, Drain, ACCEPTS_WITH, Drain],
     },
     Script {
         name: "an interrupt, and messages to an end that isn't ready",

@@ -34,20 +34,13 @@ fn call(station: &mut Station, what: Happens<'_>, out: &mut Step) -> Result<(), 
 }
 
 /// Shows what a step tells and sends, and puts its frames on the line to the other end.
-fn goes_on(
-    from: Role,
-    step: &mut Step,
-    to: &mut Wire,
-    shown: &mut Lines,
-) -> Result<(), AllocError> {
+fn goes_on(from: Role, step: &Step, to: &mut Wire, shown: &mut Lines) -> Result<(), AllocError> {
     for entry in step.entries.as_slice() {
         shown.push_entry(from, entry)?;
     }
     for frame in step.frames.as_slice() {
         shown.push_frame(from, frame.as_slice())?;
-    }
-    for frame in step.frames.drain(..) {
-        to.put(frame)?;
+        to.put(frame.as_slice())?;
     }
     Ok(())
 }
@@ -55,10 +48,11 @@ fn goes_on(
 impl Party for StationParty {
     fn new(alloc: Global, role: Role, cfg: Cfg) -> Option<StationParty> {
         let station = made(alloc, role, cfg)?;
+        let step = Step::new(alloc).ok()?;
         Some(StationParty {
             role,
             station,
-            step: Step::new(alloc),
+            step,
         })
     }
 
@@ -71,7 +65,7 @@ impl Party for StationParty {
         if let Err(error) = call(&mut self.station, what, &mut self.step) {
             return Ok(Outcome::of_number(error.number()));
         }
-        goes_on(self.role, &mut self.step, to, shown)?;
+        goes_on(self.role, &self.step, to, shown)?;
         Ok(Outcome::Accepted)
     }
 

@@ -8,6 +8,7 @@ const ROOM: usize = 64;
 /// Frames that were sent and haven't come yet, the first in front.
 #[derive(Drop)]
 pub(crate) struct Wire {
+    alloc: Global,
     frames: Vec<Vec<u8>>,
 }
 
@@ -17,7 +18,7 @@ impl Wire {
             Ok(frames) => frames,
             Err(_) => Vec::with_capacity(alloc, ROOM)?,
         };
-        Ok(Wire { frames })
+        Ok(Wire { alloc, frames })
     }
 
     pub(crate) fn len(&self) -> usize {
@@ -32,9 +33,13 @@ impl Wire {
         }
     }
 
-    /// Puts a frame on the line.
-    pub(crate) fn put(&mut self, frame: Vec<u8>) -> Result<(), AllocError> {
-        self.frames.push(frame)?;
+    /// Puts a copy of a frame on the line.
+    pub(crate) fn put(&mut self, frame: &[u8]) -> Result<(), AllocError> {
+        let copy = match frame.to_vec(self.alloc) {
+            Ok(copy) => copy,
+            Err(_) => frame.to_vec(self.alloc)?,
+        };
+        self.frames.push(copy)?;
         Ok(())
     }
 

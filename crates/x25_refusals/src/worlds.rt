@@ -80,6 +80,17 @@ fn line_of(alloc: Global, world: &World) -> Result<Lines, AllocError> {
     Ok(lines)
 }
 
+/// A step. Memory that is refused is asked for again.
+fn empty_step(alloc: Global) -> Result<Step, AllocError> {
+    if let Ok(step) = Step::new(alloc) {
+        return Ok(step);
+    }
+    match Step::new(alloc) {
+        Ok(step) => Ok(step),
+        Err(_) => Err(AllocError),
+    }
+}
+
 /// The number of a refusal, that of the station where it refuses.
 fn number_of(error: WorldError) -> u8 {
     match error {
@@ -115,7 +126,7 @@ impl Worlds {
         Ok(Worlds {
             alloc,
             world,
-            step: Step::new(alloc),
+            step: empty_step(alloc)?,
             healed: Vec::new(alloc),
             frames,
         })

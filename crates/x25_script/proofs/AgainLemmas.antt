@@ -1,19 +1,18 @@
 -- A line that is spelled is read.
-use Rattle.std.proofs.Common.{ℕ, ◌+◌, ◌<◌, ◌≤◌, ◌≡◌, ◌∙◌, Bool, true, false, List, [], ◌∷◌, ◌++◌, length, get_or, take, drop, Option, Some, None, refl, ap, sym, subst, arith, append-nil}
-use Rattle.std.specs.Prelude.{cond, option_and_then, codes, decimal, IfSome}
+use Rattle.std.proofs.Common.{ℕ, ◌≤◌, ◌≡◌, ◌∙◌, Bool, true, false, List, [], ◌∷◌, ◌++◌, Option, Some, None, refl, ap, sym, subst, arith, append-nil}
+use Rattle.std.specs.Prelude.{cond, option_and_then, codes, decimal}
 use Rattle.std.specs.List.{list_all}
 use Rattle.std.proofs.lemmas.Bool.{lt-ltb, ne_eqb}
 use Rattle.std.proofs.lemmas.Fmt.{digits_decimal}
-use Rattle.std.proofs.lemmas.List.{take-append-drop}
 use Rattle.x25_bits.specs.declared.role.Role.{Role}
 use Rattle.x25_bits.specs.declared.role.Role.TheVariants.{Dte, Dce}
 use Rattle.x25_circuit.specs.declared.params.Params.{Params}
 use Rattle.x25_script.specs.declared.given.Given.{Given}
-use Rattle.x25_script.specs.ScriptLine.{PlainCommand, call, accept, clear, send, interrupt, reset, ready, not_ready, restart, pull, connect, disconnect, probe, relink, PlainLine, command, t1, deliver, lose, damage, drain, heal}
-use Rattle.x25_script.specs.Reading.Spelling.{end_text, direction_text, q_text, address_text, IsAddress, IsNumber, Writes, AreParams, params_text, IsSmall, IsGiven, given_text, SpellsCommand, Spells}
-use Rattle.x25_script.specs.Reading.{parts_of, number_in, octets_in, small_number_in, params_in, with_params_of, with_params_in, labelled_in, one_given, given_of, given_in, with_given_of, with_given_in, giving_on, restart_in, call_in, accept_in, send_in, interrupt_in, on_channel, with_fields, command_in, lose_in, damage_in, drain_in, line_in}
-use Rattle.x25_script.proofs.NumberLemmas.{number_found, own, number_again}
-use Rattle.x25_script.proofs.PartLemmas.{parts_again, whole_again, no_blank, octets_no_blank, digits_no_blank, address_no_blank, end_again, from_again, q_again, address_again, octets_again, octets_found}
+use Rattle.x25_script.specs.ScriptLine.{PlainCommand, call, accept, clear, send, interrupt, reset, ready, not_ready, restart, pull, connect, disconnect, probe, relink, with_given, PlainLine, command, t1, deliver, lose, damage, drain, heal}
+use Rattle.x25_script.specs.Reading.Spelling.{end_text, direction_text, q_text, address_text, IsAddress, IsNumber, Writes, AreParams, params_text, IsSmall, IsGiven, given_text, d_text, SpellsPart, SpellsCommand, Spells}
+use Rattle.x25_script.specs.Reading.{parts_of, number_in, small_number_in, params_in, with_params_of, with_params_in, labelled_in, one_given, given_of, given_in, with_given_of, with_given_in, giving_on, call_in, accept_in, send_in, interrupt_in, on_channel, part_in, d_in, with_in, with_fields, command_in, lose_in, damage_in, drain_in, line_in}
+use Rattle.x25_script.proofs.NumberLemmas.{own, number_again}
+use Rattle.x25_script.proofs.PartLemmas.{with_d, parts_again, whole_again, no_blank, octets_no_blank, digits_no_blank, address_no_blank, end_again, from_again, q_again, address_again, octets_again}
 
 -- a step after one that reads
 bind_again : {A B : Type 0} (read : Option A) (f : A → Option B) (x : A) (y : B) → read ≡ Some x → f x ≡ Some y → option_and_then f read ≡ Some y
@@ -160,11 +159,66 @@ interrupt_again channel user digits h w =
 channel_again : (asked : ℕ → PlainCommand) (channel : ℕ) → IsNumber channel → on_channel asked (decimal channel) ≡ Some (asked channel)
 channel_again asked channel h = bind_again _ _ channel _ (number_read channel h) refl
 
+-- ---- what is asked of a call, with something beside it
+
+part_again : (v : PlainCommand) (text : List ℕ) → SpellsPart v text → part_in text ≡ Some v
+unfolding part_in parts_of
+part_again (call called calling user params) text s = ap part_in s.3.2 ∙ call_again called calling user s.3.0 params s.0 s.1 s.2 s.3.1
+part_again (accept channel params) text s = ap part_in s.2 ∙ accept_again channel params s.0 s.1
+part_again (clear channel given) text s = ap part_in s.2 ∙ giving_again clear channel given s.0 s.1
+part_again (with_given facilities user d asked) text s = absurd s
+part_again (send channel q user) text s = absurd s
+part_again (interrupt channel user) text s = absurd s
+part_again (reset channel given) text s = absurd s
+part_again (ready channel) text s = absurd s
+part_again (not_ready channel) text s = absurd s
+part_again (restart given) text s = absurd s
+part_again pull text s = absurd s
+part_again connect text s = absurd s
+part_again disconnect text s = absurd s
+part_again probe text s = absurd s
+part_again relink text s = absurd s
+
+-- no such part begins with the word for D
+no_d : (v : PlainCommand) (text : List ℕ) → SpellsPart v text → d_in text ≡ with_d false text
+no_d (call called calling user params) text s = ap d_in s.3.2 ∙ ap (with_d false) (sym s.3.2)
+no_d (accept channel params) text s = ap d_in s.2 ∙ ap (with_d false) (sym s.2)
+no_d (clear channel given) text s = ap d_in s.2 ∙ ap (with_d false) (sym s.2)
+no_d (with_given facilities user d asked) text s = absurd s
+no_d (send channel q user) text s = absurd s
+no_d (interrupt channel user) text s = absurd s
+no_d (reset channel given) text s = absurd s
+no_d (ready channel) text s = absurd s
+no_d (not_ready channel) text s = absurd s
+no_d (restart given) text s = absurd s
+no_d pull text s = absurd s
+no_d connect text s = absurd s
+no_d disconnect text s = absurd s
+no_d probe text s = absurd s
+no_d relink text s = absurd s
+
+d_again : (d : Bool) (v : PlainCommand) (rest : List ℕ) → SpellsPart v rest → d_in (d_text d ++ rest) ≡ with_d d rest
+d_again true v rest s = refl
+d_again false v rest s = no_d v rest s
+
+with_again : (facilities user : List ℕ) (d : Bool) (asked : PlainCommand) (field digits rest : List ℕ) → Writes field facilities → Writes digits user → SpellsPart asked rest
+    → with_in (field ++ (32 ∷ (digits ++ (32 ∷ (d_text d ++ rest))))) ≡ Some (with_given facilities user d asked)
+unfolding with_in
+with_again facilities user d asked field digits rest f u s =
+    let found = d_again d asked rest s in
+    bind_again _ _ (field, digits ++ (32 ∷ (d_text d ++ rest))) _ (parts_again field _ (octets_no_blank field facilities f))
+    (bind_again _ _ (digits, d_text d ++ rest) _ (parts_again digits _ (octets_no_blank digits user u))
+    (bind_again _ _ asked _ (ap (λ (p : Bool × List ℕ). part_in p.1) found ∙ part_again asked rest s)
+    (bind_again _ _ facilities _ (octets_again field facilities f)
+    (bind_again _ _ user _ (octets_again digits user u)
+    (ap (λ (p : Bool × List ℕ). Some (with_given facilities user p.0 asked)) found)))))
+
 pub command_again : (v : PlainCommand) (text : List ℕ) → SpellsCommand v text → command_in text ≡ Some v
 unfolding command_in parts_of with_fields
 command_again (call called calling user params) text s = ap command_in s.3.2 ∙ call_again called calling user s.3.0 params s.0 s.1 s.2 s.3.1
 command_again (accept channel params) text s = ap command_in s.2 ∙ accept_again channel params s.0 s.1
 command_again (clear channel given) text s = ap command_in s.2 ∙ giving_again clear channel given s.0 s.1
+command_again (with_given facilities user d asked) text s = ap command_in s.2.2.2 ∙ with_again facilities user d asked s.0 s.2.0 s.2.2.0 s.1 s.2.1 s.2.2.1
 command_again (send channel q user) text s = ap command_in s.1.2 ∙ send_again channel q user s.1.0 s.0 s.1.1
 command_again (interrupt channel user) text s = ap command_in s.1.2 ∙ interrupt_again channel user s.1.0 s.0 s.1.1
 command_again (reset channel given) text s = ap command_in s.2 ∙ giving_again reset channel given s.0 s.1

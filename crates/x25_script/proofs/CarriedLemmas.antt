@@ -3,9 +3,9 @@ use Rattle.std.proofs.Common.{ℕ, ◌<◌, List, [], ◌∷◌, Option, Some, N
 use Rattle.std.proofs.lemmas.List.Elements.{All-nil, All-from_get_or}
 use Rattle.hex.proofs.HexLemmas.{decode_of-ok}
 use Rattle.x25_script.specs.HexDigits.{AreOctets}
-use Rattle.x25_script.specs.ScriptLine.{PlainCommand, call, accept, clear, send, interrupt, reset, ready, not_ready, restart, pull, connect, disconnect, probe, relink, PlainLine, command, t1, deliver, lose, damage, drain, heal}
-use Rattle.x25_script.specs.laws.ReadingLaw.{IsOctet, AsksInOctets, IsInOctets}
-use Rattle.x25_script.specs.Reading.Spelling.{Writes, IsSmall, SpellsCommand, Spells}
+use Rattle.x25_script.specs.ScriptLine.{PlainCommand, call, accept, clear, send, interrupt, reset, ready, not_ready, restart, pull, connect, disconnect, probe, relink, with_given, PlainLine, command, t1, deliver, lose, damage, drain, heal}
+use Rattle.x25_script.specs.laws.ReadingLaw.{IsOctet, PartInOctets, AsksInOctets, IsInOctets}
+use Rattle.x25_script.specs.Reading.Spelling.{Writes, IsSmall, SpellsPart, SpellsCommand, Spells}
 
 written : (text octets : List ℕ) → Writes text octets → AreOctets octets
 written text [] h = All-nil (λ octet. octet < 256)
@@ -15,8 +15,26 @@ small_octet : (o : Option ℕ) → IsSmall o → IsOctet o
 small_octet None h = tt
 small_octet (Some n) h = omega (arith, h)
 
+part : (v : PlainCommand) (text : List ℕ) → SpellsPart v text → PartInOctets v
+part (call called calling user params) text h = written h.3.0 user h.3.1
+part (accept channel params) text h = tt
+part (clear channel given) text h = (small_octet given.cause h.1.0, small_octet given.diagnostic h.1.1)
+part (with_given facilities user d asked) text h = tt
+part (send channel q user) text h = tt
+part (interrupt channel user) text h = tt
+part (reset channel given) text h = tt
+part (ready channel) text h = tt
+part (not_ready channel) text h = tt
+part (restart given) text h = tt
+part pull text h = tt
+part connect text h = tt
+part disconnect text h = tt
+part probe text h = tt
+part relink text h = tt
+
 asked : (v : PlainCommand) (text : List ℕ) → SpellsCommand v text → AsksInOctets v
 asked (call called calling user params) text h = written h.3.0 user h.3.1
+asked (with_given facilities user d a) text h = (written h.0 facilities h.1, written h.2.0 user h.2.1, part a h.2.2.0 h.2.2.1)
 asked (send channel q user) text h = written h.1.0 user h.1.1
 asked (interrupt channel user) text h = written h.1.0 user h.1.1
 asked (accept channel params) text h = tt

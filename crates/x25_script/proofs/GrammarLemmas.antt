@@ -1,18 +1,18 @@
 -- A line is read exactly where it is spelled.
-use Rattle.std.proofs.Common.{ℕ, ◌==◌, ◌≤◌, ◌≡◌, ◌∙◌, inl, inr, List, ◌∷◌, ◌++◌, length, take, drop, Option, Some, None, refl, ap, sym, subst, arith, append-nil}
-use Rattle.std.specs.Prelude.{option_map, codes, decimal, nat_lt}
+use Rattle.std.proofs.Common.{ℕ, Bool, true, false, ◌==◌, ◌≤◌, ◌≡◌, ◌∙◌, inl, inr, List, ◌∷◌, ◌++◌, length, take, drop, Option, Some, None, refl, ap, sym, subst, arith, append-nil}
+use Rattle.std.specs.Prelude.{cond, option_map, codes, decimal, nat_lt}
 use Rattle.std.specs.Str.{bytes_eq}
 use Rattle.std.proofs.lemmas.Bool.{eqb-false, ltb-true}
 use Rattle.std.proofs.lemmas.Option.{same_Some, none-some, cond_some}
 use Rattle.x25_bits.specs.declared.role.Role.{Role}
 use Rattle.x25_circuit.specs.declared.params.Params.{Params}
 use Rattle.x25_script.specs.declared.given.Given.{Given}
-use Rattle.x25_script.specs.ScriptLine.{PlainCommand, clear, reset, ready, not_ready, restart, pull, connect, disconnect, probe, relink, PlainLine, heal}
-use Rattle.x25_script.specs.Reading.Spelling.{end_text, direction_text, q_text, address_text, IsNumber, AreParams, params_text, IsGiven, given_text, SpellsCommand, Spells}
-use Rattle.x25_script.specs.Reading.{Keyword, End, T1, Deliver, Lose, Damage, Drain, Verb, Call, Accept, Clear, Send, Interrupt, Reset, Restart, Ready, NotReady}
-use Rattle.x25_script.specs.Reading.{parts_of, end_in, from_in, q_in, number_in, address_in, octets_in, verb_in, keyword_in, small_number_in, params_in, with_params_of, with_params_in, labelled_in, nothing_given, one_given, given_of, given_in, with_given_of, with_given_in, giving_on, restart_in, call_in, accept_in, send_in, interrupt_in, on_channel, with_fields, bare_command_in, command_of, command_in, lose_in, damage_in, drain_in, after, bare_line_in, line_of, line_in}
+use Rattle.x25_script.specs.ScriptLine.{PlainCommand, call, accept, clear, send, interrupt, reset, ready, not_ready, restart, pull, connect, disconnect, probe, relink, with_given, PlainLine, heal}
+use Rattle.x25_script.specs.Reading.Spelling.{end_text, direction_text, q_text, address_text, IsNumber, AreParams, params_text, IsGiven, given_text, d_text, SpellsPart, SpellsCommand, Spells}
+use Rattle.x25_script.specs.Reading.{Keyword, End, T1, Deliver, Lose, Damage, Drain, Verb, Call, Accept, Clear, Send, Interrupt, Reset, Restart, Ready, NotReady, With}
+use Rattle.x25_script.specs.Reading.{parts_of, end_in, from_in, q_in, number_in, address_in, octets_in, verb_in, keyword_in, small_number_in, params_in, with_params_of, with_params_in, labelled_in, nothing_given, one_given, given_of, given_in, with_given_of, with_given_in, giving_on, restart_in, call_in, accept_in, send_in, interrupt_in, on_channel, part_fields, part_in, d_in, with_in, with_fields, bare_command_in, command_of, command_in, lose_in, damage_in, drain_in, after, bare_line_in, line_of, line_in}
 use Rattle.x25_script.proofs.NumberLemmas.{number_found}
-use Rattle.x25_script.proofs.PartLemmas.{chosen, bind_found, begun, IsText, word_step, parts_joined, end_found, from_found, q_found, address_found, octets_found}
+use Rattle.x25_script.proofs.PartLemmas.{with_d, chosen, bind_found, begun, IsText, word_step, parts_joined, end_found, from_found, q_found, address_found, octets_found}
 
 -- ---- what is read is spelled so
 
@@ -27,6 +27,7 @@ verb_text Reset = codes "reset"
 verb_text Restart = codes "restart"
 verb_text Ready = codes "ready"
 verb_text NotReady = codes "notready"
+verb_text With = codes "with"
 
 -- the first word of a line
 abbrev pub keyword_text : Keyword → List ℕ
@@ -47,7 +48,8 @@ verb_found text verb e =
     word_step (IsText verb_text) text (codes "reset") Reset verb _ refl e (λ e.
     word_step (IsText verb_text) text (codes "restart") Restart verb _ refl e (λ e.
     word_step (IsText verb_text) text (codes "ready") Ready verb _ refl e (λ e.
-    word_step (IsText verb_text) text (codes "notready") NotReady verb _ refl e (λ e. absurd (none-some _ e))))))))))
+    word_step (IsText verb_text) text (codes "notready") NotReady verb _ refl e (λ e.
+    word_step (IsText verb_text) text (codes "with") With verb _ refl e (λ e. absurd (none-some _ e)))))))))))
 
 end_keyword : (text : List ℕ) (read : Option Role) (keyword : Keyword) → ((end : Role) → read ≡ Some end → text ≡ end_text end)
     → option_map (λ end. End end) read ≡ Some keyword → text ≡ keyword_text keyword
@@ -162,7 +164,7 @@ with_given_parts text (Some parts) last same e =
 with_given_found : (text : List ℕ) (last : List ℕ × Given) → with_given_in text ≡ Some last → IsGiven last.1 × (text ≡ last.0 ++ given_text last.1)
 with_given_found text last e = with_given_parts text (parts_of text) last refl e
 
-call_found : (fields : List ℕ) (v : PlainCommand) → call_in fields ≡ Some v → SpellsCommand v (codes "call " ++ fields)
+call_found : (fields : List ℕ) (v : PlainCommand) → call_in fields ≡ Some v → SpellsPart v (codes "call " ++ fields)
 unfolding call_in
 call_found fields v e =
     let first = bind_found (parts_of fields) _ v e in
@@ -176,10 +178,10 @@ call_found fields v e =
     let two = address_found second.0.0 calling.0 calling.1 in
     let rest = fields_two first.0.1 (address_text calling.0) _ second.0 second.1 two.1 behind.1 in
     let all = fields_two fields (address_text called.0) _ first.0 first.1 one.1 rest in
-    subst (λ (w : PlainCommand). SpellsCommand w (codes "call " ++ fields)) (same_Some _ _ user.2)
+    subst (λ (w : PlainCommand). SpellsPart w (codes "call " ++ fields)) (same_Some _ _ user.2)
     (one.0, two.0, behind.0, (last.0.0, octets_found last.0.0 user.0 user.1, ap (λ t. codes "call " ++ t) all))
 
-accept_found : (fields : List ℕ) (v : PlainCommand) → accept_in fields ≡ Some v → SpellsCommand v (codes "accept " ++ fields)
+accept_found : (fields : List ℕ) (v : PlainCommand) → accept_in fields ≡ Some v → SpellsPart v (codes "accept " ++ fields)
 unfolding accept_in
 accept_found fields v e =
     let last = bind_found (with_params_in fields) _ v e in
@@ -187,7 +189,7 @@ accept_found fields v e =
     let one = number_spelled last.0.0 channel.0 channel.1 in
     let behind = with_params_found fields last.0 last.1 in
     let all = behind.1 ∙ ap (λ t. t ++ params_text last.0.1) one.1 in
-    subst (λ (w : PlainCommand). SpellsCommand w (codes "accept " ++ fields)) (same_Some _ _ channel.2)
+    subst (λ (w : PlainCommand). SpellsPart w (codes "accept " ++ fields)) (same_Some _ _ channel.2)
     (one.0, behind.0, ap (λ t. codes "accept " ++ t) all)
 
 send_found : (fields : List ℕ) (v : PlainCommand) → send_in fields ≡ Some v → SpellsCommand v (codes "send " ++ fields)
@@ -224,16 +226,16 @@ channel_found asked word fields v e spell =
     subst (λ (w : PlainCommand). SpellsCommand w (word ++ fields)) (same_Some _ _ channel.2)
     (subst (λ (t : List ℕ). SpellsCommand (asked channel.0) (word ++ t)) (sym one.1) (spell channel.0 one.0))
 
-giving_found : (asked : ℕ → Given → PlainCommand) (word fields : List ℕ) (v : PlainCommand) → giving_on asked fields ≡ Some v
-    → ((n : ℕ) (given : Given) → IsNumber n → IsGiven given → SpellsCommand (asked n given) (word ++ (decimal n ++ given_text given))) → SpellsCommand v (word ++ fields)
-giving_found asked word fields v e spell =
+giving_found : (Spelled : PlainCommand → List ℕ → Type 0) (asked : ℕ → Given → PlainCommand) (word fields : List ℕ) (v : PlainCommand) → giving_on asked fields ≡ Some v
+    → ((n : ℕ) (given : Given) → IsNumber n → IsGiven given → Spelled (asked n given) (word ++ (decimal n ++ given_text given))) → Spelled v (word ++ fields)
+giving_found Spelled asked word fields v e spell =
     let last = bind_found (with_given_in fields) _ v e in
     let channel = bind_found (number_in last.0.0) _ v last.2 in
     let one = number_spelled last.0.0 channel.0 channel.1 in
     let behind = with_given_found fields last.0 last.1 in
     let all = behind.1 ∙ ap (λ t. t ++ given_text last.0.1) one.1 in
-    subst (λ (w : PlainCommand). SpellsCommand w (word ++ fields)) (same_Some _ _ channel.2)
-    (subst (λ (t : List ℕ). SpellsCommand (asked channel.0 last.0.1) (word ++ t)) (sym all) (spell channel.0 last.0.1 one.0 behind.0))
+    subst (λ (w : PlainCommand). Spelled w (word ++ fields)) (same_Some _ _ channel.2)
+    (subst (λ (t : List ℕ). Spelled (asked channel.0 last.0.1) (word ++ t)) (sym all) (spell channel.0 last.0.1 one.0 behind.0))
 
 restart_found : (fields : List ℕ) (v : PlainCommand) → restart_in fields ≡ Some v → SpellsCommand v (codes "restart " ++ fields)
 restart_found fields v e =
@@ -242,17 +244,90 @@ restart_found fields v e =
     subst (λ (w : PlainCommand). SpellsCommand w (codes "restart " ++ fields)) (same_Some _ _ given.2)
     (found.0, ap (λ t. codes "restart" ++ t) found.1)
 
+-- what is asked of a call
+
+clear_found : (fields : List ℕ) (v : PlainCommand) → giving_on clear fields ≡ Some v → SpellsPart v (codes "clear " ++ fields)
+clear_found fields v e = giving_found SpellsPart clear (codes "clear ") fields v e (λ n given h k. (h, k, refl))
+
+part_fields_found : (verb : Verb) (fields : List ℕ) (v : PlainCommand) → part_fields verb fields ≡ Some v → SpellsPart v (verb_text verb ++ (32 ∷ fields))
+part_fields_found Call fields v e = call_found fields v e
+part_fields_found Accept fields v e = accept_found fields v e
+part_fields_found Clear fields v e = clear_found fields v e
+part_fields_found Send fields v e = absurd (none-some _ e)
+part_fields_found Interrupt fields v e = absurd (none-some _ e)
+part_fields_found Reset fields v e = absurd (none-some _ e)
+part_fields_found Restart fields v e = absurd (none-some _ e)
+part_fields_found Ready fields v e = absurd (none-some _ e)
+part_fields_found NotReady fields v e = absurd (none-some _ e)
+part_fields_found With fields v e = absurd (none-some _ e)
+
+pub part_found : (text : List ℕ) (v : PlainCommand) → part_in text ≡ Some v → SpellsPart v text
+unfolding part_in
+part_found text v e =
+    let parts = bind_found (parts_of text) _ v e in
+    let verb = bind_found (verb_in parts.0.0) _ v parts.2 in
+    let word = verb_found parts.0.0 verb.0 verb.1 in
+    subst (λ (t : List ℕ). SpellsPart v t) (sym (fields_two text (verb_text verb.0) parts.0.1 parts.0 parts.1 word refl))
+    (part_fields_found verb.0 parts.0.1 v verb.2)
+
+-- with nothing beside it it is a command
+part_alone : (v : PlainCommand) (text : List ℕ) → SpellsPart v text → SpellsCommand v text
+part_alone (call called calling user params) text s = s
+part_alone (accept channel params) text s = s
+part_alone (clear channel given) text s = s
+part_alone (with_given facilities user d asked) text s = absurd s
+part_alone (send channel q user) text s = absurd s
+part_alone (interrupt channel user) text s = absurd s
+part_alone (reset channel given) text s = absurd s
+part_alone (ready channel) text s = absurd s
+part_alone (not_ready channel) text s = absurd s
+part_alone (restart given) text s = absurd s
+part_alone pull text s = absurd s
+part_alone connect text s = absurd s
+part_alone disconnect text s = absurd s
+part_alone probe text s = absurd s
+part_alone relink text s = absurd s
+
+d_joined : (text : List ℕ) → text ≡ d_text (d_in text).0 ++ (d_in text).1
+d_joined text = test (bytes_eq (codes "d ") (take 2 text)) refl
+  where
+    test : (b : Bool) → bytes_eq (codes "d ") (take 2 text) ≡ b
+        → text ≡ d_text (cond b (with_d true (drop 2 text)) (with_d false text)).0 ++ (cond b (with_d true (drop 2 text)) (with_d false text)).1
+    test true is = begun text (codes "d ") is
+    test false is = refl
+
+with_found : (fields : List ℕ) (v : PlainCommand) → with_in fields ≡ Some v → SpellsCommand v (codes "with " ++ fields)
+unfolding with_in
+with_found fields v e =
+    let first = bind_found (parts_of fields) _ v e in
+    let second = bind_found (parts_of first.0.1) _ v first.2 in
+    let asked = bind_found (part_in (d_in second.0.1).1) _ v second.2 in
+    let facilities = bind_found (octets_in first.0.0) _ v asked.2 in
+    let user = bind_found (octets_in second.0.0) _ v facilities.2 in
+    let rest = fields_two first.0.1 second.0.0 _ second.0 second.1 refl (d_joined second.0.1) in
+    let all = fields_two fields first.0.0 _ first.0 first.1 refl rest in
+    subst (λ (w : PlainCommand). SpellsCommand w (codes "with " ++ fields)) (same_Some _ _ user.2) (
+      first.0.0,
+      octets_found first.0.0 facilities.0 facilities.1,
+      (
+        second.0.0,
+        octets_found second.0.0 user.0 user.1,
+        ((d_in second.0.1).1, part_found (d_in second.0.1).1 asked.0 asked.1, ap (λ t. codes "with " ++ t) all),
+      ),
+    )
+
 with_fields_found : (verb : Verb) (fields : List ℕ) (v : PlainCommand) → with_fields verb fields ≡ Some v → SpellsCommand v (verb_text verb ++ (32 ∷ fields))
 unfolding with_fields
-with_fields_found Call fields v e = call_found fields v e
-with_fields_found Accept fields v e = accept_found fields v e
-with_fields_found Clear fields v e = giving_found clear (codes "clear ") fields v e (λ n given h k. (h, k, refl))
+with_fields_found Call fields v e = part_alone v _ (call_found fields v e)
+with_fields_found Accept fields v e = part_alone v _ (accept_found fields v e)
+with_fields_found Clear fields v e = part_alone v _ (clear_found fields v e)
 with_fields_found Send fields v e = send_found fields v e
 with_fields_found Interrupt fields v e = interrupt_found fields v e
-with_fields_found Reset fields v e = giving_found reset (codes "reset ") fields v e (λ n given h k. (h, k, refl))
+with_fields_found Reset fields v e = giving_found SpellsCommand reset (codes "reset ") fields v e (λ n given h k. (h, k, refl))
 with_fields_found Restart fields v e = restart_found fields v e
 with_fields_found Ready fields v e = channel_found ready (codes "ready ") fields v e (λ n h. (h, refl))
 with_fields_found NotReady fields v e = channel_found not_ready (codes "notready ") fields v e (λ n h. (h, refl))
+with_fields_found With fields v e = with_found fields v e
 
 pub bare_found : (text : List ℕ) (v : PlainCommand) → bare_command_in text ≡ Some v → SpellsCommand v text
 bare_found text v e =

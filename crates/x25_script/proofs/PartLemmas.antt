@@ -12,7 +12,7 @@ use Rattle.std.proofs.Math.Seq.{take_at, drop-append_seam}
 use Rattle.x25_bits.specs.declared.role.Role.{Role}
 use Rattle.x25_bits.specs.declared.role.Role.TheVariants.{Dte, Dce}
 use Rattle.x25_script.specs.Reading.Spelling.{end_text, direction_text, q_text, address_text, IsAddress, Writes}
-use Rattle.x25_script.specs.Reading.{parts_of, onto_first, end_in, from_in, q_in, digits_in, address_in, octets_in, small_number_in, labelled_in, IsNotBehind}
+use Rattle.x25_script.specs.Reading.{parts_of, onto_first, end_in, from_in, q_in, digits_in, address_in, octets_in, small_number_in, labelled_in, d_in, IsNotBehind}
 use Rattle.x25_script.specs.HexDigits.{octets_of}
 use Rattle.hex.specs.declared.error.FromHexError.{FromHexError}
 use Rattle.hex.specs.Hex.{decode_of}
@@ -64,6 +64,20 @@ labelled_none label text none = test (bytes_eq label (take (length label) text))
   where
     test : (b : Bool) → bytes_eq label (take (length label) text) ≡ b → cond b (small_number_in (drop (length label) text)) None ≡ None
     test true is = absurd (none _ (begun text label is))
+    test false is = refl
+
+-- the word for D
+abbrev pub with_d : Bool → List ℕ → Bool × List ℕ
+with_d d text = (d, text)
+
+pub d_behind : (text rest : List ℕ) → text ≡ codes "d " ++ rest → with_d true rest ≡ d_in text
+d_behind text rest e = sym (ap d_in e)
+
+pub d_none : (text : List ℕ) → IsNotBehind (codes "d ") text → with_d false text ≡ d_in text
+d_none text none = test (bytes_eq (codes "d ") (take 2 text)) refl
+  where
+    test : (b : Bool) → bytes_eq (codes "d ") (take 2 text) ≡ b → with_d false text ≡ cond b (with_d true (drop 2 text)) (with_d false text)
+    test true is = absurd (none _ (begun text (codes "d ") is))
     test false is = refl
 
 -- what a text is read as, where each text has its own

@@ -3,11 +3,11 @@ use Rattle.std.proofs.Common.{ℕ, ◌≡◌, ◌∙◌, ◌≢◌, List, ◌∷
 use Rattle.std.proofs.lemmas.Option.{none-some}
 use Rattle.x25_bits.specs.declared.role.Role.TheVariants.{Dte, Dce}
 use Rattle.x25_script.specs.declared.given.Given.{Given}
-use Rattle.x25_script.specs.ScriptLine.{PlainCommand, call, accept, clear, send, interrupt, reset, ready, not_ready, restart, pull, connect, disconnect, probe, relink, PlainLine, command, t1, deliver, lose, damage, drain, heal}
-use Rattle.x25_script.specs.Reading.Spelling.{Spells, SpellsCommand, given_text}
-use Rattle.x25_script.specs.Reading.{parts_of, Keyword, End, T1, Deliver, Lose, Damage, Drain, Verb, Call, Accept, Clear, Send, Interrupt, Reset, Restart, Ready, NotReady, with_fields, bare_command_in, command_in, after, line_in, IsNotBehind}
+use Rattle.x25_script.specs.ScriptLine.{PlainCommand, call, accept, clear, send, interrupt, reset, ready, not_ready, restart, pull, connect, disconnect, probe, relink, with_given, PlainLine, command, t1, deliver, lose, damage, drain, heal}
+use Rattle.x25_script.specs.Reading.Spelling.{Spells, SpellsPart, SpellsCommand, given_text}
+use Rattle.x25_script.specs.Reading.{parts_of, Keyword, End, T1, Deliver, Lose, Damage, Drain, Verb, Call, Accept, Clear, Send, Interrupt, Reset, Restart, Ready, NotReady, With, part_fields, part_in, with_fields, bare_command_in, command_in, after, line_in, IsNotBehind}
 use Rattle.x25_script.proofs.AgainLemmas.{command_again}
-use Rattle.x25_script.proofs.GrammarLemmas.{bare_found, command_found, keyword_text, line_found, verb_text}
+use Rattle.x25_script.proofs.GrammarLemmas.{bare_found, command_found, keyword_text, line_found, part_found, verb_text}
 
 -- ---- a word with a blank behind it
 
@@ -36,12 +36,46 @@ command_behind Reset text fields e = ap command_in e
 command_behind Restart text fields e = ap command_in e
 command_behind Ready text fields e = ap command_in e
 command_behind NotReady text fields e = ap command_in e
+command_behind With text fields e = ap command_in e
+
+pub part_behind : (word : Verb) (text fields : List ℕ) → text ≡ verb_text word ++ (32 ∷ fields) → part_in text ≡ part_fields word fields
+unfolding part_in parts_of
+part_behind Call text fields e = ap part_in e
+part_behind Accept text fields e = ap part_in e
+part_behind Clear text fields e = ap part_in e
+part_behind Send text fields e = ap part_in e
+part_behind Interrupt text fields e = ap part_in e
+part_behind Reset text fields e = ap part_in e
+part_behind Restart text fields e = ap part_in e
+part_behind Ready text fields e = ap part_in e
+part_behind NotReady text fields e = ap part_in e
+part_behind With text fields e = ap part_in e
 
 -- ---- none of the words
 
 none_or_some : {A : Type 0} (read : Option A) → ((v : A) → read ≡ Some v → ⊥) → read ≡ None
 none_or_some None h = refl
 none_or_some (Some v) h = absurd (h v refl)
+
+pub no_part : (text : List ℕ) → IsNotBehind (codes "call ") text → IsNotBehind (codes "accept ") text → IsNotBehind (codes "clear ") text → part_in text ≡ None
+no_part text no_call no_accept no_clear = none_or_some (part_in text) (λ v e. go v (part_found text v e))
+  where
+    go : (v : PlainCommand) → SpellsPart v text → ⊥
+    go (call called calling user params) s = no_call _ s.3.2
+    go (accept channel params) s = no_accept _ s.2
+    go (clear channel given) s = no_clear _ s.2
+    go (with_given facilities user d asked) s = s
+    go (send channel q user) s = s
+    go (interrupt channel user) s = s
+    go (reset channel given) s = s
+    go (ready channel) s = s
+    go (not_ready channel) s = s
+    go (restart given) s = s
+    go pull s = s
+    go connect s = s
+    go disconnect s = s
+    go probe s = s
+    go relink s = s
 
 pub no_line : (text : List ℕ) → IsNotBehind (codes "deliver ") text → IsNotBehind (codes "dte ") text → IsNotBehind (codes "dce ") text → IsNotBehind (codes "drain ") text
     → IsNotBehind (codes "t1 ") text → IsNotBehind (codes "lose ") text → IsNotBehind (codes "damage ") text → text ≢ codes "heal" → line_in text ≡ None
@@ -59,9 +93,9 @@ no_line text no_deliver no_dte no_dce no_drain no_t1 no_lose no_damage no_heal =
 
 -- what is left are the commands without fields
 pub bare_alone : (text : List ℕ) → IsNotBehind (codes "send ") text → IsNotBehind (codes "accept ") text → IsNotBehind (codes "call ") text → IsNotBehind (codes "int ") text
-    → IsNotBehind (codes "reset ") text → IsNotBehind (codes "clear ") text → IsNotBehind (codes "ready ") text → IsNotBehind (codes "notready ") text → IsNotBehind (codes "restart ") text
+    → IsNotBehind (codes "reset ") text → IsNotBehind (codes "clear ") text → IsNotBehind (codes "ready ") text → IsNotBehind (codes "notready ") text → IsNotBehind (codes "restart ") text → IsNotBehind (codes "with ") text
     → command_in text ≡ bare_command_in text
-bare_alone text no_send no_accept no_call no_int no_reset no_clear no_ready no_not_ready no_restart = go (command_in text) refl
+bare_alone text no_send no_accept no_call no_int no_reset no_clear no_ready no_not_ready no_restart no_with = go (command_in text) refl
   where
     restarts : (cause diagnostic : Option ℕ) → (let given : Given = record { cause = cause; diagnostic = diagnostic } in text ≡ codes "restart" ++ given_text given)
         → command_in text ≡ Some (restart (record { cause = cause; diagnostic = diagnostic })) → command_in text ≡ bare_command_in text
@@ -73,6 +107,7 @@ bare_alone text no_send no_accept no_call no_int no_reset no_clear no_ready no_n
     spelled (call called calling user params) s e = absurd (no_call _ s.3.2)
     spelled (accept channel params) s e = absurd (no_accept _ s.2)
     spelled (clear channel given) s e = absurd (no_clear _ s.2)
+    spelled (with_given facilities user d asked) s e = absurd (no_with _ s.2.2.2)
     spelled (send channel q user) s e = absurd (no_send _ s.1.2)
     spelled (interrupt channel user) s e = absurd (no_int _ s.1.2)
     spelled (reset channel given) s e = absurd (no_reset _ s.2)

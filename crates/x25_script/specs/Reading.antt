@@ -11,12 +11,13 @@ use Rattle.x25_bits.specs.declared.role.Role.{Role}
 use Rattle.x25_bits.specs.declared.role.Role.TheVariants.{Dte, Dce}
 use Rattle.x25_circuit.specs.declared.params.Params.{Params}
 use Rattle.x25_script.specs.declared.given.Given.{Given}
+use Rattle.x25_script.specs.declared.script_line.CallPart.{CallPart}
 use Rattle.x25_script.specs.declared.script_line.Command.{Command}
 use Rattle.x25_script.specs.HexDigits.{octets_of}
 use Rattle.x25_script.specs.ScriptLine.{PlainCommand, call, accept, clear, send, interrupt, reset, ready, not_ready}
 use Rattle.x25_script.specs.ScriptLine.{restart, pull, connect, disconnect, probe, relink, PlainLine, command, t1}
 use Rattle.x25_script.specs.ScriptLine.{deliver, lose}
-use Rattle.x25_script.specs.ScriptLine.{damage, drain, heal, plain_command}
+use Rattle.x25_script.specs.ScriptLine.{damage, drain, heal, plain_command, plain_part, with_given}
 pub mod Spelling
 
 -- the first word of a line
@@ -39,6 +40,7 @@ pub data Verb : Type 0 where
   Restart : Verb
   Ready : Verb
   NotReady : Verb
+  With : Verb
 
 -- a step of reading, where the steps before it read something
 infixl 10 ◌>>=◌
@@ -98,6 +100,7 @@ verb_in text =
     else if bytes_eq text (codes "restart") then Some Restart
     else if bytes_eq text (codes "ready") then Some Ready
     else if bytes_eq text (codes "notready") then Some NotReady
+    else if bytes_eq text (codes "with") then Some With
     else None
 
 abbrev pub keyword_in : List ℕ → Option Keyword
@@ -224,6 +227,33 @@ restart_in text = do
   given ← given_in text
   Some (restart given)
 
+-- what is asked of a call
+abbrev pub part_fields : Verb → List ℕ → Option PlainCommand
+part_fields Call text = call_in text
+part_fields Accept text = accept_in text
+part_fields Clear text = giving_on clear text
+part_fields verb text = None
+
+unfoldable pub part_in : List ℕ → Option PlainCommand
+part_in text = do
+  parts ← parts_of text
+  word ← verb_in parts.0
+  part_fields word parts.1
+
+-- whether D is set, where its word stands in front, and what follows
+abbrev pub d_in : List ℕ → Bool × List ℕ
+d_in text = if bytes_eq (codes "d ") (take 2 text) then (true, drop 2 text) else (false, text)
+
+-- facilities, user data, and what is asked of a call
+unfoldable pub with_in : List ℕ → Option PlainCommand
+with_in text = do
+  first ← parts_of text
+  second ← parts_of first.1
+  asked ← part_in (d_in second.1).1
+  facilities ← octets_in first.0
+  user ← octets_in second.0
+  Some (with_given facilities user (d_in second.1).0 asked)
+
 unfoldable pub with_fields : Verb → List ℕ → Option PlainCommand
 with_fields Call text = call_in text
 with_fields Accept text = accept_in text
@@ -234,6 +264,7 @@ with_fields Reset text = giving_on reset text
 with_fields Restart text = restart_in text
 with_fields Ready text = on_channel ready text
 with_fields NotReady text = on_channel not_ready text
+with_fields With text = with_in text
 
 abbrev pub bare_command_in : List ℕ → Option PlainCommand
 bare_command_in text = if bytes_eq text (codes "restart") then Some (restart nothing_given)
@@ -324,6 +355,10 @@ GivesWithGiven (Some last) read = read ≡ Some (last.0.now, last.1)
 abbrev pub GivesCommand : Option Command → Option PlainCommand → Type 0
 GivesCommand None read = read ≡ None
 GivesCommand (Some asked) read = read ≡ Some (plain_command asked)
+
+abbrev pub GivesPart : Option CallPart → Option PlainCommand → Type 0
+GivesPart None read = read ≡ None
+GivesPart (Some asked) read = read ≡ Some (plain_part asked)
 
 -- a text doesn't begin with this word
 abbrev pub IsNotBehind : List ℕ → List ℕ → Type 0

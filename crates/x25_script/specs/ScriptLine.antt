@@ -3,16 +3,20 @@ use Rattle.std.specs.Prelude.{ℕ, Bool, true, false, ◌||◌, not, if◌then�
 use Rattle.x25_bits.specs.declared.role.Role.{Role}
 use Rattle.x25_circuit.specs.declared.params.Params.{Params}
 use Rattle.x25_script.specs.declared.given.Given.{Given}
+use Rattle.x25_script.specs.declared.script_line.CallPart.{CallPart}
+use Rattle.x25_script.specs.declared.script_line.CallPart.TheVariants as part_code
 use Rattle.x25_script.specs.declared.script_line.Command.{Command}
 use Rattle.x25_script.specs.declared.script_line.Command.TheVariants as command_code
 
 -- A call has the characters of the called address, those of the calling one, and the user data; the others begin with
 -- their channel, before Q and the user data. A call and its acceptance may have packet sizes and windows, and a clear,
--- a reset and a restart a cause and a diagnostic.
+-- a reset and a restart a cause and a diagnostic. Before what is asked of a call facilities may stand, user data, and
+-- whether D is set.
 pub data PlainCommand : Type 0 where
   call : List ℕ → List ℕ → List ℕ → Option Params → PlainCommand
   accept : ℕ → Option Params → PlainCommand
   clear : ℕ → Given → PlainCommand
+  with_given : List ℕ → List ℕ → Bool → PlainCommand → PlainCommand
   send : ℕ → Bool → List ℕ → PlainCommand
   interrupt : ℕ → List ℕ → PlainCommand
   reset : ℕ → Given → PlainCommand
@@ -35,10 +39,16 @@ pub data PlainLine : Type 0 where
   drain : ℕ → PlainLine
   heal : PlainLine
 
+abbrev pub plain_part : CallPart → PlainCommand
+plain_part (part_code.Call called calling user params) = call called.now calling.now user params
+plain_part (part_code.Accept params channel) = accept channel params
+plain_part (part_code.Clear channel given) = clear channel given
+
 abbrev pub plain_command : Command → PlainCommand
 plain_command (command_code.Call called calling user params) = call called.now calling.now user params
 plain_command (command_code.Accept params channel) = accept channel params
 plain_command (command_code.Clear channel given) = clear channel given
+plain_command (command_code.With facilities user d asked) = with_given facilities user d (plain_part asked)
 plain_command (command_code.Send channel q user) = send channel q user
 plain_command (command_code.Interrupt channel user) = interrupt channel user
 plain_command (command_code.Reset channel given) = reset channel given
@@ -60,6 +70,7 @@ abbrev pub is_wide : PlainCommand → Bool
 is_wide (clear channel given) = is_any given
 is_wide (reset channel given) = is_any given
 is_wide (restart given) = is_any given
+is_wide (with_given facilities user d asked) = true
 is_wide asked = false
 
 -- with the wide form all are taken

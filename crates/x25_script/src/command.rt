@@ -1,23 +1,24 @@
 //! What the user of an end asks for.
-ghost use Rattle.std.specs.Prelude.{codes};
+ghost use Rattle.std.specs.Prelude.{◌≡◌, Option, codes};
 ghost use Rattle.x25_script.specs.Reading.{accept_in, bare_command_in, call_in, command_in, interrupt_in, send_in};
 ghost use Rattle.x25_script.specs.Reading.{giving_on, restart_in, with_fields, GivesCommand};
-ghost use Rattle.x25_script.specs.Reading.{IsNotBehind, NotReady, Ready};
+ghost use Rattle.x25_script.specs.Reading.{d_in, part_in, with_in, GivesPart, IsNotBehind, NotReady, Ready};
 ghost use Rattle.x25_script.specs.ScriptLine.{clear as command_clear, reset as command_reset};
+ghost use Rattle.x25_script.specs.ScriptLine.{PlainCommand, plain_command, plain_part};
 
 use crate::fields::{address, behind, is, number, octets, q, split_blank};
 use crate::given::{Given, read_given, with_given};
 use crate::params::with_params;
-use crate::script_line::Command;
+use crate::script_line::{CallPart, Command};
 
 #[tactic(auto, unfolding(crate::specs::Reading::call_in))]
-fn call(text: &[u8]) -> Option<Command<'_>>
-    ensures { GivesCommand result (call_in text.now) }
+fn call(text: &[u8]) -> Option<CallPart<'_>>
+    ensures { GivesPart result (call_in text.now) }
 {
     let (called, rest) = split_blank(text)?;
     let (calling, rest) = split_blank(rest)?;
     let (user, params) = with_params(rest)?;
-    Some(Command::Call {
+    Some(CallPart::Call {
         called: address(called)?,
         calling: address(calling)?,
         user: octets(user)?,
@@ -27,11 +28,11 @@ fn call(text: &[u8]) -> Option<Command<'_>>
 
 #[inline(always)]
 #[tactic(auto, unfolding(crate::specs::Reading::accept_in))]
-pub(crate) fn accept(text: &[u8]) -> Option<Command<'_>>
-    ensures { GivesCommand result (accept_in text.now) }
+fn accept_part(text: &[u8]) -> Option<CallPart<'_>>
+    ensures { GivesPart result (accept_in text.now) }
 {
     let (channel, params) = with_params(text)?;
-    Some(Command::Accept {
+    Some(CallPart::Accept {
         channel: number(channel)?,
         params,
     })
@@ -62,11 +63,11 @@ fn interrupt(text: &[u8]) -> Option<Command<'_>>
     })
 }
 
-fn clear(text: &[u8]) -> Option<Command<'_>>
-    ensures { GivesCommand result (giving_on command_clear text.now) }
+fn clear(text: &[u8]) -> Option<CallPart<'_>>
+    ensures { GivesPart result (giving_on command_clear text.now) }
 {
     let (channel, given) = with_given(text)?;
-    Some(Command::Clear {
+    Some(CallPart::Clear {
         channel: number(channel)?,
         given,
     })
@@ -105,6 +106,88 @@ fn not_ready(text: &[u8]) -> Option<Command<'_>>
     Some(Command::NotReady { channel })
 }
 
+/// What is asked of a call, with nothing beside it.
+#[inline(always)]
+fn alone(part: CallPart<'_>) -> Command<'_>
+    ensures { plain_command result ≡ plain_part part.entry }
+{
+    match part {
+        CallPart::Call {
+            called,
+            calling,
+            user,
+            params,
+        } => Command::Call {
+            called,
+            calling,
+            user,
+            params,
+        },
+        CallPart::Accept { params, channel } => Command::Accept { params, channel },
+        CallPart::Clear { channel, given } => Command::Clear { channel, given },
+    }
+}
+
+/// The same, where there is one.
+#[inline(always)]
+fn alone_in(part: Option<CallPart<'_>>) -> Option<Command<'_>>
+    ensures { (read : Option PlainCommand) → GivesPart part.entry read → GivesCommand result read }
+{
+    match part {
+        Some(part) => Some(alone(part)),
+        None => None,
+    }
+}
+
+#[inline(always)]
+pub(crate) fn accept(text: &[u8]) -> Option<Command<'_>>
+    ensures { GivesCommand result (accept_in text.now) }
+{
+    alone_in(accept_part(text))
+}
+
+/// What is asked of a call, by its first word.
+fn part(text: &[u8]) -> Option<CallPart<'_>>
+    ensures { GivesPart result (part_in text.now) }
+{
+    if let Some(fields) = behind(text, b"call ") {
+        return call(fields);
+    }
+    if let Some(fields) = behind(text, b"accept ") {
+        return accept_part(fields);
+    }
+    if let Some(fields) = behind(text, b"clear ") {
+        return clear(fields);
+    }
+    None
+}
+
+/// Whether D is set, and what follows its word.
+fn split_d(text: &[u8]) -> (bool, &[u8])
+    ensures { (result.0, result.1.now) ≡ d_in text.now }
+{
+    match behind(text, b"d ") {
+        Some(rest) => (true, rest),
+        None => (false, text),
+    }
+}
+
+#[tactic(auto, unfolding(crate::specs::Reading::with_in))]
+fn with(text: &[u8]) -> Option<Command<'_>>
+    ensures { GivesCommand result (with_in text.now) }
+{
+    let (field, rest) = split_blank(text)?;
+    let (digits, rest) = split_blank(rest)?;
+    let (d, asked) = split_d(rest);
+    let call = part(asked)?;
+    Some(Command::With {
+        facilities: octets(field)?,
+        user: octets(digits)?,
+        d,
+        call,
+    })
+}
+
 /// A command without fields.
 fn bare_command(text: &[u8]) -> Option<Command<'_>>
     ensures { GivesCommand result (bare_command_in text.now) }
@@ -135,7 +218,7 @@ pub(crate) fn other_command(text: &[u8]) -> Option<Command<'_>>
         → GivesCommand result (command_in text.now) }
 {
     if let Some(fields) = behind(text, b"call ") {
-        return call(fields);
+        return alone_in(call(fields));
     }
     if let Some(fields) = behind(text, b"int ") {
         return interrupt(fields);
@@ -144,7 +227,7 @@ pub(crate) fn other_command(text: &[u8]) -> Option<Command<'_>>
         return reset(fields);
     }
     if let Some(fields) = behind(text, b"clear ") {
-        return clear(fields);
+        return alone_in(clear(fields));
     }
     if let Some(fields) = behind(text, b"ready ") {
         return ready(fields);
@@ -154,6 +237,9 @@ pub(crate) fn other_command(text: &[u8]) -> Option<Command<'_>>
     }
     if let Some(fields) = behind(text, b"restart ") {
         return restart(fields);
+    }
+    if let Some(fields) = behind(text, b"with ") {
+        return with(fields);
     }
     bare_command(text)
 }

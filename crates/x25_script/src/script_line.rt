@@ -7,13 +7,34 @@ use crate::hex_digits::HexDigits;
 use x25_bits::Role;
 use x25_circuit::Params;
 
+/// What the user of an end asks of a call: what may stand behind `with`, as the variants of `Command` of these names.
+#[derive(Debug, Drop)]
+pub enum CallPart<'a> {
+    Call {
+        called: &'a str,
+        calling: &'a str,
+        user: HexDigits<'a>,
+        params: Option<Params>,
+    },
+    Accept {
+        params: Option<Params>,
+        channel: u16,
+    },
+    Clear {
+        channel: u16,
+        given: Given,
+    },
+}
+
 /// What the user of an end asks for.
 ///
 /// Addresses are digits `0` to `9`, any number of them; whether a call may have them is judged by the call. `user` is
 /// user data as octets. `channel` is any number of 16 bits; whether there is such a channel is judged by the call.
 /// `params` are the packet sizes and windows that are proposed, or answered, where the line has them: any numbers of 8
 /// bits; whether a call may propose them, or its acceptance answer them, is judged by the call. `given` are a cause and
-/// a diagnostic, where the line has them; whether the user of this end may give them is judged by the call.
+/// a diagnostic, where the line has them; whether the user of this end may give them is judged by the call. `With` has
+/// facilities, user data and whether D is set beside what is asked of a call; whether these may be given is judged by
+/// the call.
 #[derive(Debug, Drop)]
 pub enum Command<'a> {
     Call {
@@ -31,6 +52,12 @@ pub enum Command<'a> {
     Clear {
         channel: u16,
         given: Given,
+    },
+    With {
+        facilities: HexDigits<'a>,
+        user: HexDigits<'a>,
+        d: bool,
+        call: CallPart<'a>,
     },
     Send {
         channel: u16,
@@ -71,6 +98,7 @@ impl Command<'_> {
             Command::Clear { given, .. }
             | Command::Reset { given, .. }
             | Command::Restart { given } => given.is_any(),
+            Command::With { .. } => true,
             _ => false,
         }
     }

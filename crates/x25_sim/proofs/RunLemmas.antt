@@ -9,18 +9,19 @@ use Rattle.x25_link.specs.Station.{awaits_ua}
 use Rattle.x25_line.specs.laws.Stations.{is_visible, replaced}
 use Rattle.x25_station.specs.declared.config.Cfg.{Cfg}
 use Rattle.x25_station.specs.Config.{Settings, settings_from}
+use Rattle.x25_station.specs.laws.ReadLaw.{RequestsOctets}
 use Rattle.x25_station.specs.Step.{Outcome, Did, Refused, fires, commands}
-use Rattle.x25_script.specs.ScriptLine.{PlainCommand, call, accept, clear, send, interrupt, reset, ready, not_ready, restart, pull, connect, disconnect, probe, relink, PlainLine, command, t1, deliver, lose, damage, drain, heal, is_taken, taken}
+use Rattle.x25_script.specs.ScriptLine.{PlainCommand, call, accept, clear, send, interrupt, reset, ready, not_ready, restart, pull, connect, disconnect, probe, relink, with_given, PlainLine, command, t1, deliver, lose, damage, drain, heal, is_taken, taken}
 use Rattle.std.specs.Option.{unwrap_or}
 use Rattle.x25_script.specs.Reading.{line_in}
-use Rattle.x25_script.specs.laws.ReadingLaw.{IsOctet, AsksInOctets, IsInOctets, ReadsOctets}
+use Rattle.x25_script.specs.laws.ReadingLaw.{IsOctet, PartInOctets, AsksInOctets, IsInOctets, ReadsOctets}
 use Rattle.x25_io.specs.Lines.{lines_of}
 use Rattle.x25_world.specs.World.{World, OnTap, AtEnd, swapped, Act, Commands, Receives, Fires, Loses, Damages, Event, WorldOutcome, Happened, Declined, of_station, delivered, on_line, is_on_line, acts, swapped_back, acts_at, happens, refusal_of, after, run, AreAccepted, start, connected, established}
 use Rattle.x25_world.specs.declared.error.WorldError.{WorldError}
 use Rattle.x25_world.specs.laws.Claims.{ActsInOctets, AreInOctets, IsUpOnce, IsUpAtMostOnce, IsBeginning, IsNoConnect, NoneConnects, UpOnceUnlessConnected, Always, UntilSecondUp}
 use Rattle.x25_world.specs.laws.SessionClaims.{Throughout, ThroughoutAlong}
 use Rattle.x25_sim.specs.Telling.{Saying, enters, taps, reads_nothing, refuses, marks}
-use Rattle.x25_console.specs.Commands.{command_asked}
+use Rattle.x25_console.specs.Commands.{command_asked, part_asked}
 use Rattle.x25_io.specs.HeldLine.{most_line}
 use Rattle.x25_world.specs.Healing.{next_end}
 use Rattle.x25_sim.specs.Stage.{Turn, and_then, frames_if, frames_told, marks_if, marked, step_told, told_between, turn_of, event_turn, delivered_to, drained, tried_of, tried, both_tried, most_times, fired, pulled, unless_empty, emptied, healed, line_turn, asked_in, asked_turn, turn, turns, connecting, set_up, opened, simulated}
@@ -130,12 +131,33 @@ given : (o : Option ℕ) → IsOctet o → unwrap_or o 0 < 256
 given None h = omega arith
 given (Some n) h = h
 
+-- of what is asked of a call
+part_handed : (asked : PlainCommand) → PartInOctets asked → RequestsOctets (part_asked asked)
+part_handed (call called calling user None) h = h
+part_handed (call called calling user (Some four)) h = h
+part_handed (accept channel None) h = tt
+part_handed (accept channel (Some four)) h = tt
+part_handed (clear channel g) h = (given g.cause h.0, given g.diagnostic h.1)
+part_handed (with_given facilities user d asked) h = tt
+part_handed (send channel q user) h = tt
+part_handed (interrupt channel user) h = tt
+part_handed (reset channel g) h = tt
+part_handed (ready channel) h = tt
+part_handed (not_ready channel) h = tt
+part_handed (restart g) h = tt
+part_handed pull h = tt
+part_handed connect h = tt
+part_handed disconnect h = tt
+part_handed probe h = tt
+part_handed relink h = tt
+
 handed : (asked : PlainCommand) → AsksInOctets asked → ActsInOctets (Commands (command_asked asked))
 handed (call called calling user None) h = h
 handed (call called calling user (Some four)) h = h
 handed (accept channel None) h = tt
 handed (accept channel (Some four)) h = tt
 handed (clear channel g) h = (given g.cause h.0, given g.diagnostic h.1)
+handed (with_given facilities user d asked) h = ((h.0, h.1), part_handed asked h.2)
 handed (send channel q user) h = h
 handed (interrupt channel user) h = h
 handed (reset channel g) h = (given g.cause h.0, given g.diagnostic h.1)
@@ -174,6 +196,7 @@ other_asked : (end : Role) (asked : PlainCommand) (refusal : Option WorldError) 
 other_asked end (call called calling user params) refusal h = tt
 other_asked end (accept channel params) refusal h = tt
 other_asked end (clear channel given) refusal h = tt
+other_asked end (with_given facilities user d asked) refusal h = tt
 other_asked end (send channel q user) refusal h = tt
 other_asked end (interrupt channel user) refusal h = tt
 other_asked end (reset channel given) refusal h = tt

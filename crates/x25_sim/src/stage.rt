@@ -98,12 +98,15 @@ impl Stage {
         ensures memory { IfErr result (λ fault. fault ≡ Fault.NoMemory) }
     {
         let output = Output::new(alloc)?;
+        let Ok(step) = Step::new(alloc) else {
+            return Err(Fault::NoMemory);
+        };
         let Ok(world) = first_world(alloc, down, cfg) else {
             return Err(Fault::NoMemory);
         };
         Ok(Stage {
             world,
-            step: Step::new(alloc),
+            step,
             shown,
             output,
             is_refused: false,

@@ -39,7 +39,7 @@ use Rattle.x25_station.proofs.ResultLemmas.{ok_err, err_is}
 
 -- a link from which the frames were taken fits the same state
 pub taken_link : (c : LinkSettings) (m n : ShownLink) (s : LinkStation) → n.station ≡ m.station → FitsLink c m s → FitsLink c n s
-taken_link c m n s same fits = subst (λ x. FitsLink c (record { station = x; outbox = n.outbox }) s) (sym same) (record { near = fits.near; settled = fits.settled; calm = fits.calm })
+taken_link c m n s same fits = subst (λ x. FitsLink c (record { station = x; frames = n.frames }) s) (sym same) (record { near = fits.near; settled = fits.settled; calm = fits.calm })
 
 pub after_puts : (c : LinkSettings) (m : ShownLink) (packets : List PlainPacket) (t : Side) → FitsWhole m (after_all after_put_to (kept_of c t) packets) → FitsWhole m (kept_of c (all_put c packets t))
 after_puts c m packets t fits = subst (λ (x : LinkState). FitsWhole m x) (put_by_put c packets t) fits
@@ -47,7 +47,7 @@ after_puts c m packets t fits = subst (λ (x : LinkState). FitsWhole m x) (put_b
 -- ---- an accepted call
 
 pub leaves_did : {T : Type 0} {manner : Manner} (u : T) (c : Settings) → manner ≡ manner_of c → (s : LinkStation) (m n : ShownLink) (z : layer_code.Layer) (entries : List StationEntry) (a : Answered) → LayerGives (layer_settings c) z (Ok u) a
-    → LinkGives (FitsWhole m) after_put_to (kept_of (link_settings c) (alone s)) (Ok u) a → n.station ≡ m.station → n.outbox.made ≡ [] → KeptBy (did c (alone s) entries a)
+    → LinkGives (FitsWhole m) after_put_to (kept_of (link_settings c) (alone s)) (Ok u) a → n.station ≡ m.station → n.frames ≡ [] → KeptBy (did c (alone s) entries a)
     → station.LeavesParts {T = Unit} c manner n z (Ok tt) (did c (alone s) entries a)
 leaves_did u c as_set s m n z entries (Went p) layer link same none kept = record {
   link = taken_link (link_settings c) m n _ same (after_puts (link_settings c) m p.put (alone s) link).link;
@@ -59,7 +59,7 @@ leaves_did u c as_set s m n z entries (Went p) layer link same none kept = recor
 leaves_did u c as_set s m n z entries (Refuses e) layer link same none kept = absurd (ok_err u e layer)
 
 pub sends_did : {T : Type 0} (u : T) (c : Settings) (s : LinkStation) (m : ShownLink) (r : code_step.Step) (entries : List StationEntry) (a : Answered)
-    → LinkGives (FitsWhole m) after_put_to (kept_of (link_settings c) (alone s)) (Ok u) a → map (λ frame. frame.items) r.frames.items ≡ m.outbox.made → station.Sends {T = Unit} c r (Ok tt) (did c (alone s) entries a)
+    → LinkGives (FitsWhole m) after_put_to (kept_of (link_settings c) (alone s)) (Ok u) a → r.frames ≡ m.frames → station.Sends {T = Unit} c r (Ok tt) (did c (alone s) entries a)
 sends_did u c s m r entries (Went p) link made = made ∙ (after_puts (link_settings c) m p.put (alone s) link).kept
 sends_did u c s m r entries (Refuses e) link made = tt
 
@@ -176,7 +176,7 @@ pub record Answers (c : Settings) (manner : Manner) (n : ShownLink) (z : layer_c
 
 -- an accepted call of the layer, from the link l and the layer y to m and z, and then to n, from which the frames are taken
 pub answers : {manner : Manner} {T : Type 0} (u : T) (c : Settings) (l m n : ShownLink) (y z : layer_code.Layer) (r : code_step.Step) (s : Station) (request : LayerRequest) → FitsParts c manner l y s → Layers l y z (Ok u) request → Links l m y (Ok u) request
-    → n.station ≡ m.station → n.outbox.made ≡ [] → map (λ frame. frame.items) r.frames.items ≡ m.outbox.made → KeptBy (requests c s request) → Answers c manner n z r (requests c s request)
+    → n.station ≡ m.station → n.frames ≡ [] → r.frames ≡ m.frames → KeptBy (requests c s request) → Answers c manner n z r (requests c s request)
 answers u c l m n y z r s request fits layers links same none made kept =
     let a : Answered = answered_by c s request in
     let layer = layer_gives (Ok u) c l y z s request fits layers in

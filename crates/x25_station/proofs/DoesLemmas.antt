@@ -1,6 +1,5 @@
 -- A call does what the definition says of it, by what the calls of its link or of its layer did.
-use Rattle.std.proofs.Common.{◌≡◌, ◌≤◌, [], length, map, vec_len, Result, Ok, Err, OnErr, IsErrAnd, ◌∙◌, inr, refl, ap, sym, subst, arith}
-use Rattle.std.proofs.lemmas.List.{length-map}
+use Rattle.std.proofs.Common.{◌≡◌, ◌≤◌, [], length, vec_len, Result, Ok, Err, OnErr, IsErrAnd, ◌∙◌, inr, refl, ap, sym, subst, arith}
 use Rattle.x25_link.specs.Station.{LinkStation}
 use Rattle.x25_link.specs.Link.{alone}
 use Rattle.x25_link.specs.code.FitsLink.{ShownLink, LinkState, FitsWhole, after_put_to}
@@ -56,7 +55,7 @@ declines old new out e said refuses stays empty = record {
   refused = refuses;
   stays = stays;
   empty = empty;
-  few_frames = let none : length out.frames.items ≡ 0 = ap length empty.frames in grind (arith, none, out.frames.ok);
+  few_frames = let none : length out.frames ≡ 0 = ap length empty.frames in omega (arith, none);
   few_entries = let none : length out.entries.items ≡ 0 = ap length empty.entries in grind (arith, none, out.entries.ok);
 }
 
@@ -113,26 +112,23 @@ alike old new out result said told same d = record {
 
 -- what the layer put became eight frames at most
 puts_few : {T : Type 0} (u : T) (c : Settings) (s : LinkStation) (m : ShownLink) (a : Answered) → (link_settings c).window ≤ 7 → s.outgoing.acked ≤ s.outgoing.place
-    → LinkGives (FitsWhole m) after_put_to (kept_of (link_settings c) (alone s)) (Ok u) a → length m.outbox.made ≤ 8
-puts_few u c s m (Went p) small low link = few_made c.role m.outbox.made (all_put (link_settings c) p.put (alone s)).out 8 (after_puts (link_settings c) m p.put (alone s) link).kept (few_put (link_settings c) p.put (alone s) small low)
+    → LinkGives (FitsWhole m) after_put_to (kept_of (link_settings c) (alone s)) (Ok u) a → length m.frames ≤ 8
+puts_few u c s m (Went p) small low link = few_made c.role m.frames (all_put (link_settings c) p.put (alone s)).out 8 (after_puts (link_settings c) m p.put (alone s) link).kept (few_put (link_settings c) p.put (alone s) small low)
 puts_few u c s m (LayerRefuses e) small low link = absurd (ok_err u e link)
 
-pub made_few : {T : Type 0} {manner : Manner} (u : T) (l m : ShownLink) (y : layer_code.Layer) (request : LayerRequest) → AreMeant manner l y → Links l m y (Ok u) request → WindowIsSmall → FewStand → length m.outbox.made ≤ 8
-made_few u l m y request h links small stand = least_by_meaning l y (length m.outbox.made) 8 h (λ c s fits.
+pub made_few : {T : Type 0} {manner : Manner} (u : T) (l m : ShownLink) (y : layer_code.Layer) (request : LayerRequest) → AreMeant manner l y → Links l m y (Ok u) request → WindowIsSmall → FewStand → length m.frames ≤ 8
+made_few u l m y request h links small stand = least_by_meaning l y (length m.frames) 8 h (λ c s fits.
     puts_few u c s.link m (answered_by c s request) (small (link_settings c) l s.link fits.link) (stand (link_settings c) l s.link fits.link).place_low (link_gives (Ok u) c l m y s request fits links))
 
 -- From the link and the layer of the old station its call led to the link m, from which the frames were taken, and to the layer of the new one.
 pub did_request : {T : Type 0} (u : T) (old new : code.Station) (m : ShownLink) (r : code_step.Step) (request : LayerRequest) → Layers old.link old.layer new.layer (Ok u) request → Links old.link m old.layer (Ok u) request
-    → new.link.station ≡ m.station → new.link.outbox.made ≡ [] → map (λ frame. frame.items) r.frames.items ≡ m.outbox.made → RequestKeeps → WindowIsSmall → FewStand
+    → new.link.station ≡ m.station → new.link.frames ≡ [] → r.frames ≡ m.frames → RequestKeeps → WindowIsSmall → FewStand
     → ((c : Settings) (s : Station) → FitsStation c old s → Enters {T = Unit} r (Ok tt) (requests c s request)) → vec_len r.entries ≤ 3 → old.manner ≡ new.manner → Does old new r (Ok tt) (λ c s. requests c s request)
 did_request u old new m r request layers links same none made keeps small stand entered few manner =
     let parts : (c : Settings) (s : Station) → FitsStation c old s → Answers c new.manner new.link new.layer r (requests c s request) =
     λ c s fits. answers u c old.link m new.link old.layer new.layer r s request (subst (λ (b : Manner). FitsParts c b old.link old.layer s) manner fits) layers links same none made (keeps c s request fits.kept) in
     let put = made_few u old.link m old.layer request old.meant links small stand in
-    let same : length (map (λ frame. frame.items) r.frames.items) ≡ length m.outbox.made = ap length made in
-    let count = length-map r.frames.items (λ frame. frame.items) in
-    let short : length r.frames.items ≤ 8 = omega (arith, put, same, count) in
-    let few_out : vec_len r.frames ≤ 17 = grind (arith, short, r.frames.ok) in
+    let same : length r.frames ≡ length m.frames = ap length made in
     record {
       state = λ c s fits. (parts c s fits).state;
       frames = λ c s fits. (parts c s fits).frames;
@@ -140,7 +136,7 @@ did_request u old new m r request layers links same none made keeps small stand 
       refused = λ c s fits. (parts c s fits).refused;
       stays = λ c s fits. tt;
       empty = tt;
-      few_frames = few_out;
+      few_frames = omega (arith, put, same);
       few_entries = few;
     }
 

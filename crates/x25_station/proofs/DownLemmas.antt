@@ -57,7 +57,7 @@ relink_down c l s = follows_down c l (relink_step (link_settings c) s) refl refl
 -- ---- the station after it
 
 pub fits_down : {manner : Manner} (c : Settings) → manner ≡ manner_of c → (v : ShownLink) (y : layer_code.Layer) (l : Layer) (k : LinkStep) (step : Step) (down : Option Reason) → step.near ≡ (downs l k.side k.notes.down).near → down ≡ k.notes.down
-    → FitsLink (link_settings c) v k.side.near → FitsLayer (layer_settings c) y (layer_down l down) → v.outbox.made ≡ [] → IsKept step.near → FitsParts c manner v y step.near
+    → FitsLink (link_settings c) v k.side.near → FitsLayer (layer_settings c) y (layer_down l down) → v.frames ≡ [] → IsKept step.near → FitsParts c manner v y step.near
 fits_down c as_set v y l k step down near is link layer sent kept =
     let moved : layer_down l down ≡ step.near.layer = ap (layer_down l) is ∙ sym (ap (λ (x : Station). x.layer) near) in
     record {
@@ -69,7 +69,7 @@ fits_down c as_set v y l k step down near is link layer sent kept =
     }
 
 pub leaves_down : {manner : Manner} (c : Settings) → manner ≡ manner_of c → (v : ShownLink) (y : layer_code.Layer) (o : Option LinkError) (l : Layer) (k : LinkStep) (step : Step) (down : Option Reason) → step.near ≡ (downs l k.side k.notes.down).near
-    → down ≡ k.notes.down → FitsLink (link_settings c) v k.side.near → FitsLayer (layer_settings c) y (layer_down l down) → v.outbox.made ≡ [] → KeptBy (unless o step) → LeavesParts {T = Unit} c manner v y (Ok tt) (unless o step)
+    → down ≡ k.notes.down → FitsLink (link_settings c) v k.side.near → FitsLayer (layer_settings c) y (layer_down l down) → v.frames ≡ [] → KeptBy (unless o step) → LeavesParts {T = Unit} c manner v y (Ok tt) (unless o step)
 leaves_down c as_set v y o l k step down near is link layer sent kept = leaves_unless c v y o step kept (λ now. fits_down c as_set v y l k step down near is link layer sent now)
 
 -- ---- what it answers

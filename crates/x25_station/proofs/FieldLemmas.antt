@@ -15,7 +15,7 @@ use Rattle.x25_packet.specs.laws.ReadingLaw.{ReadsWhatIsSpelled}
 use Rattle.x25_wide.specs.laws.TakingLaw.{TakesWhatIsWritten}
 use Rattle.x25_station.specs.laws.ReadLaw.{AreOctets, IsReadable}
 
-abbrev IsOctet : ℕ → Type 0
+abbrev pub IsOctet : ℕ → Type 0
 IsOctet octet = octet < 256
 
 -- with as much user data of a CALL as it may have
@@ -96,14 +96,14 @@ no_octets = All-nil IsOctet
 pub octets_more : (a : ℕ) (xs : List ℕ) → a < 256 → AreOctets xs → AreOctets (a ∷ xs)
 octets_more a xs low all = All-cons IsOctet a xs low all
 
-two : (a b : ℕ) → a < 256 → b < 256 → AreOctets (a ∷ b ∷ [])
+pub two : (a b : ℕ) → a < 256 → b < 256 → AreOctets (a ∷ b ∷ [])
 two a b low high = octets_more a (b ∷ []) low (octets_more b [] high no_octets)
 
-bit_low : (b : Bool) → bit b ≤ 1
+pub bit_low : (b : Bool) → bit b ≤ 1
 bit_low true = omega arith
 bit_low false = omega arith
 
-packed_octets : (digits : List ℕ) → list_all is_digit digits ≡ true → AreOctets (packed digits)
+pub packed_octets : (digits : List ℕ) → list_all is_digit digits ≡ true → AreOctets (packed digits)
 unfolding packed
 packed_octets [] all = no_octets
 packed_octets (high ∷ []) all =
@@ -116,7 +116,7 @@ packed_octets (high ∷ low ∷ digits) all =
     let small_low : low ≤ 9 = leb-true low 9 more.0 in
     octets_more (16 * high + low) (packed digits) (omega (arith, small, small_low)) (packed_octets digits more.1)
 
-length_packed : (digits : List ℕ) → length (packed digits) ≡ (length digits + 1) / 2
+pub length_packed : (digits : List ℕ) → length (packed digits) ≡ (length digits + 1) / 2
 unfolding packed
 length_packed [] = refl
 length_packed (high ∷ []) = refl
@@ -132,13 +132,13 @@ facility_short : (code : ℕ) (values : Option Directions) → length (facility 
 facility_short code None = omega arith
 facility_short code (Some values) = omega arith
 
-field_octets : (field : List ℕ) → IsFacilityField field → AreOctets field
+pub field_octets : (field : List ℕ) → IsFacilityField field → AreOctets field
 field_octets field is =
     subst AreOctets (sym is.2)
     (All-append IsOctet (facility 66 is.0.packet_size) (facility 67 is.0.window_size)
     (facility_octets 66 4 12 is.0.packet_size (omega arith) (omega arith) is.1.sizes) (facility_octets 67 1 7 is.0.window_size (omega arith) (omega arith) is.1.windows))
 
-field_short : (field : List ℕ) → IsFacilityField field → length field ≤ 6
+pub field_short : (field : List ℕ) → IsFacilityField field → length field ≤ 6
 field_short field is =
     subst (λ (x : List ℕ). length x ≤ 6) (sym is.2)
     (let a : length (field_of is.0) ≡ length (facility 66 is.0.packet_size) + length (facility 67 is.0.window_size) = length-append (facility 66 is.0.packet_size) (facility 67 is.0.window_size) in
@@ -236,7 +236,7 @@ accept_short : (facilities : List ℕ) → length facilities ≤ 6 → length (a
 accept_short [] few = omega arith
 accept_short (octet ∷ facilities) few = omega (arith, few)
 
-user_short : (long_data : Bool) → longest_user long_data ≤ 128
+pub user_short : (long_data : Bool) → longest_user long_data ≤ 128
 user_short true = omega arith
 user_short false = omega arith
 

@@ -1,4 +1,4 @@
--- What is given beside a packet the user of the other end is told.
+-- What is given beside a packet the user of the other end is told, where that end reads the packet.
 use Rattle.std.proofs.Common.{ℕ, ◌≡◌, ◌≢◌, ◌∙◌, List, ◌++◌, Some, Result, Ok, Err, true, false, inl, refl, sym, ap, arith}
 use Rattle.x25_packet.specs.Packet as packet
 use Rattle.x25_packet.specs.Packet.{PlainPacket}

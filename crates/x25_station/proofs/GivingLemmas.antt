@@ -3,7 +3,7 @@ use Rattle.std.proofs.Common.{◌≡◌, ℕ, zero, suc, ◌<◌, ◌≤◌, Lis
 use Rattle.std.proofs.Math.Nat.{le_trans}
 use Rattle.std.proofs.Math.Path.{fun_ext}
 use Rattle.std.proofs.lemmas.Bool.{ltb-true}
-use Rattle.std.proofs.lemmas.List.{length-map, map-append}
+use Rattle.std.proofs.lemmas.List.{map-append}
 use Rattle.x25_packet.specs.Packet.{PlainPacket}
 use Rattle.x25_packet.specs.Spelling as packet
 use Rattle.x25_frame.specs.Spelling.{spelling_of}
@@ -36,11 +36,11 @@ use Rattle.x25_station.specs.declared.error.StationError.{StationError}
 use Rattle.x25_station.specs.Error.{of_layer}
 use Rattle.x25_station.specs.Config.{Settings, link_settings, layer_settings, manner_of}
 use Rattle.x25_station.specs.Entry.{StationEntry, of_channel}
-use Rattle.x25_station.specs.Giving.{suits, is_taken, all_given, view_given, with_given, not_taken, gave, gives_of, gives}
+use Rattle.x25_station.specs.Giving.{suits, is_taken, all_given, view_given, not_taken}
 use Rattle.x25_station.specs.Receiving.{kept_of}
 use Rattle.x25_station.specs.Station.{Station, behind, view_of}
-use Rattle.x25_station.specs.Step.{Step, Outcome, Did, Refused, entries_of_outcome}
-use Rattle.x25_station.specs.laws.JoinLaw.{AreAccepted}
+use Rattle.x25_station.specs.Step.{Step, Outcome, Did, Refused, entries_of_outcome, with_given, gave, gives_of, gives}
+use Rattle.x25_station.specs.laws.GivenLaw.{AreTaken}
 use Rattle.x25_station.specs.laws.KeepLaw.{IsKept, KeptBy, GivenKeeps}
 use Rattle.x25_station.specs.code.PlainEntry.{plain_entry}
 use Rattle.x25_station.specs.code.FitsParts.{FitsParts, AreMeant}
@@ -80,11 +80,7 @@ seen_given c g s = ap (λ (f : List PlainPacket → ℕ). record { is_up = is_up
 
 -- ---- the link accepts the packets
 
-abbrev AreGiven : LinkSettings → PlainGiven → List PlainPacket → Side → Type 0
-AreGiven c g [] t = Unit {0}
-AreGiven c g (p ∷ packets) t = (put_refusal t.near ≡ None) × AreAccepted c packets (behind t (put_step c (write g (packet.spelling_of p)) t.near).side)
-
-given_append : (c : LinkSettings) (g : PlainGiven) (a : List PlainPacket) (p : PlainPacket) (t : Side) → AreGiven c g a t → put_refusal (all_given c g a t).near ≡ None → AreGiven c g (a ++ p ∷ []) t
+given_append : (c : LinkSettings) (g : PlainGiven) (a : List PlainPacket) (p : PlainPacket) (t : Side) → AreTaken c g a t → put_refusal (all_given c g a t).near ≡ None → AreTaken c g (a ++ p ∷ []) t
 given_append c g [] p t all none = (none, tt)
 given_append c g (q ∷ a) p t all none = (all.0, accepted_append c a (p ∷ []) (behind t (put_step c (write g (packet.spelling_of q)) t.near).side) all.1 (none, tt))
 
@@ -94,31 +90,31 @@ given_up tells c g (p ∷ packets) t up =
     let octets = write g (packet.spelling_of p) in
     all_up tells c packets (behind t (put_step c octets t.near).side) ((tells c octets t.near up).stays refl ∙ up)
 
-given_few : (c : LinkSettings) (g : PlainGiven) (packets : List PlainPacket) (t : Side) → AreGiven c g packets t → waits t.near.outgoing ≤ 256 → waits (all_given c g packets t).near.outgoing ≤ 256
+given_few : (c : LinkSettings) (g : PlainGiven) (packets : List PlainPacket) (t : Side) → AreTaken c g packets t → waits t.near.outgoing ≤ 256 → waits (all_given c g packets t).near.outgoing ≤ 256
 given_few c g [] t all few = few
 given_few c g (p ∷ packets) t all few =
     let octets = write g (packet.spelling_of p) in
     all_few c packets (behind t (put_step c octets t.near).side) all.1 (put_few c octets t.near (room_of t.near all.0 few))
 
-pull_given : PutTells → (c : LinkSettings) (g : PlainGiven) (s : LinkStation) (lc : LayerSettings) (h : ℕ) (p : Putting) → is_up s.phase ≡ true → AreGiven c g p.put (alone s)
-    → AreGiven c g (pull_one (view_given c g s) lc h p).put (alone s)
+pull_given : PutTells → (c : LinkSettings) (g : PlainGiven) (s : LinkStation) (lc : LayerSettings) (h : ℕ) (p : Putting) → is_up s.phase ≡ true → AreTaken c g p.put (alone s)
+    → AreTaken c g (pull_one (view_given c g s) lc h p).put (alone s)
 pull_given tells c g s lc h p up all = test (nat_lt ((view_given c g s).waits p.put) 8) refl
   where
-    put : (o : Option PlainPacket) → (view_given c g s).waits p.put < 8 → AreGiven c g (with_pulled p (layer_pulled lc p.layer h) o).put (alone s)
+    put : (o : Option PlainPacket) → (view_given c g s).waits p.put < 8 → AreTaken c g (with_pulled p (layer_pulled lc p.layer h) o).put (alone s)
     put None low = all
     put (Some q) low = given_append c g p.put q (alone s) all (accepts (all_given c g p.put (alone s)).near (given_up tells c g p.put (alone s) up) (omega (arith, low)))
 
-    test : (b : Bool) → nat_lt ((view_given c g s).waits p.put) 8 ≡ b → AreGiven c g (let n : Putting = if b then with_pulled p (layer_pulled lc p.layer h) (layer_pulled lc p.layer h).packet else p in n.put) (alone s)
+    test : (b : Bool) → nat_lt ((view_given c g s).waits p.put) 8 ≡ b → AreTaken c g (let n : Putting = if b then with_pulled p (layer_pulled lc p.layer h) (layer_pulled lc p.layer h).packet else p in n.put) (alone s)
     test true is = put (layer_pulled lc p.layer h).packet (ltb-true _ _ is)
     test false is = all
 
-round_given : PutTells → (c : LinkSettings) (g : PlainGiven) (s : LinkStation) (lc : LayerSettings) (n : ℕ) (p : Putting) → is_up s.phase ≡ true → AreGiven c g p.put (alone s)
-    → AreGiven c g (round (view_given c g s) lc n p).put (alone s)
+round_given : PutTells → (c : LinkSettings) (g : PlainGiven) (s : LinkStation) (lc : LayerSettings) (n : ℕ) (p : Putting) → is_up s.phase ≡ true → AreTaken c g p.put (alone s)
+    → AreTaken c g (round (view_given c g s) lc n p).put (alone s)
 round_given tells c g s lc zero p up all = all
 round_given tells c g s lc (suc n) p up all = pull_given tells c g s lc (suc n) (round (view_given c g s) lc n p) up (round_given tells c g s lc n p up all)
 
-rounds_given : PutTells → (k : ℕ) (c : LinkSettings) (g : PlainGiven) (s : LinkStation) (lc : LayerSettings) (p : Putting) → is_up s.phase ≡ true → AreGiven c g p.put (alone s)
-    → AreGiven c g (rounds_of k (view_given c g s) lc p).put (alone s)
+pub rounds_given : PutTells → (k : ℕ) (c : LinkSettings) (g : PlainGiven) (s : LinkStation) (lc : LayerSettings) (p : Putting) → is_up s.phase ≡ true → AreTaken c g p.put (alone s)
+    → AreTaken c g (rounds_of k (view_given c g s) lc p).put (alone s)
 rounds_given tells zero c g s lc p up all = all
 rounds_given tells (suc k) c g s lc p up all = rounds_given tells k c g s lc (round (view_given c g s) lc lc.channels p) up (round_given tells c g s lc lc.channels p up all)
 
@@ -146,7 +142,7 @@ given_kept tells c s g request kept = at (is_up s.link.phase) refl (layer_outcom
     view : LinkView
     view = view_given (link_settings c) g s.link
 
-    accepted : (next : Layer) (put : Option PlainPacket) → is_up s.link.phase ≡ true → layer_outcome lc full s.layer request ≡ Accepted next put → AreGiven lk g (option_to_list put) (alone s.link)
+    accepted : (next : Layer) (put : Option PlainPacket) → is_up s.link.phase ≡ true → layer_outcome lc full s.layer request ≡ Accepted next put → AreTaken lk g (option_to_list put) (alone s.link)
     accepted next None up found = tt
     accepted next (Some p) up found = (accepts s.link up (below (waits s.link.outgoing) kept.few (has_room lc full s.layer request next p found)), tt)
 
@@ -227,7 +223,7 @@ link_given {T = T} u c g l m y s request fits clause =
 -- ---- an accepted call
 
 leaves_given : {T : Type 0} {manner : Manner} (u : T) (c : Settings) (g : PlainGiven) → manner ≡ manner_of c → (s : LinkStation) (m n : ShownLink) (z : layer_code.Layer) (entries : List StationEntry) (a : Answered) → LayerGives (layer_settings c) z (Ok u) a
-    → LinkLeft c g s m a → n.station ≡ m.station → n.outbox.made ≡ [] → KeptBy (gave c g true (alone s) entries a) → station.LeavesParts {T = Unit} c manner n z (Ok tt) (gave c g true (alone s) entries a)
+    → LinkLeft c g s m a → n.station ≡ m.station → n.frames ≡ [] → KeptBy (gave c g true (alone s) entries a) → station.LeavesParts {T = Unit} c manner n z (Ok tt) (gave c g true (alone s) entries a)
 leaves_given u c g as_set s m n z entries (Went p) layer link same none kept = record {
   link = taken_link (link_settings c) m n _ same link.link;
   layer = layer;
@@ -237,7 +233,7 @@ leaves_given u c g as_set s m n z entries (Went p) layer link same none kept = r
 }
 leaves_given u c g as_set s m n z entries (Refuses e) layer link same none kept = absurd (ok_err u e layer)
 
-sends_given : (c : Settings) (g : PlainGiven) (s : LinkStation) (m : ShownLink) (r : code_step.Step) (entries : List StationEntry) (a : Answered) → LinkLeft c g s m a → map (λ frame. frame.items) r.frames.items ≡ m.outbox.made
+sends_given : (c : Settings) (g : PlainGiven) (s : LinkStation) (m : ShownLink) (r : code_step.Step) (entries : List StationEntry) (a : Answered) → LinkLeft c g s m a → r.frames ≡ m.frames
     → station.Sends {T = Unit} c r (Ok tt) (gave c g true (alone s) entries a)
 sends_given c g s m r entries (Went p) link made = made ∙ link.kept
 sends_given c g s m r entries (Refuses e) link made = tt
@@ -253,8 +249,8 @@ goes_given u c g s z entries (Went p) layer = tt
 goes_given u c g s z entries (Refuses e) layer = absurd (ok_err u e layer)
 
 frames_given : {T : Type 0} (u : T) (c : Settings) (g : PlainGiven) (s : LinkStation) (m : ShownLink) (z : layer_code.Layer) (a : Answered) → (link_settings c).window ≤ 7 → s.outgoing.acked ≤ s.outgoing.place → LayerGives (layer_settings c) z (Ok u) a
-    → LinkLeft c g s m a → length m.outbox.made ≤ 8
-frames_given u c g s m z (Went p) small low layer link = few_made c.role m.outbox.made (all_given (link_settings c) g p.put (alone s)).out 8 link.kept (few_given (link_settings c) g p.put s small low)
+    → LinkLeft c g s m a → length m.frames ≤ 8
+frames_given u c g s m z (Went p) small low layer link = few_made c.role m.frames (all_given (link_settings c) g p.put (alone s)).out 8 link.kept (few_given (link_settings c) g p.put s small low)
 frames_given u c g s m z (Refuses e) small low layer link = absurd (ok_err u e layer)
 
 -- by how the station reads packets
@@ -275,7 +271,7 @@ pub record GivenAnswers (c : Settings) (manner : Manner) (n : ShownLink) (z : la
 
 pub answers_given : {manner : Manner} {T : Type 0} (u : T) (c : Settings) (g : PlainGiven) (l m n : ShownLink) (y z : layer_code.Layer) (r : code_step.Step) (s : Station) (request : LayerRequest) → FitsParts c manner l y s
     → (let x : Result T LayerError = Ok u in LayersGiven g l y z x request) → (let x : Result T LayerError = Ok u in LinksGiven g l m y x request)
-    → n.station ≡ m.station → n.outbox.made ≡ [] → map (λ frame. frame.items) r.frames.items ≡ m.outbox.made → GivenKeeps → TakesIt manner g request → GivenAnswers c manner n z r (gives c s g request)
+    → n.station ≡ m.station → n.frames ≡ [] → r.frames ≡ m.frames → GivenKeeps → TakesIt manner g request → GivenAnswers c manner n z r (gives c s g request)
 answers_given {manner = manner} {T = T} u c g l m n y z r s request fits layers links same none made keeps takes =
     let x : Result T LayerError = Ok u in
     let taken : is_taken c g request ≡ true = as_told true manner c g request fits.same takes in
@@ -330,19 +326,16 @@ dialled_given {manner = manner} c g l y z s r h called calling user proposal fit
 -- From the link and the layer of the old station its call led to the link m, from which the frames were taken, and to the layer of the new one.
 pub did_given : {T : Type 0} (u : T) (old new : code.Station) (m : ShownLink) (r : code_step.Step) (g : PlainGiven) (request : LayerRequest) → (let x : Result T LayerError = Ok u in LayersGiven g old.link old.layer new.layer x request)
     → (let x : Result T LayerError = Ok u in LinksGiven g old.link m old.layer x request)
-    → new.link.station ≡ m.station → new.link.outbox.made ≡ [] → map (λ frame. frame.items) r.frames.items ≡ m.outbox.made → GivenKeeps → WindowIsSmall → FewStand → TakesIt old.manner g request
+    → new.link.station ≡ m.station → new.link.frames ≡ [] → r.frames ≡ m.frames → GivenKeeps → WindowIsSmall → FewStand → TakesIt old.manner g request
     → ((c : Settings) (s : Station) → FitsStation c old s → station.Enters {T = Unit} r (Ok tt) (gives c s g request)) → vec_len r.entries ≤ 3 → old.manner ≡ new.manner → Does old new r (Ok tt) (λ c s. gives c s g request)
 did_given {T = T} u old new m r g request layers links same none made keeps small stand takes entered few manner =
     let x : Result T LayerError = Ok u in
     let parts : (c : Settings) (s : Station) → FitsStation c old s → GivenAnswers c new.manner new.link new.layer r (gives c s g request) =
     λ c s fits. answers_given u c g old.link m new.link old.layer new.layer r s request (subst (λ (b : Manner). FitsParts c b old.link old.layer s) manner fits) layers links same none made keeps (subst (λ (b : Manner). TakesIt b g request) manner takes) in
-    let put : length m.outbox.made ≤ 8 = least_by_meaning old.link old.layer (length m.outbox.made) 8 old.meant (λ c s fits.
+    let put : length m.frames ≤ 8 = least_by_meaning old.link old.layer (length m.frames) 8 old.meant (λ c s fits.
     frames_given u c g s.link m new.layer (answered_given c g s request) (small (link_settings c) old.link s.link fits.link) (stand (link_settings c) old.link s.link fits.link).place_low
     (layer_given x c g old.link old.layer new.layer s request fits layers) (link_given u c g old.link m old.layer s request fits links)) in
-    let alike : length (map (λ frame. frame.items) r.frames.items) ≡ length m.outbox.made = ap length made in
-    let count = length-map r.frames.items (λ frame. frame.items) in
-    let short : length r.frames.items ≤ 8 = omega (arith, put, alike, count) in
-    let few_out : vec_len r.frames ≤ 17 = grind (arith, short, r.frames.ok) in
+    let alike : length r.frames ≡ length m.frames = ap length made in
     record {
       state = λ c s fits. (parts c s fits).state;
       frames = λ c s fits. (parts c s fits).frames;
@@ -350,7 +343,7 @@ did_given {T = T} u old new m r g request layers links same none made keeps smal
       refused = λ c s fits. (parts c s fits).refused;
       stays = λ c s fits. tt;
       empty = tt;
-      few_frames = few_out;
+      few_frames = omega (arith, put, alike);
       few_entries = few;
     }
 
@@ -431,7 +424,7 @@ declines_late T e found old new out g request is layers takes layer_stays link_s
 -- so that the station stands for some state again
 pub meant_given : {T : Type 0} {manner : Manner} (u : T) (g : PlainGiven) (l m n : ShownLink) (y z : layer_code.Layer) (r : code_step.Step) (request : LayerRequest) → AreMeant manner l y
     → (let x : Result T LayerError = Ok u in LayersGiven g l y z x request) → (let x : Result T LayerError = Ok u in LinksGiven g l m y x request)
-    → n.station ≡ m.station → n.outbox.made ≡ [] → map (λ frame. frame.items) r.frames.items ≡ m.outbox.made → GivenKeeps → TakesIt manner g request → AreMeant manner n z
+    → n.station ≡ m.station → n.frames ≡ [] → r.frames ≡ m.frames → GivenKeeps → TakesIt manner g request → AreMeant manner n z
 meant_given {manner = manner} u g l m n y z r request meant layers links same none made keeps takes =
     still_meant l n y z meant (λ c s fits.
     let a = answers_given u c g l m n y z r s request fits layers links same none made keeps takes in

@@ -21,12 +21,12 @@ use Rattle.x25_layer.specs.Layer.{LayerSettings, Layer, goes_up}
 use Rattle.x25_layer.specs.Calls.{LayerOutcome, Accepted, Declined, layer_outcome}
 use Rattle.x25_layer.specs.Rounds.{LinkView, Putting, begin, rounds, Refuses, went}
 use Rattle.x25_station.specs.Config.{Settings, link_settings, layer_settings}
-use Rattle.x25_station.specs.Command.{Requests, Connects, Disconnects, Probes, Relinks, said_by}
+use Rattle.x25_station.specs.Command.{Requests, RequestsWith, Connects, Disconnects, Probes, Relinks, said_by}
 use Rattle.x25_station.specs.Entry.{StationEntry, connect_asked, disconnect_asked, relink_asked}
 use Rattle.x25_station.specs.Station.{Station, put_on, all_put, view_of}
 use Rattle.x25_station.specs.Step.{Step, with_puts, layer_at, layer_answer, follows, led_by, unless, abandons, entries_of_outcome, did}
 use Rattle.x25_station.specs.laws.JoinLaw.{AreAccepted}
-use Rattle.x25_station.specs.laws.KeepLaw.{IsKept, KeptBy, ConnectKeeps, TimerKeeps, RequestKeeps, CommandKeeps, ReceiveKeeps}
+use Rattle.x25_station.specs.laws.KeepLaw.{IsKept, KeptBy, ConnectKeeps, TimerKeeps, RequestKeeps, GivenKeeps, CommandKeeps, ReceiveKeeps}
 use Rattle.x25_station.proofs.PutLemmas.{all_up, rounds_accepted, begin_accepted}
 use Rattle.x25_station.proofs.RequestLemmas.{has_room}
 
@@ -256,12 +256,13 @@ kept_led : (entries : List StationEntry) (o : Option LinkError) (step : Step) �
 kept_led entries None step kept = kept
 kept_led entries (Some e) step kept = tt
 
-pub command_kept : LinkLaws → CommandKeeps
-command_kept laws c s (Requests request) kept = request_kept laws.put c s (said_by c.say_sizes s.layer request) kept
-command_kept laws c s Connects kept = kept_led (connect_asked ∷ []) (connect_refusal s.link.phase) (follows c s.layer (connect_step (link_settings c) s.link)) (connect_kept laws c s kept)
-command_kept laws c s Disconnects kept = unless_kept (disconnect_refusal s.link.phase) (led_by (disconnect_asked ∷ []) (follows c s.layer (disconnect_step (link_settings c) s.link)))
+pub command_kept : LinkLaws → GivenKeeps → CommandKeeps
+command_kept laws gives c s (Requests request) kept = request_kept laws.put c s (said_by c.say_sizes s.layer request) kept
+command_kept laws gives c s (RequestsWith given request) kept = gives c s given (said_by c.say_sizes s.layer request) kept
+command_kept laws gives c s Connects kept = kept_led (connect_asked ∷ []) (connect_refusal s.link.phase) (follows c s.layer (connect_step (link_settings c) s.link)) (connect_kept laws c s kept)
+command_kept laws gives c s Disconnects kept = unless_kept (disconnect_refusal s.link.phase) (led_by (disconnect_asked ∷ []) (follows c s.layer (disconnect_step (link_settings c) s.link)))
     (λ none. follows_kept laws.put c s (disconnect_step (link_settings c) s.link) kept (disconnect_keeps laws (link_settings c) s.link))
-command_kept laws c s Probes kept = unless_kept (probe_refusal s.link.phase) (follows c s.layer (timer_step (link_settings c) s.link))
+command_kept laws gives c s Probes kept = unless_kept (probe_refusal s.link.phase) (follows c s.layer (timer_step (link_settings c) s.link))
     (λ none. follows_kept laws.put c s (timer_step (link_settings c) s.link) kept (timer_keeps laws (link_settings c) s.link kept.few))
-command_kept laws c s Relinks kept = unless_kept (relink_refusal s.link.phase) (led_by (relink_asked ∷ []) (follows c s.layer (relink_step (link_settings c) s.link)))
+command_kept laws gives c s Relinks kept = unless_kept (relink_refusal s.link.phase) (led_by (relink_asked ∷ []) (follows c s.layer (relink_step (link_settings c) s.link)))
     (λ none. follows_kept laws.put c s (relink_step (link_settings c) s.link) kept (relink_keeps laws (link_settings c) s.link))

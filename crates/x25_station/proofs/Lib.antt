@@ -18,6 +18,8 @@ pub mod TellLemmas
 pub mod ShortLemmas
 pub mod FrameLemmas
 pub mod GivenLemmas
+pub mod GivenReadLemmas
+pub mod GivenJoinLemmas
 pub mod GivingLemmas
 pub mod TakeLemmas
 pub mod TookLemmas

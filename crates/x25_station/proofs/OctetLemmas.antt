@@ -1,5 +1,5 @@
 -- How many octets a station holds at most: a sum of what its parts hold.
-use Rattle.std.proofs.Common.{◌≡◌, ◌+◌, ◌*◌, ◌≤◌, List, [], ◌∷◌, length, take, ap, arith}
+use Rattle.std.proofs.Common.{◌+◌, ◌*◌, ◌≤◌, List, [], ◌∷◌, length, take, ap, arith}
 use Rattle.std.proofs.Math.Logic.{∥∥₁_elim}
 use Rattle.std.proofs.Props.{props}
 use Rattle.std.specs.List.{sum_by}
@@ -11,7 +11,7 @@ use Rattle.x25_station.specs.code.FitsStation.{FitsStation}
 use Rattle.x25_station.specs.Station.{Station}
 use Rattle.x25_station.specs.Config.{Settings}
 use Rattle.x25_station.specs.laws.HoldLaw.{FewStand}
-use Rattle.x25_station.specs.laws.OctetLaw.{circuit_octets, octets_held}
+use Rattle.x25_station.specs.laws.OctetLaw.{circuit_octets}
 use Rattle.x25_station.specs.laws.OctetLaw as law
 
 -- packets that were sent and aren't acknowledged, and that wait
@@ -28,10 +28,6 @@ packets stand c v s fits =
 few_packets : FewStand → (v : code.Station) → length v.link.station.outgoing.sender.items + length v.link.station.outgoing.queue ≤ 263
 few_packets stand v = ∥∥₁_elim v.meant (hlevel props) (λ w. packets stand w.0 v w.1 w.2)
 
--- between calls no frame is kept
-few_frames : (v : code.Station) → length v.link.outbox.made ≡ 0
-few_frames v = ∥∥₁_elim v.meant (hlevel props) (λ w. ap length w.2.sent)
-
 of_circuit : (u : circuit_code.Circuit) → circuit_octets u ≤ 667638
 of_circuit u = let few = u.transfer.queue.few in omega (arith, few)
 
@@ -45,9 +41,8 @@ of_circuits (u ∷ us) =
 pub few_octets : FewStand → law.FewOctets
 few_octets stand v =
     let packets = few_packets stand v in
-    let frames = few_frames v in
     let circuits = of_circuits v.layer.circuits.items in
-    omega (arith, packets, frames, circuits, v.link.station.outgoing.spent.few, v.link.outbox.sent.few, v.messages.few)
+    omega (arith, packets, circuits, v.link.station.outgoing.spent.few, v.messages.few)
 
 pub few_in_all : FewStand → law.FewOctetsInAll
 few_in_all stand v = omega (arith, few_octets stand v, v.layer.few)

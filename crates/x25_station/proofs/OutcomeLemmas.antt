@@ -1,5 +1,5 @@
 -- What a call answers, by what its link's call answers.
-use Rattle.std.proofs.Common.{◌≡◌, ℕ, ◌≤◌, Bool, true, false, if◌then◌else◌, map, Option, Some, None, Result, Ok, Err, inl, refl, sym, subst, ap, ◌∙◌}
+use Rattle.std.proofs.Common.{◌≡◌, Bool, true, false, if◌then◌else◌, map, Option, Some, None, Result, Ok, Err, inl, refl, ap, ◌∙◌}
 use Rattle.std.proofs.Math.Logic.{∥∥₁_map}
 use Rattle.x25_frame.specs.Spelling.{spelling_of}
 use Rattle.x25_link.specs.declared.error.LinkError.{LinkError}
@@ -8,21 +8,20 @@ use Rattle.x25_link.specs.declared.phase.Phase.{Phase}
 use Rattle.x25_link.specs.declared.phase.Phase.TheVariants.{Down, Waiting, Up, Closed}
 use Rattle.x25_link.specs.Station.{LinkStation}
 use Rattle.x25_link.specs.Link as link
-use Rattle.x25_link.specs.code.FitsLink.{ShownLink, FitsLink}
+use Rattle.x25_link.specs.code.FitsLink.{ShownLink}
 use Rattle.x25_layer.specs.declared.layer.Layer as layer_code
 use Rattle.x25_station.specs.declared.config.Manner.{Manner}
 use Rattle.x25_station.specs.declared.step.Step as code_step
 use Rattle.x25_station.specs.declared.error.StationError.{StationError}
 use Rattle.x25_station.specs.declared.error.StationError.TheVariants as error
 use Rattle.x25_station.specs.Error.{of_link}
-use Rattle.x25_station.specs.Config.{Settings, link_settings}
+use Rattle.x25_station.specs.Config.{Settings}
 use Rattle.x25_station.specs.Station.{Station}
 use Rattle.x25_station.specs.Step.{Step, Outcome, Did, Refused, unless}
 use Rattle.x25_station.specs.laws.KeepLaw.{IsKept, KeptBy}
 use Rattle.x25_station.specs.code.PlainEntry.{plain_entry}
-use Rattle.x25_station.specs.code.Aside.{IsFewAside, KeepsFrames}
 use Rattle.x25_station.specs.code.FitsParts.{FitsParts, AreMeant}
-use Rattle.x25_station.specs.code.FitsStation.{LeavesParts, Sends, Enters, Refuses, RefusesExactly}
+use Rattle.x25_station.specs.code.FitsStation.{LeavesParts, Sends, Enters, Refuses, RefusesOnly}
 use Rattle.x25_station.proofs.ResultLemmas.{ok_err, err_is}
 
 -- ---- an accepted call, which the link may refuse
@@ -32,7 +31,7 @@ pub leaves_unless : {manner : Manner} (c : Settings) (l : ShownLink) (y : layer_
 leaves_unless c l y None step kept fits = fits kept
 leaves_unless c l y (Some e) step kept fits = tt
 
-pub sends_unless : (c : Settings) (r : code_step.Step) (o : Option LinkError) (step : Step) → map (λ frame. frame.items) r.frames.items ≡ map (spelling_of c.role) step.out → Sends {T = Unit} c r (Ok tt) (unless o step)
+pub sends_unless : (c : Settings) (r : code_step.Step) (o : Option LinkError) (step : Step) → r.frames ≡ map (spelling_of c.role) step.out → Sends {T = Unit} c r (Ok tt) (unless o step)
 sends_unless c r None step frames = frames
 sends_unless c r (Some e) step frames = tt
 
@@ -48,55 +47,33 @@ leaves_some c l y (Refused e) fits none = absurd none
 pub still_meant : {manner told : Manner} (l m : ShownLink) (y z : layer_code.Layer) → AreMeant manner l y → ((c : Settings) (s : Station) → FitsParts c manner l y s → (d : Settings) × (t : Station) × FitsParts d told m z t) → AreMeant told m z
 still_meant l m y z h f = ∥∥₁_map h (λ w. f w.0 w.1 w.2)
 
--- ---- memory of frames that is kept
+-- ---- the link's refusal
 
-pub frames_fit : {manner : Manner} (c : Settings) (l m : ShownLink) (y : layer_code.Layer) (s : Station)
-    → KeepsFrames l m → FitsParts c manner l y s → FitsParts c manner m y s
-frames_fit c l m y s keeps fits = record {
-  link = subst (λ x. FitsLink (link_settings c) (record { station = x; outbox = m.outbox }) s.link) (sym keeps.station)
-      (record { near = fits.link.near; settled = fits.link.settled; calm = fits.link.calm });
-  layer = fits.layer;
-  kept = fits.kept;
-  sent = ap (λ o. o.made) keeps.outbox ∙ fits.sent;
-  same = fits.same;
-}
+never_ok : false ≡ true → ⊥
+never_ok h = cc
 
-pub frames_meant : {manner : Manner} (l m : ShownLink) (y : layer_code.Layer) → KeepsFrames l m → AreMeant manner l y
-    → AreMeant manner m y
-frames_meant l m y keeps h = still_meant l m y y h (λ c s fits. (c, s, frames_fit c l m y s keeps fits))
-
-pub frames_aside : (l m : ShownLink) (y : layer_code.Layer) (texts : ℕ) → KeepsFrames l m → IsFewAside l y texts
-    → IsFewAside m y texts
-frames_aside l m y texts keeps few = record {
-  packets = few.packets;
-  promised = subst (λ n. n ≤ 16) (sym (ap (λ o. o.long) keeps.outbox)) few.promised;
-  texts = few.texts;
-}
-
--- ---- the link's refusal, or its want of memory
-
-pub goes_exactly : {T : Type 0} (k : T) (o : Option LinkError) (step : Step) → link.Refuses o (Ok k) → RefusesExactly {T = Unit} (Ok tt) (unless o step)
-goes_exactly k None step h = tt
-goes_exactly k (Some e) step h = absurd (ok_err k e h)
+pub goes_only : {T : Type 0} (k : T) (o : Option LinkError) (step : Step) → link.RefusesOnly o (Ok k) → RefusesOnly {T = Unit} (Ok tt) (unless o step)
+goes_only k None step h = refl
+goes_only k (Some e) step h = absurd (ok_err k e h)
 
 -- the link's own refusals aren't want of memory
 abbrev pub IsNamed : Option LinkError → Type 0
 IsNamed None = Unit {0}
 IsNamed (Some e) = of_link e ≡ error.Link e
 
-pub refused_exactly : (T U : Type 0) (e : LinkError) (found : StationError) (o : Option LinkError) (step : Step) → IsNamed o → found ≡ of_link e → (let x : Result T LinkError = Err e in link.Refuses o x)
-    → (let x : Result U StationError = Err found in RefusesExactly x (unless o step))
-refused_exactly T U e found None step named is h = is ∙ ap of_link h
-refused_exactly T U e found (Some x) step named is h = ap (λ y. Err y) (is ∙ ap of_link (err_is T LinkError e x h) ∙ named)
+pub refused_only : (T U : Type 0) (e : LinkError) (found : StationError) (o : Option LinkError) (step : Step) → IsNamed o → found ≡ of_link e → (let x : Result T LinkError = Err e in link.RefusesOnly o x)
+    → (let x : Result U StationError = Err found in RefusesOnly x (unless o step))
+refused_only T U e found None step named is h = absurd (never_ok h)
+refused_only T U e found (Some x) step named is h = ap (λ y. Err y) (is ∙ ap of_link (err_is T LinkError e x h) ∙ named)
 
 -- where memory was wanted first
-pub goes : {T : Type 0} (k : T) (o : Option LinkError) (step : Step) → link.Refuses o (Ok k) → Refuses {T = Unit} (Ok tt) (unless o step)
+pub goes : {T : Type 0} (k : T) (o : Option LinkError) (step : Step) → link.RefusesOnly o (Ok k) → Refuses {T = Unit} (Ok tt) (unless o step)
 goes k None step h = tt
 goes k (Some e) step h = absurd (ok_err k e h)
 
-pub refused : (T U : Type 0) (e : LinkError) (found : StationError) (o : Option LinkError) (step : Step) → IsNamed o → found ≡ of_link e → (let x : Result T LinkError = Err e in link.Refuses o x)
+pub refused : (T U : Type 0) (e : LinkError) (found : StationError) (o : Option LinkError) (step : Step) → IsNamed o → found ≡ of_link e → (let x : Result T LinkError = Err e in link.RefusesOnly o x)
     → (let x : Result U StationError = Err found in Refuses x (unless o step))
-refused T U e found None step named is h = is ∙ ap of_link h
+refused T U e found None step named is h = absurd (never_ok h)
 refused T U e found (Some x) step named is h = inl (is ∙ ap of_link (err_is T LinkError e x h) ∙ named)
 
 pub connect_named : (p : Phase) → IsNamed (link.connect_refusal p)

@@ -74,12 +74,12 @@ after_pull c before m packets s fits = subst (λ (x : LinkState). FitsWhole m x)
     (puts_behind before (start c s) packets ∙ ap (behind before) (put_by_put (link_settings c) packets (alone s.link))) fits
 
 made_did : {T : Type 0} (u : T) (c : Settings) (before : List (List ℕ)) (s : Station) (m : ShownLink) (entries : List StationEntry) (a : Answered)
-    → LinkGives (FitsWhole m) after_put_to (behind before (start c s)) (Ok u) a → m.outbox.made ≡ before ++ map (spelling_of c.role) (pulled_of s (did c (alone s.link) entries a)).out
+    → LinkGives (FitsWhole m) after_put_to (behind before (start c s)) (Ok u) a → m.frames ≡ before ++ map (spelling_of c.role) (pulled_of s (did c (alone s.link) entries a)).out
 made_did u c before s m entries (Went p) link = (after_pull c before m p.put s link).kept
 made_did u c before s m entries (LayerRefuses e) link = absurd (ok_err u e link)
 
 leaves_did : {T : Type 0} {manner : Manner} (u : T) (c : Settings) → manner ≡ manner_of c → (before : List (List ℕ)) (s : Station) (m n : ShownLink) (z : layer_code.Layer) (entries : List StationEntry) (a : Answered) → LayerGives (layer_settings c) z (Ok u) a
-    → LinkGives (FitsWhole m) after_put_to (behind before (start c s)) (Ok u) a → n.station ≡ m.station → n.outbox.made ≡ [] → KeptBy (did c (alone s.link) entries a)
+    → LinkGives (FitsWhole m) after_put_to (behind before (start c s)) (Ok u) a → n.station ≡ m.station → n.frames ≡ [] → KeptBy (did c (alone s.link) entries a)
     → LeavesParts {T = Unit} c manner n z (Ok tt) (did c (alone s.link) entries a)
 leaves_did u c as_set before s m n z entries (Went p) layer link same none kept = record {
   link = taken_link (link_settings c) m n _ same (after_pull c before m p.put s link).link;
@@ -93,7 +93,7 @@ leaves_did u c as_set before s m n z entries (LayerRefuses e) layer link same no
 -- The link l is given frames, and is g then; the layer pulls, and leaves m; and the frames are taken, which leaves n.
 module _ (c : Settings) (l g : ShownLink) (y : layer_code.Layer) (s : Station) (manner : Manner) (fits : FitsParts c manner l y s) (same : g.station ≡ l.station) where
   abbrev before : List (List ℕ)
-  before = g.outbox.made
+  before = g.frames
 
   abbrev answer : Answered
   answer = answered_by c s PullsAll
@@ -115,20 +115,20 @@ module _ (c : Settings) (l g : ShownLink) (y : layer_code.Layer) (s : Station) (
   link_gives result m links = subst (λ (view : LinkView). LinkGives (FitsWhole m) after_put_to (behind before (start c s)) result (calls view (layer_settings c) s.layer PullsAll)) seen
       (links (layer_settings c) s.layer (behind before (start c s)) fits.layer given)
 
-  pub pulled_made : {T : Type 0} (u : T) (m : ShownLink) → Links g m y (Ok u) PullsAll → m.outbox.made ≡ before ++ map (spelling_of c.role) (pulled c s).out
+  pub pulled_made : {T : Type 0} (u : T) (m : ShownLink) → Links g m y (Ok u) PullsAll → m.frames ≡ before ++ map (spelling_of c.role) (pulled c s).out
   pulled_made u m links = made_did u c before s m entries answer (link_gives (Ok u) m links)
 
-  pub pulled_fits : {T : Type 0} (u : T) (m n : ShownLink) (z : layer_code.Layer) → Layers g y z (Ok u) PullsAll → Links g m y (Ok u) PullsAll → n.station ≡ m.station → n.outbox.made ≡ [] → KeptBy (requests c s PullsAll)
+  pub pulled_fits : {T : Type 0} (u : T) (m n : ShownLink) (z : layer_code.Layer) → Layers g y z (Ok u) PullsAll → Links g m y (Ok u) PullsAll → n.station ≡ m.station → n.frames ≡ [] → KeptBy (requests c s PullsAll)
       → FitsParts c manner n z (pulled c s).near
   pulled_fits u m n z layers links same none kept =
       let layer = layer_gives (Ok u) z layers in
       fits_of c n z s (requests c s PullsAll) (leaves_did u c fits.same before s m n z entries answer layer (link_gives (Ok u) m links) same none kept) (goes_did u c s.link z entries answer layer)
 
   -- where it is refused, the frames are those of before
-  pub same_made : (m : ShownLink) → ((x : LinkState) → FitsWhole g x → FitsWhole m x) → m.outbox.made ≡ before
+  pub same_made : (m : ShownLink) → ((x : LinkState) → FitsWhole g x → FitsWhole m x) → m.frames ≡ before
   same_made m stays = (stays (behind before (start c s)) given).kept ∙ append-nil before
 
-  pub still_fits : (m n : ShownLink) (z : layer_code.Layer) → FitsLayer (layer_settings c) z s.layer → ((x : LinkState) → FitsWhole g x → FitsWhole m x) → n.station ≡ m.station → n.outbox.made ≡ [] → FitsParts c manner n z s
+  pub still_fits : (m n : ShownLink) (z : layer_code.Layer) → FitsLayer (layer_settings c) z s.layer → ((x : LinkState) → FitsWhole g x → FitsWhole m x) → n.station ≡ m.station → n.frames ≡ [] → FitsParts c manner n z s
   still_fits m n z layer stays same none = record {
     link = taken_link (link_settings c) m n s.link same (stays (behind before (start c s)) given).link;
     layer = layer;
@@ -138,7 +138,7 @@ module _ (c : Settings) (l g : ShownLink) (y : layer_code.Layer) (s : Station) (
   }
 
   pub pulled_or_not : {T : Type 0} (result : Result T LayerError) (m n : ShownLink) (z : layer_code.Layer) → Layers g y z result PullsAll → Links g m y result PullsAll
-      → OnErr result (FitsLayer (layer_settings c) z s.layer) → ((x : LinkState) → FitsWhole g x → OnErr result (FitsWhole m x)) → n.station ≡ m.station → n.outbox.made ≡ [] → KeptBy (requests c s PullsAll)
+      → OnErr result (FitsLayer (layer_settings c) z s.layer) → ((x : LinkState) → FitsWhole g x → OnErr result (FitsWhole m x)) → n.station ≡ m.station → n.frames ≡ [] → KeptBy (requests c s PullsAll)
       → (d : Settings) × (t : Station) × FitsParts d manner n z t
   pulled_or_not (Ok u) m n z layers links layer stays same none kept = (c, (pulled c s).near, pulled_fits u m n z layers links same none kept)
   pulled_or_not (Err e) m n z layers links layer stays same none kept = (c, s, still_fits m n z layer stays same none)

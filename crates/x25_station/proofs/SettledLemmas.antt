@@ -23,19 +23,19 @@ use Rattle.x25_link.specs.laws.WindowMachine.{Input, nothing}
 use Rattle.x25_layer.specs.declared.error.LayerError.{LayerError}
 use Rattle.x25_layer.specs.declared.error.LayerError.TheVariants as layer_error
 use Rattle.x25_layer.specs.Layer.{Layer, is_channel, is_ready}
-use Rattle.x25_layer.specs.Calls.{LayerRequest, PullsAll, outcome_in, layer_outcome}
+use Rattle.x25_layer.specs.Calls.{PullsAll, outcome_in, layer_outcome}
 use Rattle.x25_layer.specs.Rounds.{LinkView, Answered, Went, Refuses, Putting, begin, rounds, went, calls}
 use Rattle.x25_given.specs.Given.{PlainGiven}
 use Rattle.x25_given.specs.Writing.{write}
-use Rattle.x25_station.specs.Command.{Requests, Connects, Disconnects, Probes, Relinks, said_by}
+use Rattle.x25_station.specs.Command.{Requests, RequestsWith, Connects, Disconnects, Probes, Relinks, said_by}
 use Rattle.x25_station.specs.Config.{Settings, link_settings, layer_settings}
 use Rattle.x25_station.specs.Entry.{StationEntry, connect_asked, disconnect_asked, relink_asked}
-use Rattle.x25_station.specs.Giving.{all_given, view_given, is_taken, gave}
+use Rattle.x25_station.specs.Giving.{all_given, view_given, is_taken}
 use Rattle.x25_station.specs.Station as station
 use Rattle.x25_station.specs.Station.{Station, put_on, all_put, view_of}
 use Rattle.x25_station.specs.Pulling.{pulled_of}
 use Rattle.x25_station.specs.Station.Told.{is_at_rest}
-use Rattle.x25_station.specs.Step.{Step, with_puts, layer_at, follows, led_by, unless, abandons, entries_of_outcome, did}
+use Rattle.x25_station.specs.Step.{Step, with_puts, layer_at, follows, led_by, unless, abandons, entries_of_outcome, did, gave}
 use Rattle.x25_station.specs.Timer.{runs}
 use Rattle.x25_station.specs.laws.TimerLaw as timer
 use Rattle.x25_station.specs.laws.SettledLaw.{IsSettled, SettledBy, NewIsSettled, StaysSettled, SettledAsks, GoesOn, PullsGoOn}
@@ -182,9 +182,9 @@ stays_settled laws c s timer.Fires small h =
     unless_settled laws c s small (timer_refusal s.link) (follows c s.layer (timer_step lc s.link)) (follows_settled laws c s small (timer_step lc s.link) (timer_settled laws lc small s.link (record { said = h.said; sound = h.sound })))
 stays_settled laws c s (timer.Asks (Requests request)) small h =
     went_settled laws c s small _ (calls (view_of (link_settings c) s.link) (layer_settings c) s.layer (said_by c.say_sizes s.layer request)) (record { said = h.said; sound = h.sound })
-stays_settled laws c s (timer.Gives g request) small h =
-    let said : LayerRequest = said_by c.say_sizes s.layer request in
-    gave_settled laws c s small g (is_taken c g said) _ (calls (view_given (link_settings c) g s.link) (layer_settings c) s.layer said) (record { said = h.said; sound = h.sound })
+stays_settled laws c s (timer.Asks (RequestsWith given request)) small h =
+    let said = said_by c.say_sizes s.layer request in
+    gave_settled laws c s small given (is_taken c given said) _ (calls (view_given (link_settings c) given s.link) (layer_settings c) s.layer said) (record { said = h.said; sound = h.sound })
 stays_settled laws c s (timer.Asks Connects) small h =
     let lc : LinkSettings = link_settings c in
     unless_settled laws c s small (connect_refusal s.link.phase) (led_by (connect_asked ∷ []) (follows c s.layer (connect_step lc s.link))) (follows_settled laws c s small (connect_step lc s.link) (connect_settled laws lc small s.link h.said.low))

@@ -29,14 +29,14 @@ use Rattle.x25_layer.specs.Layer.{LayerSettings, Layer, LayerAnswer, is_channel,
 use Rattle.x25_layer.specs.Calls.{LayerRequest, Asks, Restarts, LayerOutcome, Accepted, Declined, outcome_on, outcome_in, layer_outcome}
 use Rattle.x25_layer.specs.Rounds.{LinkView, Putting, begin, rounds, went, Refuses}
 use Rattle.x25_layer.specs.code.FitsLayer.{awaited_at}
-use Rattle.x25_station.specs.Command.{Requests, Connects, Disconnects, Probes, Relinks, said_by}
+use Rattle.x25_station.specs.Command.{Requests, RequestsWith, Connects, Disconnects, Probes, Relinks, said_by}
 use Rattle.x25_station.specs.Config.{Settings, link_settings, layer_settings}
 use Rattle.x25_station.specs.Beside.{beside_in}
 use Rattle.x25_station.specs.Entry.{StationEntry, of_channel, restart_asked, connect_asked, disconnect_asked, relink_asked, link_up, link_down, was_restarted, restart_confirmed, at_fault, came_beside, was_diagnosed, entries_down, entries_up, station_asked, bringing, entries_beside}
 use Rattle.x25_given.specs.Given.{PlainGiven}
-use Rattle.x25_station.specs.Giving.{view_given, with_given, is_taken, gave, gives}
+use Rattle.x25_station.specs.Giving.{view_given, is_taken}
 use Rattle.x25_station.specs.Station.{Station, view_of}
-use Rattle.x25_station.specs.Step.{Step, Outcome, Did, Refused, with_puts, layer_at, layer_answer, entries_of_answer, follows, led_by, unless, abandons, entries_heard, entries_of_outcome, did, requests}
+use Rattle.x25_station.specs.Step.{Step, Outcome, Did, Refused, with_puts, layer_at, layer_answer, entries_of_answer, follows, led_by, unless, abandons, entries_heard, entries_of_outcome, did, requests, with_given, gave, gives}
 use Rattle.x25_station.specs.Timer.{is_of_link, tells_link}
 use Rattle.x25_station.specs.laws.TimerLaw as timer
 use Rattle.x25_station.specs.laws.EndLaw.{is_answered_on, is_left_on, IsTold, EndIsTold}
@@ -189,7 +189,7 @@ goes_on laws c s h (timer.Comes octets) high = test (abandons c s)
     test true = follow_leads c s h laws.put high (abandon_step (link_settings c) s.link) (laws.abandon (link_settings c) s.link)
     test false = follow_leads c s h laws.put high (take_step (link_settings c) octets s.link) (laws.take (link_settings c) octets s.link)
 goes_on laws c s h (timer.Asks (Requests request)) high = request_leads c s h laws.put high (said_by c.say_sizes s.layer request)
-goes_on laws c s h (timer.Gives g request) high = given_leads c s h laws.put high g (said_by c.say_sizes s.layer request)
+goes_on laws c s h (timer.Asks (RequestsWith given request)) high = given_leads c s h laws.put high given (said_by c.say_sizes s.layer request)
 goes_on laws c s h (timer.Asks Connects) high = not_asked c s h laws.put high (connect_asked ∷ [])
 goes_on laws c s h (timer.Asks Disconnects) high =
     unless_leads c s h laws.put high (disconnect_refusal s.link.phase) (led_by (disconnect_asked ∷ []) (follows c s.layer (disconnect_step (link_settings c) s.link)))

@@ -116,24 +116,24 @@ handed_named reads hands c octets s p bytes is =
 -- ---- the link takes packets
 
 free_of : (c : LinkSettings) (l : ShownLink) (s : LinkStation) → FitsLink c l s → waiting_of l ≡ waits s.outgoing
-free_of c l s fits = link_waits l (record { settings = c; station = s; kept = l.outbox.made }) (record { link = fits; kept = refl })
+free_of c l s fits = link_waits l (record { settings = c; station = s; kept = l.frames }) (record { link = fits; kept = refl })
 
-can_put : (c : Settings) (l : ShownLink) (s : LinkStation) → FitsLink (link_settings c) l s → is_up s.phase ≡ true → waits s.outgoing < 256 → CanPut l
-can_put c l s fits up low =
+can_put : (c : Settings) (l : ShownLink) (s : LinkStation) → FitsLink (link_settings c) l s → length l.frames ≤ 9 → is_up s.phase ≡ true → waits s.outgoing < 256 → CanPut l
+can_put c l s fits few up low =
     let same = free_of (link_settings c) l s fits in
-    record { up = ap is_up fits.near.phase ∙ up; free = omega (arith, same, low); longest = (let n : limit_of l ≡ 4099 = fits.near.longest in omega (arith, n)) }
+    record { up = ap is_up fits.near.phase ∙ up; free = omega (arith, same, low); longest = (let n : limit_of l ≡ 4099 = fits.near.longest in omega (arith, n)); places = omega (arith, few) }
 
-pub up_can_put : TakeTells → (c : Settings) (l : ShownLink) (octets : List ℕ) (s : LinkStation) → FitsLink (link_settings c) l (take_step (link_settings c) octets s).side.near → (take_step (link_settings c) octets s).notes.up ≡ true → CanPut l
-up_can_put tells c l octets s fits up =
+pub up_can_put : TakeTells → (c : Settings) (l : ShownLink) (octets : List ℕ) (s : LinkStation) → FitsLink (link_settings c) l (take_step (link_settings c) octets s).side.near → length l.frames ≤ 9 → (take_step (link_settings c) octets s).notes.up ≡ true → CanPut l
+up_can_put tells c l octets s fits few up =
     let new : (take_step (link_settings c) octets s).side.near ≡ fresh = (tells (link_settings c) octets s).fresh_up up in
-    can_put c l _ fits (ap (λ (x : LinkStation). is_up x.phase) new) (subst (λ (x : LinkStation). waits x.outgoing < 256) (sym new) (omega arith))
+    can_put c l _ fits few (ap (λ (x : LinkStation). is_up x.phase) new) (subst (λ (x : LinkStation). waits x.outgoing < 256) (sym new) (omega arith))
 
-pub handed_can_put : TakeTells → TakeHandsUp → (c : Settings) (l : ShownLink) (octets : List ℕ) (s : LinkStation) (p : List ℕ) → FitsLink (link_settings c) l (take_step (link_settings c) octets s).side.near
+pub handed_can_put : TakeTells → TakeHandsUp → (c : Settings) (l : ShownLink) (octets : List ℕ) (s : LinkStation) (p : List ℕ) → FitsLink (link_settings c) l (take_step (link_settings c) octets s).side.near → length l.frames ≤ 9
     → (take_step (link_settings c) octets s).packet ≡ Some p → CanPut l
-handed_can_put tells hands c l octets s p fits is =
+handed_can_put tells hands c l octets s p fits few is =
     let h = hands (link_settings c) octets s in
     let low : waits (take_step (link_settings c) octets s).side.near.outgoing ≤ 254 = h.few_after p is in
-    can_put c l _ fits ((tells (link_settings c) octets s).stays (h.quiet p is) ∙ ap is_up (h.up p is)) (omega (arith, low))
+    can_put c l _ fits few ((tells (link_settings c) octets s).stays (h.quiet p is) ∙ ap is_up (h.up p is)) (omega (arith, low))
 
 -- ---- of any state that the station stands for
 
@@ -142,6 +142,7 @@ put_by_meaning l m y h f = record {
   up = ∥∥₁_elim h (hlevel props) (λ w. (f w.0 w.1 w.2).up);
   free = ∥∥₁_elim h (hlevel props) (λ w. (f w.0 w.1 w.2).free);
   longest = ∥∥₁_elim h (hlevel props) (λ w. (f w.0 w.1 w.2).longest);
+  places = ∥∥₁_elim h (hlevel props) (λ w. (f w.0 w.1 w.2).places);
 }
 
 pub least_by_meaning : {manner : Manner} (l : ShownLink) (y : layer_code.Layer) (a b : ℕ) → AreMeant manner l y → ((c : Settings) (s : Station) → FitsParts c manner l y s → a ≤ b) → a ≤ b
@@ -158,44 +159,26 @@ handed_was_up hands c l octets s p fits is = ap is_up fits.near.phase ∙ ap is_
 
 -- ---- memory
 
-less_room : (h n m : ℕ) (y : layer_code.Layer) (a b : ℕ) → n ≤ m → a ≡ b → HasRoom h m y a → HasRoom h n y b
-less_room h n m y a b low same room = record {
+less_room : (h n m : ℕ) (y : layer_code.Layer) → n ≤ m → HasRoom h m y → HasRoom h n y
+less_room h n m y low room = record {
   memory = room.memory;
-  promised = subst (λ (x : ℕ). 16 ≤ x) same room.promised;
   circuits = λ k v is on. (let high : min m 4096 ≤ room_of v = room.circuits k v is on in omega (arith, low, high));
 }
 
 -- of no channel
-pub no_room : (h m : ℕ) (y : layer_code.Layer) (a b : ℕ) → a ≡ b → HasRoom h m y a → (n : ℕ) → HasRoom 0 n y b
-no_room h m y a b same room n = record {
-  memory = room.memory;
-  promised = subst (λ (x : ℕ). 16 ≤ x) same room.promised;
-  circuits = λ k v is on. absurd (omega (arith, on));
-}
+pub no_room : (h m : ℕ) (y : layer_code.Layer) → HasRoom h m y → (n : ℕ) → HasRoom 0 n y
+no_room h m y room n = record { memory = room.memory; circuits = λ k v is on. absurd (omega (arith, on)) }
 
 -- of the channel that octets name, or of none
-pub room_for : (named : Bool) (h₂ h n m : ℕ) (y : layer_code.Layer) (a b : ℕ) → h₂ ≡ (if named then h else 0) → n ≤ m → a ≡ b → HasRoom h m y a → HasRoom h₂ n y b
-room_for true h₂ h n m y a b is low same room = subst (λ (x : ℕ). HasRoom x n y b) (sym is) (less_room h n m y a b low same room)
-room_for false h₂ h n m y a b is low same room = subst (λ (x : ℕ). HasRoom x n y b) (sym is) (no_room h m y a b same room n)
+pub room_for : (named : Bool) (h₂ h n m : ℕ) (y : layer_code.Layer) → h₂ ≡ (if named then h else 0) → n ≤ m → HasRoom h m y → HasRoom h₂ n y
+room_for true h₂ h n m y is low room = subst (λ (x : ℕ). HasRoom x n y) (sym is) (less_room h n m y low room)
+room_for false h₂ h n m y is low room = subst (λ (x : ℕ). HasRoom x n y) (sym is) (no_room h m y room n)
 
 pub few_made : (role : Role) (made : List (List ℕ)) (out : List PlainFrame) (n : ℕ) → made ≡ map (spelling_of role) out → length out ≤ n → length made ≤ n
 few_made role made out n same few =
     let b : length (map (spelling_of role) out) ≡ length out = length-map out (spelling_of role) in
     let e : length made ≡ length (map (spelling_of role) out) = ap (λ (xs : List (List ℕ)). length xs) same in
     omega (arith, b, e, few)
-
--- the frames that a call of the link made, once they were taken into a list that was empty
-pub own_frames : (role : Role) (before made frames : List (List ℕ)) (out : List PlainFrame) → before ≡ [] → made ≡ before ++ map (spelling_of role) out
-    → frames ≡ made → frames ≡ map (spelling_of role) out
-own_frames role before made frames out none is taken = taken ∙ is ∙ ap (λ (xs : List (List ℕ)). xs ++ map (spelling_of role) out) none
-
-pub own_few : {X : Type 0} (frames : List X) (octets_of : X → List ℕ) (before made : List (List ℕ)) → before ≡ []
-    → length made ≤ length before + 9 → map octets_of frames ≡ made → length frames ≤ 9
-own_few frames octets_of before made none few taken =
-    let a : length (map octets_of frames) ≡ length frames = length-map frames octets_of in
-    let b : length (map octets_of frames) ≡ length made = ap (λ (xs : List (List ℕ)). length xs) taken in
-    let d : length before ≡ 0 = ap (λ (xs : List (List ℕ)). length xs) none in
-    omega (arith, a, b, d, few)
 
 pub if_some : {X : Type 0} (o : Option X) (P : X → Type 0) → ((x : X) → o ≡ Some x → P x) → IfSome o P
 if_some None P f = tt

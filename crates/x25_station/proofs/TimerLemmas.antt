@@ -19,21 +19,20 @@ use Rattle.x25_link.specs.Station.{Settings as LinkSettings, Side, is_busy, with
 use Rattle.x25_link.specs.Hearing.{Step as LinkStep, other, quiet, leaves, rejects, is_valid, acknowledged, is_taken, takes, answers, passes_over, hears_info, peer_is, goes_back, polls, numbered, row_of_frame, row_of}
 use Rattle.x25_link.specs.Link as link
 use Rattle.x25_link.specs.Link.{closed_by, alone, declines, when_down, when_waiting, if_read, puts, take_step, connect_refusal, disconnect_refusal, asks_again, timer_refusal, timer_step, abandon_step, probe_refusal, relink_refusal}
+use Rattle.x25_layer.specs.Rounds.{Answered, Went, Refuses, calls}
 use Rattle.x25_given.specs.Given.{PlainGiven}
 use Rattle.x25_given.specs.Writing.{write}
-use Rattle.x25_layer.specs.Calls.{LayerRequest}
-use Rattle.x25_layer.specs.Rounds.{Answered, Went, Refuses, calls}
 use Rattle.x25_station.specs.declared.error.StationError.TheVariants as error
-use Rattle.x25_station.specs.Command.{Requests, Connects, Disconnects, Probes, Relinks, said_by}
+use Rattle.x25_station.specs.Command.{Requests, RequestsWith, Connects, Disconnects, Probes, Relinks, said_by}
 use Rattle.x25_station.specs.Config.{Settings, link_settings, layer_settings, longest_packet}
 use Rattle.x25_station.specs.Entry.{StationEntry, of_channel, restart_asked, connect_asked, disconnect_asked, relink_asked, link_up, link_down, was_restarted, restart_confirmed, at_fault, came_beside, was_diagnosed}
 use Rattle.x25_station.specs.Giving as giving
-use Rattle.x25_station.specs.Giving.{all_given, view_given, gave}
+use Rattle.x25_station.specs.Giving.{all_given, view_given}
 use Rattle.x25_station.specs.Station as station
 use Rattle.x25_station.specs.Station.{Station, put_on, all_put, view_of}
-use Rattle.x25_station.specs.Step.{Step, Outcome, Did, Refused, layer_at, follows, unless, abandons, did}
+use Rattle.x25_station.specs.Step.{Step, Outcome, Did, Refused, layer_at, follows, unless, abandons, did, gave}
 use Rattle.x25_station.specs.laws.TimerLaw as law
-use Rattle.x25_station.specs.laws.TimerLaw.{Event, Comes, Asks, Gives, Fires, Watched, heeds, after, watched_by, watched_from, IsFiring, TellsLink, IsDue}
+use Rattle.x25_station.specs.laws.TimerLaw.{Event, Comes, Asks, Fires, Watched, heeds, after, watched_by, watched_from, IsFiring, TellsLink, IsDue}
 use Rattle.x25_station.specs.Timer.{runs, tells_link, is_acknowledged, timer_of, pulled_timer}
 use Rattle.x25_station.specs.Pulling.{pulled}
 use Rattle.x25_station.specs.declared.timer.Timer.{Timer}
@@ -259,13 +258,13 @@ received_few c octets s false = follows_few c s _ (heard_few (link_settings c) o
 few_acked : (c : Settings) (s : Station) (event : Event) → FewBy s (law.outcome c s event)
 few_acked c s (Comes octets) = received_few c octets s (abandons c s)
 few_acked c s (Asks (Requests request)) = did_few c s _ (calls (view_of (link_settings c) s.link) (layer_settings c) s.layer (said_by c.say_sizes s.layer request))
+few_acked c s (Asks (RequestsWith given request)) =
+    let said = said_by c.say_sizes s.layer request in
+    gave_few c s given (giving.is_taken c given said) _ (calls (view_given (link_settings c) given s.link) (layer_settings c) s.layer said)
 few_acked c s (Asks Connects) = unless_few s (connect_refusal s.link.phase) _ (follows_few c s (link.connects (alone s.link)) (omega arith))
 few_acked c s (Asks Disconnects) = unless_few s (disconnect_refusal s.link.phase) _ (follows_few c s (link.disconnects (alone s.link)) (omega arith))
 few_acked c s (Asks Probes) = unless_few s (probe_refusal s.link.phase) _ (follows_few c s (link.fires (link_settings c) (alone s.link)) (fired_few (link_settings c) (alone s.link)))
 few_acked c s (Asks Relinks) = unless_few s (relink_refusal s.link.phase) _ (follows_few c s (link.relinks (alone s.link)) (omega arith))
-few_acked c s (Gives g request) =
-    let said : LayerRequest = said_by c.say_sizes s.layer request in
-    gave_few c s g (giving.is_taken c g said) _ (calls (view_given (link_settings c) g s.link) (layer_settings c) s.layer said)
 few_acked c s Fires = unless_few s (timer_refusal s.link) _ (follows_few c s (link.fires (link_settings c) (alone s.link)) (fired_few (link_settings c) (alone s.link)))
 
 few_in : (s : Station) (o : Outcome) (step : Step) → o ≡ Did step → FewBy s o → step.near.link.outgoing.acked ≤ s.link.outgoing.acked + 7
@@ -300,7 +299,6 @@ fires_due : (event : Event) → IsFiring event → law.is_firing event ≡ true
 fires_due Fires is = refl
 fires_due (Comes octets) is = absurd is
 fires_due (Asks command) is = absurd is
-fires_due (Gives given request) is = absurd is
 
 is_due : (c : Settings) (s : Station) (event : Event) (step : Step) → law.outcome c s event ≡ Did step → IsDue s event step
     → (law.is_firing event || (tells_link step.entries || is_acknowledged s.link step.near.link)) ≡ true

@@ -59,7 +59,7 @@ pub took_fits : {manner : Manner} (c : Settings) → manner ≡ manner_of c → 
     → (let k : LinkStep = take_step (link_settings c) octets s.link in (o ≡ k.packet) × (notes ≡ k.notes))
     → (let k : LinkStep = take_step (link_settings c) octets s.link in FitsWhole m (kept_of (link_settings c) (all_put (link_settings c) (put_behind c manner.wide s k o notes).put k.side)))
     → (let k : LinkStep = take_step (link_settings c) octets s.link in FitsLayer (layer_settings c) z (put_behind c manner.wide s k o notes).layer)
-    → n.station ≡ m.station → n.outbox.made ≡ [] → IsKept (receives c s octets).near → FitsParts c manner n z (receives c s octets).near
+    → n.station ≡ m.station → n.frames ≡ [] → IsKept (receives c s octets).near → FitsParts c manner n z (receives c s octets).near
 took_fits c as_set s octets o notes m n z on same link layer station none kept =
     let b = took c as_set s octets o notes on same in
     record {

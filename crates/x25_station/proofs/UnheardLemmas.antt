@@ -19,17 +19,16 @@ use Rattle.x25_link.specs.Hearing.{Step as LinkStep, quiet, leaves, other}
 use Rattle.x25_link.specs.Link.{alone, closed_by, put_step, take_step, timer_runs, timer_refusal, timer_step, asks_again, connect_refusal, connect_step, disconnect_refusal, disconnect_step, probe_refusal, relink_refusal, relink_step, abandon_step}
 use Rattle.x25_link.specs.laws.SetUp.{TakeWaits, waiting_after, waiting_up}
 use Rattle.x25_layer.specs.code.FitsLayer.{is_full}
-use Rattle.x25_layer.specs.Calls.{LayerRequest}
 use Rattle.x25_layer.specs.Rounds.{Answered, Went, Refuses, calls}
 use Rattle.x25_given.specs.Given.{PlainGiven}
 use Rattle.x25_given.specs.Writing.{write}
-use Rattle.x25_station.specs.Command.{Requests, Connects, Disconnects, Probes, Relinks, said_by}
+use Rattle.x25_station.specs.Command.{Requests, RequestsWith, Connects, Disconnects, Probes, Relinks, said_by}
 use Rattle.x25_station.specs.Config.{Settings, link_settings, layer_settings}
 use Rattle.x25_station.specs.Entry.{StationEntry, connect_asked, disconnect_asked, relink_asked, entries_down, entries_up}
-use Rattle.x25_station.specs.Giving.{all_given, view_given, with_given, is_taken, gave}
+use Rattle.x25_station.specs.Giving.{all_given, view_given, is_taken}
 use Rattle.x25_station.specs.Station as station
 use Rattle.x25_station.specs.Station.{Station, put_on, all_put, view_of}
-use Rattle.x25_station.specs.Step.{Step, with_puts, follows, led_by, unless, abandons, did, receives}
+use Rattle.x25_station.specs.Step.{Step, with_puts, follows, led_by, unless, abandons, did, receives, with_given, gave}
 use Rattle.x25_station.specs.Timer.{tells_link}
 use Rattle.x25_station.specs.laws.TimerLaw as timer
 use Rattle.x25_station.specs.laws.UnheardLaw.{MayAsk, TakesTries, AsksOn, UnheardAsksOn}
@@ -254,9 +253,9 @@ unheard_asks_on waits c s (timer.Comes octets) may is = heard waits c s octets i
 unheard_asks_on waits c s timer.Fires may is = unless_asks c s 1 (timer_refusal s.link) (follows c s.layer (timer_step (link_settings c) s.link)) (fired c s may)
 unheard_asks_on waits c s (timer.Asks (Requests request)) may is =
     went_asks c s _ (calls (view_of (link_settings c) s.link) (layer_settings c) s.layer (said_by c.say_sizes s.layer request))
-unheard_asks_on waits c s (timer.Gives g request) may is =
-    let said : LayerRequest = said_by c.say_sizes s.layer request in
-    gave_asks c s g (is_taken c g said) _ (calls (view_given (link_settings c) g s.link) (layer_settings c) s.layer said)
+unheard_asks_on waits c s (timer.Asks (RequestsWith given request)) may is =
+    let said = said_by c.say_sizes s.layer request in
+    gave_asks c s given (is_taken c given said) _ (calls (view_given (link_settings c) given s.link) (layer_settings c) s.layer said)
 unheard_asks_on waits c s (timer.Asks Connects) may is = connect_asks c s s.link.phase (led_by (connect_asked ∷ []) (follows c s.layer (connect_step (link_settings c) s.link))) may
 unheard_asks_on waits c s (timer.Asks Disconnects) may is =
     unless_asks c s 0 (disconnect_refusal s.link.phase) (led_by (disconnect_asked ∷ []) (follows c s.layer (disconnect_step (link_settings c) s.link))) (disconnect_asks c s may)

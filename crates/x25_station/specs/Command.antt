@@ -6,12 +6,17 @@ use Rattle.x25_circuit.specs.declared.params.Params.{Params}
 use Rattle.x25_circuit.specs.Calling.{Request, Accepts, Clears, Sends, Interrupts, Resets, SaysReady, SaysNotReady}
 use Rattle.x25_layer.specs.Layer.{Layer}
 use Rattle.x25_layer.specs.Calls.{LayerRequest, Asks, Dials, Restarts, PullsAll}
+use Rattle.x25_given.specs.Given.{PlainGiven, plain_given}
+use Rattle.x25_station.specs.declared.command.CallCmd.{CallCmd}
+use Rattle.x25_station.specs.declared.command.CallCmd.TheVariants as of_call
 use Rattle.x25_station.specs.declared.command.Cmd.{Cmd}
 use Rattle.x25_station.specs.declared.command.Cmd.TheVariants as code
 
--- something of the packet layer, or that the link be set up, disconnected, polled, or set up anew
+-- something of the packet layer, without or with something given beside its packet, or that the link be set up,
+-- disconnected, polled, or set up anew
 pub data Command : Type 0 where
   Requests : (request : LayerRequest) → Command
+  RequestsWith : (given : PlainGiven) → (request : LayerRequest) → Command
   Connects : Command
   Disconnects : Command
   Probes : Command
@@ -22,6 +27,12 @@ abbrev pub answer_in_brief : Option Params → Option Proposal
 answer_in_brief None = None
 answer_in_brief (Some params) = Some (in_brief params)
 
+abbrev pub request_of : CallCmd → LayerRequest
+request_of (of_call.Call called calling user params) =
+    Dials called.now calling.now user.now (in_brief (unwrap_or params default_params))
+request_of (of_call.Accept channel params) = Asks channel (Accepts (answer_in_brief params))
+request_of (of_call.Clear channel cause diagnostic) = Asks channel (Clears cause diagnostic)
+
 -- A call takes a free channel; the others name theirs. Where no packet sizes and windows are named, a call proposes the
 -- defaults, and an acceptance takes what is proposed.
 abbrev pub command_of : Cmd → Command
@@ -29,6 +40,7 @@ command_of (code.Call called calling user params) =
     Requests (Dials called.now calling.now user.now (in_brief (unwrap_or params default_params)))
 command_of (code.Accept channel params) = Requests (Asks channel (Accepts (answer_in_brief params)))
 command_of (code.Clear channel cause diagnostic) = Requests (Asks channel (Clears cause diagnostic))
+command_of (code.With given call) = RequestsWith (plain_given given) (request_of call)
 command_of (code.Send channel q user) = Requests (Asks channel (Sends q user.now))
 command_of (code.Interrupt channel user) = Requests (Asks channel (Interrupts user.now))
 command_of (code.Reset channel cause diagnostic) = Requests (Asks channel (Resets cause diagnostic))

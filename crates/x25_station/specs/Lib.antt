@@ -4,8 +4,8 @@ pub mod Command
 pub mod Beside
 pub mod Entry
 pub mod Station
-pub mod Step
 pub mod Giving
+pub mod Step
 pub mod Pulling
 pub mod Timer
 pub mod Receiving

@@ -3,6 +3,7 @@ use Rattle.std.specs.Prelude.{◌≡◌, ◌<◌, ◌≤◌, List, [], ◌∷◌
 use Rattle.x25_frame.specs.Spelling.{spelling_of}
 use Rattle.x25_link.specs.Station.{Settings as LinkSettings, Side}
 use Rattle.x25_link.specs.code.FitsLink.{ShownLink, LinkState, FitsWhole, limit_of, up_of, waiting_of}
+use Rattle.x25_link.specs.code.Frames.{places_left}
 use Rattle.x25_circuit.specs.Notice.{PlainNotice, incoming, interrupted}
 use Rattle.x25_layer.specs.declared.layer.Layer as layer_code
 use Rattle.x25_layer.specs.Layer.{LayerSettings, Layer, LayerNotice, on_channel, is_channel}
@@ -15,11 +16,12 @@ use Rattle.x25_station.specs.Station.{all_put, view_of}
 abbrev pub kept_of : LinkSettings → Side → LinkState
 kept_of c t = record { settings = c; station = t.near; kept = map (spelling_of c.role) t.out }
 
--- the link takes a packet of the layer
+-- the link takes a packet of the layer, and has places for the frames of 16
 pub record CanPut (l : ShownLink) : Type 0 where
   pub up : up_of l ≡ true
   pub free : waiting_of l < 256
   pub longest : 4099 ≤ limit_of l
+  pub places : 16 ≤ places_left l.frames
 
 -- Behind a step of the link the layer is as is said, and what it puts was put in the link, behind the frames that it
 -- keeps.

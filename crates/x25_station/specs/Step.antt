@@ -10,6 +10,7 @@ use Rattle.x25_link.specs.declared.error.LinkError.{LinkError}
 use Rattle.x25_link.specs.declared.phase.Reason.{Reason}
 use Rattle.x25_link.specs.Station.{LinkStation, Side, is_up}
 use Rattle.x25_link.specs.Hearing.{Step as LinkStep}
+use Rattle.x25_link.specs.Outgoing.{waits}
 use Rattle.x25_link.specs.Link.{alone, take_step, timer_refusal, timer_step, connect_refusal, connect_step}
 use Rattle.x25_link.specs.Link.{disconnect_refusal, disconnect_step, abandon_step, probe_refusal, relink_refusal}
 use Rattle.x25_link.specs.Link.{relink_step}
@@ -20,9 +21,11 @@ use Rattle.x25_layer.specs.Rounds.{LinkView, Putting, Answered, Went, Refuses, c
 use Rattle.x25_station.specs.declared.error.StationError.{StationError}
 use Rattle.x25_station.specs.declared.error.StationError.TheVariants as error
 use Rattle.x25_station.specs.Config.{Settings, link_settings, layer_settings}
-use Rattle.x25_station.specs.Command.{Command, Requests, Connects, Disconnects, Probes, Relinks, said_by}
+use Rattle.x25_station.specs.Command.{Command, Requests, RequestsWith, Connects, Disconnects, Probes, Relinks, said_by}
 use Rattle.x25_station.specs.Entry.{StationEntry, connect_asked, disconnect_asked, relink_asked, entries_noted}
 use Rattle.x25_station.specs.Entry.{station_told, station_asked, bringing, entries_beside}
+use Rattle.x25_given.specs.Given.{PlainGiven}
+use Rattle.x25_station.specs.Giving.{is_taken, all_given, view_given, not_taken}
 use Rattle.x25_station.specs.Station.{Station, all_put, view_of}
 
 -- the station after a step, the frames to send, in order, and the entries of the transcript
@@ -151,8 +154,34 @@ requests_of c link l view request =
 abbrev pub requests : Settings → Station → LayerRequest → Outcome
 requests c s request = requests_of c s.link s.layer (view_of (link_settings c) s.link) request
 
+-- ---- with something given beside the packet
+
+-- what is given goes with the first packet that the layer puts
+abbrev pub with_given : Settings → PlainGiven → Side → Putting → List StationEntry → Step
+with_given c g t s entries =
+    let u = all_given (link_settings c) g s.put t in
+    record { near = record { link = u.near; layer = s.layer }; out = u.out; entries = entries }
+
+abbrev pub gave : Settings → PlainGiven → Bool → Side → List StationEntry → Answered → Outcome
+gave c g taken t entries (Went s) = if taken then Did (with_given c g t s entries) else Refused not_taken
+gave c g taken t entries (Refuses e) = Refused (error.Layer e)
+
+abbrev pub gives_of : Settings → LinkStation → PlainGiven → Bool → Station → LayerRequest → Outcome
+gives_of c link g taken s request =
+    gave c g taken (alone link) (entries_of_outcome (layer_settings c) s.layer request
+    (layer_outcome (layer_settings c) (waits link.outgoing == 256) s.layer request))
+    (calls (view_given (link_settings c) g link) (layer_settings c) s.layer request)
+
+-- refused as without, and else with 34 where this may not be given beside that
+abbrev pub gives : Settings → Station → PlainGiven → LayerRequest → Outcome
+gives c s g request = gives_of c s.link g (is_taken c g request) s request
+
+abbrev pub gives_said : Settings → Station → PlainGiven → LayerRequest → Outcome
+gives_said c s g request = gives c s g (said_by c.say_sizes s.layer request)
+
 abbrev pub commands : Settings → Station → Command → Outcome
 commands c s (Requests request) = requests c s (said_by c.say_sizes s.layer request)
+commands c s (RequestsWith given request) = gives_said c s given request
 commands c s Connects = connects_asked c s
 commands c s Disconnects = disconnects c s
 commands c s Probes = probes c s

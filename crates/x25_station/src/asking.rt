@@ -18,8 +18,7 @@ ghost use Rattle.x25_station.specs.code.PlainEntry.{plain_entry, plain_asked, pl
 ghost use Rattle.x25_station.specs.Config.{Settings};
 ghost use Rattle.x25_station.specs.Station.{Station as State};
 ghost use Rattle.x25_given.specs.Given.{PlainGiven};
-ghost use Rattle.x25_station.specs.Giving.{gives, gives_said};
-ghost use Rattle.x25_station.specs.Step.{commands, requests};
+ghost use Rattle.x25_station.specs.Step.{commands, gives, gives_said, requests};
 
 use crate::command::Cmd;
 use crate::entering::enter;
@@ -196,8 +195,9 @@ impl Station {
     /// the link isn't up, then with 40 while a restart is under way; one with a channel then with 42 where it isn't
     /// configured and a call with 41 where no channel is free; then, but for a message, with 10 where 256 packets wait;
     /// and then as the circuit refuses it, with 30 to 34, and `Restart` with 34 where the user of this end may not give
-    /// its cause. Else 70 alone, and 70 may come in place of each of these but those of `Pull`. The station is as
-    /// before then.
+    /// its cause. `With` is refused as without what is given, and then with 34 where `Cfg::wide` isn't set, where that
+    /// isn't allowed (`Given::is_allowed`), where user data is given beside a call, and where D is beside a clearing.
+    /// Else 70 alone, and 70 may come in place of each of these but those of `Pull`. The station is as before then.
     #[inline(always)]
     pub fn command(&mut self, command: Cmd<'_>, out: &mut Step) -> Result<(), StationError>
         ensures does { Does self.old self.new out.new result (λ c s. commands c s (command_of command.entry)) }
@@ -270,6 +270,7 @@ impl Station {
                 let params = params.unwrap_or(Params::default());
                 self.call(called, calling, user, params, out)
             }
+            Cmd::With { given, call } => self.give(given, call, out),
             Cmd::Restart { cause, diagnostic } => self.restart(*cause, *diagnostic, out),
             Cmd::Pull => self.pull_asked(out),
             Cmd::Connect => self.connect_asked(out),

@@ -1,3 +1,4 @@
+use x25_given::Given;
 use x25_layer::Params;
 
 /// What the user of a station asks for. Channels are 1 to the number configured; addresses are texts of digits, and
@@ -23,6 +24,13 @@ pub enum Cmd<'a> {
         channel: u16,
         cause: u8,
         diagnostic: u8,
+    },
+    /// Does one of these with something given beside its packet, where `Cfg::wide` is set: facilities, which go behind
+    /// those that the station writes itself, user data of an acceptance or a clearing, and the D bit of a call or an
+    /// acceptance. User data of a call stands in the call itself.
+    With {
+        given: Given<'a>,
+        call: CallCmd<'a>,
     },
     /// Sends a message of at most 65,535 octets, with the qualifier `q`.
     Send {
@@ -66,4 +74,27 @@ pub enum Cmd<'a> {
     Probe,
     /// Sets a link that is up up anew: the link goes down, as the entry behind its own tells, and SABM goes.
     Relink,
+}
+
+/// What the user of a station asks of a call whose packet has facilities and user data.
+#[derive(Clone, Copy, Debug)]
+pub enum CallCmd<'a> {
+    /// As `Cmd::Call`.
+    Call {
+        called: &'a str,
+        calling: &'a str,
+        user: &'a [u8],
+        params: Option<Params>,
+    },
+    /// As `Cmd::Accept`.
+    Accept {
+        channel: u16,
+        params: Option<Params>,
+    },
+    /// As `Cmd::Clear`.
+    Clear {
+        channel: u16,
+        cause: u8,
+        diagnostic: u8,
+    },
 }

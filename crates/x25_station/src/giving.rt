@@ -5,15 +5,16 @@ ghost use Rattle.x25_circuit.specs.Params.{in_brief};
 ghost use Rattle.x25_circuit.specs.Request.{plain_request};
 ghost use Rattle.x25_given.specs.Given.{may_give, plain_given};
 ghost use Rattle.x25_layer.specs.Calls.{Asks, Dials};
-ghost use Rattle.x25_station.specs.Command.{answer_in_brief};
+ghost use Rattle.x25_station.specs.Command.{answer_in_brief, request_of};
 ghost use Rattle.x25_station.specs.code.Aside.{HasFewPlaces};
-ghost use Rattle.x25_station.specs.code.Clock.{TellsTimer};
 ghost use Rattle.x25_station.specs.code.FitsStation.{FitsStation, Does, IsEmpty};
 ghost use Rattle.x25_station.specs.Config.{Settings};
-ghost use Rattle.x25_station.specs.Giving.{gives, gives_said, request_of, suits};
+ghost use Rattle.x25_station.specs.Giving.{suits};
 ghost use Rattle.x25_station.specs.Station.{Station as State};
+ghost use Rattle.x25_station.specs.Step.{gives, gives_said};
 
 use crate::asking::{as_shown, asked_call, asked_of};
+use crate::command::CallCmd;
 use crate::entering::enter;
 use crate::entry::{Asked, Said};
 use crate::error::StationError;
@@ -32,29 +33,6 @@ const NOT_TAKEN: StationError = StationError::Layer(LayerError::Circuit(
     CircuitError::BadParameter,
 ));
 
-/// What the user of a station asks of a call whose packet has facilities and user data.
-#[derive(Clone, Copy, Debug)]
-pub enum CallCmd<'a> {
-    /// As `Cmd::Call`.
-    Call {
-        called: &'a str,
-        calling: &'a str,
-        user: &'a [u8],
-        params: Option<Params>,
-    },
-    /// As `Cmd::Accept`.
-    Accept {
-        channel: u16,
-        params: Option<Params>,
-    },
-    /// As `Cmd::Clear`.
-    Clear {
-        channel: u16,
-        cause: u8,
-        diagnostic: u8,
-    },
-}
-
 // Whether this may be given beside what is asked: user data of a CALL stands in the command, and CLEAR has no D.
 fn suits(given: &Given<'_>, request: &Request<'_>) -> bool
     ensures { (h : ℕ) → result ≡ suits (plain_given given.now) (Asks h (plain_request request.now)) }
@@ -67,33 +45,8 @@ fn suits(given: &Given<'_>, request: &Request<'_>) -> bool
 }
 
 impl Station {
-    /// Does what the user asks of a call, with what is given beside its packet: facilities, which go behind those that
-    /// the station writes itself, user data of an acceptance or a clearing, and the D bit of a call or an acceptance.
-    ///
-    /// Refused as `command` refuses it without; then with 34 where `Cfg::wide` isn't set, where that isn't allowed
-    /// (`Given::is_allowed`), where user data is given beside a call, which has its own, and where D is beside a
-    /// clearing. Else 70 alone, and 70 may come in place of each. The station is as before then.
-    pub fn give(
-        &mut self,
-        given: Given<'_>,
-        command: CallCmd<'_>,
-        out: &mut Step,
-    ) -> Result<(), StationError>
-        ensures does { Does self.old self.new out.new result
-            (λ c s. gives_said c s (plain_given given.entry) (request_of command.entry)) }
-        ensures timer { TellsTimer self.old out.new.timer result false
-            (λ c s. gives_said c s (plain_given given.entry) (request_of command.entry)) }
-        ensures places { HasFewPlaces out.old.entries out.new.entries }
-    {
-        self.empty(out);
-        let before = self.clock();
-        let answer = self.give_all(&given, &command, out);
-        out.timer = self.timer_behind(before, false, out.entries.as_slice());
-        answer
-    }
-
-    // The same, into a step that is empty.
-    fn give_all(
+    // Does what the user asks of a call, with what is given beside its packet.
+    pub(crate) fn give(
         &mut self,
         given: &Given<'_>,
         command: &CallCmd<'_>,

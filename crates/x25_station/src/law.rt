@@ -4,6 +4,7 @@ ghost use Rattle.x25_station.specs.laws.JoinLaw.{RequestIsJoined, ReceiveIsJoine
 ghost use Rattle.x25_station.specs.laws.JoinLaw.{UpIsJoined};
 ghost use Rattle.x25_station.specs.laws.KeepLaw.{ConnectKeeps, TimerKeeps, RequestKeeps, CommandKeeps, GivenKeeps};
 ghost use Rattle.x25_station.specs.laws.KeepLaw.{ReceiveKeeps};
+ghost use Rattle.x25_station.specs.laws.GivenLaw.{GivenIsHeard, GivenIsJoined, GivenIsRead};
 ghost use Rattle.x25_station.specs.laws.GivenLaw.{GivenIsTold, GivenIsWritten};
 ghost use Rattle.x25_station.specs.laws.ReadLaw.{PutsAreReadable, PutsBesidePeersAreReadable};
 ghost use Rattle.x25_station.specs.laws.HoldLaw.{FewWait, FewStand, FewMessages, FewJoined, FewHeld, FewAside};
@@ -28,6 +29,7 @@ use x25_wide::taking_keeps_octets;
 /// of the link's notes and of the layer's transcript.
 pub fn steps_are_joined()
     ensures request { RequestIsJoined }
+    ensures given { GivenIsJoined }
     ensures receive { ReceiveIsJoined }
     ensures quiet { QuietIsJoined }
     ensures down { DownIsJoined }
@@ -58,10 +60,13 @@ pub fn puts_beside_peers_are_readable()
 
 /// What is given beside a packet the user of the other end is told, where that station reads packets in all their
 /// forms: the facility field, in which the station's own facilities come first, and user data, but that of a CALL,
-/// which is told with the call. Octets that are as without tell nothing.
+/// which is told with the call. Octets that are as without tell nothing. That station reads the packet as it does
+/// without what is given, and its user is told the same of it, and then what was given.
 pub fn what_is_given_is_told()
     ensures written { GivenIsWritten }
+    ensures read { GivenIsRead }
     ensures told { GivenIsTold }
+    ensures heard { GivenIsHeard }
 {
     reading_is_the_grammar();
     what_is_written_is_read();
@@ -83,8 +88,8 @@ pub fn steps_keep_bounds()
 /// What a station holds at most: 256 packets that wait in its link, 7 that were sent and aren't acknowledged, and for
 /// each channel 8 messages that wait, and one more whose last packet was pulled, until the next is begun, and one of
 /// which some packets came. A message, also one in part, has at most 65,535 octets. Between calls memory is set aside
-/// for at most 16 packets in its layer and in its link each, and for 5 texts of entries. In all that is at most
-/// 1,476,547 octets, and 667,638 for each channel.
+/// for at most 16 packets that its layer puts, and for 5 texts of entries. In all that is at most 1,316,516 octets, and
+/// 667,638 for each channel.
 pub fn stations_hold_few()
     ensures wait { FewWait }
     ensures stand { FewStand }

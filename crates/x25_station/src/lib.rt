@@ -18,11 +18,10 @@ mod station;
 mod step;
 mod timer;
 
-pub use command::Cmd;
+pub use command::{CallCmd, Cmd};
 pub use config::Cfg;
 pub use entry::{Asked, Entry, Said, Told};
 pub use error::StationError;
-pub use giving::CallCmd;
 pub use law::{
     deadlines_are_true, puts_are_readable, puts_beside_peers_are_readable, silence_is_asked,
     stations_ask_or_rest, stations_hold_few, steps_are_joined, steps_keep_bounds, ways_out_lead_on,
@@ -35,3 +34,4 @@ pub use x25_bits::Role;
 pub use x25_frame::N1;
 pub use x25_given::Given;
 pub use x25_layer::Awaits;
+pub use x25_link::Frames;

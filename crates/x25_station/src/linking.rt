@@ -6,7 +6,7 @@ ghost use Rattle.x25_layer.specs.Room.{HasRoom};
 ghost use Rattle.x25_station.specs.Entry.{entries_down};
 ghost use Rattle.x25_station.specs.code.Aside.{GrowsBy, HasFewPlaces, HasPlaces};
 ghost use Rattle.x25_station.specs.code.Clock.{TellsTimer};
-ghost use Rattle.x25_station.specs.code.FitsStation.{FitsStation, Does, IsEmpty, RefusesExactly};
+ghost use Rattle.x25_station.specs.code.FitsStation.{FitsStation, Does, IsEmpty, RefusesOnly};
 ghost use Rattle.x25_station.specs.code.PlainEntry.{plain_entry};
 ghost use Rattle.x25_station.specs.Config.{Settings};
 ghost use Rattle.x25_station.specs.Station.{Station as State};
@@ -23,11 +23,11 @@ use x25_link::Reason;
 impl Station {
     /// Begins to set the link up. No entry is made.
     ///
-    /// 12 where it is being set up, 13 where it is closed, 15 where it is up, and else 70 alone. The station is as
+    /// 12 where it is being set up, 13 where it is closed, 15 where it is up, and nothing else. The station is as
     /// before then.
     pub fn connect(&mut self, out: &mut Step) -> Result<(), StationError>
         ensures does { Does self.old self.new out.new result connects }
-        ensures exactly { (c : Settings) (s : State) → FitsStation c self.old s → RefusesExactly result (connects c s) }
+        ensures only { (c : Settings) (s : State) → FitsStation c self.old s → RefusesOnly result (connects c s) }
         ensures timer { TellsTimer self.old out.new.timer result false connects }
         ensures places { HasFewPlaces out.old.entries out.new.entries }
     {
@@ -42,7 +42,7 @@ impl Station {
     fn set_up(&mut self, out: &mut Step) -> Result<(), StationError>
         requires { IsEmpty out.old }
         ensures does { Does self.old self.new out.new result connects }
-        ensures exactly { (c : Settings) (s : State) → FitsStation c self.old s → RefusesExactly result (connects c s) }
+        ensures only { (c : Settings) (s : State) → FitsStation c self.old s → RefusesOnly result (connects c s) }
         ensures entries { out.new.entries ≡ out.old.entries }
     {
         steps_keep_bounds();
@@ -161,7 +161,7 @@ impl Station {
 pub(crate) fn note_down(layer: &mut Layer, down: Option<Reason>, entries: &mut Vec<Entry>)
     requires { HasPlaces 1 entries.old }
     ensures few { GrowsBy 1 entries.old entries.new }
-    ensures room { (h len promised : ℕ) → HasRoom h len layer.old promised → HasRoom h len layer.new promised }
+    ensures room { (h len : ℕ) → HasRoom h len layer.old → HasRoom h len layer.new }
     ensures memory { layer.new.memory ≡ layer.old.memory }
     ensures same { down ≡ None → layer.new ≡ layer.old }
     ensures nothing { down ≡ None → entries.new ≡ entries.old }

@@ -1,5 +1,5 @@
 //! What waits in the circuits is pulled behind a step.
-ghost use Rattle.std.specs.Prelude.{◌≡◌, ◌≢◌, map, OnOk, OnErr};
+ghost use Rattle.std.specs.Prelude.{◌≡◌, ◌≢◌, OnOk, OnErr};
 ghost use Rattle.x25_station.specs.code.FitsStation.{FitsStation, RefusesForMemory};
 ghost use Rattle.x25_station.specs.code.Pulls.{Pulls};
 ghost use Rattle.x25_station.specs.Config.{Settings};
@@ -12,6 +12,7 @@ use crate::law::steps_keep_bounds;
 use crate::station::Station;
 use crate::step::Step;
 use x25_layer::LayerError;
+use x25_link::Frames;
 
 // Want of memory is an error, and any other refusal none.
 fn unless_refused(error: LayerError) -> Result<(), StationError>
@@ -34,11 +35,10 @@ impl Station {
     /// that a message may wait in its circuit while nothing is on its way: one who calls this behind each step leaves
     /// none to wait so.
     ///
-    /// 70 alone, and that only where the link is up and no restart is under way. The station is as before then, and so
-    /// are the frames of the step.
+    /// 70 alone, and that only where the link is up and no restart is under way: where memory is refused, or the step
+    /// has more than nine frames. The station is as before then, and so are the frames of the step.
     pub fn pull(&mut self, out: &mut Step) -> Result<(), StationError>
-        ensures pulls { Pulls self.old self.new (map (λ f. f.items) out.old.frames.items)
-            (map (λ f. f.items) out.new.frames.items) result }
+        ensures pulls { Pulls self.old self.new out.old.frames out.new.frames result }
         ensures entries { out.new.entries ≡ out.old.entries }
         ensures timer { (c : Settings) (s : State) → FitsStation c self.old s →
             OnOk result (out.new.timer ≡ timer_pulled out.old.timer s (pulled c s).near) }
@@ -56,9 +56,8 @@ impl Station {
     }
 
     // The frames of a pull come behind others, which the link has meanwhile.
-    fn pull_frames(&mut self, frames: &mut Vec<Vec<u8>>) -> Result<(), StationError>
-        ensures pulls { Pulls self.old self.new (map (λ f. f.items) frames.old.items)
-            (map (λ f. f.items) frames.new.items) result }
+    fn pull_frames(&mut self, frames: &mut Frames) -> Result<(), StationError>
+        ensures pulls { Pulls self.old self.new frames.old frames.new result }
         ensures refused { RefusesForMemory result }
     {
         steps_keep_bounds();

@@ -1,5 +1,5 @@
 //! Octets that come: the step of the link, and what the packet layer does at it.
-ghost use Rattle.std.specs.Prelude.{◌≡◌, ℕ, ◌+◌, ◌-◌, ◌≤◌, ◌++◌, length, drop, max, map, true, false, None};
+ghost use Rattle.std.specs.Prelude.{◌≡◌, ℕ, ◌+◌, ◌-◌, ◌≤◌, ◌++◌, length, drop, max, map, true, false};
 ghost use Rattle.std.specs.Prelude.{option_copied, IfSome, OnOk};
 ghost use Rattle.x25_link.specs.Station.{Side};
 ghost use Rattle.x25_link.specs.code.FitsLink.{FitsWhole, up_of};
@@ -52,13 +52,12 @@ fn channel_of(frame: &[u8]) -> u16
 #[inline(never)]
 fn come_up(layer: &mut Layer, link: &mut Link, entries: &mut Vec<Entry>)
     requires put { CanPut link.old }
-    requires room { HasRoom 0 0 layer.old link.old.outbox.long }
+    requires room { HasRoom 0 0 layer.old }
     requires entries { HasPlaces 1 entries.old }
     ensures puts { PutsBehind layer.old link.old layer.new link.new (λ view c l. (comes_up view c).step) }
     ensures entries { map plain_entry entries.new.items ≡ map plain_entry entries.old.items ++ entries_up true }
     ensures few { GrowsBy 1 entries.old entries.new }
     ensures most_memory { layer.new.memory ≤ max layer.old.memory 16 }
-    ensures most_promised { link.new.outbox.long ≤ max link.old.outbox.long 16 }
 {
     entries.push_reserved(Entry::LinkUp);
     layer.up(link).unwrap();
@@ -75,7 +74,7 @@ fn hear(
 ) -> Option<u16>
     requires put { CanPut link.old }
     requires left { IsNotFull layer.old }
-    requires room { HasRoom (named_by packet.now) (length packet.now - 3) layer.old link.old.outbox.long }
+    requires room { HasRoom (named_by packet.now) (length packet.now - 3) layer.old }
     requires texts { 3 ≤ texts.old }
     requires entries { HasPlaces 2 entries.old }
     ensures puts { PutsBehind layer.old link.old layer.new link.new
@@ -86,7 +85,6 @@ fn hear(
         ++ entries_of_answer (layer_answer (layer_settings c) wide l packet.now) }
     ensures few { GrowsBy 2 entries.old entries.new }
     ensures most_memory { layer.new.memory ≤ max layer.old.memory 16 }
-    ensures most_promised { link.new.outbox.long ≤ max link.old.outbox.long 16 }
     ensures used { UsesFew 3 texts.old texts.new }
     ensures bringing { (c : Settings) (l : LayerState) (t : Side) → FitsLayer (layer_settings c) layer.old l
         → FitsWhole link.old (kept_of (link_settings c) t) →
@@ -112,8 +110,8 @@ fn follow(
     requires up { notes.up ≡ true → CanPut link.old }
     requires put { IfSome packet (λ _. CanPut link.old) }
     requires left { IfSome packet (λ _. IsNotFull layer.old) }
-    requires begun { HasRoom 0 0 layer.old link.old.outbox.long }
-    requires room { IfSome packet (λ p. HasRoom (named_by p.now) (length p.now - 3) layer.old link.old.outbox.long) }
+    requires begun { HasRoom 0 0 layer.old }
+    requires room { IfSome packet (λ p. HasRoom (named_by p.now) (length p.now - 3) layer.old) }
     requires texts { 5 ≤ texts.old }
     requires entries { HasPlaces 3 entries.old }
     ensures puts { PutsBehind layer.old link.old layer.new link.new
@@ -125,7 +123,6 @@ fn follow(
         ++ entries_heard (layer_settings c) wide l (option_copied packet.entry) notes.down notes.up) }
     ensures few { GrowsBy 3 entries.old entries.new }
     ensures most_memory { layer.new.memory ≤ max layer.old.memory 16 }
-    ensures most_promised { link.new.outbox.long ≤ max link.old.outbox.long 16 }
     ensures used { UsesFew 5 texts.old texts.new }
 {
     note_down(layer, notes.down, entries);
@@ -209,14 +206,14 @@ impl Station {
         Ok(())
     }
 
-    // Sets memory aside for all that octets may bring on a channel, with so many of user data: room for frames and
-    // entries, and their texts. However many they are, it is for 16 packets, 5 texts and 4,096 octets in the circuit of
-    // the channel, or for what was before.
+    // Sets memory aside for all that octets may bring on a channel, with so many of user data: room for entries and
+    // their texts, for packets that are put, and in the circuit. However many they are, it is for 16 packets, 5 texts
+    // and 4,096 octets in the circuit of the channel, or for what was before.
     fn reserve(&mut self, channel: u16, len: usize, out: &mut Step) -> Result<(), StationError>
         requires { IsEmpty out.old }
         ensures fits { FitsStill self.old self.new }
         ensures left { IsNotFull self.old.layer → IsNotFull self.new.layer }
-        ensures room { OnOk result (HasRoom channel len self.new.layer self.new.link.outbox.long) }
+        ensures room { OnOk result (HasRoom channel len self.new.layer) }
         ensures texts { OnOk result (5 ≤ self.new.texts) }
         ensures empty { IsEmpty out.new }
         ensures places { OnOk result (HasPlaces 3 out.new.entries) }
@@ -224,7 +221,6 @@ impl Station {
         ensures refused { RefusesForMemory result }
         ensures most_texts { self.new.texts ≤ max self.old.texts 5 }
         ensures most_memory { self.new.layer.memory ≤ max self.old.layer.memory 16 }
-        ensures most_promised { self.new.link.outbox.long ≤ max self.old.link.outbox.long 16 }
         ensures most_circuits { (bound : ℕ) → 4096 ≤ bound → HaveAtMost bound self.old.layer.circuits.items
             → HaveAtMost bound self.new.layer.circuits.items }
     {
@@ -232,7 +228,7 @@ impl Station {
         if self.texts.reserve(MOST_TEXTS).is_err() {
             return Err(StationError::NoMemory);
         }
-        match self.layer.reserve(&mut self.link, channel, len) {
+        match self.layer.reserve(channel, len) {
             Ok(()) => Ok(()),
             Err(error) => Err(StationError::of_layer(error)),
         }
@@ -254,21 +250,17 @@ impl Station {
         reads_frames();
         let len = octets.len().saturating_sub(HEADERS);
         self.reserve(channel_of(octets), len, out)?;
-        match self.link.take(octets) {
-            Ok(heard) => {
-                follow(
-                    &mut self.layer,
-                    &mut self.link,
-                    &mut self.texts,
-                    self.manner.wide,
-                    heard.notes,
-                    heard.packet,
-                    &mut out.entries,
-                );
-                self.link.swap_frames(&mut out.frames);
-                Ok(())
-            }
-            Err(error) => Err(StationError::of_link(error)),
-        }
+        let heard = self.link.take(octets);
+        follow(
+            &mut self.layer,
+            &mut self.link,
+            &mut self.texts,
+            self.manner.wide,
+            heard.notes,
+            heard.packet,
+            &mut out.entries,
+        );
+        self.link.swap_frames(&mut out.frames);
+        Ok(())
     }
 }

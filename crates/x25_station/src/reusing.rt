@@ -1,6 +1,5 @@
 //! Memory of a step that serves again, once it was read.
 ghost use Rattle.std.specs.Prelude.{◌≡◌, [], vec_capacity};
-ghost use Rattle.x25_station.specs.code.Aside.{KeepsFrames};
 ghost use Rattle.x25_station.specs.code.FitsStation.{FitsStation, FitsStill, IsEmpty};
 ghost use Rattle.x25_station.specs.Config.{Settings};
 ghost use Rattle.x25_station.specs.Station.{Station as State};
@@ -9,26 +8,15 @@ ghost use Rattle.x25_station.specs.Timer.{standing};
 use crate::entry::{Asked, Entry, Said, Told};
 use crate::station::Station;
 use crate::step::Step;
-use x25_link::Link;
-
-// The memory of frames serves frames that the link sends later.
-fn keep_frames(link: &mut Link, frames: &mut Vec<Vec<u8>>)
-    ensures link { KeepsFrames link.old link.new }
-    ensures frames { frames.new.items ≡ [] }
-{
-    while let Some(octets) = frames.pop() {
-        link.keep(octets);
-    }
-}
 
 impl Station {
-    /// Takes a step back that was read, of this station or of another, and leaves it empty: the memory of its frames
-    /// serves frames that are sent later, and that of a message that was sent or delivered, which is that of the last
-    /// entry, the entry of a message that is sent later, or else a later message of its channel. Timer T1 goes on in
-    /// it, or is off. The station is as before. Each call does so at first with the step that it is given.
+    /// Takes a step back that was read, of this station or of another, and leaves it empty: the memory of a message
+    /// that was sent or delivered, which is that of the last entry, serves the entry of a message that is sent later,
+    /// or else a later message of its channel. The memory of its frames stays in it. Timer T1 goes on in it, or is
+    /// off. The station is as before. Each call does so at first with the step that it is given.
     ///
-    /// Memory for more than 4,103 octets of a frame or 4,096 of a message is let go of, and so is what is left over
-    /// where 32 frames are kept, or one message for an entry and two of the channel.
+    /// Memory for more than 4,096 octets of a message is let go of, and so is what is left over where one message is
+    /// kept for an entry and two of the channel.
     #[inline(always)]
     pub fn reuse(&mut self, out: &mut Step)
         ensures fits { FitsStill self.old self.new }
@@ -47,19 +35,10 @@ impl Station {
         ensures empty { IsEmpty out.new }
         ensures places { vec_capacity out.new.entries ≡ vec_capacity out.old.entries }
     {
-        if !out.frames.is_empty() {
-            self.reuse_frames(&mut out.frames);
-        }
+        out.frames.clear();
         if !out.entries.is_empty() {
             self.reuse_entries(&mut out.entries);
         }
-    }
-
-    fn reuse_frames(&mut self, frames: &mut Vec<Vec<u8>>)
-        ensures fits { FitsStill self.old self.new }
-        ensures empty { frames.new.items ≡ [] }
-    {
-        keep_frames(&mut self.link, frames);
     }
 
     fn reuse_entries(&mut self, entries: &mut Vec<Entry>)

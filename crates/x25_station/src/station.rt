@@ -24,12 +24,12 @@ pub struct Station {
     pub(crate) messages: MessageMemory,
     pub(crate) alloc: Global,
     ghost meant: { AreMeant manner link layer },
-    ghost aside: { IsFewAside link layer texts },
+    ghost aside: { IsFewAside layer texts },
 }
 
 impl Station {
-    ghost use Rattle.std.specs.Prelude.{◌≡◌, ◌==◌, ℕ, ◌+◌, ◌≤◌, Bool, List, length, vec_capacity, IfOk};
-    ghost use Rattle.x25_station.specs.code.FitsStation.{FitsStation, FitsStill, RefusesWith};
+    ghost use Rattle.std.specs.Prelude.{◌≡◌, ◌==◌, ℕ, ◌+◌, ◌≤◌, Bool, List, length, IfOk};
+    ghost use Rattle.x25_station.specs.code.FitsStation.{FitsStation, RefusesWith};
     ghost use Rattle.x25_station.specs.Config.{Settings, layer_settings, settings_from, config_refusal};
     ghost use Rattle.x25_station.specs.Station.{Station as State, new_station};
     ghost use Rattle.x25_station.specs.Station.Told.{awaits_answers, is_idle, is_at_rest, is_refused, room, stretch};
@@ -37,7 +37,6 @@ impl Station {
     ghost use Rattle.x25_layer.specs.Calls.{Asks};
     ghost use Rattle.x25_circuit.specs.Calling.{Sends};
     ghost use Rattle.x25_layer.specs.code.FitsLayer.{KeepsOn, plain_stretch, awaited_at};
-    ghost use Rattle.x25_link.specs.code.Outbox.{KeepsOne};
     ghost use Rattle.x25_layer.specs.Layer.InPart.{joined_at};
     ghost use Rattle.x25_link.specs.Station.{awaits_ua};
     ghost use Rattle.x25_link.specs.Link.{timer_runs};
@@ -169,32 +168,12 @@ impl Station {
     }
 
     /// How many buffers are kept for what memory is refused for later: as many at least as memory is promised for, and
-    /// 53 at most, 32 for a frame each, 16 for a packet, and 5 for a text of an entry.
+    /// 21 at most, 16 for a packet each and 5 for a text of an entry.
     pub fn blanks(&self) -> usize
-        ensures least { self.now.link.outbox.long + (self.now.layer.memory + self.now.texts) ≤ result }
-        ensures most { result ≤ 53 }
+        ensures least { self.now.layer.memory + self.now.texts ≤ result }
+        ensures most { result ≤ 21 }
     {
-        self.link.blanks() + self.layer.blanks() + self.texts.blanks()
-    }
-
-    /// How many buffers of frames that were sent are kept, for frames that are sent later: 32 at most, of at most 4,103
-    /// octets each.
-    pub fn frames_kept(&self) -> usize
-        ensures value { result ≡ self.now.link.outbox.sent.kept }
-        ensures few { result ≤ 32 }
-    {
-        self.link.kept()
-    }
-
-    /// Keeps the memory of a frame that was sent, of this station or of another, for a later one. The station is as
-    /// before.
-    ///
-    /// It is let go of where it is for more than 4,103 octets, and where 32 are kept.
-    pub fn keep_frame(&mut self, octets: Vec<u8>)
-        ensures fits { FitsStill self.old self.new }
-        ensures kept { KeepsOne self.old.link.outbox self.new.link.outbox (vec_capacity octets) }
-    {
-        self.link.keep(octets);
+        self.layer.blanks() + self.texts.blanks()
     }
 
     /// The name of the stretch that is open on a channel, in p4 with d1, where one is.

@@ -2,7 +2,7 @@
 //! promises.
 
 use std::alloc::Global;
-use x25_station::{CallCmd, Cfg, Cmd, Given, Role, Station, StationError, Step};
+use x25_station::{Cfg, Cmd, Role, Station, StationError, Step};
 
 // A value in a place of its own: a body that holds the box lets go of it by one call, and not of each part of the
 // value, and so does one that doesn't know what it is.
@@ -30,15 +30,6 @@ pub fn receive(station: &mut Station, octets: &[u8], out: &mut Step) -> Result<(
 
 pub fn ask(station: &mut Station, command: Cmd<'_>, out: &mut Step) -> Result<(), StationError> {
     station.command(command, out)
-}
-
-pub fn give(
-    station: &mut Station,
-    given: Given<'_>,
-    command: CallCmd<'_>,
-    out: &mut Step,
-) -> Result<(), StationError> {
-    station.give(given, command, out)
 }
 
 /// What waits is pulled behind a step.

@@ -1,10 +1,10 @@
 //! What is given beside a call, its acceptance and its clearing: the packet that goes, and each refusal.
 
-use crate::calls::{connect, give, receive, station};
+use crate::calls::{ask, connect, receive, station};
 use crate::steps::{CALLS, DCE_RESTARTS, DTE_RESTARTS, RR_1, SABM, SETTINGS, UA};
 use std::alloc::Global;
 use x25_layer::Params;
-use x25_station::{CallCmd, Cfg, Given, Role, Station, StationError, Step};
+use x25_station::{CallCmd, Cfg, Cmd, Given, Role, Station, StationError, Step};
 
 const WIDE: Cfg = Cfg {
     wide: true,
@@ -137,7 +137,7 @@ fn number(answer: Result<(), StationError>) -> u8 {
 
 // Whether the first frame of a step carries this packet; none where nothing is to be sent.
 fn carries(step: &Step, packet: &[u8]) -> bool {
-    match step.frames.first() {
+    match step.frames.as_slice().first() {
         None => packet.is_empty(),
         Some(frame) => frame.get(2..packet.len() + 2) == Some(packet)
             && frame.len() == packet.len() + 4,
@@ -146,13 +146,14 @@ fn carries(step: &Step, packet: &[u8]) -> bool {
 
 // The first row that brings something else.
 fn odd_row(station: &mut Station, out: &mut Step, rows: &[Row]) -> Option<usize> {
-    for (row, &(facilities, user, d, command, refusal, packet)) in rows.iter().enumerate() {
+    for (row, &(facilities, user, d, call, refusal, packet)) in rows.iter().enumerate() {
         let given = Given {
             facilities,
             user,
             d,
         };
-        if number(give(station, given, command, out)) != refusal || !carries(out, packet) {
+        let command = Cmd::With { given, call };
+        if number(ask(station, command, out)) != refusal || !carries(out, packet) {
             return Some(row);
         }
     }
@@ -167,7 +168,7 @@ fn odd_row_of(
     rows: &[Row],
 ) -> Result<Option<usize>, StationError> {
     let mut station = station(alloc, role, cfg)?;
-    let mut out = Step::new(alloc);
+    let mut out = Step::new(alloc)?;
     if role == Role::Dte {
         connect(&mut station, &mut out)?;
     }

@@ -92,7 +92,7 @@ impl Seen {
 
     fn step(&mut self, step: &Step) {
         self.told = self.told.saturating_add(step.entries.len());
-        for octets in &step.frames {
+        for octets in step.frames.as_slice() {
             self.octets(octets.as_slice());
         }
     }
@@ -141,7 +141,7 @@ impl Peer {
         Ok(Peer {
             alloc,
             station,
-            out: Step::new(alloc),
+            out: Step::new(alloc)?,
             seen,
         })
     }

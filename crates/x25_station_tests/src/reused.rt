@@ -1,4 +1,4 @@
-//! Memory of steps and of frames that serves a station again.
+//! Memory of steps that serves a station again.
 
 use crate::calls::{connect, reuse, station};
 use crate::steps::SETTINGS;
@@ -9,12 +9,6 @@ use x25_station::{Asked, Entry, Role, Said, Station, Step};
 /// SABM with P=1 of the DTE.
 static SABM: [u8; 4] = [0x01, 0x3f, 0xeb, 0xdf];
 
-// Memory of so many octets is to be kept.
-fn gives(alloc: Global, station: &mut Station, count: usize) -> Option<()> {
-    station.keep_frame(vec![in alloc; 9u8; count].ok()?);
-    Some(())
-}
-
 // For how many octets the first frame has memory, where it is SABM.
 fn memory_of_sabm(step: &Step) -> usize {
     match step.frames.as_slice() {
@@ -23,55 +17,23 @@ fn memory_of_sabm(step: &Step) -> usize {
     }
 }
 
-// How many frames are kept before SABM is sent, behind it, and once it is taken back; for how many octets it had
-// memory; and how many frames are in the step that was taken back.
-fn sends(
-    alloc: Global,
-    station: &mut Station,
-    out: &mut Step,
-) -> Option<(usize, usize, usize, usize, usize)> {
-    gives(alloc, station, 40)?;
-    let before = station.frames_kept();
+// How many frames there are once SABM is sent, for how many octets it has memory, and how many there are once the step
+// is taken back.
+fn sends(station: &mut Station, out: &mut Step) -> Option<(usize, usize, usize)> {
     connect(station, out).ok()?;
-    let (behind, memory) = (station.frames_kept(), memory_of_sabm(out));
+    let (count, memory) = (out.frames.len(), memory_of_sabm(out));
     reuse(station, out);
-    Some((
-        before,
-        behind,
-        station.frames_kept(),
-        memory,
-        out.frames.len(),
-    ))
+    Some((count, memory, out.frames.len()))
 }
 
-fn sends_in_forty(alloc: Global) -> Option<(usize, usize, usize, usize, usize)> {
+fn sends_of_new(alloc: Global) -> Option<(usize, usize, usize)> {
     let mut station = station(alloc, Role::Dte, SETTINGS).ok()?;
-    sends(alloc, &mut station, &mut Step::new(alloc))
+    sends(&mut station, &mut Step::new(alloc).ok()?)
 }
 
 #[test]
-fn a_frame_is_sent_in_memory_that_was_kept(rt: HostRuntime) {
-    assert_eq!(rt; sends_in_forty(rt.alloc()), Some((1, 0, 1, 40, 0)));
-}
-
-// How many frames are kept of a long one, and of forty.
-fn keeps(alloc: Global, station: &mut Station) -> Option<(usize, usize)> {
-    gives(alloc, station, 4104)?;
-    let long = station.frames_kept();
-    for _ in 0..40u8 {
-        gives(alloc, station, 7)?;
-    }
-    Some((long, station.frames_kept()))
-}
-
-fn keeps_of_forty(alloc: Global) -> Option<(usize, usize)> {
-    let mut station = station(alloc, Role::Dte, SETTINGS).ok()?;
-    keeps(alloc, &mut station)
-}
-
-#[test]
-fn no_more_than_thirty_two_frames_are_kept(rt: HostRuntime) {
-    assert_eq!(rt; keeps_of_forty(rt.alloc()), Some((0, 32)));
+fn a_frame_is_sent_in_a_place_that_was_made(rt: HostRuntime) {
+    assert_eq!(rt; sends_of_new(rt.alloc()), Some((1, 4103, 0)));
 }
 
 const STRETCH: Stretch = Stretch {
@@ -107,7 +69,7 @@ fn left(
 
 // Whether none is left without a channel, with one, and with one that the station doesn't have.
 fn none_is_left(alloc: Global, station: &mut Station) -> Option<bool> {
-    let mut out = Step::new(alloc);
+    let mut out = Step::new(alloc).ok()?;
     for channel in [None, Some(1), Some(2)] {
         if left(alloc, station, channel, &mut out)? > 0 {
             return Some(false);

@@ -251,7 +251,8 @@ fn odd_row(station: &mut Station, out: &mut Step, rows: &[Row]) -> Option<usize>
 
 fn odd_row_of(alloc: Global, role: Role, rows: &[Row]) -> Result<Option<usize>, StationError> {
     let mut station = station(alloc, role, SETTINGS)?;
-    Ok(odd_row(&mut station, &mut Step::new(alloc), rows))
+    let mut out = Step::new(alloc)?;
+    Ok(odd_row(&mut station, &mut out, rows))
 }
 
 fn is_wide(alloc: Global, wide: bool) -> Result<bool, StationError> {

@@ -58,6 +58,13 @@ dte clear 65535 cause=128 diag=5 = DTE: clears 65535, cause 128, diagnostic 5\n\
 dce reset 1 cause=255 diag=0 = DCE: resets 1, cause 255, diagnostic 0\n\
 dte restart diag=5 = DTE: restarts, diagnostic 5\n\
 dce restart cause=7 diag=250 = DCE: restarts, cause 7, diagnostic 250\n\
+dte with 0101 - call 1 2 41 = DTE: with facilities 0101, none, D false: call of [1] from [2] with 41\n\
+dce with - C0ffee d accept 2 = DCE: with facilities none, c0ffee, D true: accepts 2\n\
+dce with c901AA 00 accept 1 7 8 3 2 = DCE: with facilities c901aa, 00, D false: accepts 1, called 7 by 3, \
+calling 8 by 2\n\
+dte with - 6279 clear 1 cause=130 diag=5 = DTE: with facilities none, 6279, D false: clears 1, cause 130, \
+diagnostic 5\n\
+dte with - - d clear 65535 = DTE: with facilities none, none, D true: clears 65535\n\
 ";
 
 // Whether the line says what it is to say.
@@ -80,7 +87,7 @@ fn lines_say_what_they_spell(rt: HostRuntime) {
 }
 
 /// Texts that are no lines; `tests/golden` has others.
-static OTHERS: [&[u8]; 7] = [
+static OTHERS: [&[u8]; 16] = [
     b"",
     b"t1 dte\n",
     b"dte send 1 0 0g",
@@ -88,6 +95,15 @@ static OTHERS: [&[u8]; 7] = [
     b"dte reset 1 diag=5 cause=7",
     b"dte restart cause=",
     b"dte ready 1 diag=5",
+    b"dte with",
+    b"dte with 0101 -",
+    b"dte with 0101 call 1 2 -",
+    b"dte with 010 - call 1 2 -",
+    b"dte with 0101 - d d call 1 2 -",
+    b"dte with 0101 - D call 1 2 -",
+    b"dte with 0101 - call 1 2 - 7 7 2",
+    b"dte with 0101 - send 1 0 00",
+    b"dte with - - with - - clear 1",
 ];
 
 fn is_no_line(line: &[u8], mut alloc: Global) -> bool {

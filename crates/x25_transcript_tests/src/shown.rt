@@ -1,7 +1,7 @@
 //! What a line reads as, in words of the tests' own.
 use std::alloc::{AllocError, Global};
 use x25_circuit::Params;
-use x25_script::{Command, Given, HexDigits, Role, ScriptTaker};
+use x25_script::{CallPart, Command, Given, HexDigits, Role, ScriptTaker};
 
 fn end_name(end: Role) -> &'static str {
     match end {
@@ -47,6 +47,41 @@ fn given_shown(alloc: Global, given: Given) -> Result<String, AllocError> {
     }
 }
 
+fn call_shown(
+    alloc: Global,
+    called: &str,
+    calling: &str,
+    user: &HexDigits<'_>,
+    params: Option<Params>,
+) -> Result<String, AllocError> {
+    let user = octets_shown(alloc, user)?;
+    let params = params_shown(alloc, params)?;
+    format!(in alloc; "call of [{called}] from [{calling}] with {user}{params}")
+}
+
+fn accept_shown(alloc: Global, channel: u16, params: Option<Params>) -> Result<String, AllocError> {
+    let params = params_shown(alloc, params)?;
+    format!(in alloc; "accepts {channel}{params}")
+}
+
+fn clear_shown(alloc: Global, channel: u16, given: Given) -> Result<String, AllocError> {
+    let given = given_shown(alloc, given)?;
+    format!(in alloc; "clears {channel}{given}")
+}
+
+fn part_shown(alloc: Global, part: &CallPart<'_>) -> Result<String, AllocError> {
+    match part {
+        CallPart::Call {
+            called,
+            calling,
+            user,
+            params,
+        } => call_shown(alloc, called, calling, user, *params),
+        CallPart::Accept { channel, params } => accept_shown(alloc, *channel, *params),
+        CallPart::Clear { channel, given } => clear_shown(alloc, *channel, *given),
+    }
+}
+
 fn command_shown(alloc: Global, command: &Command<'_>) -> Result<String, AllocError> {
     match command {
         Command::Call {
@@ -54,18 +89,19 @@ fn command_shown(alloc: Global, command: &Command<'_>) -> Result<String, AllocEr
             calling,
             user,
             params,
+        } => call_shown(alloc, called, calling, user, *params),
+        Command::Accept { channel, params } => accept_shown(alloc, *channel, *params),
+        Command::Clear { channel, given } => clear_shown(alloc, *channel, *given),
+        Command::With {
+            facilities,
+            user,
+            d,
+            call,
         } => {
+            let facilities = octets_shown(alloc, facilities)?;
             let user = octets_shown(alloc, user)?;
-            let params = params_shown(alloc, *params)?;
-            format!(in alloc; "call of [{called}] from [{calling}] with {user}{params}")
-        }
-        Command::Accept { channel, params } => {
-            let params = params_shown(alloc, *params)?;
-            format!(in alloc; "accepts {channel}{params}")
-        }
-        Command::Clear { channel, given } => {
-            let given = given_shown(alloc, *given)?;
-            format!(in alloc; "clears {channel}{given}")
+            let call = part_shown(alloc, call)?;
+            format!(in alloc; "with facilities {facilities}, {user}, D {d}: {call}")
         }
         Command::Send { channel, q, user } => {
             let user = octets_shown(alloc, user)?;

@@ -1,5 +1,5 @@
 -- Damage to the bits of the line is damage to the octets, and is refused for no other ground than its own.
-use Rattle.std.proofs.Common.{◌≡◌, ◌∙◌, ℕ, ◌<◌, nat_lt, lt-ltb, Bool, true, false, not, List, length, None, Result, Ok, Err, IfErr, refl, ap, sym}
+use Rattle.std.proofs.Common.{◌≡◌, ◌∙◌, ℕ, ◌<◌, nat_lt, lt-ltb, Bool, true, false, not, List, length, None, Result, Ok, Err, IfErr, refl, ap}
 use Rattle.std.specs.Prelude.{◌||◌}
 use Rattle.x25_bits.specs.FrameCheck.Sealed.{is_sealed}
 use Rattle.x25_line.specs.laws.Stations.{is_visible}

@@ -5,14 +5,13 @@ use Rattle.x25_bits.specs.declared.role.Role.TheVariants.{Dte, Dce}
 use Rattle.x25_frame.specs.Frame.{PlainFrame, sabm, ua}
 use Rattle.x25_frame.specs.Spelling.{spelling_of}
 use Rattle.x25_frame.specs.Reading.{frame_of}
-use Rattle.x25_packet.specs.Packet.{restart}
 use Rattle.x25_link.specs.declared.phase.Phase.TheVariants.{Down, Waiting}
 use Rattle.x25_link.specs.declared.phase.Reason.{Reason}
 use Rattle.x25_link.specs.laws.SetUp.{Is}
 use Rattle.x25_link.specs.Station.{LinkStation, with_nothing, fresh, is_up, pumped}
 use Rattle.x25_link.specs.Hearing.{Step as LinkStep}
 use Rattle.x25_link.specs.Link.{take_step, put_step}
-use Rattle.x25_layer.specs.Layer.{at_rest, goes_up, restart_cause}
+use Rattle.x25_layer.specs.Layer.{at_rest, goes_up}
 use Rattle.x25_station.specs.declared.config.Cfg.{Cfg}
 use Rattle.x25_station.specs.Config.{settings_from, longest_packet}
 use Rattle.x25_station.specs.Entry.{StationEntry, link_up, entries_noted}
@@ -49,7 +48,7 @@ comes_up laws cfg end k sent is =
       out = u.link.out ∙ ap₂ (λ (fs gs : List PlainFrame). fs ++ gs) is.out frames;
       layer = u.layer;
       entries = u.entries ∙ ap₂ (λ (d : Option Reason) (b : Bool). entries_noted (record { down = d; up = b })) is.down is.up;
-      up = ap (λ (s : LinkStation). is_up s.phase) u.link.link ∙ puts_up laws.put_tells c (restart (restart_cause end) 0 ∷ []) k.side (ap (λ (s : LinkStation). is_up s.phase) is.near);
+      up = ap (λ (s : LinkStation). is_up s.phase) u.link.link ∙ puts_up laws.put_tells c (restart_of end ∷ []) k.side (ap (λ (s : LinkStation). is_up s.phase) is.near);
     }
 
 -- ---- the DTE has asked

@@ -1,31 +1,74 @@
 -- What a step of an end adds: packets, entries of its transcript, and octets on the tap.
-use Rattle.std.proofs.Common.{◌≡◌, ℕ, List, [], ◌∷◌, ◌++◌, map, refl, sym, ap, ◌∙◌, append_assoc, append-nil}
-use Rattle.std.proofs.lemmas.List.{map-append}
+use Rattle.std.proofs.Common.{◌≡◌, ℕ, zero, suc, List, [], ◌∷◌, ◌++◌, map, length, Result, Ok, Contains, refl, sym, ap, ap₂, subst, ◌∙◌, arith, append_assoc, append-nil}
+use Rattle.std.proofs.lemmas.List.{map-append, length-map}
 use Rattle.x25_bits.specs.declared.role.Role.{Role}
 use Rattle.x25_bits.specs.declared.role.Role.TheVariants.{Dte, Dce}
 use Rattle.x25_frame.specs.Frame.{PlainFrame}
 use Rattle.x25_frame.specs.Spelling.{spelling_of}
 use Rattle.x25_packet.specs.Packet.{PlainPacket}
-use Rattle.x25_packet.specs.Spelling as packet
+use Rattle.x25_packet.specs.Spelling.{longest_user}
+use Rattle.x25_packet.specs.declared.error.PacketError.{PacketError}
+use Rattle.x25_wide.specs.Taking.{read_in}
 use Rattle.x25_link.specs.Hearing.{other}
 use Rattle.x25_layer.specs.Layer.{LayerNotice}
 use Rattle.x25_layer.specs.laws.Transcript.{Entry}
+use Rattle.x25_station.specs.declared.config.Cfg.{Cfg}
+use Rattle.x25_station.specs.laws.ReadLaw.{AreOctets}
 use Rattle.x25_station.specs.Entry.{StationEntry, in_layer, notice_in, layer_entries, layer_notices}
 use Rattle.x25_world.specs.World.{OnTap, AtEnd, tapped, entered}
 use Rattle.x25_world.specs.laws.Claims.{entry_of_end, entries_at}
 
--- ---- packets, by their octets
+-- ---- octets, by the packets that they are read as
 
-abbrev pub spelled : List PlainPacket → List (List ℕ)
-spelled packets = map packet.spelling_of packets
+abbrev pub read_by : Cfg → List ℕ → Result PlainPacket PacketError
+read_by cfg octets = read_in cfg.wide (longest_user cfg.long_data) octets
 
-pub spelled_none : (packets : List PlainPacket) → spelled packets ≡ [] → packets ≡ []
-spelled_none [] none = refl
-spelled_none (p ∷ packets) none = absurd (cc)
+abbrev pub all_read : Cfg → List (List ℕ) → List (Result PlainPacket PacketError)
+all_read cfg octets = map (read_by cfg) octets
 
-pub grown : (xs xs₂ : List (List ℕ)) (ps ps₂ qs : List PlainPacket) → xs ≡ spelled ps → xs₂ ≡ xs ++ spelled qs → ps₂ ≡ ps ++ qs → xs₂ ≡ spelled ps₂
-grown xs xs₂ ps ps₂ qs same more more_packets =
-    more ∙ ap (λ (l : List (List ℕ)). l ++ spelled qs) same ∙ sym (map-append packet.spelling_of ps qs) ∙ ap spelled (sym more_packets)
+abbrev pub is_read : PlainPacket → Result PlainPacket PacketError
+is_read p = Ok p
+
+abbrev pub as_read : List PlainPacket → List (Result PlainPacket PacketError)
+as_read packets = map is_read packets
+
+pub none_read : (packets : List PlainPacket) → as_read packets ≡ [] → packets ≡ []
+none_read [] none = refl
+none_read (p ∷ packets) none = absurd (cc)
+
+pub nothing_read : (cfg : Cfg) (octets : List (List ℕ)) → all_read cfg octets ≡ [] → octets ≡ []
+nothing_read cfg [] none = refl
+nothing_read cfg (o ∷ octets) none = absurd (cc)
+
+pub grown : (cfg : Cfg) (xs xs₂ os : List (List ℕ)) (ps ps₂ qs : List PlainPacket) → all_read cfg xs ≡ as_read ps → xs₂ ≡ xs ++ os → all_read cfg os ≡ as_read qs → ps₂ ≡ ps ++ qs → all_read cfg xs₂ ≡ as_read ps₂
+grown cfg xs xs₂ os ps ps₂ qs same more reads more_packets =
+    ap (all_read cfg) more ∙ map-append (read_by cfg) xs os ∙ ap₂ (λ (a b : List (Result PlainPacket PacketError)). a ++ b) same reads
+    ∙ sym (map-append is_read ps qs) ∙ ap as_read (sym more_packets)
+
+pub as_many : (ps qs : List PlainPacket) → as_read ps ≡ as_read qs → length ps ≡ length qs
+as_many ps qs same = sym (length-map ps is_read) ∙ ap (λ (l : List (Result PlainPacket PacketError)). length l) same ∙ length-map qs is_read
+
+-- the first of them
+pub first_read : (r s : Result PlainPacket PacketError) (rs ss : List (Result PlainPacket PacketError)) → r ∷ rs ≡ s ∷ ss → r ≡ s
+first_read r s rs ss e = cc
+
+pub rest_read : (r s : Result PlainPacket PacketError) (rs ss : List (Result PlainPacket PacketError)) → r ∷ rs ≡ s ∷ ss → rs ≡ ss
+rest_read r s rs ss e = cc
+
+-- ---- octets
+
+abbrev pub AllAreOctets : List (List ℕ) → Type 0
+AllAreOctets [] = Unit {0}
+AllAreOctets (o ∷ os) = AreOctets o × AllAreOctets os
+
+pub all_octets_append : (xs ys : List (List ℕ)) → AllAreOctets xs → AllAreOctets ys → AllAreOctets (xs ++ ys)
+all_octets_append [] ys h g = g
+all_octets_append (x ∷ xs) ys h g = (h.0, all_octets_append xs ys h.1 g)
+
+pub octets_in : (os : List (List ℕ)) → AllAreOctets os → (octets : List ℕ) → Contains os octets → AreOctets octets
+octets_in [] all octets (k, low, is) = absurd (omega (arith, low))
+octets_in (o ∷ os) all octets (zero, low, is) = subst AreOctets is all.0
+octets_in (o ∷ os) all octets (suc k, low, is) = octets_in os all.1 octets (k, omega (arith, low), is)
 
 -- ---- a transcript that grows
 

@@ -5,9 +5,8 @@ use Rattle.x25_bits.specs.declared.role.Role.{Role}
 use Rattle.x25_bits.specs.declared.role.Role.TheVariants.{Dte, Dce}
 use Rattle.x25_frame.specs.Frame.{PlainFrame}
 use Rattle.x25_frame.specs.Spelling.{spelling_of}
-use Rattle.x25_packet.specs.Packet.{PlainPacket}
 use Rattle.x25_link.specs.declared.phase.Phase.{Phase}
-use Rattle.x25_link.specs.declared.phase.Phase.TheVariants.{Down, Waiting, Up, Closed}
+use Rattle.x25_link.specs.declared.phase.Phase.TheVariants.{Waiting}
 use Rattle.x25_link.specs.Station.{Settings as LinkSettings, LinkStation, Side, is_up, is_busy, awaits_ua}
 use Rattle.x25_link.specs.Link.{alone, take_step, abandon_step}
 use Rattle.x25_link.specs.laws.RestLaw.{IsAtRest}
@@ -15,14 +14,16 @@ use Rattle.x25_line.specs.laws.Stations as line
 use Rattle.x25_line.specs.laws.Sessions as links
 use Rattle.x25_line.specs.laws.Sessions.{SessionEnd, Meeting, Sessions, begun_by, IsTimely, AreTimely}
 use Rattle.x25_line.specs.laws.HealingPuts.{SessionMayHeal, AreFree, IsDeliverOrPut, AreDeliveriesAndPuts, SessionsFreeThroughout, SessionsHaveArrived, PutsHealSessions}
+use Rattle.x25_given.specs.Given.{PlainGiven}
 use Rattle.x25_layer.specs.Calls.{LayerRequest}
 use Rattle.x25_station.specs.declared.config.Cfg.{Cfg}
 use Rattle.x25_station.specs.Command as command
 use Rattle.x25_station.specs.Config.{Settings, settings_from}
-use Rattle.x25_station.specs.Step.{Step, Outcome, Did, Refused, follows, requests}
+use Rattle.x25_station.specs.Step.{Step, Outcome, Did, Refused, follows, requests, gives}
+use Rattle.x25_station.specs.laws.GivenLaw.{GivesOctets}
 use Rattle.x25_station.specs.laws.KeepLaw.{ConnectKeeps}
 use Rattle.x25_station.specs.laws.ReadLaw.{RequestsOctets}
-use Rattle.x25_world.specs.World.{World, swapped, Act, Commands, Receives, Fires, Loses, Damages, Event, acts, delivered, of_station, happens, after, after_step, run}
+use Rattle.x25_world.specs.World.{World, swapped, Act, Commands, Receives, Fires, Event, acts, delivered, of_station, happens, after, after_step, run}
 use Rattle.x25_world.specs.laws.Claims.{ActsInOctets, AreInOctets, link_of}
 use Rattle.x25_world.specs.laws.LawsBelow.{SessionLaws}
 use Rattle.x25_world.specs.laws.SessionClaims.{Throughout}
@@ -34,16 +35,16 @@ use Rattle.x25_world.proofs.sessions.SessionJoined.{SessionsJoined, sessions_swa
 use Rattle.x25_world.proofs.sessions.SessionLinks.{SessionGoes, stays_goes, deliver_goes, puts_of, all_act, all_puts_go, PutsRead}
 use Rattle.x25_world.proofs.sessions.SessionRuns.{event_joined, throughout_joined, down_at_none, not_set_up}
 use Rattle.x25_world.proofs.sessions.SessionsAlong.{links_append}
-use Rattle.x25_world.proofs.sessions.acts.SessionRequests.{request_puts, said_octets}
+use Rattle.x25_world.proofs.sessions.acts.SessionRequests.{request_puts, given_puts, said_octets}
 use Rattle.x25_world.proofs.sessions.acts.SessionReceives.{taken_puts}
 use Rattle.x25_world.proofs.HealingLemmas.{Alike, turned, back_after, c_of, d_of, both_alike, none_of, joined_alike, links_are, fired_then, gone_are}
 
 -- ---- what a link is asked in an event
 
--- what comes is taken, where it does, and then packets are put
-abbrev asked_of : Bool → List PlainPacket → List line.Act
-asked_of true packets = line.Deliver ∷ puts_of packets
-asked_of false packets = puts_of packets
+-- what comes is taken, where it does, and then octets are put
+abbrev asked_of : Bool → List (List ℕ) → List line.Act
+asked_of true handed = line.Deliver ∷ puts_of handed
+asked_of false handed = puts_of handed
 
 free_turned : (s t : LinkStation) → AreFree s t → AreFree t s
 free_turned s t h = (h.1, h.0)
@@ -51,21 +52,21 @@ free_turned s t h = (h.1, h.0)
 -- what the near end asks of its link, so that the links have those of the world behind it; as octets are taken neither is busy
 record Asked (cfg : Cfg) (end : Role) (w u : World) (v : Sessions) : Type 0 where
   pub comes : Bool
-  pub packets : List PlainPacket
+  pub handed : List (List ℕ)
   pub free : comes ≡ true → AreFree w.near.link w.far.link
-  pub alike : Alike u (all_act (link_of cfg end) (asked_of comes packets) v)
+  pub alike : Alike u (all_act (link_of cfg end) (asked_of comes handed) v)
 
 module _ (laws : SessionLaws) (cfg : Cfg) (fine : IsConfigured cfg) (end : Role) (w : World) (h : SessionsJoined both_down cfg end w) (v : Sessions) (like : Alike w v) where
   abbrev c : Settings
   c = settings_from end cfg
 
   none_asked : Asked cfg end w w v
-  none_asked = record { comes = false; packets = []; free = λ is. true_false (sym is); alike = like }
+  none_asked = record { comes = false; handed = []; free = λ is. true_false (sym is); alike = like }
 
   puts_alike : (v₁ : Sessions) (session : ℕ) (t : Side) (lifted left : List (List ℕ)) (met : List Meeting) (step : Step) → SessionGoes (link_of cfg end) v v₁ session t.near t.out [] lifted left met → (p : PutsRead cfg end t step)
-      → Alike (after_step c w left step) (all_act (link_of cfg end) (puts_of p.packets) v₁)
+      → Alike (after_step c w left step) (all_act (link_of cfg end) (puts_of p.handed) v₁)
   puts_alike v₁ session t lifted left met step g p =
-      let r = all_puts_go cfg end v v₁ session p.packets t [] lifted left met g p.link.accepted p.readable in
+      let r = all_puts_go cfg end v v₁ session p.handed p.packets t [] lifted left met g p.link.accepted p.readable in
       record {
         near = r.station ∙ sym p.link.link;
         far = ap (λ (e : SessionEnd). e.station) r.far ∙ like.far;
@@ -85,29 +86,38 @@ module _ (laws : SessionLaws) (cfg : Cfg) (fine : IsConfigured cfg) (end : Role)
           subst (λ (b : Bool). Asked cfg end w (after_step c w back (follows c w.near.layer (if b then abandon_step (link_of cfg end) w.near.link else k))) v) (sym free.0)
           (record {
             comes = true;
-            packets = p.packets;
+            handed = p.handed;
             free = λ same. free.1;
             alike = puts_alike v₁ (begun_by k.notes.up v.near.begun) k.side (option_to_list k.packet) back v₁.met (follows c w.near.layer k)
                 (deliver_goes (link_of cfg end) v w.near.link octets back like.near (like.back ∙ is)) p;
           })
+
+  puts_asked : (step : Step) → PutsRead cfg end (alone w.near.link) step → Asked cfg end w (after_step c w w.back step) v
+  puts_asked step p = record {
+    comes = false;
+    handed = p.handed;
+    free = λ same. true_false (sym same);
+    alike = puts_alike v v.near.begun (alone w.near.link) [] w.back v.met step (stays_goes (link_of cfg end) v w.near.link w.back like.near like.back) p;
+  }
 
   request_asked : (request : LayerRequest) → RequestsOctets request → Asked cfg end w (after w (of_station c w (requests c w.near request))) v
   request_asked request octets = by (requests c w.near request) refl
     where
       by : (o : Outcome) → requests c w.near request ≡ o → Asked cfg end w (after w (of_station c w o)) v
       by (Refused e) is = none_asked
-      by (Did step) is =
-          let p = request_puts laws cfg fine end w h request octets step is in
-          record {
-            comes = false;
-            packets = p.packets;
-            free = λ same. true_false (sym same);
-            alike = puts_alike v v.near.begun (alone w.near.link) [] w.back v.met step (stays_goes (link_of cfg end) v w.near.link w.back like.near like.back) p;
-          }
+      by (Did step) is = puts_asked step (request_puts laws cfg fine end w h request octets step is)
+
+  given_asked : (g : PlainGiven) (request : LayerRequest) → GivesOctets g → RequestsOctets request → Asked cfg end w (after w (of_station c w (gives c w.near g request))) v
+  given_asked g request of_given octets = by (gives c w.near g request) refl
+    where
+      by : (o : Outcome) → gives c w.near g request ≡ o → Asked cfg end w (after w (of_station c w o)) v
+      by (Refused e) is = none_asked
+      by (Did step) is = puts_asked step (given_puts laws cfg fine end w h g request of_given octets step is)
 
   near_asked : (act : Act) → IsReceiptOrRequest act → ActsInOctets act → ActsFreely c w.near w.far.link w.back act → Asked cfg end w (after w (acts c w act)) v
   near_asked Receives are octets free = came_asked free
   near_asked (Commands (command.Requests request)) are octets free = request_asked (command.said_by cfg.say_sizes w.near.layer request) (said_octets cfg.say_sizes w.near.layer request octets)
+  near_asked (Commands (command.RequestsWith given request)) are octets free = given_asked given (command.said_by cfg.say_sizes w.near.layer request) octets.0 (said_octets cfg.say_sizes w.near.layer request octets.1)
   near_asked act are octets free = absurd are
 
 -- ---- at either end
@@ -124,9 +134,9 @@ far_run c d (act ∷ asked) v =
 
 record EventAsked (cfg : Cfg) (at : Role) (w u : World) (v : Sessions) : Type 0 where
   pub comes : Bool
-  pub packets : List PlainPacket
+  pub handed : List (List ℕ)
   pub free : comes ≡ true → AreFree w.near.link w.far.link
-  pub alike : Alike u (links.run (c_of cfg) (d_of cfg) (all_at at (asked_of comes packets)) v)
+  pub alike : Alike u (links.run (c_of cfg) (d_of cfg) (all_at at (asked_of comes handed)) v)
 
 event_asked : (laws : SessionLaws) (cfg : Cfg) → IsConfigured cfg → (at : Role) (act : Act) (w : World) → SessionsJoined both_down cfg Dte w → (v : Sessions) → Alike w v → IsReceiptOrRequest act → ActsInOctets act → FreeAt cfg at act w
     → EventAsked cfg at w (after w (happens cfg w (record { at = at; act = act }))) v
@@ -134,43 +144,43 @@ event_asked laws cfg fine Dte act w h v like are octets free =
     let a = near_asked laws cfg fine Dte w h v like act are octets free in
     record {
       comes = a.comes;
-      packets = a.packets;
+      handed = a.handed;
       free = a.free;
-      alike = subst (Alike (after w (happens cfg w (record { at = Dte; act = act })))) (sym (near_run (c_of cfg) (d_of cfg) (asked_of a.comes a.packets) v)) a.alike;
+      alike = subst (Alike (after w (happens cfg w (record { at = Dte; act = act })))) (sym (near_run (c_of cfg) (d_of cfg) (asked_of a.comes a.handed) v)) a.alike;
     }
 event_asked laws cfg fine Dce act w h v like are octets free =
     let a = near_asked laws cfg fine Dce (swapped w) (sessions_swapped cfg Dte w h) (links.swapped v) (turned w v like) act are octets free in
     let o = acts (settings_from Dce cfg) (swapped w) act in
-    let x = all_act (d_of cfg) (asked_of a.comes a.packets) (links.swapped v) in
+    let x = all_act (d_of cfg) (asked_of a.comes a.handed) (links.swapped v) in
     record {
       comes = a.comes;
-      packets = a.packets;
+      handed = a.handed;
       free = λ is. free_turned w.far.link w.near.link (a.free is);
-      alike = subst (λ (u : World). Alike u (links.run (c_of cfg) (d_of cfg) (all_at Dce (asked_of a.comes a.packets)) v)) (sym (back_after w o))
-          (subst (Alike (swapped (after (swapped w) o))) (sym (far_run (c_of cfg) (d_of cfg) (asked_of a.comes a.packets) v)) (turned (after (swapped w) o) x a.alike));
+      alike = subst (λ (u : World). Alike u (links.run (c_of cfg) (d_of cfg) (all_at Dce (asked_of a.comes a.handed)) v)) (sym (back_after w o))
+          (subst (Alike (swapped (after (swapped w) o))) (sym (far_run (c_of cfg) (d_of cfg) (asked_of a.comes a.handed) v)) (turned (after (swapped w) o) x a.alike));
     }
 
 -- ---- events are deliveries and packets that are put
 
-puts_are : (at : Role) (packets : List PlainPacket) (rest : List line.Event) → AreDeliveriesAndPuts rest → AreDeliveriesAndPuts (all_at at (puts_of packets) ++ rest)
+puts_are : (at : Role) (packets : List (List ℕ)) (rest : List line.Event) → AreDeliveriesAndPuts rest → AreDeliveriesAndPuts (all_at at (puts_of packets) ++ rest)
 puts_are at [] rest h = h
 puts_are Dte (p ∷ packets) rest h = (tt, puts_are Dte packets rest h)
 puts_are Dce (p ∷ packets) rest h = (tt, puts_are Dce packets rest h)
 
-asked_are : (at : Role) (comes : Bool) (packets : List PlainPacket) (rest : List line.Event) → AreDeliveriesAndPuts rest → AreDeliveriesAndPuts (all_at at (asked_of comes packets) ++ rest)
+asked_are : (at : Role) (comes : Bool) (packets : List (List ℕ)) (rest : List line.Event) → AreDeliveriesAndPuts rest → AreDeliveriesAndPuts (all_at at (asked_of comes packets) ++ rest)
 asked_are at false packets rest h = puts_are at packets rest h
 asked_are Dte true packets rest h = (tt, puts_are Dte packets rest h)
 asked_are Dce true packets rest h = (tt, puts_are Dce packets rest h)
 
 -- packets are put whatever waits
 
-puts_free : (c d : LinkSettings) (at : Role) (packets : List PlainPacket) (rest : List line.Event) (v : Sessions) → SessionsFreeThroughout c d rest (links.run c d (all_at at (puts_of packets)) v)
+puts_free : (c d : LinkSettings) (at : Role) (packets : List (List ℕ)) (rest : List line.Event) (v : Sessions) → SessionsFreeThroughout c d rest (links.run c d (all_at at (puts_of packets)) v)
     → SessionsFreeThroughout c d (all_at at (puts_of packets) ++ rest) v
 puts_free c d at [] rest v h = h
 puts_free c d Dte (p ∷ packets) rest v h = (tt, puts_free c d Dte packets rest _ h)
 puts_free c d Dce (p ∷ packets) rest v h = (tt, puts_free c d Dce packets rest _ h)
 
-asked_free : (c d : LinkSettings) (at : Role) (comes : Bool) (packets : List PlainPacket) (rest : List line.Event) (v : Sessions) → (comes ≡ true → AreFree v.near.station v.far.station)
+asked_free : (c d : LinkSettings) (at : Role) (comes : Bool) (packets : List (List ℕ)) (rest : List line.Event) (v : Sessions) → (comes ≡ true → AreFree v.near.station v.far.station)
     → SessionsFreeThroughout c d rest (links.run c d (all_at at (asked_of comes packets)) v) → SessionsFreeThroughout c d (all_at at (asked_of comes packets) ++ rest) v
 asked_free c d at false packets rest v free h = puts_free c d at packets rest v h
 asked_free c d Dte true packets rest v free h = (free refl, puts_free c d Dte packets rest _ h)
@@ -194,13 +204,13 @@ all_asked laws cfg fine (e ∷ events) w h v like are octets free =
     let d = d_of cfg in
     let next = after w (happens cfg w e) in
     let a = event_asked laws cfg fine e.at e.act w h v like are.0 octets.0 free.0 in
-    let first = all_at e.at (asked_of a.comes a.packets) in
+    let first = all_at e.at (asked_of a.comes a.handed) in
     let joined = event_joined laws cfg fine e.at e.act w (λ before x is. absurd (down_at_none before x is)) octets.0 (λ off. not_set_up false off) h in
     let r = all_asked laws cfg fine events next joined (links.run c d first v) a.alike are.1 octets.1 free.1 in
     record {
       asked = first ++ r.asked;
-      are = asked_are e.at a.comes a.packets r.asked r.are;
-      free = asked_free c d e.at a.comes a.packets r.asked v (λ comes. free_alike w v like (a.free comes)) r.free;
+      are = asked_are e.at a.comes a.handed r.asked r.are;
+      free = asked_free c d e.at a.comes a.handed r.asked v (λ comes. free_alike w v like (a.free comes)) r.free;
       alike = subst (Alike (run cfg events next)) (sym (links_append c d first r.asked v)) r.alike;
     }
 

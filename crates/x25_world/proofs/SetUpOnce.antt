@@ -15,7 +15,7 @@ use Rattle.x25_layer.specs.laws.Apart.{OwnMove, own_run}
 use Rattle.x25_layer.specs.laws.TwoLayers.{started}
 use Rattle.x25_link.specs.Station.{is_up}
 use Rattle.x25_station.specs.declared.config.Cfg.{Cfg}
-use Rattle.x25_station.specs.Entry.{StationEntry, of_channel, restart_asked, connect_asked, disconnect_asked, link_up, link_down, layer_entries, was_restarted, restart_confirmed, at_fault, came_beside, was_diagnosed}
+use Rattle.x25_station.specs.Entry.{StationEntry, link_up, link_down, layer_entries}
 use Rattle.x25_station.specs.Station.{Station}
 use Rattle.x25_world.specs.World.{World}
 use Rattle.x25_world.specs.laws.Claims.{station_at, entries_at, ups_in, IsUpOnce, IsUpAtMostOnce, handed_at, link_of, IsLawful, IsNamed, ArrivesAll}

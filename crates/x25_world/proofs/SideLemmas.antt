@@ -1,5 +1,5 @@
 -- What an end did is its act by the definition, and its refusal is due.
-use Rattle.std.proofs.Common.{◌≡◌, ℕ, Bool, true, false, ◌&&◌, if◌then◌else◌, List, [], ◌∷◌, ◌++◌, map, Some, None, slice_get, Result, Ok, Err, OnOk, OnErr, IfErr, ◌⊎◌, inl, inr, refl, ap, sym, ◌∙◌, arith}
+use Rattle.std.proofs.Common.{◌≡◌, ℕ, Bool, true, false, ◌&&◌, if◌then◌else◌, List, [], ◌∷◌, ◌++◌, map, Some, None, slice_get, Result, Ok, Err, OnOk, OnErr, IfErr, ◌⊎◌, inl, inr, refl, ap, sym, ◌∙◌}
 use Rattle.std.specs.List.{remove}
 use Rattle.std.proofs.lemmas.List.{append-nil}
 use Rattle.x25_bits.specs.Role.{other}
@@ -16,7 +16,6 @@ use Rattle.x25_station.specs.Entry.{StationEntry}
 use Rattle.x25_station.specs.code.FitsStation.{FitsStation, Leaves, Sends, Enters, Refuses}
 use Rattle.x25_station.specs.code.PlainEntry.{plain_entry}
 use Rattle.x25_station.specs.Config.{Settings, settings_from}
-use Rattle.x25_station.specs.Station.{Station}
 use Rattle.x25_station.specs.Step.{Step, Outcome, Did, Refused, fires, receives}
 use Rattle.x25_world.specs.declared.error.WorldError.{WorldError}
 use Rattle.x25_world.specs.declared.error.WorldError.TheVariants as error
@@ -75,19 +74,12 @@ none_arrives c w (octets ∷ back) is = cc
 abbrev ok : Result (Unit {0}) StationError
 ok = Ok tt
 
--- a station that stands for all that another one stood for leaves what that one left
-leaves_on : (c : Settings) (old new : code.Station) (result : Result (Unit {0}) StationError) (outcome : Outcome)
-    → ((k : Settings) (s : Station) → FitsStation k old s → FitsStation k new s) → Leaves c old result outcome → Leaves c new result outcome
-leaves_on c old new (Ok x) (Did step) on leaves = on c step.near leaves
-leaves_on c old new (Err e) (Did step) on leaves = tt
-leaves_on c old new result (Refused e) on leaves = tt
-
 pub has_happened : (cfg : Cfg) (at : Role) (near : code.Station) (line : ShownLine) (w : World) (outcome : Outcome) (answer : code_step.Step)
     → FitsShared at line w w.back → Leaves (settings_from at cfg) near ok outcome
     → Sends (settings_from at cfg) answer ok outcome → Enters answer ok outcome → Refuses ok outcome
-    → HasHappened cfg at near (put_by line at (map (λ frame. frame.items) answer.frames.items)) (entered at (map plain_entry answer.entries.items)) w (of_station (settings_from at cfg) w outcome)
+    → HasHappened cfg at near (put_by line at answer.frames) (entered at (map plain_entry answer.entries.items)) w (of_station (settings_from at cfg) w outcome)
 has_happened cfg at near line w (Did step) answer shared leaves sends enters refuses =
-    step_told cfg at near line w w.back step (map (λ frame. frame.items) answer.frames.items) (map plain_entry answer.entries.items) shared leaves sends enters
+    step_told cfg at near line w w.back step answer.frames (map plain_entry answer.entries.items) shared leaves sends enters
 has_happened cfg at near line w (Refused e) answer shared leaves sends enters refuses = absurd refuses
 
 -- ---- a refused one
@@ -124,19 +116,18 @@ taken_off : (at : Role) (line : ShownLine) (w : World) (octets : List ℕ) (left
 taken_off Dte line w octets left shared = record { out = shared.out; back = ap (λ l. remove l 0) shared.back }
 taken_off Dce line w octets left shared = record { out = shared.out; back = ap (λ l. remove l 0) shared.back }
 
-pub has_arrived : (cfg : Cfg) (at : Role) (near new : code.Station) (line : ShownLine) (w : World) (back : List (List ℕ)) (octets : List ℕ) (answer : code_step.Step)
-    → ((k : Settings) (s : Station) → FitsStation k near s → FitsStation k new s) → FitsShared at line w back → Some octets ≡ slice_get back 0
+pub has_arrived : (cfg : Cfg) (at : Role) (near : code.Station) (line : ShownLine) (w : World) (back : List (List ℕ)) (octets : List ℕ) (answer : code_step.Step)
+    → FitsShared at line w back → Some octets ≡ slice_get back 0
     → Leaves (settings_from at cfg) near ok (Did (receives (settings_from at cfg) w.near octets))
     → Sends (settings_from at cfg) answer ok (Did (receives (settings_from at cfg) w.near octets)) → Enters answer ok (Did (receives (settings_from at cfg) w.near octets))
-    → HasHappened cfg at new (put_by (with_line_to line at (remove (line_to line at) 0)) at (map (λ frame. frame.items) answer.frames.items)) (entered at (map plain_entry answer.entries.items)) w
+    → HasHappened cfg at near (put_by (with_line_to line at (remove (line_to line at) 0)) at answer.frames) (entered at (map plain_entry answer.entries.items)) w
     (delivered (settings_from at cfg) w back)
-has_arrived cfg at near new line w [] octets answer on shared front leaves sends enters = cc
-has_arrived cfg at near new line w (o ∷ left) octets answer on shared front leaves sends enters =
+has_arrived cfg at near line w [] octets answer shared front leaves sends enters = cc
+has_arrived cfg at near line w (o ∷ left) octets answer shared front leaves sends enters =
     let same : octets ≡ o = cc in
     let step = receives (settings_from at cfg) w.near octets in
     rw (sym same)
-    (step_told cfg at new _ w left step (map (λ frame. frame.items) answer.frames.items) (map plain_entry answer.entries.items) (taken_off at line w o left shared)
-    (leaves_on (settings_from at cfg) near new ok (Did step) on leaves) sends enters)
+    (step_told cfg at near _ w left step answer.frames (map plain_entry answer.entries.items) (taken_off at line w o left shared) leaves sends enters)
 
 -- ---- octets on the line are lost, or others come in their place
 

@@ -19,7 +19,7 @@ use Rattle.x25_layer.specs.laws.Law.{HasAllOf}
 use Rattle.x25_layer.specs.code.FitsLayer.{waits_up_to}
 use Rattle.x25_handshakes.specs.laws.Names.{Name}
 use Rattle.x25_station.specs.declared.config.Cfg.{Cfg}
-use Rattle.x25_station.specs.Command.{Requests}
+use Rattle.x25_station.specs.Command.{Requests, RequestsWith}
 use Rattle.x25_station.specs.Config.{Settings, settings_from, link_settings, layer_settings}
 use Rattle.x25_station.specs.Station.{Station, view_of}
 use Rattle.x25_station.specs.Step.{abandons, layer_at}
@@ -213,6 +213,7 @@ HealsWhereNonePut cfg w =
 abbrev pub IsReceiptOrRequest : Act → Type 0
 IsReceiptOrRequest Receives = Unit {0}
 IsReceiptOrRequest (Commands (Requests request)) = Unit {0}
+IsReceiptOrRequest (Commands (RequestsWith given request)) = Unit {0}
 IsReceiptOrRequest act = ⊥
 
 -- each of them is so, at either end, in any order

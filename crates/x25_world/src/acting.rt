@@ -25,6 +25,7 @@ use crate::line::Line;
 use crate::set_up::is_on_line;
 use crate::told::Entered;
 use x25_bits::{Role, check};
+use x25_link::Frames;
 use x25_station::{Cmd, Entry, MOST_ENTRIES, MOST_FRAMES, Station, Step};
 
 /// The event happens at its end, or on the line to it. What it tells comes into the step, in place of what was there,
@@ -134,8 +135,7 @@ fn deliver(at: Role, near: &mut Station, line: &mut Line, out: &mut Step) -> Res
     };
     match near.receive(octets, out) {
         Ok(()) => {
-            let octets = line.remove(at, 0);
-            keep_frame(near, octets);
+            line.remove(at, 0);
             put(at, line, &mut out.frames);
             Ok(())
         }
@@ -143,27 +143,17 @@ fn deliver(at: Role, near: &mut Station, line: &mut Line, out: &mut Step) -> Res
     }
 }
 
-// The frames of a step come on the line, in room that there is, and their list is left empty.
+// Copies of the frames of a step come on the line, in room that there is, and none is left in it.
 #[inline(always)]
-fn put(at: Role, line: &mut Line, frames: &mut Vec<Vec<u8>>)
-    requires { vec_len frames.old ≤ line.old.room }
-    ensures empty { frames.new.items ≡ [] }
-    ensures line { line.new ≡ put_by line.old at (map (λ frame. frame.items) frames.old.items) }
+fn put(at: Role, line: &mut Line, frames: &mut Frames)
+    requires { length frames.old ≤ line.old.room }
+    ensures empty { frames.new ≡ [] }
+    ensures line { line.new ≡ put_by line.old at frames.old }
 {
-    frames.reverse();
-    while let Some(octets) = frames.pop() {
+    for octets in frames.as_slice() {
         line.put(at, octets);
     }
-}
-
-// The memory of a frame that came serves frames that the end sends later.
-#[inline(always)]
-fn keep_frame(near: &mut Station, octets: Option<Vec<u8>>)
-    ensures { (c : Settings) (s : StationState) → FitsStation c near.old s → FitsStation c near.new s }
-{
-    if let Some(octets) = octets {
-        near.keep_frame(octets);
-    }
+    frames.clear();
 }
 
 // Timer T1 of the end runs out, which it doesn't while UA is awaited and can still come.
@@ -205,14 +195,15 @@ pub fn connect(
     line: &mut Line,
     out: &mut Step,
 ) -> Result<(), WorldError>
-    requires { IsEmpty out.old }
     ensures step { IsStepOf result out.new 3 }
     ensures places { TakesFew 17 line.old line.new }
     ensures acted { (cfg : Cfg) (w : definition.World) → FitsSide cfg at near.old line.old w →
         HasActed cfg at near.new line.new (entered at (map plain_entry out.new.entries.items)) result w
         (of_station (settings_from at cfg) w (connects (settings_from at cfg) w.near)) }
 {
-    reserve_frames(line)?;
+    if let Err(error) = reserve_frames(line) {
+        return refuse(near, out, error);
+    }
     match near.connect(out) {
         Ok(()) => {
             put(at, line, &mut out.frames);
@@ -281,7 +272,7 @@ fn lose(to: Role, line: &mut Line, place: usize) -> Result<(), WorldError>
     if place >= line.len(to) {
         return Err(WorldError::NoSuchFrame);
     }
-    let _ = line.remove(to, place);
+    line.remove(to, place);
     Ok(())
 }
 

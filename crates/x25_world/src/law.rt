@@ -1,4 +1,6 @@
 //! Two stations over a line, as laws about their definition. Each is the contract of a function that does nothing.
+ghost use Rattle.x25_given.specs.Given.{plain_given};
+ghost use Rattle.x25_station.specs.Command.{RequestsWith, request_of};
 ghost use Rattle.x25_station.specs.laws.ReadLaw.{AreOctets};
 ghost use Rattle.x25_world.specs.World.{event_of};
 ghost use Rattle.x25_world.specs.rows.WorldRows.{SetsUp, MessageArrives, LostArrives, DamagedArrives};
@@ -11,7 +13,8 @@ ghost use Rattle.x25_world.specs.laws.WaitClaims.{PullsLeaveNone, UnpulledWaitFo
 ghost use Rattle.x25_world.specs.laws.WaitClaims.{MessagesWaitForUsers};
 ghost use Rattle.x25_world.specs.laws.LawsBelow.{SessionLaws};
 ghost use Rattle.x25_world.specs.laws.OctetLaw.{FewOctets};
-ghost use Rattle.x25_world.specs.laws.Claims.{ActsInOctets, Always, UntilSecondUp, IsSetUp, IsLawful, IsNamed};
+ghost use Rattle.x25_world.specs.laws.Claims.{ActsInOctets, CommandsOctets, Always, UntilSecondUp, IsSetUp};
+ghost use Rattle.x25_world.specs.laws.Claims.{IsLawful, IsNamed};
 ghost use Rattle.x25_world.specs.laws.Claims.{ArrivesAll, HasNoProcedureError, UpOnceUnlessConnected};
 ghost use Rattle.x25_world.specs.laws.WindowGoes.{StaysInWindow};
 ghost use Rattle.x25_world.specs.laws.SessionWindow.{SessionsStayInWindow};
@@ -22,7 +25,10 @@ use x25_frame::reads_what_is_spelled;
 use x25_layer::{apart_layers_keep_order, each_end_is_by_itself};
 use x25_line::{each_session_event_hands_one, links_keep_order, sessions_keep_order};
 use x25_link::{notes_what_changes, sets_up_by_rows};
-use x25_station::{Cmd, puts_are_readable, stations_hold_few, steps_are_joined, steps_keep_bounds};
+use x25_station::{
+    CallCmd, Cmd, Given, puts_are_readable, stations_hold_few, steps_are_joined, steps_keep_bounds,
+    what_is_given_is_told,
+};
 
 /// What the laws of the links, the layers and the stations say, which the laws of a world rest on.
 pub(crate) fn laws_below()
@@ -35,6 +41,7 @@ pub(crate) fn laws_below()
     steps_are_joined();
     steps_keep_bounds();
     puts_are_readable();
+    what_is_given_is_told();
     notes_what_changes();
     sets_up_by_rows();
     reads_what_is_spelled();
@@ -140,8 +147,8 @@ pub fn messages_wait_for_users()
     x25_layer::messages_wait_for_users();
 }
 
-/// What a world holds at most: 24,317,510 octets, twice as many as a station of 16 channels does, and those of the
-/// frames on its line.
+/// What a world holds at most: 24,239,525 octets, twice as many as a station of 16 channels does and the memory for 59
+/// frames, and those of the frames on its line, each of which counts as the longest.
 pub fn worlds_hold_few()
     ensures { FewOctets }
 {
@@ -174,6 +181,18 @@ pub fn hands_down_octets(event: Event)
         Event::Command(_, Cmd::Call { user, .. }) => are_octets(user),
         Event::Command(_, Cmd::Send { user, .. }) => are_octets(user),
         Event::Command(_, Cmd::Interrupt { user, .. }) => are_octets(user),
+        Event::Command(_, Cmd::With { given, call }) => gives_octets(given, call),
+        _ => {}
+    }
+}
+
+fn gives_octets(given: Given<'_>, call: CallCmd<'_>)
+    ensures { CommandsOctets (RequestsWith (plain_given given.entry) (request_of call.entry)) }
+{
+    are_octets(given.facilities);
+    are_octets(given.user);
+    match call {
+        CallCmd::Call { user, .. } => are_octets(user),
         _ => {}
     }
 }

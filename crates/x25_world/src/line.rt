@@ -1,21 +1,37 @@
 ghost use Rattle.std.specs.Prelude.{◌≡◌, ◌+◌, ◌*◌, ◌<◌, ◌≤◌, ◌++◌, max, [], length, map, remove, OnOk, OnErr, ◌∷◌};
-ghost use Rattle.std.specs.Prelude.{option_copied, vec_capacity, IfOk};
+ghost use Rattle.std.specs.Prelude.{option_copied, vec_len, vec_capacity, IfOk};
 ghost use Rattle.std.specs.Prelude.{slice_get};
 ghost use Rattle.x25_line.specs.laws.Stations.{replaced};
-ghost use Rattle.x25_world.specs.code.ShownLine.{ShownLine, line_to, with_line_to, with_room_of, put_by, TakesFew};
+ghost use Rattle.x25_world.specs.code.ShownLine.{ShownLine, line_to, with_line_to, with_room_of};
+ghost use Rattle.x25_world.specs.code.ShownLine.{put_by, TakesFew};
 ghost use Rattle.std.specs.VecDeque.{deque_len, deque_capacity};
 
 use std::alloc::{AllocError, Global};
 use std::collections::VecDeque;
 use std::marker::Model;
-use x25_bits::Role;
+use x25_bits::{Pool, Promise, Role, with_octets};
+use x25_station::MOST_FRAMES;
+
+/// The most octets of a frame: those of a packet, address, control and frame check sequence.
+const LONGEST_FRAME: usize = 4103;
+
+// A frame on the line, in memory for its octets, or for those of the longest frame.
+#[derive(Drop)]
+struct Laid {
+    octets: Vec<u8>,
+    ghost memory: { vec_capacity octets ≤ max (vec_len octets) 4103 },
+}
 
 /// The line between two ends in both directions.
+///
+/// Its frames are copies of those that an end sent. Memory is set aside before it sends them; that of frames that left
+/// the line serves again.
 #[derive(Drop)]
 pub struct Line {
-    to_dce: VecDeque<Vec<u8>>,
-    to_dte: VecDeque<Vec<u8>>,
-    room: usize,
+    to_dce: VecDeque<Laid>,
+    to_dte: VecDeque<Laid>,
+    room: Promise<LONGEST_FRAME, MOST_FRAMES>,
+    left: Pool<LONGEST_FRAME, MOST_FRAMES>,
     alloc: Global,
 }
 
@@ -27,8 +43,8 @@ impl Model for Line {
     ghost Value = { ShownLine };
 
     ghost view = { λ l. record {
-      to_dce = map (λ frame. frame.items) l.to_dce.items;
-      to_dte = map (λ frame. frame.items) l.to_dte.items;
+      to_dce = map (λ frame. frame.octets.items) l.to_dce.items;
+      to_dte = map (λ frame. frame.octets.items) l.to_dte.items;
       room = l.room;
       places_to_dce = deque_capacity l.to_dce;
       places_to_dte = deque_capacity l.to_dte;
@@ -46,7 +62,8 @@ impl Line {
         Line {
             to_dce: VecDeque::from_vec(Vec::new(alloc)),
             to_dte: VecDeque::from_vec(Vec::new(alloc)),
-            room: 0,
+            room: Promise::new(alloc),
+            left: Pool::new(alloc),
             alloc,
         }
     }
@@ -67,25 +84,25 @@ impl Line {
         ensures same { self.new ≡ with_room_of self.new self.old }
         ensures few { TakesFew frames self.old self.new }
     {
-        if self.room >= frames {
+        if self.room.promised() >= frames {
             return Ok(());
         }
         grow(&mut self.to_dce, frames)?;
         grow(&mut self.to_dte, frames)?;
-        self.room = free(&self.to_dce).min(free(&self.to_dte));
-        Ok(())
+        self.room.reserve(frames)
     }
 
-    /// An end puts a frame on the line, in room that there is.
+    /// A copy of a frame that an end sent comes on the line, in room that there is.
     #[inline(always)]
-    pub fn put(&mut self, from: Role, octets: Vec<u8>)
+    pub fn put(&mut self, from: Role, octets: &[u8])
         requires room { 0 < self.old.room }
-        ensures { self.new ≡ put_by self.old from (octets.items ∷ []) }
+        requires short { length octets.now ≤ 4103 }
+        ensures { self.new ≡ put_by self.old from (octets.now ∷ []) }
     {
-        self.room -= 1;
+        let own = with_octets(memory(&mut self.room, &mut self.left, octets.len()), octets);
         match from {
-            Role::Dte => lay(&mut self.to_dce, octets),
-            Role::Dce => lay(&mut self.to_dte, octets),
+            Role::Dte => lay(&mut self.to_dce, own),
+            Role::Dce => lay(&mut self.to_dte, own),
         }
     }
 
@@ -94,13 +111,13 @@ impl Line {
         ensures { option_copied result ≡ slice_get (line_to self.now to) place }
     {
         match self.queue(to).get(place) {
-            Some(octets) => Some(octets.as_slice()),
+            Some(frame) => Some(frame.octets.as_slice()),
             None => None,
         }
     }
 
-    fn queue(&self, to: Role) -> &VecDeque<Vec<u8>>
-        ensures { map (λ frame. frame.items) result.now.items ≡ line_to self.now to }
+    fn queue(&self, to: Role) -> &VecDeque<Laid>
+        ensures { map (λ frame. frame.octets.items) result.now.items ≡ line_to self.now to }
     {
         match to {
             Role::Dce => &self.to_dce,
@@ -108,16 +125,15 @@ impl Line {
         }
     }
 
-    /// The frame at this place on the line to this end, 0 at the front, is taken off it. It answers the frame's
-    /// octets.
+    /// The frame at this place on the line to this end, 0 at the front, is taken off it.
     #[inline(always)]
-    pub fn remove(&mut self, to: Role, place: usize) -> Option<Vec<u8>>
+    pub fn remove(&mut self, to: Role, place: usize)
         requires { place < length (line_to self.old to) }
         ensures { self.new ≡ with_line_to self.old to (remove (line_to self.old to) place) }
     {
         match to {
-            Role::Dce => take_off(&mut self.to_dce, place),
-            Role::Dte => take_off(&mut self.to_dte, place),
+            Role::Dce => keep(&mut self.left, take_off(&mut self.to_dce, place)),
+            Role::Dte => keep(&mut self.left, take_off(&mut self.to_dte, place)),
         }
     }
 
@@ -128,41 +144,60 @@ impl Line {
             ≡ with_line_to self.old to (replaced (line_to self.old to) place octets.now)) }
         ensures err { OnErr result (self.new ≡ self.old) }
     {
-        let own = copied(self.alloc, octets)?;
+        let own = with_octets(Vec::with_capacity(self.alloc, octets.len())?, octets);
         match to {
-            Role::Dce => self.to_dce[place] = own,
-            Role::Dte => self.to_dte[place] = own,
+            Role::Dce => self.to_dce[place] = Laid { octets: own },
+            Role::Dte => self.to_dte[place] = Laid { octets: own },
         }
         Ok(())
     }
 }
 
+// Memory for so many octets, of that which was set aside for a frame.
+#[inline(always)]
+fn memory(
+    room: &mut Promise<LONGEST_FRAME, MOST_FRAMES>,
+    left: &mut Pool<LONGEST_FRAME, MOST_FRAMES>,
+    length: usize,
+) -> Vec<u8>
+    requires room { 0 < room.old }
+    requires short { length ≤ 4103 }
+    ensures fewer { room.new + 1 ≡ room.old }
+    ensures empty { result.items ≡ [] }
+    ensures enough { length ≤ vec_capacity result }
+    ensures few { vec_capacity result ≤ 4103 }
+{
+    if let Some(octets) = left.take(length) {
+        room.limit(room.promised() - 1);
+        return octets;
+    }
+    room.take(length)
+}
+
 // A frame goes behind the others, in the memory that it is in.
 #[inline(always)]
-fn lay(queue: &mut VecDeque<Vec<u8>>, octets: Vec<u8>)
-    requires { deque_len queue.old < deque_capacity queue.old }
-    ensures items { queue.new.items ≡ queue.old.items ++ octets ∷ [] }
+fn lay(queue: &mut VecDeque<Laid>, octets: Vec<u8>)
+    requires place { deque_len queue.old < deque_capacity queue.old }
+    requires memory { vec_capacity octets ≤ max (vec_len octets) 4103 }
+    ensures items { map (λ frame. frame.octets.items) queue.new.items
+        ≡ map (λ frame. frame.octets.items) queue.old.items ++ octets.items ∷ [] }
     ensures len { deque_len queue.new ≡ deque_len queue.old + 1 }
     ensures capacity { deque_capacity queue.new ≡ deque_capacity queue.old }
 {
-    queue.push_back_reserved(octets);
+    queue.push_back_reserved(Laid { octets });
 }
 
-// A copy of octets, in memory for these and no more. Err: no memory.
-fn copied(alloc: Global, octets: &[u8]) -> Result<Vec<u8>, AllocError>
-    ensures items { IfOk result (λ own. own.items ≡ octets.now) }
-    ensures room { IfOk result (λ own. vec_capacity own ≡ length octets.now) }
-{
-    let mut own = Vec::with_capacity(alloc, octets.len())?;
-    for octet in octets {
-        own.push_reserved(*octet);
+// The memory of a frame that left the line serves again.
+#[inline(always)]
+fn keep(left: &mut Pool<LONGEST_FRAME, MOST_FRAMES>, frame: Option<Laid>) {
+    if let Some(Laid { octets }) = frame {
+        left.keep(octets);
     }
-    Ok(own)
 }
 
 // For how many frames more there are places.
 #[inline(always)]
-fn free(queue: &VecDeque<Vec<u8>>) -> usize
+fn free(queue: &VecDeque<Laid>) -> usize
     ensures { deque_len queue.now + result ≡ deque_capacity queue.now }
 {
     queue.capacity() - queue.len()
@@ -170,7 +205,7 @@ fn free(queue: &VecDeque<Vec<u8>>) -> usize
 
 // Makes room for so many frames more, by places for as many again as there are, or for those. Err: no memory.
 #[inline(always)]
-fn grow(queue: &mut VecDeque<Vec<u8>>, frames: usize) -> Result<(), AllocError>
+fn grow(queue: &mut VecDeque<Laid>, frames: usize) -> Result<(), AllocError>
     ensures items { queue.new.items ≡ queue.old.items }
     ensures len { deque_len queue.new ≡ deque_len queue.old }
     ensures room { OnOk result (deque_len queue.new + frames ≤ deque_capacity queue.new) }
@@ -185,7 +220,7 @@ fn grow(queue: &mut VecDeque<Vec<u8>>, frames: usize) -> Result<(), AllocError>
 
 // The frame at this place is taken out, with no move of others where it is the first.
 #[inline(always)]
-fn take_off(queue: &mut VecDeque<Vec<u8>>, place: usize) -> Option<Vec<u8>>
+fn take_off(queue: &mut VecDeque<Laid>, place: usize) -> Option<Laid>
     requires { place < length queue.old.items }
     ensures items { queue.new.items ≡ remove queue.old.items place }
     ensures len { deque_len queue.new ≤ deque_len queue.old }

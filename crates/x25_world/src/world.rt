@@ -39,7 +39,8 @@ pub struct World {
     dte: Station,
     dce: Station,
     line: Line,
-    alloc: Global,
+    // What a step of its own answers.
+    out: Step,
 }
 
 impl Model for World {
@@ -72,12 +73,19 @@ impl World {
     {
         let dte = new_station(alloc, Role::Dte, cfg)?;
         match new_station(alloc, Role::Dce, cfg) {
-            Ok(dce) => Ok(World {
-                dte,
-                dce,
-                line: Line::new(alloc),
-                alloc,
-            }),
+            Ok(dce) => match new_step(alloc) {
+                Ok(out) => Ok(World {
+                    dte,
+                    dce,
+                    line: Line::new(alloc),
+                    out,
+                }),
+                Err(error) => {
+                    drop(dce);
+                    drop(dte);
+                    Err(error)
+                }
+            },
             Err(error) => {
                 drop(dte);
                 Err(error)
@@ -120,8 +128,7 @@ impl World {
             OnOk result (FitsWorld cfg self.new (connected cfg)) }
         ensures refused { (cfg : Cfg) → FitsWorld cfg self.old start → IfErr result (λ e. e ≡ WorldError.NoMemory) }
     {
-        let mut out = Step::new(self.alloc);
-        connect(Role::Dte, &mut self.dte, &mut self.line, &mut out)
+        connect(Role::Dte, &mut self.dte, &mut self.line, &mut self.out)
     }
 
     /// Two stations whose link was just set up: the DTE has asked, SABM and UA were delivered, each end was told that
@@ -145,7 +152,7 @@ impl World {
         ensures refused { RefusesConfig result (config_refusal cfg) }
     {
         let mut world = World::asking(alloc, cfg)?;
-        match world.set_up(alloc) {
+        match world.set_up() {
             Ok(()) => Ok(world),
             Err(error) => {
                 drop(world);
@@ -155,16 +162,27 @@ impl World {
     }
 
     // SABM and UA are delivered.
-    fn set_up(&mut self, alloc: Global) -> Result<(), WorldError>
+    fn set_up(&mut self) -> Result<(), WorldError>
         ensures fits { (cfg : Cfg) → FitsWorld cfg self.old (connected cfg) →
             OnOk result (FitsWorld cfg self.new (established cfg)) }
         ensures refused { (cfg : Cfg) → FitsWorld cfg self.old (connected cfg) →
             IfErr result (λ e. e ≡ WorldError.NoMemory) }
     {
         two_stations_keep_order();
-        let mut out = Step::new(alloc);
-        self.happen(SABM_ARRIVES, &mut out)?;
-        self.happen(UA_ARRIVES, &mut out)
+        act_at_end(
+            &mut self.dte,
+            &mut self.dce,
+            &mut self.line,
+            &mut self.out,
+            SABM_ARRIVES,
+        )?;
+        act_at_end(
+            &mut self.dte,
+            &mut self.dce,
+            &mut self.line,
+            &mut self.out,
+            UA_ARRIVES,
+        )
     }
 
     /// Lets the event happen. The entries that it tells come into the step, in place of what was there, whose memory
@@ -221,9 +239,14 @@ impl World {
             OnErr result (Tells cfg (telling self.new told.new.items) w before) }
     {
         reserve_entries(told, event)?;
-        let mut out = Step::new(self.alloc);
-        self.happen(event, &mut out)?;
-        enter(event.at(), &mut out.entries, told);
+        act_at_end(
+            &mut self.dte,
+            &mut self.dce,
+            &mut self.line,
+            &mut self.out,
+            event,
+        )?;
+        enter(event.at(), &mut self.out.entries, told);
         Ok(())
     }
 
@@ -261,8 +284,14 @@ impl World {
             return Err(WorldError::NoSuchFrame);
         }
         let octets = octets_of_damage(bits)?;
-        let mut out = Step::new(self.alloc);
-        self.happen(Event::Damage(direction, place, octets.as_slice()), &mut out)
+        let damage = Event::Damage(direction, place, octets.as_slice());
+        act_at_end(
+            &mut self.dte,
+            &mut self.dce,
+            &mut self.line,
+            &mut self.out,
+            damage,
+        )
     }
 
     /// The station of this end.
@@ -287,6 +316,16 @@ impl World {
         ensures { option_copied result ≡ slice_get (line_of self.now direction) place }
     {
         self.line.get(direction.end(), place)
+    }
+}
+
+// A step in which nothing happened yet.
+fn new_step(alloc: Global) -> Result<Step, WorldError>
+    ensures { IfErr result (λ e. e ≡ WorldError.NoMemory) }
+{
+    match Step::new(alloc) {
+        Ok(out) => Ok(out),
+        Err(_) => Err(WorldError::NoMemory),
     }
 }
 

@@ -38,3 +38,8 @@ pub fn establish(alloc: Global, cfg: Cfg) -> Result<Box<World>, WorldError> {
 pub fn step(world: &mut World, event: Event, out: &mut Step) -> Result<(), WorldError> {
     world.step(event, out)
 }
+
+/// A step for events to tell into.
+pub fn empty_step(alloc: Global) -> Result<Step, WorldError> {
+    Step::new(alloc).ok().ok_or(WorldError::NoMemory)
+}

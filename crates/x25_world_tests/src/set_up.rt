@@ -1,6 +1,6 @@
 //! The frames of set-up, one by one.
 
-use crate::calls::{USUAL, connecting, step};
+use crate::calls::{USUAL, connecting, empty_step, step};
 use std::alloc::Global;
 use x25_station::Step;
 use x25_world::Direction::{ToDce, ToDte};
@@ -49,7 +49,8 @@ fn odd_row(world: &mut World, out: &mut Step) -> Option<usize> {
 
 fn odd_row_of(alloc: Global) -> Result<Option<usize>, WorldError> {
     let mut world = connecting(alloc, USUAL)?;
-    Ok(odd_row(&mut world, &mut Step::new(alloc)))
+    let mut out = empty_step(alloc)?;
+    Ok(odd_row(&mut world, &mut out))
 }
 
 #[test]

@@ -1,6 +1,6 @@
 //! Events and damaged bits, one behind the other: which are refused, and how many entries they tell.
 
-use crate::calls::{USUAL, establish, step};
+use crate::calls::{USUAL, empty_step, establish, step};
 use std::alloc::Global;
 use x25_station::{Cmd, Step};
 use x25_world::Direction::{ToDce, ToDte};
@@ -76,10 +76,9 @@ fn number(alloc: Global, world: &mut World, act: Act, out: &mut Step) -> u8 {
 }
 
 // The first row in which something else comes of what happens.
-fn odd_row(alloc: Global, world: &mut World, rows: &[Row]) -> Option<usize> {
-    let mut out = Step::new(alloc);
+fn odd_row(alloc: Global, world: &mut World, rows: &[Row], out: &mut Step) -> Option<usize> {
     for (place, &(act, wanted, count)) in rows.iter().enumerate() {
-        if number(alloc, world, act, &mut out) != wanted || out.entries.len() != count {
+        if number(alloc, world, act, out) != wanted || out.entries.len() != count {
             return Some(place);
         }
     }
@@ -88,7 +87,8 @@ fn odd_row(alloc: Global, world: &mut World, rows: &[Row]) -> Option<usize> {
 
 fn odd_row_of(alloc: Global, rows: &[Row]) -> Result<Option<usize>, WorldError> {
     let mut world = establish(alloc, USUAL)?;
-    Ok(odd_row(alloc, &mut world, rows))
+    let mut out = empty_step(alloc)?;
+    Ok(odd_row(alloc, &mut world, rows, &mut out))
 }
 
 #[test]

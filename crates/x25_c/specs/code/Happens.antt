@@ -61,8 +61,7 @@ pub record PullsBehind (old new : Held) : Type 0 where
   pub state : (c : Settings) (s : Station) → FitsStation c old.station s →
       FitsStation c new.station (rest_of new.waits c s).near
   pub frames : (c : Settings) (s : Station) → FitsStation c old.station s →
-      map (λ frame. frame.items) new.step.frames.items
-      ≡ map (λ frame. frame.items) old.step.frames.items ++ map (spelling_of c.role) (rest_of new.waits c s).out
+      new.step.frames ≡ old.step.frames ++ map (spelling_of c.role) (rest_of new.waits c s).out
   pub entries : new.step.entries ≡ old.step.entries
   pub timer : (c : Settings) (s : Station) → FitsStation c old.station s →
       new.step.timer ≡ timer_of_rest new.waits c old.step.timer s

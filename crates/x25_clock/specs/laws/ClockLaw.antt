@@ -9,7 +9,7 @@ use Rattle.x25_station.specs.Station.Told.{is_at_rest}
 use Rattle.x25_station.specs.Step.{Outcome, Did, Refused}
 use Rattle.x25_station.specs.Timer.{runs, standing, tells_link}
 use Rattle.x25_station.specs.laws.TimerLaw as timer
-use Rattle.x25_station.specs.laws.TimerLaw.{Comes, Asks, Gives, Fires}
+use Rattle.x25_station.specs.laws.TimerLaw.{Comes, Asks, Fires}
 use Rattle.x25_clock.specs.declared.times.Times.{Times}
 use Rattle.x25_clock.specs.declared.wait.Wait.{Wait}
 use Rattle.x25_clock.specs.Clock.{Deadlines, Seen, nothing_awaited, deadline, time_of, heeded, after_due}
@@ -28,7 +28,6 @@ pub record Watched : Type 0 where
 abbrev pub comes : timer.Event → Bool
 comes (Comes octets) = true
 comes (Asks command) = false
-comes (Gives given request) = false
 comes Fires = false
 
 abbrev pub seen_of : Settings → Station → timer.Event → Outcome → Seen

@@ -132,7 +132,7 @@ unfolding digits decode_pairs piped event_turn turn turns event_in lines_of line
 call_is_reported =
     let p0 : Program = nothing_read in
     let p1 : Program = record p0 { read = codes "dte connect\n"; out = sent 0 sabm_octets ∷ [] } in
-    let r1 : IsReached ours p1 = goes_on p0 p1 at_start (Reads (codes "dte connect") (record { is_line = opens (codes "dte connect") refl; is_no_frame = tt; in_time = tt })) in
+    let r1 : IsReached ours p1 = goes_on p0 p1 at_start (Reads (codes "dte connect") (record { is_line = opens (codes "dte connect") refl; is_no_frame = tt; gives_nothing = tt; in_time = tt })) in
     let e2 : PeerEnd = begins p0.peer in
     let p2 : Program = record p1 { peer = e2; out = []; back = sent 1 ua_octets ∷ [] } in
     let r2 : IsReached ours p2 = goes_on p1 p2 r1 (Elsewhere (record (bare ours p1) { peer = e2; out = []; back = sent 1 ua_octets ∷ [] })

@@ -13,7 +13,7 @@ use Rattle.x25_layer.specs.code.FitsLayer.{FitsCircuits}
 use Rattle.x25_layer.specs.code.Waiting.{WaitAt}
 use Rattle.x25_layer.specs.declared.places.Places.{Places}
 use Rattle.x25_layer.specs.Rounds.{Putting, round}
-use Rattle.x25_layer.specs.code.OverLink.{after_all, view_of, TakesAlike}
+use Rattle.x25_layer.specs.code.OverLink.{after_all, view_of, Takes}
 
 -- Memory for so many packets is enough for all that may be pulled on from these lists: the unacknowledged packets never
 -- become more than 15, since each is pulled where fewer than 8 wait, and of those that don't wait at most 7 aren't
@@ -26,14 +26,16 @@ abbrev pub pulled_where : Bool → Settings → Circuit → Pulled
 pulled_where has_room c x = if has_room then pulled c x else pulls_nothing x
 
 -- The circuits of a layer and its link stand as the step says, by the state x of the link at its start. Memory for m
--- packets is set aside in the layer and for n in the link, which is enough.
+-- packets is set aside in the layer, and n places are left in the link, which is enough. With the packets that were put
+-- the m are `total`.
 pub record Stands {X : Type 0} (fits : X → Type 0) (lists : X → Lists) (after : X → List ℕ
-    → X) (c : LayerSettings) (vs : List circuit_code.Circuit) (m n : ℕ) (x : X) (s : Putting) : Type 0 where
+    → X) (c : LayerSettings) (vs : List circuit_code.Circuit) (m n total : ℕ) (x : X) (s : Putting) : Type 0 where
   pub channels : length vs ≡ c.channels
   pub circuits : FitsCircuits c vs s.layer.circuits
   pub link : fits (after_all after x s.put)
   pub memory : IsEnough (lists (after_all after x s.put)) m
   pub promised : IsEnough (lists (after_all after x s.put)) n
+  pub sum : m + length s.put ≡ total
 
 -- By this pull from the circuit of a channel a circuit and the link are left so, where the link was in state y and m
 -- packets had memory, of which m₂ have it still. Where the answer is that none was put, there was none.
@@ -42,7 +44,7 @@ pub record PutsPulled {D : Type 0} (g : Ghosts D) (c : Settings) (channel : ℕ)
   pub circuit : FitsCircuit c v p.next
   pub link : g.fits below (after_all g.after_put y (option_to_list (packet_on channel p.packet)))
   pub none : is_put ≡ false → p.packet ≡ None
-  pub memory : m ≤ m₂ + length (option_to_list p.packet)
+  pub memory : m₂ + length (option_to_list p.packet) ≡ m
 
 -- The next data packet of a circuit is put, where there is one and the link has room, in memory that was set aside.
 pub record PullsOne {D : Type 0} (g : Ghosts D) (channel : ℕ) (old : circuit_code.Circuit) (below : D) (m : ℕ)
@@ -50,7 +52,7 @@ pub record PullsOne {D : Type 0} (g : Ghosts D) (channel : ℕ) (old : circuit_c
   pub pulls : (c : Settings) (x : Circuit) (y : g.State) → FitsCircuit c old x → g.fits below y
       → IsEnough (g.lists y) m → IsEnough (g.lists y) (g.promised below)
       → PutsPulled g c channel y (pulled_where (nat_lt (g.waits_in y) 8) c x) new below₂ m m₂ is_put
-  pub takes : TakesAlike g m below m₂ below₂
+  pub takes : Takes g m below m₂ below₂
   pub room : room_of old ≤ room_of new
   pub clears : clears_of new ≡ clears_of old
   pub resets : resets_of new ≡ resets_of old
@@ -59,14 +61,14 @@ pub record PullsOne {D : Type 0} (g : Ghosts D) (channel : ℕ) (old : circuit_c
 -- A round of all circuits. Whether a packet was put is told, and where messages wait behind it.
 pub record GoesRound {D : Type 0} (g : Ghosts D) (old : List circuit_code.Circuit) (below : D) (m : ℕ)
     (new : List circuit_code.Circuit) (below₂ : D) (m₂ : ℕ) (is_put : Bool) (asked : Places) : Type 0 where
-  pub stands : (c : LayerSettings) (x : g.State) (s : Putting)
-      → Stands (g.fits below) g.lists g.after_put c old m (g.promised below) x s
-      → Stands (g.fits below₂) g.lists g.after_put c new m₂ (g.promised below₂) x
+  pub stands : (c : LayerSettings) (x : g.State) (s : Putting) (total : ℕ)
+      → Stands (g.fits below) g.lists g.after_put c old m (g.promised below) total x s
+      → Stands (g.fits below₂) g.lists g.after_put c new m₂ (g.promised below₂) total x
       (round (view_of g.up_in g.waits_in g.after_put x) c c.channels s)
-  pub none : (c : LayerSettings) (x : g.State) (s : Putting)
-      → Stands (g.fits below) g.lists g.after_put c old m (g.promised below) x s → is_put ≡ false
+  pub none : (c : LayerSettings) (x : g.State) (s : Putting) (total : ℕ)
+      → Stands (g.fits below) g.lists g.after_put c old m (g.promised below) total x s → is_put ≡ false
       → round (view_of g.up_in g.waits_in g.after_put x) c c.channels s ≡ s
-  pub takes : TakesAlike g m below m₂ below₂
+  pub takes : Takes g m below m₂ below₂
   pub count : length new ≡ length old
   pub room : HaveRoomStill old new
   pub left : HaveCountsLeft old → HaveCountsLeft new

@@ -65,10 +65,6 @@ module _ (t : Side) where
   G-stays : GoesOn t t
   G-stays = record { phase = refl; recovery = refl; peer_busy = refl; rejecting = refl; tries = refl; taken = refl; given = refl; acked = refl; next = []; out = sym (append-nil t.out); sends = refl; held = λ _. refl; light = omega arith }
 
-  G-if : (b : Bool) (u v : Side) → GoesOn t u → GoesOn t v → GoesOn t (if b then u else v)
-  G-if true u v f g = f
-  G-if false u v f g = g
-
   by_if : (b : Bool) (u v : Side) → (b ≡ true → GoesOn t u) → (b ≡ false → GoesOn t v) → GoesOn t (if b then u else v)
   by_if true u v f g = f refl
   by_if false u v f g = g refl

@@ -11,7 +11,7 @@ use Rattle.x25_link.specs.Outgoing.{no_packet}
 use Rattle.x25_link.specs.Station.{Settings, LinkStation, is_up, may_send, owes_ready, fresh, with_nothing}
 use Rattle.x25_link.specs.Hearing.{Step, quiet, leaves, row_of}
 use Rattle.x25_link.specs.Link.{alone, closed_by, hears, goes_up, connects, fires, disconnects, asks_again, when_waiting, when_down}
-use Rattle.x25_link.specs.laws.SetUp.{Is, waiting_after, waiting_sends, waiting_up, TakesPart, reset_from, TakeWaits, TakeSetsUp, ConnectWaits, TimerWaits, DisconnectWaits, IsTwoSteps, RelinkIsTwoSteps}
+use Rattle.x25_link.specs.laws.SetUp.{Is, waiting_after, waiting_sends, waiting_up, TakesPart, reset_from, TakeWaits, TakeSetsUp, ConnectWaits, TimerWaits, DisconnectWaits, RelinkIsTwoSteps}
 use Rattle.x25_link.proofs.EndLemmas.{none_open, ended_stays}
 use Rattle.x25_link.proofs.rows.WindowRows.{closed_stays}
 

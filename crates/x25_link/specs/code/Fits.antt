@@ -1,13 +1,12 @@
 -- Which states of the definition the code's variables stand for.
-use Rattle.std.specs.Prelude.{◌≡◌, ℕ, ◌+◌, ◌≤◌, List, ◌++◌, length, map, option_copied}
+use Rattle.std.specs.Prelude.{◌≡◌, ℕ, List, ◌++◌, length, map, option_copied}
 use Rattle.x25_frame.specs.Frame.{PlainFrame}
 use Rattle.x25_frame.specs.Spelling.{spelling_of}
 use Rattle.x25_window.specs.Receiver.{FitsTaken}
 use Rattle.x25_link.specs.declared.station.LinkStation.{LinkStation as StationCode}
 use Rattle.x25_link.specs.declared.heard.Heard.{Heard}
 use Rattle.x25_link.specs.Hearing.{Step}
-use Rattle.x25_link.specs.code.OutgoingHeld.{FitsOutgoing, window_of, before_in}
-use Rattle.x25_link.specs.code.Outbox.{ShownOutbox}
+use Rattle.x25_link.specs.code.OutgoingHeld.{FitsOutgoing}
 use Rattle.x25_link.specs.Station.{Settings, LinkStation, Side}
 
 pub record FitsStation (c : Settings) (v : StationCode) (s : LinkStation) : Type 0 where
@@ -41,33 +40,16 @@ pub record FitsHeard (c : Settings) (v : StationCode) (before made : List (List 
 -- ---- what a function of the station does, from each side that the code stands for
 
 -- it leads to this side; the frames go behind those that were made
-abbrev pub Leads : StationCode → StationCode → ShownOutbox → ShownOutbox → (Settings → Side → Side) → Type 0
-Leads v w had has f = (c : Settings) (before : List (List ℕ)) (t : Side) → FitsSide c v before had.made t
-    → FitsSide c w before has.made (f c t)
+abbrev pub Leads : StationCode → StationCode → List (List ℕ) → List (List ℕ) → (Settings → Side → Side) → Type 0
+Leads v w had has f = (c : Settings) (before : List (List ℕ)) (t : Side) → FitsSide c v before had t
+    → FitsSide c w before has (f c t)
 
 -- it leads to this step's side, and what is heard is that step's
-abbrev pub Hears : StationCode → StationCode → ShownOutbox → ShownOutbox → Heard → (Settings → Side → Step) → Type 0
-Hears v w had has heard f = (c : Settings) (before : List (List ℕ)) (t : Side) → FitsSide c v before had.made t
-    → FitsHeard c w before has.made heard (f c t)
+abbrev pub Hears : StationCode → StationCode → List (List ℕ) → List (List ℕ) → Heard → (Settings → Side → Step) → Type 0
+Hears v w had has heard f = (c : Settings) (before : List (List ℕ)) (t : Side) → FitsSide c v before had t
+    → FitsHeard c w before has heard (f c t)
 
 -- it leads to this side, and makes no frame
 abbrev pub Turns : StationCode → StationCode → (Settings → Side → Side) → Type 0
 Turns v w f = (c : Settings) (before made : List (List ℕ)) (t : Side) → FitsSide c v before made t
     → FitsSide c w before made (f c t)
-
--- ---- the memory that it uses
-
--- that of one frame at most that carries no packet
-pub record SendsShort (v w : StationCode) (had has : ShownOutbox) : Type 0 where
-  pub window : window_of w.outgoing ≡ window_of v.outgoing
-  pub places : has.places ≡ had.places
-  pub long : has.long ≡ had.long
-  pub short : had.short ≤ has.short + 1
-
--- beside that, of I frames, that of no more than stand before the place to send from, and of no more than k
-pub record SendsInfo (v w : StationCode) (had has : ShownOutbox) : Type 0 where
-  pub window : window_of w.outgoing ≡ window_of v.outgoing
-  pub places : has.places ≡ had.places
-  pub before : had.long ≤ has.long + before_in w.outgoing
-  pub few : had.long ≤ has.long + window_of v.outgoing
-  pub short : had.short ≤ has.short + 1

@@ -1,23 +1,21 @@
 -- What contracts see of a link, and the states of the definition that it fits.
-use Rattle.std.specs.Prelude.{◌≡◌, ℕ, ◌+◌, ◌≤◌, max, Bool, List, Option, Result, ◌++◌, length, map, false}
+use Rattle.std.specs.Prelude.{◌≡◌, ℕ, ◌≤◌, Bool, List, Option, Result, ◌++◌, length, map, false}
 use Rattle.std.specs.Prelude.{option_copied, IfOk, OnOk, OnErr}
 use Rattle.x25_frame.specs.Spelling.{spelling_of}
 use Rattle.x25_link.specs.declared.error.LinkError.{LinkError}
 use Rattle.x25_link.specs.declared.heard.Heard.{Heard}
 use Rattle.x25_link.specs.declared.station.LinkStation.{LinkStation as StationCode}
 use Rattle.x25_link.specs.OrderedLink.{Lists}
-use Rattle.x25_link.specs.code.Outbox.{ShownOutbox}
 use Rattle.x25_link.specs.Outgoing.{waits}
 use Rattle.x25_link.specs.Station.{Settings, LinkStation, lists_of, is_up, may_send, owes_ready}
 use Rattle.x25_link.specs.Hearing.{Step}
-use Rattle.x25_link.specs.Link.{Refuses, put_step}
-use Rattle.x25_link.specs.code.Fits.{FitsStation, Made}
+use Rattle.x25_link.specs.Link.{RefusesOnly, put_step}
+use Rattle.x25_link.specs.code.Fits.{FitsStation}
 
--- the variables of the station, and the frames that `swap_frames` will hand out, with the memory set aside for further
--- ones
+-- the variables of the station, and the frames that `swap_frames` will hand out
 pub record ShownLink : Type 0 where
   pub station : StationCode
-  pub outbox : ShownOutbox
+  pub frames : List (List ℕ)
 
 -- the most octets of a packet, whether the link is up, and how many packets wait
 abbrev pub limit_of : ShownLink → ℕ
@@ -41,20 +39,16 @@ pub record IsHeard (heard : Heard) (step : Step) : Type 0 where
   pub notes : heard.notes ≡ step.notes
 
 -- A call is refused as the definition says, or does its step. Of each state that the link stood for it leaves that
--- step's, and what is heard is that step's; its frames, nine at most, stand behind those that `swap_frames` will hand
--- out. The memory that is set aside for calls of `put` stays, and the list of the frames has places for no more than it
--- keeps, that memory and nine further frames, or as many as before. Where it is refused the link is as before.
+-- step's, and what is heard is that step's; its frames, nine at most, are those that `swap_frames` will hand out. Where
+-- it is refused the link is as before.
 pub record Does (old new : ShownLink) (result : Result Heard LinkError) (refusal : LinkStation → Option LinkError)
     (step : Settings → LinkStation → Step) : Type 0 where
   pub state : (c : Settings) (s : LinkStation) → FitsLink c old s → OnOk result (FitsLink c new (step c s).side.near)
   pub frames : (c : Settings) (s : LinkStation) → FitsLink c old s →
-      OnOk result (Made c old.outbox.made new.outbox.made (step c s).side.out)
+      OnOk result (new.frames ≡ map (spelling_of c.role) (step c s).side.out)
   pub heard : (c : Settings) (s : LinkStation) → FitsLink c old s → IfOk result (λ heard. IsHeard heard (step c s))
-  pub few : (c : Settings) (s : LinkStation) → FitsLink c old s → length new.outbox.made ≤ length old.outbox.made + 9
-  pub refused : (c : Settings) (s : LinkStation) → FitsLink c old s → Refuses (refusal s) result
-  pub promised : new.outbox.long ≡ old.outbox.long
-  pub places : new.outbox.places ≤ max old.outbox.places
-      (length old.outbox.made + (old.outbox.long + 7 + max old.outbox.short 2))
+  pub few : OnOk result (length new.frames ≤ 9)
+  pub refused : (c : Settings) (s : LinkStation) → FitsLink c old s → RefusesOnly (refusal s) result
   pub err : OnErr result (new ≡ old)
 
 -- ---- a link as one that keeps order
@@ -67,7 +61,7 @@ pub record LinkState : Type 0 where
 
 pub record FitsWhole (v : ShownLink) (x : LinkState) : Type 0 where
   pub link : FitsLink x.settings v x.station
-  pub kept : v.outbox.made ≡ x.kept
+  pub kept : v.frames ≡ x.kept
 
 abbrev pub lists_in : LinkState → Lists
 lists_in x = lists_of x.station

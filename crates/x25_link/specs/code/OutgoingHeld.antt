@@ -5,13 +5,6 @@ use Rattle.x25_window.specs.code.Held.{Fits}
 use Rattle.x25_link.specs.declared.outgoing.Outgoing.{Outgoing as OutgoingCode}
 use Rattle.x25_link.specs.Outgoing.{Outgoing}
 
--- k, and how many packets stand between the first that isn't acknowledged and the place to send from
-abbrev pub window_of : OutgoingCode → ℕ
-window_of b = b.sender.window
-
-abbrev pub before_in : OutgoingCode → ℕ
-before_in b = b.sender.before
-
 -- the packets that were sent, as the window machine has them
 abbrev pub sending_of : ℕ → Outgoing → Sending (List ℕ)
 sending_of k o = record { given = take o.sent o.given; acked = o.acked; place = o.place; window = k }

@@ -8,7 +8,7 @@ use Rattle.x25_link.specs.declared.phase.Phase.{Phase}
 use Rattle.x25_link.specs.declared.phase.Phase.TheVariants.{Down, Waiting, Up, Closed}
 use Rattle.x25_link.specs.declared.phase.Reason.{Reason}
 use Rattle.x25_link.specs.declared.phase.Reason.TheVariants.{Retries, Reset}
-use Rattle.x25_link.specs.Station.{Settings, LinkStation, Side, fresh, with_nothing}
+use Rattle.x25_link.specs.Station.{Settings, LinkStation, fresh, with_nothing}
 use Rattle.x25_link.specs.Hearing.{Step, other}
 use Rattle.x25_link.specs.Link.{take_step, timer_step, connect_step, disconnect_step, abandon_step, relink_step}
 

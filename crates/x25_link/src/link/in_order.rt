@@ -2,12 +2,14 @@
 ghost use Rattle.std.specs.Prelude.{◌≡◌};
 
 use crate::error::LinkError;
+use crate::frames::MOST_FRAMES;
 use crate::link::Link;
 use crate::ordered_link::OrderedLink;
 
 impl OrderedLink for Link {
     ghost use Rattle.x25_link.specs.code.FitsLink.{LinkState, FitsWhole, lists_in, waits_of, up_at, after_put_to};
     ghost use Rattle.x25_link.specs.code.FitsLink.{limit_of, up_of, waiting_of};
+    ghost use Rattle.x25_link.specs.code.Frames.{places_left};
     ghost use Rattle.x25_link.specs.laws.LinkLaws.{put_adds, acked_low, link_waits, link_up, put_stays_up, link_few};
     ghost use Rattle.x25_link.specs.laws.LinkLaws.{link_close};
 
@@ -43,7 +45,7 @@ impl OrderedLink for Link {
 
     ghost up = { up_of };
 
-    ghost promised = { λ l. l.outbox.long };
+    ghost promised = { λ l. places_left l.frames };
 
     fn limit(&self) -> usize {
         self.station.parameters.n1
@@ -58,13 +60,7 @@ impl OrderedLink for Link {
     }
 
     fn promised(&self) -> usize {
-        self.outbox.long()
-    }
-
-    #[inline(always)]
-    fn reserve(&mut self, count: usize) -> Result<(), LinkError> {
-        self.outbox.reserve(count, 0)?;
-        Ok(())
+        MOST_FRAMES - self.frames.len()
     }
 
     fn spent_memory(&mut self, length: usize) -> Option<Vec<u8>> {

@@ -71,5 +71,4 @@ IsError error o = fits.Refuses {T = Unit} (Err error) o
 
 -- what is said of a step that was answered
 abbrev pub answer_told : code_step.Step → List Saying
-answer_told step = map enters (map plain_entry step.entries.items)
-    ++ map sends (map (λ frame. frame.items) step.frames.items)
+answer_told step = map enters (map plain_entry step.entries.items) ++ map sends step.frames

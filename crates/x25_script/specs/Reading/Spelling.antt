@@ -11,7 +11,7 @@ use Rattle.x25_script.specs.declared.given.Given.{Given}
 use Rattle.x25_script.specs.ScriptLine.{PlainCommand, call, accept, clear, send, interrupt, reset, ready, not_ready}
 use Rattle.x25_script.specs.ScriptLine.{restart, pull, connect, disconnect, probe, relink, PlainLine, command, t1}
 use Rattle.x25_script.specs.ScriptLine.{deliver, lose}
-use Rattle.x25_script.specs.ScriptLine.{damage, drain, heal}
+use Rattle.x25_script.specs.ScriptLine.{damage, drain, heal, with_given}
 
 -- an end
 abbrev pub end_text : Role → List ℕ
@@ -72,16 +72,32 @@ labelled_text label (Some n) = codes " " ++ (label ++ decimal n)
 abbrev pub given_text : Given → List ℕ
 given_text given = labelled_text (codes "cause=") given.cause ++ labelled_text (codes "diag=") given.diagnostic
 
--- what follows the end that is commanded
-abbrev pub SpellsCommand : PlainCommand → List ℕ → Type 0
-SpellsCommand (call called calling user params) text = IsAddress called × IsAddress calling × AreParams params
+-- what is asked of a call
+abbrev pub SpellsPart : PlainCommand → List ℕ → Type 0
+SpellsPart (call called calling user params) text = IsAddress called × IsAddress calling × AreParams params
     × ((digits : List ℕ) × Writes digits user
     × (text ≡ codes "call " ++ (address_text called ++ (codes " " ++ (address_text calling
     ++ (codes " " ++ (digits ++ params_text params)))))))
-SpellsCommand (accept channel params) text = IsNumber channel × AreParams params
+SpellsPart (accept channel params) text = IsNumber channel × AreParams params
     × (text ≡ codes "accept " ++ (decimal channel ++ params_text params))
-SpellsCommand (clear channel given) text = IsNumber channel × IsGiven given
+SpellsPart (clear channel given) text = IsNumber channel × IsGiven given
     × (text ≡ codes "clear " ++ (decimal channel ++ given_text given))
+SpellsPart asked text = ⊥
+
+-- the word for D, with its blank
+abbrev pub d_text : Bool → List ℕ
+d_text false = []
+d_text true = codes "d "
+
+-- what follows the end that is commanded
+abbrev pub SpellsCommand : PlainCommand → List ℕ → Type 0
+SpellsCommand (call called calling user params) text = SpellsPart (call called calling user params) text
+SpellsCommand (accept channel params) text = SpellsPart (accept channel params) text
+SpellsCommand (clear channel given) text = SpellsPart (clear channel given) text
+SpellsCommand (with_given facilities user d asked) text = (field : List ℕ) × Writes field facilities
+    × ((digits : List ℕ) × Writes digits user
+    × ((rest : List ℕ) × SpellsPart asked rest
+    × (text ≡ codes "with " ++ (field ++ (codes " " ++ (digits ++ (codes " " ++ (d_text d ++ rest))))))))
 SpellsCommand (send channel q user) text = IsNumber channel
     × ((digits : List ℕ) × Writes digits user
     × (text ≡ codes "send " ++ (decimal channel ++ (codes " " ++ (q_text q ++ (codes " " ++ digits))))))

@@ -3,7 +3,7 @@ use Rattle.std.specs.Prelude.{◌≡◌, ◌↔◌, ℕ, ◌<◌, List, Option, 
 use Rattle.x25_script.specs.HexDigits.{AreOctets}
 use Rattle.x25_script.specs.declared.given.Given.{Given}
 use Rattle.x25_script.specs.ScriptLine.{PlainCommand, call, clear, send, interrupt, reset, restart, PlainLine, command}
-use Rattle.x25_script.specs.ScriptLine.{damage}
+use Rattle.x25_script.specs.ScriptLine.{damage, with_given}
 use Rattle.x25_script.specs.Reading.Spelling.{Spells}
 use Rattle.x25_script.specs.Reading.{line_in}
 
@@ -19,8 +19,15 @@ IsOctet (Some n) = n < 256
 abbrev pub AreGivenOctets : Given → Type 0
 AreGivenOctets given = IsOctet given.cause × IsOctet given.diagnostic
 
+-- the user data of what is asked of a call, or its cause and diagnostic
+abbrev pub PartInOctets : PlainCommand → Type 0
+PartInOctets (call called calling user params) = AreOctets user
+PartInOctets (clear channel given) = AreGivenOctets given
+PartInOctets asked = Unit {0}
+
 -- the user data of a command, and what it gives
 abbrev pub AsksInOctets : PlainCommand → Type 0
+AsksInOctets (with_given facilities user d asked) = AreOctets facilities × AreOctets user × PartInOctets asked
 AsksInOctets (call called calling user params) = AreOctets user
 AsksInOctets (clear channel given) = AreGivenOctets given
 AsksInOctets (send channel q user) = AreOctets user

@@ -14,7 +14,7 @@ pub record FitsParts (c : Settings) (manner : Manner) (l : ShownLink) (y : layer
   pub link : FitsLink (link_settings c) l s.link
   pub layer : FitsLayer (layer_settings c) y s.layer
   pub kept : IsKept s
-  pub sent : l.outbox.made ≡ []
+  pub sent : l.frames ≡ []
   pub same : manner ≡ manner_of c
 
 -- they stand for some state

@@ -1,7 +1,7 @@
 -- Which states of the definition a station stands for, and what its calls answer.
-use Rattle.std.specs.Prelude.{◌≡◌, ◌≤◌, ◌⊎◌, [], map, vec_len, Option, Some, None, Result, Err}
+use Rattle.std.specs.Prelude.{◌≡◌, ◌≤◌, ◌⊎◌, [], length, map, vec_len, Option, Some, None, Result, Err}
 use Rattle.std.specs.Prelude.{OnOk}
-use Rattle.std.specs.Prelude.{OnErr, IfErr, IsErrAnd}
+use Rattle.std.specs.Prelude.{OnErr, IfErr, IsErrAnd, IsOk}
 use Rattle.x25_frame.specs.Spelling.{spelling_of}
 use Rattle.x25_link.specs.code.FitsLink.{ShownLink}
 use Rattle.x25_layer.specs.declared.layer.Layer as layer_code
@@ -36,8 +36,7 @@ Leaves c v result outcome = LeavesParts c v.manner v.link v.layer result outcome
 
 -- the frames are those of the step, as the octets that spell them
 abbrev pub Sends : {T : Type 0} → Settings → code_step.Step → Result T StationError → Outcome → Type 0
-Sends c out result (Did step) =
-    OnOk result (map (λ frame. frame.items) out.frames.items ≡ map (spelling_of c.role) step.out)
+Sends c out result (Did step) = OnOk result (out.frames ≡ map (spelling_of c.role) step.out)
 Sends c out result (Refused e) = Unit {0}
 
 -- the entries are those of the step
@@ -59,9 +58,14 @@ abbrev pub RefusesExactly : {T : Type 0} → Result T StationError → Outcome �
 RefusesExactly result (Did step) = RefusesForMemory result
 RefusesExactly result (Refused e) = result ≡ Err e
 
+-- it is refused so, and never else
+abbrev pub RefusesOnly : {T : Type 0} → Result T StationError → Outcome → Type 0
+RefusesOnly result (Did step) = IsOk result
+RefusesOnly result (Refused e) = result ≡ Err e
+
 -- nothing is in it
 pub record IsEmpty (out : code_step.Step) : Type 0 where
-  pub frames : out.frames.items ≡ []
+  pub frames : out.frames ≡ []
   pub entries : out.entries.items ≡ []
 
 -- A call does what the definition says of it: of each state that the station stood for it leaves that step's, and
@@ -75,7 +79,7 @@ pub record Does (old new : code.Station) (out : code_step.Step) (result : Result
   pub refused : (c : Settings) (s : Station) → FitsStation c old s → Refuses result (said c s)
   pub stays : (c : Settings) (s : Station) → FitsStation c old s → OnErr result (FitsStation c new s)
   pub empty : OnErr result (IsEmpty out)
-  pub few_frames : vec_len out.frames ≤ 17
+  pub few_frames : length out.frames ≤ 17
   pub few_entries : vec_len out.entries ≤ 3
 
 -- a call that makes a station is refused with this, or else with 70 alone

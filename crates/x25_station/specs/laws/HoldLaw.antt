@@ -32,7 +32,7 @@ FewJoined = (c : Settings) (v : code.Station) (s : Station) (h : ℕ) → FitsSt
 
 -- memory that is set aside
 abbrev pub FewAside : Type 0
-FewAside = (v : code.Station) → IsFewAside v.link v.layer v.texts
+FewAside = (v : code.Station) → IsFewAside v.layer v.texts
 
 -- how many messages a circuit holds of those handed down: the one that is cut, or was cut last, and those behind it
 abbrev pub holds : circuit_code.Circuit → ℕ

@@ -8,9 +8,8 @@ use Rattle.x25_layer.specs.Calls.{LayerRequest}
 use Rattle.x25_given.specs.Given.{PlainGiven}
 use Rattle.x25_station.specs.Config.{Settings}
 use Rattle.x25_station.specs.Command.{Command}
-use Rattle.x25_station.specs.Giving.{gives}
 use Rattle.x25_station.specs.Station.{Station}
-use Rattle.x25_station.specs.Step.{Outcome, Did, Refused, connects, fires, receives, requests, commands}
+use Rattle.x25_station.specs.Step.{Outcome, Did, Refused, connects, fires, receives, requests, gives, commands}
 
 pub record IsKept (s : Station) : Type 0 where
   pub few : waits s.link.outgoing ≤ 256

@@ -1,6 +1,6 @@
 -- How many octets a station holds at most (profile): each packet, message and frame counts as the longest of its kind.
--- Memory that is promised counts as all that the type `Promise` may have for it, and that of a `Pool` that contracts
--- don't see as all that this type may have.
+-- Memory that is promised counts as all that the type `Promise` may have for it, and that of a `Pool` or of `Frames`
+-- that contracts don't see as all that this type may have.
 use Rattle.std.specs.Prelude.{ℕ, ◌+◌, ◌*◌, ◌≤◌, length}
 use Rattle.std.specs.List.{sum_by}
 use Rattle.x25_link.specs.code.FitsLink.{ShownLink}
@@ -10,13 +10,11 @@ use Rattle.x25_station.specs.declared.station.Station as code
 use Rattle.x25_station.specs.laws.HoldLaw.{holds}
 
 -- Packets of 4,099 octets: those that were sent and aren't acknowledged, those that wait, and the memory kept of those
--- that were acknowledged. Frames of 4,103: those that are made, 32 that memory is promised for, and the memory kept of
--- those that were sent. Frames of 7: two that memory is promised for.
+-- that were acknowledged. The 25 places of frames, of 4,103 octets each.
 abbrev pub link_octets : ShownLink → ℕ
 link_octets l =
     4099 * (length l.station.outgoing.sender.items
-    + (length l.station.outgoing.queue + l.station.outgoing.spent.kept))
-    + (4103 * (length l.outbox.made + (32 + l.outbox.sent.kept)) + 7 * 2)
+    + (length l.station.outgoing.queue + l.station.outgoing.spent.kept)) + 4103 * 25
 
 -- messages of 65,535 octets, the message of which some packets came, and the memory of 4,096 of two that were read
 abbrev pub circuit_octets : circuit_code.Circuit → ℕ
@@ -32,8 +30,8 @@ octets_held v = link_octets v.link + (layer_octets v.layer + (128 * 5 + 4096 * v
 
 -- so many, and so many for each channel
 abbrev pub FewOctets : Type 0
-FewOctets = (v : code.Station) → octets_held v ≤ 1476547 + 667638 * length v.layer.circuits.items
+FewOctets = (v : code.Station) → octets_held v ≤ 1316516 + 667638 * length v.layer.circuits.items
 
 -- with at most 16 channels
 abbrev pub FewOctetsInAll : Type 0
-FewOctetsInAll = (v : code.Station) → octets_held v ≤ 12158755
+FewOctetsInAll = (v : code.Station) → octets_held v ≤ 11998724

@@ -2,37 +2,31 @@
 -- deadline by that: it is dropped, left as it is, or set. When it passes he fires T1.
 use Rattle.std.specs.Prelude.{◌≡◌, ℕ, ◌<◌, ◌⊎◌, Bool, true, false, List, [], ◌∷◌}
 use Rattle.x25_link.specs.declared.error.LinkError.TheVariants as link_error
-use Rattle.x25_layer.specs.Calls.{LayerRequest}
-use Rattle.x25_given.specs.Given.{PlainGiven}
 use Rattle.x25_station.specs.declared.error.StationError.TheVariants as error
 use Rattle.x25_station.specs.declared.timer.Timer.{Timer}
 use Rattle.x25_station.specs.declared.timer.Timer.TheVariants.{Off, Begins, GoesOn}
 use Rattle.x25_station.specs.Config.{Settings}
 use Rattle.x25_station.specs.Command.{Command}
 use Rattle.x25_station.specs.Entry.{StationEntry, link_up, link_down}
-use Rattle.x25_station.specs.Giving.{gives_said}
 use Rattle.x25_station.specs.Pulling.{pulled}
 use Rattle.x25_station.specs.Station.{Station, new_station}
 use Rattle.x25_station.specs.Step.{Step, Outcome, Did, Refused, receives, commands, fires}
 use Rattle.x25_station.specs.Timer.{runs, timer_at, timer_pulled}
 
--- octets come, the user commands, or gives something beside the packet of a call, or T1 fires
+-- octets come, the user commands, or T1 fires
 pub data Event : Type 0 where
   Comes : (octets : List ℕ) → Event
   Asks : (command : Command) → Event
-  Gives : (given : PlainGiven) → (request : LayerRequest) → Event
   Fires : Event
 
 abbrev pub outcome : Settings → Station → Event → Outcome
 outcome c s (Comes octets) = Did (receives c s octets)
 outcome c s (Asks command) = commands c s command
-outcome c s (Gives given request) = gives_said c s given request
 outcome c s Fires = fires c s
 
 abbrev pub is_firing : Event → Bool
 is_firing (Comes octets) = false
 is_firing (Asks command) = false
-is_firing (Gives given request) = false
 is_firing Fires = true
 
 abbrev pub timer : Station → Event → Outcome → Timer

@@ -3,13 +3,13 @@
 use Rattle.std.specs.Prelude.{◌≡◌, ℕ, ◌+◌, ◌≤◌, true, false}
 use Rattle.x25_link.specs.declared.phase.Phase.{Phase}
 use Rattle.x25_link.specs.declared.phase.Phase.TheVariants.{Down, Waiting, Up, Closed}
-use Rattle.x25_station.specs.Command.{Command, Requests, Connects, Disconnects, Probes, Relinks}
+use Rattle.x25_station.specs.Command.{Command, Requests, RequestsWith, Connects, Disconnects, Probes, Relinks}
 use Rattle.x25_station.specs.Config.{Settings}
 use Rattle.x25_station.specs.Station.{Station}
 use Rattle.x25_station.specs.Step.{Outcome, Did, Refused}
 use Rattle.x25_station.specs.Timer.{runs, tells_link}
 use Rattle.x25_station.specs.laws.TimerLaw as timer
-use Rattle.x25_station.specs.laws.TimerLaw.{Comes, Asks, Gives, Fires}
+use Rattle.x25_station.specs.laws.TimerLaw.{Comes, Asks, Fires}
 
 -- the phases in which T1 may run
 abbrev pub MayAsk : Phase → Type 0
@@ -22,12 +22,12 @@ MayAsk Closed = ⊥
 abbrev pub IsUnheard : Station → timer.Event → Type 0
 IsUnheard s (Comes octets) = s.link.phase ≡ Waiting
 IsUnheard s (Asks command) = Unit {0}
-IsUnheard s (Gives given request) = Unit {0}
 IsUnheard s Fires = Unit {0}
 
 -- a firing and a poll take one try
 abbrev pub tries_for : Command → ℕ
 tries_for (Requests request) = 0
+tries_for (RequestsWith given request) = 0
 tries_for Connects = 0
 tries_for Disconnects = 0
 tries_for Probes = 1
@@ -36,7 +36,6 @@ tries_for Relinks = 0
 abbrev pub takes : timer.Event → ℕ
 takes (Comes octets) = 0
 takes (Asks command) = tries_for command
-takes (Gives given request) = 0
 takes Fires = 1
 
 -- T1 runs on, and runs behind a firing and a poll; no more is acknowledged; and so many tries are taken, of N2

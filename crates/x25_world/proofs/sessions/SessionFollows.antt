@@ -34,7 +34,7 @@ use Rattle.x25_world.proofs.sessions.SessionReaches.{Beginning, MayAsk, Sessions
 use Rattle.x25_world.proofs.sessions.SessionJoined.{HasMet, PairsAreInOrder, SessionsJoined}
 use Rattle.x25_world.specs.laws.LawsBelow.{SessionLaws}
 use Rattle.x25_world.proofs.sessions.SessionKnown.{nothing_in_order, own_readable}
-use Rattle.x25_world.proofs.sessions.SessionLinks.{SessionGoes, puts_go, PutsRead, puts_up}
+use Rattle.x25_world.proofs.sessions.SessionLinks.{SessionGoes, spelled, puts_spelled, spelled_back, back_read, back_octets, puts_go, PutsRead, puts_up}
 use Rattle.x25_world.proofs.sessions.SessionGoes.{IsSilent, IsPrefix, not_in, rests, begins_session}
 
 -- the command that a step is of, if it is one of the link
@@ -155,6 +155,7 @@ silent_puts cfg end l k none not_up =
     let c = settings_from end cfg in
     let nothing = silent (view_of (link_settings c) k.side.near) (layer_settings c) c.wide l k.packet k.notes.down k.notes.up none not_up in
     record {
+      handed = [];
       packets = [];
       link = record { accepted = tt; link = ap (λ (ps : List PlainPacket). (all_put (link_settings c) ps k.side).near) nothing; out = ap (λ (ps : List PlainPacket). (all_put (link_settings c) ps k.side).out) nothing };
       readable = tt;
@@ -176,11 +177,14 @@ module _ {since : Beginning} (laws : SessionLaws) (cfg : Cfg) (fine : IsConfigur
       (nothing_in_order cfg end h.trace n m (subst TakeNothing (sym (h.near.later n (omega arith)).moves) tt) (subst TakeNothing (sym (h.far.later m (omega arith)).moves) tt)) h.octets)
 
   pub up_puts : (k : LinkStep) → Tells w.near.link k → k.notes.up ≡ true → PutsRead cfg end k.side (follows (settings_from end cfg) w.near.layer k)
-  up_puts k tells up = record {
-    packets = restart (restart_cause end) 0 ∷ [];
-    link = (laws.stations.up (settings_from end cfg) w.near.layer k up (tells.fresh_up up)).link;
-    readable = restart_readable;
-  }
+  up_puts k tells up =
+      let packets : List PlainPacket = restart (restart_cause end) 0 ∷ [] in
+      record {
+        handed = spelled packets;
+        packets = packets;
+        link = puts_spelled (settings_from end cfg) k.side packets (follows (settings_from end cfg) w.near.layer k) (laws.stations.up (settings_from end cfg) w.near.layer k up (tells.fresh_up up)).link;
+        readable = spelled_back cfg packets restart_readable;
+      }
 
 -- ---- the link's step, at `v`, and the layer's
 
@@ -229,21 +233,24 @@ module _ {since : Beginning} (laws : SessionLaws) (cfg : Cfg) (fine : IsConfigur
       let step : Step = follows (settings_from end cfg) w.near.layer k in
       let u = laws.stations.up (settings_from end cfg) w.near.layer k up (tells.fresh_up up) in
       let packets : List PlainPacket = restart (restart_cause end) 0 ∷ [] in
-      let r = puts_go cfg end h.links v (suc h.links.near.begun) packets k.side [] [] back v.met asks reach g u.link.accepted (restart_readable laws cfg fine end w h) in
-      let still : is_up step.near.link.phase ≡ true = ap (λ (s : LinkStation). is_up s.phase) u.link.link ∙ puts_up laws.stations.put_tells c packets k.side (ap (λ (s : LinkStation). is_up s.phase) (tells.fresh_up up)) in
+      let handed = spelled packets in
+      let readable = spelled_back cfg packets (restart_readable laws cfg fine end w h) in
+      let p = puts_spelled (settings_from end cfg) k.side packets step u.link in
+      let r = puts_go cfg end h.links v (suc h.links.near.begun) handed packets k.side [] [] back v.met asks reach g p.accepted readable in
+      let still : is_up step.near.link.phase ≡ true = ap (λ (s : LinkStation). is_up s.phase) p.link ∙ puts_up laws.stations.put_tells c handed k.side (ap (λ (s : LinkStation). is_up s.phase) (tells.fresh_up up)) in
       let begins : IsPrefix h.links.near.begun standing step.entries =
       subst (λ (es : List StationEntry). IsPrefix h.links.near.begun standing es) (sym (u.entries ∙ ap (λ (b : Bool). entries_noted (record { down = k.notes.down; up = b })) up)) (up_begins standing k.notes.down) in
       let known = known_sessions OnlyBegunHaveLists laws.begun cfg fine end h.links h.reach in
-      begins_session cfg end w h step back r.links v.met
+      begins_session cfg end w h step back r.links v.met handed (back_read cfg handed packets readable) (back_octets cfg handed packets readable)
       (record {
-        station = r.goes.station ∙ sym u.link.link;
+        station = r.goes.station ∙ sym p.link;
         begun = r.goes.begun;
         down = r.goes.down;
         up = r.goes.up;
         far = r.goes.far;
-        out = r.goes.out ∙ ap (λ (fs : List PlainFrame). octets_of h.links.out ++ map (spelling_of end) fs) (sym u.link.out);
+        out = r.goes.out ∙ ap (λ (fs : List PlainFrame). octets_of h.links.out ++ map (spelling_of end) fs) (sym p.out);
         back = r.goes.back;
-        sent = r.goes.sent ∙ ap (λ (fs : List PlainFrame). h.links.sent ++ fs) (sym u.link.out);
+        sent = r.goes.sent ∙ ap (λ (fs : List PlainFrame). h.links.sent ++ fs) (sym p.out);
         met = r.goes.met;
       })
       begins known.near still u.layer kept r.reach pairs more

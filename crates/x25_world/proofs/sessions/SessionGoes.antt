@@ -26,7 +26,7 @@ use Rattle.x25_station.specs.laws.KeepLaw.{IsKept}
 use Rattle.x25_world.specs.World.{World, tapped, entered, after_step}
 use Rattle.x25_world.specs.laws.Claims.{entries_at, link_of}
 use Rattle.x25_world.specs.laws.Sessions.{Progress, none_begun, after_entries, is_in, session_from, first_of, met_by, meets}
-use Rattle.x25_world.proofs.Growing.{spelled, spelled_none, grown, AreOnTap, entries_more, entries_other, layer_append, notices_append, on_tap}
+use Rattle.x25_world.proofs.Growing.{all_read, as_read, none_read, nothing_read, grown, AllAreOctets, all_octets_append, AreOnTap, entries_more, entries_other, layer_append, notices_append, on_tap}
 use Rattle.x25_world.proofs.Known.{true_false}
 use Rattle.x25_world.proofs.sessions.SessionTrace.{layer_of, Done, moved, own_in, own, own_more, own_same, own_other, own_goes, same_number, other_number, TakeNothing, nothing_append, BringOctets, octets_append}
 use Rattle.x25_world.proofs.sessions.SessionReaches.{Beginning, SessionsReach}
@@ -96,21 +96,22 @@ pub record OwnGoes (e f : layer.End) (l : Layer) (put lifted : List PlainPacket)
   pub entries : f.entries ≡ e.entries ++ layer_entries es
   pub told : f.told ≡ e.told ++ layer_notices es
 
-session_goes : (e f : layer.End) (l : Layer) (put lifted : List PlainPacket) (es before all : List StationEntry) (down up down₂ up₂ : List (List ℕ)) → OwnGoes e f l put lifted es → IsSession e down up before
-    → all ≡ before ++ es → down₂ ≡ down ++ spelled put → up₂ ≡ up ++ spelled lifted → IsSession f down₂ up₂ all
-session_goes e f l put lifted es before all down up down₂ up₂ o h is more_down more_up = record {
-  down = grown down down₂ e.given f.given put h.down more_down o.given;
-  up = grown up up₂ e.taken f.taken lifted h.up more_up o.taken;
+session_goes : (cfg : Cfg) (e f : layer.End) (l : Layer) (put lifted : List PlainPacket) (handed came : List (List ℕ)) (es before all : List StationEntry) (down up down₂ up₂ : List (List ℕ)) → OwnGoes e f l put lifted es
+    → IsSession cfg e down up before → all_read cfg handed ≡ as_read put → all_read cfg came ≡ as_read lifted
+    → all ≡ before ++ es → down₂ ≡ down ++ handed → up₂ ≡ up ++ came → IsSession cfg f down₂ up₂ all
+session_goes cfg e f l put lifted handed came es before all down up down₂ up₂ o h puts took is more_down more_up = record {
+  down = grown cfg down down₂ handed e.given f.given put h.down more_down puts o.given;
+  up = grown cfg up up₂ came e.taken f.taken lifted h.up more_up took o.taken;
   entries = o.entries ∙ ap (λ (l : List Entry). l ++ layer_entries es) h.entries ∙ sym (layer_append before es) ∙ ap layer_entries (sym is);
   told = o.told ∙ ap (λ (l : List LayerNotice). l ++ layer_notices es) h.told ∙ sym (notices_append before es) ∙ ap layer_notices (sym is);
 }
 
 -- with nothing put or taken, and entries that aren't the layer's
-session_rests : (e f : layer.End) (before all more : List StationEntry) (down up down₂ up₂ : List (List ℕ)) → f ≡ e → IsSession e down up before → all ≡ before ++ more → layer_entries more ≡ []
-    → layer_notices more ≡ [] → down₂ ≡ down → up₂ ≡ up → IsSession f down₂ up₂ all
-session_rests e f before all more down up down₂ up₂ same h is none untold same_down same_up = record {
-  down = same_down ∙ h.down ∙ ap (λ (x : layer.End). spelled x.given) (sym same);
-  up = same_up ∙ h.up ∙ ap (λ (x : layer.End). spelled x.taken) (sym same);
+session_rests : (cfg : Cfg) (e f : layer.End) (before all more : List StationEntry) (down up down₂ up₂ : List (List ℕ)) → f ≡ e → IsSession cfg e down up before → all ≡ before ++ more → layer_entries more ≡ []
+    → layer_notices more ≡ [] → down₂ ≡ down → up₂ ≡ up → IsSession cfg f down₂ up₂ all
+session_rests cfg e f before all more down up down₂ up₂ same h is none untold same_down same_up = record {
+  down = ap (all_read cfg) same_down ∙ h.down ∙ ap (λ (x : layer.End). as_read x.given) (sym same);
+  up = ap (all_read cfg) same_up ∙ h.up ∙ ap (λ (x : layer.End). as_read x.taken) (sym same);
   entries = ap (λ (x : layer.End). x.entries) same ∙ h.entries ∙ sym (append-nil (layer_entries before)) ∙ ap (λ (l : List Entry). layer_entries before ++ l) (sym none)
       ∙ sym (layer_append before more) ∙ ap layer_entries (sym is);
   told = ap (λ (x : layer.End). x.told) same ∙ h.told ∙ sym (append-nil (layer_notices before)) ∙ ap (λ (l : List LayerNotice). layer_notices before ++ l) (sym untold)
@@ -131,7 +132,8 @@ end_stays cfg end s k t t₂ es same h = record {
   progress = h.progress;
   first = h.first;
   before = h.before;
-  sessions = λ n low high. subst (λ (e : layer.End). IsSession e (k.down n) (k.up n) (session_from n none_begun es)) (sym (own_stays n)) (h.sessions n low high);
+  sessions = λ n low high. subst (λ (e : layer.End). IsSession cfg e (k.down n) (k.up n) (session_from n none_begun es)) (sym (own_stays n)) (h.sessions n low high);
+  octets = h.octets;
   later = λ n more. (let nothing = h.later n more in record { moves = same n ∙ nothing.moves; entries = nothing.entries });
   now = λ up. subst (λ (e : layer.End). IsLayer e s) (sym (own_stays k.begun)) (h.now up);
   alone = λ n none. subst TakeNothing (sym (same n)) (h.alone n none);
@@ -230,7 +232,8 @@ module _ {since : Beginning} (cfg : Cfg) (end : Role) (w : World) (h : SessionsJ
 
   -- ---- in the session that stands
 
-  module _ (moves : List OwnMove) (packets lifted : List PlainPacket) (g : SessionGoes (link_of cfg end) h.links v session step.near.link step.out (spelled packets) (spelled lifted) back met)
+  module _ (moves : List OwnMove) (packets lifted : List PlainPacket) (handed came : List (List ℕ)) (puts : all_read cfg handed ≡ as_read packets) (took : all_read cfg came ≡ as_read lifted) (in_octets : AllAreOctets handed)
+      (g : SessionGoes (link_of cfg end) h.links v session step.near.link step.out handed came back met)
       (o : OwnGoes (own cfg end session h.trace) (own_run (layer_of cfg end) moves (own cfg end session h.trace)) step.near.layer packets lifted step.entries) (up : is_up w.near.link.phase ≡ true)
       (still : is_up step.near.link.phase ≡ true) (plain : ArePlain step.entries) (kept : IsKept step.near) where
     abbrev trace_on : List Done
@@ -242,30 +245,40 @@ module _ {since : Beginning} (cfg : Cfg) (end : Role) (w : World) (h : SessionsJ
     own_elsewhere : (n : ℕ) → (n ≡ session → ⊥) → own cfg end n trace_on ≡ own cfg end n h.trace
     own_elsewhere n differs = ap (λ (l : List OwnMove). own_run (layer_of cfg end) l (started (goes_up (layer_of cfg end)))) (own_same end n session h.trace moves differs)
 
-    up_here : v.near.up session ≡ h.links.near.up session ++ spelled lifted
-    up_here = g.up session ∙ here_extended h.links.near.up session (spelled lifted)
+    up_here : v.near.up session ≡ h.links.near.up session ++ came
+    up_here = g.up session ∙ here_extended h.links.near.up session came
 
     up_elsewhere : (n : ℕ) → (n ≡ session → ⊥) → v.near.up n ≡ h.links.near.up n
-    up_elsewhere n differs = g.up n ∙ elsewhere_extended h.links.near.up n session (spelled lifted) differs
+    up_elsewhere n differs = g.up n ∙ elsewhere_extended h.links.near.up n session came differs
+
+    down_elsewhere : (n : ℕ) → (n ≡ session → ⊥) → v.near.down n ≡ h.links.near.down n
+    down_elsewhere n differs = g.down n ∙ elsewhere_extended h.links.near.down n session handed differs
 
     abbrev IsSessionOn : ℕ → Type 0
-    IsSessionOn n = IsSession (own cfg end n trace_on) (v.near.down n) (v.near.up n) (session_from n none_begun (told_before ++ step.entries))
+    IsSessionOn n = IsSession cfg (own cfg end n trace_on) (v.near.down n) (v.near.up n) (session_from n none_begun (told_before ++ step.entries))
 
     session_here : IsSessionOn session
     session_here =
-        session_goes (own cfg end session h.trace) (own cfg end session trace_on) step.near.layer packets lifted step.entries (session_from session none_begun told_before)
+        session_goes cfg (own cfg end session h.trace) (own cfg end session trace_on) step.near.layer packets lifted handed came step.entries (session_from session none_begun told_before)
         (session_from session none_begun (told_before ++ step.entries)) (h.links.near.down session) (h.links.near.up session) (v.near.down session) (v.near.up session)
         (subst (λ (e : layer.End). OwnGoes (own cfg end session h.trace) e step.near.layer packets lifted step.entries) (sym (own_goes cfg end session h.trace moves)) o)
-        (h.near.sessions session (h.near.first up) (omega arith))
+        (h.near.sessions session (h.near.first up) (omega arith)) puts took
         (session_more session ∙ ap (λ (l : List StationEntry). session_from session none_begun told_before ++ l) (plain_here session standing step.entries plain stands_here))
-        (g.down session ∙ here_extended h.links.near.down session (spelled packets)) up_here
+        (g.down session ∙ here_extended h.links.near.down session handed) up_here
 
     session_elsewhere : (n : ℕ) → 1 ≤ n → n ≤ session → (n ≡ session → ⊥) → IsSessionOn n
     session_elsewhere n low high differs =
-        session_rests (own cfg end n h.trace) (own cfg end n trace_on) (session_from n none_begun told_before) (session_from n none_begun (told_before ++ step.entries)) []
+        session_rests cfg (own cfg end n h.trace) (own cfg end n trace_on) (session_from n none_begun told_before) (session_from n none_begun (told_before ++ step.entries)) []
         (h.links.near.down n) (h.links.near.up n) (v.near.down n) (v.near.up n) (own_elsewhere n differs) (h.near.sessions n low high)
         (session_more n ∙ ap (λ (l : List StationEntry). session_from n none_begun told_before ++ l) (plain_elsewhere n standing step.entries plain (not_in n standing differs)))
-        refl refl (g.down n ∙ elsewhere_extended h.links.near.down n session (spelled packets) differs) (up_elsewhere n differs)
+        refl refl (down_elsewhere n differs) (up_elsewhere n differs)
+
+    -- all that was handed down is octets
+    down_octets : (n : ℕ) → AllAreOctets (v.near.down n)
+    down_octets n = same_or_not n session
+        (λ (is : n ≡ session). subst (λ (k : ℕ). AllAreOctets (v.near.down k)) (sym is)
+        (subst AllAreOctets (sym (g.down session ∙ here_extended h.links.near.down session handed)) (all_octets_append (h.links.near.down session) handed (h.near.octets session) in_octets)))
+        (λ (differs : n ≡ session → ⊥). subst AllAreOctets (sym (down_elsewhere n differs)) (h.near.octets n))
 
     nothing_taken : (lifted ≡ [] → TakeNothing moves) → (n : ℕ) → v.near.up n ≡ [] → TakeNothing (own_in end n trace_on)
     nothing_taken alone n none = same_or_not n session here elsewhere
@@ -277,8 +290,8 @@ module _ {since : Beginning} (cfg : Cfg) (end : Role) (w : World) (h : SessionsJ
         at_session none =
             let both = sym up_here ∙ none in
             subst TakeNothing (sym (own_more end session h.trace moves))
-            (nothing_append (own_in end session h.trace) moves (h.near.alone session (nothing_of (h.links.near.up session) (spelled lifted) both))
-            (alone (spelled_none lifted (none_behind (h.links.near.up session) (spelled lifted) both))))
+            (nothing_append (own_in end session h.trace) moves (h.near.alone session (nothing_of (h.links.near.up session) came both))
+            (alone (none_read lifted (sym took ∙ ap (all_read cfg) (none_behind (h.links.near.up session) came both)))))
 
         here : n ≡ session → TakeNothing (own_in end n trace_on)
         here is = subst (λ (k : ℕ). TakeNothing (own_in end k trace_on)) (sym is) (at_session (ap v.near.up (sym is) ∙ none))
@@ -290,11 +303,12 @@ module _ {since : Beginning} (cfg : Cfg) (end : Role) (w : World) (h : SessionsJ
       progress = progress_more ∙ plain_progress standing step.entries plain ∙ ap₂ (λ (n : ℕ) (b : Bool). record { begun = n; stands = b }) (sym g.begun) (up ∙ sym still);
       first = λ _. subst (λ (n : ℕ). 1 ≤ n) (sym g.begun) (h.near.first up);
       before = (
-        g.down 0 ∙ elsewhere_extended h.links.near.down 0 session (spelled packets) none ∙ h.near.before.0,
+        down_elsewhere 0 none ∙ h.near.before.0,
         up_elsewhere 0 none ∙ h.near.before.1,
       );
       sessions = λ n low high. (let most = subst (λ (m : ℕ). n ≤ m) g.begun high in
           same_or_not n session (λ (is : n ≡ session). subst IsSessionOn (sym is) session_here) (λ (differs : n ≡ session → ⊥). session_elsewhere n low most differs));
+      octets = down_octets;
       later = λ n more. (let above = subst (λ (m : ℕ). m < n) g.begun more in
           let differs = over n above in
           let nothing = h.near.later n above in
@@ -337,9 +351,9 @@ module _ {since : Beginning} (cfg : Cfg) (end : Role) (w : World) (h : SessionsJ
         far_begun = ap (λ (p : Progress). p.begun) h.far.progress
 
         here : h.links.near.up session ≡ [] → ((v.near.up session ≡ []) × (found session ≡ None)) ⊎ Meets HasMetOn session (found session)
-        here none = elim (news (spelled_none (own cfg end session h.trace).taken (sym (h.near.sessions session (h.near.first up) (omega arith)).up ∙ none))) [
+        here none = elim (news (none_read (own cfg end session h.trace).taken (sym (h.near.sessions session (h.near.first up) (omega arith)).up ∙ ap (all_read cfg) none))) [
           | inl still ↦ inl (
-            up_here ∙ ap₂ (λ (xs : List (List ℕ)) (ps : List PlainPacket). xs ++ spelled ps) none still.0,
+            up_here ∙ ap₂ (λ (xs ys : List (List ℕ)). xs ++ ys) none (nothing_read cfg came (took ∙ ap as_read still.0)),
             none_met session standing (after_entries none_begun told_there) step.entries still.1,
           )
           | inr new ↦ inr (record {
@@ -383,9 +397,10 @@ module _ {since : Beginning} (cfg : Cfg) (end : Role) (w : World) (h : SessionsJ
       first = λ still. subst (λ (n : ℕ). 1 ≤ n) (sym g.begun) (h.near.first (layer_stays still).0);
       before = (down_same 0 ∙ h.near.before.0, up_same 0 ∙ h.near.before.1);
       sessions = λ n low high.
-          session_rests (own cfg end n h.trace) (own cfg end n h.trace) (session_from n none_begun told_before) (session_from n none_begun (told_before ++ step.entries)) (session_from n standing step.entries)
+          session_rests cfg (own cfg end n h.trace) (own cfg end n h.trace) (session_from n none_begun told_before) (session_from n none_begun (told_before ++ step.entries)) (session_from n standing step.entries)
           (h.links.near.down n) (h.links.near.up n) (v.near.down n) (v.near.up n) refl (h.near.sessions n low (subst (λ (m : ℕ). n ≤ m) g.begun high)) (session_more n) (silent.entries n) (silent.told n)
           (down_same n) (up_same n);
+      octets = λ n. subst AllAreOctets (sym (down_same n)) (h.near.octets n);
       later = λ n more. (let above = subst (λ (m : ℕ). m < n) g.begun more in
           let nothing = h.near.later n above in
           record { moves = nothing.moves; entries = session_more n ∙ ap₂ (λ (a b : List StationEntry). a ++ b) nothing.entries (silent.later n (over n above)) });
@@ -410,7 +425,8 @@ module _ {since : Beginning} (cfg : Cfg) (end : Role) (w : World) (h : SessionsJ
 
   -- ---- as a session begins
 
-  module _ (g : SessionGoes (link_of cfg end) h.links v (suc session) step.near.link step.out (spelled (restart (restart_cause end) 0 ∷ [])) [] back met)
+  module _ (handed : List (List ℕ)) (puts : all_read cfg handed ≡ as_read (restart (restart_cause end) 0 ∷ [])) (in_octets : AllAreOctets handed)
+      (g : SessionGoes (link_of cfg end) h.links v (suc session) step.near.link step.out handed [] back met)
       (begins : IsPrefix session standing step.entries) (fresh : (n : ℕ) → session < n → (h.links.near.down n ≡ []) × (h.links.near.up n ≡ [])) (still : is_up step.near.link.phase ≡ true)
       (layer_begins : step.near.layer ≡ (goes_up (layer_of cfg end)).next) (kept : IsKept step.near) where
     abbrev the_next : ℕ
@@ -420,7 +436,14 @@ module _ {since : Beginning} (cfg : Cfg) (end : Role) (w : World) (h : SessionsJ
     begun_up_same n = g.up n ∙ extended_none h.links.near.up the_next n
 
     begun_down_same : (n : ℕ) → (n ≡ the_next → ⊥) → v.near.down n ≡ h.links.near.down n
-    begun_down_same n differs = g.down n ∙ elsewhere_extended h.links.near.down n the_next (spelled (restart (restart_cause end) 0 ∷ [])) differs
+    begun_down_same n differs = g.down n ∙ elsewhere_extended h.links.near.down n the_next handed differs
+
+    begun_down_here : v.near.down the_next ≡ handed
+    begun_down_here = g.down the_next ∙ here_extended h.links.near.down the_next handed ∙ ap (λ (l : List (List ℕ)). l ++ handed) (fresh the_next (omega arith)).0
+
+    begun_octets : (n : ℕ) → AllAreOctets (v.near.down n)
+    begun_octets n = same_or_not n the_next (λ (is : n ≡ the_next). subst (λ (k : ℕ). AllAreOctets (v.near.down k)) (sym is) (subst AllAreOctets (sym begun_down_here) in_octets))
+        (λ (differs : n ≡ the_next → ⊥). subst AllAreOctets (sym (begun_down_same n differs)) (h.near.octets n))
 
     none_moved : own_in end the_next h.trace ≡ []
     none_moved = (h.near.later the_next (omega arith)).moves
@@ -429,22 +452,21 @@ module _ {since : Beginning} (cfg : Cfg) (end : Role) (w : World) (h : SessionsJ
     own_afresh = ap (λ (l : List OwnMove). own_run (layer_of cfg end) l (started (goes_up (layer_of cfg end)))) none_moved
 
     abbrev IsSessionBegun : ℕ → Type 0
-    IsSessionBegun n = IsSession (own cfg end n h.trace) (v.near.down n) (v.near.up n) (session_from n none_begun (told_before ++ step.entries))
+    IsSessionBegun n = IsSession cfg (own cfg end n h.trace) (v.near.down n) (v.near.up n) (session_from n none_begun (told_before ++ step.entries))
 
     next_session : IsSessionBegun the_next
     next_session =
         let nothing = fresh the_next (omega arith) in
         let all : session_from the_next none_begun (told_before ++ step.entries) ≡ session_from the_next standing step.entries =
         session_more the_next ∙ ap (λ (l : List StationEntry). l ++ session_from the_next standing step.entries) (h.near.later the_next (omega arith)).entries in
-        subst (λ (e : layer.End). IsSession e (v.near.down the_next) (v.near.up the_next) (session_from the_next none_begun (told_before ++ step.entries))) (sym own_afresh) (record {
-          down = g.down the_next ∙ here_extended h.links.near.down the_next (spelled (restart (restart_cause end) 0 ∷ []))
-              ∙ ap (λ (l : List (List ℕ)). l ++ spelled (restart (restart_cause end) 0 ∷ [])) nothing.0 ∙ by_role end;
-          up = begun_up_same the_next ∙ nothing.1;
+        subst (λ (e : layer.End). IsSession cfg e (v.near.down the_next) (v.near.up the_next) (session_from the_next none_begun (told_before ++ step.entries))) (sym own_afresh) (record {
+          down = ap (all_read cfg) begun_down_here ∙ puts ∙ by_role end;
+          up = ap (all_read cfg) (begun_up_same the_next ∙ nothing.1);
           entries = sym (ap layer_entries all ∙ begins.entries the_next);
           told = sym (ap layer_notices all ∙ begins.told the_next);
         })
       where
-        by_role : (end : Role) → spelled (restart (restart_cause end) 0 ∷ []) ≡ spelled (started (goes_up (layer_of cfg end))).given
+        by_role : (end : Role) → as_read (restart (restart_cause end) 0 ∷ []) ≡ as_read (started (goes_up (layer_of cfg end))).given
         by_role Dte = refl
         by_role Dce = refl
 
@@ -457,6 +479,7 @@ module _ {since : Beginning} (cfg : Cfg) (end : Role) (w : World) (h : SessionsJ
       before = (begun_down_same 0 none ∙ h.near.before.0, begun_up_same 0 ∙ h.near.before.1);
       sessions = λ n low high. same_or_not n the_next (λ (is : n ≡ the_next). subst IsSessionBegun (sym is) next_session)
           (λ (differs : n ≡ the_next → ⊥). session_before n low (below n (subst (λ (m : ℕ). n ≤ m) g.begun high) differs) differs);
+      octets = begun_octets;
       later = λ n more. (let above = subst (λ (m : ℕ). m < n) g.begun more in
           let nothing = h.near.later n (omega (arith, above)) in
           record { moves = nothing.moves; entries = session_more n ∙ ap₂ (λ (a b : List StationEntry). a ++ b) nothing.entries (begins.others n (over n above)) });
@@ -479,7 +502,7 @@ module _ {since : Beginning} (cfg : Cfg) (end : Role) (w : World) (h : SessionsJ
 
         session_before : (n : ℕ) → 1 ≤ n → n ≤ session → (n ≡ the_next → ⊥) → IsSessionBegun n
         session_before n low high differs =
-            session_rests (own cfg end n h.trace) (own cfg end n h.trace) (session_from n none_begun told_before) (session_from n none_begun (told_before ++ step.entries)) (session_from n standing step.entries)
+            session_rests cfg (own cfg end n h.trace) (own cfg end n h.trace) (session_from n none_begun told_before) (session_from n none_begun (told_before ++ step.entries)) (session_from n standing step.entries)
             (h.links.near.down n) (h.links.near.up n) (v.near.down n) (v.near.up n) refl (h.near.sessions n low high) (session_more n) (begins.entries n) (begins.told n) (begun_down_same n differs) (begun_up_same n)
 
     pub begins_session : SessionsReach since cfg end v → PairsAreInOrder cfg end h.trace met → ((n m : ℕ) → HasMet n m h.links.met → HasMet n m met) → SessionsJoined since cfg end (after_step (settings_from end cfg) w back step)

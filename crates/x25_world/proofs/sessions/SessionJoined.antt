@@ -18,7 +18,7 @@ use Rattle.x25_station.specs.laws.KeepLaw.{IsKept}
 use Rattle.x25_world.specs.World.{World, swapped}
 use Rattle.x25_world.specs.laws.Claims.{entries_at}
 use Rattle.x25_world.specs.laws.Sessions.{none_begun, after_entries, session_from, meets}
-use Rattle.x25_world.proofs.Growing.{spelled, AreOnTap}
+use Rattle.x25_world.proofs.Growing.{all_read, as_read, AllAreOctets, AreOnTap}
 use Rattle.x25_world.proofs.sessions.SessionTrace.{Done, own_in, own, pair_at, pair_turned, TakeNothing, BringOctets}
 use Rattle.x25_world.proofs.sessions.SessionReaches.{Beginning, SessionsReach, reach_swapped}
 
@@ -29,10 +29,10 @@ pub record HaveAll (some all : List StationEntry) : Type 0 where
   pub entries : layer_entries some ≡ layer_entries all
   pub told : layer_notices some ≡ layer_notices all
 
--- the layer's end in a session, the packets that its link was handed down and handed up there, and the entries
-pub record IsSession (e : layer.End) (handed lifted : List (List ℕ)) (es : List StationEntry) : Type 0 where
-  pub down : handed ≡ spelled e.given
-  pub up : lifted ≡ spelled e.taken
+-- the layer's end in a session, the octets that its link was handed down and handed up there, and the entries
+pub record IsSession (cfg : Cfg) (e : layer.End) (handed lifted : List (List ℕ)) (es : List StationEntry) : Type 0 where
+  pub down : all_read cfg handed ≡ as_read e.given
+  pub up : all_read cfg lifted ≡ as_read e.taken
   pub entries : e.entries ≡ layer_entries es
   pub told : e.told ≡ layer_notices es
 
@@ -54,7 +54,8 @@ pub record IsEnd (cfg : Cfg) (end : Role) (s : Station) (k : SessionEnd) (trace 
   pub progress : after_entries none_begun es ≡ record { begun = k.begun; stands = is_up s.link.phase }
   pub first : is_up s.link.phase ≡ true → 1 ≤ k.begun
   pub before : (k.down 0 ≡ []) × (k.up 0 ≡ [])
-  pub sessions : (n : ℕ) → 1 ≤ n → n ≤ k.begun → IsSession (own cfg end n trace) (k.down n) (k.up n) (session_from n none_begun es)
+  pub sessions : (n : ℕ) → 1 ≤ n → n ≤ k.begun → IsSession cfg (own cfg end n trace) (k.down n) (k.up n) (session_from n none_begun es)
+  pub octets : (n : ℕ) → AllAreOctets (k.down n)
   pub later : (n : ℕ) → k.begun < n → HasNothing end n trace es
   pub now : is_up s.link.phase ≡ true → IsLayer (own cfg end k.begun trace) s
   -- where nothing was handed up, the layer took nothing

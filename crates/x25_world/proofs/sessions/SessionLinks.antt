@@ -1,5 +1,5 @@
--- Of two links with their sessions: a step of the near end, and the packets that are handed down to it behind that.
-use Rattle.std.proofs.Common.{◌≡◌, ℕ, ◌==◌, ◌≤◌, List, [], ◌∷◌, ◌++◌, length, map, Bool, true, false, if◌then◌else◌, Option, None, option_to_list, refl, sym, ap, ap₂, ◌∙◌, subst, append_assoc, append-nil}
+-- Of two links with their sessions: a step of the near end, and the octets that are handed down to it behind that.
+use Rattle.std.proofs.Common.{◌≡◌, ℕ, ◌==◌, ◌≤◌, Result, Ok, List, [], ◌∷◌, ◌++◌, length, map, Bool, true, false, if◌then◌else◌, Option, None, option_to_list, refl, sym, ap, ap₂, ◌∙◌, subst, append_assoc, append-nil}
 use Rattle.std.proofs.lemmas.Bool.{le-leb}
 use Rattle.std.proofs.lemmas.List.{map-append}
 use Rattle.x25_bits.specs.declared.role.Role.{Role}
@@ -7,6 +7,10 @@ use Rattle.x25_frame.specs.Frame.{PlainFrame}
 use Rattle.x25_frame.specs.Spelling.{spelling_of}
 use Rattle.x25_packet.specs.Packet.{PlainPacket}
 use Rattle.x25_packet.specs.Spelling as packet
+use Rattle.x25_packet.specs.declared.error.PacketError.{PacketError}
+use Rattle.x25_wide.specs.Taking.{read_in}
+use Rattle.x25_given.specs.Given.{PlainGiven, may_give}
+use Rattle.x25_given.specs.Writing.{write}
 use Rattle.x25_link.specs.declared.phase.Reason.{Reason}
 use Rattle.x25_link.specs.Hearing.{Step as LinkStep, quiet}
 use Rattle.x25_link.specs.Station.{Settings as LinkSettings, LinkStation, Side, is_up}
@@ -16,13 +20,15 @@ use Rattle.x25_line.specs.laws.Sessions as links
 use Rattle.x25_line.specs.laws.Sessions.{SessionEnd, Meeting, Sessions, sent_in, extended, begun_by}
 use Rattle.x25_line.specs.laws.SessionClaims.{octets_of}
 use Rattle.x25_station.specs.declared.config.Cfg.{Cfg}
-use Rattle.x25_station.specs.Config.{settings_from}
-use Rattle.x25_station.specs.Station.{put_on, all_put}
+use Rattle.x25_station.specs.Config.{Settings, settings_from, link_settings, longest_packet}
+use Rattle.x25_station.specs.Giving.{all_given}
+use Rattle.x25_station.specs.Station.{behind, put_on, all_put}
 use Rattle.x25_station.specs.Step.{Step}
+use Rattle.x25_station.specs.laws.GivenLaw.{AreTaken, PutsGiven, GivesOctets, GivenIsRead}
 use Rattle.x25_station.specs.laws.JoinLaw.{AreAccepted, PutsBehind}
-use Rattle.x25_station.specs.laws.ReadLaw.{AreReadable}
+use Rattle.x25_station.specs.laws.ReadLaw.{AreOctets, AreReadable}
 use Rattle.x25_world.specs.laws.Claims.{link_of}
-use Rattle.x25_world.proofs.Growing.{spelled}
+use Rattle.x25_world.proofs.Growing.{read_by, all_read, as_read, AllAreOctets}
 use Rattle.x25_world.proofs.OneLink.{octets_append, octets_sent}
 use Rattle.x25_world.proofs.sessions.SessionReaches.{Beginning, SessionsReach, MayAsk, sessions_act}
 use Rattle.x25_link.specs.laws.NoteLaw.{PutTells}
@@ -93,6 +99,103 @@ deliver_goes c v s octets back station line_is =
     (subst (λ (es : List links.Entry). SessionGoes c v (links.delivered c es v) (begun_by k.notes.up v.near.begun) k.side.near k.side.out [] (option_to_list k.packet) (octets_of f.others) (links.delivered c es v).met)
     (sym f.is) (own_step c v f.others _ k))))
 
+-- ---- octets that are handed down
+
+abbrev pub handed_on : LinkSettings → List ℕ → Side → Side
+handed_on c octets t = behind t (put_step c octets t.near).side
+
+-- one after another
+abbrev pub all_handed : LinkSettings → List (List ℕ) → Side → Side
+all_handed c [] t = t
+all_handed c (o ∷ os) t = all_handed c os (handed_on c o t)
+
+-- each is accepted
+abbrev pub AreHanded : LinkSettings → List (List ℕ) → Side → Type 0
+AreHanded c [] t = Unit {0}
+AreHanded c (o ∷ os) t = (put_refusal t.near ≡ None) × AreHanded c os (handed_on c o t)
+
+-- behind the link's own step to this side these octets are handed down, and all of the step's frames are those of the link
+pub record PutsOctets (c : Settings) (t : Side) (handed : List (List ℕ)) (step : Step) : Type 0 where
+  pub accepted : AreHanded (link_settings c) handed t
+  pub link : step.near.link ≡ (all_handed (link_settings c) handed t).near
+  pub out : step.out ≡ (all_handed (link_settings c) handed t).out
+
+-- the octets of packets
+abbrev pub spelled : List PlainPacket → List (List ℕ)
+spelled packets = map packet.spelling_of packets
+
+put_as_spelled : (c : LinkSettings) (packets : List PlainPacket) (t : Side) → all_put c packets t ≡ all_handed c (spelled packets) t
+put_as_spelled c [] t = refl
+put_as_spelled c (p ∷ packets) t = put_as_spelled c packets (put_on c p t)
+
+accepted_as_spelled : (c : LinkSettings) (packets : List PlainPacket) (t : Side) → AreAccepted c packets t → AreHanded c (spelled packets) t
+accepted_as_spelled c [] t h = tt
+accepted_as_spelled c (p ∷ packets) t h = (h.0, accepted_as_spelled c packets (put_on c p t) h.1)
+
+pub puts_spelled : (c : Settings) (t : Side) (packets : List PlainPacket) (step : Step) → PutsBehind c t packets step → PutsOctets c t (spelled packets) step
+puts_spelled c t packets step p =
+    let same = put_as_spelled (link_settings c) packets t in
+    record {
+      accepted = accepted_as_spelled (link_settings c) packets t p.accepted;
+      link = p.link ∙ ap (λ (u : Side). u.near) same;
+      out = p.out ∙ ap (λ (u : Side). u.out) same;
+    }
+
+-- the same where something is given beside the first
+abbrev pub spelled_with : PlainGiven → List PlainPacket → List (List ℕ)
+spelled_with g [] = []
+spelled_with g (p ∷ packets) = write g (packet.spelling_of p) ∷ spelled packets
+
+given_as_spelled : (c : LinkSettings) (g : PlainGiven) (packets : List PlainPacket) (t : Side) → all_given c g packets t ≡ all_handed c (spelled_with g packets) t
+given_as_spelled c g [] t = refl
+given_as_spelled c g (p ∷ packets) t = put_as_spelled c packets (handed_on c (write g (packet.spelling_of p)) t)
+
+taken_as_spelled : (c : LinkSettings) (g : PlainGiven) (packets : List PlainPacket) (t : Side) → AreTaken c g packets t → AreHanded c (spelled_with g packets) t
+taken_as_spelled c g [] t h = tt
+taken_as_spelled c g (p ∷ packets) t h = (h.0, accepted_as_spelled c packets (handed_on c (write g (packet.spelling_of p)) t) h.1)
+
+pub puts_spelled_with : (c : Settings) (g : PlainGiven) (t : Side) (packets : List PlainPacket) (step : Step) → PutsGiven c g t packets step → PutsOctets c t (spelled_with g packets) step
+puts_spelled_with c g t packets step p =
+    let same = given_as_spelled (link_settings c) g packets t in
+    record {
+      accepted = taken_as_spelled (link_settings c) g packets t p.accepted;
+      link = p.link ∙ ap (λ (u : Side). u.near) same;
+      out = p.out ∙ ap (λ (u : Side). u.out) same;
+    }
+
+-- ---- which the other end reads
+
+pub record IsReadBack (cfg : Cfg) (given : List ℕ) (p : PlainPacket) : Type 0 where
+  pub octets : AreOctets given
+  pub short : length given ≤ longest_packet
+  pub reads : read_by cfg given ≡ Ok p
+
+abbrev pub AreReadBack : Cfg → List (List ℕ) → List PlainPacket → Type 0
+AreReadBack cfg [] [] = Unit {0}
+AreReadBack cfg (o ∷ os) (p ∷ ps) = IsReadBack cfg o p × AreReadBack cfg os ps
+AreReadBack cfg os ps = ⊥
+
+pub spelled_back : (cfg : Cfg) (packets : List PlainPacket) → AreReadable cfg.long_data packets → AreReadBack cfg (spelled packets) packets
+spelled_back cfg [] h = tt
+spelled_back cfg (p ∷ packets) h = (record { octets = h.0.octets; short = h.0.short; reads = h.0.reads cfg.wide }, spelled_back cfg packets h.1)
+
+pub spelled_with_back : GivenIsRead → (cfg : Cfg) (g : PlainGiven) (packets : List PlainPacket) → cfg.wide ≡ true → may_give g ≡ true → GivesOctets g → AreReadable cfg.long_data packets → AreReadBack cfg (spelled_with g packets) packets
+spelled_with_back law cfg g [] wide allowed octets h = tt
+spelled_with_back law cfg g (p ∷ packets) wide allowed octets h =
+    let r = law cfg.long_data g p allowed octets h.0 in
+    let reads : read_by cfg (write g (packet.spelling_of p)) ≡ Ok p = ap (λ (b : Bool). read_in b (packet.longest_user cfg.long_data) (write g (packet.spelling_of p))) wide ∙ r.reads in
+    (record { octets = r.octets; short = r.short; reads = reads }, spelled_back cfg packets h.1)
+
+pub back_read : (cfg : Cfg) (os : List (List ℕ)) (ps : List PlainPacket) → AreReadBack cfg os ps → all_read cfg os ≡ as_read ps
+back_read cfg [] [] h = refl
+back_read cfg (o ∷ os) (p ∷ ps) h = ap₂ (λ (r : Result PlainPacket PacketError) (rs : List (Result PlainPacket PacketError)). r ∷ rs) h.0.reads (back_read cfg os ps h.1)
+back_read cfg os ps h = absurd h
+
+pub back_octets : (cfg : Cfg) (os : List (List ℕ)) (ps : List PlainPacket) → AreReadBack cfg os ps → AllAreOctets os
+back_octets cfg [] [] h = tt
+back_octets cfg (o ∷ os) (p ∷ ps) h = (h.0.octets, back_octets cfg os ps h.1)
+back_octets cfg os ps h = absurd h
+
 -- ---- a packet is accepted
 
 accepted : (c : LinkSettings) (packet : List ℕ) (v : Sessions) → length packet ≤ c.longest → put_refusal v.near.station ≡ None
@@ -130,15 +233,14 @@ stays_goes c v s back station line_is = record {
   met = refl;
 }
 
-put_goes : (c : LinkSettings) (v v₁ : Sessions) (session : ℕ) (t : Side) (down up back : List (List ℕ)) (met : List Meeting) (p : PlainPacket)
-    → length (packet.spelling_of p) ≤ c.longest → put_refusal t.near ≡ None → SessionGoes c v v₁ session t.near t.out down up back met
-    → SessionGoes c v (links.acts c (line.Put (packet.spelling_of p)) v₁) session (put_on c p t).near (put_on c p t).out (down ++ packet.spelling_of p ∷ []) up back met
-put_goes c v v₁ session t down up back met p short none g =
-    let o : List ℕ = packet.spelling_of p in
+put_goes : (c : LinkSettings) (v v₁ : Sessions) (session : ℕ) (t : Side) (down up back : List (List ℕ)) (met : List Meeting) (o : List ℕ)
+    → length o ≤ c.longest → put_refusal t.near ≡ None → SessionGoes c v v₁ session t.near t.out down up back met
+    → SessionGoes c v (links.acts c (line.Put o) v₁) session (handed_on c o t).near (handed_on c o t).out (down ++ o ∷ []) up back met
+put_goes c v v₁ session t down up back met o short none g =
     let there : put_refusal v₁.near.station ≡ None = ap put_refusal g.station ∙ none in
     let k : LinkStep = put_step c o v₁.near.station in
     let frames : k.side.out ≡ (put_step c o t.near).side.out = ap (λ (s : LinkStation). (put_step c o s).side.out) g.station in
-    subst (λ (x : Sessions). SessionGoes c v x session (put_on c p t).near (put_on c p t).out (down ++ o ∷ []) up back met) (sym (accepted c o v₁ short there)) (record {
+    subst (λ (x : Sessions). SessionGoes c v x session (handed_on c o t).near (handed_on c o t).out (down ++ o ∷ []) up back met) (sym (accepted c o v₁ short there)) (record {
       station = ap (λ (s : LinkStation). (put_step c o s).side.near) g.station;
       begun = g.begun;
       down = λ n. ap (λ (s : ℕ). extended v₁.near.down s (o ∷ []) n) g.begun ∙ extended_again v.near.down v₁.near.down session down (o ∷ []) g.down n;
@@ -176,56 +278,57 @@ two_steps_go c v near down t =
       met = refl;
     }
 
--- ---- packets one after another
+-- ---- one after another
 
-abbrev pub puts_of : List PlainPacket → List line.Act
+abbrev pub puts_of : List (List ℕ) → List line.Act
 puts_of [] = []
-puts_of (p ∷ packets) = line.Put (packet.spelling_of p) ∷ puts_of packets
+puts_of (o ∷ os) = line.Put o ∷ puts_of os
 
 abbrev pub all_act : LinkSettings → List line.Act → Sessions → Sessions
 all_act c [] v = v
 all_act c (act ∷ acts) v = all_act c acts (links.acts c act v)
 
-pub all_puts_go : (cfg : Cfg) (end : Role) (v v₁ : Sessions) (session : ℕ) (packets : List PlainPacket) (t : Side) (down up back : List (List ℕ)) (met : List Meeting) → (let c = link_of cfg end in SessionGoes c v v₁ session t.near t.out down up back met
-    → AreAccepted c packets t → AreReadable cfg.long_data packets
-    → SessionGoes c v (all_act c (puts_of packets) v₁) session (all_put c packets t).near (all_put c packets t).out (down ++ spelled packets) up back met)
-all_puts_go cfg end v v₁ session [] t down up back met g ok readable =
+pub all_puts_go : (cfg : Cfg) (end : Role) (v v₁ : Sessions) (session : ℕ) (os : List (List ℕ)) (ps : List PlainPacket) (t : Side) (down up back : List (List ℕ)) (met : List Meeting)
+    → (let c = link_of cfg end in SessionGoes c v v₁ session t.near t.out down up back met
+    → AreHanded c os t → AreReadBack cfg os ps
+    → SessionGoes c v (all_act c (puts_of os) v₁) session (all_handed c os t).near (all_handed c os t).out (down ++ os) up back met)
+all_puts_go cfg end v v₁ session [] [] t down up back met g ok readable =
     subst (λ (d : List (List ℕ)). SessionGoes (link_of cfg end) v v₁ session t.near t.out d up back met) (sym (append-nil down)) g
-all_puts_go cfg end v v₁ session (p ∷ packets) t down up back met g ok readable =
+all_puts_go cfg end v v₁ session (o ∷ os) (p ∷ ps) t down up back met g ok readable =
     let c : LinkSettings = link_of cfg end in
-    let o : List ℕ = packet.spelling_of p in
-    let u : Side = all_put c packets (put_on c p t) in
-    subst (λ (d : List (List ℕ)). SessionGoes c v (all_act c (puts_of packets) (links.acts c (line.Put o) v₁)) session u.near u.out d up back met) (append_assoc down (o ∷ []) (spelled packets))
-    (all_puts_go cfg end v (links.acts c (line.Put o) v₁) session packets (put_on c p t) (down ++ o ∷ []) up back met (put_goes c v v₁ session t down up back met p readable.0.short ok.0 g) ok.1 readable.1)
+    let u : Side = all_handed c os (handed_on c o t) in
+    subst (λ (d : List (List ℕ)). SessionGoes c v (all_act c (puts_of os) (links.acts c (line.Put o) v₁)) session u.near u.out d up back met) (append_assoc down (o ∷ []) os)
+    (all_puts_go cfg end v (links.acts c (line.Put o) v₁) session os ps (handed_on c o t) (down ++ o ∷ []) up back met (put_goes c v v₁ session t down up back met o readable.0.short ok.0 g) ok.1 readable.1)
+all_puts_go cfg end v v₁ session os ps t down up back met g ok readable = absurd readable
 
-all_puts_reach : {since : Beginning} (cfg : Cfg) (end : Role) (v : Sessions) (packets : List PlainPacket) → ((octets : List ℕ) → MayAsk since end (line.Put octets)) → SessionsReach since cfg end v
-    → SessionsReach since cfg end (all_act (link_of cfg end) (puts_of packets) v)
+all_puts_reach : {since : Beginning} (cfg : Cfg) (end : Role) (v : Sessions) (os : List (List ℕ)) → ((octets : List ℕ) → MayAsk since end (line.Put octets)) → SessionsReach since cfg end v
+    → SessionsReach since cfg end (all_act (link_of cfg end) (puts_of os) v)
 all_puts_reach cfg end v [] asks reach = reach
-all_puts_reach cfg end v (p ∷ packets) asks reach =
-    let o : List ℕ = packet.spelling_of p in
-    all_puts_reach cfg end (links.acts (link_of cfg end) (line.Put o) v) packets asks (sessions_act cfg end (line.Put o) v tt (λ off s same. tt) (asks o) reach)
+all_puts_reach cfg end v (o ∷ os) asks reach =
+    all_puts_reach cfg end (links.acts (link_of cfg end) (line.Put o) v) os asks (sessions_act cfg end (line.Put o) v tt (λ off s same. tt) (asks o) reach)
 
-pub record PutsGo (since : Beginning) (cfg : Cfg) (end : Role) (v : Sessions) (session : ℕ) (packets : List PlainPacket) (t : Side) (handed lifted left : List (List ℕ)) (met : List Meeting) : Type 0 where
+pub record PutsGo (since : Beginning) (cfg : Cfg) (end : Role) (v : Sessions) (session : ℕ) (os : List (List ℕ)) (t : Side) (handed lifted left : List (List ℕ)) (met : List Meeting) : Type 0 where
   pub links : Sessions
   pub reach : SessionsReach since cfg end links
-  pub goes : SessionGoes (link_of cfg end) v links session (all_put (link_of cfg end) packets t).near (all_put (link_of cfg end) packets t).out handed lifted left met
+  pub goes : SessionGoes (link_of cfg end) v links session (all_handed (link_of cfg end) os t).near (all_handed (link_of cfg end) os t).out handed lifted left met
 
-pub puts_go : {since : Beginning} (cfg : Cfg) (end : Role) (v v₁ : Sessions) (session : ℕ) (packets : List PlainPacket) (t : Side) (down up back : List (List ℕ)) (met : List Meeting)
-    → ((octets : List ℕ) → MayAsk since end (line.Put octets)) → SessionsReach since cfg end v₁ → SessionGoes (link_of cfg end) v v₁ session t.near t.out down up back met → AreAccepted (link_of cfg end) packets t → AreReadable cfg.long_data packets
-    → PutsGo since cfg end v session packets t (down ++ spelled packets) up back met
-puts_go cfg end v v₁ session packets t down up back met asks reach g ok readable = record {
-  links = all_act (link_of cfg end) (puts_of packets) v₁;
-  reach = all_puts_reach cfg end v₁ packets asks reach;
-  goes = all_puts_go cfg end v v₁ session packets t down up back met g ok readable;
+pub puts_go : {since : Beginning} (cfg : Cfg) (end : Role) (v v₁ : Sessions) (session : ℕ) (os : List (List ℕ)) (ps : List PlainPacket) (t : Side) (down up back : List (List ℕ)) (met : List Meeting)
+    → ((octets : List ℕ) → MayAsk since end (line.Put octets)) → SessionsReach since cfg end v₁ → SessionGoes (link_of cfg end) v v₁ session t.near t.out down up back met → AreHanded (link_of cfg end) os t → AreReadBack cfg os ps
+    → PutsGo since cfg end v session os t (down ++ os) up back met
+puts_go cfg end v v₁ session os ps t down up back met asks reach g ok readable = record {
+  links = all_act (link_of cfg end) (puts_of os) v₁;
+  reach = all_puts_reach cfg end v₁ os asks reach;
+  goes = all_puts_go cfg end v v₁ session os ps t down up back met g ok readable;
 }
 
--- Behind the link's own step to this side packets are put. The link accepts them, and the other end reads them.
+-- Behind the link's own step to this side octets are handed down. The link accepts them, and the other end reads them as packets.
 pub record PutsRead (cfg : Cfg) (end : Role) (t : Side) (step : Step) : Type 0 where
+  pub handed : List (List ℕ)
   pub packets : List PlainPacket
-  pub link : PutsBehind (settings_from end cfg) t packets step
-  pub readable : AreReadable cfg.long_data packets
+  pub link : PutsOctets (settings_from end cfg) t handed step
+  pub readable : AreReadBack cfg handed packets
 
--- a link that accepts packets stays up
-pub puts_up : PutTells → (c : LinkSettings) (packets : List PlainPacket) (t : Side) → is_up t.near.phase ≡ true → is_up (all_put c packets t).near.phase ≡ true
+-- a link that accepts them stays up
+pub puts_up : PutTells → (c : LinkSettings) (os : List (List ℕ)) (t : Side) → is_up t.near.phase ≡ true → is_up (all_handed c os t).near.phase ≡ true
 puts_up tells c [] t up = up
-puts_up tells c (p ∷ packets) t up = puts_up tells c packets (put_on c p t) ((tells c (packet.spelling_of p) t.near up).stays refl ∙ up)
+puts_up tells c (o ∷ os) t up = puts_up tells c os (handed_on c o t) ((tells c o t.near up).stays refl ∙ up)

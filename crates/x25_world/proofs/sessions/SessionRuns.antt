@@ -6,7 +6,7 @@ use Rattle.x25_line.specs.laws.Sessions.{Sessions, from_nothing}
 use Rattle.x25_station.specs.declared.config.Cfg.{Cfg}
 use Rattle.x25_station.specs.Config.{settings_from, config_refusal}
 use Rattle.x25_station.specs.Entry.{link_up}
-use Rattle.x25_station.specs.Command.{Requests, Connects, Disconnects, Probes, Relinks, said_by}
+use Rattle.x25_station.specs.Command.{Requests, RequestsWith, Connects, Disconnects, Probes, Relinks, said_by}
 use Rattle.x25_station.specs.Station.{new_station}
 use Rattle.x25_station.specs.laws.KeepLaw.{ConnectKeeps}
 use Rattle.x25_world.specs.World.{AtEnd, World, swapped, WorldOutcome, Happened, Declined, swapped_back, Act, Commands, Receives, Fires, Loses, Damages, acts, Event, happens, refusal_of, after, run, start, connected, established}
@@ -23,7 +23,7 @@ use Rattle.x25_world.proofs.sessions.SessionJoined.{IsEnd, SessionsJoined, sessi
 use Rattle.x25_world.specs.laws.LawsBelow.{SessionLaws}
 use Rattle.x25_world.proofs.sessions.acts.SessionLines.{lost_joined, damaged_joined}
 use Rattle.x25_world.proofs.sessions.acts.SessionTimers.{fired_joined, connects_joined, connects_alone_joined, disconnects_joined, probes_joined, relinks_joined}
-use Rattle.x25_world.proofs.sessions.acts.SessionRequests.{requests_joined, said_octets}
+use Rattle.x25_world.proofs.sessions.acts.SessionRequests.{requests_joined, gives_joined, said_octets}
 use Rattle.x25_world.proofs.sessions.acts.SessionReceives.{receives_joined}
 
 -- what happens at the far end is what happens at the near end of the two ends swapped
@@ -57,6 +57,8 @@ module _ (laws : SessionLaws) (cfg : Cfg) (fine : IsConfigured cfg) where
   acts_joined : {since : Beginning} (end : Role) (w : World) → SessionsJoined since cfg end w → (act : Act) → IsAt since end act → ActsInOctets act
       → (since ≡ set_up false → IsNoConnect act (refusal_of (acts (settings_from end cfg) w act))) → SessionsJoined since cfg end (after w (acts (settings_from end cfg) w act))
   acts_joined end w h (Commands (Requests request)) is_at octets none = requests_joined laws cfg fine end w h request (said_by cfg.say_sizes w.near.layer request) is_at (said_octets cfg.say_sizes w.near.layer request octets)
+  acts_joined end w h (Commands (RequestsWith given request)) is_at octets none =
+      gives_joined laws cfg fine end w h given request (said_by cfg.say_sizes w.near.layer request) is_at octets.0 (said_octets cfg.say_sizes w.near.layer request octets.1)
   acts_joined end w h (Commands Connects) is_at octets none = connects_joined laws cfg fine end w h is_at none
   acts_joined end w h (Commands Disconnects) is_at octets none = disconnects_joined laws cfg fine end w h is_at
   acts_joined end w h (Commands Probes) is_at octets none = probes_joined laws cfg fine end w h is_at
@@ -90,6 +92,7 @@ module _ (laws : SessionLaws) (cfg : Cfg) (fine : IsConfigured cfg) where
     first = λ up. absurd (cc);
     before = (refl, refl);
     sessions = λ n low high. absurd (none n low high);
+    octets = λ n. tt;
     later = λ n more. record { moves = refl; entries = refl };
     now = λ up. absurd (cc);
     alone = λ n none. tt;

@@ -50,7 +50,7 @@ most_told act = 3
 
 -- Its frames are on the line, where it is refused it told nothing, and it told at most so many entries.
 pub record IsStepOf {T : Type 0} (result : Result T WorldError) (out : Step) (most : ℕ) : Type 0 where
-  pub sent : out.frames.items ≡ []
+  pub sent : out.frames ≡ []
   pub untold : OnErr result (out.entries.items ≡ [])
   pub few : vec_len out.entries ≤ most
 

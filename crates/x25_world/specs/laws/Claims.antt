@@ -1,11 +1,11 @@
 -- What holds of two stations and the line between them after every list of events, up to the moment at which an end
 -- goes up a second time.
-use Rattle.std.specs.Prelude.{◌≡◌, ◌≤◌, ◌⊎◌, Bool, ℕ, suc, true, List, [], ◌∷◌, ◌++◌, Option, Some, None, Result, Ok}
+use Rattle.std.specs.Prelude.{◌≡◌, ◌≤◌, ◌⊎◌, ℕ, suc, true, List, [], ◌∷◌, ◌++◌, Option, Some, None, Result, Ok}
 use Rattle.std.specs.Prelude.{Err}
 use Rattle.x25_bits.specs.declared.role.Role.{Role}
 use Rattle.x25_bits.specs.declared.role.Role.TheVariants.{Dte, Dce}
 use Rattle.x25_packet.specs.Packet.{PlainPacket}
-use Rattle.x25_packet.specs.Reading.{packet_of}
+use Rattle.x25_wide.specs.Taking.{read_in}
 use Rattle.x25_packet.specs.declared.error.PacketError.{PacketError}
 use Rattle.x25_frame.specs.Frame.{PlainFrame, info, frmr}
 use Rattle.x25_frame.specs.Reading.{frame_of}
@@ -20,8 +20,9 @@ use Rattle.x25_layer.specs.laws.Quiet.{IsQuietAt, AreNoFaults}
 use Rattle.x25_layer.specs.laws.Law.{HandsUpLawfully, HasAllOf}
 use Rattle.x25_station.specs.declared.config.Cfg.{Cfg}
 use Rattle.x25_station.specs.Config.{settings_from, config_refusal, longest_packet, link_settings}
-use Rattle.x25_station.specs.Command.{Command, Requests, Connects, Disconnects, Probes, Relinks}
+use Rattle.x25_station.specs.Command.{Command, Requests, RequestsWith, Connects, Disconnects, Probes, Relinks}
 use Rattle.x25_station.specs.Entry.{StationEntry, link_up, layer_entries, layer_notices}
+use Rattle.x25_station.specs.laws.GivenLaw.{GivesOctets}
 use Rattle.x25_station.specs.laws.ReadLaw.{RequestsOctets}
 use Rattle.x25_station.specs.Station.{Station}
 use Rattle.x25_station.specs.Station.Told.{is_idle, stretch}
@@ -64,6 +65,7 @@ IsUpAtMostOnce cfg w = (end : Role) → ups_in (entries_at end w.transcript) ≤
 -- what users hand down is octets
 abbrev pub CommandsOctets : Command → Type 0
 CommandsOctets (Requests request) = RequestsOctets request
+CommandsOctets (RequestsWith given request) = GivesOctets given × RequestsOctets request
 CommandsOctets Connects = Unit {0}
 CommandsOctets Disconnects = Unit {0}
 CommandsOctets Probes = Unit {0}
@@ -157,22 +159,21 @@ IsQuietRead channels (Ok packet) = IsQuietAt channels packet
 IsQuietRead channels (Err e) = ⊥
 
 -- octets on the line are a frame, and no FRMR
-abbrev pub IsQuietFrame : Bool → ℕ → Result PlainFrame FrameError → Type 0
-IsQuietFrame long_data channels (Ok (frmr f why)) = ⊥
-IsQuietFrame long_data channels (Ok (info ns nr p octets)) = IsQuietRead channels
-    (packet_of (longest_user long_data) octets)
-IsQuietFrame long_data channels (Ok frame) = Unit {0}
-IsQuietFrame long_data channels (Err e) = ⊥
+abbrev pub IsQuietFrame : Cfg → Result PlainFrame FrameError → Type 0
+IsQuietFrame cfg (Ok (frmr f why)) = ⊥
+IsQuietFrame cfg (Ok (info ns nr p octets)) = IsQuietRead cfg.channels
+    (read_in cfg.wide (longest_user cfg.long_data) octets)
+IsQuietFrame cfg (Ok frame) = Unit {0}
+IsQuietFrame cfg (Err e) = ⊥
 
-abbrev pub IsQuietTap : Bool → ℕ → List OnTap → Type 0
-IsQuietTap long_data channels [] = Unit {0}
-IsQuietTap long_data channels (t ∷ tap) = IsQuietFrame long_data channels (frame_of t.from longest_packet t.octets)
-    × IsQuietTap long_data channels tap
+abbrev pub IsQuietTap : Cfg → List OnTap → Type 0
+IsQuietTap cfg [] = Unit {0}
+IsQuietTap cfg (t ∷ tap) = IsQuietFrame cfg (frame_of t.from longest_packet t.octets) × IsQuietTap cfg tap
 
 -- All that was ever put on the line is frames, and no FRMR; and of their packets no CLEAR and no RESET has another
 -- cause than the user's, and no RESTART one that tells of an error. No user was told of a fault.
 pub record HasNoProcedureError (cfg : Cfg) (w : World) : Type 0 where
-  pub tap : IsQuietTap cfg.long_data cfg.channels w.tap
+  pub tap : IsQuietTap cfg w.tap
   pub told : (end : Role) → AreNoFaults (layer_notices (entries_at end w.transcript))
 
 -- ---- the window of the link

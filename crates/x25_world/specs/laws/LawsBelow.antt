@@ -14,13 +14,17 @@ use Rattle.x25_layer.specs.laws.NameLaw.{NamesAreCounted}
 use Rattle.x25_layer.specs.laws.Apart.{AlwaysApart}
 use Rattle.x25_layer.specs.laws.ApartLaw.{IsOverLinks, RestartsFirst, BeginsAlone, OwnMovesDecide, EventsRunOn}
 use Rattle.x25_station.specs.laws.JoinLaw.{RequestIsJoined, ReceiveIsJoined, QuietIsJoined, DownIsJoined, UpIsJoined}
-use Rattle.x25_station.specs.laws.KeepLaw.{ConnectKeeps, TimerKeeps, RequestKeeps, CommandKeeps, ReceiveKeeps}
+use Rattle.x25_station.specs.laws.GivenLaw.{GivenIsJoined, GivenIsRead}
+use Rattle.x25_station.specs.laws.KeepLaw.{ConnectKeeps, TimerKeeps, RequestKeeps, GivenKeeps, CommandKeeps}
+use Rattle.x25_station.specs.laws.KeepLaw.{ReceiveKeeps}
 use Rattle.x25_station.specs.laws.ReadLaw.{PutsAreReadable}
 
 -- those of one station
 pub record Laws : Type 0 where
   pub readable : PutsAreReadable
   pub request : RequestIsJoined
+  pub given : GivenIsJoined
+  pub given_read : GivenIsRead
   pub receive : ReceiveIsJoined
   pub quiet : QuietIsJoined
   pub down : DownIsJoined
@@ -28,6 +32,7 @@ pub record Laws : Type 0 where
   pub connect_keeps : ConnectKeeps
   pub timer_keeps : TimerKeeps
   pub request_keeps : RequestKeeps
+  pub given_keeps : GivenKeeps
   pub command_keeps : CommandKeeps
   pub receive_keeps : ReceiveKeeps
   pub take_tells : TakeTells

@@ -1,16 +1,21 @@
 -- How many octets a world holds at most (profile).
-use Rattle.std.specs.Prelude.{ℕ, ◌+◌, ◌≤◌, length}
+use Rattle.std.specs.Prelude.{ℕ, List, ◌+◌, ◌*◌, ◌≤◌, length, max}
 use Rattle.std.specs.List.{sum_by}
 use Rattle.x25_station.specs.laws.OctetLaw as station
 use Rattle.x25_world.specs.code.ShownWorld.{ShownWorld}
 
+-- A frame on its line counts as the longest, or as its own octets where these are more.
+abbrev pub frame_octets : List ℕ → ℕ
+frame_octets frame = max (length frame) 4103
+
 -- those of the frames on its line
 abbrev pub line_octets : ShownWorld → ℕ
-line_octets v = sum_by length v.to_dce + sum_by length v.to_dte
+line_octets v = sum_by frame_octets v.to_dce + sum_by frame_octets v.to_dte
 
--- those of its stations, and these
+-- those of its stations, 17 frames that memory is set aside for, the memory kept of 17 that left the line, the 25
+-- places of a step, and these
 abbrev pub octets_held : ShownWorld → ℕ
-octets_held v = (station.octets_held v.dte + station.octets_held v.dce) + line_octets v
+octets_held v = (station.octets_held v.dte + station.octets_held v.dce) + (4103 * (17 + 17 + 25) + line_octets v)
 
 abbrev pub FewOctets : Type 0
-FewOctets = (v : ShownWorld) → octets_held v ≤ 24317510 + line_octets v
+FewOctets = (v : ShownWorld) → octets_held v ≤ 24239525 + line_octets v

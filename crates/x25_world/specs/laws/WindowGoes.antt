@@ -10,7 +10,7 @@ use Rattle.x25_line.specs.laws.StationClaims.{IsBehind}
 use Rattle.x25_line.specs.laws.WholeNumbers.{machine_run, machine_at_start}
 use Rattle.x25_layer.specs.Layer.{restart_cause}
 use Rattle.x25_station.specs.declared.config.Cfg.{Cfg}
-use Rattle.x25_station.specs.Command.{Requests, Connects, Disconnects, Probes, Relinks}
+use Rattle.x25_station.specs.Command.{Requests, RequestsWith, Connects, Disconnects, Probes, Relinks}
 use Rattle.x25_world.specs.World.{World, Act, Commands, Receives, Fires, Loses, Damages, Event, happens, after, run}
 use Rattle.x25_world.specs.World.{established}
 use Rattle.x25_world.specs.laws.Claims.{link_of}
@@ -26,6 +26,7 @@ Asks Receives (line.Put octets) = Unit {0}
 Asks Receives line.Abandon = Unit {0}
 Asks Receives (line.Lose place) = place ≡ 0
 Asks (Commands (Requests request)) (line.Put octets) = Unit {0}
+Asks (Commands (RequestsWith given request)) (line.Put octets) = Unit {0}
 Asks (Commands Connects) line.Connect = Unit {0}
 Asks (Commands Disconnects) line.Disconnect = Unit {0}
 Asks (Commands Probes) line.Probe = Unit {0}

@@ -10,4 +10,4 @@ returns g c =
     let through = c.ask-answer.new.link in
     went_through g.L.OrderedLink g.F.Form.form c.args.form c.args.layer.now c.args.link.now c.ask-answer.new.self c.below.result c.ask-answer.result (Asks c.args.channel (plain_request c.args.request))
     c.over-through.result.link through.link c.over-through.result.form through.form (c.over-through.ensures.link ∙ c.replace.ensures.value) c.over-through.ensures.form c.below.ensures
-    h.layer h.link h.layer_stays h.link_stays h.most_memory h.most_promised
+    h.layer h.link h.layer_stays h.link_stays h.most_memory

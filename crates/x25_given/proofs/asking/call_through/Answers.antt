@@ -9,4 +9,4 @@ returns-clause-does g c =
     let through = c.call-answer.new.link in
     went_through g.L.OrderedLink g.F.Form.form c.args.form c.args.layer.now c.args.link.now c.call-answer.new.self c.below.result c.call-answer.result (Dials c.args.called.now c.args.calling.now c.args.user.now c.args.proposal.now)
     c.over-through.result.link through.link c.over-through.result.form through.form (c.over-through.ensures.link ∙ c.replace.ensures.value) c.over-through.ensures.form c.below.ensures
-    h.layer h.link h.layer_stays h.link_stays h.most_memory h.most_promised
+    h.layer h.link h.layer_stays h.link_stays h.most_memory

@@ -17,11 +17,11 @@ use Rattle.x25_layer.proofs.rounds.go_round.Goals as goal
 pub loop-place-init : goal.loop-place-init
 loop-place-init g c = record {
   count = search rules;
-  stands = λ s x t before.
+  stands = λ s x t total before.
       let view : LinkView = view_of g.L.OrderedLink.up_in g.L.OrderedLink.waits_in g.L.OrderedLink.after_put x in
-      subst (λ (u : Putting). Stands (g.L.OrderedLink.fits c.args.link.now) g.L.OrderedLink.lists g.L.OrderedLink.after_put s c.args.circuits.now.items c.args.memory.now (g.L.OrderedLink.promised c.args.link.now) x u)
+      subst (λ (u : Putting). Stands (g.L.OrderedLink.fits c.args.link.now) g.L.OrderedLink.lists g.L.OrderedLink.after_put s c.args.circuits.now.items c.args.memory.now (g.L.OrderedLink.promised c.args.link.now) total x u)
       (sym (round_still c.what_waits_is_pulled.ensures view s c.args.circuits.now.items c.min-first.result t (omega arith) before.circuits (λ k v less at. c.requires.still k v at (inl (omega (arith, less)))))) before;
-  none = λ is s x t before.
+  none = λ is s x t total before.
       let view : LinkView = view_of g.L.OrderedLink.up_in g.L.OrderedLink.waits_in g.L.OrderedLink.after_put x in
       round_still c.what_waits_is_pulled.ensures view s c.args.circuits.now.items c.min-first.result t (omega arith) before.circuits (λ k v less at. c.requires.still k v at (inl (omega (arith, less))));
   room = λ h len have. have;
@@ -42,31 +42,31 @@ loop-place-preserved g c =
     let read = read_at c.loop-place.circuits.items i c.index_mut-circuit.result.now low c.index_mut-circuit.ensures.value in
     record {
       count = length-set c.loop-place.circuits.items i c.pull_one-is_put.new.circuit ∙ count;
-      stands = λ s x t before.
+      stands = λ s x t total before.
           let view : LinkView = view_of g.L.OrderedLink.up_in g.L.OrderedLink.waits_in g.L.OrderedLink.after_put x in
-          let now = c.loop-place.invariant.stands s x t before in
+          let now = c.loop-place.invariant.stands s x t total before in
           let t₂ : Putting = round view s i t in
           let y : g.L.OrderedLink.State = after_all g.L.OrderedLink.after_put x t₂.put in
           let found = now.circuits i _ read in
           let one = p.pulls s.circuit (t₂.layer.circuits (suc i)) y found now.link now.memory now.promised in
           let memory = one.memory in
-          let used = p.takes.used in
-          subst (λ (k : ℕ). Stands (g.L.OrderedLink.fits c.pull_one-is_put.new.link) g.L.OrderedLink.lists g.L.OrderedLink.after_put s (set c.loop-place.circuits.items i c.pull_one-is_put.new.circuit) c.pull_one-is_put.new.memory (g.L.OrderedLink.promised c.pull_one-is_put.new.link) x (round view s k t)) next
+          let places = p.takes.places in
+          subst (λ (k : ℕ). Stands (g.L.OrderedLink.fits c.pull_one-is_put.new.link) g.L.OrderedLink.lists g.L.OrderedLink.after_put s (set c.loop-place.circuits.items i c.pull_one-is_put.new.circuit) c.pull_one-is_put.new.memory (g.L.OrderedLink.promised c.pull_one-is_put.new.link) total x (round view s k t)) next
           (stands_more (g.L.OrderedLink.fits c.loop-place.link) (g.L.OrderedLink.fits c.pull_one-is_put.new.link) g.L.OrderedLink.lists g.L.OrderedLink.after_put g.L.OrderedLink.up_in g.L.OrderedLink.waits_in s i c.loop-place.circuits.items
-          c.pull_one-is_put.new.circuit c.loop-place.memory (g.L.OrderedLink.promised c.loop-place.link) c.pull_one-is_put.new.memory (g.L.OrderedLink.promised c.pull_one-is_put.new.link) x t₂
+          c.pull_one-is_put.new.circuit c.loop-place.memory (g.L.OrderedLink.promised c.loop-place.link) c.pull_one-is_put.new.memory (g.L.OrderedLink.promised c.pull_one-is_put.new.link) total x t₂
           (λ z packet. g.met.L.OrderedLink.adds z packet) now
           one.circuit
           (subst (λ (k : ℕ). g.L.OrderedLink.fits c.pull_one-is_put.new.link (after_all g.L.OrderedLink.after_put y (option_to_list (packet_on k (pulled_where (nat_lt (g.L.OrderedLink.waits_in y) 8) s.circuit (t₂.layer.circuits (suc i))).packet)))) (sym next) one.link)
-          memory (omega (arith, memory, used)));
-      none = λ is s x t before.
+          memory (omega (arith, memory, places)));
+      none = λ is s x t total before.
           let view : LinkView = view_of g.L.OrderedLink.up_in g.L.OrderedLink.waits_in g.L.OrderedLink.after_put x in
-          let now = c.loop-place.invariant.stands s x t before in
+          let now = c.loop-place.invariant.stands s x t total before in
           let t₂ : Putting = round view s i t in
           let y : g.L.OrderedLink.State = after_all g.L.OrderedLink.after_put x t₂.put in
           let found = now.circuits i _ read in
           let both = neither c.loop-place.is_put c.pull_one-is_put.result is in
           subst (λ (k : ℕ). round view s k t ≡ t) next
-          (one_none view s (suc i) t₂ ((p.pulls s.circuit (t₂.layer.circuits (suc i)) y found now.link now.memory now.promised).none both.1) ∙ c.loop-place.invariant.none both.0 s x t before);
+          (one_none view s (suc i) t₂ ((p.pulls s.circuit (t₂.layer.circuits (suc i)) y found now.link now.memory now.promised).none both.1) ∙ c.loop-place.invariant.none both.0 s x t total before);
       room = λ h len have.
           let before = c.loop-place.invariant.room h len have in
           let more = p.room in
@@ -89,11 +89,11 @@ loop-place-preserved g c =
 
 pub returns : goal.returns
 returns g c = record {
-  stands = λ s x t before.
+  stands = λ s x t total before.
       let view : LinkView = view_of g.L.OrderedLink.up_in g.L.OrderedLink.waits_in g.L.OrderedLink.after_put x in
-      subst (λ (u : Putting). Stands (g.L.OrderedLink.fits c.loop-place.link) g.L.OrderedLink.lists g.L.OrderedLink.after_put s c.loop-place.circuits.items c.loop-place.memory (g.L.OrderedLink.promised c.loop-place.link) x u) (sym (all s x t before))
-      (c.loop-place.invariant.stands s x t before);
-  none = λ s x t before is. all s x t before ∙ c.loop-place.invariant.none is s x t before;
+      subst (λ (u : Putting). Stands (g.L.OrderedLink.fits c.loop-place.link) g.L.OrderedLink.lists g.L.OrderedLink.after_put s c.loop-place.circuits.items c.loop-place.memory (g.L.OrderedLink.promised c.loop-place.link) total x u) (sym (all s x t total before))
+      (c.loop-place.invariant.stands s x t total before);
+  none = λ s x t total before is. all s x t total before ∙ c.loop-place.invariant.none is s x t total before;
   takes = search rules;
   count = search rules;
   room = search rules;
@@ -103,12 +103,12 @@ returns g c = record {
 }
   where
     -- those behind have nothing to pull
-    all : (s : LayerSettings) (x : g.L.OrderedLink.State) (t : Putting) → Stands (g.L.OrderedLink.fits c.args.link.now) g.L.OrderedLink.lists g.L.OrderedLink.after_put s c.args.circuits.now.items c.args.memory.now (g.L.OrderedLink.promised c.args.link.now) x t
+    all : (s : LayerSettings) (x : g.L.OrderedLink.State) (t : Putting) (total : ℕ) → Stands (g.L.OrderedLink.fits c.args.link.now) g.L.OrderedLink.lists g.L.OrderedLink.after_put s c.args.circuits.now.items c.args.memory.now (g.L.OrderedLink.promised c.args.link.now) total x t
         → round (view_of g.L.OrderedLink.up_in g.L.OrderedLink.waits_in g.L.OrderedLink.after_put x) s s.channels t ≡ round (view_of g.L.OrderedLink.up_in g.L.OrderedLink.waits_in g.L.OrderedLink.after_put x) s c.loop-place.place t
-    all s x t before =
+    all s x t total before =
         let view : LinkView = view_of g.L.OrderedLink.up_in g.L.OrderedLink.waits_in g.L.OrderedLink.after_put x in
         let place : ℕ = c.loop-place.place in
-        let now = c.loop-place.invariant.stands s x t before in
+        let now = c.loop-place.invariant.stands s x t total before in
         let channels = now.channels in
         let behind : s.channels ≡ (s.channels - place) + place = omega (arith, channels, c.loop-place.invariant.count) in
         ap (λ (k : ℕ). round view s k t) behind

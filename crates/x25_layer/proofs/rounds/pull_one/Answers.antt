@@ -1,4 +1,4 @@
-use Rattle.std.proofs.Common.{rules, nat_lt, option_to_list, sym, ap, subst, arith}
+use Rattle.std.proofs.Common.{rules, ◌≡◌, ◌+◌, length, nat_lt, option_to_list, sym, ap, subst, arith}
 use Rattle.x25_circuit.specs.Calling.{Pulled}
 use Rattle.x25_circuit.specs.code.FitsCircuit.{FitsCircuit}
 use Rattle.x25_layer.specs.Layer.{packet_on}
@@ -14,7 +14,7 @@ returns-then-waits-eq0 g c = record {
         circuit = subst (λ (p : Pulled). FitsCircuit s c.args.circuit.now p.next) (sym none) fits;
         link = subst (λ (p : Pulled). g.L.OrderedLink.fits c.args.link.now (after_all g.L.OrderedLink.after_put y (option_to_list (packet_on c.args.channel p.packet)))) (sym none) link;
         none = λ is. ap (λ (p : Pulled). p.packet) none;
-        memory = omega arith;
+        memory = subst (λ (p : Pulled). c.args.memory.now + length (option_to_list p.packet) ≡ c.args.memory.now) (sym none) (omega arith);
       };
   takes = search rules;
   room = search rules;

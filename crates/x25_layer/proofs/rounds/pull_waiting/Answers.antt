@@ -23,7 +23,7 @@ returns-in_default g c = record {
         circuit = search rules;
         link = rw room (rw none l);
         none = λ e. rw room none;
-        memory = rw room (omega arith);
+        memory = rw room (rw none (omega arith));
       };
   takes = search rules;
   room = search rules;

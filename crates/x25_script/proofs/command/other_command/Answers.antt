@@ -1,10 +1,10 @@
-use Rattle.x25_script.specs.Reading.{Call, Clear, Interrupt, NotReady, Ready, Reset, Restart, with_fields}
+use Rattle.x25_script.specs.Reading.{Call, Clear, Interrupt, NotReady, Ready, Reset, Restart, With, with_fields}
 use Rattle.x25_script.proofs.WordLemmas.{bare_alone, command_behind}
 use Rattle.x25_script.proofs.command.other_command.Goals as goal
 
 pub returns-in-Some : goal.returns-in-Some
 unfolding with_fields
-returns-in-Some c = λ no_send no_accept. rw (command_behind Call _ _ c.in-Some.ensures) c.call.ensures
+returns-in-Some c = λ no_send no_accept. rw (command_behind Call _ _ c.in-Some.ensures) (c.alone_in.ensures _ c.call.ensures)
 
 pub returns-in-Some-behind : goal.returns-in-Some-behind
 unfolding with_fields
@@ -16,7 +16,7 @@ returns-in-Some-behind-2 c = λ no_send no_accept. rw (command_behind Reset _ _ 
 
 pub returns-in-Some-behind-3 : goal.returns-in-Some-behind-3
 unfolding with_fields
-returns-in-Some-behind-3 c = λ no_send no_accept. rw (command_behind Clear _ _ c.in-Some-behind-3.ensures) c.clear.ensures
+returns-in-Some-behind-3 c = λ no_send no_accept. rw (command_behind Clear _ _ c.in-Some-behind-3.ensures) (c.alone_in-in-Some-behind-3.ensures _ c.clear.ensures)
 
 pub returns-in-Some-behind-4 : goal.returns-in-Some-behind-4
 returns-in-Some-behind-4 c = λ no_send no_accept. rw (command_behind Ready _ _ c.in-Some-behind-4.ensures) c.ready.ensures
@@ -28,8 +28,12 @@ pub returns-in-Some-behind-6 : goal.returns-in-Some-behind-6
 unfolding with_fields
 returns-in-Some-behind-6 c = λ no_send no_accept. rw (command_behind Restart _ _ c.in-Some-behind-6.ensures) c.restart.ensures
 
+pub returns-in-Some-behind-7 : goal.returns-in-Some-behind-7
+unfolding with_fields
+returns-in-Some-behind-7 c = λ no_send no_accept. rw (command_behind With _ _ c.in-Some-behind-7.ensures) c.with.ensures
+
 pub returns : goal.returns
 returns c = λ no_send no_accept.
     rw (bare_alone _ no_send no_accept c.in_default.ensures c.in_default-behind.ensures c.in_default-behind-2.ensures
-    c.in_default-behind-3.ensures c.in_default-behind-4.ensures c.in_default-behind-5.ensures c.in_default-behind-6.ensures)
+    c.in_default-behind-3.ensures c.in_default-behind-4.ensures c.in_default-behind-5.ensures c.in_default-behind-6.ensures c.in_default-behind-7.ensures)
     c.bare_command.ensures

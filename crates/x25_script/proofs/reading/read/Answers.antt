@@ -1,4 +1,4 @@
-use Rattle.std.proofs.Common.{◌∙◌, ap, codes, sym}
+use Rattle.std.proofs.Common.{◌∙◌, codes, sym}
 use Rattle.x25_bits.specs.declared.role.Role.TheVariants.{Dce, Dte}
 use Rattle.x25_script.specs.Reading.{Damage, Deliver, Drain, End, Lose, T1}
 use Rattle.x25_script.proofs.PartLemmas.{bytes_other, bytes_same}

@@ -1,4 +1,4 @@
-use Rattle.std.proofs.Common.{◌≡◌, refl, sym, subst, IfSome, Option, Some, None}
+use Rattle.std.proofs.Common.{◌≡◌, refl, subst, IfSome, Option, Some, None}
 use Rattle.x25_script.specs.ScriptLine.{PlainLine}
 use Rattle.x25_script.specs.Reading.{line_in}
 use Rattle.x25_script.specs.Reading.Spelling.{Spells}

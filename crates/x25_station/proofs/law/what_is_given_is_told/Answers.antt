@@ -1,8 +1,9 @@
 use Rattle.x25_station.proofs.GivenLemmas.{given_told, given_written}
+use Rattle.x25_station.proofs.GivenReadLemmas.{given_heard, given_read}
 use Rattle.x25_station.proofs.law.what_is_given_is_told.Goals as goal
 
 pub returns : goal.returns
 returns c =
     let reads = c.reading_is_the_grammar.ensures.spelled in
     let written = c.what_is_written_is_read.ensures in
-    record { written = given_written reads; told = given_told reads written.read written.form }
+    record { written = given_written reads; read = given_read reads written.read; told = given_told reads written.read written.form; heard = given_heard reads written.read written.form }

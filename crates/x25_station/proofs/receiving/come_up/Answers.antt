@@ -9,6 +9,9 @@ use Rattle.x25_station.proofs.AskLemmas.{after_puts}
 use Rattle.x25_station.proofs.LinkLemmas.{seen_by, same_view, on_ok}
 use Rattle.x25_station.proofs.receiving.come_up.Goals as goal
 
+pub unwrap-requires : goal.unwrap-requires
+unwrap-requires c = c.up.ensures.enough 0 0 c.requires.room c.requires.put.places
+
 pub returns-clause-puts : goal.returns-clause-puts
 returns-clause-puts c = record {
   layer = λ c' l t fits link.

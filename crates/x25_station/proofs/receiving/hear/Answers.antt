@@ -19,7 +19,7 @@ use Rattle.x25_station.proofs.ShortLemmas.{told_tellable}
 use Rattle.x25_station.proofs.receiving.hear.Goals as goal
 
 pub unwrap-told-requires : goal.unwrap-told-requires
-unwrap-told-requires c = c.packet.ensures.enough (length c.args.packet.now - 3) (omega arith) c.requires.room
+unwrap-told-requires c = c.packet.ensures.enough (length c.args.packet.now - 3) (omega arith) c.requires.room c.requires.put.places
 
 pub returns-clause-puts : goal.returns-clause-puts
 returns-clause-puts c = record {

@@ -1,4 +1,4 @@
-use Rattle.std.proofs.Common.{sym}
+use Rattle.std.proofs.Common.{inr, sym}
 use Rattle.x25_world.proofs.SideLemmas.{few_put, shared_of, has_happened, is_refusal, side_stays}
 use Rattle.x25_world.proofs.acting.connect.Goals as goal
 
@@ -17,11 +17,19 @@ returns-in-Ok-clause-acted c = λ cfg w side.
 
 pub returns-in-Err-clause-acted : goal.returns-in-Err-clause-acted
 returns-in-Err-clause-acted c = λ cfg w side.
+    rw c.refuse.ensures.error (record {
+      happened = tt;
+      refused = inr c.in-Err.ensures.refused;
+      stays = rw c.reserve_frames.ensures.line (side_stays cfg c.args.at _ _ c.args.line.now w c.reserve_frames.new.line side (c.refuse.ensures.fits _ _ side.near));
+    })
+
+pub returns-in-Err-connect-clause-acted : goal.returns-in-Err-connect-clause-acted
+returns-in-Err-connect-clause-acted c = λ cfg w side.
     let fits = side.near in
-    let called = c.in-Err.ensures.does in
+    let called = c.in-Err-connect.ensures.does in
     record {
       happened = tt;
-      refused = rw c.of_station.ensures (is_refusal cfg c.args.at w _ c.in-Err.error (called.refused _ _ fits));
+      refused = rw c.of_station.ensures (is_refusal cfg c.args.at w _ c.in-Err-connect.error (called.refused _ _ fits));
       stays = rw c.reserve_frames.ensures.line (side_stays cfg c.args.at _ _ c.args.line.now w c.reserve_frames.new.line side (called.stays _ _ fits));
     }
 

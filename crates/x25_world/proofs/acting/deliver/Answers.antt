@@ -29,9 +29,9 @@ returns-in-Ok-clause-acted c = λ cfg w side.
     let called = c.in-Ok.ensures.does in
     let front : Some c.in-Some.octets.now ≡ slice_get w.back 0 = c.in-Some.ensures ∙ ap (λ l. slice_get l 0) shared.back in
     record {
-      happened = rw (c.put.ensures.line, c.remove-octets.ensures)
-          (has_arrived cfg c.args.at c.receive.new.self c.keep_frame.new.near c.reserve_frames.new.line w w.back c.in-Some.octets.now
-          c.receive.new.out c.keep_frame.ensures shared front
+      happened = rw (c.put.ensures.line, c.remove.ensures)
+          (has_arrived cfg c.args.at c.receive.new.self c.reserve_frames.new.line w w.back c.in-Some.octets.now
+          c.receive.new.out shared front
           (called.state _ _ fits) (called.frames _ _ fits) (called.entries _ _ fits));
       refused = tt;
       stays = tt;
@@ -48,4 +48,4 @@ returns-in-Err-receive-clause-acted c = λ cfg w side.
     }
 
 pub returns-in-Ok-clause-places : goal.returns-in-Ok-clause-places
-returns-in-Ok-clause-places c = rw (c.put.ensures.line, c.remove-octets.ensures) (few_put 17 c.args.line.now _ c.args.at _ (few_changed 17 c.args.line.now c.reserve_frames.new.line c.args.at _ c.reserve_frames.ensures.few))
+returns-in-Ok-clause-places c = rw (c.put.ensures.line, c.remove.ensures) (few_put 17 c.args.line.now _ c.args.at _ (few_changed 17 c.args.line.now c.reserve_frames.new.line c.args.at _ c.reserve_frames.ensures.few))

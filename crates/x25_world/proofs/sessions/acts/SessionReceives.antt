@@ -1,12 +1,11 @@
 -- Octets come, over set-up and re-set-up: the link takes them, and the layer the packet that the link hands up, which is the next of those that
 -- the other end gave in its latest session.
-use Rattle.std.proofs.Common.{◌≡◌, ℕ, zero, suc, ◌≤◌, ◌<◌, inl, inr, List, [], ◌∷◌, ◌++◌, remove, Bool, true, false, if◌then◌else◌, Option, Some, None, Ok, option_to_list, refl, sym, ap, ◌∙◌, subst, append_assoc, arith}
+use Rattle.std.proofs.Common.{◌≡◌, ℕ, zero, suc, ◌≤◌, ◌<◌, inl, inr, List, [], ◌∷◌, ◌++◌, remove, Bool, true, false, if◌then◌else◌, Option, Some, None, Result, Ok, option_to_list, refl, sym, ap, ◌∙◌, subst, append_assoc, arith}
 use Rattle.std.proofs.lemmas.List.{append_cancel_left, map-append}
 use Rattle.x25_bits.specs.declared.role.Role.{Role}
 use Rattle.x25_bits.specs.declared.role.Role.TheVariants.{Dte, Dce}
 use Rattle.x25_packet.specs.Packet.{PlainPacket}
-use Rattle.x25_packet.specs.Spelling.{spelling_of, longest_user}
-use Rattle.x25_wide.specs.Taking.{read_in}
+use Rattle.x25_packet.specs.declared.error.PacketError.{PacketError}
 use Rattle.x25_handshakes.specs.laws.Histories.{IsPrefix}
 use Rattle.x25_link.specs.Station.{LinkStation, is_up}
 use Rattle.x25_link.specs.Hearing.{other, Step as LinkStep}
@@ -33,38 +32,33 @@ use Rattle.x25_station.specs.Entry.{layer_notices}
 use Rattle.x25_station.specs.Step.{Step, follows, abandons, receives}
 use Rattle.x25_station.specs.laws.JoinLaw.{station_with, IsJoined}
 use Rattle.x25_station.specs.laws.KeepLaw.{IsKept}
-use Rattle.x25_station.specs.laws.ReadLaw.{AreReadable, IsReadable}
 use Rattle.x25_world.specs.World.{World, Receives, delivered, after, after_step}
 use Rattle.x25_world.specs.laws.Claims.{link_of}
 use Rattle.x25_world.proofs.Known.{IsConfigured, both_true, true_false}
-use Rattle.x25_world.proofs.Growing.{spelled}
-use Rattle.x25_world.proofs.sessions.SessionTrace.{layer_of, Done, moved, own, own_goes, events_of, pair_turned, nothing_goes}
+use Rattle.x25_world.proofs.Growing.{read_by, all_read, is_read, as_read, first_read}
+use Rattle.x25_world.proofs.sessions.SessionTrace.{layer_of, Done, moved, own, own_goes, events_of, nothing_goes}
 use Rattle.x25_world.proofs.sessions.SessionReaches.{Beginning, SessionsReach, IsAt, may_ask, known_sessions, sessions_act}
 use Rattle.x25_world.proofs.sessions.SessionJoined.{HasMet, PairIsInOrder, PairsAreInOrder, SessionsJoined}
 use Rattle.x25_world.specs.laws.LawsBelow.{SessionLaws}
-use Rattle.x25_world.proofs.sessions.SessionKnown.{all_no_earlier, met_in_order, pair_ends, here_in, here_is, there_is, pair_world, own_order, own_first, own_readable, nothing_in_order}
+use Rattle.x25_world.proofs.sessions.SessionKnown.{all_no_earlier, met_in_order, pair_ends, here_in, here_is, there_is, pair_world, own_order, own_first, nothing_in_order}
 use Rattle.x25_world.proofs.sessions.SessionEntries.{heard_plain}
-use Rattle.x25_world.proofs.sessions.SessionLinks.{SessionGoes, own_step, front_entry, deliver_goes, PutsRead}
+use Rattle.x25_world.proofs.sessions.SessionLinks.{SessionGoes, spelled, puts_spelled, spelled_back, own_step, front_entry, deliver_goes, PutsRead}
 use Rattle.x25_world.proofs.sessions.SessionGoes.{here_extended}
 use Rattle.x25_world.proofs.sessions.SessionFollows.{no_command, up_puts, silent_puts, follows_silent, follows_up}
 use Rattle.x25_world.proofs.sessions.SessionMoves.{own_pulls, pulls_take_nothing, pulls_bring_octets, near_pulls, take_takes}
-use Rattle.x25_world.proofs.sessions.acts.SessionRequests.{readable_behind, pair_goes, pair_stays, puts_readable, joins}
+use Rattle.x25_world.proofs.sessions.acts.SessionRequests.{pair_goes, pair_stays, puts_readable, joins}
 use Rattle.x25_world.proofs.sessions.acts.SessionTimers.{not_begun_by}
 
--- the packet in front of those in flight, by its octets
-record Front (octets : List ℕ) (flight : List PlainPacket) : Type 0 where
+-- the packet in front of those in flight, by what its octets are read as
+record Front (cfg : Cfg) (octets : List ℕ) (flight : List PlainPacket) : Type 0 where
   pub packet : PlainPacket
   pub others : List PlainPacket
   pub is : flight ≡ packet ∷ others
-  pub spells : octets ≡ spelling_of packet
+  pub reads : read_by cfg octets ≡ Ok packet
 
-abbrev first_of : List ℕ → List (List ℕ) → List ℕ
-first_of none [] = none
-first_of none (x ∷ xs) = x
-
-front_of : (octets : List ℕ) (rest : List (List ℕ)) (flight : List PlainPacket) → octets ∷ rest ≡ spelled flight → Front octets flight
-front_of octets rest [] is = absurd (cc)
-front_of octets rest (p ∷ flight) is = record { packet = p; others = flight; is = refl; spells = ap (first_of []) is }
+front_of : (cfg : Cfg) (octets : List ℕ) (rest : List (List ℕ)) (flight : List PlainPacket) → all_read cfg (octets ∷ rest) ≡ as_read flight → Front cfg octets flight
+front_of cfg octets rest [] is = absurd (cc)
+front_of cfg octets rest (p ∷ flight) is = record { packet = p; others = flight; is = refl; reads = first_read (read_by cfg octets) (Ok p) (all_read cfg rest) (as_read flight) is }
 
 -- ---- meetings
 
@@ -262,13 +256,16 @@ module _ {since : Beginning} (laws : SessionLaws) (cfg : Cfg) (fine : IsConfigur
       given_is : own_there.given ≡ own_here.taken ++ flight
       given_is = own_order laws cfg end here there h.trace paired
 
-      in_front : Front packet_octets flight
+      in_front : Front cfg packet_octets flight
       in_front =
           let near = (h.near.sessions here (h.near.first up) (omega arith)).up in
           let far = (h.far.sessions there there_begun (omega arith)).down in
-          let given : h.links.far.down there ≡ h.links.near.up here ++ spelled flight =
-          far ∙ ap spelled given_is ∙ map-append spelling_of own_here.taken flight ∙ ap (λ (l : List (List ℕ)). l ++ spelled flight) (sym near) in
-          front_of packet_octets begins_down.0 flight (append_cancel_left (h.links.near.up here) (packet_octets ∷ begins_down.0) (spelled flight) (begins_down.1 ∙ given))
+          let was = h.links.near.up here in
+          let coming = packet_octets ∷ begins_down.0 in
+          let given : all_read cfg was ++ all_read cfg coming ≡ all_read cfg was ++ as_read flight =
+          sym (map-append (read_by cfg) was coming) ∙ ap (all_read cfg) begins_down.1 ∙ far ∙ ap as_read given_is ∙ map-append is_read own_here.taken flight
+          ∙ ap (λ (l : List (Result PlainPacket PacketError)). l ++ as_read flight) (sym near) in
+          front_of cfg packet_octets begins_down.0 flight (append_cancel_left (all_read cfg was) (all_read cfg coming) (as_read flight) given)
 
       -- the layer takes the packet in front
       module _ (channels : List ℕ) where
@@ -323,23 +320,13 @@ module _ {since : Beginning} (laws : SessionLaws) (cfg : Cfg) (fine : IsConfigur
       near_on : (channels : List ℕ) → (world_on channels).near ≡ own_run (layer_of cfg end) (moves channels) own_here
       near_on channels = near_pulls (layer_of cfg end) (layer.moves (layer_of cfg end) begin HandsUp) channels
 
-      reads : read_in cfg.wide (longest_user cfg.long_data) packet_octets ≡ Ok in_front.packet
-      reads =
-          let f = in_front in
-          let far : AreReadable cfg.long_data (own_here.taken ++ (f.packet ∷ f.others)) =
-          subst (AreReadable cfg.long_data) (given_is ∙ ap (λ (l : List PlainPacket). own_here.taken ++ l) f.is)
-          (own_readable laws cfg fine (other end) there here h.trace
-          (subst (λ (es : List apart.ApartEvent). AreInOrder cfg.long_data cfg.channels es (apart.apart_start cfg.long_data cfg.channels)) (sym (pair_turned end here there h.trace)) paired) h.octets) in
-          let readable : IsReadable cfg.long_data f.packet = (readable_behind cfg.long_data own_here.taken (f.packet ∷ f.others) far).0 in
-          ap (λ (o : List ℕ). read_in cfg.wide (longest_user cfg.long_data) o) f.spells ∙ readable.reads cfg.wide
-
       -- the layer takes it, and pulls at these channels
       joined_on : abandons (settings_from end cfg) w.near ≡ false → (channels : List ℕ) × IsJoined (settings_from end cfg) begin (world_on channels) taken.side [] step
       joined_on none =
           let c : Settings = settings_from end cfg in
           let now = h.near.now up in
           let j = laws.stations.receive c w.near.link begin octets packet_octets in_front.packet [] now.out refl
-          (ap (λ (l : Layer). abandons c (station_with w.near.link l)) now.layer ∙ none) some reads in
+          (ap (λ (l : Layer). abandons c (station_with w.near.link l)) now.layer ∙ none) some in_front.reads in
           let is : receives c (station_with w.near.link own_here.layer) octets ≡ step =
           ap (λ (l : Layer). receives c (station_with w.near.link l) octets) now.layer
           ∙ ap (λ (b : Bool). follows c w.near.layer (if b then abandon_step (link_of cfg end) w.near.link else taken)) none in
@@ -349,12 +336,14 @@ module _ {since : Beginning} (laws : SessionLaws) (cfg : Cfg) (fine : IsConfigur
       handed_puts none =
           let j = joined_on none in
           record {
+            handed = spelled j.1.packets;
             packets = j.1.packets;
-            link = j.1.link;
-            readable = puts_readable laws cfg fine end w h (moves j.0) j.1.packets (ap (λ (e : layer.End). e.given) (sym (near_on j.0)) ∙ j.1.layer.given) (tt, pulls_bring_octets end here j.0) (there, pair_on j.0);
+            link = puts_spelled (settings_from end cfg) taken.side j.1.packets step j.1.link;
+            readable = spelled_back cfg j.1.packets (puts_readable laws cfg fine end w h (moves j.0) j.1.packets (ap (λ (e : layer.End). e.given) (sym (near_on j.0)) ∙ j.1.layer.given) (tt, pulls_bring_octets end here j.0) (there, pair_on j.0));
           }
 
       handed : abandons (settings_from end cfg) w.near ≡ false → IsKept step.near → SessionsJoined since cfg end (after_step (settings_from end cfg) w back step)
+      unfolding handed_puts joined_on
       handed none kept =
           let hands = laws.stations.take_hands_up (link_of cfg end) octets w.near.link in
           let quiet : IsQuiet taken = hands.quiet packet_octets some in
@@ -364,9 +353,8 @@ module _ {since : Beginning} (laws : SessionLaws) (cfg : Cfg) (fine : IsConfigur
           let near = near_on j.0 in
           let takes = take_takes (layer_of cfg end) own_here f.packet j.0 (h.near.now up).out in
           let all = own_goes cfg end here h.trace (moves j.0) in
-          joins laws cfg fine end w h step after_taken taken.side (world_on j.0) (moves j.0) (f.packet ∷ []) [] (f.packet ∷ []) back
-          (subst (λ (o : List ℕ). SessionGoes (link_of cfg end) h.links after_taken here taken.side.near taken.side.out [] (o ∷ []) back after_taken.met) f.spells goes_up_one)
-          up up_after j.1 near takes (heard_plain (settings_from end cfg) w.near.layer taken packet_octets some quiet) kept (tt, pulls_bring_octets end here j.0) (there, pair_on j.0)
+          joins laws cfg fine end w h step after_taken taken.side (world_on j.0) (moves j.0) (f.packet ∷ []) (f.packet ∷ []) (packet_octets ∷ [])
+          (ap (λ (r : Result PlainPacket PacketError). r ∷ []) f.reads) back goes_up_one up up_after (handed_puts none) j.1.layer near takes (heard_plain (settings_from end cfg) w.near.layer taken packet_octets some quiet) kept (tt, pulls_bring_octets end here j.0) (there, pair_on j.0)
           (λ o. may_ask end Receives (line.Put o) is_at tt) reach_taken (λ nothing. absurd (not_empty f.packet nothing)) (pairs_on j.0) met_taken.more
           (λ first. inr (record {
             has_met = subst (λ (ms : List Meeting). HasMet here there ms) (sym met_now) (inl (refl, refl));

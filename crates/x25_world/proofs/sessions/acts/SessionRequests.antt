@@ -1,5 +1,5 @@
--- A command to the layer in a session: its own packet is put, and then what waits.
-use Rattle.std.proofs.Common.{◌≡◌, ℕ, suc, ◌==◌, ◌⊎◌, inl, inr, List, [], ◌∷◌, ◌++◌, map, Bool, true, refl, sym, ap, ◌∙◌, subst, append-nil, arith, false, if◌then◌else◌}
+-- A command to the layer in a session, without or with something given: its own packet is put, and then what waits.
+use Rattle.std.proofs.Common.{◌≡◌, ℕ, suc, ◌==◌, ◌⊎◌, inl, inr, List, [], ◌∷◌, ◌++◌, map, Bool, true, refl, sym, ap, ◌∙◌, subst, append-nil, arith, false, if◌then◌else◌, ◌&&◌}
 use Rattle.std.proofs.lemmas.List.{append_cancel_left}
 use Rattle.x25_bits.specs.declared.role.Role.{Role}
 use Rattle.x25_frame.specs.Frame.{PlainFrame}
@@ -11,6 +11,7 @@ use Rattle.x25_link.specs.Link.{alone}
 use Rattle.x25_line.specs.laws.Stations as line
 use Rattle.x25_line.specs.laws.Sessions.{Meeting, Sessions}
 use Rattle.x25_line.specs.laws.SessionClaims.{octets_of}
+use Rattle.x25_given.specs.Given.{PlainGiven, may_give}
 use Rattle.x25_layer.specs.Layer.{Layer, LayerNotice}
 use Rattle.x25_circuit.specs.Calling as circuit
 use Rattle.x25_layer.specs.Calls as asked
@@ -25,21 +26,23 @@ use Rattle.x25_station.specs.declared.config.Cfg.{Cfg}
 use Rattle.x25_station.specs.Config.{Settings, settings_from, layer_settings, link_settings}
 use Rattle.x25_station.specs.Command as command
 use Rattle.x25_station.specs.Entry.{layer_notices, StationEntry}
-use Rattle.x25_station.specs.Step.{Step, Outcome, Did, Refused, requests, did, entries_of_outcome}
-use Rattle.x25_station.specs.laws.JoinLaw.{station_with, IsJoined}
+use Rattle.x25_station.specs.Giving.{suits, is_taken, view_given, not_taken}
+use Rattle.x25_station.specs.Step.{Step, Outcome, Did, Refused, requests, did, entries_of_outcome, gave, gives}
+use Rattle.x25_station.specs.laws.GivenLaw.{GivesOctets}
+use Rattle.x25_station.specs.laws.JoinLaw.{station_with, MovesAs}
 use Rattle.x25_station.specs.laws.KeepLaw.{IsKept, KeptBy}
 use Rattle.x25_station.specs.laws.ReadLaw.{AreReadable, RequestsOctets}
 use Rattle.x25_world.specs.World.{World, Commands, of_station, after, after_step}
 use Rattle.x25_world.specs.laws.Claims.{link_of}
-use Rattle.x25_world.proofs.Known.{IsConfigured}
-use Rattle.x25_world.proofs.Growing.{spelled}
+use Rattle.x25_world.proofs.Known.{IsConfigured, both_true}
+use Rattle.x25_world.proofs.Growing.{all_read, as_read}
 use Rattle.x25_world.proofs.sessions.SessionTrace.{layer_of, Done, moved, own, own_goes, pair_at, events_of, pair_more, pair_same, TakeNothing, nothing_goes, BringOctets, octets_append}
 use Rattle.x25_world.proofs.sessions.SessionReaches.{Beginning, MayAsk, IsAt, may_ask, SessionsReach}
 use Rattle.x25_world.proofs.sessions.SessionJoined.{HasMet, PairIsInOrder, PairsAreInOrder, SessionsJoined}
 use Rattle.x25_world.specs.laws.LawsBelow.{SessionLaws}
 use Rattle.x25_world.proofs.sessions.SessionKnown.{met_in_order, all_map, pair_ends, own_quiet, own_readable, nothing_in_order}
 use Rattle.x25_world.proofs.sessions.SessionEntries.{ArePlain, outcome_plain}
-use Rattle.x25_world.proofs.sessions.SessionLinks.{puts_up, SessionGoes, puts_go, stays_goes, PutsRead}
+use Rattle.x25_world.proofs.sessions.SessionLinks.{puts_up, SessionGoes, PutsOctets, spelled, puts_spelled, spelled_with, puts_spelled_with, AreReadBack, spelled_back, spelled_with_back, back_read, back_octets, puts_go, stays_goes, PutsRead}
 use Rattle.x25_world.proofs.sessions.SessionGoes.{same_or_not, IsNews, goes_on}
 use Rattle.x25_world.proofs.sessions.SessionMoves.{own_pulls, pulls_take_nothing, pulls_bring_octets, near_pulls, request_leaves}
 use Rattle.x25_station.specs.declared.error.StationError.{StationError}
@@ -65,6 +68,17 @@ did_entries : (c : Settings) (t : Side) (entries : List StationEntry) (a : Answe
 did_entries c t entries (Went s) step is = ap (λ (o : Outcome). (step_in step o).entries) (sym is)
 did_entries c t entries (Refuses e) step is = refused_did (error.Layer e) step is
 
+-- the same with something given, which is taken then
+gave_entries : (c : Settings) (g : PlainGiven) (taken : Bool) (t : Side) (entries : List StationEntry) (a : Answered) (step : Step) → gave c g taken t entries a ≡ Did step → step.entries ≡ entries
+gave_entries c g true t entries (Went s) step is = ap (λ (o : Outcome). (step_in step o).entries) (sym is)
+gave_entries c g false t entries (Went s) step is = refused_did not_taken step is
+gave_entries c g taken t entries (Refuses e) step is = refused_did (error.Layer e) step is
+
+gave_taken : (c : Settings) (g : PlainGiven) (taken : Bool) (t : Side) (entries : List StationEntry) (a : Answered) (step : Step) → gave c g taken t entries a ≡ Did step → taken ≡ true
+gave_taken c g true t entries a step is = refl
+gave_taken c g false t entries (Went s) step is = refused_did not_taken step is
+gave_taken c g false t entries (Refuses e) step is = refused_did (error.Layer e) step is
+
 pub readable_behind : (long_data : Bool) (ps qs : List PlainPacket) → AreReadable long_data (ps ++ qs) → AreReadable long_data qs
 readable_behind long_data [] qs h = h
 readable_behind long_data (p ∷ ps) qs h = readable_behind long_data ps qs h.1
@@ -82,6 +96,19 @@ did_up c s request step is = by (is_up s.link.phase) refl
         refused_did (error.Layer layer_error.NotUp) step
         (sym (ap (λ (b : Bool). did c (alone s.link) (entries_of_outcome (layer_settings c) s.layer request (layer_outcome (layer_settings c) (view.waits [] == 256) s.layer request))
         (if b then went view (layer_settings c) (layer_outcome (layer_settings c) (view.waits [] == 256) s.layer request) else Refuses layer_error.NotUp)) off) ∙ is)
+
+gave_up : (c : Settings) (s : Station) (g : PlainGiven) (request : LayerRequest) (step : Step) → gives c s g request ≡ Did step → is_up s.link.phase ≡ true
+gave_up c s g request step is = by (is_up s.link.phase) refl
+  where
+    view : LinkView
+    view = view_given (link_settings c) g s.link
+
+    by : (b : Bool) → is_up s.link.phase ≡ b → is_up s.link.phase ≡ true
+    by true up = up
+    by false off =
+        refused_did (error.Layer layer_error.NotUp) step
+        (sym (ap (λ (b : Bool). gave c g (is_taken c g request) (alone s.link) (entries_of_outcome (layer_settings c) s.layer request (layer_outcome (layer_settings c) (waits s.link.outgoing == 256) s.layer request))
+        (if b then went view (layer_settings c) (layer_outcome (layer_settings c) (waits s.link.outgoing == 256) s.layer request) else Refuses layer_error.NotUp)) off) ∙ is)
 
 no_faults_behind : (xs ys : List LayerNotice) → AreNoFaults (xs ++ ys) → AreNoFaults ys
 no_faults_behind [] ys h = h
@@ -136,45 +163,42 @@ module _ {since : Beginning} (laws : SessionLaws) (cfg : Cfg) (fine : IsConfigur
       (subst (AreReadable cfg.long_data) (ap (λ (e : layer.End). e.given) (own_goes cfg end session h.trace moves) ∙ given)
       (own_readable laws cfg fine end session paired.0 (h.trace ++ moved end session moves) paired.1 (octets_append h.trace (moved end session moves) h.octets octets)))
 
-  -- the link's own step is at `v`, with the side `t`; behind it go the packets that the layer puts
-  module _ (step : Step) (v : Sessions) (t : Side) (u : layer.TwoLayers) (moves : List OwnMove) (lifted behind coming : List PlainPacket) (back : List (List ℕ))
-      (g : SessionGoes (link_of cfg end) h.links v session t.near t.out [] (spelled lifted) back v.met) (up : is_up w.near.link.phase ≡ true) (up_after : is_up t.near.phase ≡ true)
-      (j : IsJoined (settings_from end cfg) (apart.alone own_now coming) u t behind step) (near : u.near ≡ own_run (layer_of cfg end) moves own_now)
+  -- the link's own step is at `v`, with the side `t`; behind it go the octets of the packets that the layer puts
+  module _ (step : Step) (v : Sessions) (t : Side) (u : layer.TwoLayers) (moves : List OwnMove) (lifted coming : List PlainPacket) (came : List (List ℕ)) (took : all_read cfg came ≡ as_read lifted) (back : List (List ℕ))
+      (g : SessionGoes (link_of cfg end) h.links v session t.near t.out [] came back v.met) (up : is_up w.near.link.phase ≡ true) (up_after : is_up t.near.phase ≡ true)
+      (p : PutsRead cfg end t step) (m : MovesAs (apart.alone own_now coming) u p.packets step) (near : u.near ≡ own_run (layer_of cfg end) moves own_now)
       (taken : (own_run (layer_of cfg end) moves own_now).taken ≡ own_now.taken ++ lifted) (plain : ArePlain step.entries) (kept : IsKept step.near)
       (octets : BringOctets (moved end session moves)) (paired : (m : ℕ) × PairIsInOrder cfg end (h.trace ++ moved end session moves) session m) where
     abbrev own_then : layer.End
     own_then = own_run (layer_of cfg end) moves own_now
 
-    given_then : own_then.given ≡ own_now.given ++ j.packets
-    given_then = ap (λ (e : layer.End). e.given) (sym near) ∙ j.layer.given
-
     told_then : own_then.told ≡ own_now.told ++ layer_notices step.entries
-    told_then = ap (λ (e : layer.End). e.told) (sym near) ∙ j.layer.told
+    told_then = ap (λ (e : layer.End). e.told) (sym near) ∙ m.told
 
     pub joins : ((octets : List ℕ) → MayAsk since end (line.Put octets)) → SessionsReach since cfg end v → (lifted ≡ [] → TakeNothing moves) → PairsAreInOrder cfg end (h.trace ++ moved end session moves) v.met → ((n m : ℕ) → HasMet n m h.links.met → HasMet n m v.met)
         → (own_now.taken ≡ [] → ((lifted ≡ []) × (layer_notices step.entries ≡ [])) ⊎ IsNews session h.links.far.begun v.met (layer_notices step.entries))
         → SessionsJoined since cfg end (after_step (settings_from end cfg) w back step)
     joins asks reach alone pairs more news =
-        let r = puts_go cfg end h.links v session j.packets t [] (spelled lifted) back v.met asks reach g j.link.accepted (puts_readable moves j.packets given_then octets paired) in
-        let still : is_up step.near.link.phase ≡ true = ap (λ (s : LinkStation). is_up s.phase) j.link.link ∙ puts_up laws.stations.put_tells (link_of cfg end) j.packets t up_after in
-        goes_on cfg end w h step back r.links v.met moves j.packets lifted
+        let r = puts_go cfg end h.links v session p.handed p.packets t [] came back v.met asks reach g p.link.accepted p.readable in
+        let still : is_up step.near.link.phase ≡ true = ap (λ (s : LinkStation). is_up s.phase) p.link.link ∙ puts_up laws.stations.put_tells (link_of cfg end) p.handed t up_after in
+        goes_on cfg end w h step back r.links v.met moves p.packets lifted p.handed came (back_read cfg p.handed p.packets p.readable) took (back_octets cfg p.handed p.packets p.readable)
         (record {
-          station = r.goes.station ∙ sym j.link.link;
+          station = r.goes.station ∙ sym p.link.link;
           begun = r.goes.begun;
           down = r.goes.down;
           up = r.goes.up;
           far = r.goes.far;
-          out = r.goes.out ∙ ap (λ (fs : List PlainFrame). octets_of h.links.out ++ map (spelling_of end) fs) (sym j.link.out);
+          out = r.goes.out ∙ ap (λ (fs : List PlainFrame). octets_of h.links.out ++ map (spelling_of end) fs) (sym p.link.out);
           back = r.goes.back;
-          sent = r.goes.sent ∙ ap (λ (fs : List PlainFrame). h.links.sent ++ fs) (sym j.link.out);
+          sent = r.goes.sent ∙ ap (λ (fs : List PlainFrame). h.links.sent ++ fs) (sym p.link.out);
           met = r.goes.met;
         })
         (record {
-          layer = ap (λ (e : layer.End). e.layer) (sym near) ∙ j.layer.layer;
-          out = ap (λ (e : layer.End). e.is_out) (sym near) ∙ j.layer.up;
-          given = given_then;
+          layer = ap (λ (e : layer.End). e.layer) (sym near) ∙ m.layer;
+          out = ap (λ (e : layer.End). e.is_out) (sym near) ∙ m.up;
+          given = ap (λ (e : layer.End). e.given) (sym near) ∙ m.given;
           taken = taken;
-          entries = ap (λ (e : layer.End). e.entries) (sym near) ∙ j.layer.entries;
+          entries = ap (λ (e : layer.End). e.entries) (sym near) ∙ m.entries;
           told = told_then;
         })
         up still plain kept r.reach alone
@@ -184,63 +208,115 @@ module _ {since : Beginning} (laws : SessionLaws) (cfg : Cfg) (fine : IsConfigur
 
   -- ---- a command
 
-  module _ (request : LayerRequest) (octets : RequestsOctets request) (step : Step) (is : requests (settings_from end cfg) w.near request ≡ Did step) where
+  -- the layer does so, and pulls at these channels: it puts these packets, of which these octets are handed down
+  record IsAsked (request : LayerRequest) (step : Step) : Type 0 where
+    channels : List ℕ
+    packets : List PlainPacket
+    handed : List (List ℕ)
+    link : PutsOctets (settings_from end cfg) (alone w.near.link) handed step
+    layer : MovesAs (apart.alone own_now []) (moves_all (layer_of cfg end) (apart.alone own_now []) (Requested (waits w.near.link.outgoing == 256) request ∷ pulls_of channels)) packets step
+    back : AreReadable cfg.long_data packets → AreReadBack cfg handed packets
+    up : is_up w.near.link.phase ≡ true
+    plain : ArePlain step.entries
+    kept : IsKept step.near
+
+  module _ (request : LayerRequest) (octets : RequestsOctets request) (step : Step) (a : IsAsked request step) where
     abbrev full : Bool
     full = waits w.near.link.outgoing == 256
 
     abbrev begin : layer.TwoLayers
     begin = apart.alone own_now []
 
-    abbrev moves : List ℕ → List OwnMove
-    moves channels = Requests full request ∷ own_pulls channels
+    abbrev moves : List OwnMove
+    moves = Requests full request ∷ own_pulls a.channels
 
-    abbrev world_on : List ℕ → layer.TwoLayers
-    world_on channels = moves_all (layer_of cfg end) begin (Requested full request ∷ pulls_of channels)
+    abbrev world_on : layer.TwoLayers
+    world_on = moves_all (layer_of cfg end) begin (Requested full request ∷ pulls_of a.channels)
 
-    up : is_up w.near.link.phase ≡ true
-    up = did_up (settings_from end cfg) w.near request step is
+    near_on : world_on.near ≡ own_run (layer_of cfg end) moves own_now
+    near_on = near_pulls (layer_of cfg end) (layer.moves (layer_of cfg end) begin (Requested full request)) a.channels
 
-    -- the layer does so, and pulls at these channels
-    joined_on : (channels : List ℕ) × IsJoined (settings_from end cfg) begin (world_on channels) (alone w.near.link) [] step
-    joined_on =
-        let c : Settings = settings_from end cfg in
-        let now = h.near.now up in
-        let j = laws.stations.request c w.near.link begin request step now.out h.near.kept.few (ap (λ (l : Layer). requests c (station_with w.near.link l) request) now.layer ∙ is) in
-        (j.0, j.2)
+    pair_on : (m : ℕ) × PairIsInOrder cfg end (h.trace ++ moved end session moves) session m
+    pair_on = (let pair = session_pair session in (pair.0, pair_goes_quietly laws cfg end h.trace session moves (tt, pulls_take_nothing a.channels) session pair.0 pair.1))
 
-    near_on : (channels : List ℕ) → (world_on channels).near ≡ own_run (layer_of cfg end) (moves channels) own_now
-    near_on channels = near_pulls (layer_of cfg end) (layer.moves (layer_of cfg end) begin (Requested full request)) channels
+    asked_puts : PutsRead cfg end (alone w.near.link) step
+    asked_puts = record {
+      handed = a.handed;
+      packets = a.packets;
+      link = a.link;
+      readable = a.back (puts_readable moves a.packets (ap (λ (e : layer.End). e.given) (sym near_on) ∙ a.layer.given) (octets, pulls_bring_octets end session a.channels) pair_on);
+    }
 
-    pair_on : (channels : List ℕ) → (m : ℕ) × PairIsInOrder cfg end (h.trace ++ moved end session (moves channels)) session m
-    pair_on channels = (let pair = session_pair session in (pair.0, pair_goes_quietly laws cfg end h.trace session (moves channels) (tt, pulls_take_nothing channels) session pair.0 pair.1))
-
-    pub request_puts : PutsRead cfg end (alone w.near.link) step
-    request_puts =
-        let j = joined_on in
-        record {
-          packets = j.1.packets;
-          link = j.1.link;
-          readable = puts_readable (moves j.0) j.1.packets (ap (λ (e : layer.End). e.given) (sym (near_on j.0)) ∙ j.1.layer.given) (octets, pulls_bring_octets end session j.0) (pair_on j.0);
-        }
-
-    accepted_joined : (asked : LayerRequest) → IsAt since end (Commands (command.Requests asked)) → SessionsJoined since cfg end (after_step (settings_from end cfg) w w.back step)
-    accepted_joined asked is_at =
-        let c : Settings = settings_from end cfg in
-        let j = joined_on in
-        let nothing : TakeNothing (moves j.0) = (tt, pulls_take_nothing j.0) in
-        let near = near_on j.0 in
-        let leaves = request_leaves (layer_of cfg end) own_now full request j.0 in
+    asked_joined : ((o : List ℕ) → MayAsk since end (line.Put o)) → SessionsJoined since cfg end (after_step (settings_from end cfg) w w.back step)
+    unfolding asked_puts
+    asked_joined may =
+        let nothing : TakeNothing moves = (tt, pulls_take_nothing a.channels) in
+        let leaves = request_leaves (layer_of cfg end) own_now full request a.channels in
         let untold : layer_notices step.entries ≡ [] =
-        append_cancel_left own_now.told (layer_notices step.entries) [] (sym j.1.layer.told ∙ ap (λ (e : layer.End). e.told) near ∙ leaves.told ∙ sym (append-nil own_now.told)) in
-        joins step h.links (alone w.near.link) (world_on j.0) (moves j.0) [] [] [] w.back (stays_goes (link_of cfg end) h.links w.near.link w.back h.near.link h.back) up up j.1 near (leaves.taken ∙ sym (append-nil own_now.taken))
-        (subst ArePlain (sym (did_entries c (alone w.near.link) _ _ step is)) (outcome_plain (layer_settings c) w.near.layer request _))
-        (subst KeptBy is (laws.stations.request_keeps c w.near request h.near.kept)) (octets, pulls_bring_octets end session j.0) (pair_on j.0)
-        (λ o. may_ask end (Commands (command.Requests asked)) (line.Put o) is_at tt) h.reach (λ none. nothing) (pairs_go_quietly laws cfg end h.trace session (moves j.0) nothing h.links.met h.pairs) (λ n m has. has) (λ none. inl (refl, untold))
+        append_cancel_left own_now.told (layer_notices step.entries) [] (sym a.layer.told ∙ ap (λ (e : layer.End). e.told) near_on ∙ leaves.told ∙ sym (append-nil own_now.told)) in
+        joins step h.links (alone w.near.link) world_on moves [] [] [] refl w.back (stays_goes (link_of cfg end) h.links w.near.link w.back h.near.link h.back) a.up a.up asked_puts a.layer near_on (leaves.taken ∙ sym (append-nil own_now.taken))
+        a.plain a.kept (octets, pulls_bring_octets end session a.channels) pair_on
+        may h.reach (λ none. nothing) (pairs_go_quietly laws cfg end h.trace session moves nothing h.links.met h.pairs) (λ n m has. has) (λ none. inl (refl, untold))
+
+  -- ---- without anything given
+
+  request_asked : (request : LayerRequest) (step : Step) → requests (settings_from end cfg) w.near request ≡ Did step → IsAsked request step
+  request_asked request step is =
+      let c : Settings = settings_from end cfg in
+      let up = did_up c w.near request step is in
+      let now = h.near.now up in
+      let j = laws.stations.request c w.near.link (apart.alone own_now []) request step now.out h.near.kept.few (ap (λ (l : Layer). requests c (station_with w.near.link l) request) now.layer ∙ is) in
+      record {
+        channels = j.0;
+        packets = j.2.packets;
+        handed = spelled j.2.packets;
+        link = puts_spelled c (alone w.near.link) j.2.packets step j.2.link;
+        layer = j.2.layer;
+        back = spelled_back cfg j.2.packets;
+        up = up;
+        plain = subst ArePlain (sym (did_entries c (alone w.near.link) _ _ step is)) (outcome_plain (layer_settings c) w.near.layer request _);
+        kept = subst KeptBy is (laws.stations.request_keeps c w.near request h.near.kept);
+      }
+
+  pub request_puts : (request : LayerRequest) → RequestsOctets request → (step : Step) → requests (settings_from end cfg) w.near request ≡ Did step → PutsRead cfg end (alone w.near.link) step
+  request_puts request octets step is = asked_puts request octets step (request_asked request step is)
 
   -- what is asked for may be said in full
   pub requests_joined : (asked request : LayerRequest) → IsAt since end (Commands (command.Requests asked)) → RequestsOctets request → SessionsJoined since cfg end (after w (of_station (settings_from end cfg) w (requests (settings_from end cfg) w.near request)))
   requests_joined asked request is_at octets = by (requests (settings_from end cfg) w.near request) refl
     where
       by : (o : Outcome) → requests (settings_from end cfg) w.near request ≡ o → SessionsJoined since cfg end (after w (of_station (settings_from end cfg) w o))
-      by (Did step) is = accepted_joined request octets step is asked is_at
+      by (Did step) is = asked_joined request octets step (request_asked request step is) (λ o. may_ask end (Commands (command.Requests asked)) (line.Put o) is_at tt)
+      by (Refused e) is = h
+
+  -- ---- with something given
+
+  given_asked : (g : PlainGiven) (request : LayerRequest) → GivesOctets g → (step : Step) → gives (settings_from end cfg) w.near g request ≡ Did step → IsAsked request step
+  given_asked g request of_given step is =
+      let c : Settings = settings_from end cfg in
+      let up = gave_up c w.near g request step is in
+      let now = h.near.now up in
+      let j = laws.stations.given c g w.near.link (apart.alone own_now []) request step now.out h.near.kept.few (ap (λ (l : Layer). gives c (station_with w.near.link l) g request) now.layer ∙ is) in
+      let taken = both_true c.wide (may_give g && suits g request) (gave_taken c g (is_taken c g request) (alone w.near.link) _ _ step is) in
+      record {
+        channels = j.0;
+        packets = j.2.packets;
+        handed = spelled_with g j.2.packets;
+        link = puts_spelled_with c g (alone w.near.link) j.2.packets step j.2.link;
+        layer = j.2.layer;
+        back = spelled_with_back laws.stations.given_read cfg g j.2.packets taken.0 (both_true (may_give g) (suits g request) taken.1).0 of_given;
+        up = up;
+        plain = subst ArePlain (sym (gave_entries c g (is_taken c g request) (alone w.near.link) _ _ step is)) (outcome_plain (layer_settings c) w.near.layer request _);
+        kept = subst KeptBy is (laws.stations.given_keeps c w.near g request h.near.kept);
+      }
+
+  pub given_puts : (g : PlainGiven) (request : LayerRequest) → GivesOctets g → RequestsOctets request → (step : Step) → gives (settings_from end cfg) w.near g request ≡ Did step → PutsRead cfg end (alone w.near.link) step
+  given_puts g request of_given octets step is = asked_puts request octets step (given_asked g request of_given step is)
+
+  pub gives_joined : (g : PlainGiven) (asked request : LayerRequest) → IsAt since end (Commands (command.RequestsWith g asked)) → GivesOctets g → RequestsOctets request
+      → SessionsJoined since cfg end (after w (of_station (settings_from end cfg) w (gives (settings_from end cfg) w.near g request)))
+  gives_joined g asked request is_at of_given octets = by (gives (settings_from end cfg) w.near g request) refl
+    where
+      by : (o : Outcome) → gives (settings_from end cfg) w.near g request ≡ o → SessionsJoined since cfg end (after w (of_station (settings_from end cfg) w o))
+      by (Did step) is = asked_joined request octets step (given_asked g request of_given step is) (λ o. may_ask end (Commands (command.RequestsWith g asked)) (line.Put o) is_at tt)
       by (Refused e) is = h

@@ -24,16 +24,14 @@ use Rattle.x25_world.specs.World.{World, swapped}
 use Rattle.x25_world.specs.laws.Sessions.{Progress, last_session, handed_in, meets}
 use Rattle.x25_world.specs.laws.SessionClaims.{OpenStretchesMeet, AllArrive}
 use Rattle.x25_world.proofs.Known.{IsConfigured, both_true, true_false}
-use Rattle.x25_world.proofs.Growing.{spelled, spelled_none}
+use Rattle.x25_world.proofs.Growing.{all_read, as_read, none_read, as_many}
 use Rattle.x25_world.proofs.sessions.SessionTrace.{layer_of, Done, own_in, own, pair_in}
 use Rattle.x25_world.proofs.sessions.SessionReaches.{Beginning, known_sessions}
 use Rattle.x25_world.proofs.sessions.SessionJoined.{HasMet, PairIsInOrder, SessionsJoined, sessions_swapped}
 use Rattle.x25_world.specs.laws.LawsBelow.{SessionLaws}
 use Rattle.x25_world.proofs.sessions.SessionKnown.{all_some, some_map, met_in_order, pair_world, world_here, world_there}
-use Rattle.x25_packet.specs.Spelling as packet
 use Rattle.x25_layer.specs.code.FitsLayer.{waits_up_to}
 use Rattle.std.proofs.lemmas.Bool.{eqb-true, eq-eqb, leb-true}
-use Rattle.std.proofs.lemmas.List.{length-map}
 
 -- ---- a stretch that is open
 
@@ -82,7 +80,7 @@ link_idle cfg end s idle = (both_true (link.is_idle s.link) (waits_up_to s.layer
 
 -- between an idle end and the other one, where all that its link was handed down arrived, and the same stretch is open at both
 idle_between : (cfg : Cfg) (end : Role) (s t : Station) (giver taker : layer.End) (k : ℕ) (name : Name) → giver.layer ≡ s.layer → taker.layer ≡ t.layer → is_idle (settings_from end cfg) s ≡ true
-    → stretch (settings_from end cfg) s k ≡ Some name → stretch (settings_from (other end) cfg) t k ≡ Some name → spelled taker.taken ≡ spelled giver.given → IsIdleTo k giver taker (length giver.given)
+    → stretch (settings_from end cfg) s k ≡ Some name → stretch (settings_from (other end) cfg) t k ≡ Some name → as_read taker.taken ≡ as_read giver.given → IsIdleTo k giver taker (length giver.given)
 idle_between cfg end s t giver taker k name of_giver of_taker idle here there all =
     let both = both_true (link.is_idle s.link) (waits_up_to s.layer.circuits cfg.channels == 0) idle in
     let opened = stretch_of cfg.channels s.layer k name here in
@@ -90,8 +88,7 @@ idle_between cfg end s t giver taker k name of_giver of_taker idle here there al
     let bounds = both_true (nat_le 1 k) (nat_le k cfg.channels) opened.channel in
     let none : waits (s.layer.circuits k) ≡ 0 =
     none_waits s.layer.circuits cfg.channels k (eqb-true (waits_up_to s.layer.circuits cfg.channels) 0 both.1) (leb-true 1 k bounds.0) (leb-true k cfg.channels bounds.1) in
-    let count : length taker.taken ≡ length giver.given =
-    sym (length-map taker.taken packet.spelling_of) ∙ ap (λ (l : List (List ℕ)). length l) all ∙ length-map giver.given packet.spelling_of in
+    let count : length taker.taken ≡ length giver.given = as_many taker.taken giver.given all in
     record {
       all_acked = refl;
       acked_taken = omega (arith, count);
@@ -161,7 +158,7 @@ module _ (laws : SessionLaws) (cfg : Cfg) (fine : IsConfigured cfg) where
       not_silent nothing =
           let e = own cfg end n h.trace in
           let session = h.near.sessions n (h.near.first up) (omega arith) in
-          let silent = laws.alone (layer_of cfg end) (own_in end n h.trace) (spelled_none e.taken (sym session.up ∙ nothing)) in
+          let silent = laws.alone (layer_of cfg end) (own_in end n h.trace) (none_read e.taken (sym session.up ∙ ap (all_read cfg) nothing)) in
           not_both (e.layer.circuits k).state (silent.free k) (ap (λ (l : Layer). is_open (l.circuits k)) (h.near.now up).layer ∙ open_here)
 
       is_latest : (m : ℕ) → HasMet n m h.links.met → m ≡ h.links.far.begun
@@ -208,7 +205,7 @@ module _ (laws : SessionLaws) (cfg : Cfg) (fine : IsConfigured cfg) where
       let far_session = h.far.sessions m stands.begun.1 (omega arith) in
       let met = some_map (λ (p : Meeting). (p.near ≡ n) × (p.far ≡ m)) (λ (p : Meeting). p.near ≡ n) (λ (p : Meeting) is. is.0) h.links.met stands.has_met in
       let arrived = (known_sessions IdleHasArrived laws.idle cfg fine end h.links h.reach).near (ap (λ (x : LinkStation). link.is_idle x) h.near.link ∙ link_idle cfg end w.near idle) (inr met) in
-      let all : spelled taker.taken ≡ spelled giver.given = sym far_session.up ∙ arrived ∙ near_session.down in
+      let all : as_read taker.taken ≡ as_read giver.given = sym far_session.up ∙ ap (all_read cfg) arrived ∙ near_session.down in
       let named : name_of giver.layer k ≡ name = ap (λ (l : Layer). name_of l k) of_giver ∙ (stretch_of cfg.channels w.near.layer k name here).named in
       let order = met_in_order cfg end h.trace h.links.met n m h.pairs stands.has_met in
       let has_all = own_arrives laws cfg end n m h.trace order k (length giver.given) (idle_between cfg end w.near w.far giver taker k name of_giver of_taker idle here there all) in

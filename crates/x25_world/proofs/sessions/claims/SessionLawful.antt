@@ -10,13 +10,13 @@ use Rattle.x25_layer.specs.laws.TwoLayers as layer
 use Rattle.x25_layer.specs.laws.Transcript.{Entry}
 use Rattle.x25_layer.specs.laws.Law.{HandsUpLawfully}
 use Rattle.x25_station.specs.declared.config.Cfg.{Cfg}
-use Rattle.x25_station.specs.Entry.{StationEntry, of_channel, restart_asked, connect_asked, disconnect_asked, link_up, link_down, was_restarted, restart_confirmed, at_fault, came_beside, was_diagnosed, layer_notices}
+use Rattle.x25_station.specs.Entry.{StationEntry, link_up, link_down, layer_notices}
 use Rattle.x25_world.specs.World.{World, swapped}
 use Rattle.x25_world.specs.laws.Claims.{entries_at}
 use Rattle.x25_world.specs.laws.Sessions.{Progress, none_begun, after_entry, is_in, entry_if, session_from, session_at, handed_in, meets}
 use Rattle.x25_world.specs.laws.SessionClaims.{AreLawfulWhereMet, UnmetAreToldNothing}
 use Rattle.x25_world.proofs.Known.{IsConfigured}
-use Rattle.x25_world.proofs.Growing.{spelled_none}
+use Rattle.x25_world.proofs.Growing.{all_read, none_read}
 use Rattle.x25_world.proofs.sessions.SessionTrace.{layer_of, Done, own_in, own, pair_in}
 use Rattle.x25_world.proofs.sessions.SessionReaches.{Beginning, known_sessions}
 use Rattle.x25_world.proofs.sessions.SessionJoined.{HasMet, PairIsInOrder, SessionsJoined, sessions_swapped}
@@ -116,7 +116,7 @@ module _ (laws : SessionLaws) (cfg : Cfg) (fine : IsConfigured cfg) where
       at_session : 1 ≤ n → n ≤ h.links.near.begun → layer_notices (session_at end n w.transcript) ≡ []
       at_session low high =
           let session = h.near.sessions n low high in
-          sym session.told ∙ (laws.alone (layer_of cfg end) (own_in end n h.trace) (spelled_none (own cfg end n h.trace).taken (sym session.up ∙ nothing_up))).told
+          sym session.told ∙ (laws.alone (layer_of cfg end) (own_in end n h.trace) (none_read (own cfg end n h.trace).taken (sym session.up ∙ ap (all_read cfg) nothing_up))).told
 
   pub unmet_told_nothing : {since : Beginning} (w : World) → SessionsJoined since cfg Dte w → UnmetAreToldNothing cfg w
   unmet_told_nothing w h Dte n unmet = untold_from Dte w h n unmet

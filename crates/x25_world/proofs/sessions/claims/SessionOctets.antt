@@ -1,30 +1,23 @@
 -- Over set-up and re-set-up all that is ever put on the line is octets, at most as many as a frame has.
-use Rattle.std.proofs.Common.{ℕ, zero, suc, Bool, List, [], ◌∷◌, Contains, sym, subst, arith, ◌<◌}
+use Rattle.std.proofs.Common.{ℕ, List, [], ◌∷◌, Contains, sym, subst, ◌<◌}
 use Rattle.std.proofs.lemmas.List.Elements.{All-nil}
 use Rattle.x25_bits.specs.declared.role.Role.TheVariants.{Dte}
-use Rattle.x25_frame.specs.Frame.{PlainFrame, info, rr, rnr, rej, sabm, disc, ua, dm, frmr}
+use Rattle.x25_frame.specs.Frame.{PlainFrame, info, frmr}
 use Rattle.x25_frame.specs.Spelling.{information_of}
-use Rattle.x25_packet.specs.Packet.{PlainPacket}
 use Rattle.x25_line.specs.laws.StationClaims.{NoFrmr, IsWhole, AreWhole}
 use Rattle.x25_line.specs.laws.SessionClaims.{NoSessionSendsFrmr, AllSessionsSendWhole}
-use Rattle.x25_layer.specs.laws.Quiet.{AreQuiet}
 use Rattle.x25_station.specs.declared.config.Cfg.{Cfg}
 use Rattle.x25_station.specs.Config.{longest_packet}
-use Rattle.x25_station.specs.laws.ReadLaw.{AreOctets, AreReadable}
+use Rattle.x25_station.specs.laws.ReadLaw.{AreOctets}
 use Rattle.x25_world.specs.World.{OnTap, World}
 use Rattle.x25_world.specs.laws.TapOctets.{AreOfFrame, AreOfFrames, IsTapOfOctets}
 use Rattle.x25_world.proofs.FrameOctets.{spelled_of_frame}
-use Rattle.x25_world.proofs.Growing.{spelled, AreOnTap}
+use Rattle.x25_world.proofs.Growing.{octets_in, AreOnTap}
 use Rattle.x25_world.proofs.Known.{IsConfigured}
 use Rattle.x25_world.proofs.sessions.SessionReaches.{Beginning, known_sessions}
 use Rattle.x25_world.proofs.sessions.SessionJoined.{SessionsJoined}
 use Rattle.x25_world.specs.laws.LawsBelow.{SessionLaws}
 use Rattle.x25_world.proofs.sessions.claims.SessionQuiet.{held_of_given}
-
-packet_octets : (long_data : Bool) (channels : ℕ) (ps : List PlainPacket) → AreQuiet channels ps → AreReadable long_data ps → (octets : List ℕ) → Contains (spelled ps) octets → AreOctets octets
-packet_octets long_data channels [] quiet readable octets (k, low, is) = absurd (omega (arith, low))
-packet_octets long_data channels (p ∷ ps) quiet readable octets (zero, low, is) = subst AreOctets is readable.0.octets
-packet_octets long_data channels (p ∷ ps) quiet readable octets (suc k, low, is) = packet_octets long_data channels ps quiet.1 readable.1 octets (k, omega (arith, low), is)
 
 -- a frame that was sent, and the others, of which none is FRMR
 frame_octets : (given : List (List ℕ)) → ((octets : List ℕ) → Contains given octets → AreOctets octets) → (f : PlainFrame) (fs : List PlainFrame) → IsWhole longest_packet given f → NoFrmr (f ∷ fs)
@@ -45,5 +38,5 @@ tap_octets given holds tap fs on whole none = absurd on
 pub is_of_octets : (laws : SessionLaws) (cfg : Cfg) (fine : IsConfigured cfg) {since : Beginning} (w : World) → SessionsJoined since cfg Dte w → IsTapOfOctets cfg w
 is_of_octets laws cfg fine w h =
     let whole = known_sessions AllSessionsSendWhole laws.whole cfg fine Dte h.links h.reach in
-    tap_octets whole.given (λ octets there. held_of_given laws cfg fine AreOctets (packet_octets cfg.long_data cfg.channels) w h octets (whole.handed_down octets there)) w.tap h.links.sent h.tap whole.whole
+    tap_octets whole.given (λ octets there. held_of_given laws cfg fine AreOctets (λ down ps quiet reads all. octets_in down all) w h octets (whole.handed_down octets there)) w.tap h.links.sent h.tap whole.whole
     (known_sessions NoSessionSendsFrmr laws.no_frmr cfg fine Dte h.links h.reach)

@@ -1,11 +1,9 @@
 -- Where both links are idle, and a pull at the one end changes nothing, what waits in an open stretch there waits for the user at the other end.
 use Rattle.std.proofs.Common.{◌≡◌, ℕ, ◌+◌, ◌<◌, inr, List, [], ◌∷◌, ◌++◌, length, Bool, true, false, Some, None, if◌then◌else◌, ◌==◌, ◌&&◌, refl, sym, ap, subst, ◌∙◌, arith, length-append}
-use Rattle.std.proofs.lemmas.List.{length-map}
 use Rattle.std.proofs.lemmas.Bool.{eqb-true}
 use Rattle.x25_bits.specs.declared.role.Role.{Role}
 use Rattle.x25_bits.specs.declared.role.Role.TheVariants.{Dte, Dce}
 use Rattle.x25_packet.specs.Packet.{PlainPacket}
-use Rattle.x25_packet.specs.Spelling as packet
 use Rattle.x25_link.specs.Hearing.{other}
 use Rattle.x25_link.specs.Outgoing as outgoing
 use Rattle.x25_link.specs.Link as link
@@ -38,7 +36,7 @@ use Rattle.x25_world.specs.laws.SessionClaims.{Throughout}
 use Rattle.x25_world.specs.laws.WaitClaims.{WaitsForUser, Arrived, NotReady, MessagesWaitForUsers, ClosedKeepNone, PullsLeaveNone, UnpulledWaitForUsers}
 use Rattle.x25_world.specs.laws.LawsBelow.{SessionLaws}
 use Rattle.x25_world.proofs.Known.{IsConfigured, is_configured, both_true, true_false}
-use Rattle.x25_world.proofs.Growing.{spelled}
+use Rattle.x25_world.proofs.Growing.{all_read, as_read, as_many}
 use Rattle.x25_world.proofs.sessions.SessionTrace.{layer_of, Done, own, pair_in}
 use Rattle.x25_world.proofs.sessions.SessionReaches.{Beginning, known_sessions}
 use Rattle.x25_world.proofs.sessions.SessionJoined.{PairIsInOrder, SessionsJoined, sessions_swapped}
@@ -77,9 +75,6 @@ none_left : (given taken out : List PlainPacket) → given ≡ taken ++ out → 
 none_left given taken out order all =
     let l : length given ≡ length taken + length out = ap length order ∙ length-append taken out in
     no_length out (let e : length out ≡ 0 = omega (arith, l, all) in e)
-
-as_many : (taken given : List PlainPacket) → spelled taken ≡ spelled given → length taken ≡ length given
-as_many taken given all = sym (length-map taken packet.spelling_of) ∙ ap (λ (l : List (List ℕ)). length l) all ∙ length-map given packet.spelling_of
 
 drained_turned : (w : layer.TwoLayers) → IsDrained (layer.turned w) → IsDrained w
 drained_turned w d = record { near_up = d.far_up; far_up = d.near_up; out = d.back; back = d.out }
@@ -138,8 +133,8 @@ module _ (laws : SessionLaws) (waits_law : LayersWait) (cfg : Cfg) (fine : IsCon
       let has = known_sessions IdleHasArrived laws.idle cfg fine end h.links h.reach in
       let arrived = has.near (ap (λ (x : LinkStation). link.is_idle x) h.near.link ∙ idle) (inr met) in
       let arrived_back = has.far (ap (λ (x : LinkStation). link.is_idle x) h.far.link ∙ idle_there) (inr met_there) in
-      let all : spelled taker.taken ≡ spelled giver.given = sym far_session.up ∙ arrived ∙ near_session.down in
-      let all_back : spelled giver.taken ≡ spelled taker.given = sym near_session.up ∙ arrived_back ∙ far_session.down in
+      let all : as_read taker.taken ≡ as_read giver.given = sym far_session.up ∙ ap (all_read cfg) arrived ∙ near_session.down in
+      let all_back : as_read giver.taken ≡ as_read taker.given = sym near_session.up ∙ ap (all_read cfg) arrived_back ∙ far_session.down in
       let order = met_in_order cfg end h.trace h.links.met n m h.pairs stands.has_met in
       let what = own_waits laws waits_law cfg end n m h.trace order at.out at_there.out (as_many taker.taken giver.given all) (as_many giver.taken taker.given all_back)
       (subst (λ (l : Layer). PullsNone (layer_of cfg end) l) (sym at.layer) none) k shown.channel in

@@ -1,4 +1,4 @@
-use Rattle.std.proofs.Common.{◌≡◌, ◌≤◌, ◌-◌, true}
+use Rattle.std.proofs.Common.{◌≤◌, ◌-◌}
 use Rattle.x25_bits.specs.FrameCheck.{bits_of}
 use Rattle.x25_bits.proofs.LendingLemmas.{Reads}
 use Rattle.x25_bits.proofs.deframer.Deframer.read.Given as goal

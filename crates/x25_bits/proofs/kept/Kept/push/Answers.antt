@@ -1,4 +1,4 @@
-use Rattle.std.proofs.Common.{◌<◌, ◌≤◌, ◌≡◌, ◌∙◌, ap, length, arith}
+use Rattle.std.proofs.Common.{◌<◌, ◌≡◌, ◌∙◌, length, arith}
 use Rattle.x25_bits.proofs.KeepingLemmas.{count_of}
 use Rattle.x25_bits.proofs.kept.Kept.push.Goals as goal
 

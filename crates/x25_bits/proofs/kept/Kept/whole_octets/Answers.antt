@@ -1,4 +1,4 @@
-use Rattle.std.proofs.Common.{◌∙◌, ◌/◌, ap, take, arith}
+use Rattle.std.proofs.Common.{◌∙◌, ◌/◌, ap, take}
 use Rattle.x25_bits.specs.FrameCheck.{bits_of}
 use Rattle.x25_bits.specs.Found.{octets_by}
 use Rattle.x25_bits.proofs.KeepingLemmas.{count_of}

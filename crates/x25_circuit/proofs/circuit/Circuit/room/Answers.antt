@@ -1,4 +1,4 @@
-use Rattle.std.proofs.Common.{◌≡◌, ◌∙◌, ℕ, ◌-◌, Bool, if◌then◌else◌, sym, ap}
+use Rattle.std.proofs.Common.{◌∙◌, ℕ, ◌-◌, Bool, if◌then◌else◌, sym, ap}
 use Rattle.x25_circuit.specs.Circuit.{waits}
 use Rattle.x25_circuit.proofs.circuit.Circuit.room.Goals as goal
 

@@ -13,7 +13,7 @@ returns-clause-layer c = λ s l fits. record {
 }
 
 pub returns-clause-room : goal.returns-clause-room
-returns-clause-room c = λ h len promised has. record { memory = has.memory; promised = has.promised; circuits = c.forget_all.ensures.room h len has.circuits }
+returns-clause-room c = λ h len has. record { memory = has.memory; circuits = c.forget_all.ensures.room h len has.circuits }
 
 pub invariant_of-self-clause-still : goal.invariant_of-self-clause-still
 invariant_of-self-clause-still c = asked_all _ _ c.everywhere-self.ensures (let count = c.forget_all.ensures.count in let few = c.args.self.now.few in omega (arith, count, few))

@@ -1,4 +1,4 @@
-use Rattle.std.proofs.Common.{rules, ◌∙◌, Bool, sym, subst}
+use Rattle.std.proofs.Common.{rules, ◌≡◌, ◌+◌, ◌∙◌, Bool, length, option_to_list, sym, subst, arith}
 use Rattle.x25_packet.specs.Packet.{restart}
 use Rattle.x25_layer.specs.Layer.{answers_in}
 use Rattle.x25_layer.specs.code.FitsLayer.{FitsLayer}
@@ -14,6 +14,9 @@ returns-then-self-clause-hears g c = record {
   nothing = search rules;
   takes = search rules;
   memory = search rules;
+  used = λ s l fits.
+      subst (λ (b : Bool). c.restart_is_done.new.self.memory + length (option_to_list (answers_in s b l.restarts l.circuits (restart c.args.cause c.args.diagnostic)).owed) ≡ c.args.self.now.memory) (sym (sym fits.restarting ∙ c.if-self.true))
+      (let same = c.restart_is_done.ensures.memory in omega (arith, same));
   room = λ h len have still. c.restart_is_done.ensures.room h len have;
 }
 
@@ -27,5 +30,8 @@ returns-clause-hears g c = record {
   nothing = search rules;
   takes = search rules;
   memory = search rules;
+  used = λ s l fits.
+      subst (λ (b : Bool). c.put.new.self.memory + length (option_to_list (answers_in s b l.restarts l.circuits (restart c.args.cause c.args.diagnostic)).owed) ≡ c.args.self.now.memory) (sym (sym fits.restarting ∙ c.if-self.false))
+      (let same = c.restart_is_done-2.ensures.memory in let one = c.put.ensures.memory in omega (arith, same, one));
   room = search rules;
 }

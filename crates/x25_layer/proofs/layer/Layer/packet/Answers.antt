@@ -1,4 +1,4 @@
-use Rattle.std.proofs.Common.{◌≡◌, Bool, option_to_list, sym, ap, subst, arith}
+use Rattle.std.proofs.Common.{◌≡◌, ◌+◌, ◌∙◌, Bool, length, option_to_list, sym, subst, arith}
 use Rattle.x25_packet.specs.Spelling.{longest_user}
 use Rattle.x25_wide.specs.Taking.{read_in}
 use Rattle.x25_layer.specs.Layer.{LayerAnswer}
@@ -24,7 +24,7 @@ returns-clause-layer g c = λ s l x fits link.
     let a : Bool → LayerAnswer = λ b. answer_to s l octets (read_in c.args.wide (longest_user b) octets) in
     c.pull_all.ensures.layer s (begin (a s.circuit.long_data).next (a s.circuit.long_data).owed) x
     (subst (λ (b : Bool). FitsLayer s c.hear.new.self (a b).next) before.long_data (c.in_ok-told.ensures.hears.layer s l before))
-    (subst (λ (b : Bool). g.L.OrderedLink.fits c.hear.new.link (after_all g.L.OrderedLink.after_put x (option_to_list (a b).owed))) before.long_data (c.in_ok-told.ensures.hears.link s l x before (c.reserve_packets.ensures.link x link)))
+    (subst (λ (b : Bool). g.L.OrderedLink.fits c.hear.new.link (after_all g.L.OrderedLink.after_put x (option_to_list (a b).owed))) before.long_data (c.in_ok-told.ensures.hears.link s l x before link))
 
 pub returns-clause-link : goal.returns-clause-link
 returns-clause-link g c = λ s l x fits link.
@@ -33,7 +33,7 @@ returns-clause-link g c = λ s l x fits link.
     let a : Bool → LayerAnswer = λ b. answer_to s l octets (read_in c.args.wide (longest_user b) octets) in
     c.pull_all.ensures.link s (begin (a s.circuit.long_data).next (a s.circuit.long_data).owed) x
     (subst (λ (b : Bool). FitsLayer s c.hear.new.self (a b).next) before.long_data (c.in_ok-told.ensures.hears.layer s l before))
-    (subst (λ (b : Bool). g.L.OrderedLink.fits c.hear.new.link (after_all g.L.OrderedLink.after_put x (option_to_list (a b).owed))) before.long_data (c.in_ok-told.ensures.hears.link s l x before (c.reserve_packets.ensures.link x link)))
+    (subst (λ (b : Bool). g.L.OrderedLink.fits c.hear.new.link (after_all g.L.OrderedLink.after_put x (option_to_list (a b).owed))) before.long_data (c.in_ok-told.ensures.hears.link s l x before link))
 
 pub returns-clause-told : goal.returns-clause-told
 returns-clause-told g c = λ s l view fits.
@@ -41,46 +41,37 @@ returns-clause-told g c = λ s l view fits.
     let octets = c.args.octets.now in
     subst (λ (b : Bool). plain_report c.in_ok-told.told ≡ (answer_to s l octets (read_in c.args.wide (longest_user b) octets)).notices) before.long_data (c.in_ok-told.ensures.hears.told s l before)
 
--- of what is set aside as much is taken here as in the link
+-- ---- of what is set aside
 
 pub returns-clause-used : goal.returns-clause-used
-returns-clause-used g c = λ memory promised.
+returns-clause-used g c = λ s l x fits link memory.
+    let before = c.reserve_packets.ensures.fits s l fits in
+    let octets = c.args.octets.now in
+    let a : Bool → LayerAnswer = λ b. answer_to s l octets (read_in c.args.wide (longest_user b) octets) in
+    let heard = c.in_ok-told.ensures.hears in
+    let here = subst (λ (b : Bool). FitsLayer s c.hear.new.self (a b).next) before.long_data (heard.layer s l before) in
+    let there = subst (λ (b : Bool). g.L.OrderedLink.fits c.hear.new.link (after_all g.L.OrderedLink.after_put x (option_to_list (a b).owed))) before.long_data (heard.link s l x before link) in
+    let owed = subst (λ (b : Bool). c.hear.new.self.memory + length (option_to_list (a b).owed) ≡ c.reserve_packets.new.self.memory) before.long_data (heard.used s l before) in
     let more = c.reserve_packets.ensures.no_fewer in
     let most = c.reserve_packets.ensures.most_memory in
-    let more_promised = c.reserve_packets.ensures.no_fewer_promised in
-    let most_promised = c.reserve_packets.ensures.most_promised in
-    let heard = c.in_ok-told.ensures.hears.takes.used in
-    let pulled = c.pull_all.ensures.takes.used in
-    omega (arith, memory, promised, more, most, more_promised, most_promised, heard, pulled)
+    let aside : c.reserve_packets.new.self.memory ≡ c.args.self.now.memory = omega (arith, memory, more, most) in
+    c.pull_all.ensures.used s (begin (a s.circuit.long_data).next (a s.circuit.long_data).owed) x here there ∙ owed ∙ aside
 
 pub returns-clause-room : goal.returns-clause-room
 returns-clause-room g c = λ h len has still.
     let memory = has.memory in
-    let promised = has.promised in
     let more = c.reserve_packets.ensures.no_fewer in
-    let more_promised = c.reserve_packets.ensures.no_fewer_promised in
-    let most_promised = c.reserve_packets.ensures.most_promised in
-    let heard = c.in_ok-told.ensures.hears.takes.used in
-    let fewer = c.in_ok-told.ensures.hears.takes.no_more in
-    let pulled = c.pull_all.ensures.takes.used in
+    let most = c.reserve_packets.ensures.most_memory in
     let lower = c.pull_all.ensures.takes.no_more in
-    let same : g.L.OrderedLink.promised c.hear.new.link ≡ g.L.OrderedLink.promised c.reserve_packets.new.link = omega (arith, promised, more_promised, most_promised, heard, fewer, pulled, lower, still) in
     record {
-      memory = omega (arith, memory, promised, more, more_promised, most_promised, heard, pulled, lower, fewer, still);
-      promised = omega (arith, promised, still);
-      circuits = c.pull_all.ensures.room h len (c.in_ok-told.ensures.hears.room h len (subst (λ (v : code.Layer). HasRoomOn h len v.circuits.items) (sym c.reserve_packets.ensures.layer) has.circuits) same);
+      memory = omega (arith, memory, still);
+      circuits = c.pull_all.ensures.room h len (c.in_ok-told.ensures.hears.room h len (subst (λ (v : code.Layer). HasRoomOn h len v.circuits.items) (sym c.reserve_packets.ensures.layer) has.circuits) (omega (arith, memory, more, most, lower, still)));
     }
 
-pub returns-in_err-told-clause-room_stays : goal.returns-in_err-told-clause-room_stays
-returns-in_err-told-clause-room_stays g c = λ h len has.
+pub returns-in_err-told-clause-room : goal.returns-in_err-told-clause-room
+returns-in_err-told-clause-room g c = λ h len has still.
     let memory = has.memory in
-    let promised = has.promised in
-    let more = c.reserve_packets.ensures.no_fewer in
-    let more_promised = c.reserve_packets.ensures.no_fewer_promised in
-    let same = c.in_err-told.ensures.stays.memory in
-    let same_promised = ap g.L.OrderedLink.promised c.in_err-told.ensures.stays.link in
-    on_err c.from_residual-in_err-told.result (record {
-      memory = omega (arith, memory, more, same);
-      promised = omega (arith, promised, more_promised, same_promised);
+    record {
+      memory = omega (arith, memory, still);
       circuits = c.in_err-told.ensures.stays.room h len (subst (λ (v : code.Layer). HasRoomOn h len v.circuits.items) (sym c.reserve_packets.ensures.layer) has.circuits);
-    })
+    }

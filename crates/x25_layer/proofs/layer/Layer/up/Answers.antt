@@ -31,7 +31,7 @@ returns-clause-link g c = λ s l x fits link.
     let before = c.reserve_packets.ensures.fits s l fits in
     let cause : c.restart_cause.result ≡ restart_cause s.circuit.role = subst (λ r. c.restart_cause.result ≡ restart_cause r) before.role c.restart_cause.ensures in
     subst (λ (p : Putting). g.L.OrderedLink.fits c.put.new.link (after_all g.L.OrderedLink.after_put x p.put)) (sym (comes_up_alone (view_of g.L.OrderedLink.up_in g.L.OrderedLink.waits_in g.L.OrderedLink.after_put x) s))
-    (subst (λ (n : ℕ). g.L.OrderedLink.fits c.put.new.link (g.L.OrderedLink.after_put x (spelling_of (restart n 0)))) cause (c.put.ensures.link x (c.reserve_packets.ensures.link x link)))
+    (subst (λ (n : ℕ). g.L.OrderedLink.fits c.put.new.link (g.L.OrderedLink.after_put x (spelling_of (restart n 0)))) cause (c.put.ensures.link x link))
 
 pub invariant_of-self-clause-still : goal.invariant_of-self-clause-still
 invariant_of-self-clause-still g c = asked_all _ _ c.everywhere-self.ensures (let count = c.begin_all.ensures.count in let few = c.args.self.now.few in omega (arith, count, few))

@@ -1,31 +1,25 @@
-use Rattle.std.proofs.Common.{rules, arith, ap, refl}
+use Rattle.std.proofs.Common.{rules, [], arith, ap, length, refl}
 use Rattle.x25_link.specs.declared.phase.Reason.TheVariants.{Counts}
 use Rattle.x25_link.specs.Hearing.{Step, leaves}
 use Rattle.x25_link.specs.Link.{alone}
-use Rattle.x25_link.proofs.FrameCount.{made_nine, abandon_sends_few}
 use Rattle.x25_link.proofs.LinkLemmas.{begins, closed_state, closed_out}
 use Rattle.x25_link.proofs.link.Link.abandon.Goals as goal
 
 pub returns : goal.returns
 returns c = record {
   state = λ d s fits.
-      let heard = c.leave.ensures.step d _ _ (alone s) (begins d _ _ _ s c.self.view_is fits refl) in
+      let heard = c.leave.ensures.step d _ _ (alone s) (begins d _ _ _ s c.self.view_is fits c.clear.ensures) in
       let step : Step = leaves Counts (alone s) in
       closed_state d _ step.side heard.side.near refl refl;
   frames = λ d s fits.
-      let heard = c.leave.ensures.step d _ _ (alone s) (begins d _ _ _ s c.self.view_is fits refl) in
+      let heard = c.leave.ensures.step d _ _ (alone s) (begins d _ _ _ s c.self.view_is fits c.clear.ensures) in
       let step : Step = leaves Counts (alone s) in
-      closed_out d _ _ step.side refl refl heard.side.out;
+      closed_out d [] _ step.side refl refl heard.side.out;
   heard = λ d s fits.
-      let heard = c.leave.ensures.step d _ _ (alone s) (begins d _ _ _ s c.self.view_is fits refl) in
+      let heard = c.leave.ensures.step d _ _ (alone s) (begins d _ _ _ s c.self.view_is fits c.clear.ensures) in
       let step : Step = leaves Counts (alone s) in
       record { packet = heard.packet; notes = heard.notes };
-  few = λ d s fits.
-      let heard = c.leave.ensures.step d _ _ (alone s) (begins d _ _ _ s c.self.view_is fits refl) in
-      let step : Step = leaves Counts (alone s) in
-      made_nine d c.args.self.now.outbox.made c.self.inside.outbox.made _ (closed_out d _ _ step.side refl refl heard.side.out) (abandon_sends_few d s);
+  few = omega (arith, ap length c.clear.ensures);
   refused = search rules;
-  promised = search rules;
-  places = omega (arith, ap (λ v. v.outbox.places) c.self.view_is);
   err = search rules;
 }

@@ -1,28 +1,22 @@
-use Rattle.std.proofs.Common.{rules, arith, refl}
+use Rattle.std.proofs.Common.{rules, [], ap, length, arith, refl}
 use Rattle.x25_link.specs.Hearing.{Step}
 use Rattle.x25_link.specs.Link.{alone, connects}
-use Rattle.x25_link.proofs.FrameCount.{made_nine, connect_sends_few}
-use Rattle.x25_link.proofs.LinkLemmas.{begins, few_places, closed_state, closed_out}
+use Rattle.x25_link.proofs.LinkLemmas.{begins, closed_state, closed_out}
 use Rattle.x25_link.proofs.link.Link.connect.Goals as goal
 
 pub returns : goal.returns
 returns c = record {
   state = λ d s fits.
-      let heard = c.connect.ensures.step d _ (alone s) (begins d _ _ _ s c.self.view_is fits c.reserve.ensures.made) in
+      let heard = c.connect.ensures.step d _ (alone s) (begins d _ _ _ s c.self.view_is fits c.clear.ensures) in
       let step : Step = connects (alone s) in
       closed_state d _ step.side heard.near refl refl;
   frames = λ d s fits.
-      let heard = c.connect.ensures.step d _ (alone s) (begins d _ _ _ s c.self.view_is fits c.reserve.ensures.made) in
+      let heard = c.connect.ensures.step d _ (alone s) (begins d _ _ _ s c.self.view_is fits c.clear.ensures) in
       let step : Step = connects (alone s) in
-      closed_out d _ _ step.side refl refl heard.out;
+      closed_out d [] _ step.side refl refl heard.out;
   heard = λ d s fits.
       record { packet = rw c.quiet.ensures.packet refl; notes = c.quiet.ensures.notes };
-  few = λ d s fits.
-      let heard = c.connect.ensures.step d _ (alone s) (begins d _ _ _ s c.self.view_is fits c.reserve.ensures.made) in
-      let step : Step = connects (alone s) in
-      made_nine d c.args.self.now.outbox.made c.connect.new.out.made _ (closed_out d _ _ step.side refl refl heard.out) (connect_sends_few d s);
+  few = omega (arith, c.connect.ensures.one, ap length c.clear.ensures);
   refused = search rules;
-  promised = search rules;
-  places = few_places _ _ _ _ 0 c.self.view_is c.reserve.ensures.places c.connect.ensures.places (omega arith);
   err = search rules;
 }

@@ -15,5 +15,4 @@ loop-packet-preserved c =
           one_released _ w c.loop-packet._packet (c.release-packet.ensures.step (acknowledged w (w.acked + c.loop-packet._packet)) before);
       left = omega (arith, fewer, c.loop-packet.invariant.left, c.loop-packet-test.true, c.requires);
       queue = c.loop-packet.invariant.queue;
-      window = ap (λ (h : Held (List ℕ)). h.window) held ∙ c.loop-packet.invariant.window;
     }

@@ -1,7 +1,6 @@
 use Rattle.std.proofs.Common.{ℕ, ◌+◌, ◌≡◌, List, length}
 use Rattle.x25_window.specs.Sender.{Sending, acknowledged}
 use Rattle.x25_window.specs.code.Held.{Fits}
-use Rattle.x25_link.specs.code.OutgoingHeld.{window_of}
 use Rattle.x25_link.proofs.outgoing.Outgoing.release.Given as goal
 
 -- so many packets are acknowledged, and the others are held
@@ -10,5 +9,4 @@ invariant-loop-packet l = record {
   sender : (w : Sending (List ℕ)) → Fits l.initial.self.sender w → Fits l.self.sender (acknowledged w (w.acked + l._packet));
   left : length l.self.sender.items + l._packet ≡ length l.initial.self.sender.items;
   queue : l.self.queue ≡ l.initial.self.queue;
-  window : window_of l.self ≡ window_of l.initial.self;
 }

@@ -43,4 +43,4 @@ returns-clause-made c = λ k o fits shut.
     let more = added_fits k _ o c.args.packet fits c.requires.few in
     let next = next_is k _ (added c.args.packet o) c.args.packet [] more (ap (λ (q : List (List ℕ)). q ++ c.args.packet ∷ []) left.none) in
     c.send_new.ensures.made (sending_of k (added c.args.packet o)) more.sender
-    ∙ ap (λ (f : PlainFrame). c.args.out.now.made ++ spelling_of c.args.from f ∷ []) (new_frame k _ (added c.args.packet o) _ _ _ more left.place next)
+    ∙ ap (λ (f : PlainFrame). c.args.out.now ++ spelling_of c.args.from f ∷ []) (new_frame k _ (added c.args.packet o) _ _ _ more left.place next)

@@ -73,5 +73,5 @@ returns-clause-made c = λ k o fits.
     let next = next_is k _ o _ _ fits c.in-Some.ensures in
     let before = c.if-send_again.ensures.made (sending_of k o) fits.sender in
     c.send_new.ensures.made (sending_of k o) sender
-    ∙ ap (λ (f : PlainFrame). c.send_again.new.out.made ++ spelling_of c.args.from f ∷ []) (new_frame k _ o _ _ _ fits all next)
+    ∙ ap (λ (f : PlainFrame). c.send_again.new.out ++ spelling_of c.args.from f ∷ []) (new_frame k _ o _ _ _ fits all next)
     ∙ ap (λ (m : List (List ℕ)). m ++ spelling_of c.args.from (info (o.place % 8) c.args.nr.number false (next_packet o)) ∷ []) before

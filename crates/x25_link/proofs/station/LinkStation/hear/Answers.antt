@@ -1,4 +1,4 @@
-use Rattle.std.proofs.Common.{sym, append-nil, arith}
+use Rattle.std.proofs.Common.{sym, append-nil}
 use Rattle.x25_frame.specs.Reading.{frame_of}
 use Rattle.x25_link.specs.Hearing.{other}
 use Rattle.x25_link.specs.Link.{alone, hears}
@@ -16,9 +16,3 @@ returns-clause-settled c = λ d s fits.
     let sound = heard.side.near.outgoing.sender.sound in
     let octets = c.args.octets.now in
     ended_settled d.window (let step = hears d octets (frame_of (other d.role) d.longest octets) s.phase (alone s) in step.side) sound.window_high sound.place_low
-
-pub returns-clause-left : goal.returns-clause-left
-returns-clause-left c =
-    let used = c.hear_octets-heard.ensures.sent in
-    let left = c.end.ensures.left _ used.before (omega (arith, used.few, used.window)) in
-    omega (arith, left, used.window)

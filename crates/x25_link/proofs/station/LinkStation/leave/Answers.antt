@@ -1,6 +1,8 @@
 use Rattle.std.proofs.Common.{refl}
 use Rattle.x25_link.proofs.station.LinkStation.leave.Goals as goal
 
-pub returns-clause-step : goal.returns-clause-step
-returns-clause-step c = λ d before made t fits.
-    record { side = c.clear.ensures.step d before made t fits; packet = rw c.down.ensures.packet refl; notes = c.down.ensures.notes }
+pub returns : goal.returns
+returns c = record {
+  step = λ d before made t fits.
+      record { side = c.clear.ensures.step d before made t fits; packet = rw c.down.ensures.packet refl; notes = c.down.ensures.notes };
+}

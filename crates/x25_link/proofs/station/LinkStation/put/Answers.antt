@@ -23,11 +23,11 @@ returns-then-not-is_up-clause-step c = λ d before s fits settled calm.
       | then-not-is_up-via-else-not-is_up+else-self+then-self-2 w ↦ and_right (is_up s.phase) _ (and_right (not s.recovery) _ (and_left (not s.peer_busy) _ (ap not (sym fits.near.peer_busy ∙ w.if-self-2.true))))
     ] in
     let near = with_outgoing d _ s _ _ fits.near (c.add.ensures.state k o outgoing) in
-    subst (λ (u : Side). FitsSide d (record c.args.self.now { outgoing = c.add.new.self }) before c.discard.new.self.made u) (sym (once_none k t held) ∙ sym (put_once k s c.args.packet low settled calm))
-    (record { near = near; out = ap (λ o. o.made) c.discard.ensures ∙ fits.out })
+    subst (λ (u : Side). FitsSide d (record c.args.self.now { outgoing = c.add.new.self }) before c.args.out.now u) (sym (once_none k t held) ∙ sym (put_once k s c.args.packet low settled calm))
+    (record { near = near; out = fits.out })
 
-pub returns-then-not-send_at_once-clause-step : goal.returns-then-not-send_at_once-clause-step
-returns-then-not-send_at_once-clause-step c = λ d before s fits settled calm.
+pub returns-clause-step : goal.returns-clause-step
+returns-clause-step c = λ d before s fits settled calm.
     let k = d.window in
     let o = s.outgoing in
     let outgoing = fits.near.outgoing in
@@ -37,23 +37,7 @@ returns-then-not-send_at_once-clause-step c = λ d before s fits settled calm.
     let t : Side = with_packet c.args.packet s in
     let shut = sym (may_send_is k s (sym fits.near.recovery ∙ c.if-self.false) (sym fits.near.peer_busy ∙ c.if-self-2.false) (sym (ap is_up fits.near.phase) ∙ sym c.if-not-is_up.ensures)) ∙ settled in
     let near = with_outgoing d _ s _ _ fits.near (added_fits k _ o c.args.packet outgoing c.requires.free) in
-    let once : FitsSide d (record c.args.self.now { outgoing = c.send_at_once.new.self }) before c.send_at_once.new.out.made (pumped_once k t) = pump_fits d _ _ before _ _ t _ c.send_at_once.result (record { near = near; out = fits.out })
+    let once : FitsSide d (record c.args.self.now { outgoing = c.send_at_once.new.self }) before c.send_at_once.new.out (pumped_once k t) = pump_fits d _ _ before _ _ t _ c.send_at_once.result (record { near = near; out = fits.out })
     c.if-self.false c.if-self-2.false (sym c.if-not-is_up.ensures) (c.wanted-nr.ensures.state _ fits.near.taken) (c.send_at_once.ensures.sent k o outgoing shut) (c.send_at_once.ensures.step k o outgoing shut) (c.send_at_once.ensures.made k o outgoing shut) in
-    subst (λ (u : Side). FitsSide d (record c.args.self.now { outgoing = c.send_at_once.new.self }) before c.discard-then-not-send_at_once.new.self.made u) (sym (put_once k s c.args.packet low settled calm))
-    (rw (ap (λ o. o.made) c.discard-then-not-send_at_once.ensures) once)
-
-pub returns-else-not-send_at_once-clause-step : goal.returns-else-not-send_at_once-clause-step
-returns-else-not-send_at_once-clause-step c = λ d before s fits settled calm.
-    let k = d.window in
-    let o = s.outgoing in
-    let outgoing = fits.near.outgoing in
-    let l = sent_length k _ o outgoing in
-    let high = outgoing.sender.sound.place_high in
-    let low : o.place ≤ o.sent = omega arith in
-    let t : Side = with_packet c.args.packet s in
-    let shut = sym (may_send_is k s (sym fits.near.recovery ∙ c.if-self.false) (sym fits.near.peer_busy ∙ c.if-self-2.false) (sym (ap is_up fits.near.phase) ∙ sym c.if-not-is_up.ensures)) ∙ settled in
-    let near = with_outgoing d _ s _ _ fits.near (added_fits k _ o c.args.packet outgoing c.requires.free) in
-    let once : FitsSide d (record c.args.self.now { outgoing = c.send_at_once.new.self }) before c.send_at_once.new.out.made (pumped_once k t) = pump_fits d _ _ before _ _ t _ c.send_at_once.result (record { near = near; out = fits.out })
-    c.if-self.false c.if-self-2.false (sym c.if-not-is_up.ensures) (c.wanted-nr.ensures.state _ fits.near.taken) (c.send_at_once.ensures.sent k o outgoing shut) (c.send_at_once.ensures.step k o outgoing shut) (c.send_at_once.ensures.made k o outgoing shut) in
-    subst (λ (u : Side). FitsSide d (record c.args.self.now { outgoing = c.send_at_once.new.self }) before c.send_at_once.new.out.made u) (sym (put_once k s c.args.packet low settled calm))
+    subst (λ (u : Side). FitsSide d (record c.args.self.now { outgoing = c.send_at_once.new.self }) before c.send_at_once.new.out u) (sym (put_once k s c.args.packet low settled calm))
     (once)

@@ -12,7 +12,7 @@ returns-in_err-tell_entries-clause-tells g c = λ old told h.
     let p = err_from_is_err_and c.from_residual.result c.from_residual.ensures.1 in
     let end = c.args.self.now.end in
     let step = c.args.self.now.step in
-    rw p.1 (part_of_all old _ told _ _ _ (text-append end (map enters (map plain_entry step.entries.items)) (map sends (map (λ frame. frame.items) step.frames.items)))
+    rw p.1 (part_of_all old _ told _ _ _ (text-append end (map enters (map plain_entry step.entries.items)) (map sends step.frames))
     (subst (λ entries. AppendsPrefix old (g.W.Sink.contents c.tell_entries.new.writer) (told ++ sayings_text end (map enters (map plain_entry entries)))) c.as_slice-entries.ensures.value
     (c.in_err-tell_entries.ensures.tells old told h)))
 
@@ -22,8 +22,8 @@ returns-clause-tells g c = λ old told h.
     let step = c.args.self.now.step in
     let both =
     ap (λ entries. (told ++ sayings_text end (map enters (map plain_entry entries))) ++ sayings_text end (map sends (map (λ frame. frame.items) c.as_slice-frames.result.now))) c.as_slice-entries.ensures.value
-    ∙ ap (λ frames. (told ++ sayings_text end (map enters (map plain_entry step.entries.items))) ++ sayings_text end (map sends (map (λ frame. frame.items) frames))) c.as_slice-frames.ensures.value
-    ∙ parts_text end told (map enters (map plain_entry step.entries.items)) (map sends (map (λ frame. frame.items) step.frames.items)) in
+    ∙ ap (λ frames. (told ++ sayings_text end (map enters (map plain_entry step.entries.items))) ++ sayings_text end (map sends frames)) c.as_slice-frames.ensures.frames
+    ∙ parts_text end told (map enters (map plain_entry step.entries.items)) (map sends step.frames) in
     MatchResult-weaker c.tell_frames.result (c.tell_frames.ensures.tells old _ (c.in_ok-tell_entries.ensures.tells old told h))
     (λ _ tells. subst (Tells old (g.W.Sink.contents c.tell_frames.new.writer) c.tell_frames.new.output) both tells)
     (λ _ begins. subst (AppendsPrefix old (g.W.Sink.contents c.tell_frames.new.writer)) both begins)

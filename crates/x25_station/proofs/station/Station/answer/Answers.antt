@@ -6,8 +6,7 @@ use Rattle.x25_layer.specs.Calls.{Asks}
 use Rattle.x25_station.specs.declared.config.Manner.{Manner}
 use Rattle.x25_station.specs.Command.{answer_in_brief, answer_said}
 use Rattle.x25_station.specs.Config.{layer_settings}
-use Rattle.x25_station.specs.Giving.{gives}
-use Rattle.x25_station.specs.Step.{requests}
+use Rattle.x25_station.specs.Step.{requests, gives}
 use Rattle.x25_station.proofs.GivingLemmas.{given_nowhere}
 use Rattle.x25_station.proofs.SaidLemmas.{made, none_of, not_there, nowhere_alike, said_so, there_is}
 use Rattle.x25_station.proofs.station.Station.answer.Goals as goal

@@ -1,4 +1,4 @@
-use Rattle.std.proofs.Common.{◌≡◌, ◌&&◌, Bool, Ok, Err, refl, arith, [], ◌∷◌, ◌++◌, ap, ◌∙◌, sym, length, map}
+use Rattle.std.proofs.Common.{◌&&◌, Bool, Ok, Err, refl, arith, [], ◌∷◌, ◌++◌, ap, ◌∙◌, sym, length, map}
 use Rattle.x25_circuit.specs.Request.{plain_request}
 use Rattle.x25_layer.specs.Calls.{Asks}
 use Rattle.x25_layer.specs.laws.Transcript.{Asked, name_of}
@@ -8,7 +8,7 @@ use Rattle.x25_station.specs.declared.step.Step as code_step
 use Rattle.x25_station.specs.Entry.{of_channel}
 use Rattle.x25_station.specs.code.PlainEntry.{plain_entry, plain_said}
 use Rattle.x25_station.specs.Config.{layer_settings}
-use Rattle.x25_station.specs.Giving.{gives}
+use Rattle.x25_station.specs.Step.{gives}
 use Rattle.x25_station.proofs.OutcomeLemmas.{still_meant}
 use Rattle.x25_station.proofs.AskLemmas.{still_fits}
 use Rattle.x25_station.proofs.DoesLemmas.{hands_on, wants_copy}
@@ -52,13 +52,12 @@ invariant_of-self-in-Ok-ask_through c =
     record {
       meant = meant_given h g c.args.self.now.link c.ask_through.new.link c.swap_frames.new.self c.args.self.now.layer c.ask_through.new.layer r request c.args.self.now.meant
           (layers_as (Ok h) _ _ _ _ _ request c.in-Ok-new.ensures c.in-Ok-ask_through.ensures.layer) (links_as (Ok h) _ _ _ _ _ request c.in-Ok-new.ensures c.in-Ok-ask_through.ensures.link)
-          c.swap_frames.ensures.station (ap (λ o. o.made) c.swap_frames.ensures.outbox ∙ ap (map (λ frame. frame.items)) c.reserve.ensures.empty.frames) c.swap_frames.ensures.frames c.steps_keep_bounds.ensures.given takes;
+          (ap (λ l. l.station) c.swap_frames.ensures.link) (ap (λ l. l.frames) c.swap_frames.ensures.link ∙ c.reserve.ensures.empty.frames) c.swap_frames.ensures.frames c.steps_keep_bounds.ensures.given takes;
       aside =
           let before = c.args.self.now.aside in
           let packets = c.in-Ok-ask_through.ensures.most_memory in
           let low = before.packets in
-          let promised : c.swap_frames.new.self.outbox.long ≡ 0 = ap (λ o. o.long) c.swap_frames.ensures.outbox in
-          record { packets = omega (arith, packets, low); promised = omega (arith, promised); texts = before.texts };
+          record { packets = omega (arith, packets, low); texts = before.texts };
     }
 
 pub invariant_of-self-in-Err-ask_through : goal.invariant_of-self-in-Err-ask_through
@@ -68,10 +67,8 @@ invariant_of-self-in-Err-ask_through c = record {
   aside =
       let before = c.args.self.now.aside in
       let packets = c.in-Err.ensures.most_memory in
-      let promised = c.in-Err.ensures.most_promised in
       let low = before.packets in
-      let few = before.promised in
-      record { packets = omega (arith, packets, low); promised = omega (arith, promised, few); texts = before.texts };
+      record { packets = omega (arith, packets, low); texts = before.texts };
 }
 
 pub returns-in-Ok-ask_through-clause-does : goal.returns-in-Ok-ask_through-clause-does
@@ -83,7 +80,7 @@ returns-in-Ok-ask_through-clause-does c =
     let takes : TakesIt c.args.self.now.manner g request = sym (c.takes.ensures ∙ ap (λ (b : Bool). c.args.self.now.manner.wide && (may_give g && b)) (c.suits.ensures c.args.channel)) ∙ c.if-not-takes.false in
     let layers = layers_as (Ok h) c.in-Ok-new.form g c.args.self.now.link c.args.self.now.layer c.ask_through.new.layer request c.in-Ok-new.ensures c.in-Ok-ask_through.ensures.layer in
     did_given h c.args.self.now _ c.ask_through.new.link r g request layers (links_as (Ok h) _ _ _ _ _ request c.in-Ok-new.ensures c.in-Ok-ask_through.ensures.link)
-    c.swap_frames.ensures.station (ap (λ o. o.made) c.swap_frames.ensures.outbox ∙ ap (map (λ frame. frame.items)) c.reserve.ensures.empty.frames) c.swap_frames.ensures.frames
+    (ap (λ l. l.station) c.swap_frames.ensures.link) (ap (λ l. l.frames) c.swap_frames.ensures.link ∙ c.reserve.ensures.empty.frames) c.swap_frames.ensures.frames
     c.steps_keep_bounds.ensures.given c.holds_few.ensures.window c.holds_few.ensures.stand takes
     (λ c' s fits.
     asked_given h c' g c.args.self.now.link c.args.self.now.layer c.ask_through.new.layer s r c.args.channel (plain_request c.args.request) fits layers takes (λ k after configured.

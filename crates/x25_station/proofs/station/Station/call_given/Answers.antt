@@ -1,7 +1,7 @@
 use Rattle.std.proofs.Common.{ap}
 use Rattle.x25_layer.specs.Calls.{Dials}
 use Rattle.x25_given.specs.Given.{plain_given}
-use Rattle.x25_station.specs.Giving.{gives}
+use Rattle.x25_station.specs.Step.{gives}
 use Rattle.x25_station.proofs.DoesLemmas.{alike}
 use Rattle.x25_station.proofs.station.Station.call_given.Goals as goal
 

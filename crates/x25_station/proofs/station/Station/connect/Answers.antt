@@ -13,5 +13,5 @@ returns-clause-timer c = λ c' s fits.
     timed c' s c.empty.new.self c.set_up-answer.new.self c.set_up-answer.new.out c.timer_behind-out.result now c.set_up-answer.result _ false false c.set_up-answer.ensures.does (always c.set_up-answer.result refl) (not_ever c.set_up-answer.result refl)
     (λ step near entries. c.timer_behind-out.ensures c' s step (c.clock-before.ensures c' s now) near (ap (map plain_entry) c.as_slice.ensures.value ∙ entries))
 
-pub returns-clause-exactly : goal.returns-clause-exactly
-returns-clause-exactly c = λ c' s fits. c.set_up-answer.ensures.exactly c' s (c.empty.ensures.fits c' s fits)
+pub returns-clause-only : goal.returns-clause-only
+returns-clause-only c = λ c' s fits. c.set_up-answer.ensures.only c' s (c.empty.ensures.fits c' s fits)

@@ -1,4 +1,4 @@
-use Rattle.std.proofs.Common.{◌≡◌, ◌&&◌, Bool, Ok, Err, refl, arith, [], ◌∷◌, ◌++◌, ap, ◌∙◌, sym, length, map}
+use Rattle.std.proofs.Common.{◌&&◌, Bool, Ok, Err, refl, arith, [], ◌∷◌, ◌++◌, ap, ◌∙◌, sym, length, map}
 use Rattle.x25_circuit.specs.declared.params.Params.{Params}
 use Rattle.x25_circuit.specs.Params.{in_brief}
 use Rattle.x25_circuit.specs.Calling.{Calls}
@@ -44,13 +44,12 @@ invariant_of-self-in-Ok-call_through c =
     record {
       meant = meant_given h g c.args.self.now.link c.call_through.new.link c.swap_frames.new.self c.args.self.now.layer c.call_through.new.layer r request c.args.self.now.meant
           (layers_as (Ok h) _ _ _ _ _ request c.in-Ok-new.ensures c.in-Ok-call_through.ensures.does.layer) (links_as (Ok h) _ _ _ _ _ request c.in-Ok-new.ensures c.in-Ok-call_through.ensures.does.link)
-          c.swap_frames.ensures.station (ap (λ o. o.made) c.swap_frames.ensures.outbox ∙ ap (map (λ frame. frame.items)) c.reserve.ensures.empty.frames) c.swap_frames.ensures.frames c.steps_keep_bounds.ensures.given takes;
+          (ap (λ l. l.station) c.swap_frames.ensures.link) (ap (λ l. l.frames) c.swap_frames.ensures.link ∙ c.reserve.ensures.empty.frames) c.swap_frames.ensures.frames c.steps_keep_bounds.ensures.given takes;
       aside =
           let before = c.args.self.now.aside in
           let packets = c.in-Ok-call_through.ensures.does.most_memory in
           let low = before.packets in
-          let promised : c.swap_frames.new.self.outbox.long ≡ 0 = ap (λ o. o.long) c.swap_frames.ensures.outbox in
-          record { packets = omega (arith, packets, low); promised = omega (arith, promised); texts = before.texts };
+          record { packets = omega (arith, packets, low); texts = before.texts };
     }
 
 pub invariant_of-self-in-Err-call_through : goal.invariant_of-self-in-Err-call_through
@@ -60,10 +59,8 @@ invariant_of-self-in-Err-call_through c = record {
   aside =
       let before = c.args.self.now.aside in
       let packets = c.in-Err.ensures.does.most_memory in
-      let promised = c.in-Err.ensures.does.most_promised in
       let low = before.packets in
-      let few = before.promised in
-      record { packets = omega (arith, packets, low); promised = omega (arith, promised, few); texts = before.texts };
+      record { packets = omega (arith, packets, low); texts = before.texts };
 }
 
 pub returns-in-Ok-call_through-clause-does : goal.returns-in-Ok-call_through-clause-does
@@ -75,7 +72,7 @@ returns-in-Ok-call_through-clause-does c =
     let takes : TakesIt c.args.self.now.manner g request = sym (c.takes.ensures ∙ ap (λ (b : Bool). c.args.self.now.manner.wide && (may_give g && b)) c.is_empty.ensures) ∙ c.if-not-takes.false in
     let layers = layers_as (Ok h) c.in-Ok-new.form g c.args.self.now.link c.args.self.now.layer c.call_through.new.layer request c.in-Ok-new.ensures c.in-Ok-call_through.ensures.does.layer in
     did_given h c.args.self.now _ c.call_through.new.link r g request layers (links_as (Ok h) _ _ _ _ _ request c.in-Ok-new.ensures c.in-Ok-call_through.ensures.does.link)
-    c.swap_frames.ensures.station (ap (λ o. o.made) c.swap_frames.ensures.outbox ∙ ap (map (λ frame. frame.items)) c.reserve.ensures.empty.frames) c.swap_frames.ensures.frames
+    (ap (λ l. l.station) c.swap_frames.ensures.link) (ap (λ l. l.frames) c.swap_frames.ensures.link ∙ c.reserve.ensures.empty.frames) c.swap_frames.ensures.frames
     c.steps_keep_bounds.ensures.given c.holds_few.ensures.window c.holds_few.ensures.stand takes
     (λ c' s fits.
     dialled_given c' g c.args.self.now.link c.args.self.now.layer c.call_through.new.layer s r h c.args.called.now c.args.calling.now c.args.user.now c.args.proposal.now fits layers takes (c.in-Ok-call_through.ensures.channel (layer_settings c') s.layer fits.layer) (λ k after configured.

@@ -1,7 +1,6 @@
-use Rattle.std.proofs.Common.{arith, ◌≡◌, ◌≤◌, length, [], sym, subst, ◌∷◌, ap, ◌∙◌, ◌++◌, map}
+use Rattle.std.proofs.Common.{arith, ◌≡◌, length, [], sym, subst, ◌∷◌, ap, ◌∙◌, ◌++◌, map}
 use Rattle.x25_link.specs.Link.{disconnect_refusal, disconnect_step}
 use Rattle.x25_link.specs.declared.heard.Heard.{Heard}
-use Rattle.x25_station.specs.code.Aside.{IsFewAside}
 use Rattle.x25_station.specs.code.FitsParts.{AreMeant, FitsParts}
 use Rattle.x25_station.specs.Config.{link_settings, layer_settings}
 use Rattle.x25_station.specs.Command.{Disconnects}
@@ -13,7 +12,6 @@ use Rattle.x25_station.proofs.DoesLemmas.{declines}
 use Rattle.x25_station.proofs.DownLemmas.{disconnect_down, leaves_down, frames_down, entries_noted_down}
 use Rattle.x25_station.proofs.AskLemmas.{taken_link}
 use Rattle.x25_station.proofs.OutcomeLemmas.{leaves_some, still_meant, sends_unless, enters_unless, goes, refused, disconnect_named}
-use Rattle.x25_station.proofs.TakeLemmas.{least_by_meaning, own_frames, own_few}
 use Rattle.x25_station.proofs.station.Station.disconnect.Goals as goal
 
 pub invariant_of-self : goal.invariant_of-self
@@ -24,21 +22,20 @@ invariant_of-self c = record {
       leaves_some c' _ _ (unless (disconnect_refusal s.link.phase) step)
       (leaves_down c' fits.same _ _ (disconnect_refusal s.link.phase) s.layer k step _ (ap (λ (x : Step). x.near) (disconnect_down c' s.layer s.link))
       (ap (λ n. n.down) (c.in-Ok.ensures.heard (link_settings c') s.link fits.link).notes)
-      (taken_link (link_settings c') c.disconnect.new.self c.swap_frames.new.self k.side.near c.swap_frames.ensures.station (c.in-Ok.ensures.state (link_settings c') s.link fits.link))
+      (taken_link (link_settings c') c.disconnect.new.self c.swap_frames.new.self k.side.near (ap (λ l. l.station) c.swap_frames.ensures.link) (c.in-Ok.ensures.state (link_settings c') s.link fits.link))
       (c.note_down.ensures.layer (layer_settings c') s.layer fits.layer)
-      (ap (λ o. o.made) c.swap_frames.ensures.outbox ∙ ap (map (λ frame. frame.items)) c.reserve.ensures.empty.frames)
+      (ap (λ l. l.frames) c.swap_frames.ensures.link ∙ c.reserve.ensures.empty.frames)
       (c.steps_keep_bounds.ensures.command c' s Disconnects fits.kept))
       (goes _ (disconnect_refusal s.link.phase) step (c.in-Ok.ensures.refused (link_settings c') s.link fits.link)));
   aside =
       let before = c.args.self.now.aside in
       let low = before.packets in
       let memory = c.note_down.ensures.memory in
-      let promised : c.swap_frames.new.self.outbox.long ≡ 0 = ap (λ o. o.long) c.swap_frames.ensures.outbox in
-      record { packets = omega (arith, memory, low); promised = omega (arith, promised); texts = before.texts };
+      record { packets = omega (arith, memory, low); texts = before.texts };
 }
 
 pub invariant_of-self-in-Err-1 : goal.invariant_of-self-in-Err-1
-invariant_of-self-in-Err-1 c = record { meant = subst (λ l. AreMeant c.args.self.now.manner l c.args.self.now.layer) (sym c.in-Err.ensures.err) c.args.self.now.meant; aside = subst (λ l. IsFewAside l c.args.self.now.layer c.args.self.now.texts) (sym c.in-Err.ensures.err) c.args.self.now.aside }
+invariant_of-self-in-Err-1 c = record { meant = subst (λ l. AreMeant c.args.self.now.manner l c.args.self.now.layer) (sym c.in-Err.ensures.err) c.args.self.now.meant; aside = c.args.self.now.aside }
 
 pub returns-in-Ok-clause-does : goal.returns-in-Ok-clause-does
 returns-in-Ok-clause-does c = record {
@@ -47,15 +44,15 @@ returns-in-Ok-clause-does c = record {
       let step : Step = led_by (disconnect_asked ∷ []) (follows c' s.layer k) in
       leaves_down c' fits.same _ _ (disconnect_refusal s.link.phase) s.layer k step _ (ap (λ (x : Step). x.near) (disconnect_down c' s.layer s.link))
       (ap (λ n. n.down) (c.in-Ok.ensures.heard (link_settings c') s.link fits.link).notes)
-      (taken_link (link_settings c') c.disconnect.new.self c.swap_frames.new.self k.side.near c.swap_frames.ensures.station (c.in-Ok.ensures.state (link_settings c') s.link fits.link))
+      (taken_link (link_settings c') c.disconnect.new.self c.swap_frames.new.self k.side.near (ap (λ l. l.station) c.swap_frames.ensures.link) (c.in-Ok.ensures.state (link_settings c') s.link fits.link))
       (c.note_down.ensures.layer (layer_settings c') s.layer fits.layer)
-      (ap (λ o. o.made) c.swap_frames.ensures.outbox ∙ ap (map (λ frame. frame.items)) c.reserve.ensures.empty.frames)
+      (ap (λ l. l.frames) c.swap_frames.ensures.link ∙ c.reserve.ensures.empty.frames)
       (c.steps_keep_bounds.ensures.command c' s Disconnects fits.kept);
   frames = λ c' s fits.
       let k = disconnect_step (link_settings c') s.link in
       let step : Step = led_by (disconnect_asked ∷ []) (follows c' s.layer k) in
       sends_unless c' (record { frames = c.swap_frames.new.frames; entries = c.note_down.new.entries; timer = c.reserve.new.self.timer }) (disconnect_refusal s.link.phase) step
-      (frames_down c' s.layer k _ (follows c' s.layer k) (disconnect_down c' s.layer s.link) (own_frames c'.role _ _ (map (λ frame. frame.items) c.swap_frames.new.frames.items) k.side.out fits.sent (c.in-Ok.ensures.frames (link_settings c') s.link fits.link) c.swap_frames.ensures.frames));
+      (frames_down c' s.layer k _ (follows c' s.layer k) (disconnect_down c' s.layer s.link) (c.swap_frames.ensures.frames ∙ c.in-Ok.ensures.frames (link_settings c') s.link fits.link));
   entries = λ c' s fits.
       let k = disconnect_step (link_settings c') s.link in
       let step : Step = led_by (disconnect_asked ∷ []) (follows c' s.layer k) in
@@ -67,10 +64,7 @@ returns-in-Ok-clause-does c = record {
       goes _ (disconnect_refusal s.link.phase) step (c.in-Ok.ensures.refused (link_settings c') s.link fits.link);
   stays = λ c' s fits. tt;
   empty = tt;
-  few_frames = (let few : length c.swap_frames.new.frames.items ≤ 9 = least_by_meaning _ _ (length c.swap_frames.new.frames.items) 9 c.args.self.now.meant (λ c' s fits.
-      own_few c.swap_frames.new.frames.items (λ frame. frame.items) c.args.self.now.link.outbox.made c.disconnect.new.self.outbox.made fits.sent
-      (c.in-Ok.ensures.few (link_settings c') s.link fits.link) c.swap_frames.ensures.frames) in
-      grind (arith, few, c.swap_frames.new.frames.ok));
+  few_frames = (let same : length c.swap_frames.new.frames ≡ length c.disconnect.new.self.frames = ap length c.swap_frames.ensures.frames in omega (arith, same, c.in-Ok.ensures.few));
   few_entries = grind (arith, c.note_down.ensures.few.length, c.push_reserved.ensures.len, ap length c.reserve.ensures.empty.entries, c.reserve.new.self.entries.ok);
 }
 

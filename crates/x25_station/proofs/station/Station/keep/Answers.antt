@@ -10,7 +10,6 @@ invariant_of-self-else-kept-eq0 c = record {
       (c', s, still_fits c' c.args.self.now.link c.args.self.now.link _ c.keep-else-kept-eq0.new.self s fits (c.keep-else-kept-eq0.ensures.layer (layer_settings c') s.layer fits.layer) (λ x whole. whole)));
   aside = record {
     packets = subst (λ n. n ≤ 16) (sym c.keep-else-kept-eq0.ensures.aside) c.args.self.now.aside.packets;
-    promised = c.args.self.now.aside.promised;
     texts = c.args.self.now.aside.texts;
   };
 }

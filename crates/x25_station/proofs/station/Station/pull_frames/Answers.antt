@@ -13,28 +13,27 @@ use Rattle.x25_station.proofs.station.Station.pull_frames.Goals as goal
 pub invariant_of-self : goal.invariant_of-self
 invariant_of-self c = record {
   meant = still_meant _ _ _ _ c.args.self.now.meant (λ c' s fits.
-      pulled_or_not c' _ c.swap_frames.new.self _ s _ fits c.swap_frames.ensures.station c.pull-answer.result c.pull-answer.new.link c.swap_frames-2.new.self _ c.pull-answer.ensures.layer c.pull-answer.ensures.link
-      (c.pull-answer.ensures.layer_stays (layer_settings c') s.layer fits.layer) c.pull-answer.ensures.link_stays c.swap_frames-2.ensures.station
-      (ap (λ o. o.made) c.swap_frames-2.ensures.outbox ∙ c.swap_frames.ensures.frames ∙ fits.sent)
+      pulled_or_not c' _ c.swap_frames.new.self _ s _ fits (ap (λ l. l.station) c.swap_frames.ensures.link) c.pull-answer.result c.pull-answer.new.link c.swap_frames-2.new.self _ c.pull-answer.ensures.layer c.pull-answer.ensures.link
+      (c.pull-answer.ensures.layer_stays (layer_settings c') s.layer fits.layer) c.pull-answer.ensures.link_stays (ap (λ l. l.station) c.swap_frames-2.ensures.link)
+      (ap (λ l. l.frames) c.swap_frames-2.ensures.link ∙ c.swap_frames.ensures.frames ∙ fits.sent)
       (c.steps_keep_bounds.ensures.request c' s PullsAll fits.kept));
   aside =
       let before = c.args.self.now.aside in
       let packets = c.pull-answer.ensures.most_memory in
       let low = before.packets in
-      let promised : c.swap_frames-2.new.self.outbox.long ≡ 0 = ap (λ o. o.long) c.swap_frames-2.ensures.outbox in
-      record { packets = omega (arith, packets, low); promised = omega (arith, promised); texts = before.texts };
+      record { packets = omega (arith, packets, low); texts = before.texts };
 }
 
 pub returns-in-Ok-clause-pulls : goal.returns-in-Ok-clause-pulls
 returns-in-Ok-clause-pulls c = record {
   state = λ c' s fits.
-      pulled_fits c' _ c.swap_frames.new.self _ s _ fits c.swap_frames.ensures.station c.in-Ok.field-0 c.pull-answer.new.link c.swap_frames-2.new.self _ c.in-Ok.ensures.layer c.in-Ok.ensures.link c.swap_frames-2.ensures.station
-      (ap (λ o. o.made) c.swap_frames-2.ensures.outbox ∙ c.swap_frames.ensures.frames ∙ fits.sent)
+      pulled_fits c' _ c.swap_frames.new.self _ s _ fits (ap (λ l. l.station) c.swap_frames.ensures.link) c.in-Ok.field-0 c.pull-answer.new.link c.swap_frames-2.new.self _ c.in-Ok.ensures.layer c.in-Ok.ensures.link (ap (λ l. l.station) c.swap_frames-2.ensures.link)
+      (ap (λ l. l.frames) c.swap_frames-2.ensures.link ∙ c.swap_frames.ensures.frames ∙ fits.sent)
       (c.steps_keep_bounds.ensures.request c' s PullsAll fits.kept);
   frames = λ c' s fits.
       c.swap_frames-2.ensures.frames
-      ∙ pulled_made c' _ c.swap_frames.new.self _ s _ fits c.swap_frames.ensures.station c.in-Ok.field-0 c.pull-answer.new.link c.in-Ok.ensures.link
-      ∙ ap (λ o. o.made ++ map (spelling_of c'.role) (pulled c' s).out) c.swap_frames.ensures.outbox;
+      ∙ pulled_made c' _ c.swap_frames.new.self _ s _ fits (ap (λ l. l.station) c.swap_frames.ensures.link) c.in-Ok.field-0 c.pull-answer.new.link c.in-Ok.ensures.link
+      ∙ ap (λ l. l.frames ++ map (spelling_of c'.role) (pulled c' s).out) c.swap_frames.ensures.link;
   stays = λ c' s fits. tt;
   unsent = tt;
   due = λ c' s fits. tt;
@@ -44,17 +43,17 @@ pub returns-in-Err-clause-pulls : goal.returns-in-Err-clause-pulls
 returns-in-Err-clause-pulls c =
     let r = c.unless_refused.result in
     let still : (c' : Settings) (s : Station) → FitsStation c' c.args.self.now s → FitsParts c' c.args.self.now.manner c.swap_frames-2.new.self c.pull-answer.new.self s = λ c' s fits.
-    still_fits c' _ c.swap_frames.new.self _ s _ fits c.swap_frames.ensures.station c.pull-answer.new.link c.swap_frames-2.new.self _ (c.in-Err.ensures.layer_stays (layer_settings c') s.layer fits.layer) c.in-Err.ensures.link_stays c.swap_frames-2.ensures.station
-    (ap (λ o. o.made) c.swap_frames-2.ensures.outbox ∙ c.swap_frames.ensures.frames ∙ fits.sent) in
-    let same : map (λ frame. frame.items) c.swap_frames-2.new.frames.items ≡ map (λ frame. frame.items) c.args.frames.now.items =
+    still_fits c' _ c.swap_frames.new.self _ s _ fits (ap (λ l. l.station) c.swap_frames.ensures.link) c.pull-answer.new.link c.swap_frames-2.new.self _ (c.in-Err.ensures.layer_stays (layer_settings c') s.layer fits.layer) c.in-Err.ensures.link_stays (ap (λ l. l.station) c.swap_frames-2.ensures.link)
+    (ap (λ l. l.frames) c.swap_frames-2.ensures.link ∙ c.swap_frames.ensures.frames ∙ fits.sent) in
+    let same : c.swap_frames-2.new.frames ≡ c.args.frames.now =
     c.swap_frames-2.ensures.frames
-    ∙ made_by_meaning _ _ c.pull-answer.new.link.outbox.made c.swap_frames.new.self.outbox.made c.args.self.now.meant (λ c' s fits.
-    same_made c' _ c.swap_frames.new.self _ s _ fits c.swap_frames.ensures.station c.pull-answer.new.link c.in-Err.ensures.link_stays)
-    ∙ ap (λ o. o.made) c.swap_frames.ensures.outbox in
+    ∙ made_by_meaning _ _ c.pull-answer.new.link.frames c.swap_frames.new.self.frames c.args.self.now.meant (λ c' s fits.
+    same_made c' _ c.swap_frames.new.self _ s _ fits (ap (λ l. l.station) c.swap_frames.ensures.link) c.pull-answer.new.link c.in-Err.ensures.link_stays)
+    ∙ ap (λ l. l.frames) c.swap_frames.ensures.link in
     record {
-      state = λ c' s fits. none_fits _ c.in-Err.error r c.unless_refused.ensures.other c' _ c.swap_frames.new.self _ c.pull-answer.new.self s _ fits c.swap_frames.ensures.station c.in-Err.ensures.layer c.swap_frames-2.new.self (still c' s fits);
-      frames = λ c' s fits. none_sent _ c.in-Err.error r c.unless_refused.ensures.other c' _ c.swap_frames.new.self _ c.pull-answer.new.self s _ fits c.swap_frames.ensures.station c.in-Err.ensures.layer _ _ same;
+      state = λ c' s fits. none_fits _ c.in-Err.error r c.unless_refused.ensures.other c' _ c.swap_frames.new.self _ c.pull-answer.new.self s _ fits (ap (λ l. l.station) c.swap_frames.ensures.link) c.in-Err.ensures.layer c.swap_frames-2.new.self (still c' s fits);
+      frames = λ c' s fits. none_sent _ c.in-Err.error r c.unless_refused.ensures.other c' _ c.swap_frames.new.self _ c.pull-answer.new.self s _ fits (ap (λ l. l.station) c.swap_frames.ensures.link) c.in-Err.ensures.layer _ _ same;
       stays = λ c' s fits. if_error r (still c' s fits);
       unsent = if_error r same;
-      due = λ c' s fits. wanted _ c.in-Err.error r c.unless_refused.ensures.other c' _ c.swap_frames.new.self _ c.pull-answer.new.self s _ fits c.swap_frames.ensures.station c.in-Err.ensures.layer c.unless_refused.ensures.due;
+      due = λ c' s fits. wanted _ c.in-Err.error r c.unless_refused.ensures.other c' _ c.swap_frames.new.self _ c.pull-answer.new.self s _ fits (ap (λ l. l.station) c.swap_frames.ensures.link) c.in-Err.ensures.layer c.unless_refused.ensures.due;
     }

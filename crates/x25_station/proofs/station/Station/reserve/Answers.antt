@@ -13,22 +13,20 @@ kept_ok (Err e) is ok = absurd (cc)
 pub invariant_of-self-2 : goal.invariant_of-self-2
 invariant_of-self-2 c = record {
   meant = still_meant _ _ _ _ c.args.self.now.meant (λ c' s fits.
-      (c', s, still_fits c' c.args.self.now.link c.reserve-3.new.link _ c.reserve-3.new.self s fits (c.reserve-3.ensures.layer (layer_settings c') s.layer fits.layer) c.reserve-3.ensures.link));
+      (c', s, still_fits c' c.args.self.now.link c.args.self.now.link _ c.reserve-3.new.self s fits (c.reserve-3.ensures.layer (layer_settings c') s.layer fits.layer) (λ x whole. whole)));
   aside =
       let before = c.args.self.now.aside in
       let low = before.packets in
-      let few = before.promised in
       let short = before.texts in
       let reserved = kept_ok c.reserve-2.result (sym c.is_err.ensures.value ∙ c.if-is_err.false) c.reserve-2.ensures.ok in
       let packets = c.reserve-3.ensures.most_memory in
-      let promised = c.reserve-3.ensures.most_promised in
-      record { packets = omega (arith, packets, low); promised = omega (arith, promised, few); texts = omega (arith, reserved, short) };
+      record { packets = omega (arith, packets, low); texts = omega (arith, reserved, short) };
 }
 
 pub returns-in-Ok-clause-fits : goal.returns-in-Ok-clause-fits
 returns-in-Ok-clause-fits c = λ c' s fits.
-    still_fits c' c.args.self.now.link c.reserve-3.new.link _ c.reserve-3.new.self s fits (c.reserve-3.ensures.layer (layer_settings c') s.layer fits.layer) c.reserve-3.ensures.link
+    still_fits c' c.args.self.now.link c.args.self.now.link _ c.reserve-3.new.self s fits (c.reserve-3.ensures.layer (layer_settings c') s.layer fits.layer) (λ x whole. whole)
 
 pub returns-in-Err-clause-fits : goal.returns-in-Err-clause-fits
 returns-in-Err-clause-fits c = λ c' s fits.
-    still_fits c' c.args.self.now.link c.reserve-3.new.link _ c.reserve-3.new.self s fits (c.reserve-3.ensures.layer (layer_settings c') s.layer fits.layer) c.reserve-3.ensures.link
+    still_fits c' c.args.self.now.link c.args.self.now.link _ c.reserve-3.new.self s fits (c.reserve-3.ensures.layer (layer_settings c') s.layer fits.layer) (λ x whole. whole)

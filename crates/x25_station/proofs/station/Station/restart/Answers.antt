@@ -1,4 +1,4 @@
-use Rattle.std.proofs.Common.{refl, arith, [], ◌∷◌, ◌++◌, ap, ◌∙◌, length, map, ◌≡◌}
+use Rattle.std.proofs.Common.{refl, arith, [], ◌∷◌, ◌++◌, ap, ◌∙◌, length, map}
 use Rattle.x25_layer.specs.Calls.{Restarts}
 use Rattle.x25_station.specs.declared.entry.Entry.TheVariants.{RestartAsked}
 use Rattle.x25_station.specs.declared.step.Step as code_step
@@ -16,15 +16,14 @@ invariant_of-self c = record {
   meant = still_meant _ _ _ _ c.args.self.now.meant (λ c' s fits.
       let request = Restarts c.args.cause c.args.diagnostic in
       let a = answers c.in-Ok.field-0 c' _ c.restart.new.link c.swap_frames.new.self _ c.restart.new.self (record { frames = c.swap_frames.new.frames; entries = c.push_reserved.new.self; timer = c.reserve.new.self.timer }) s request fits
-      c.in-Ok.ensures.layer c.in-Ok.ensures.link c.swap_frames.ensures.station (ap (λ o. o.made) c.swap_frames.ensures.outbox ∙ ap (map (λ frame. frame.items)) c.reserve.ensures.empty.frames) c.swap_frames.ensures.frames
+      c.in-Ok.ensures.layer c.in-Ok.ensures.link (ap (λ l. l.station) c.swap_frames.ensures.link) (ap (λ l. l.frames) c.swap_frames.ensures.link ∙ c.reserve.ensures.empty.frames) c.swap_frames.ensures.frames
       (c.steps_keep_bounds.ensures.request c' s request fits.kept) in
       leaves_some c' _ _ (requests c' s request) a.state a.refused);
   aside =
       let before = c.args.self.now.aside in
       let packets = c.in-Ok.ensures.most_memory in
       let low = before.packets in
-      let promised : c.swap_frames.new.self.outbox.long ≡ 0 = ap (λ o. o.long) c.swap_frames.ensures.outbox in
-      record { packets = omega (arith, packets, low); promised = omega (arith, promised); texts = before.texts };
+      record { packets = omega (arith, packets, low); texts = before.texts };
 }
 
 pub invariant_of-self-in-Err-1 : goal.invariant_of-self-in-Err-1
@@ -34,17 +33,15 @@ invariant_of-self-in-Err-1 c = record {
   aside =
       let before = c.args.self.now.aside in
       let packets = c.in-Err.ensures.most_memory in
-      let promised = c.in-Err.ensures.most_promised in
       let low = before.packets in
-      let few = before.promised in
-      record { packets = omega (arith, packets, low); promised = omega (arith, promised, few); texts = before.texts };
+      record { packets = omega (arith, packets, low); texts = before.texts };
 }
 
 pub returns-in-Ok-clause-does : goal.returns-in-Ok-clause-does
 returns-in-Ok-clause-does c =
     let request = Restarts c.args.cause c.args.diagnostic in
     let r : code_step.Step = record { frames = c.swap_frames.new.frames; entries = c.push_reserved.new.self; timer = c.reserve.new.self.timer } in
-    did_request c.in-Ok.field-0 c.args.self.now _ c.restart.new.link r request c.in-Ok.ensures.layer c.in-Ok.ensures.link c.swap_frames.ensures.station (ap (λ o. o.made) c.swap_frames.ensures.outbox ∙ ap (map (λ frame. frame.items)) c.reserve.ensures.empty.frames) c.swap_frames.ensures.frames
+    did_request c.in-Ok.field-0 c.args.self.now _ c.restart.new.link r request c.in-Ok.ensures.layer c.in-Ok.ensures.link (ap (λ l. l.station) c.swap_frames.ensures.link) (ap (λ l. l.frames) c.swap_frames.ensures.link ∙ c.reserve.ensures.empty.frames) c.swap_frames.ensures.frames
     c.steps_keep_bounds.ensures.request c.holds_few.ensures.window c.holds_few.ensures.stand
     (λ c' s fits.
     restart_enters c' s c.args.cause c.args.diagnostic r (ap (λ es. map plain_entry es) (c.push_reserved.ensures.items ∙ ap (λ es. es ++ RestartAsked c.args.cause c.args.diagnostic ∷ []) c.reserve.ensures.empty.entries)))

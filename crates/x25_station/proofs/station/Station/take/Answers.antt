@@ -1,15 +1,11 @@
-use Rattle.std.proofs.Common.{◌≡◌, ◌+◌, ◌-◌, ◌<◌, ◌≤◌, ◌++◌, ℕ, nat_le, drop, if◌then◌else◌, List, length, map, All, option_copied, arith, ap, sym, subst, ◌∙◌}
-use Rattle.std.proofs.lemmas.List.{length-map}
+use Rattle.std.proofs.Common.{◌≡◌, ◌+◌, ◌-◌, ◌<◌, ◌≤◌, ◌++◌, ℕ, nat_le, drop, if◌then◌else◌, length, map, All, option_copied, arith, ap, sym, ◌∙◌}
 use Rattle.std.proofs.lemmas.List.Elements.{All-from_get_or}
-use Rattle.x25_frame.specs.Spelling.{spelling_of}
 use Rattle.x25_link.specs.declared.phase.Notes.{Notes}
 use Rattle.x25_link.specs.Hearing.{Step as LinkStep}
 use Rattle.x25_link.specs.Link.{take_step}
 use Rattle.x25_link.specs.code.FitsLink.{FitsWhole, up_of}
 use Rattle.x25_layer.specs.Room.{HasRoom, IsNotFull, named_by}
-use Rattle.x25_station.specs.code.Aside.{IsFewAside}
 use Rattle.x25_station.specs.Entry.{entries_noted}
-use Rattle.x25_station.specs.code.FitsParts.{AreMeant}
 use Rattle.x25_station.specs.code.PlainEntry.{plain_entry}
 use Rattle.x25_station.specs.Receiving.{CanPut, kept_of}
 use Rattle.x25_station.specs.Config.{link_settings, layer_settings}
@@ -22,46 +18,43 @@ use Rattle.x25_station.proofs.TookLemmas.{put_behind, took_fits, took_sends, too
 use Rattle.x25_station.proofs.station.Station.take.Goals as goal
 
 pub follow-requires-clause-up : goal.follow-requires-clause-up
-follow-requires-clause-up c = λ is. put_by_meaning _ c.take.new.self _ c.args.self.now.meant (λ c' s fits.
+follow-requires-clause-up c = λ is. put_by_meaning _ c.take-heard.new.self _ c.args.self.now.meant (λ c' s fits.
     let lk = link_settings c' in
     let before = (c.in_ok-reserve.ensures.fits c' s fits).link in
-    up_can_put c.notes_what_changes.ensures.take c' c.take.new.self c.args.octets.now s.link (c.in-Ok.ensures.does.state lk s.link before) (sym (ap (λ (n : Notes). n.up) ((c.in-Ok.ensures.does.heard lk s.link before).notes)) ∙ is))
+    up_can_put c.notes_what_changes.ensures.take c' c.take-heard.new.self c.args.octets.now s.link (c.take-heard.ensures.state lk s.link before) c.take-heard.ensures.few (sym (ap (λ (n : Notes). n.up) ((c.take-heard.ensures.heard lk s.link before).notes)) ∙ is))
 
 pub follow-requires-clause-put : goal.follow-requires-clause-put
-follow-requires-clause-put c = if_some c.in-Ok.heard.packet (λ x. CanPut c.take.new.self) (λ p is. put_by_meaning _ c.take.new.self _ c.args.self.now.meant (λ c' s fits.
+follow-requires-clause-put c = if_some c.take-heard.result.packet (λ x. CanPut c.take-heard.new.self) (λ p is. put_by_meaning _ c.take-heard.new.self _ c.args.self.now.meant (λ c' s fits.
     let lk = link_settings c' in
     let before = (c.in_ok-reserve.ensures.fits c' s fits).link in
-    handed_can_put c.notes_what_changes.ensures.take c.notes_what_changes.ensures.take_hands_up c' c.take.new.self c.args.octets.now s.link p.now (c.in-Ok.ensures.does.state lk s.link before)
-    (sym ((c.in-Ok.ensures.does.heard lk s.link before).packet) ∙ ap option_copied is)))
+    handed_can_put c.notes_what_changes.ensures.take c.notes_what_changes.ensures.take_hands_up c' c.take-heard.new.self c.args.octets.now s.link p.now (c.take-heard.ensures.state lk s.link before) c.take-heard.ensures.few
+    (sym ((c.take-heard.ensures.heard lk s.link before).packet) ∙ ap option_copied is)))
 
 pub follow-requires-clause-left : goal.follow-requires-clause-left
-follow-requires-clause-left c = if_some c.in-Ok.heard.packet (λ x. IsNotFull c.reserve.new.self.layer) (λ p is.
+follow-requires-clause-left c = if_some c.take-heard.result.packet (λ x. IsNotFull c.reserve.new.self.layer) (λ p is.
     c.in_ok-reserve.ensures.left (c.requires.left (up_by_meaning _ _ (up_of c.args.self.now.link) c.args.self.now.meant (λ c' s fits.
     let lk = link_settings c' in
     handed_was_up c.notes_what_changes.ensures.take_hands_up c' c.args.self.now.link c.args.octets.now s.link p.now fits.link
-    (sym ((c.in-Ok.ensures.does.heard lk s.link (c.in_ok-reserve.ensures.fits c' s fits).link).packet) ∙ ap option_copied is)))))
+    (sym ((c.take-heard.ensures.heard lk s.link (c.in_ok-reserve.ensures.fits c' s fits).link).packet) ∙ ap option_copied is)))))
 
 pub follow-requires-clause-room : goal.follow-requires-clause-room
 follow-requires-clause-room c =
     let bytes : All (λ octet. octet < 256) c.args.octets.now = All-from_get_or (λ octet. octet < 256) c.args.octets.now 0 (λ i low. omega (arith, c.type_inv.octets i)) in
-    if_some c.in-Ok.heard.packet (λ p. HasRoom (named_by p.now) (length p.now - 3) c.reserve.new.self.layer c.take.new.self.outbox.long) (λ p is.
+    if_some c.take-heard.result.packet (λ p. HasRoom (named_by p.now) (length p.now - 3) c.reserve.new.self.layer) (λ p is.
     let short : length p.now + 4 ≤ length c.args.octets.now = least_by_meaning _ _ (length p.now + 4) (length c.args.octets.now) c.args.self.now.meant (λ c' s fits.
     let lk = link_settings c' in
     handed_short c.reading_is_the_grammar.ensures.spelled c.notes_what_changes.ensures.take_hands_up lk c.args.octets.now s.link p.now bytes
-    (sym ((c.in-Ok.ensures.does.heard lk s.link (c.in_ok-reserve.ensures.fits c' s fits).link).packet) ∙ ap option_copied is)) in
+    (sym ((c.take-heard.ensures.heard lk s.link (c.in_ok-reserve.ensures.fits c' s fits).link).packet) ∙ ap option_copied is)) in
     let named : named_by p.now ≡ (if nat_le 3 (length p.now) then named_by (drop 2 c.args.octets.now) else 0) = same_by_meaning _ _ _ _ c.args.self.now.meant (λ c' s fits.
     let lk = link_settings c' in
     handed_named c.reading_is_the_grammar.ensures.spelled c.notes_what_changes.ensures.take_hands_up lk c.args.octets.now s.link p.now bytes
-    (sym ((c.in-Ok.ensures.does.heard lk s.link (c.in_ok-reserve.ensures.fits c' s fits).link).packet) ∙ ap option_copied is)) in
-    room_for (nat_le 3 (length p.now)) (named_by p.now) c.channel_of.result (length p.now - 3) c.saturating_sub-len.result c.reserve.new.self.layer c.reserve.new.self.link.outbox.long c.take.new.self.outbox.long
+    (sym ((c.take-heard.ensures.heard lk s.link (c.in_ok-reserve.ensures.fits c' s fits).link).packet) ∙ ap option_copied is)) in
+    room_for (nat_le 3 (length p.now)) (named_by p.now) c.channel_of.result (length p.now - 3) c.saturating_sub-len.result c.reserve.new.self.layer
     (named ∙ ap (λ (h : ℕ). if nat_le 3 (length p.now) then h else 0) (sym c.channel_of.ensures))
-    (omega (arith, short, c.saturating_sub-len.ensures))
-    (sym c.in-Ok.ensures.does.promised) c.in_ok-reserve.ensures.room)
+    (omega (arith, short, c.saturating_sub-len.ensures)) c.in_ok-reserve.ensures.room)
 
 pub follow-requires-clause-begun : goal.follow-requires-clause-begun
-follow-requires-clause-begun c =
-    no_room c.channel_of.result c.saturating_sub-len.result c.reserve.new.self.layer c.reserve.new.self.link.outbox.long c.take.new.self.outbox.long
-    (sym c.in-Ok.ensures.does.promised) c.in_ok-reserve.ensures.room 0
+follow-requires-clause-begun c = no_room c.channel_of.result c.saturating_sub-len.result c.reserve.new.self.layer c.in_ok-reserve.ensures.room 0
 
 pub invariant_of-self : goal.invariant_of-self
 invariant_of-self c = record {
@@ -69,12 +62,12 @@ invariant_of-self c = record {
       let lk = link_settings c' in
       let k : LinkStep = take_step lk c.args.octets.now s.link in
       let before = c.in_ok-reserve.ensures.fits c' s fits in
-      let heard = c.in-Ok.ensures.does.heard lk s.link before.link in
-      let whole : FitsWhole c.take.new.self (kept_of lk k.side) = record { link = c.in-Ok.ensures.does.state lk s.link before.link; kept = c.in-Ok.ensures.does.frames lk s.link before.link ∙ ap (λ (made : List (List ℕ)). made ++ map (spelling_of c'.role) k.side.out) before.sent } in (
+      let heard = c.take-heard.ensures.heard lk s.link before.link in
+      let whole : FitsWhole c.take-heard.new.self (kept_of lk k.side) = record { link = c.take-heard.ensures.state lk s.link before.link; kept = c.take-heard.ensures.frames lk s.link before.link } in (
         c',
         (receives c' s c.args.octets.now).near,
-        took_fits c' before.same s c.args.octets.now (option_copied c.in-Ok.heard.packet) c.in-Ok.heard.notes c.follow.new.link c.swap_frames.new.self c.follow.new.layer (c.requires.goes_on c' s fits) (heard.packet, heard.notes)
-            (c.follow.ensures.puts.link c' s.layer k.side before.layer whole) (c.follow.ensures.puts.layer c' s.layer k.side before.layer whole) c.swap_frames.ensures.station (ap (λ o. o.made) c.swap_frames.ensures.outbox ∙ ap (map (λ frame. frame.items)) c.reserve.ensures.empty.frames)
+        took_fits c' before.same s c.args.octets.now (option_copied c.take-heard.result.packet) c.take-heard.result.notes c.follow.new.link c.swap_frames.new.self c.follow.new.layer (c.requires.goes_on c' s fits) (heard.packet, heard.notes)
+            (c.follow.ensures.puts.link c' s.layer k.side before.layer whole) (c.follow.ensures.puts.layer c' s.layer k.side before.layer whole) (ap (λ l. l.station) c.swap_frames.ensures.link) (ap (λ l. l.frames) c.swap_frames.ensures.link ∙ c.reserve.ensures.empty.frames)
             (c.steps_keep_bounds.ensures.receive c' s c.args.octets.now fits.kept),
       ));
   aside =
@@ -83,59 +76,53 @@ invariant_of-self c = record {
       let few = before.texts in
       let packets = c.follow.ensures.most_memory in
       let texts = c.follow.ensures.used.no_more in
-      let promised : c.swap_frames.new.self.outbox.long ≡ 0 = ap (λ o. o.long) c.swap_frames.ensures.outbox in
-      record { packets = omega (arith, packets, low); promised = omega (arith, promised); texts = omega (arith, texts, few) };
+      record { packets = omega (arith, packets, low); texts = omega (arith, texts, few) };
 }
 
-pub invariant_of-self-in-Err-1 : goal.invariant_of-self-in-Err-1
-invariant_of-self-in-Err-1 c = record { meant = subst (λ l. AreMeant c.reserve.new.self.manner l c.reserve.new.self.layer) (sym c.in-Err.ensures.does.err) c.reserve.new.self.meant; aside = subst (λ l. IsFewAside l c.reserve.new.self.layer c.reserve.new.self.texts) (sym c.in-Err.ensures.does.err) c.reserve.new.self.aside }
-
-pub returns-in-Ok-clause-does : goal.returns-in-Ok-clause-does
-returns-in-Ok-clause-does c = record {
+pub returns-clause-does : goal.returns-clause-does
+returns-clause-does c = record {
   state = λ c' s fits.
       let lk = link_settings c' in
       let k : LinkStep = take_step lk c.args.octets.now s.link in
       let before = c.in_ok-reserve.ensures.fits c' s fits in
-      let heard = c.in-Ok.ensures.does.heard lk s.link before.link in
-      let whole : FitsWhole c.take.new.self (kept_of lk k.side) = record { link = c.in-Ok.ensures.does.state lk s.link before.link; kept = c.in-Ok.ensures.does.frames lk s.link before.link ∙ ap (λ (made : List (List ℕ)). made ++ map (spelling_of c'.role) k.side.out) before.sent } in
-      took_fits c' before.same s c.args.octets.now (option_copied c.in-Ok.heard.packet) c.in-Ok.heard.notes c.follow.new.link c.swap_frames.new.self c.follow.new.layer (c.requires.goes_on c' s fits) (heard.packet, heard.notes)
-      (c.follow.ensures.puts.link c' s.layer k.side before.layer whole) (c.follow.ensures.puts.layer c' s.layer k.side before.layer whole) c.swap_frames.ensures.station (ap (λ o. o.made) c.swap_frames.ensures.outbox ∙ ap (map (λ frame. frame.items)) c.reserve.ensures.empty.frames)
+      let heard = c.take-heard.ensures.heard lk s.link before.link in
+      let whole : FitsWhole c.take-heard.new.self (kept_of lk k.side) = record { link = c.take-heard.ensures.state lk s.link before.link; kept = c.take-heard.ensures.frames lk s.link before.link } in
+      took_fits c' before.same s c.args.octets.now (option_copied c.take-heard.result.packet) c.take-heard.result.notes c.follow.new.link c.swap_frames.new.self c.follow.new.layer (c.requires.goes_on c' s fits) (heard.packet, heard.notes)
+      (c.follow.ensures.puts.link c' s.layer k.side before.layer whole) (c.follow.ensures.puts.layer c' s.layer k.side before.layer whole) (ap (λ l. l.station) c.swap_frames.ensures.link) (ap (λ l. l.frames) c.swap_frames.ensures.link ∙ c.reserve.ensures.empty.frames)
       (c.steps_keep_bounds.ensures.receive c' s c.args.octets.now fits.kept);
   frames = λ c' s fits.
       let lk = link_settings c' in
       let k : LinkStep = take_step lk c.args.octets.now s.link in
       let before = c.in_ok-reserve.ensures.fits c' s fits in
-      let heard = c.in-Ok.ensures.does.heard lk s.link before.link in
-      let whole : FitsWhole c.take.new.self (kept_of lk k.side) = record { link = c.in-Ok.ensures.does.state lk s.link before.link; kept = c.in-Ok.ensures.does.frames lk s.link before.link ∙ ap (λ (made : List (List ℕ)). made ++ map (spelling_of c'.role) k.side.out) before.sent } in
+      let heard = c.take-heard.ensures.heard lk s.link before.link in
+      let whole : FitsWhole c.take-heard.new.self (kept_of lk k.side) = record { link = c.take-heard.ensures.state lk s.link before.link; kept = c.take-heard.ensures.frames lk s.link before.link } in
       let link = c.follow.ensures.puts.link c' s.layer k.side before.layer whole in
       c.swap_frames.ensures.frames
-      ∙ took_sends c' before.same s c.args.octets.now (option_copied c.in-Ok.heard.packet) c.in-Ok.heard.notes _ (c.requires.goes_on c' s fits) (heard.packet, heard.notes) link.kept;
+      ∙ took_sends c' before.same s c.args.octets.now (option_copied c.take-heard.result.packet) c.take-heard.result.notes _ (c.requires.goes_on c' s fits) (heard.packet, heard.notes) link.kept;
   entries = λ c' s fits.
       let lk = link_settings c' in
       let k : LinkStep = take_step lk c.args.octets.now s.link in
       let before = c.in_ok-reserve.ensures.fits c' s fits in
-      let heard = c.in-Ok.ensures.does.heard lk s.link before.link in
-      let whole : FitsWhole c.take.new.self (kept_of lk k.side) = record { link = c.in-Ok.ensures.does.state lk s.link before.link; kept = c.in-Ok.ensures.does.frames lk s.link before.link ∙ ap (λ (made : List (List ℕ)). made ++ map (spelling_of c'.role) k.side.out) before.sent } in
-      let noted = entries_noted c.in-Ok.heard.notes ++ entries_heard (layer_settings c') c.reserve.new.self.manner.wide s.layer (option_copied c.in-Ok.heard.packet) c.in-Ok.heard.notes.down c.in-Ok.heard.notes.up in
-      took_enters c' before.same s c.args.octets.now (option_copied c.in-Ok.heard.packet) c.in-Ok.heard.notes _ (c.requires.goes_on c' s fits) (heard.packet, heard.notes)
+      let heard = c.take-heard.ensures.heard lk s.link before.link in
+      let whole : FitsWhole c.take-heard.new.self (kept_of lk k.side) = record { link = c.take-heard.ensures.state lk s.link before.link; kept = c.take-heard.ensures.frames lk s.link before.link } in
+      let noted = entries_noted c.take-heard.result.notes ++ entries_heard (layer_settings c') c.reserve.new.self.manner.wide s.layer (option_copied c.take-heard.result.packet) c.take-heard.result.notes.down c.take-heard.result.notes.up in
+      took_enters c' before.same s c.args.octets.now (option_copied c.take-heard.result.packet) c.take-heard.result.notes _ (c.requires.goes_on c' s fits) (heard.packet, heard.notes)
       (c.follow.ensures.entries c' s.layer k.side before.layer whole ∙ ap (λ es. map plain_entry es ++ noted) c.reserve.ensures.empty.entries);
   refused = λ c' s fits. tt;
   stays = λ c' s fits. tt;
   empty = tt;
   few_frames =
-      let most : length c.follow.new.link.outbox.made ≤ 17 = least_by_meaning _ _ (length c.follow.new.link.outbox.made) 17 c.args.self.now.meant (λ c' s fits.
+      let most : length c.follow.new.link.frames ≤ 17 = least_by_meaning _ _ (length c.follow.new.link.frames) 17 c.args.self.now.meant (λ c' s fits.
       let lk = link_settings c' in
       let k : LinkStep = take_step lk c.args.octets.now s.link in
       let before = c.in_ok-reserve.ensures.fits c' s fits in
-      let whole : FitsWhole c.take.new.self (kept_of lk k.side) = record { link = c.in-Ok.ensures.does.state lk s.link before.link; kept = c.in-Ok.ensures.does.frames lk s.link before.link ∙ ap (λ (made : List (List ℕ)). made ++ map (spelling_of c'.role) k.side.out) before.sent } in
-      let step = put_behind c' c.reserve.new.self.manner.wide s k (option_copied c.in-Ok.heard.packet) c.in-Ok.heard.notes in
+      let whole : FitsWhole c.take-heard.new.self (kept_of lk k.side) = record { link = c.take-heard.ensures.state lk s.link before.link; kept = c.take-heard.ensures.frames lk s.link before.link } in
+      let step = put_behind c' c.reserve.new.self.manner.wide s k (option_copied c.take-heard.result.packet) c.take-heard.result.notes in
       let link = c.follow.ensures.puts.link c' s.layer k.side before.layer whole in
-      let put = few_put lk step.put k.side (c.holds_few.ensures.window lk c.take.new.self k.side.near whole.link) (c.holds_few.ensures.stand lk c.take.new.self k.side.near whole.link).place_low in
+      let put = few_put lk step.put k.side (c.holds_few.ensures.window lk c.take-heard.new.self k.side.near whole.link) (c.holds_few.ensures.stand lk c.take-heard.new.self k.side.near whole.link).place_low in
       let own = c.holds_few.ensures.take lk c.args.octets.now s.link in
-      few_made c'.role c.follow.new.link.outbox.made (all_put lk step.put k.side).out 17 link.kept (omega (arith, put, own))) in
-      let same = length-map c.swap_frames.new.frames.items (λ frame. frame.items) in
-      let all : length (map (λ frame. frame.items) c.swap_frames.new.frames.items) ≡ length c.follow.new.link.outbox.made = ap length c.swap_frames.ensures.frames in
-      let held = c.swap_frames.new.frames.ok.0 in
-      omega (arith, most, same, all, held);
+      few_made c'.role c.follow.new.link.frames (all_put lk step.put k.side).out 17 link.kept (omega (arith, put, own))) in
+      let same : length c.swap_frames.new.frames ≡ length c.follow.new.link.frames = ap length c.swap_frames.ensures.frames in
+      omega (arith, most, same);
   few_entries = grind (arith, c.follow.ensures.few.length, ap length c.reserve.ensures.empty.entries, c.reserve.new.out.entries.ok);
 }

@@ -2,7 +2,7 @@ use Rattle.std.proofs.Common.{ap}
 use Rattle.std.proofs.lemmas.Result.{err_from_is_err_and}
 use Rattle.x25_station.specs.Config.{config_refusal}
 use Rattle.x25_world.specs.code.ShownLine.{ShownLine}
-use Rattle.x25_world.proofs.WorldLemmas.{made_as, refused_as}
+use Rattle.x25_world.proofs.WorldLemmas.{made_as, refused_as, refused_later}
 use Rattle.x25_world.proofs.world.World.down.Goals as goal
 
 pub returns-in_err-dte-clause-refused : goal.returns-in_err-dte-clause-refused
@@ -13,11 +13,14 @@ returns-in_err-dte-clause-refused c =
 pub returns-in-Err-clause-refused : goal.returns-in-Err-clause-refused
 returns-in-Err-clause-refused c = refused_as _ _ (config_refusal c.args.cfg) c.in-Err.error c.in-Err.ensures.refused
 
-pub returns-in-Ok-clause-refused : goal.returns-in-Ok-clause-refused
-returns-in-Ok-clause-refused c = made_as (config_refusal c.args.cfg) c.in-Ok.dce _ c.in-Ok.ensures.refused
+pub returns-in-Err-new_step-clause-refused : goal.returns-in-Err-new_step-clause-refused
+returns-in-Err-new_step-clause-refused c = refused_later _ _ c.in-Ok.dce c.in-Err-new_step.error c.in-Ok.ensures.refused c.in-Err-new_step.ensures
 
-pub returns-in-Ok-clause-fits : goal.returns-in-Ok-clause-fits
-returns-in-Ok-clause-fits c = record {
+pub returns-in-Ok-new_step-clause-refused : goal.returns-in-Ok-new_step-clause-refused
+returns-in-Ok-new_step-clause-refused c = made_as (config_refusal c.args.cfg) c.in-Ok.dce _ c.in-Ok.ensures.refused
+
+pub returns-in-Ok-new_step-clause-fits : goal.returns-in-Ok-new_step-clause-fits
+returns-in-Ok-new_step-clause-fits c = record {
   dte = c.in_ok-dte.ensures.fits;
   dce = c.in-Ok.ensures.fits;
   to_dce = ap (λ (l : ShownLine). l.to_dce) c.new.ensures;

@@ -1,0 +1,137 @@
+-- What our own layer does keeps what is kept of it and the other end, whatever kind of end that is.
+use Rattle.std.proofs.Common.{◌≡◌, ℕ, suc, List, [], ◌∷◌, ◌++◌, Option, None, Bool, true, false, if◌then◌else◌, refl, sym, ap, subst, ◌∙◌, ◌==◌, eq-eqb}
+use Rattle.std.proofs.lemmas.Bool.{eqb-true}
+use Rattle.std.proofs.lemmas.List.{append-nil}
+use Rattle.x25_handshakes.specs.laws.Handshake.{Inner, Side, Live, Left, At}
+use Rattle.x25_bits.specs.declared.role.Role.{Role}
+use Rattle.x25_handshakes.specs.laws.Stretch.{Packet}
+use Rattle.x25_handshakes.specs.laws.Calls.{Connection}
+use Rattle.x25_handshakes.specs.laws.Channel.{ChannelStep, fresh_channel, channel_takes, ChannelAct, channel_acts}
+use Rattle.x25_handshakes.specs.laws.Layers.{LayerPacket, On, Restart, RestartConf, Channels, put, addressed, all_fresh, LayerStep, ready, restarting, layer_side_takes, layer_takes, LayerAct, OnChannel, SendsRestart, layer_side_acts, layer_acts}
+use Rattle.x25_handshakes.proofs.HandshakeRelation.{Level, Handshaken, GoodStep, AllInner}
+use Rattle.x25_handshakes.proofs.HandshakeLemmas.{still, request_live, confirm_never, leave, inner_act, inner_take, drops, marker_left, inner_live, live_front}
+use Rattle.x25_handshakes.proofs.LayersRelation.{kept_on, on, OnEach, restart_mark, own_channels_level}
+
+pub on-append : (h : ℕ) (L o : List LayerPacket) → on h (L ++ o) ≡ on h L ++ on h o
+on-append h [] o = refl
+on-append h (On k p ∷ L) o = kept (h == k) p (on h (L ++ o)) (on h L) (on h o) (on-append h L o)
+  where
+    kept : (c : Bool) (p : Packet) (a b d : List Packet) → a ≡ b ++ d → kept_on c p a ≡ kept_on c p b ++ d
+    kept true p a b d e = ap (λ l. p ∷ l) e
+    kept false p a b d e = e
+on-append h (Restart ∷ L) o = on-append h L o
+on-append h (RestartConf ∷ L) o = on-append h L o
+
+on-same : (h : ℕ) (o : List Packet) → on h (addressed h o) ≡ o
+on-same h [] = refl
+on-same h (p ∷ o) = rw (eq-eqb h h refl) (ap (λ l. p ∷ l) (on-same h o))
+
+on-other : (k h : ℕ) (o : List Packet) → (k == h) ≡ false → on k (addressed h o) ≡ []
+on-other k h [] not = refl
+on-other k h (p ∷ o) not = rw not (on-other k h o not)
+
+pub inner_addressed : (h : ℕ) (o : List Packet) → AllInner restart_mark (addressed h o)
+inner_addressed h [] = tt
+inner_addressed h (p ∷ o) = (refl, inner_addressed h o)
+
+-- a step on channel h leaves the others as they are
+pub put_kept : {X Y : Type 0} (R : X → List Packet → List Packet → Y → Type 0) (x : ℕ → X) (x₂ : X) (o : List Packet) (L K M : List LayerPacket) (y : ℕ → Y) (h : ℕ)
+    → ((k : ℕ) → R (x k) (on k L) (on k M) (y k)) → ((k : ℕ) → (k == h) ≡ false → on k M ≡ on k K) → R x₂ (on h L ++ o) (on h K) (y h)
+    → (k : ℕ) → R (if k == h then x₂ else x k) (on k (L ++ addressed h o)) (on k K) (y k)
+put_kept {X} R x x₂ o L K M y h each others here k = at (k == h) refl
+  where
+    at : (c : Bool) → (k == h) ≡ c → R (if k == h then x₂ else x k) (on k (L ++ addressed h o)) (on k K) (y k)
+    at true is =
+        subst (λ (j : ℕ). R (if j == h then x₂ else x j) (on j (L ++ addressed h o)) (on j K) (y j)) (sym (eqb-true k h is))
+        (subst (λ (a : Bool). R (if a then x₂ else x h) (on h (L ++ addressed h o)) (on h K) (y h)) (sym (eq-eqb h h refl))
+        (subst (λ (l : List Packet). R x₂ l (on h K) (y h)) (sym (on-append h L (addressed h o) ∙ ap (λ l. on h L ++ l) (on-same h o))) here))
+    at false is =
+        subst (λ (a : Bool). R (if a then x₂ else x k) (on k (L ++ addressed h o)) (on k K) (y k)) (sym is)
+        (subst (λ (l : List Packet). R (x k) l (on k K) (y k)) (sym (on-append k L (addressed h o) ∙ ap (λ l. on k L ++ l) (on-other k h o is) ∙ append-nil (on k L)))
+        (subst (λ (l : List Packet). R (x k) (on k L) l (y k)) (others k is) (each k)))
+
+pub on-front : (h : ℕ) (p : Packet) (K : List LayerPacket) → on h (On h p ∷ K) ≡ p ∷ on h K
+on-front h p K = rw (eq-eqb h h refl) refl
+
+pub on-past : (k h : ℕ) (p : Packet) (K : List LayerPacket) → (k == h) ≡ false → on k (On h p ∷ K) ≡ on k K
+on-past k h p K not = rw not refl
+
+-- what has to be known of a channel; `finds` says what of an error is counted as a packet is taken
+pub record OwnChannels {Z : Type 0} (R : At Connection → List Packet → List Packet → Z → Type 0) (y₀ : ℕ → Z) (r : Role) (finds : LayerPacket → Option ℕ → Option ℕ) : Type 0 where
+  pub empty : (h : ℕ) → R fresh_channel [] [] (y₀ h)
+  pub acts : (x : At Connection) (L K : List Packet) (y : Z) (a : ChannelAct) → R x L K y → ((channel_acts x a).error ≡ None) × R (channel_acts x a).next (L ++ (channel_acts x a).out) K y
+  pub takes : (h : ℕ) (x : At Connection) (L : List Packet) (p : Packet) (K : List Packet) (y : Z) → R x L (p ∷ K) y
+      → (finds (On h p) (channel_takes r x p).error ≡ None) × R (channel_takes r x p).next (L ++ (channel_takes r x p).out) K y
+  pub none : (p : LayerPacket) → finds p None ≡ None
+
+module _ {Z : Type 0} (R : At Connection → List Packet → List Packet → Z → Type 0) (y₀ : ℕ → Z) (r : Role) (finds : LayerPacket → Option ℕ → Option ℕ) (own : OwnChannels R y₀ r finds) where
+  abbrev level : Level Channels (ℕ → Z) LayerPacket
+  level = own_channels_level R y₀
+
+  abbrev Good : Option ℕ → LayerStep → List LayerPacket → List LayerPacket → At (ℕ → Z) → Type 0
+  Good e s L K y = GoodStep level e s.next s.out L K y
+
+  -- a step of channel h
+  own_put : (x : Channels) (h : ℕ) (s : ChannelStep) (L K M : List LayerPacket) (y : ℕ → Z) → OnEach R x L M y → ((k : ℕ) → (k == h) ≡ false → on k M ≡ on k K) → R s.next (on h L ++ s.out) (on h K) (y h)
+      → OnEach R (put x h s.next) (L ++ addressed h s.out) K y
+  own_put x h s L K M y all others here = record { each = put_kept R x s.next s.out L K M y h all.each others here }
+
+  own_acts : (x : Channels) (h : ℕ) (a : ChannelAct) (L K : List LayerPacket) (y : ℕ → Z) → OnEach R x L K y
+      → ((channel_acts (x h) a).error ≡ None) × OnEach R (put x h (channel_acts (x h) a).next) (L ++ addressed h (channel_acts (x h) a).out) K y
+  own_acts x h a L K y all =
+      let good = own.acts (x h) (on h L) (on h K) (y h) a (all.each h) in
+      (good.0, own_put x h (channel_acts (x h) a) L K K y all (λ k not. refl) good.1)
+
+  own_takes : (x : Channels) (h : ℕ) (p : Packet) (L K : List LayerPacket) (y : ℕ → Z) → OnEach R x L (On h p ∷ K) y
+      → (finds (On h p) (channel_takes r (x h) p).error ≡ None) × OnEach R (put x h (channel_takes r (x h) p).next) (L ++ addressed h (channel_takes r (x h) p).out) K y
+  own_takes x h p L K y all =
+      let good = own.takes h (x h) (on h L) p (on h K) (y h) (subst (λ (l : List Packet). R (x h) (on h L) l (y h)) (on-front h p K) (all.each h)) in
+      (good.0, own_put x h (channel_takes r (x h) p) L K (On h p ∷ K) y all (λ k not. on-past k h p K not) good.1)
+
+  own_empty : OnEach R all_fresh [] [] y₀
+  own_empty = record { each = own.empty }
+
+  own_still : (x : At Channels) (L K : List LayerPacket) (y : At (ℕ → Z)) (e : Option ℕ) → e ≡ None → Handshaken level x L K y → Good e (record { next = x; out = []; error = None }) L K y
+  own_still x L K y e quiet h = record { quiet = quiet; kept = still level x L K y h }
+
+  own_mark : (e : ℕ) (x : Channels) (L : List LayerPacket) (p : LayerPacket) (K : List LayerPacket) (y : At (ℕ → Z)) → (restart_mark p ≡ Inner → ⊥) → Handshaken level (restarting e x) L (p ∷ K) y
+      → Good (finds p None) (record { next = ready (suc e) all_fresh; out = []; error = None }) L K y
+  own_mark e x L p K y is k = own_still (ready (suc e) all_fresh) L K y (finds p None) (own.none p) (record { hand = marker_left level own_empty p is e y.epoch x y.side L K k.hand })
+
+  own_side_takes : (e : ℕ) (x : Side Channels) (L : List LayerPacket) (p : LayerPacket) (K : List LayerPacket) (y : At (ℕ → Z)) → Handshaken level (record { epoch = e; side = x }) L (p ∷ K) y
+      → Good (finds p (layer_side_takes r e x p).error) (layer_side_takes r e x p) L K y
+  own_side_takes e (Live x) L (On h p) K y k =
+      let s : ChannelStep = channel_takes r (x h) p in
+      let some = live_front level (On h p) refl e y.epoch x y.side L K k.hand in
+      record {
+        quiet = (own_takes x h p some.0 some.1 some.2 some.3).0;
+        kept = record {
+          hand = inner_take level (On h p) (addressed h s.out) refl (inner_addressed h s.out) e y.epoch x (put x h s.next) y.side L K (λ w v z c. (own_takes x h p w v z c).1) k.hand;
+        };
+      }
+  own_side_takes e (Live x) L Restart K y k =
+      record { quiet = own.none Restart; kept = record { hand = request_live level own_empty RestartConf Restart refl refl e y.epoch x y.side L K k.hand } }
+  own_side_takes e (Live x) L RestartConf K y k = absurd (confirm_never level RestartConf refl e y.epoch x y.side L K k.hand)
+  own_side_takes e (Left x) L (On h p) K y k =
+      own_still (restarting e x) L K y (finds (On h p) None) (own.none (On h p)) (record { hand = drops level (On h p) refl e y.epoch x y.side L K k.hand })
+  own_side_takes e (Left x) L Restart K y k = own_mark e x L Restart K y (λ q. cc) k
+  own_side_takes e (Left x) L RestartConf K y k = own_mark e x L RestartConf K y (λ q. cc) k
+
+  pub layer_takes_good : (x : At Channels) (L : List LayerPacket) (p : LayerPacket) (K : List LayerPacket) (y : At (ℕ → Z)) → Handshaken level x L (p ∷ K) y → Good (finds p (layer_takes r x p).error) (layer_takes r x p) L K y
+  layer_takes_good x L p K y h = own_side_takes x.epoch x.side L p K y h
+
+  own_side_acts : (e : ℕ) (x : Side Channels) (L K : List LayerPacket) (y : At (ℕ → Z)) (a : LayerAct) → Handshaken level (record { epoch = e; side = x }) L K y → Good (layer_side_acts e x a).error (layer_side_acts e x a) L K y
+  own_side_acts e (Live x) L K y (OnChannel h a) k =
+      let s : ChannelStep = channel_acts (x h) a in
+      let some = inner_live level e y.epoch x y.side L K k.hand in
+      record {
+        quiet = (own_acts x h a some.0 some.1 some.2 some.3).0;
+        kept = record {
+          hand = inner_act level (addressed h s.out) (inner_addressed h s.out) e y.epoch x (put x h s.next) y.side L K (λ w v z c. (own_acts x h a w v z c).1) k.hand;
+        };
+      }
+  own_side_acts e (Live x) L K y SendsRestart k = record { quiet = refl; kept = record { hand = leave level Restart refl e y.epoch x y.side L K tt k.hand } }
+  own_side_acts e (Left x) L K y a k = own_still (restarting e x) L K y None refl k
+
+  pub layer_acts_good : (x : At Channels) (L K : List LayerPacket) (y : At (ℕ → Z)) (a : LayerAct) → Handshaken level x L K y → Good (layer_acts x a).error (layer_acts x a) L K y
+  layer_acts_good x L K y a h = own_side_acts x.epoch x.side L K y a h
