@@ -3,9 +3,9 @@
 
     golden.py [--program PROGRAM] [NAME ..]
 
-A case is a command, its input, what standard output has to be, and the exit status: in a file SUBJECT/NAME.case, or under its name among others
-of a file SUBJECT/FILE.cases. CONTRIBUTING.md says how one is written, and where its answer comes from. A NAME is SUBJECT/NAME, or SUBJECT for all
-of its cases; with none, all cases. Exit status: 0 all agree, 1 one differs, 2 there is no program or no such case.
+A case is a command, its input, what standard output has to be, and the exit status, under its name in a file SUBJECT/FILE.cases. CONTRIBUTING.md
+says how one is written, and where its answer comes from. A NAME is SUBJECT/NAME, or SUBJECT for all of its cases; with none, all cases. Exit
+status: 0 all agree, 1 one differs, 2 there is no program or no such case.
 """
 
 import argparse
@@ -22,7 +22,7 @@ from program import find_program
 FOLDER = os.path.join(os.path.dirname(os.path.abspath(__file__)), "golden")
 SECONDS = 60
 FORM = re.compile(r"\$ x25(.*)\n== input(.*)\n((?:(?!== ).*\n)*)== answer(.*)\n((?:(?!== ).*\n)*)== status (\d)\n\n?")
-# The name above a case that stands among others.
+# The name above a case.
 NAMED = re.compile(r"^(\w+)\n(?=\$ x25)", re.MULTILINE)
 
 
@@ -78,14 +78,10 @@ def octets(how, text):
 def texts():
     """The text of each stored case by its name, in the order of the names."""
     found = []
-    for path in glob(os.path.join(FOLDER, "*", "*.case*")):
+    for path in glob(os.path.join(FOLDER, "*", "*.cases")):
         file = os.path.relpath(path, FOLDER)
         with open(path, encoding="ascii", newline="") as opened:
-            text = opened.read()
-        if file.endswith(".case"):
-            found.append((file.removesuffix(".case"), text))
-            continue
-        front, *parts = NAMED.split(text)
+            front, *parts = NAMED.split(opened.read())
         if front:
             raise ValueError(f"{file} begins with no name of a case")
         found += [(f"{os.path.dirname(file)}/{name}", it) for name, it in zip(parts[::2], parts[1::2])]
