@@ -23,7 +23,7 @@ LENGTHS = {"README.md": 100, "docs/ARCHITECTURE.md": 110, "docs/PROOFS.md": 181,
 CRATES = os.path.join(support.ROOT, "crates")
 # What is named and stands elsewhere: what commands leave behind, the sources of Linux, what whoever races decoders has.
 ELSEWHERE = ("build/*", "out/*", "/*", "../x25_*", "net/*", "AnswersOffered.antt")
-# What a name may be part of: FILE.FUNCTION.what.edit, SUBJECT/NAME.case, crates/NAME/README.md, NAME_tests.
+# What a name may be part of: FILE.FUNCTION.what.edit, SUBJECT/FILE.cases, crates/NAME/README.md, NAME_tests.
 HOLDERS = re.compile(r"NAME|SUBJECT|CRATE|FILE|FUNCTION|\bwhat\b")
 ENDINGS = ("rt", "antt", "md", "py", "sh", "c", "h", "txt", "svg", "edit", "edits", "case", "script", "trace", "gz", "bash")
 OF_TESTS = ("x25_embed", "x25_refusals")

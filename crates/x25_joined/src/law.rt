@@ -71,9 +71,8 @@ pub fn programs_meet_in_sessions()
 /// `any_peer_keeps_stations_over_sessions` says: who meets whom, the order, that all was taken where its link is idle,
 /// and that it reports no error of procedure.
 ///
-/// Premises: k is 1 to 7, N2 1 to 255, channels 1 to 16; a user's line is no frame of the other end, and gives nothing
-/// beside a packet; a frame that comes is at most 4,103 octets; timer T1 of a station that awaits UA runs out where it
-/// is due.
+/// Premises: k is 1 to 7, N2 1 to 255, channels 1 to 16; a user's line is no frame of the other end; a frame that comes
+/// is at most 4,103 octets; timer T1 of a station that awaits UA runs out where it is due.
 pub fn any_peer_keeps_programs()
     ensures { OfProgram KeepsSessions }
 {

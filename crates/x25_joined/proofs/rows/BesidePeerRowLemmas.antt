@@ -17,7 +17,7 @@ use Rattle.x25_packet.specs.Reading.{packet_of}
 use Rattle.x25_circuit.specs.Hearing.{request_in}
 use Rattle.x25_link.specs.Station.{pumped}
 use Rattle.x25_line.specs.laws.Sessions.{Entry, Meeting}
-use Rattle.x25_line.specs.laws.Peer.{Peer, fresh_peer, numbered_to, told_to, taking, hearing}
+use Rattle.x25_line.specs.laws.Peer.{Peer, numbered_to, told_to, taking, hearing}
 use Rattle.x25_line.specs.laws.Peer as once
 use Rattle.x25_line.specs.laws.PeerSessions.{PeerEnd, begins, now, with_now, hears, numbered, takes_sabm}
 use Rattle.x25_handshakes.specs.laws.PeerCalls.{PlacesCall}
@@ -132,7 +132,7 @@ unfolding digits decode_pairs piped event_turn turn turns event_in lines_of line
 call_is_reported =
     let p0 : Program = nothing_read in
     let p1 : Program = record p0 { read = codes "dte connect\n"; out = sent 0 sabm_octets ∷ [] } in
-    let r1 : IsReached ours p1 = goes_on p0 p1 at_start (Reads (codes "dte connect") (record { is_line = opens (codes "dte connect") refl; is_no_frame = tt; gives_nothing = tt; in_time = tt })) in
+    let r1 : IsReached ours p1 = goes_on p0 p1 at_start (Reads (codes "dte connect") (record { is_line = opens (codes "dte connect") refl; is_no_frame = tt; in_time = tt })) in
     let e2 : PeerEnd = begins p0.peer in
     let p2 : Program = record p1 { peer = e2; out = []; back = sent 1 ua_octets ∷ [] } in
     let r2 : IsReached ours p2 = goes_on p1 p2 r1 (Elsewhere (record (bare ours p1) { peer = e2; out = []; back = sent 1 ua_octets ∷ [] })
