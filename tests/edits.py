@@ -10,21 +10,24 @@ FILE.edits: first the line `file:`, then each edit with its name FUNCTION.what a
     new: STUFFED[(run as usize + 1) % 5 * 256 + octet as usize]
 """
 
+from __future__ import annotations
+
 import os
 import re
 from glob import glob
+from typing import Iterator
 
 
-def read(path):
+def read(path: str) -> str:
     with open(path, encoding="utf-8") as file:
         return file.read()
 
 
-def stem(path):
+def stem(path: str) -> str:
     return os.path.basename(path).rpartition(".")[0]
 
 
-def of_file(path):
+def of_file(path: str) -> dict[str, str]:
     """The edits of a file of wrong-bodies/, by their names FILE.FUNCTION.what, each with the text that `rt` reads."""
     first, *rest = read(path).rstrip("\n").split("\n\n")
     parts = [edit.partition("\n") for edit in rest]
@@ -34,19 +37,19 @@ def of_file(path):
     return found
 
 
-def wrong_bodies(crate):
+def wrong_bodies(crate: str) -> dict[str, str]:
     """The edits of the wrong-bodies/ of a crate, given by its folder, by their names."""
     return {name: text for path in sorted(glob(os.path.join(crate, "wrong-bodies", "*.edits"))) for name, text in of_file(path).items()}
 
 
-def must_fail(crate):
+def must_fail(crate: str) -> dict[str, str]:
     """The edits of the must-fail/ of a crate, given by its folder, by their names."""
     return {stem(path): read(path) for path in sorted(glob(os.path.join(crate, "must-fail", "*.edit")))}
 
 
-def changes(text):
+def changes(text: str) -> Iterator[tuple[str, str, str]]:
     """Yields what an edit changes: a file, the old text there and the new one."""
-    file = old = None
+    file = old = ""
     for kind, said in re.findall("^(file|old|new): ?(.*)$", text, re.MULTILINE):
         if kind == "file":
             file = said
@@ -56,7 +59,7 @@ def changes(text):
             yield file, old, said
 
 
-def names_of(edit):
+def names_of(edit: str) -> set[str]:
     """What a document may call a wrong body FILE.FUNCTION.what: `what`, with FUNCTION or FILE or both before it, joined by lines below."""
     source, function, what = edit.split(".")
     return {what, f"{function}_{what}", f"{source}_{what}", f"{source}_{function}_{what}"}

@@ -7,17 +7,21 @@ Headings, examples, tables, quotations and lists of names aren't sentences. A wo
 words is shown, with its line; without, the longest of each document.
 """
 
+from __future__ import annotations
+
 import argparse
 import os
 import re
+from typing import Iterator
 
 ROOT = os.path.dirname(os.path.dirname(os.path.abspath(__file__)))
 
 
-def parts_of(text):
+def parts_of(text: str) -> Iterator[tuple[int, str]]:
     """The paragraphs and items of a text, each with its first line."""
-    lines, part, begun, fenced = text.splitlines() + [""], [], 0, False
-    for number, line in enumerate(lines, 1):
+    part: list[str] = []
+    begun, fenced = 0, False
+    for number, line in enumerate([*text.splitlines(), ""], 1):
         fenced ^= line.startswith("```")
         is_none = fenced or not line.strip() or line.startswith(("    ", "#", "|", ">", "```", "<!--")) and not (line.startswith("    ") and part)
         if is_none or re.match(r" *(?:[-*]|\d+\.) ", line):
@@ -29,7 +33,7 @@ def parts_of(text):
             part.append(re.sub(r"^ *(?:[-*]|\d+\.) ", "", line).strip())
 
 
-def sentences_of(text):
+def sentences_of(text: str) -> Iterator[tuple[int, str]]:
     """The sentences of a text, each with the line in which its paragraph begins."""
     for number, part in parts_of(text):
         part = re.sub(r"`[^`]*`", "code", re.sub(r"\[([^]]*)\]\([^)]*\)", r"\1", part))
@@ -38,18 +42,18 @@ def sentences_of(text):
                 yield number, sentence
 
 
-def words_of(sentence):
+def words_of(sentence: str) -> list[str]:
     return re.findall(r"[^\s]*\w[^\s]*", sentence)
 
 
-def measure(text):
+def measure(text: str) -> tuple[int, float, tuple[int, int, str]]:
     """How many sentences a text has, how many words they have on the average, and the longest with its words and line."""
     found = [(len(words_of(sentence)), number, sentence) for number, sentence in sentences_of(text)]
     count = len(found)
     return count, sum(words for words, *_ in found) / max(count, 1), max(found, default=(0, 0, ""))
 
 
-def main():
+def main() -> None:
     parser = argparse.ArgumentParser(description=__doc__, formatter_class=argparse.RawDescriptionHelpFormatter)
     parser.add_argument("--over", type=int, metavar="N", help="show each sentence of more than N words")
     parser.add_argument("document", nargs="+")

@@ -7,6 +7,8 @@ edits, the library for C, a golden case for each build of the program, a test of
 processors and on the clock. Exit status: 0 nothing failed, 1 something did.
 """
 
+from __future__ import annotations
+
 import os
 import re
 import resource
@@ -25,17 +27,17 @@ BUILD, SECOND_BUILD = "crates/x25/out/x25", "crates/x25/out/x25.by-rattle"
 PLAYER = "crates/x25_refusals/out/x25_refusals"
 
 
-def quick():
+def quick() -> bool:
     """Runs the tests of the tools that need no program, before all else; answers whether they pass."""
     command = [sys.executable, os.path.join(ROOT, "tests", "check_tools.py"), "--first-failure"]
     return subprocess.run(command, cwd=ROOT, env={**os.environ, "X25": "", "X25_REFUSALS": "", "X25_LIBRARY": ""}).returncode == 0
 
 
-def proofs():
+def proofs() -> tuple[int, int]:
     """Runs `rt ci`, passing on what it prints but for its closing line; answers the numbers of that line."""
     counts = None
     with subprocess.Popen(["rt", "ci"], cwd=ROOT, stdout=subprocess.PIPE, text=True, errors="replace") as child:
-        for line in child.stdout:
+        for line in child.stdout or ():
             closing = CLOSING.fullmatch(line)
             if closing:
                 counts = int(closing[1]), int(closing[2])
@@ -45,7 +47,7 @@ def proofs():
     return passed, max(failed, 1) if child.returncode else failed
 
 
-def library():
+def library() -> tuple[int, int]:
     """Builds the library for C over what `rt ci` left, where there is a C compiler and rt takes that; answers how many archives were built
     and how many not."""
     if not shutil.which("cc"):
@@ -59,7 +61,7 @@ def library():
     return (1, 0) if status == 0 else (0, 1)
 
 
-def golden_cases():
+def golden_cases() -> tuple[int, int]:
     """Runs the golden cases on each build of the program; without the first they have failed."""
     passed = failed = 0
     for build in (BUILD, SECOND_BUILD):
@@ -74,19 +76,19 @@ def golden_cases():
     return passed, failed
 
 
-def tools():
+def tools() -> tuple[int, int]:
     """Runs the tests of the tools, those that need a program on the one that `rt ci` built."""
     os.environ["X25"] = os.path.join(ROOT, BUILD)
     os.environ["X25_REFUSALS"] = os.path.join(ROOT, PLAYER)
     return check_tools.run()
 
 
-def processor_seconds():
+def processor_seconds() -> float:
     """The processor time of this process and of all below it that have ended."""
     return sum(usage.ru_utime + usage.ru_stime for usage in map(resource.getrusage, (resource.RUSAGE_SELF, resource.RUSAGE_CHILDREN)))
 
 
-def main():
+def main() -> int:
     begun = time.monotonic()
     if not quick():
         print("0 passed, 1 failed")

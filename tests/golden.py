@@ -3,10 +3,12 @@
 
     golden.py [--program PROGRAM] [NAME ..]
 
-A case is a command, its input, what standard output has to be, and the exit status: in a file SUBJECT/NAME.case, or under its name among others
-of a file SUBJECT/FILE.cases. CONTRIBUTING.md says how one is written, and where its answer comes from. A NAME is SUBJECT/NAME, or SUBJECT for all
-of its cases; with none, all cases. Exit status: 0 all agree, 1 one differs, 2 there is no program or no such case.
+A case is a command, its input, what standard output has to be, and the exit status, under its name in a file SUBJECT/FILE.cases. CONTRIBUTING.md
+says how one is written, and where its answer comes from. A NAME is SUBJECT/NAME, or SUBJECT for all of its cases; with none, all cases. Exit
+status: 0 all agree, 1 one differs, 2 there is no program or no such case.
 """
+
+from __future__ import annotations
 
 import argparse
 import ast
@@ -16,20 +18,21 @@ import shlex
 import subprocess
 import sys
 from glob import glob
+from typing import cast
 
 from program import find_program
 
 FOLDER = os.path.join(os.path.dirname(os.path.abspath(__file__)), "golden")
 SECONDS = 60
 FORM = re.compile(r"\$ x25(.*)\n== input(.*)\n((?:(?!== ).*\n)*)== answer(.*)\n((?:(?!== ).*\n)*)== status (\d)\n\n?")
-# The name above a case that stands among others.
+# The name above a case.
 NAMED = re.compile(r"^(\w+)\n(?=\$ x25)", re.MULTILINE)
 
 
 class Case:
     """One stored case: its words, its input, and what the program has to answer."""
 
-    def __init__(self, name, text):
+    def __init__(self, name: str, text: str) -> None:
         self.name = name
         form = FORM.fullmatch(text)
         if form is None:
@@ -39,7 +42,7 @@ class Case:
         self.output = octets(form[4], form[5])
         self.status = int(form[6])
 
-    def difference(self, program):
+    def difference(self, program: str) -> str | None:
         """Runs the case; answers None where all agrees, else what differs first, in a line."""
         try:
             done = subprocess.run([program, *self.words], input=self.input, capture_output=True, timeout=SECONDS)
@@ -52,16 +55,16 @@ class Case:
         return None
 
 
-def first_difference(wanted, given):
+def first_difference(wanted: bytes, given: bytes) -> str:
     """Says in which line two outputs differ first, and what stands there."""
-    wanted, given = wanted.split(b"\n"), given.split(b"\n")
-    for number, (want, have) in enumerate(zip(wanted, given), 1):
+    lines, others = wanted.split(b"\n"), given.split(b"\n")
+    for number, (want, have) in enumerate(zip(lines, others), 1):
         if want != have:
             return f"line {number}: wanted {want[:200]!r}, got {have[:200]!r}"
-    return f"wanted {len(wanted) - 1} ended lines, got {len(given) - 1}"
+    return f"wanted {len(lines) - 1} ended lines, got {len(others) - 1}"
 
 
-def octets(how, text):
+def octets(how: str, text: str) -> bytes:
     """The octets of a section, by what its heading says and what stands below it."""
     if how == "":
         return text.encode()
@@ -70,22 +73,18 @@ def octets(how, text):
     if how == " in hex":
         return bytes.fromhex(text)
     if how == " in Python":
-        values = [eval(compile(ast.Expression(it.value), "case", "eval")) for it in ast.parse(text).body]
+        values = [eval(compile(ast.Expression(it.value), "case", "eval")) for it in cast("list[ast.Expr]", ast.parse(text).body)]
         return b"".join(it.encode("ascii") if isinstance(it, str) else it for it in values)
     raise ValueError(f"'{how}' doesn't say how a section is written")
 
 
-def texts():
+def texts() -> dict[str, str]:
     """The text of each stored case by its name, in the order of the names."""
-    found = []
-    for path in glob(os.path.join(FOLDER, "*", "*.case*")):
+    found: list[tuple[str, str]] = []
+    for path in glob(os.path.join(FOLDER, "*", "*.cases")):
         file = os.path.relpath(path, FOLDER)
         with open(path, encoding="ascii", newline="") as opened:
-            text = opened.read()
-        if file.endswith(".case"):
-            found.append((file.removesuffix(".case"), text))
-            continue
-        front, *parts = NAMED.split(text)
+            front, *parts = NAMED.split(opened.read())
         if front:
             raise ValueError(f"{file} begins with no name of a case")
         found += [(f"{os.path.dirname(file)}/{name}", it) for name, it in zip(parts[::2], parts[1::2])]
@@ -94,24 +93,24 @@ def texts():
     return dict(sorted(found))
 
 
-def names():
+def names() -> list[str]:
     """The names of the stored cases, in order."""
     return list(texts())
 
 
-def cases(names):
+def cases(names: list[str]) -> list[Case]:
     """The stored cases of these names, in their order."""
     stored = texts()
     return [Case(name, stored[name]) for name in names]
 
 
-def chosen(words):
+def chosen(words: list[str]) -> tuple[list[str], list[str]]:
     """The names of the cases that words name, each a case or a subject, in the order of the words; and the words that name none."""
     found = [[name for name in names() if word in (name, name.partition("/")[0])] for word in words]
     return [name for some in found for name in some], [word for word, some in zip(words, found) if not some]
 
 
-def run(program, names):
+def run(program: str, names: list[str]) -> tuple[int, int]:
     """Runs the cases of these names, says of each that differs what differs; answers how many agree and how many differ."""
     differing = 0
     for case in cases(names):
@@ -122,7 +121,7 @@ def run(program, names):
     return len(names) - differing, differing
 
 
-def main():
+def main() -> int:
     parser = argparse.ArgumentParser(description=__doc__, formatter_class=argparse.RawDescriptionHelpFormatter)
     parser.add_argument("--program", default=find_program(), help="the program to run; else the one that was built last")
     parser.add_argument("name", nargs="*", help="a case or a subject to run; else all")

@@ -14,6 +14,8 @@ cases alone. It needs a C compiler, `cc`, and the GNU C library. Exit status: 0 
 compiler or no such case.
 """
 
+from __future__ import annotations
+
 import argparse
 import collections
 import os
@@ -23,6 +25,7 @@ import subprocess
 import sys
 import tempfile
 from concurrent.futures import ThreadPoolExecutor
+from typing import Iterable
 
 import golden
 from program import find_player, find_program
@@ -52,17 +55,17 @@ REFUSED = re.compile(rb"(.+) refused=(\d+)\n")
 class Refusing:
     """A program whose allocations can be refused, by a library that is built in a folder."""
 
-    def __init__(self, program, folder):
+    def __init__(self, program: str, folder: str) -> None:
         self.program, self.folder = program, folder
         self.library = os.path.join(folder, "refuse_allocation.so")
         subprocess.run(["cc", "-O2", "-shared", "-fPIC", "-o", self.library, SOURCE], check=True)
 
-    def run(self, words=(), given=b"", **named):
+    def run(self, words: Iterable[str] = (), given: bytes = b"", **named: str) -> subprocess.CompletedProcess[bytes]:
         """Runs the program on these words and octets, with these variables set for the library."""
         environment = {**os.environ, "LD_PRELOAD": self.library, **named}
         return subprocess.run([self.program, *words], input=given, env=environment, capture_output=True, timeout=60)
 
-    def allocations(self, words=(), given=b""):
+    def allocations(self, words: Iterable[str] = (), given: bytes = b"") -> int:
         """How many allocations the run asks for, where none is refused."""
         file = os.path.join(self.folder, "count")
         self.run(words, given, COUNT=file)
@@ -70,12 +73,12 @@ class Refusing:
             return int(count.read())
 
 
-def chosen(count, every):
+def chosen(count: int, every: int) -> list[int]:
     """The numbers of the allocations that are refused, of so many."""
     return [number for number in range(1, count + 1) if number <= FIRST or number % every == 0]
 
 
-def case_answer(refusing, case, number):
+def case_answer(refusing: Refusing, case: golden.Case, number: int) -> str:
     """Runs a golden case with this allocation refused; answers NO_MEMORY or DONE_WITHOUT where all is as it has to be, else what isn't."""
     done = refusing.run(case.words, case.input, REFUSE=str(number))
     if (done.stdout, done.returncode, done.stderr) == (case.output, case.status, b""):
@@ -89,7 +92,7 @@ def case_answer(refusing, case, number):
     return NO_MEMORY
 
 
-def run(program, names, every):
+def run(program: str, names: list[str], every: int) -> int:
     """Runs the cases; says how many refusals each met, and which allocation was refused where something differs; answers how many differ."""
     total = 0
     with tempfile.TemporaryDirectory() as folder, ThreadPoolExecutor(os.cpu_count()) as pool:
@@ -107,7 +110,7 @@ def run(program, names, every):
     return total
 
 
-def player_answer(refusing, whole, number):
+def player_answer(refusing: Refusing, whole: bytes, number: int) -> tuple[str | None, str | None]:
     """Runs the player with this allocation refused; answers the call that met it, None where none did, and what isn't as it has to be."""
     done = refusing.run(REFUSE=str(number))
     lines = done.stdout.splitlines(keepends=True)
@@ -119,10 +122,10 @@ def player_answer(refusing, whole, number):
         return None, f"status {done.returncode}, standard error {done.stderr!r}"
     if len(met) > 1 or not all(line.endswith(b" refused=1\n") for line in met):
         return None, f"one refusal was met more than once: {b''.join(met)!r}"
-    return REFUSED.fullmatch(met[0])[1].decode() if met else None, None
+    return met[0].rpartition(b" ")[0].decode() if met else None, None
 
 
-def tell_calls(whole, met):
+def tell_calls(whole: bytes, met: collections.Counter[str]) -> None:
     """Says how many refusals each call met, and which calls met none."""
     made = [MADE.fullmatch(line) for line in whole.splitlines(keepends=True)]
     calls = {row[1].decode(): int(row[2]) for row in made if row}
@@ -134,7 +137,7 @@ def tell_calls(whole, met):
         print(f"  never refused: {', '.join(never)}")
 
 
-def play(player, every):
+def play(player: str, every: int) -> int:
     """Runs the player; says how many refusals each call met, and which allocation was refused where something differs; answers how many
     differ."""
     with tempfile.TemporaryDirectory() as folder, ThreadPoolExecutor(os.cpu_count()) as pool:
@@ -153,7 +156,7 @@ def play(player, every):
     return len(differing)
 
 
-def main():
+def main() -> int:
     parser = argparse.ArgumentParser(description=__doc__, formatter_class=argparse.RawDescriptionHelpFormatter)
     parser.add_argument("--program", default=find_program(), help="the program x25 to run; else the one that was built last")
     parser.add_argument("--player", default=find_player(), help="the player x25_refusals to run; else the one that was built last")

@@ -5,19 +5,22 @@ Of README.md these are the sentences of 'Why trust it', and of the rest those th
 tests/tools/test_said.py holds that each has its pair, and that what carries it is there.
 """
 
+from __future__ import annotations
+
 import argparse
 import os
 import re
+from typing import Iterator
 
 TESTS = os.path.dirname(os.path.abspath(__file__))
 
 
-def text_of(path):
+def text_of(path: str) -> str:
     with open(os.path.join(os.path.dirname(TESTS), path), encoding="utf-8") as file:
         return file.read()
 
 
-def sentences_of(text):
+def sentences_of(text: str) -> Iterator[str]:
     """The sentences of a text, without headings, examples, heads of tables and lists of names."""
     text = re.sub(r"^```\n(?:.*\n)*?```$|^(?:    |#).*$|^\|.*\n\|-.*$|^> ?", "", text, flags=re.MULTILINE)
     for part in re.split(r"\n\s*\n|\n(?=- |\d+\. |\|)", text):
@@ -27,18 +30,18 @@ def sentences_of(text):
                 yield sentence.replace("`", "")
 
 
-def sentences():
+def sentences() -> list[tuple[str, str]]:
     """What is to be carried: the document and the sentence."""
     readme = text_of("README.md")
-    trust = re.search(r"^## Why trust it\n.*?(?=^## )", readme, re.MULTILINE | re.DOTALL)[0]
+    trust, = re.findall(r"^## Why trust it\n.*?(?=^## )", readme, re.MULTILINE | re.DOTALL)
     rest = [sentence for sentence in sentences_of(readme.replace(trust, "")) if re.search(r"\bproo[fv]|\bprove", sentence)]
     of_documents = {"README.md": [*sentences_of(trust), *rest], "docs/PROOFS.md": sentences_of(text_of("docs/PROOFS.md"))}
     return [(document, sentence) for document, found in of_documents.items() for sentence in found]
 
 
-def pairs():
+def pairs() -> list[tuple[str, str, list[str]]]:
     """The document, the first words of a sentence, and what carries it, line by line."""
-    found = []
+    found: list[tuple[str, str, list[str]]] = []
     for line in text_of("tests/said.txt").splitlines():
         if line.startswith("# "):
             document = line[2:]
@@ -49,7 +52,7 @@ def pairs():
     return found
 
 
-def main():
+def main() -> None:
     argparse.ArgumentParser(description=__doc__, formatter_class=argparse.RawDescriptionHelpFormatter).parse_args()
     for document, sentence in sentences():
         carried = [line for of, words, lines in pairs() if of == document and sentence.startswith(words) for line in lines]

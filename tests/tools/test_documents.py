@@ -23,7 +23,7 @@ LENGTHS = {"README.md": 100, "docs/ARCHITECTURE.md": 110, "docs/PROOFS.md": 181,
 CRATES = os.path.join(support.ROOT, "crates")
 # What is named and stands elsewhere: what commands leave behind, the sources of Linux, what whoever races decoders has.
 ELSEWHERE = ("build/*", "out/*", "/*", "../x25_*", "net/*", "AnswersOffered.antt")
-# What a name may be part of: FILE.FUNCTION.what.edit, SUBJECT/NAME.case, crates/NAME/README.md, NAME_tests.
+# What a name may be part of: FILE.FUNCTION.what.edit, SUBJECT/FILE.cases, crates/NAME/README.md, NAME_tests.
 HOLDERS = re.compile(r"NAME|SUBJECT|CRATE|FILE|FUNCTION|\bwhat\b")
 ENDINGS = ("rt", "antt", "md", "py", "sh", "c", "h", "txt", "svg", "edit", "edits", "case", "script", "trace", "gz", "bash")
 OF_TESTS = ("x25_embed", "x25_refusals")
@@ -146,6 +146,17 @@ class Names(unittest.TestCase):
                         if "_" in word.strip("_") or re.search(r"[a-z][A-Z]", word):
                             with self.subTest(f"{document}: {code}"):
                                 self.assertIn(word, self.words)
+
+    def test_each_method_is_there(self):
+        """What is named as `Type::function` is a function of that type or trait."""
+        methods = defaultdict(set)
+        for path in (path for path in files() if path.startswith("crates/") and path.endswith(".rt")):
+            for found in re.finditer(r"^(?:pub )?(?:trait (\w+)|impl\b[^{]*?(\w+)(?:<[^{}]*>)? \{).*?^\}", text_of(path), re.MULTILINE | re.DOTALL):
+                methods[found[1] or found[2]].update(re.findall(r"\bfn (\w+)", found[0]))
+        for document in documents():
+            for kind, method in re.findall(r"\b([A-Z]\w+)::([a-z]\w*)\b(?!::)", text_of(document)):
+                with self.subTest(f"{document}: {kind}::{method}"):
+                    self.assertIn(method, methods[kind])
 
     def test_each_target_of_make_is_there(self):
         makefile = text_of("Makefile")

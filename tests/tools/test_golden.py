@@ -15,7 +15,7 @@ class Files(unittest.TestCase):
     def test_each_case_is_of_its_subject(self):
         """A subject is the word that the program is called by, or its usage."""
         files = [os.path.relpath(os.path.join(folder, name), support.GOLDEN) for folder, _, names in os.walk(support.GOLDEN) for name in names if name != ".gitattributes"]
-        self.assertEqual([file for file in files if not re.fullmatch(r"\w+/\w+\.cases?", file)], [])
+        self.assertEqual([file for file in files if not re.fullmatch(r"\w+/\w+\.cases", file)], [])
         subjects = {case.name: (case.name.partition("/")[0], case.words) for case in golden.cases(golden.names())}
         self.assertEqual([name for name, (subject, words) in subjects.items() if subject != "usage" and words[0] != subject], [])
 
@@ -29,7 +29,7 @@ class Form(ToolCase):
     def case(self, text):
         """A case with this text."""
         os.makedirs(os.path.join(self.folder, "decode"), exist_ok=True)
-        self.file("decode/one.case", text)
+        self.file("decode/some.cases", b"one\n" + text)
         with mock.patch.object(golden, "FOLDER", self.folder):
             case, = golden.cases(golden.names())
             self.assertEqual(case.name, "decode/one")

@@ -14,9 +14,9 @@ use Rattle.x25_station.specs.Config.{settings_from, config_refusal}
 use Rattle.x25_station.specs.Station.{Station, new_station}
 use Rattle.x25_station.specs.Station.Told.{is_idle, stretch}
 use Rattle.x25_world.specs.World as world
-use Rattle.x25_world.specs.World.{World, Event, WorldOutcome, Happened, Declined, swapped_back, happens, refusal_of, after, AreAccepted, start}
+use Rattle.x25_world.specs.World.{World, Event, Happened, swapped_back, happens, refusal_of, after, AreAccepted, start}
 use Rattle.x25_world.specs.laws.Claims as claims
-use Rattle.x25_world.specs.laws.Claims.{ActsInOctets, AreInOctets, IsLawful, ArrivesAll, station_at, entries_at, ups_in}
+use Rattle.x25_world.specs.laws.Claims.{AreInOctets, IsLawful, ArrivesAll, station_at, entries_at, ups_in}
 use Rattle.x25_world.specs.laws.SessionClaims.{Throughout}
 use Rattle.x25_world.specs.laws.TapOctets.{AreOfFrame, IsTapOfOctets}
 use Rattle.x25_joined.specs.laws.Joined.{Joined, swapped, nothing_read, Act, acts, Happening, acts_at, IsPossibleAt, run, ArePossible, entries_in, frames_in}

@@ -23,7 +23,7 @@ use Rattle.x25_world.specs.SetUp.{carries}
 use Rattle.x25_world.specs.declared.set_up.SetUpFrame.TheVariants.{Sabm, Ua}
 use Rattle.x25_world.specs.declared.error.WorldError.TheVariants as error
 use Rattle.x25_world.specs.World as world
-use Rattle.x25_world.specs.World.{OnTap, AtEnd, World, tapped, entered, after_step, WorldOutcome, Happened, Declined, of_station, delivered}
+use Rattle.x25_world.specs.World.{OnTap, AtEnd, World, tapped, entered, after_step, Happened, Declined, of_station, delivered}
 use Rattle.x25_world.specs.laws.Claims.{ActsInOctets, entry_of_end, entries_at}
 use Rattle.x25_world.specs.laws.TapOctets.{AreOfFrame, AreOfFrames}
 use Rattle.x25_joined.specs.laws.Joined.{Joined, written, station_of, entries_in, frames_in, reads, takes, on_line, Act, Reads, Takes, Loses, Damages, acts, IsNoFrame, is_on_line, IsInTime, IsPossible}

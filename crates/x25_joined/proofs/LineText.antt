@@ -1,5 +1,5 @@
 -- A line behind others, and what a program says when it reads one more.
-use Rattle.std.proofs.Common.{◌≡◌, ◌∙◌, ℕ, false, List, [], ◌∷◌, ◌++◌, length, drop, append_assoc, append-nil, ap, sym, refl}
+use Rattle.std.proofs.Common.{◌≡◌, ◌∙◌, ℕ, List, [], ◌∷◌, ◌++◌, length, drop, append_assoc, append-nil, ap, sym, refl}
 use Rattle.std.proofs.Math.Seq.{drop-append_seam}
 use Rattle.x25_io.specs.Lines.{IsOpen, lines_of}
 use Rattle.x25_io.proofs.LineLemmas.{ends_line}

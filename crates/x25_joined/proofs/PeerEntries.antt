@@ -4,8 +4,10 @@ use Rattle.x25_circuit.specs.Calling as circuit
 use Rattle.x25_link.specs.declared.phase.Reason.{Reason}
 use Rattle.x25_link.specs.Station.{Side}
 use Rattle.x25_link.specs.Hearing.{Step as LinkStep}
+use Rattle.x25_link.specs.Outgoing.{waits}
 use Rattle.x25_link.specs.Link.{alone}
 use Rattle.x25_line.specs.laws.Sessions.{begun_by}
+use Rattle.x25_given.specs.Given.{PlainGiven}
 use Rattle.x25_layer.specs.Layer.{LayerSettings, Layer, LayerNotice, LayerAnswer, on_channel, restarted, restart_done, layer_fault}
 use Rattle.x25_layer.specs.Calls as asked
 use Rattle.x25_layer.specs.Calls.{LayerRequest, LayerOutcome, Accepted, Declined, layer_outcome}
@@ -18,8 +20,9 @@ use Rattle.x25_station.specs.Config.{Settings, layer_settings, link_settings}
 use Rattle.x25_station.specs.Command as command
 use Rattle.x25_station.specs.Beside.{PlainBeside, nothing, fields, diagnosed, beside_in}
 use Rattle.x25_station.specs.Entry.{StationEntry, link_up, bringing, entries_beside, station_told, of_channels, station_asked, entries_noted}
+use Rattle.x25_station.specs.Giving.{is_taken, view_given, not_taken}
 use Rattle.x25_station.specs.Station.{Station, view_of}
-use Rattle.x25_station.specs.Step.{Step, Outcome, Did, Refused, did, entries_of_outcome, entries_heard, layer_answer, follows, requests}
+use Rattle.x25_station.specs.Step.{Step, Outcome, Did, Refused, did, gave, entries_of_outcome, entries_heard, layer_answer, follows, requests, gives}
 use Rattle.x25_station.specs.laws.ReadLaw.{RequestsOctets}
 use Rattle.x25_world.specs.laws.Claims.{ups_in}
 
@@ -99,6 +102,17 @@ requests_ups c s request step is =
     let view : LinkView = view_of (link_settings c) s.link in
     let o : LayerOutcome = layer_outcome (layer_settings c) (view.waits [] == 256) s.layer request in
     ap ups_in (did_entries c (alone s.link) (entries_of_outcome (layer_settings c) s.layer request o) (calls view (layer_settings c) s.layer request) step is) ∙ ups_outcome (layer_settings c) s.layer request o
+
+gave_entries : (c : Settings) (g : PlainGiven) (taken : Bool) (t : Side) (entries : List StationEntry) (a : Answered) (step : Step) → gave c g taken t entries a ≡ Did step → step.entries ≡ entries
+gave_entries c g true t entries (Went s) step is = ap (λ (o : Outcome). (step_in step o).entries) (sym is)
+gave_entries c g false t entries (Went s) step is = refused_did not_taken step is
+gave_entries c g taken t entries (Refuses e) step is = refused_did (error.Layer e) step is
+
+pub gives_ups : (c : Settings) (s : Station) (g : PlainGiven) (request : LayerRequest) (step : Step) → gives c s g request ≡ Did step → ups_in step.entries ≡ 0
+gives_ups c s g request step is =
+    let o : LayerOutcome = layer_outcome (layer_settings c) (waits s.link.outgoing == 256) s.layer request in
+    ap ups_in (gave_entries c g (is_taken c g request) (alone s.link) (entries_of_outcome (layer_settings c) s.layer request o) (calls (view_given (link_settings c) g s.link) (layer_settings c) s.layer request) step is)
+    ∙ ups_outcome (layer_settings c) s.layer request o
 
 -- what calls and acceptances say changes no octet of the user
 pub said_octets : (says : Bool) (l : Layer) (request : LayerRequest) → RequestsOctets request → RequestsOctets (command.said_by says l request)

@@ -29,13 +29,13 @@ use Rattle.x25_peer.specs.laws.BesideSessions as beside
 use Rattle.x25_peer.specs.laws.BesideSessions.{Own, BesideSessions, in_session, own_anew, stepped, followed, heard_here}
 use Rattle.x25_peer.specs.laws.BesideSessionClaims as over_sessions
 use Rattle.x25_joined.specs.laws.Joined.{written, written_more, station_of, entries_in, frames_in, IsNoFrame}
-use Rattle.x25_joined.specs.laws.BesidePeer.{Program, nothing_read, begun_in, seen, bare, sent_then, reads, met_by, IsInTime, GivesNothing, IsElsewhere, Happens, Reads, Takes, Elsewhere, IsReached, at_start, goes_on}
+use Rattle.x25_joined.specs.laws.BesidePeer.{Program, nothing_read, begun_in, seen, bare, sent_then, reads, met_by, IsInTime, IsElsewhere, Happens, Reads, Takes, Elsewhere, IsReached, at_start, goes_on}
 use Rattle.x25_joined.specs.laws.BesidePeerClaims.{entries_to, OfProgram}
 use Rattle.x25_joined.proofs.LineText.{AreWhole, none_whole, more_whole, one_more, said_more, first_said}
 use Rattle.x25_joined.proofs.FrameText.{frame_words, frame_text, frame_open, frame_comes}
 use Rattle.x25_joined.proofs.Turns.{entries-append, TurnIs, first_is, line_did, line_refused, line_none}
 use Rattle.x25_joined.proofs.AskedOctets.{AsksOctets, asks_octets}
-use Rattle.x25_joined.proofs.PeerEntries.{ups_append, follows_ups, refused_did, the_step, requests_ups, said_octets}
+use Rattle.x25_joined.proofs.PeerEntries.{ups_append, follows_ups, refused_did, the_step, requests_ups, gives_ups, said_octets}
 
 -- ---- the entries of sessions
 
@@ -209,29 +209,33 @@ module _ (c : Settings) (p : Program) (k : Kept c p) where
   unless_did None done step is = (refl, the_step step done is)
   unless_did (Some e) done step is = refused_did (error.Link e) step is
 
-  commanded : (line : List ℕ) (asked : Command) (o : Outcome) → IsOpen line → event_in c.wide c.role line ≡ Some (Asks asked) → AsksOctets (Some (Asks asked)) → GivesNothing (Some (Asks asked)) → commands c s asked ≡ o → Kept c (reads c p (line ++ 10 ∷ []) p.back p.met)
-  commanded line asked (Refused e) none asks octets plain is = nothing_happens line none (line_refused c s line (Asks asked) e asks is)
-  commanded line (Requests request) (Did step) none asks octets plain is =
+  commanded : (line : List ℕ) (asked : Command) (o : Outcome) → IsOpen line → event_in c.wide c.role line ≡ Some (Asks asked) → AsksOctets (Some (Asks asked)) → commands c s asked ≡ o → Kept c (reads c p (line ++ 10 ∷ []) p.back p.met)
+  commanded line asked (Refused e) none asks octets is = nothing_happens line none (line_refused c s line (Asks asked) e asks is)
+  commanded line (Requests request) (Did step) none asks octets is =
       let said = command.said_by c.say_sizes s.layer request in
       let ups = requests_ups c s said step is in
       something_happens line none false p.back p.met step (line_did c s line (Asks (Requests request)) (and_pulls c step) asks (ap (with_pulls c) is)) (omega (arith, ups))
       (beside.goes_on w (stepped c w b p.back p.met step) k.world.reached (beside.Asks said step (said_octets c.say_sizes s.layer request octets) is))
-  commanded line (RequestsWith given request) (Did step) none asks octets plain is = absurd plain
-  commanded line Connects (Did step) none asks octets plain is =
+  commanded line (RequestsWith given request) (Did step) none asks octets is =
+      let said = command.said_by c.say_sizes s.layer request in
+      let ups = gives_ups c s given said step is in
+      something_happens line none false p.back p.met step (line_did c s line (Asks (RequestsWith given request)) (and_pulls c step) asks (ap (with_pulls c) is)) (omega (arith, ups))
+      (beside.goes_on w (stepped c w b p.back p.met step) k.world.reached (beside.AsksWith given said step octets.0 (said_octets c.say_sizes s.layer request octets.1) is))
+  commanded line Connects (Did step) none asks octets is =
       let l : LinkStep = connect_step (link_settings c) s.link in
       let whole : Step = led_by (connect_asked ∷ []) (follows c s.layer l) in
       let did = unless_did (connect_refusal s.link.phase) whole step is in
       link_happens line none (Asks Connects) asks (connect_asked ∷ []) refl p.back p.met l (ap (with_pulls c) (is ∙ ap (λ (x : Step). Did x) (sym did.1))) (beside.Connects did.0)
-  commanded line Disconnects (Did step) none asks octets plain is =
+  commanded line Disconnects (Did step) none asks octets is =
       let l : LinkStep = disconnect_step (link_settings c) s.link in
       let whole : Step = led_by (disconnect_asked ∷ []) (follows c s.layer l) in
       let did = unless_did (disconnect_refusal s.link.phase) whole step is in
       link_happens line none (Asks Disconnects) asks (disconnect_asked ∷ []) refl p.back p.met l (ap (with_pulls c) (is ∙ ap (λ (x : Step). Did x) (sym did.1))) (beside.Disconnects did.0)
-  commanded line Probes (Did step) none asks octets plain is =
+  commanded line Probes (Did step) none asks octets is =
       let l : LinkStep = timer_step (link_settings c) s.link in
       let did = unless_did (probe_refusal s.link.phase) (follows c s.layer l) step is in
       link_happens line none (Asks Probes) asks [] refl p.back p.met l (ap (with_pulls c) (is ∙ ap (λ (x : Step). Did x) (sym did.1))) (beside.Probes did.0)
-  commanded line Relinks (Did step) none asks octets plain is =
+  commanded line Relinks (Did step) none asks octets is =
       let l : LinkStep = relink_step (link_settings c) s.link in
       let whole : Step = led_by (relink_asked ∷ []) (follows c s.layer l) in
       let did = unless_did (relink_refusal s.link.phase) whole step is in
@@ -244,11 +248,11 @@ module _ (c : Settings) (p : Program) (k : Kept c p) where
       let did = unless_did (timer_refusal s.link) (follows c s.layer l) step is in
       link_happens line none Fires asks [] refl p.back p.met l (ap (with_pulls c) (is ∙ ap (λ (x : Step). Did x) (sym did.1))) (beside.Fires did.0 due)
 
-  asked_kept : (line : List ℕ) (event : Option Event) → IsOpen line → event_in c.wide c.role line ≡ event → IsNoFrame event → IsInTime c p event → AsksOctets event → GivesNothing event → Kept c (reads c p (line ++ 10 ∷ []) p.back p.met)
-  asked_kept line None none asks no_frame due octets plain = nothing_happens line none (line_none c s line asks)
-  asked_kept line (Some (Comes x)) none asks no_frame due octets plain = absurd no_frame
-  asked_kept line (Some (Asks asked)) none asks no_frame due octets plain = commanded line asked (commands c s asked) none asks octets plain refl
-  asked_kept line (Some Fires) none asks no_frame due octets plain = fired line (fires c s) none asks due refl
+  asked_kept : (line : List ℕ) (event : Option Event) → IsOpen line → event_in c.wide c.role line ≡ event → IsNoFrame event → IsInTime c p event → AsksOctets event → Kept c (reads c p (line ++ 10 ∷ []) p.back p.met)
+  asked_kept line None none asks no_frame due octets = nothing_happens line none (line_none c s line asks)
+  asked_kept line (Some (Comes x)) none asks no_frame due octets = absurd no_frame
+  asked_kept line (Some (Asks asked)) none asks no_frame due octets = commanded line asked (commands c s asked) none asks octets refl
+  asked_kept line (Some Fires) none asks no_frame due octets = fired line (fires c s) none asks due refl
 
   -- ---- a frame comes
 
@@ -284,6 +288,7 @@ module _ (c : Settings) (p : Program) (k : Kept c p) where
 
   elsewhere : (v : BesideSessions) (h : beside.Happens c (bare c p) v) → IsElsewhere h → Kept c (record p { peer = v.peer; theirs = v.theirs; out = v.out; back = v.back; met = v.met })
   elsewhere v (beside.Asks request step octets is) there = absurd there
+  elsewhere v (beside.AsksWith given request step of_given octets is) there = absurd there
   elsewhere v (beside.Connects none) there = absurd there
   elsewhere v (beside.Disconnects none) there = absurd there
   elsewhere v (beside.Probes none) there = absurd there
@@ -310,7 +315,7 @@ module _ (c : Settings) (p : Program) (k : Kept c p) where
 
 module _ (octets : ReadsOctets) (c : Settings) where
   step_kept : (p q : Program) → Kept c p → Happens c p q → Kept c q
-  step_kept p q k (Reads line may) = asked_kept c p k line (event_in c.wide c.role line) may.is_line refl may.is_no_frame may.in_time (asks_octets octets c.wide c.role line) may.gives_nothing
+  step_kept p q k (Reads line may) = asked_kept c p k line (event_in c.wide c.role line) may.is_line refl may.is_no_frame may.in_time (asks_octets octets c.wide c.role line)
   step_kept p q k (Takes e rest front fits) =
       subst (λ (text : List ℕ). Kept c (reads c p text rest (met_by c p e))) (sym (frame_text (other c.role) e.octets)) (comes_kept c p k e rest front fits)
   step_kept p q k (Elsewhere v h there) = elsewhere c p k v h there

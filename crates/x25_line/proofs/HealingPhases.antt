@@ -16,7 +16,7 @@ use Rattle.x25_line.proofs.StationSteps.{not_both}
 use Rattle.x25_line.proofs.StationRuns.{joined_swapped}
 use Rattle.x25_line.proofs.HealingLines.{Reads, none_reads, LastTells, next_tells, tells_behind, Ahead, Mild, mild_ahead, mild_more, held_mild, IsNoFinal, NoFinal}
 use Rattle.x25_line.proofs.HealingSteps.{Sound, sound_swapped, BothUp, both_up_swapped, all_heard, HearsWell, polled, finished, passed, Heard, hears_poll, hears_final, hears_passed, hears_taken, readied, hears_ready}
-use Rattle.x25_line.proofs.HealingResent.{passed_mild, confirms_mild, answer_mild, NearResends, Ready, Resent, near_resends, near_ready, near_poll, near_resent, far_delivers, Plain, plain_hears, far_resent}
+use Rattle.x25_line.proofs.HealingResent.{passed_mild, confirms_mild, answer_mild, NearResends, Ready, Resent, near_resends, near_ready, near_poll, near_resent, far_delivers, Plain, FarSays, plain_says_more, plain_hears, far_resent}
 use Rattle.x25_line.proofs.BusyLines.{silent_stays, none_behind, hears_busy, hears_more, tells_free, Told, told_on, told_first}
 
 -- both ends are Up, and one of them isn't busy
@@ -92,6 +92,53 @@ Phases c d w = Polling c d w ⊎ (Answered c d w ⊎ ((Resent c d w × (is_busy 
 
 abbrev pub Heals : Settings → Settings → Stations → Type 0
 Heals c d w = Pair c d w × Phases c d w
+
+-- the near end spoke in recovery, once it heard a frame or was handed a packet: no I frame goes
+pub record Replied (c d : Settings) (w v : Stations) (there behind : List PlainFrame) : Type 0 where
+  pub pair : Pair c d v
+  pub more : List PlainFrame
+  pub recovery : v.near.station.recovery ≡ true
+  pub out : Reads (other d.role) d.longest v.out (there ++ more)
+  pub mild : Mild more
+  pub back : Reads (other c.role) c.longest v.back behind
+  pub far : v.far ≡ w.far
+
+pub polling_replies : (c d : Settings) (w v : Stations) (h : Polling c d w) (before : List PlainFrame) → NoFinal before → Replied c d w v (says h.busy true h.number true ∷ h.rest) before → Heals c d v
+polling_replies c d w v h before heard p = (
+  p.pair,
+  inl (record {
+    busy = h.busy;
+    number = h.number;
+    rest = h.rest ++ p.more;
+    before = before;
+    recovery = p.recovery;
+    out = p.out;
+    mild = mild_more h.rest p.more h.mild p.mild;
+    back = p.back;
+    heard = heard;
+  }),
+)
+
+pub answered_replies : (c d : Settings) (w v : Stations) (h : Answered c d w) (before : List PlainFrame) → NoFinal before → Replied c d w v h.there (before ++ says h.busy false h.number true ∷ h.behind) → Heals c d v
+answered_replies c d w v h before heard p =
+    let same = ap (λ (e : StationEnd). length e.station.taken) (sym p.far) in (
+      p.pair,
+      inr (inl (record {
+        busy = h.busy;
+        number = h.number;
+        there = h.there ++ p.more;
+        before = before;
+        behind = h.behind;
+        is = h.is ∙ ap (λ (n : ℕ). n % 8) same;
+        recovery = p.recovery;
+        out = p.out;
+        mild = mild_more h.there p.more h.mild p.mild;
+        back = p.back;
+        heard = heard;
+        tells = subst (λ (n : ℕ). LastTells n h.number h.behind) same h.tells;
+        told = subst (λ (e : StationEnd). Told (hears_busy h.busy h.behind) e.station) (sym p.far) h.told;
+      })),
+    )
 
 -- ---- one frame comes to the near end
 
@@ -218,17 +265,8 @@ module _ (c d : Settings) (joined : AreJoined c d) (reads : ReadsSpelled) (laws 
       let k = hears_final c d joined reads laws w (ups w b) there behind true number out back in
       (near_pair w b k, inr (inr (inr (inl (near_withholds w there behind number o b k refl refl refl (all_heard c d joined w (ups w b) number is) (all_heard c d joined w (ups w b) number is) mild tt tells told)))))
 
-  -- a frame comes in recovery that isn't F=1: no I frame goes
-  record Replied (w v : Stations) (there behind : List PlainFrame) : Type 0 where
-    pub pair : Pair c d v
-    pub more : List PlainFrame
-    pub recovery : v.near.station.recovery ≡ true
-    pub out : Reads (other d.role) d.longest v.out (there ++ more)
-    pub mild : Mild more
-    pub back : Reads (other c.role) c.longest v.back behind
-    pub far : v.far ≡ w.far
-
-  replied : (w : Stations) (there behind : List PlainFrame) (nr : ℕ) (o : Outcome) → Pair c d w → Heard c d w there behind nr o → o.recovery ≡ true → Mild o.first → Replied w (acts c Deliver w) there behind
+  -- a frame comes in recovery that isn't F=1
+  replied : (w : Stations) (there behind : List PlainFrame) (nr : ℕ) (o : Outcome) → Pair c d w → Heard c d w there behind nr o → o.recovery ≡ true → Mild o.first → Replied c d w (acts c Deliver w) there behind
   replied w there behind nr o b k recovery first =
       let v = k.went in
       record {
@@ -242,7 +280,7 @@ module _ (c d : Settings) (joined : AreJoined c d) (reads : ReadsSpelled) (laws 
       }
 
   abbrev Replies : Stations → PlainFrame → List PlainFrame → List PlainFrame → Type 0
-  Replies w f there behind = Reads (other d.role) d.longest w.out there → Reads (other c.role) c.longest w.back (f ∷ behind) → Replied w (acts c Deliver w) there behind
+  Replies w f there behind = Reads (other d.role) d.longest w.out there → Reads (other c.role) c.longest w.back (f ∷ behind) → Replied c d w (acts c Deliver w) there behind
 
   near_polled : (w : Stations) → Pair c d w → w.near.station.recovery ≡ true → (busy : Bool) (number : ℕ) (there behind : List PlainFrame) → Replies w (says busy true number true) there behind
   near_polled w b recovery busy number there behind out back =
@@ -279,44 +317,13 @@ module _ (c d : Settings) (joined : AreJoined c d) (reads : ReadsSpelled) (laws 
   near_asked : (w : Stations) → Pair c d w → (h : Polling c d w) (before : List PlainFrame) → Reads (other c.role) c.longest w.back before → NoFinal before → Heals c d (acts c Deliver w)
   near_asked w b h [] back heard = subst (λ (bs : List (List ℕ)). Heals c d (delivered c bs w)) (sym (none_reads (other c.role) c.longest w.back back)) (b, inl h)
   near_asked w b h (f ∷ fs) back heard =
-      let p = near_replies w b h.recovery f (says h.busy true h.number true ∷ h.rest) fs heard.0 h.out back in (
-        p.pair,
-        inl (record {
-          busy = h.busy;
-          number = h.number;
-          rest = h.rest ++ p.more;
-          before = fs;
-          recovery = p.recovery;
-          out = p.out;
-          mild = mild_more h.rest p.more h.mild p.mild;
-          back = p.back;
-          heard = heard.1;
-        }),
-      )
+      polling_replies c d w (acts c Deliver w) h fs heard.1 (near_replies w b h.recovery f (says h.busy true h.number true ∷ h.rest) fs heard.0 h.out back)
 
   near_told : (w : Stations) → Pair c d w → (h : Answered c d w) (before : List PlainFrame) → Reads (other c.role) c.longest w.back (before ++ says h.busy false h.number true ∷ h.behind) → NoFinal before
       → Heals c d (acts c Deliver w)
   near_told w b h [] back heard = near_answered w b h.busy h.number h.there h.behind h.is h.out h.mild back h.tells h.told
   near_told w b h (f ∷ fs) back heard =
-      let p = near_replies w b h.recovery f h.there (fs ++ says h.busy false h.number true ∷ h.behind) heard.0 h.out back in
-      let same = ap (λ (e : StationEnd). length e.station.taken) (sym p.far) in (
-        p.pair,
-        inr (inl (record {
-          busy = h.busy;
-          number = h.number;
-          there = h.there ++ p.more;
-          before = fs;
-          behind = h.behind;
-          is = h.is ∙ ap (λ (n : ℕ). n % 8) same;
-          recovery = p.recovery;
-          out = p.out;
-          mild = mild_more h.there p.more h.mild p.mild;
-          back = p.back;
-          heard = heard.1;
-          tells = subst (λ (n : ℕ). LastTells n h.number h.behind) same h.tells;
-          told = subst (λ (e : StationEnd). Told (hears_busy h.busy h.behind) e.station) (sym p.far) h.told;
-        })),
-      )
+      answered_replies c d w (acts c Deliver w) h fs heard.1 (near_replies w b h.recovery f h.there (fs ++ says h.busy false h.number true ∷ h.behind) heard.0 h.out back)
 
   pub near_heals : (w : Stations) → Heals c d w → Heals c d (acts c Deliver w)
   near_heals w (b, inl h) = near_asked w b h h.before h.back h.heard
@@ -330,72 +337,80 @@ module _ (c d : Settings) (joined : AreJoined c d) (reads : ReadsSpelled) (laws 
 
 -- ---- the far end hears
 
+-- whether it is busy is told by what it says more
+pub told_more : (w u : Stations) (busy : Bool) (gs more : List PlainFrame) → Says w.far.station.said_busy u.near.station.said_busy (is_busy u.near.station) u.near.station.peer_busy more
+    → (is_busy w.far.station ≡ false → is_busy u.near.station ≡ false) → Told (hears_busy busy gs) w.far.station → Told (hears_busy busy (gs ++ more)) u.near.station
+told_more w u busy gs more said free told = subst (λ (b : Bool). Told b u.near.station) (sym (hears_more busy gs more)) (told_on (hears_busy busy gs) w.far.station u.near.station more told said free)
+
+-- an end that is heard to be busy says more
+pub withheld_says : (c d : Settings) (w u : Stations) (h : Withheld c d w) (fs : List PlainFrame) (k : FarSays c d w u h.behind fs) → Mild fs → Told (hears_busy true (h.behind ++ k.more)) u.near.station → Withheld c d (swapped u)
+withheld_says c d w u h fs k mild told =
+    let r = length w.far.station.taken in
+    let same : r ≡ length u.near.station.taken = sym (ap length k.taken) in
+    record {
+      number = h.number;
+      there = fs;
+      behind = h.behind ++ k.more;
+      out = k.out;
+      back = k.back;
+      recovery = subst (λ (e : StationEnd). e.station.recovery ≡ false) (sym k.far) h.recovery;
+      peer_busy = subst (λ (e : StationEnd). e.station.peer_busy ≡ true) (sym k.far) h.peer_busy;
+      mild = mild;
+      place = subst (λ (e : StationEnd). e.station.outgoing.place ≡ length u.near.station.taken) (sym k.far) (h.place ∙ same);
+      acked = subst (λ (e : StationEnd). e.station.outgoing.acked ≡ length u.near.station.taken) (sym k.far) (h.acked ∙ same);
+      tells = subst (λ (n : ℕ). LastTells n h.number (h.behind ++ k.more)) same
+          (tells_behind r r h.number h.behind k.more h.tells (λ n is. next_tells r n k.place u.near.station.outgoing.place k.more is k.next));
+      told = told;
+    }
+
+-- an end whose F=1 is on the line says more behind it, with the same number
+pub answered_says : (c d : Settings) (w u : Stations) (h : Answered c d w) (fs : List PlainFrame) (k : FarSays c d w u (h.before ++ says h.busy false h.number true ∷ h.behind) fs) → Mild fs
+    → Told (hears_busy h.busy (h.behind ++ k.more)) u.near.station → Answered c d (swapped u)
+answered_says c d w u h fs k mild told =
+    let r = length w.far.station.taken in
+    let same : r ≡ length u.near.station.taken = sym (ap length k.taken) in
+    record {
+      busy = h.busy;
+      number = h.number;
+      there = fs;
+      before = h.before;
+      behind = h.behind ++ k.more;
+      is = h.is ∙ ap (λ (n : ℕ). n % 8) same;
+      recovery = subst (λ (e : StationEnd). e.station.recovery ≡ true) (sym k.far) h.recovery;
+      out = k.out;
+      mild = mild;
+      back = subst (Reads (other c.role) c.longest u.out) (append_assoc h.before (says h.busy false h.number true ∷ h.behind) k.more) k.back;
+      heard = h.heard;
+      tells = subst (λ (n : ℕ). LastTells n h.number (h.behind ++ k.more)) same
+          (tells_behind r r h.number h.behind k.more h.tells (λ n is. next_tells r n k.place u.near.station.outgoing.place k.more is k.next));
+      told = told;
+    }
+
 module _ (c d : Settings) (joined : AreJoined c d) (reads : ReadsSpelled) (laws : HealingLaws) (busy_laws : BusyLaws) where
   far_pair : {gs fs : List PlainFrame} {nr : ℕ} {o : Outcome} (w : Stations) → Pair c d w → Heard d c (swapped w) gs fs nr o → Pair c d (far_delivers d w)
   far_pair w b k = pair_swapped d c (joined_swapped c d joined) (acts d Deliver (swapped w)) (near_pair (swapped w) (pair_swapped c d joined w b) k)
 
-  -- by an end that is heard to be busy
+  -- what neither asks nor carries anything
+  plain_told : (w : Stations) → Pair c d w → (gs fs : List PlainFrame) (k : Plain c d w gs fs) (busy : Bool) (behind : List PlainFrame) → Told (hears_busy busy behind) w.far.station
+      → Told (hears_busy busy (behind ++ k.hears.went.next)) (acts d Deliver (swapped w)).near.station
+  plain_told w b gs fs k busy behind told =
+      let v = k.hears.went in
+      let u : Stations = acts d Deliver (swapped w) in
+      told_more w u busy behind v.next
+      (subst (λ (xs : List PlainFrame). Says w.far.station.said_busy u.near.station.said_busy (is_busy u.near.station) u.near.station.peer_busy (xs ++ v.next)) k.first (near_says busy_laws (swapped w) (pair_swapped c d joined w b) k.hears))
+      v.free told
+
   withheld_on : (w : Stations) → Pair c d w → (h : Withheld c d w) (fs : List PlainFrame) → Plain c d w h.behind fs → Mild fs → Heals c d (far_delivers d w)
   withheld_on w b h fs k mild =
-      let v = k.hears.went in
-      let o = k.o in
-      let gs = h.behind in
-      let u : Stations = acts d Deliver (swapped w) in
-      let r = length w.far.station.taken in
-      let same : r ≡ length u.near.station.taken = sym (ap length (v.taken ∙ k.taken)) in
-      let near : u.far ≡ w.near = v.far in
-      let next : AreNext r o.place v.next u.near.station.outgoing.place = subst (λ (xs : List (List ℕ)). AreNext (length xs) o.place v.next u.near.station.outgoing.place) k.taken v.sends in
-      let said = subst (λ (xs : List PlainFrame). Says w.far.station.said_busy u.near.station.said_busy (is_busy u.near.station) u.near.station.peer_busy (xs ++ v.next)) k.first (near_says busy_laws (swapped w) (pair_swapped c d joined w b) k.hears) in (
-        far_pair w b k.hears,
-        inr (inr (inr (inl (record {
-          number = h.number;
-          there = fs;
-          behind = gs ++ v.next;
-          out = v.back;
-          back = subst (λ (xs : List PlainFrame). Reads (other c.role) c.longest u.out (gs ++ (xs ++ v.next))) k.first v.out;
-          recovery = subst (λ (e : StationEnd). e.station.recovery ≡ false) (sym near) h.recovery;
-          peer_busy = subst (λ (e : StationEnd). e.station.peer_busy ≡ true) (sym near) h.peer_busy;
-          mild = mild;
-          place = subst (λ (e : StationEnd). e.station.outgoing.place ≡ length u.near.station.taken) (sym near) (h.place ∙ same);
-          acked = subst (λ (e : StationEnd). e.station.outgoing.acked ≡ length u.near.station.taken) (sym near) (h.acked ∙ same);
-          tells = subst (λ (n : ℕ). LastTells n h.number (gs ++ v.next)) same
-              (tells_behind r r h.number gs v.next h.tells (λ n is. next_tells r n o.place u.near.station.outgoing.place v.next is next));
-          told = subst (λ (b : Bool). Told b u.near.station) (sym (hears_more true gs v.next)) (told_on (hears_busy true gs) w.far.station u.near.station v.next h.told said v.free);
-        })))),
-      )
+      let told = plain_told w b h.behind fs k true h.behind h.told in
+      (far_pair w b k.hears, inr (inr (inr (inl (withheld_says c d w (acts d Deliver (swapped w)) h fs (plain_says_more c d w h.behind fs k) mild told)))))
 
-  -- by an end whose F=1 is on the line: more goes behind it, with the same number
   answered_on : (w : Stations) → Pair c d w → (h : Answered c d w) (fs : List PlainFrame) → Plain c d w (h.before ++ says h.busy false h.number true ∷ h.behind) fs → Mild fs
       → Heals c d (far_delivers d w)
   answered_on w b h fs k mild =
-      let v = k.hears.went in
-      let o = k.o in
-      let frame = says h.busy false h.number true in
-      let all = h.before ++ frame ∷ h.behind in
-      let u : Stations = acts d Deliver (swapped w) in
-      let r = length w.far.station.taken in
-      let same : r ≡ length u.near.station.taken = sym (ap length (v.taken ∙ k.taken)) in
-      let next : AreNext r o.place v.next u.near.station.outgoing.place = subst (λ (xs : List (List ℕ)). AreNext (length xs) o.place v.next u.near.station.outgoing.place) k.taken v.sends in
-      let said = subst (λ (xs : List PlainFrame). Says w.far.station.said_busy u.near.station.said_busy (is_busy u.near.station) u.near.station.peer_busy (xs ++ v.next)) k.first (near_says busy_laws (swapped w) (pair_swapped c d joined w b) k.hears) in (
-        far_pair w b k.hears,
-        inr (inl (record {
-          busy = h.busy;
-          number = h.number;
-          there = fs;
-          before = h.before;
-          behind = h.behind ++ v.next;
-          is = h.is ∙ ap (λ (n : ℕ). n % 8) same;
-          recovery = ap (λ (e : StationEnd). e.station.recovery) v.far ∙ h.recovery;
-          out = v.back;
-          mild = mild;
-          back = subst (Reads (other c.role) c.longest u.out) (append_assoc h.before (frame ∷ h.behind) v.next)
-              (subst (λ (xs : List PlainFrame). Reads (other c.role) c.longest u.out (all ++ (xs ++ v.next))) k.first v.out);
-          heard = h.heard;
-          tells = subst (λ (n : ℕ). LastTells n h.number (h.behind ++ v.next)) same
-              (tells_behind r r h.number h.behind v.next h.tells (λ n is. next_tells r n o.place u.near.station.outgoing.place v.next is next));
-          told = subst (λ (b : Bool). Told b u.near.station) (sym (hears_more h.busy h.behind v.next)) (told_on (hears_busy h.busy h.behind) w.far.station u.near.station v.next h.told said v.free);
-        })),
-      )
+      let all = h.before ++ says h.busy false h.number true ∷ h.behind in
+      let told = plain_told w b all fs k h.busy h.behind h.told in
+      (far_pair w b k.hears, inr (inl (answered_says c d w (acts d Deliver (swapped w)) h fs (plain_says_more c d w all fs k) mild told)))
 
   -- the poll comes: F=1 goes first, as RR or RNR
   far_asked : (w : Stations) → Pair c d w → Polling c d w → Heals c d (far_delivers d w)

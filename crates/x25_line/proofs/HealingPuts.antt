@@ -1,5 +1,5 @@
 -- Packets are put while an end heals: in recovery they wait, and behind it each goes in order, as one I frame more at the end of the line.
-use Rattle.std.proofs.Common.{◌≡◌, ℕ, ◌+◌, ◌%◌, ◌≤◌, List, [], ◌∷◌, ◌++◌, inl, inr, length, map, Bool, true, false, if◌then◌else◌, Option, Some, None, refl, sym, ap, ◌∙◌, subst, arith, length-append, append_assoc}
+use Rattle.std.proofs.Common.{◌≡◌, ℕ, ◌+◌, ◌≤◌, List, [], ◌∷◌, ◌++◌, inl, inr, length, map, Bool, true, false, if◌then◌else◌, Option, Some, None, refl, sym, ap, ◌∙◌, subst, arith, length-append}
 use Rattle.std.specs.Prelude.{nat_le}
 use Rattle.std.proofs.lemmas.Bool.{lt-ltb, le-ltb, ltb-false}
 use Rattle.x25_bits.specs.declared.role.Role.{Role}
@@ -24,10 +24,11 @@ use Rattle.x25_line.proofs.HealingOnce.{FreeThroughout}
 use Rattle.x25_line.proofs.StationSteps.{not_both}
 use Rattle.x25_line.proofs.StationRuns.{machine_joint, joined_swapped}
 use Rattle.x25_line.proofs.StationEvents.{each_hands_one}
-use Rattle.x25_line.proofs.HealingLines.{Reads, reads_more, whole_behind, Ahead, ahead_more, next_ahead, Mild, mild_more, held_mild, no_final_more, next_no_final, LastTells, next_tells, tells_behind, Reports, reports_more}
+use Rattle.x25_line.proofs.HealingLines.{Reads, reads_more, whole_behind, ahead_more, next_ahead, mild_more, held_mild, no_final_more, next_no_final, LastTells, Reports}
 use Rattle.x25_line.proofs.HealingSteps.{Sound, sound_swapped, near_up}
-use Rattle.x25_line.proofs.BusyLines.{silent_stays, hears_busy, hears_more, Told, told_on}
-use Rattle.x25_line.proofs.HealingPhases.{Pair, Heals}
+use Rattle.x25_line.proofs.BusyLines.{silent_stays, hears_busy, Told}
+use Rattle.x25_line.proofs.HealingResent.{FarSays, resent_near, resent_says}
+use Rattle.x25_line.proofs.HealingPhases.{Pair, Heals, Replied, polling_replies, answered_replies, told_more, withheld_says, answered_says}
 use Rattle.x25_line.proofs.HealingRuns.{said_act}
 use Rattle.x25_line.proofs.HealingBoth.{HealsBoth, both_near, both_far}
 
@@ -201,62 +202,33 @@ module _ (c d : Settings) (joined : AreJoined c d) (reads : ReadsSpelled) (laws 
   near_puts_pair w v b p free = record { sound = p.sound; near_on = p.up; far_on = subst (λ (e : StationEnd). is_up e.station.phase ≡ true) (sym p.far) b.far_on; one_free = inl free }
 
   -- in recovery no I frame goes
-  held_back : (w v : Stations) → w.near.station.recovery ≡ true → (p : WasPut w v) → Mild p.next
-  held_back w v recovers p = held_mild (length w.near.station.taken) w.near.station.outgoing.place p.next v.near.station.outgoing.place p.sends (omega (arith, p.held recovers))
+  put_replies : (w v : Stations) (there behind : List PlainFrame) → Pair c d w → w.near.station.recovery ≡ true → WasPut w v → is_busy v.near.station ≡ false → Reads (other d.role) d.longest w.out there
+      → Reads (other c.role) c.longest w.back behind → Replied c d w v there behind
+  put_replies w v there behind b recovers p free out back = record {
+    pair = near_puts_pair w v b p free;
+    more = p.next;
+    recovery = p.recovery ∙ recovers;
+    out = p.out there out;
+    mild = held_mild (length w.near.station.taken) w.near.station.outgoing.place p.next v.near.station.outgoing.place p.sends (omega (arith, p.held recovers));
+    back = subst (λ (os : List (List ℕ)). Reads (other c.role) c.longest os behind) (sym p.back) back;
+    far = p.far;
+  }
 
   near_puts : (w v : Stations) → Heals c d w → WasPut w v → is_busy v.near.station ≡ false → is_busy w.far.station ≡ false → Heals c d v
-  near_puts w v (b, inl h) p free far_free = (
-    near_puts_pair w v b p free,
-    inl (record {
-      busy = h.busy;
-      number = h.number;
-      rest = h.rest ++ p.next;
-      before = h.before;
-      recovery = p.recovery ∙ h.recovery;
-      out = p.out (says h.busy true h.number true ∷ h.rest) h.out;
-      mild = mild_more h.rest p.next h.mild (held_back w v h.recovery p);
-      back = subst (λ (os : List (List ℕ)). Reads (other c.role) c.longest os h.before) (sym p.back) h.back;
-      heard = h.heard;
-    }),
-  )
+  near_puts w v (b, inl h) p free far_free = polling_replies c d w v h h.before h.heard (put_replies w v (says h.busy true h.number true ∷ h.rest) h.before b h.recovery p free h.out h.back)
   near_puts w v (b, inr (inl h)) p free far_free =
-      let same = ap (λ (e : StationEnd). length e.station.taken) (sym p.far) in (
-        near_puts_pair w v b p free,
-        inr (inl (record {
-          busy = h.busy;
-          number = h.number;
-          there = h.there ++ p.next;
-          before = h.before;
-          behind = h.behind;
-          is = h.is ∙ ap (λ (n : ℕ). n % 8) same;
-          recovery = p.recovery ∙ h.recovery;
-          out = p.out h.there h.out;
-          mild = mild_more h.there p.next h.mild (held_back w v h.recovery p);
-          back = subst (λ (os : List (List ℕ)). Reads (other c.role) c.longest os (h.before ++ says h.busy false h.number true ∷ h.behind)) (sym p.back) h.back;
-          heard = h.heard;
-          tells = subst (λ (n : ℕ). LastTells n h.number h.behind) same h.tells;
-          told = subst (λ (e : StationEnd). Told (hears_busy h.busy h.behind) e.station) (sym p.far) h.told;
-        })),
-      )
+      answered_replies c d w v h h.before h.heard (put_replies w v h.there (h.before ++ says h.busy false h.number true ∷ h.behind) b h.recovery p free h.out h.back)
   near_puts w v (b, inr (inr (inl (h, unbusy)))) p free far_free =
       let r = length w.far.station.taken in
-      let same = ap (λ (e : StationEnd). length e.station.taken) (sym p.far) in
       let s = w.near.station in (
         near_puts_pair w v b p free,
-        inr (inr (inl ((
-          record {
-            there = h.there ++ p.next;
-            behind = h.behind;
-            out = p.out h.there h.out;
-            back = subst (λ (os : List (List ℕ)). Reads (other c.role) c.longest os h.behind) (sym p.back) h.back;
-            recovery = p.recovery ∙ h.recovery;
-            peer_busy = p.peer_busy ∙ h.peer_busy;
-            ahead = subst (λ (n : ℕ). Ahead n (h.there ++ p.next) v.near.station.outgoing.place) same
-                (ahead_more r s.outgoing.place v.near.station.outgoing.place h.there p.next h.ahead (next_ahead (length s.taken) s.outgoing.place p.next v.near.station.outgoing.place p.sends));
-            reports = subst (λ (n : ℕ). Reports n v.near.station.outgoing.acked h.behind) same (subst (λ (a : ℕ). Reports r a h.behind) (sym p.acked) h.reports);
-          },
+        inr (inr (inl (
+          resent_near c d w v (h.there ++ p.next) h.behind p.far (p.out h.there h.out) (subst (λ (os : List (List ℕ)). Reads (other c.role) c.longest os h.behind) (sym p.back) h.back)
+              (p.recovery ∙ h.recovery) (p.peer_busy ∙ h.peer_busy)
+              (ahead_more r s.outgoing.place v.near.station.outgoing.place h.there p.next h.ahead (next_ahead (length s.taken) s.outgoing.place p.next v.near.station.outgoing.place p.sends))
+              (subst (λ (a : ℕ). Reports r a h.behind) (sym p.acked) h.reports),
           subst (λ (e : StationEnd). is_busy e.station ≡ false) (sym p.far) unbusy,
-        )))),
+        ))),
       )
   near_puts w v (b, inr (inr (inr (inl h)))) p free far_free =
       let same = ap (λ (e : StationEnd). length e.station.taken) (sym p.far) in
@@ -297,10 +269,16 @@ module _ (c d : Settings) (joined : AreJoined c d) (reads : ReadsSpelled) (laws 
   far_puts_pair w u b p free =
       record { sound = sound_swapped d c twisted u p.sound; near_on = subst (λ (e : StationEnd). is_up e.station.phase ≡ true) (sym p.far) b.near_on; far_on = p.up; one_free = inr free }
 
-  -- what it tells of whether it is busy
-  told_more : (w u : Stations) (busy : Bool) (gs : List PlainFrame) (p : WasPut d c twisted reads laws busy_laws (swapped w) u) → is_busy u.near.station ≡ false → Told (hears_busy busy gs) w.far.station
-      → Told (hears_busy busy (gs ++ p.next)) u.near.station
-  told_more w u busy gs p free told = subst (λ (b : Bool). Told b u.near.station) (sym (hears_more busy gs p.next)) (told_on (hears_busy busy gs) w.far.station u.near.station p.next told p.says (λ _. free))
+  abbrev put_says : (w u : Stations) (gs fs : List PlainFrame) → WasPut d c twisted reads laws busy_laws (swapped w) u → Reads (other c.role) c.longest w.back gs → Reads (other d.role) d.longest w.out fs → FarSays c d w u gs fs
+  put_says w u gs fs p back out = record {
+    more = p.next;
+    place = w.far.station.outgoing.place;
+    far = p.far;
+    out = subst (λ (os : List (List ℕ)). Reads (other d.role) d.longest os fs) (sym p.back) out;
+    back = p.out gs back;
+    taken = p.taken;
+    next = p.sends;
+  }
 
   far_puts : (w u : Stations) → Heals c d w → WasPut d c twisted reads laws busy_laws (swapped w) u → is_busy u.near.station ≡ false → Heals c d (swapped u)
   far_puts w u (b, inl h) p free = (
@@ -318,68 +296,12 @@ module _ (c d : Settings) (joined : AreJoined c d) (reads : ReadsSpelled) (laws 
     }),
   )
   far_puts w u (b, inr (inl h)) p free =
-      let r = length w.far.station.taken in
-      let same : length u.near.station.taken ≡ r = ap length p.taken in
-      let frame = says h.busy false h.number true in (
-        far_puts_pair w u b p free,
-        inr (inl (record {
-          busy = h.busy;
-          number = h.number;
-          there = h.there;
-          before = h.before;
-          behind = h.behind ++ p.next;
-          is = h.is ∙ ap (λ (n : ℕ). n % 8) (sym same);
-          recovery = subst (λ (e : StationEnd). e.station.recovery ≡ true) (sym p.far) h.recovery;
-          out = subst (λ (os : List (List ℕ)). Reads (other d.role) d.longest os h.there) (sym p.back) h.out;
-          mild = h.mild;
-          back = subst (Reads (other c.role) c.longest u.out) (append_assoc h.before (frame ∷ h.behind) p.next) (p.out (h.before ++ frame ∷ h.behind) h.back);
-          heard = h.heard;
-          tells = subst (λ (n : ℕ). LastTells n h.number (h.behind ++ p.next)) (sym same)
-              (tells_behind r r h.number h.behind p.next h.tells (λ k is. next_tells r k w.far.station.outgoing.place u.near.station.outgoing.place p.next is p.sends));
-          told = told_more w u h.busy h.behind p free h.told;
-        })),
-      )
+      let all = h.before ++ says h.busy false h.number true ∷ h.behind in
+      (far_puts_pair w u b p free, inr (inl (answered_says c d w u h h.there (put_says w u all h.there p h.back h.out) h.mild (told_more w u h.busy h.behind p.next p.says (λ _. free) h.told))))
   far_puts w u (b, inr (inr (inl (h, unbusy)))) p free =
-      let r = length w.far.station.taken in
-      let same : length u.near.station.taken ≡ r = ap length p.taken in (
-        far_puts_pair w u b p free,
-        inr (inr (inl ((
-          record {
-            there = h.there;
-            behind = h.behind ++ p.next;
-            out = subst (λ (os : List (List ℕ)). Reads (other d.role) d.longest os h.there) (sym p.back) h.out;
-            back = p.out h.behind h.back;
-            recovery = subst (λ (e : StationEnd). e.station.recovery ≡ false) (sym p.far) h.recovery;
-            peer_busy = subst (λ (e : StationEnd). e.station.peer_busy ≡ false) (sym p.far) h.peer_busy;
-            ahead = subst (λ (e : StationEnd). Ahead (length u.near.station.taken) h.there e.station.outgoing.place) (sym p.far)
-                (subst (λ (n : ℕ). Ahead n h.there w.near.station.outgoing.place) (sym same) h.ahead);
-            reports = subst (λ (e : StationEnd). Reports (length u.near.station.taken) e.station.outgoing.acked (h.behind ++ p.next)) (sym p.far)
-                (subst (λ (n : ℕ). Reports n w.near.station.outgoing.acked (h.behind ++ p.next)) (sym same)
-                (reports_more r w.near.station.outgoing.acked w.far.station.outgoing.place u.near.station.outgoing.place h.behind p.next h.reports p.sends));
-          },
-          free,
-        )))),
-      )
+      (far_puts_pair w u b p free, inr (inr (inl (resent_says c d w u h h.there (put_says w u h.behind h.there p h.back h.out) h.ahead, free))))
   far_puts w u (b, inr (inr (inr (inl h)))) p free =
-      let r = length w.far.station.taken in
-      let same : r ≡ length u.near.station.taken = sym (ap length p.taken) in (
-        far_puts_pair w u b p free,
-        inr (inr (inr (inl (record {
-          number = h.number;
-          there = h.there;
-          behind = h.behind ++ p.next;
-          out = subst (λ (os : List (List ℕ)). Reads (other d.role) d.longest os h.there) (sym p.back) h.out;
-          back = p.out h.behind h.back;
-          recovery = subst (λ (e : StationEnd). e.station.recovery ≡ false) (sym p.far) h.recovery;
-          peer_busy = subst (λ (e : StationEnd). e.station.peer_busy ≡ true) (sym p.far) h.peer_busy;
-          mild = h.mild;
-          place = subst (λ (e : StationEnd). e.station.outgoing.place ≡ length u.near.station.taken) (sym p.far) (h.place ∙ same);
-          acked = subst (λ (e : StationEnd). e.station.outgoing.acked ≡ length u.near.station.taken) (sym p.far) (h.acked ∙ same);
-          tells = subst (λ (n : ℕ). LastTells n h.number (h.behind ++ p.next)) same
-              (tells_behind r r h.number h.behind p.next h.tells (λ k is. next_tells r k w.far.station.outgoing.place u.near.station.outgoing.place p.next is p.sends));
-          told = told_more w u true h.behind p free h.told;
-        })))),
-      )
+      (far_puts_pair w u b p free, inr (inr (inr (inl (withheld_says c d w u h h.there (put_says w u h.behind h.there p h.back h.out) h.mild (told_more w u true h.behind p.next p.says (λ _. free) h.told))))))
   far_puts w u (b, inr (inr (inr (inr h)))) p free =
       not_both (is_busy w.far.station) (busy_is w.far.station b.sound.far_said.calm b.far_on h.told) (free_before w.far.station u.near.station p.grows free)
 

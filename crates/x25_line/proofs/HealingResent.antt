@@ -69,6 +69,19 @@ pub record Ready (c d : Settings) (w : Stations) : Type 0 where
   pub recovery : w.near.station.recovery ≡ false
   pub ahead : Ahead (length w.far.station.taken) there w.near.station.outgoing.place
 
+pub resent_near : (c d : Settings) (w v : Stations) (fs gs : List PlainFrame) → v.far ≡ w.far → Reads (other d.role) d.longest v.out fs → Reads (other c.role) c.longest v.back gs → v.near.station.recovery ≡ false
+    → v.near.station.peer_busy ≡ false → Ahead (length w.far.station.taken) fs v.near.station.outgoing.place → Reports (length w.far.station.taken) v.near.station.outgoing.acked gs → Resent c d v
+resent_near c d w v fs gs far out back recovery peer_busy ahead reports = record {
+  there = fs;
+  behind = gs;
+  out = out;
+  back = back;
+  recovery = recovery;
+  peer_busy = peer_busy;
+  ahead = subst (λ (e : StationEnd). Ahead (length e.station.taken) fs v.near.station.outgoing.place) (sym far) ahead;
+  reports = subst (λ (e : StationEnd). Reports (length e.station.taken) v.near.station.outgoing.acked gs) (sym far) reports;
+}
+
 module _ (c d : Settings) (joined : AreJoined c d) (reads : ReadsSpelled) (laws : HealingLaws) where
   pub near_resends : (w : Stations) (fs gs : List PlainFrame) (nr n : ℕ) (o : Outcome) → BothUp c d w → Heard c d w fs gs nr o
       → o.recovery ≡ false → o.peer_busy ≡ false → o.acked ≡ heard nr w.near.station → Ahead (length w.far.station.taken) fs n → Ahead n o.first o.place
@@ -77,26 +90,16 @@ module _ (c d : Settings) (joined : AreJoined c d) (reads : ReadsSpelled) (laws 
       let h = k.went in
       let r = length w.far.station.taken in
       let v : Stations = acts c Deliver w in
-      let same : length v.far.station.taken ≡ r = ap (λ (e : StationEnd). length e.station.taken) h.far in
       record {
         fs = fs;
         gs = gs;
         nr = nr;
         o = o;
         hears = k;
-        resent = record {
-          there = fs ++ (o.first ++ h.next);
-          behind = gs;
-          out = h.out;
-          back = h.back;
-          recovery = h.recovery ∙ recovery;
-          peer_busy = h.peer_busy ∙ peer_busy;
-          ahead = subst (λ (i : ℕ). Ahead i (fs ++ (o.first ++ h.next)) v.near.station.outgoing.place) (sym same)
-              (ahead_more r n v.near.station.outgoing.place fs (o.first ++ h.next) ahead
-              (ahead_more n o.place v.near.station.outgoing.place o.first h.next first (next_ahead (length o.taken) o.place h.next v.near.station.outgoing.place h.sends)));
-          reports = subst (λ (i : ℕ). Reports i v.near.station.outgoing.acked gs) (sym same)
-              (reports_heard r v.near.station.outgoing.acked nr gs tells (λ is. h.acked ∙ acked ∙ all_heard c d joined w b nr is));
-        };
+        resent = resent_near c d w v (fs ++ (o.first ++ h.next)) gs h.far h.out h.back (h.recovery ∙ recovery) (h.peer_busy ∙ peer_busy)
+            (ahead_more r n v.near.station.outgoing.place fs (o.first ++ h.next) ahead
+            (ahead_more n o.place v.near.station.outgoing.place o.first h.next first (next_ahead (length o.taken) o.place h.next v.near.station.outgoing.place h.sends)))
+            (reports_heard r v.near.station.outgoing.acked nr gs tells (λ is. h.acked ∙ acked ∙ all_heard c d joined w b nr is));
       }
 
   -- where it was in order before, V(S) stays
@@ -171,6 +174,51 @@ pub record Plain (c d : Settings) (w : Stations) (gs fs : List PlainFrame) : Typ
   pub first : o.first ≡ []
   pub taken : o.taken ≡ w.far.station.taken
 
+-- the far end says more behind what it said, once it heard a frame or was handed a packet
+pub record FarSays (c d : Settings) (w u : Stations) (gs fs : List PlainFrame) : Type 0 where
+  pub more : List PlainFrame
+  pub place : ℕ
+  pub far : u.far ≡ w.near
+  pub out : Reads (other d.role) d.longest u.back fs
+  pub back : Reads (other c.role) c.longest u.out (gs ++ more)
+  pub taken : u.near.station.taken ≡ w.far.station.taken
+  pub next : AreNext (length w.far.station.taken) place more u.near.station.outgoing.place
+
+abbrev pub plain_says_more : (c d : Settings) (w : Stations) (gs fs : List PlainFrame) → Plain c d w gs fs → FarSays c d w (acts d Deliver (swapped w)) gs fs
+plain_says_more c d w gs fs k =
+    let v = k.hears.went in
+    let u : Stations = acts d Deliver (swapped w) in
+    record {
+      more = v.next;
+      place = k.o.place;
+      far = v.far;
+      out = v.back;
+      back = subst (λ (xs : List PlainFrame). Reads (other c.role) c.longest u.out (gs ++ (xs ++ v.next))) k.first v.out;
+      taken = v.taken ∙ k.taken;
+      next = subst (λ (xs : List (List ℕ)). AreNext (length xs) k.o.place v.next u.near.station.outgoing.place) k.taken v.sends;
+    }
+
+-- what isn't acknowledged goes on to it
+resent_at : (c d : Settings) (w u : Stations) (h : Resent c d w) (fs gs : List PlainFrame) → u.far ≡ w.near → Reads (other d.role) d.longest u.back fs → Reads (other c.role) c.longest u.out gs
+    → Ahead (length u.near.station.taken) fs w.near.station.outgoing.place → Reports (length u.near.station.taken) w.near.station.outgoing.acked gs → Resent c d (swapped u)
+resent_at c d w u h fs gs near out back ahead reports = record {
+  there = fs;
+  behind = gs;
+  out = out;
+  back = back;
+  recovery = subst (λ (e : StationEnd). e.station.recovery ≡ false) (sym near) h.recovery;
+  peer_busy = subst (λ (e : StationEnd). e.station.peer_busy ≡ false) (sym near) h.peer_busy;
+  ahead = subst (λ (e : StationEnd). Ahead (length u.near.station.taken) fs e.station.outgoing.place) (sym near) ahead;
+  reports = subst (λ (e : StationEnd). Reports (length u.near.station.taken) e.station.outgoing.acked gs) (sym near) reports;
+}
+
+pub resent_says : (c d : Settings) (w u : Stations) (h : Resent c d w) (fs : List PlainFrame) → FarSays c d w u h.behind fs → Ahead (length w.far.station.taken) fs w.near.station.outgoing.place → Resent c d (swapped u)
+resent_says c d w u h fs k ahead =
+    let same = sym (ap length k.taken) in
+    resent_at c d w u h fs (h.behind ++ k.more) k.far k.out k.back (subst (λ (n : ℕ). Ahead n fs w.near.station.outgoing.place) same ahead)
+    (subst (λ (n : ℕ). Reports n w.near.station.outgoing.acked (h.behind ++ k.more)) same
+    (reports_more (length w.far.station.taken) w.near.station.outgoing.acked k.place u.near.station.outgoing.place h.behind k.more h.reports k.next))
+
 -- it heard a frame, and what isn't acknowledged goes on
 pub record FarResends (c d : Settings) (w : Stations) : Type 0 where
   pub fs : List PlainFrame
@@ -226,34 +274,7 @@ module _ (c d : Settings) (joined : AreJoined c d) (reads : ReadsSpelled) (laws 
 
   resent_on : (w : Stations) (h : Resent c d w) (fs : List PlainFrame) → Plain c d w h.behind fs → Ahead (length w.far.station.taken) fs w.near.station.outgoing.place → FarResends c d w
   resent_on w h fs k ahead =
-      let v = k.hears.went in
-      let gs = h.behind in
-      let o = k.o in
-      let u : Stations = acts d Deliver (swapped w) in
-      let r = length w.far.station.taken in
-      let same : length u.near.station.taken ≡ r = ap length (v.taken ∙ k.taken) in
-      let near : u.far ≡ w.near = v.far in
-      let next : AreNext r o.place v.next u.near.station.outgoing.place = subst (λ (xs : List (List ℕ)). AreNext (length xs) o.place v.next u.near.station.outgoing.place) k.taken v.sends in
-      record {
-        fs = fs;
-        gs = gs;
-        nr = k.nr;
-        o = o;
-        hears = k.hears;
-        resent = record {
-          there = fs;
-          behind = gs ++ v.next;
-          out = v.back;
-          back = subst (λ (xs : List PlainFrame). Reads (other c.role) c.longest u.out (gs ++ (xs ++ v.next))) k.first v.out;
-          recovery = subst (λ (e : StationEnd). e.station.recovery ≡ false) (sym near) h.recovery;
-          peer_busy = subst (λ (e : StationEnd). e.station.peer_busy ≡ false) (sym near) h.peer_busy;
-          ahead = subst (λ (e : StationEnd). Ahead (length u.near.station.taken) fs e.station.outgoing.place) (sym near)
-              (subst (λ (n : ℕ). Ahead n fs w.near.station.outgoing.place) (sym same) ahead);
-          reports = subst (λ (e : StationEnd). Reports (length u.near.station.taken) e.station.outgoing.acked (gs ++ v.next)) (sym near)
-              (subst (λ (n : ℕ). Reports n w.near.station.outgoing.acked (gs ++ v.next)) (sym same)
-              (reports_more r w.near.station.outgoing.acked o.place u.near.station.outgoing.place gs v.next h.reports next));
-        };
-      }
+      record { fs = fs; gs = h.behind; nr = k.nr; o = k.o; hears = k.hears; resent = resent_says c d w (acts d Deliver (swapped w)) h fs (plain_says_more c d w h.behind fs k) ahead }
 
   -- the I frame that is wanted comes: it is taken, and its number is told
   far_info : (w : Stations) → BothUp c d w → is_busy w.far.station ≡ false → (h : Resent c d w) (ns nr : ℕ) (x : List ℕ) (fs : List PlainFrame) → Reads (other d.role) d.longest w.out (info ns nr false x ∷ fs)
@@ -266,7 +287,6 @@ module _ (c d : Settings) (joined : AreJoined c d) (reads : ReadsSpelled) (laws 
       let v = t.hears.went in
       let u : Stations = acts d Deliver (swapped w) in
       let more : length u.near.station.taken ≡ length s.taken + 1 = ap length v.taken ∙ length-append s.taken (x ∷ []) in
-      let near : u.far ≡ w.near = v.far in
       let all = o.first ++ v.next in
       let next : AreNext (length u.near.station.taken) o.place all u.near.station.outgoing.place =
       subst (λ (xs : List (List ℕ)). AreNext (length xs) o.place all u.near.station.outgoing.place) (sym v.taken) (confirms_next (length o.taken) o.place u.near.station.outgoing.place t.goes v.next v.sends) in
@@ -276,18 +296,8 @@ module _ (c d : Settings) (joined : AreJoined c d) (reads : ReadsSpelled) (laws 
         nr = nr;
         o = o;
         hears = t.hears;
-        resent = record {
-          there = fs;
-          behind = h.behind ++ all;
-          out = v.back;
-          back = v.out;
-          recovery = subst (λ (e : StationEnd). e.station.recovery ≡ false) (sym near) h.recovery;
-          peer_busy = subst (λ (e : StationEnd). e.station.peer_busy ≡ false) (sym near) h.peer_busy;
-          ahead = subst (λ (e : StationEnd). Ahead (length u.near.station.taken) fs e.station.outgoing.place) (sym near)
-              (subst (λ (n : ℕ). Ahead n fs w.near.station.outgoing.place) (sym more) ahead);
-          reports = subst (λ (e : StationEnd). Reports (length u.near.station.taken) e.station.outgoing.acked (h.behind ++ all)) (sym near)
-              (reports_new (length s.taken) (length u.near.station.taken) w.near.station.outgoing.acked o.place u.near.station.outgoing.place h.behind all h.reports next (λ none. t.speaks (v.said ∙ none)));
-        };
+        resent = resent_at c d w u h fs (h.behind ++ all) v.far v.back v.out (subst (λ (n : ℕ). Ahead n fs w.near.station.outgoing.place) (sym more) ahead)
+            (reports_new (length s.taken) (length u.near.station.taken) w.near.station.outgoing.acked o.place u.near.station.outgoing.place h.behind all h.reports next (λ none. t.speaks (v.said ∙ none)));
       }
 
   far_front : (w : Stations) → BothUp c d w → is_busy w.far.station ≡ false → (h : Resent c d w) (fs : List PlainFrame) → Reads (other d.role) d.longest w.out fs

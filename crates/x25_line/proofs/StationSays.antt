@@ -18,7 +18,7 @@ use Rattle.x25_link.specs.laws.WindowMachine.{Window, ShowsItem, Shows, ShowAll,
 use Rattle.x25_line.specs.laws.Stations.{replaced, is_visible}
 use Rattle.x25_line.specs.laws.StationClaims.{number_in}
 use Rattle.x25_line.specs.laws.Peer.{Peer, MaySend, MayHear, numbered_to, told_to}
-use Rattle.x25_line.proofs.StationLines.{AreParting, good_reads}
+use Rattle.x25_line.proofs.StationLines.{IsGood, AreParting, good_reads}
 use Rattle.x25_line.proofs.StationSends.{AllWithin, Item, item_at, tell_good, send_good, not_none}
 
 -- the peer as an end of the window machine, with a station's k
@@ -61,6 +61,63 @@ item_sent k n p high room told may n1 i (rr command nr pf) h = absurd (not_none 
 item_sent k n p high room told may n1 i (rnr command nr pf) h = absurd (not_none n p.given i.item i.is h.0)
 item_sent k n p high room told may n1 i (rej command nr pf) h = absurd (not_none n p.given i.item i.is h.0)
 item_sent k n p high room told may n1 i f h = absurd h
+
+-- ---- all that is sent in a run
+
+-- the peer once it said all frames of a run, by which the station's end of the window machine became v; P is what is reached by one that said these frames
+pub record Said (d : Settings) (P : Peer → List PlainFrame → Type 0) (p : Peer) (v : Window) (frames : List PlainFrame) : Type 0 where
+  pub peer : Peer
+  pub reached : P peer frames
+  pub is : machine_of d.window peer ≡ v
+  pub room : peer.sent ≤ peer.acked + d.window
+  pub told : peer.told ≤ length peer.taken
+  pub given : peer.given ≡ p.given
+  pub taken : peer.taken ≡ p.taken
+
+-- that it says one frame more
+abbrev pub MaySay : Settings → (Peer → List PlainFrame → Type 0) → Type 0
+MaySay d P = (p q : Peer) (before : List PlainFrame) (f : PlainFrame) → IsGood d.longest f → MaySend ⊥ p (Ok f) q → q.sent ≤ p.sent + 1 → q.given ≡ p.given → q.taken ≡ p.taken → P p before → P q (before ++ f ∷ [])
+
+module _ (d : Settings) (high : d.window ≤ 7) (P : Peer → List PlainFrame → Type 0) (says : MaySay d P) (p : Peer) (within : AllWithin d.longest p.given) where
+  one : (w : Window) (before : List PlainFrame) (h : Said d P p w before) (s : Step (List ℕ)) (fs : List PlainFrame) → IsSent s → Allows (machine_of d.window h.peer) s → ShowAll fs (frames_of (machine_of d.window h.peer) s)
+      → Said d P p (after (machine_of d.window h.peer) s) (before ++ fs)
+  one w before h Tell fs sends may shows =
+      let q = h.peer in
+      let m = machine_of d.window q in
+      let single = single_of fs (machine_frame m None) shows in
+      subst (λ (es : List PlainFrame). Said d P p m (before ++ es)) (sym single.is) (record {
+        peer = told_to (length q.taken) q;
+        reached = says q (told_to (length q.taken) q) before single.frame (tell_good d.longest m single.frame single.shows) (tell_sent d.window q h.told single.frame single.shows) (omega arith) refl refl h.reached;
+        is = refl;
+        room = h.room;
+        told = omega arith;
+        given = h.given;
+        taken = h.taken;
+      })
+  one w before h (Send n) fs sends may shows =
+      let q = h.peer in
+      let m = machine_of d.window q in
+      let single = single_of fs (machine_frame (after m (Send n)) (numbered n (slice_get q.given n))) shows in
+      let item = item_at d.longest q.given n may.3 (subst (AllWithin d.longest) (sym h.given) within) in
+      let inside = may.2 in
+      let room = h.room in
+      subst (λ (es : List PlainFrame). Said d P p (after m (Send n)) (before ++ es)) (sym single.is) (record {
+        peer = told_to (length q.taken) (numbered_to n q);
+        reached = says q (told_to (length q.taken) (numbered_to n q)) before single.frame (send_good d.longest n m item single.frame single.shows)
+            (item_sent d.window n q high h.room h.told may d.longest item single.frame single.shows) (omega (arith, inside)) refl refl h.reached;
+        is = refl;
+        room = omega (arith, room, inside);
+        told = omega arith;
+        given = h.given;
+        taken = h.taken;
+      })
+  one w before h s fs sends may shows = absurd sends
+
+  pub said_run : (from : Window) → P p [] → machine_of d.window p ≡ from → p.sent ≤ p.acked + d.window → p.told ≤ length p.taken → (w : Window) (frames : List PlainFrame) → Runs from w frames → Said d P p w frames
+  said_run from reached is room told w frames rests = record { peer = p; reached = reached; is = is; room = room; told = told; given = refl; taken = refl }
+  said_run from reached is room told w frames (goes_on v fs s gs run sends may shows) =
+      let h = said_run from reached is room told v fs run in
+      subst (λ (z : Window). Said d P p (after z s) (fs ++ gs)) h.is (one v fs h s gs sends (subst (λ (z : Window). Allows z s) (sym h.is) may) (subst (λ (z : Window). ShowAll gs (frames_of z s)) (sym h.is) shows))
 
 -- ---- frames without one
 
@@ -121,77 +178,13 @@ module _ (d : Settings) (high : d.window ≤ 7) (reads : ReadsSpelled) (Fine : T
       subst (λ (xs : List (List ℕ)). R os p xs) (append_assoc out (spelling_of d.role f ∷ []) (map (spelling_of d.role) fs))
       (free_all (out ++ spelling_of d.role f ∷ []) p fs free.1 (sent out p p f free.0.reads (free_sent p f free.0.none) (omega arith) reached))
 
-  -- the peer once it said all frames of a run, by which the station's end of the window machine became v
-  pub record Said (out : List (List ℕ)) (p : Peer) (v : Window) (frames : List PlainFrame) : Type 0 where
-    pub peer : Peer
-    pub reached : R os peer (out ++ map (spelling_of d.role) frames)
-    pub is : machine_of d.window peer ≡ v
-    pub room : peer.sent ≤ peer.acked + d.window
-    pub told : peer.told ≤ length peer.taken
-    pub given : peer.given ≡ p.given
-    pub taken : peer.taken ≡ p.taken
-
-  push : (out : List (List ℕ)) (q : Peer) (before : List PlainFrame) (f : PlainFrame) → R os q ((out ++ map (spelling_of d.role) before) ++ spelling_of d.role f ∷ [])
-      → R os q (out ++ map (spelling_of d.role) (before ++ f ∷ []))
-  push out q before f h =
+  speaks : (out : List (List ℕ)) → MaySay d (λ q frames. R os q (out ++ map (spelling_of d.role) frames))
+  speaks out p q before f good may next given taken h =
       subst (λ (xs : List (List ℕ)). R os q xs)
-      (append_assoc out (map (spelling_of d.role) before) (spelling_of d.role f ∷ []) ∙ ap (λ (xs : List (List ℕ)). out ++ xs) (sym (map-append (spelling_of d.role) before (f ∷ [])))) h
+      (append_assoc out (map (spelling_of d.role) before) (spelling_of d.role f ∷ []) ∙ ap (λ (xs : List (List ℕ)). out ++ xs) (sym (map-append (spelling_of d.role) before (f ∷ []))))
+      (sent (out ++ map (spelling_of d.role) before) p q f (good_reads reads d.role d.longest f good) may next h)
 
-  one : (out : List (List ℕ)) (p : Peer) (before : List PlainFrame) → AllWithin d.longest p.given → (q : Peer) → R os q (out ++ map (spelling_of d.role) before)
-      → q.sent ≤ q.acked + d.window → q.told ≤ length q.taken → q.given ≡ p.given → q.taken ≡ p.taken → (s : Step (List ℕ)) (fs : List PlainFrame)
-      → IsSent s → Allows (machine_of d.window q) s → ShowAll fs (frames_of (machine_of d.window q) s) → Said out p (after (machine_of d.window q) s) (before ++ fs)
-  one out p before within q reached room told given taken Tell fs sends may shows =
-      let w = machine_of d.window q in
-      let single = single_of fs (machine_frame w None) shows in
-      let f = single.frame in
-      let v : Peer = told_to (length q.taken) q in
-      record {
-        peer = v;
-        reached = subst (λ (es : List PlainFrame). R os v (out ++ map (spelling_of d.role) (before ++ es))) (sym single.is)
-            (push out v before f (sent (out ++ map (spelling_of d.role) before) q v f (good_reads reads d.role d.longest f (tell_good d.longest w f single.shows)) (tell_sent d.window q told f single.shows) (omega arith) reached));
-        is = refl;
-        room = room;
-        told = omega arith;
-        given = given;
-        taken = taken;
-      }
-  one out p before within q reached room told given taken (Send n) fs sends may shows =
-      let w = machine_of d.window q in
-      let single = single_of fs (machine_frame (after w (Send n)) (numbered n (slice_get q.given n))) shows in
-      let f = single.frame in
-      let v : Peer = told_to (length q.taken) (numbered_to n q) in
-      let item = item_at d.longest q.given n may.3 (subst (AllWithin d.longest) (sym given) within) in
-      let inside = may.2 in
-      record {
-        peer = v;
-        reached = subst (λ (es : List PlainFrame). R os v (out ++ map (spelling_of d.role) (before ++ es))) (sym single.is)
-            (push out v before f (sent (out ++ map (spelling_of d.role) before) q v f (good_reads reads d.role d.longest f (send_good d.longest n w item f single.shows))
-            (item_sent d.window n q high room told may d.longest item f single.shows) (omega (arith, inside)) reached));
-        is = refl;
-        room = omega arith;
-        told = omega arith;
-        given = given;
-        taken = taken;
-      }
-  one out p before within q reached room told given taken s fs sends may shows = absurd sends
-
-  said_more : (out : List (List ℕ)) (p : Peer) (before : List PlainFrame) → AllWithin d.longest p.given → (w : Window) → Said out p w before → (s : Step (List ℕ)) (fs : List PlainFrame)
-      → IsSent s → Allows w s → ShowAll fs (frames_of w s) → Said out p (after w s) (before ++ fs)
-  said_more out p before within w h s fs sends may shows =
-      subst (λ (z : Window). Said out p (after z s) (before ++ fs)) h.is
-      (one out p before within h.peer h.reached h.room h.told h.given h.taken s fs sends (subst (λ (z : Window). Allows z s) (sym h.is) may) (subst (λ (z : Window). ShowAll fs (frames_of z s)) (sym h.is) shows))
-
-  pub runs_said : (out : List (List ℕ)) (p : Peer) (from : Window) → R os p out → machine_of d.window p ≡ from → p.sent ≤ p.acked + d.window
-      → p.told ≤ length p.taken → AllWithin d.longest p.given → (w : Window) (frames : List PlainFrame) → Runs from w frames → Said out p w frames
-  runs_said out p from reached is room told within w frames rests =
-      record {
-        peer = p;
-        reached = subst (λ (xs : List (List ℕ)). R os p xs) (sym (append-nil out)) reached;
-        is = is;
-        room = room;
-        told = told;
-        given = refl;
-        taken = refl;
-      }
-  runs_said out p from reached is room told within w frames (goes_on v fs s gs run sends may shows) =
-      said_more out p fs within v (runs_said out p from reached is room told within v fs run) s gs sends may shows
+  pub runs_said : (out : List (List ℕ)) (p : Peer) (from : Window) → R os p out → machine_of d.window p ≡ from → p.sent ≤ p.acked + d.window → p.told ≤ length p.taken → AllWithin d.longest p.given
+      → (w : Window) (frames : List PlainFrame) → Runs from w frames → Said d (λ q frames. R os q (out ++ map (spelling_of d.role) frames)) p w frames
+  runs_said out p from reached is room told within w frames runs =
+      said_run d high (λ q frames. R os q (out ++ map (spelling_of d.role) frames)) (speaks out) p within from (subst (λ (xs : List (List ℕ)). R os p xs) (sym (append-nil out)) reached) is room told w frames runs

@@ -1,4 +1,5 @@
 -- What holds over set-up and re-set-up: proofs of the claims on sessions.
+pub mod EntryLines
 pub mod SessionLines
 pub mod SessionHeld
 pub mod SessionSteps
@@ -8,7 +9,6 @@ pub mod SessionUp
 pub mod SessionActs
 pub mod SessionTakes
 pub mod SessionsForgotten
-pub mod EntryLines
 pub mod Letters
 pub mod SessionMay
 pub mod SessionSays

@@ -1,12 +1,13 @@
 -- What packets are read as, and what a link's peer sends and hears.
-use Rattle.std.proofs.Common.{◌≡◌, ℕ, zero, suc, ◌+◌, ◌≤◌, ◌==◌, nat_lt, List, [], ◌∷◌, ◌++◌, length, drop, map, Bool, true, false, if◌then◌else◌, Option, Some, None, Result, Ok, Err, option_to_list, refl, sym, ap, subst, ◌∙◌, append_assoc, append-nil, arith}
-use Rattle.std.proofs.lemmas.List.{map-append, drop-append-le, length-append, length-map, drop_all}
-use Rattle.std.specs.Prelude.{remove, slice_get}
+use Rattle.std.proofs.Common.{◌≡◌, ℕ, ◌+◌, ◌≤◌, nat_lt, List, [], ◌∷◌, ◌++◌, length, drop, map, Bool, true, false, if◌then◌else◌, Some, None, Result, Ok, refl, sym, ap, subst, ◌∙◌, append_assoc, arith}
+use Rattle.std.proofs.lemmas.List.{length-append, drop_all}
 use Rattle.x25_frame.specs.Frame.{PlainFrame}
-use Rattle.x25_frame.specs.Spelling.{spelling_of}
 use Rattle.x25_frame.specs.declared.error.FrameError.{FrameError}
 use Rattle.x25_packet.specs.Packet.{PlainPacket}
 use Rattle.x25_packet.specs.Spelling as packet
+use Rattle.x25_wide.specs.Taking.{read_in}
+use Rattle.x25_given.specs.Given.{PlainGiven, may_give}
+use Rattle.x25_given.specs.Writing.{write}
 use Rattle.x25_link.specs.Station.{Settings as LinkSettings, LinkStation, with_near}
 use Rattle.x25_link.specs.Hearing.{quiet, leaves}
 use Rattle.x25_link.specs.Link.{alone, closed_by, asks_again, timer_step}
@@ -17,6 +18,7 @@ use Rattle.x25_layer.specs.Layer.{LayerNotice}
 use Rattle.x25_layer.specs.laws.Transcript.{Entry}
 use Rattle.x25_station.specs.Config.{Settings}
 use Rattle.x25_station.specs.Entry.{StationEntry, in_layer, notice_in, layer_entries, layer_notices}
+use Rattle.x25_station.specs.laws.GivenLaw.{GivesOctets, GivenIsRead}
 use Rattle.x25_station.specs.laws.ReadLaw.{AreReadable}
 use Rattle.x25_peer.specs.laws.BesideSessions.{read_by, ReadAs}
 
@@ -25,6 +27,11 @@ use Rattle.x25_peer.specs.laws.BesideSessions.{read_by, ReadAs}
 abbrev pub spelled : List PlainPacket → List (List ℕ)
 spelled packets = map packet.spelling_of packets
 
+-- the same where something is given beside the first
+abbrev pub spelled_with : PlainGiven → List PlainPacket → List (List ℕ)
+spelled_with g [] = []
+spelled_with g (p ∷ packets) = write g (packet.spelling_of p) ∷ spelled packets
+
 pub layer_append : (xs ys : List StationEntry) → layer_entries (xs ++ ys) ≡ layer_entries xs ++ layer_entries ys
 layer_append [] ys = refl
 layer_append (x ∷ xs) ys = ap (λ (es : List Entry). in_layer x ++ es) (layer_append xs ys) ∙ sym (append_assoc (in_layer x) (layer_entries xs) (layer_entries ys))
@@ -32,12 +39,6 @@ layer_append (x ∷ xs) ys = ap (λ (es : List Entry). in_layer x ++ es) (layer_
 pub notices_append : (xs ys : List StationEntry) → layer_notices (xs ++ ys) ≡ layer_notices xs ++ layer_notices ys
 notices_append [] ys = refl
 notices_append (x ∷ xs) ys = ap (λ (ns : List LayerNotice). notice_in x ++ ns) (notices_append xs ys) ∙ sym (append_assoc (notice_in x) (layer_notices xs) (layer_notices ys))
-
--- of those that our layer put none is left
-pub none_left : (n : ℕ) (taken : List (List ℕ)) (given : List PlainPacket) → n ≡ length taken → taken ≡ spelled given → drop n given ≡ []
-none_left n taken given all same =
-    let long : length taken ≡ length given = ap length same ∙ length-map given packet.spelling_of in
-    drop_all n given (omega (arith, all, long))
 
 pub readable_behind : (b : Bool) (xs ys : List PlainPacket) → AreReadable b (xs ++ ys) → AreReadable b ys
 readable_behind b [] ys h = h
@@ -48,11 +49,44 @@ read_append c [] qs [] rs h g = g
 read_append c (o ∷ os) qs (p ∷ ps) rs h g = (h.0, read_append c os qs ps rs h.1 g)
 read_append c os qs ps rs h g = absurd h
 
--- of what is read, this much came up
-pub read_length : (c : Settings) (up rest : List (List ℕ)) (ps : List PlainPacket) → ReadAs c (up ++ rest) ps → length up ≤ length ps
-read_length c [] rest ps h = omega (arith)
-read_length c (u ∷ up) rest [] h = absurd h
-read_length c (u ∷ up) rest (p ∷ ps) h = let low : length up ≤ length ps = read_length c up rest ps h.1 in omega (arith, low)
+-- what packets spell is read as they are
+pub spelled_read : (c : Settings) (ps : List PlainPacket) → AreReadable c.long_data ps → ReadAs c (spelled ps) ps
+spelled_read c [] h = tt
+spelled_read c (p ∷ ps) h = (h.0.reads c.wide, spelled_read c ps h.1)
+
+pub given_read : GivenIsRead → (c : Settings) (g : PlainGiven) (ps : List PlainPacket) → c.wide ≡ true → may_give g ≡ true → GivesOctets g → AreReadable c.long_data ps → ReadAs c (spelled_with g ps) ps
+given_read law c g [] wide may octets h = tt
+given_read law c g (p ∷ ps) wide may octets h =
+    let o : List ℕ = write g (packet.spelling_of p) in
+    (ap (λ (b : Bool). read_in b (packet.longest_user c.long_data) o) wide ∙ (law c.long_data g p may octets h.0).reads, spelled_read c ps h.1)
+
+-- the octets of the first of these packets, as they are read
+abbrev pub ReadFirst : Settings → List (List ℕ) → List PlainPacket → Type 0
+ReadFirst c [] ps = Unit {0}
+ReadFirst c (o ∷ os) (p ∷ ps) = (read_by c o ≡ Ok p) × ReadFirst c os ps
+ReadFirst c os ps = ⊥
+
+pub read_first : (c : Settings) (os : List (List ℕ)) (ps : List PlainPacket) → ReadAs c os ps → ReadFirst c os ps
+read_first c [] ps h = tt
+read_first c (o ∷ os) [] h = absurd h
+read_first c (o ∷ os) (p ∷ ps) h = (h.0, read_first c os ps h.1)
+
+pub first_front : (c : Settings) (os rest : List (List ℕ)) (ps : List PlainPacket) → ReadFirst c (os ++ rest) ps → ReadFirst c os ps
+first_front c [] rest ps h = tt
+first_front c (o ∷ os) rest [] h = absurd h
+first_front c (o ∷ os) rest (p ∷ ps) h = (h.0, first_front c os rest ps h.1)
+
+pub first_length : (c : Settings) (os : List (List ℕ)) (ps : List PlainPacket) → ReadFirst c os ps → length os ≤ length ps
+first_length c [] ps h = omega (arith)
+first_length c (o ∷ os) [] h = absurd h
+first_length c (o ∷ os) (p ∷ ps) h = let low : length os ≤ length ps = first_length c os ps h.1 in omega (arith, low)
+
+-- of those that our layer put none is left
+pub none_left : (c : Settings) (n : ℕ) (taken : List (List ℕ)) (given : List PlainPacket) → n ≡ length taken → ReadAs c taken given → drop n given ≡ []
+none_left c n [] [] all h = drop_all n [] (omega (arith))
+none_left c n [] (g ∷ given) all h = absurd h
+none_left c n (t ∷ taken) [] all h = absurd h
+none_left c n (t ∷ taken) (g ∷ given) all h = ap (λ (k : ℕ). drop k (g ∷ given)) all ∙ none_left c (length taken) taken given refl h.1
 
 -- the next of what is read
 pub record Next (c : Settings) (o : List ℕ) (ahead behind : List PlainPacket) : Type 0 where

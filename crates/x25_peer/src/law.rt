@@ -6,15 +6,17 @@ ghost use Rattle.x25_peer.specs.rows.BesideSessionRows.{DamagedUaIsMissing, Leav
 use x25_layer::any_peer_keeps_transcripts;
 use x25_line::any_peer_keeps_sessions;
 use x25_link::{notes_what_changes, sets_up_by_rows};
-use x25_station::{puts_beside_peers_are_readable, steps_are_joined, steps_keep_bounds};
+use x25_station::{
+    puts_beside_peers_are_readable, steps_are_joined, steps_keep_bounds, what_is_given_is_told,
+};
 
 /// A station, by the definition that it meets call by call, and any peer that keeps the rules of docs/PEER.md, link
 /// and packet layer, in either role, over a line of octets that keeps order and may lose or visibly damage any frame,
 /// over set-up and re-set-up by either end at any moment, from nothing, where timer T1 of the station, as it awaits UA,
 /// doesn't run out while its SABM, a UA to it or a SABM that crossed it is on the line. A session of the station begins
 /// as it notes LinkUp, and one of the peer as its rules say, and with each its packet layer begins anew; two sessions
-/// meet where one hears a frame with an N(R) that was sent in the other. What the user calls, what the peer does, what
-/// the line loses and when timer T1 runs out is any list. After all that happens:
+/// meet where one hears a frame with an N(R) that was sent in the other. What the user calls and gives beside a packet,
+/// what the peer does, what the line loses and when timer T1 runs out is any list. After all that happens:
 ///
 /// - sessions meet one to one, and in order at both ends;
 /// - of two that meet, on each channel, where both ends count the restarts, clears and resets in them alike, what was
@@ -31,7 +33,7 @@ use x25_station::{puts_beside_peers_are_readable, steps_are_joined, steps_keep_b
 ///   the one whose layer is that of the station as it is;
 /// - the station reports no error of procedure, in no session.
 ///
-/// Premises: k is 1 to 7, at most 16 channels, and the user hands down octets.
+/// Premises: k is 1 to 7, at most 16 channels, and what the user hands down and gives is octets.
 pub fn any_peer_keeps_stations_over_sessions()
     ensures step { WithAnyPeer MeetInStep }
     ensures order { WithAnyPeer MetAreInOrder }
@@ -46,6 +48,7 @@ pub fn any_peer_keeps_stations_over_sessions()
     puts_beside_peers_are_readable();
     steps_are_joined();
     steps_keep_bounds();
+    what_is_given_is_told();
     sets_up_by_rows();
     notes_what_changes();
 }

@@ -7,10 +7,9 @@ use Rattle.x25_link.specs.declared.phase.Phase.TheVariants.{Waiting}
 use Rattle.x25_line.specs.laws.Peer.{fresh_peer}
 use Rattle.x25_line.specs.laws.Sessions.{Entry, Meeting}
 use Rattle.x25_line.specs.laws.PeerSessions.{PeerEnd, Out, IsDue}
-use Rattle.x25_station.specs.Command.{RequestsWith}
 use Rattle.x25_station.specs.Config.{Settings, link_settings}
 use Rattle.x25_station.specs.Step.{abandons}
-use Rattle.x25_station.specs.laws.TimerLaw.{Event, Asks, Fires}
+use Rattle.x25_station.specs.laws.TimerLaw.{Event, Fires}
 use Rattle.x25_io.specs.Lines.{IsOpen}
 use Rattle.x25_pipe.specs.Pipe.{sends, saying_line, event_in}
 use Rattle.x25_world.specs.laws.Claims.{ups_in}
@@ -86,20 +85,15 @@ IsInTime c p (Some Fires) =
     (station_of c p.read).link.phase ≡ Waiting → IsDue (link_settings c) (links_of (bare c p))
 IsInTime c p event = Unit {0}
 
--- a line gives nothing beside a packet
-abbrev pub GivesNothing : Option Event → Type 0
-GivesNothing (Some (Asks (RequestsWith given request))) = ⊥
-GivesNothing event = Unit {0}
-
 pub record IsOfUser (c : Settings) (p : Program) (line : List ℕ) : Type 0 where
   pub is_line : IsOpen line
   pub is_no_frame : IsNoFrame (event_in c.wide c.role line)
-  pub gives_nothing : GivesNothing (event_in c.wide c.role line)
   pub in_time : IsInTime c p (event_in c.wide c.role line)
 
 -- it happens at the peer, or on the line
 abbrev pub IsElsewhere : {c : Settings} {w v : BesideSessions} → beside.Happens c w v → Type 0
 IsElsewhere (beside.Asks request step octets is) = ⊥
+IsElsewhere (beside.AsksWith given request step of_given octets is) = ⊥
 IsElsewhere (beside.Connects none) = ⊥
 IsElsewhere (beside.Disconnects none) = ⊥
 IsElsewhere (beside.Probes none) = ⊥

@@ -17,13 +17,13 @@ pub data Less : List Entry → List Entry → Type 0 where
   hurt : (e : Entry) (es : List Entry) (o : List ℕ) → is_visible o ≡ true → Less (e ∷ es) (record { session = e.session; octets = o } ∷ es)
   deeper : (e : Entry) (es fs : List Entry) → Less es fs → Less (e ∷ es) (e ∷ fs)
 
-pub less_removes : (es : List Entry) (i : ℕ) → Less es (remove es i)
+unfoldable pub less_removes : (es : List Entry) (i : ℕ) → Less es (remove es i)
 less_removes [] zero = whole []
 less_removes [] (suc i) = whole []
 less_removes (e ∷ es) zero = gone e es
 less_removes (e ∷ es) (suc i) = deeper e es (remove es i) (less_removes es i)
 
-pub less_replaces : (o : List ℕ) → is_visible o ≡ true → (es : List Entry) (i : ℕ) → Less es (replaced es i o)
+unfoldable pub less_replaces : (o : List ℕ) → is_visible o ≡ true → (es : List Entry) (i : ℕ) → Less es (replaced es i o)
 less_replaces o visible [] i = whole []
 less_replaces o visible (e ∷ es) zero = hurt e es o visible
 less_replaces o visible (e ∷ es) (suc i) = deeper e es (replaced es i o) (less_replaces o visible es i)

@@ -1,28 +1,30 @@
 -- What a station and a peer reach are two ends that keep the rules, and that says the claims.
-use Rattle.std.proofs.Common.{◌≡◌, inl, inr, ◌≤◌, ℕ, List, [], ◌∷◌, map, length, true, false, refl, sym, ap, ◌∙◌, subst, arith}
+use Rattle.std.proofs.Common.{◌≡◌, inl, inr, ◌≤◌, ℕ, List, [], ◌∷◌, map, length, true, refl, sym, ap, ◌∙◌, subst}
 use Rattle.std.proofs.lemmas.Bool.{and_parts}
 use Rattle.x25_frame.specs.laws.ReadingLaw.{ReadsSpelled}
+use Rattle.x25_link.specs.declared.phase.Phase.{Phase}
+use Rattle.x25_link.specs.declared.phase.Phase.TheVariants.{Down, Up}
 use Rattle.x25_link.specs.Station.{Settings, is_up}
 use Rattle.x25_link.specs.Hearing.{other}
 use Rattle.x25_link.specs.Link.{is_idle}
 use Rattle.x25_link.specs.laws.WindowMachine.{Window}
 use Rattle.x25_line.specs.laws.Stations.{Act, T1}
 use Rattle.x25_line.specs.laws.InWindow.{IsPrefix}
-use Rattle.x25_line.specs.laws.Sessions.{Meeting, turned, acts, from_nothing, from_set_up}
+use Rattle.x25_line.specs.laws.Sessions.{Meeting, turned, acts, start_with}
 use Rattle.x25_line.specs.laws.SessionClaims.{AllMet, IsInOrder, MeetInStep, MetAreInOrder, UnmetHandNothingUp}
 use Rattle.x25_line.specs.laws.LawsBelow.{SessionLaws}
 use Rattle.x25_line.specs.laws.Peer.{fresh_peer}
 use Rattle.x25_line.proofs.StationClaimLemmas.{idle_all}
 use Rattle.x25_line.proofs.StationAway.{is_up_phase}
 use Rattle.x25_line.proofs.sessions.SessionHeld.{View, Live, Soon, Gone}
-use Rattle.x25_line.specs.laws.PeerSessions.{PeerSessions, PeerEnd, Out, In, both_ends, as_end, with_peer, begin_with, IsReached, at_start, set_up, goes_on}
+use Rattle.x25_line.specs.laws.PeerSessions.{Stand, PeerSessions, Out, In, both_ends, as_end, with_peer, begin_with, IsReached, at_start, set_up, goes_on}
 use Rattle.x25_line.specs.laws.PeerSessions as sessions
 use Rattle.x25_line.specs.laws.PeerSessionClaims.{WithAnyPeer, WithAnyLapbPeer, OfBothEnds, IdleHasArrived, EachMeetsLatest, SendsNoFrmr}
 use Rattle.x25_line.specs.laws.Ends.{Ends, ends_swapped}
 use Rattle.x25_line.specs.laws.Ends as ends
 use Rattle.x25_line.specs.laws.EndClaims.{MetInOrder, KeepSessions}
 use Rattle.x25_line.proofs.sessions.SessionMay.{stand_of}
-use Rattle.x25_line.proofs.sessions.SessionSeen.{Seen}
+use Rattle.x25_line.proofs.sessions.SessionSeen.{Seen, start_seen}
 use Rattle.x25_line.proofs.sessions.SessionSeenSteps.{IsTimely, station_acts}
 use Rattle.x25_line.proofs.sessions.SessionWith.{outs, backs, at, IsWith, station_may, Kept}
 use Rattle.x25_line.proofs.sessions.PeerMoves.{peer_held}
@@ -33,30 +35,9 @@ use Rattle.x25_line.proofs.ends.Sessions.{All, all_turned, reached_all, keep_ses
 abbrev Joined : Type 0 → Settings → PeerSessions → Type 0
 Joined Odd c w = Seen c (IsWith Odd c w.peer) (both_ends w)
 
-start_joined : (Odd : Type 0) (c : Settings) → Joined Odd c (begin_with Out from_nothing)
-start_joined Odd c = record {
-  all = λ n. fresh_peer;
-  reached = record { reached = ends.at_start; kept = record { owes = (refl, refl); present = tt; frmr = λ lapb. refl; lapb = λ lapb. tt } };
-  up = λ up. absurd (never up);
-  given = λ n. refl;
-  taken = λ n. refl;
-  later = λ n less. (refl, refl);
-  tags = tt;
-}
-  where
-    never : false ≡ true → ⊥
-    never k = cc
-
-set_up_joined : (Odd : Type 0) (c : Settings) → Joined Odd c (begin_with In from_set_up)
-set_up_joined Odd c = record {
-  all = λ n. fresh_peer;
-  reached = record { reached = ends.set_up; kept = record { owes = (refl, refl); present = tt; frmr = λ lapb. refl; lapb = λ lapb. tt } };
-  up = λ up. record { same = refl; sound = record { place_low = omega arith; place_high = omega arith; sent_high = omega arith; room = omega arith }; room = omega arith; told = omega arith; within = tt };
-  given = λ n. refl;
-  taken = λ n. refl;
-  later = λ n less. (refl, refl);
-  tags = tt;
-}
+-- as a run begins
+joined_at_start : (Odd : Type 0) (c : Settings) (stand : Stand) (p : Phase) (b : ℕ) → (let peer = (begin_with stand (start_with p b)).peer in IsWith Odd c peer [] [] p b (λ n. fresh_peer) []) → Joined Odd c (begin_with stand (start_with p b))
+joined_at_start Odd c stand p b reached = start_seen c (IsWith Odd c (begin_with stand (start_with p b)).peer) p b (as_end (begin_with stand (start_with p b)).peer) reached
 
 module _ (reads : ReadsSpelled) (rests : SessionLaws) where
   station_timely : (Odd : Type 0) (c : Settings) (high : c.window ≤ 7) (w : PeerSessions) (act : Act) → sessions.IsTimely c act w
@@ -71,8 +52,8 @@ module _ (reads : ReadsSpelled) (rests : SessionLaws) where
       record { all = k.all; reached = k.reached; up = k.up; given = k.given; taken = k.taken; later = k.later; tags = k.tags }
 
   reached_joined : (Odd : Type 0) (c : Settings) → c.window ≤ 7 → (w : PeerSessions) → IsReached Odd c w → Joined Odd c w
-  reached_joined Odd c high w at_start = start_joined Odd c
-  reached_joined Odd c high w set_up = set_up_joined Odd c
+  reached_joined Odd c high w at_start = joined_at_start Odd c Out Down 0 (record { reached = ends.at_start; kept = record { owes = (refl, refl); present = tt; frmr = λ lapb. refl; lapb = λ lapb. tt } })
+  reached_joined Odd c high w set_up = joined_at_start Odd c In Up 1 (record { reached = ends.set_up; kept = record { owes = (refl, refl); present = tt; frmr = λ lapb. refl; lapb = λ lapb. tt } })
   reached_joined Odd c high w (goes_on v u reached event) =
       let h = reached_joined Odd c high v reached in
       peer_held Odd c v h w event (station_held Odd c high v h)

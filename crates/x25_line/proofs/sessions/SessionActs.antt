@@ -14,6 +14,7 @@ use Rattle.x25_link.specs.Station.{Settings, LinkStation, is_up, with_nothing}
 use Rattle.x25_link.specs.Hearing.{Step, other}
 use Rattle.x25_link.specs.Link.{put_step, timer_step, connect_step, disconnect_step, disconnect_refusal, abandon_step}
 use Rattle.x25_link.specs.laws.WindowMachine.{hands_down, nothing}
+use Rattle.x25_link.specs.laws.NoteLaw.{Tells}
 use Rattle.x25_link.specs.laws.WindowLaw.{IsRunning, IsSound, IsOut, Ends}
 use Rattle.x25_line.specs.laws.Stations as one
 use Rattle.x25_line.specs.laws.StationClaims.{AreJoined}
@@ -22,7 +23,7 @@ use Rattle.x25_line.specs.laws.Sessions.{Entry, Meeting, Sessions, sabm_in, ua_i
 use Rattle.x25_line.specs.laws.LawsBelow.{Laws}
 use Rattle.x25_line.proofs.sessions.SessionSeenActs.{by_disc, by_reset, by_neither}
 use Rattle.x25_line.proofs.StationLines.{AreParting}
-use Rattle.x25_line.proofs.StationSteps.{AsUp, Leads, not_both, ends_joint}
+use Rattle.x25_line.proofs.StationSteps.{AsUp, Leads, Leaves, not_both, ends_joint}
 use Rattle.x25_line.proofs.StationRuns.{put_up, timer_by}
 use Rattle.x25_line.proofs.StationClaimLemmas.{up_of}
 use Rattle.x25_line.proofs.sessions.SessionLines.{count}
@@ -94,30 +95,23 @@ module _ (c d : Settings) (joined : AreJoined c d) (reads : ReadsSpelled) (laws 
       (laws.window.timer c t (record { up = i.machine.up; sound = i.machine.sound }))))
       i.comes (follows_answers w o c.window nothing s step (λ one. (let none = by_neither by_disc None (Some Retries) refl refl (nat_lt s.tries c.retries) in absurd (omega (arith, one, none)))) (by_neither by_reset None (Some Retries) refl refl (nat_lt s.tries c.retries)) follows)
 
-  leaves_held : {stand : Standing} (w : Sessions) (h : Held stand c d w) → InSession stand c d w h → (reason : Reason) → by_disc (Some reason) ≡ 0 → by_reset (Some reason) ≡ 0 → (f : LinkStation → Step)
-      → Leads ⊥ c d h.alone stand.machine stand.machine.back (one.after_step c h.alone h.alone.back [] (f h.alone.near.station)) → Ends reason (f w.near.station) → Held (went_by c (f w.near.station) None stand) c d (after_step c w w.back w.met [] (f w.near.station))
-  leaves_held {stand} w h i reason by_own stays f holds ends =
+  -- it leaves, by a call of its user
+  leaves_held : {stand : Standing} (w : Sessions) → Held stand c d w → is_up w.near.station.phase ≡ true → (reason : Reason) → Leaves reason → by_disc (Some reason) ≡ 0 → by_reset (Some reason) ≡ 0
+      → (f : LinkStation → Step) → ((s : LinkStation) → Tells s (f s)) → ((s : LinkStation) → IsRunning c.window s → Ends reason (f s))
+      → Held (went_by c (f w.near.station) None stand) c d (after_step c w w.back w.met [] (f w.near.station))
+  leaves_held {stand} w h up reason leaves by_own stays f tells ends =
+      let i = in_session c d w h up in
+      let t = h.alone.near.station in
       live_goes_on c d joined reads w h i.view w.back h.alone.back w.met [] (f w.near.station) None
-      (subst (λ (z : LinkStation). Leads ⊥ c d h.alone stand.machine stand.machine.back (one.after_step c h.alone h.alone.back [] (f z))) i.view.1 holds)
-      i.comes (follows_answers w (Some reason) c.window nothing w.near.station (f w.near.station) (λ one. absurd (omega (arith, one, by_own))) stays ends)
+      (subst (λ (z : LinkStation). Leads ⊥ c d h.alone stand.machine stand.machine.back (one.after_step c h.alone h.alone.back [] (f z))) i.view.1
+      (ends_joint ⊥ c d joined reads h.alone stand.machine h.holds i.machine.up h.alone.back (f t) reason leaves h.holds.back h.holds.back_orderly (tells t) (ends t (record { up = i.machine.up; sound = i.machine.sound }))))
+      i.comes (follows_answers w (Some reason) c.window nothing w.near.station (f w.near.station) (λ one. absurd (omega (arith, one, by_own))) stays (ends w.near.station i.running))
 
   pub disconnect_up_held : {stand : Standing} (w : Sessions) → Held stand c d w → is_up w.near.station.phase ≡ true → Held (went_by c (disconnect_step c w.near.station) None stand) c d (after_step c w w.back w.met [] (disconnect_step c w.near.station))
-  disconnect_up_held {stand} w h up =
-      let i = in_session c d w h up in
-      let t = h.alone.near.station in
-      leaves_held w h i Local refl refl (disconnect_step c)
-      (ends_joint ⊥ c d joined reads h.alone stand.machine h.holds i.machine.up h.alone.back (disconnect_step c t) Local tt h.holds.back h.holds.back_orderly (laws.disconnect_tells c t)
-      (laws.window.disconnect c t (record { up = i.machine.up; sound = i.machine.sound })))
-      (laws.window.disconnect c w.near.station i.running)
+  disconnect_up_held w h up = leaves_held w h up Local tt refl refl (disconnect_step c) (laws.disconnect_tells c) (laws.window.disconnect c)
 
   pub abandon_held : {stand : Standing} (w : Sessions) → Held stand c d w → is_up w.near.station.phase ≡ true → Held (went_by c (abandon_step c w.near.station) None stand) c d (after_step c w w.back w.met [] (abandon_step c w.near.station))
-  abandon_held {stand} w h up =
-      let i = in_session c d w h up in
-      let t = h.alone.near.station in
-      leaves_held w h i Counts refl refl (abandon_step c)
-      (ends_joint ⊥ c d joined reads h.alone stand.machine h.holds i.machine.up h.alone.back (abandon_step c t) Counts tt h.holds.back h.holds.back_orderly (laws.abandon_tells c t)
-      (laws.window.abandon c t (record { up = i.machine.up; sound = i.machine.sound })))
-      (laws.window.abandon c w.near.station i.running)
+  abandon_held w h up = leaves_held w h up Counts tt refl refl (abandon_step c) (laws.abandon_tells c) (laws.window.abandon c)
 
   -- ---- SABM and DISC
 

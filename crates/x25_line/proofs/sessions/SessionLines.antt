@@ -1,6 +1,6 @@
 -- The line between two stations, with the sessions of its frames: the numbers on it, how many there are of a kind, and what
 -- sending, loss and damage change of these.
-use Rattle.std.proofs.Common.{◌≡◌, ◌≤◌, ℕ, zero, suc, ◌+◌, List, [], ◌∷◌, ◌++◌, ◌⊎◌, inl, inr, map, remove, true, Option, Some, None, Result, Ok, Err, refl, sym, ap, ◌∙◌, subst, arith}
+use Rattle.std.proofs.Common.{◌≡◌, ℕ, zero, suc, ◌+◌, List, [], ◌∷◌, ◌++◌, inl, inr, map, remove, true, Option, Some, None, Result, Ok, Err, refl, sym, ap, ◌∙◌, subst, arith}
 use Rattle.std.proofs.lemmas.Option.{none-some}
 use Rattle.x25_bits.specs.declared.role.Role.{Role}
 use Rattle.x25_frame.specs.Frame.{PlainFrame, info, rr, rnr, rej, sabm, disc, ua, dm, frmr}
@@ -8,7 +8,6 @@ use Rattle.x25_frame.specs.Spelling.{spelling_of}
 use Rattle.x25_frame.specs.Reading.{frame_of}
 use Rattle.x25_frame.specs.laws.ReadingLaw.{ReadsSpelled}
 use Rattle.x25_frame.specs.declared.error.FrameError.{FrameError}
-use Rattle.x25_frame.specs.declared.error.FrameError.TheVariants.{Short, BadFcs}
 use Rattle.x25_window.specs.laws.Window.{Frame}
 use Rattle.x25_link.specs.laws.WindowMachine.{ShowAll}
 use Rattle.x25_line.specs.laws.Stations.{is_visible}
@@ -17,6 +16,7 @@ use Rattle.x25_line.specs.laws.Sessions.{Entry, sabm_in, ua_in, disc_in, how_man
 use Rattle.x25_line.specs.laws.SessionClaims.{octets_of, AllOf}
 use Rattle.x25_line.specs.laws.WholeNumbers.{first_of, behind, place_of, taken_out}
 use Rattle.x25_line.specs.laws.SessionNumbers.{by_answers, place_behind_ua}
+use Rattle.x25_line.proofs.sessions.EntryLines.{Less, whole, gone, hurt, deeper, less_removes, less_replaces}
 use Rattle.x25_line.proofs.StationLines.{IsOrderly, AreOrderly, consed, numbered_append, shows_first, shows_behind, visible_reads}
 
 abbrev pub Read : Type 0
@@ -153,95 +153,66 @@ module _ (from : Role) (n1 : ℕ) where
 
   -- ---- a frame is lost, or damaged
 
-  abbrev pub IsDamaged : Read → Type 0
-  IsDamaged r = (r ≡ Err Short) ⊎ (r ≡ Err BadFcs)
+  damaged_number : (octets : List ℕ) → is_visible octets ≡ true → number_in (frame_of from n1 octets) ≡ None
+  damaged_number octets visible = elim (visible_reads from n1 octets visible) [ inl e ↦ ap number_in e | inr e ↦ ap number_in e ]
 
-  pub data Change : List Entry → List Entry → Type 0 where
-    nothing : (es : List Entry) → Change es es
-    lost : (e : Entry) (es : List Entry) → Change (e ∷ es) es
-    damaged : (e : Entry) (es : List Entry) (octets : List ℕ) → IsDamaged (frame_of from n1 octets) → Change (e ∷ es) (record { session = e.session; octets = octets } ∷ es)
-    further : (e : Entry) (es fs : List Entry) → Change es fs → Change (e ∷ es) (e ∷ fs)
-
-  pub removes : (es : List Entry) (i : ℕ) → Change es (remove es i)
-  removes [] zero = nothing []
-  removes [] (suc i) = nothing []
-  removes (e ∷ es) zero = lost e es
-  removes (e ∷ es) (suc i) = further e es (remove es i) (removes es i)
-
-  pub replaces : (octets : List ℕ) → is_visible octets ≡ true → (es : List Entry) (i : ℕ) → Change es (replaced es i octets)
-  replaces octets visible [] i = nothing []
-  replaces octets visible (e ∷ es) zero = damaged e es octets (visible_reads from n1 octets visible)
-  replaces octets visible (e ∷ es) (suc i) = further e es (replaced es i octets) (replaces octets visible es i)
-
-  damaged_kind : (kind : Read → ℕ) → IsKind kind → (r : Read) → IsDamaged r → kind r ≡ 0
-  damaged_kind kind k r h = elim h [ inl e ↦ ap kind e ∙ error_kind kind k Short | inr e ↦ ap kind e ∙ error_kind kind k BadFcs ]
-
-  damaged_number : (r : Read) → IsDamaged r → number_in r ≡ None
-  damaged_number r h = elim h [ inl e ↦ ap number_in e | inr e ↦ ap number_in e ]
-
-  pub change_many : (kind : Read → ℕ) → IsKind kind → (es fs : List Entry) → Change es fs → how_many kind from n1 fs ≤ how_many kind from n1 es
-  change_many kind k es fs (nothing xs) = omega arith
-  change_many kind k es fs (lost e xs) = omega arith
-  change_many kind k es fs (damaged e xs octets bad) = (let none = damaged_kind kind k (frame_of from n1 octets) bad in omega (arith, none))
-  change_many kind k es fs (further e xs ys h) = (let less = change_many kind k xs ys h in omega (arith, less))
-
-  pub change_of : (s : ℕ) (es fs : List Entry) → Change es fs → AllOf from n1 s es → AllOf from n1 s fs
-  change_of s es fs (nothing xs) h = h
-  change_of s es fs (lost e xs) h = h.1
-  change_of s es fs (damaged e xs octets bad) h = (inl (damaged_number (frame_of from n1 octets) bad), h.1)
-  change_of s es fs (further e xs ys c) h = (h.0, change_of s xs ys c h.1)
+  pub change_of : (s : ℕ) (es fs : List Entry) → Less es fs → AllOf from n1 s es → AllOf from n1 s fs
+  change_of s es fs (whole xs) h = h
+  change_of s es fs (gone e xs) h = h.1
+  change_of s es fs (hurt e xs octets visible) h = (inl (damaged_number octets visible), h.1)
+  change_of s es fs (deeper e xs ys c) h = (h.0, change_of s xs ys c h.1)
 
   -- which of the numbered frames goes, where one does
-  pub change_place : (es fs : List Entry) → Change es fs → Option ℕ
-  change_place es fs (nothing xs) = None
-  change_place es fs (lost e xs) = first_of (number_in (frame_of from n1 e.octets))
-  change_place es fs (damaged e xs octets bad) = first_of (number_in (frame_of from n1 e.octets))
-  change_place es fs (further e xs ys c) = behind (number_in (frame_of from n1 e.octets)) (change_place xs ys c)
+  pub change_place : (es fs : List Entry) → Less es fs → Option ℕ
+  change_place es fs (whole xs) = None
+  change_place es fs (gone e xs) = first_of (number_in (frame_of from n1 e.octets))
+  change_place es fs (hurt e xs octets visible) = first_of (number_in (frame_of from n1 e.octets))
+  change_place es fs (deeper e xs ys c) = behind (number_in (frame_of from n1 e.octets)) (change_place xs ys c)
 
-  pub change_shows : (es fs : List Entry) (c : Change es fs) (gs : List (Frame (List ℕ))) → ShowAll (numbers es) gs → ShowAll (numbers fs) (taken_out (change_place es fs c) gs)
+  pub change_shows : (es fs : List Entry) (c : Less es fs) (gs : List (Frame (List ℕ))) → ShowAll (numbers es) gs → ShowAll (numbers fs) (taken_out (change_place es fs c) gs)
   unfolding change_place
-  change_shows es fs (nothing xs) gs h = h
-  change_shows es fs (lost e xs) gs h = shows_first (number_in (frame_of from n1 e.octets)) (numbers xs) gs h
-  change_shows es fs (damaged e xs octets bad) gs h =
-      subst (λ (m : Option PlainFrame). ShowAll (consed m (numbers xs)) (taken_out (first_of (number_in (frame_of from n1 e.octets))) gs)) (sym (damaged_number (frame_of from n1 octets) bad))
+  change_shows es fs (whole xs) gs h = h
+  change_shows es fs (gone e xs) gs h = shows_first (number_in (frame_of from n1 e.octets)) (numbers xs) gs h
+  change_shows es fs (hurt e xs octets visible) gs h =
+      subst (λ (m : Option PlainFrame). ShowAll (consed m (numbers xs)) (taken_out (first_of (number_in (frame_of from n1 e.octets))) gs)) (sym (damaged_number octets visible))
       (shows_first (number_in (frame_of from n1 e.octets)) (numbers xs) gs h)
-  change_shows es fs (further e xs ys c) gs h =
+  change_shows es fs (deeper e xs ys c) gs h =
       shows_behind (number_in (frame_of from n1 e.octets)) (numbers xs) (numbers ys) (change_place xs ys c) gs (λ hs k. change_shows xs ys c hs k) h
 
   -- the frame that goes is the one that stands at that place of the line
-  pub place_removes : (es : List Entry) (i : ℕ) → change_place es (remove es i) (removes es i) ≡ place_of from n1 (octets_of es) i
-  unfolding change_place removes
+  pub place_removes : (es : List Entry) (i : ℕ) → change_place es (remove es i) (less_removes es i) ≡ place_of from n1 (octets_of es) i
+  unfolding change_place less_removes
   place_removes [] zero = refl
   place_removes [] (suc i) = refl
   place_removes (e ∷ es) zero = refl
   place_removes (e ∷ es) (suc i) = ap (behind (number_in (frame_of from n1 e.octets))) (place_removes es i)
 
-  pub place_replaces : (octets : List ℕ) (visible : is_visible octets ≡ true) (es : List Entry) (i : ℕ) → change_place es (replaced es i octets) (replaces octets visible es i) ≡ place_of from n1 (octets_of es) i
-  unfolding change_place replaces
+  pub place_replaces : (octets : List ℕ) (visible : is_visible octets ≡ true) (es : List Entry) (i : ℕ) → change_place es (replaced es i octets) (less_replaces octets visible es i) ≡ place_of from n1 (octets_of es) i
+  unfolding change_place less_replaces
   place_replaces octets visible [] i = refl
   place_replaces octets visible (e ∷ es) zero = refl
   place_replaces octets visible (e ∷ es) (suc i) = ap (behind (number_in (frame_of from n1 e.octets))) (place_replaces octets visible es i)
 
   -- which of those behind the first UA goes
-  unfoldable pub change_behind_ua : (es fs : List Entry) → Change es fs → Option ℕ
-  change_behind_ua es fs (further e xs ys c) = by_answers (ua_in (frame_of from n1 e.octets)) (change_behind_ua xs ys c) (change_place xs ys c)
+  unfoldable pub change_behind_ua : (es fs : List Entry) → Less es fs → Option ℕ
+  change_behind_ua es fs (deeper e xs ys c) = by_answers (ua_in (frame_of from n1 e.octets)) (change_behind_ua xs ys c) (change_place xs ys c)
   change_behind_ua es fs other = None
 
-  pub behind_removes : (es : List Entry) (i : ℕ) → change_behind_ua es (remove es i) (removes es i) ≡ place_behind_ua from n1 (octets_of es) i
-  unfolding change_behind_ua removes
+  pub behind_removes : (es : List Entry) (i : ℕ) → change_behind_ua es (remove es i) (less_removes es i) ≡ place_behind_ua from n1 (octets_of es) i
+  unfolding change_behind_ua less_removes
   behind_removes [] zero = refl
   behind_removes [] (suc i) = refl
   behind_removes (e ∷ es) zero = refl
   behind_removes (e ∷ es) (suc i) =
-      ap (λ (o : Option ℕ). by_answers (ua_in (frame_of from n1 e.octets)) o (change_place es (remove es i) (removes es i))) (behind_removes es i)
+      ap (λ (o : Option ℕ). by_answers (ua_in (frame_of from n1 e.octets)) o (change_place es (remove es i) (less_removes es i))) (behind_removes es i)
       ∙ ap (by_answers (ua_in (frame_of from n1 e.octets)) (place_behind_ua from n1 (octets_of es) i)) (place_removes es i)
 
-  pub behind_replaces : (octets : List ℕ) (visible : is_visible octets ≡ true) (es : List Entry) (i : ℕ) → change_behind_ua es (replaced es i octets) (replaces octets visible es i) ≡ place_behind_ua from n1 (octets_of es) i
-  unfolding change_behind_ua replaces
+  pub behind_replaces : (octets : List ℕ) (visible : is_visible octets ≡ true) (es : List Entry) (i : ℕ) → change_behind_ua es (replaced es i octets) (less_replaces octets visible es i) ≡ place_behind_ua from n1 (octets_of es) i
+  unfolding change_behind_ua less_replaces
   behind_replaces octets visible [] i = refl
   behind_replaces octets visible (e ∷ es) zero = refl
   behind_replaces octets visible (e ∷ es) (suc i) =
-      ap (λ (o : Option ℕ). by_answers (ua_in (frame_of from n1 e.octets)) o (change_place es (replaced es i octets) (replaces octets visible es i))) (behind_replaces octets visible es i)
+      ap (λ (o : Option ℕ). by_answers (ua_in (frame_of from n1 e.octets)) o (change_place es (replaced es i octets) (less_replaces octets visible es i))) (behind_replaces octets visible es i)
       ∙ ap (by_answers (ua_in (frame_of from n1 e.octets)) (place_behind_ua from n1 (octets_of es) i)) (place_replaces octets visible es i)
 
 -- ---- what is sent reads as it was spelled

@@ -15,7 +15,7 @@ use Rattle.x25_link.specs.Link.{take_step, put_step, put_refusal, timer_step, ti
 use Rattle.x25_line.specs.laws.Stations.{Stations, Act, Put, Deliver, T1, Connect, Disconnect, Abandon, Probe, Lose, Damage, Event, Near, Far, is_visible, start}
 use Rattle.x25_line.specs.laws.Stations as one
 use Rattle.x25_line.specs.laws.StationClaims.{AreJoined, AreWhole}
-use Rattle.x25_line.specs.laws.Sessions.{Entry, Meeting, Sessions, swapped, begun_by, sent_in, after_step, unless, delivered, replaced, acts, happens, run, from_nothing, from_set_up, IsTimely, IsTimelyAt, AreTimely}
+use Rattle.x25_line.specs.laws.Sessions.{Entry, Meeting, Sessions, swapped, begun_by, sent_in, after_step, unless, delivered, replaced, acts, happens, run, start_with, from_nothing, from_set_up, IsTimely, IsTimelyAt, AreTimely}
 use Rattle.x25_line.specs.laws.SessionNumbers.{Standing, turned as other_way, is_set_up, front_sets_up, anew, place_to_hear, gone_at, standing_after, same_two, standing_acts, standing_happens, standing_run, standing_at, StandsWith, EachUpStandsWith, StandingGoesAlong}
 use Rattle.x25_line.specs.laws.SessionClaims.{Throughout, octets_of, AllOf, IsSession, Stands, EachUpStands, NoSessionSendsFrmr, AllSessionsSendWhole}
 use Rattle.x25_line.specs.laws.LawsBelow.{SessionLaws}
@@ -23,8 +23,9 @@ use Rattle.x25_line.proofs.StationSteps.{Holds}
 use Rattle.x25_line.proofs.StationAway.{connects_from}
 use Rattle.x25_line.proofs.StationRuns.{joined_swapped, joint_swapped, start_machine}
 use Rattle.x25_line.proofs.StationClaimLemmas.{is_behind, holds_order, holds_lists, holds_window, holds_whole}
-use Rattle.x25_line.proofs.sessions.SessionLines.{octets_sent, removes, replaces}
-use Rattle.x25_line.proofs.sessions.SessionHeld.{Live, Gone, OnLine, Held, counted_view, stays_on, up_begun}
+use Rattle.x25_line.proofs.sessions.SessionLines.{octets_sent}
+use Rattle.x25_line.proofs.sessions.EntryLines.{less_removes, less_replaces}
+use Rattle.x25_line.proofs.sessions.SessionHeld.{View, Live, Gone, IsView, IsHeard, OnLine, Held, counted_view, stays_on, up_begun}
 use Rattle.x25_line.proofs.sessions.SessionSteps.{went_by}
 use Rattle.x25_line.proofs.sessions.SessionChanges.{heard_removes, heard_replaces, change_held}
 use Rattle.x25_line.proofs.sessions.SessionActs.{in_session, put_held, timer_up_held, abandon_held, connect_held, timer_waiting_held, disconnect_held}
@@ -140,7 +141,7 @@ module _ (c d : Settings) (joined : AreJoined c d) (reads : ReadsSpelled) (rests
       let v : Sessions = record w { back = remove w.back i } in
       still_now stand c d w v (gone_at c w (Some i)) refl
       (subst (λ (gone : Option ℕ). Held (standing_after c w.near.station [] gone stand) c d v) (heard_removes (other c.role) c.longest w.near.station.phase w.back i)
-      (change_held c d joined reads rests_on.laws w h line (remove w.back i) (removes (other c.role) c.longest w.back i)))
+      (change_held c d joined reads rests_on.laws w h line (remove w.back i) (less_removes w.back i)))
   acts_held {stand} (Damage i octets) w timely line h = by (is_visible octets) refl
     where
       v : Sessions
@@ -150,7 +151,7 @@ module _ (c d : Settings) (joined : AreJoined c d) (reads : ReadsSpelled) (rests
       by true visible =
           still_now stand c d w v (gone_at c w (Some i)) refl
           (subst (λ (gone : Option ℕ). Held (standing_after c w.near.station [] gone stand) c d v) (heard_replaces (other c.role) c.longest w.near.station.phase octets visible w.back i)
-          (change_held c d joined reads rests_on.laws w h line (replaced w.back i octets) (replaces (other c.role) c.longest octets visible w.back i)))
+          (change_held c d joined reads rests_on.laws w h line (replaced w.back i octets) (less_replaces octets visible w.back i)))
       by false hidden = stays_now c d w h
 
 -- ---- the other end
@@ -193,39 +194,29 @@ run_keeps P c d keeps (e ∷ es) w stand timely h = run_keeps P c d keeps es (ha
 
 -- ---- how a run begins
 
-nothing_held : (c d : Settings) → AreJoined c d → Held (standing_at c d from_nothing) c d from_nothing
-nothing_held c d joined =
+start_held : (c d : Settings) → AreJoined c d → (p : Phase) (b : ℕ) (v : View) → IsView v (start_with p b).near start.near.station b → ((from : Role) (n1 : ℕ) → IsHeard v from n1 p [] [] b)
+    → Held (standing_at c d (start_with p b)) c d (start_with p b)
+start_held c d joined p b v view heard =
     record {
       alone = start;
       holds = start_machine ⊥ c d joined;
-      near_view = Gone;
-      far_view = Gone;
-      near = (refl, omega arith);
-      far = (refl, omega arith);
-      back = λ waiting. refl;
-      out = λ waiting. refl;
+      near_view = v;
+      far_view = v;
+      near = view;
+      far = view;
+      back = heard (other c.role) c.longest;
+      out = heard (other d.role) d.longest;
       near_lists = record { down = refl; up = refl };
       far_lists = record { down = refl; up = refl };
       no_frmr = tt;
       whole = record { given = []; handed_down = λ x there. absurd (omega (arith, there.1)); whole = tt };
     }
 
+nothing_held : (c d : Settings) → AreJoined c d → Held (standing_at c d from_nothing) c d from_nothing
+nothing_held c d joined = start_held c d joined Down 0 Gone (refl, omega arith) (λ from n1 waiting. refl)
+
 set_up_held : (c d : Settings) → AreJoined c d → Held (standing_at c d from_set_up) c d from_set_up
-set_up_held c d joined =
-    record {
-      alone = start;
-      holds = start_machine ⊥ c d joined;
-      near_view = Live;
-      far_view = Live;
-      near = (refl, refl, refl);
-      far = (refl, refl, refl);
-      back = (refl, tt);
-      out = (refl, tt);
-      near_lists = record { down = refl; up = refl };
-      far_lists = record { down = refl; up = refl };
-      no_frmr = tt;
-      whole = record { given = []; handed_down = λ x there. absurd (omega (arith, there.1)); whole = tt };
-    }
+set_up_held c d joined = start_held c d joined Up 1 Live (refl, refl, refl) (λ from n1. (refl, tt))
 
 begin_held : (c d : Settings) → AreJoined c d → (begin : Sessions) → (begin ≡ from_nothing) ⊎ (begin ≡ from_set_up) → Held (standing_at c d begin) c d begin
 begin_held c d joined begin is = elim is [

@@ -9,11 +9,11 @@ use Rattle.x25_frame.specs.laws.ReadingLaw.{ReadsSpelled}
 use Rattle.x25_link.specs.declared.phase.Phase.{Phase}
 use Rattle.x25_link.specs.declared.phase.Phase.TheVariants.{Up}
 use Rattle.x25_link.specs.declared.phase.Notes.{Notes}
-use Rattle.x25_link.specs.Station.{Settings, LinkStation, is_up, fresh}
+use Rattle.x25_link.specs.Station.{Settings, LinkStation, is_up, with_nothing, fresh}
 use Rattle.x25_link.specs.Hearing.{Step}
 use Rattle.x25_link.specs.laws.WindowMachine.{Window, Input}
 use Rattle.x25_link.specs.laws.WindowLaw.{window_of, after_input, Stays, IsSound}
-use Rattle.x25_line.specs.laws.Sessions.{Entry, Meeting, Sessions, sabm_in, how_many, sent_in, begun_by, extended, after_step}
+use Rattle.x25_line.specs.laws.Sessions.{Entry, SessionEnd, start_with, Meeting, Sessions, sabm_in, how_many, sent_in, begun_by, extended, after_step}
 use Rattle.x25_line.specs.laws.Peer.{Peer, fresh_peer}
 use Rattle.x25_line.proofs.StationSays.{machine_of}
 use Rattle.x25_line.proofs.StationSends.{AllWithin}
@@ -68,6 +68,21 @@ module _ (d : Settings) (R : List Entry → List Meeting → Phase → ℕ → (
     pub later : (n : ℕ) → w.near.begun < n → (w.near.down n ≡ []) × (w.near.up n ≡ [])
     pub tags : AllAskedIn d.role d.longest w.near.begun w.out
 
+fresh_facts : (d : Settings) (p : Phase) → UpFacts d (with_nothing p 0) fresh_peer
+fresh_facts d p = record { same = refl; sound = record { place_low = omega arith; place_high = omega arith; sent_high = omega arith; room = omega arith }; room = omega arith; told = omega arith; within = tt }
+
+-- as a run begins
+pub start_seen : (d : Settings) (R : List Entry → List Meeting → Phase → ℕ → (ℕ → Peer) → List Entry → Type 0) (p : Phase) (b : ℕ) (far : SessionEnd) → R [] [] p b (λ n. fresh_peer) [] → Seen d R (record (start_with p b) { far = far })
+start_seen d R p b far reached = record {
+  all = λ n. fresh_peer;
+  reached = reached;
+  up = λ up. fresh_facts d p;
+  given = λ n. refl;
+  taken = λ n. refl;
+  later = λ n less. (refl, refl);
+  tags = tt;
+}
+
 module _ (d : Settings) (high : d.window ≤ 7) (reads : ReadsSpelled) (Due : List Entry → Type 0) (R : List Entry → List Meeting → Phase → ℕ → (ℕ → Peer) → List Entry → Type 0) (does : MayDo d Due R) where
   -- ---- after a step of the near end
 
@@ -97,9 +112,6 @@ module _ (d : Settings) (high : d.window ≤ 7) (reads : ReadsSpelled) (Due : Li
       build w h es met [] step h.all quiet reached (λ up. not_both (is_up step.side.near.phase) up off) (λ n. h.given n ∙ sym (extended_nil w.near.down w.near.begun n))
       (λ n. h.taken n ∙ sym (ap (λ (o : Option (List ℕ)). extended w.near.up w.near.begun (option_to_list o) n) none ∙ extended_nil w.near.up w.near.begun n))
 
-  fresh_facts : UpFacts d fresh fresh_peer
-  fresh_facts = record { same = refl; sound = record { place_low = omega arith; place_high = omega arith; sent_high = omega arith; room = omega arith }; room = omega arith; told = omega arith; within = tt }
-
   -- LinkUp is noted
   pub build_up : (w : Sessions) (h : Seen d R w) (es : List Entry) (step : Step) → step.notes.up ≡ true → step.side.near ≡ fresh → step.packet ≡ None → how_many sabm_in d.role d.longest w.out ≡ 0
       → R es w.met Up (suc w.near.begun) (put_for (suc w.near.begun) fresh_peer h.all) (w.out ++ sent_in (suc w.near.begun) d.role step.side.out) → Seen d R (after_step d w es w.met [] step)
@@ -108,7 +120,7 @@ module _ (d : Settings) (high : d.window ≤ 7) (reads : ReadsSpelled) (Due : Li
       (record {
         all = all;
         reached = subst (λ (p : Phase). R es w.met p b all (w.out ++ sent_in b d.role step.side.out)) (sym (ap (λ (s : LinkStation). s.phase) near)) reached;
-        up = λ _. subst (λ (s : LinkStation). UpFacts d s (all b)) (sym near) (subst (UpFacts d fresh) (sym (put_same b b fresh_peer h.all refl)) fresh_facts);
+        up = λ _. subst (λ (s : LinkStation). UpFacts d s (all b)) (sym near) (subst (UpFacts d fresh) (sym (put_same b b fresh_peer h.all refl)) (fresh_facts d Up));
         given = λ n. put_packets b fresh_peer h.all w.near.down [] (λ (p : Peer). p.given) (sym (ap (λ (xs : List (List ℕ)). xs ++ []) (h.given b ∙ (h.later b (omega arith)).0))) h.given n;
         taken = λ n. put_packets b fresh_peer h.all w.near.up [] (λ (p : Peer). p.taken) (sym (ap (λ (xs : List (List ℕ)). xs ++ []) (h.taken b ∙ (h.later b (omega arith)).1))) h.taken n
             ∙ sym (ap (λ (o : Option (List ℕ)). extended w.near.up b (option_to_list o) n) none);
@@ -145,10 +157,11 @@ module _ (d : Settings) (high : d.window ≤ 7) (reads : ReadsSpelled) (Due : Li
       let said = runs_said d high reads Due R does es met b r.all w.out (after_input input step.packet (window_of d.window w.near.station)) r.reached r.is r.room r.told r.within
       (window_of d.window step.side.near) step.side.out stays.sends
       in
-      build w h es met down step said.all (ap (λ (n : Notes). n.up) stays.quiet)
-      (subst (λ (p : Phase). R es met p b said.all (w.out ++ sent_in b d.role step.side.out)) (sym (is_up_phase step.side.near.phase stays.up)) said.reached)
-      (λ _. record { same = said.is; sound = stays.sound; room = said.room; told = said.told; within = subst (AllWithin d.longest) (sym (said.packets.given b)) r.within })
-      (λ n. said.packets.given n ∙ r.given n) (λ n. said.packets.taken n ∙ r.taken n)
+      let spoken = said.reached in
+      build w h es met down step spoken.all (ap (λ (n : Notes). n.up) stays.quiet)
+      (subst (λ (p : Phase). R es met p b spoken.all (w.out ++ sent_in b d.role step.side.out)) (sym (is_up_phase step.side.near.phase stays.up)) spoken.reached)
+      (λ _. subst (UpFacts d step.side.near) (sym spoken.now) (record { same = said.is; sound = stays.sound; room = said.room; told = said.told; within = subst (AllWithin d.longest) (sym said.given) r.within }))
+      (λ n. spoken.packets.given n ∙ r.given n) (λ n. spoken.packets.taken n ∙ r.taken n)
 
   -- the peer in its session, as it is
   pub reached_in : (w : Sessions) (h : Seen d R w) → is_up w.near.station.phase ≡ true → R w.back w.met Up w.near.begun h.all w.out

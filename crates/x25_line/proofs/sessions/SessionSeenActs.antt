@@ -52,32 +52,19 @@ pub by_neither : (f : Option Reason → ℕ) (x y : Option Reason) → f x ≡ 0
 by_neither f x y one other true = one
 by_neither f x y one other false = other
 
-pub left_by_disc : (r : Read) (v : Window) → by_disc (ending_of r v) ≡ disc_in r
-left_by_disc (Ok (info ns nr p x)) v = by_neither by_disc None (Some FrmrSent) refl refl _
-left_by_disc (Ok (rr command nr pf)) v = by_neither by_disc None (Some FrmrSent) refl refl _
-left_by_disc (Ok (rnr command nr pf)) v = by_neither by_disc None (Some FrmrSent) refl refl _
-left_by_disc (Ok (rej command nr pf)) v = by_neither by_disc None (Some FrmrSent) refl refl _
-left_by_disc (Ok f) v = refl
-left_by_disc (Err Short) v = refl
-left_by_disc (Err error) v = refl
+numbered_left : (b : Bool) → let o : Option Reason = if b then None else Some FrmrSent in (by_disc o ≡ 0) × (by_reset o ≡ 0) × (by_local o ≡ 0)
+numbered_left true = (refl, refl, refl)
+numbered_left false = (refl, refl, refl)
 
-pub left_by_reset : (r : Read) (v : Window) → by_reset (ending_of r v) ≡ sabm_in r
-left_by_reset (Ok (info ns nr p x)) v = by_neither by_reset None (Some FrmrSent) refl refl _
-left_by_reset (Ok (rr command nr pf)) v = by_neither by_reset None (Some FrmrSent) refl refl _
-left_by_reset (Ok (rnr command nr pf)) v = by_neither by_reset None (Some FrmrSent) refl refl _
-left_by_reset (Ok (rej command nr pf)) v = by_neither by_reset None (Some FrmrSent) refl refl _
-left_by_reset (Ok f) v = refl
-left_by_reset (Err Short) v = refl
-left_by_reset (Err error) v = refl
-
-left_by_local : (r : Read) (v : Window) → by_local (ending_of r v) ≡ 0
-left_by_local (Ok (info ns nr p x)) v = by_neither by_local None (Some FrmrSent) refl refl _
-left_by_local (Ok (rr command nr pf)) v = by_neither by_local None (Some FrmrSent) refl refl _
-left_by_local (Ok (rnr command nr pf)) v = by_neither by_local None (Some FrmrSent) refl refl _
-left_by_local (Ok (rej command nr pf)) v = by_neither by_local None (Some FrmrSent) refl refl _
-left_by_local (Ok f) v = refl
-left_by_local (Err Short) v = refl
-left_by_local (Err error) v = refl
+-- by a DISC or a SABM alone it leaves so
+pub left_by : (r : Read) (v : Window) → let o = ending_of r v in (by_disc o ≡ disc_in r) × (by_reset o ≡ sabm_in r) × (by_local o ≡ 0)
+left_by (Ok (info ns nr p x)) v = numbered_left _
+left_by (Ok (rr command nr pf)) v = numbered_left _
+left_by (Ok (rnr command nr pf)) v = numbered_left _
+left_by (Ok (rej command nr pf)) v = numbered_left _
+left_by (Ok f) v = (refl, refl, refl)
+left_by (Err Short) v = (refl, refl, refl)
+left_by (Err error) v = (refl, refl, refl)
 
 disc_or_not : (r : Read) → ((p : Bool) × (r ≡ Ok (disc p))) ⊎ (disc_in r ≡ 0)
 disc_or_not (Ok (disc p)) = inl (p, refl)
@@ -286,7 +273,7 @@ module _ (d : Settings) (high : d.window ≤ 7) (reads : ReadsSpelled) (rests : 
       ends_seen Retries never ending ends = left_seen Retries never ends (gone step.side.out ends.frames)
       ends_seen Disc never ending ends = elim (disc_or_not r) [
         | inl closes ↦ disc_seen closes.0 closes.1 ends never
-        | inr none ↦ (let closes = left_by_disc r (window_of k s) in let one = ap by_disc ending in absurd (omega (arith, closes, one, none)))
+        | inr none ↦ (let closes = (left_by r (window_of k s)).0 in let one = ap by_disc ending in absurd (omega (arith, closes, one, none)))
       ]
       ends_seen Dm never ending ends = left_seen Dm never ends (gone step.side.out ends.frames)
       ends_seen FrmrSent never ending ends =
@@ -300,7 +287,7 @@ module _ (d : Settings) (high : d.window ≤ 7) (reads : ReadsSpelled) (rests : 
           (reads d.role d.longest (frmr f why) _ (record { in_range = tt; carries = three; within = tt; spelling = refl })) (came_in Up in_it))))
       ends_seen FrmrGot never ending ends = left_seen FrmrGot never ends (gone step.side.out ends.frames)
       ends_seen Reset never ending ends = absurd (never refl)
-      ends_seen Local never ending ends = (let none = left_by_local r (window_of k s) in let one = ap by_local ending in absurd (omega (arith, none, one)))
+      ends_seen Local never ending ends = (let none = (left_by r (window_of k s)).2 in let one = ap by_local ending in absurd (omega (arith, none, one)))
       ends_seen Counts never ending ends = left_seen Counts never ends (gone step.side.out ends.frames)
 
       pub up_seen : sabm_in r ≡ 0 → S (after_step d w es met [] step)
@@ -308,7 +295,7 @@ module _ (d : Settings) (high : d.window ≤ 7) (reads : ReadsSpelled) (rests : 
         where
           go : (o : Option Reason) → ending_of r (window_of k s) ≡ o → Follows o k (brought_by r) s step → S (after_step d w es met [] step)
           go None ending stays = brought_seen r refl no_sabm stays
-          go (Some reason) ending ends = ends_seen reason (λ reset. (let asks = left_by_reset r (window_of k s) in let one = ap by_reset (ending ∙ ap Some reset) in absurd (omega (arith, asks, one, no_sabm)))) ending ends
+          go (Some reason) ending ends = ends_seen reason (λ reset. (let asks = (left_by r (window_of k s)).1 in let one = ap by_reset (ending ∙ ap Some reset) in absurd (omega (arith, asks, one, no_sabm)))) ending ends
 
     -- ---- out of Up
 

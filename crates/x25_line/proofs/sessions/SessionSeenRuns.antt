@@ -21,13 +21,13 @@ use Rattle.x25_line.specs.laws.Peer as once
 use Rattle.x25_line.proofs.StationRuns.{joined_swapped}
 use Rattle.x25_line.proofs.sessions.SessionLines.{Read}
 use Rattle.x25_line.proofs.sessions.SessionHeld.{Owes}
-use Rattle.x25_line.specs.laws.PeerSessions.{Stand, Out, Asking, In, PeerEnd, PeerSessions, is_in, both_ends, with_peer, with_now, begins, stands, AllAskedIn, IsFree, IsReached, goes_on}
+use Rattle.x25_line.specs.laws.PeerSessions.{Out, Asking, PeerEnd, PeerSessions, is_in, both_ends, with_peer, with_now, begins, stands, AllAskedIn, IsFree, IsReached, goes_on}
 use Rattle.x25_line.specs.laws.PeerSessions as sessions
 use Rattle.x25_line.specs.laws.SessionPeers.{IsPeer, AreBothPeers}
 use Rattle.x25_line.proofs.sessions.EntryLines.{Less, whole, gone, less_removes, less_replaces, asked_fewer}
 use Rattle.x25_line.proofs.sessions.SessionMay.{stand_of, sends_read, hears_read, heard_in, MayDo}
 use Rattle.x25_line.proofs.ends.Meetings.{twice_turned}
-use Rattle.x25_line.proofs.sessions.SessionSeen.{UpFacts, Seen}
+use Rattle.x25_line.proofs.sessions.SessionSeen.{UpFacts, Seen, start_seen}
 use Rattle.x25_line.proofs.sessions.SessionSeenSteps as own
 use Rattle.x25_line.proofs.sessions.PeerSessionRuns.{lines}
 
@@ -272,35 +272,16 @@ module _ (reads : ReadsSpelled) (rests : SessionLaws) where
   event_both c d near_joined far_joined (Far act) w timely h =
       both_swapped d c far_joined near_joined (acts d act (swapped w)) (act_both d c far_joined near_joined act (swapped w) timely (both_swapped c d near_joined far_joined w h))
 
-  start_seen : (c d : Settings) (joined : AreJoined c d) → SeenAt c d joined from_nothing
-  start_seen c d joined = record {
-    all = λ n. fresh_peer;
-    reached = sessions.at_start;
-    up = λ up. absurd (never up);
-    given = λ n. refl;
-    taken = λ n. refl;
-    later = λ n less. (refl, refl);
-    tags = tt;
-  }
-    where
-      never : false ≡ true → ⊥
-      never k = cc
-
-  set_up_seen : (c d : Settings) (joined : AreJoined c d) → SeenAt c d joined from_set_up
-  set_up_seen c d joined = record {
-    all = λ n. fresh_peer;
-    reached = sessions.set_up;
-    up = λ up. record { same = refl; sound = record { place_low = omega arith; place_high = omega arith; sent_high = omega arith; room = omega arith }; room = omega arith; told = omega arith; within = tt };
-    given = λ n. refl;
-    taken = λ n. refl;
-    later = λ n less. (refl, refl);
-    tags = tt;
-  }
-
   pub begin_both : (c d : Settings) (joined : AreJoined c d) (begin : Sessions) → (begin ≡ from_nothing) ⊎ (begin ≡ from_set_up) → Both c d (joined_swapped c d joined) joined begin
   begin_both c d joined begin is = elim is [
-    | inl down ↦ subst (Both c d (joined_swapped c d joined) joined) (sym down) (record { near = start_seen d c (joined_swapped c d joined); far = start_seen c d joined })
-    | inr up ↦ subst (Both c d (joined_swapped c d joined) joined) (sym up) (record { near = set_up_seen d c (joined_swapped c d joined); far = set_up_seen c d joined })
+    | inl down ↦ subst (Both c d (joined_swapped c d joined) joined) (sym down) (record {
+      near = start_seen c (IsPeerOf d c (joined_swapped c d joined) from_nothing.far) Down 0 from_nothing.far sessions.at_start;
+      far = start_seen d (IsPeerOf c d joined from_nothing.far) Down 0 from_nothing.far sessions.at_start;
+    })
+    | inr up ↦ subst (Both c d (joined_swapped c d joined) joined) (sym up) (record {
+      near = start_seen c (IsPeerOf d c (joined_swapped c d joined) from_set_up.far) Up 1 from_set_up.far sessions.set_up;
+      far = start_seen d (IsPeerOf c d joined from_set_up.far) Up 1 from_set_up.far sessions.set_up;
+    })
   ]
 
   -- ---- runs

@@ -27,7 +27,7 @@ use Rattle.x25_line.proofs.sessions.SessionHeld.{View, Live, Soon, Gone, IsView,
 use Rattle.x25_line.proofs.sessions.SessionSteps.{end_after, stepped, went_by, Answers, apart_held}
 use Rattle.x25_line.proofs.sessions.SessionBegins.{begins_held}
 use Rattle.x25_line.proofs.sessions.SessionUp.{follows_answers, live_goes_on}
-use Rattle.x25_line.proofs.sessions.SessionSeenActs.{left_by_disc, left_by_reset}
+use Rattle.x25_line.proofs.sessions.SessionSeenActs.{left_by}
 use Rattle.x25_line.proofs.sessions.SessionSeenSteps.{is_answer, sabm_or_not, sets_none_up}
 use Rattle.x25_line.proofs.sessions.SessionActs.{InSession, quiet_held, in_session, waiting_owes}
 
@@ -241,7 +241,7 @@ module _ (c d : Settings) (joined : AreJoined c d) (reads : ReadsSpelled) (laws 
         answers : Answers w (step_of c w e)
         answers =
             let v = window_of c.window w.near.station in
-            follows_answers w (ending_of (read_of c e) v) c.window (brought_by (read_of c e)) w.near.station (step_of c w e) (λ one. closed (sym (left_by_disc (read_of c e) v) ∙ one)) (left_by_reset (read_of c e) v ∙ no_sabm)
+            follows_answers w (ending_of (read_of c e) v) c.window (brought_by (read_of c e)) w.near.station (step_of c w e) (λ one. closed (sym (left_by (read_of c e) v).0 ∙ one)) ((left_by (read_of c e) v).1 ∙ no_sabm)
             (laws.window.take c e.octets w.near.station i.running (read_of c e) refl)
 
         left : Comes (other c.role) c.longest es (carried (other c.role) c.longest es) stand.far

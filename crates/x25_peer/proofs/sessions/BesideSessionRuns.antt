@@ -19,14 +19,14 @@ use Rattle.x25_station.specs.Config.{Settings, link_settings, layer_settings}
 use Rattle.x25_station.specs.Entry.{layer_entries}
 use Rattle.x25_station.specs.laws.ReadLaw.{IsReachedByOctets}
 use Rattle.x25_station.specs.laws.ReadLaw as reached
-use Rattle.x25_peer.specs.laws.BesideSessions.{Own, Theirs, BesideSessions, their_now, their_layer, start, Happens, Asks, Connects, Disconnects, Probes, Relinks, Fires, Receives, Abandons, Loses, Damages, LosesThere, DamagesThere, Leaves, Sends, Hears, AnswersByUa, LayerDoes, LayerHears, LayerHearsChannel, IsReached}
+use Rattle.x25_peer.specs.laws.BesideSessions.{ReadAs, Own, BesideSessions, their_now, their_layer, start, Happens, Asks, AsksWith, Connects, Disconnects, Probes, Relinks, Fires, Receives, Abandons, Loses, Damages, LosesThere, DamagesThere, Leaves, Sends, Hears, AnswersByUa, LayerDoes, LayerHears, LayerHearsChannel, IsReached}
 use Rattle.x25_peer.specs.laws.BesideSessions as beside
 use Rattle.x25_peer.specs.laws.BesideSessionClaims.{WithAnyPeer, MeetInStep, IsInOrder, MetAreInOrder, UnmetAreToldNothing, EachMeetsLatest, UpIsLatest, IdleHasArrived, FindsNoError}
-use Rattle.x25_peer.proofs.ReadLemmas.{spelled, none_left}
+use Rattle.x25_peer.proofs.ReadLemmas.{none_left}
 use Rattle.x25_peer.proofs.sessions.Meetings.{CanMeet, all_map, all_some, all_both, met_can_meet, could_meet_some}
 use Rattle.x25_peer.proofs.sessions.SessionLinks.{links_with}
 use Rattle.x25_peer.proofs.sessions.Standing.{Below, Known, Stands}
-use Rattle.x25_peer.proofs.sessions.StationActs.{asks, connects, disconnects, probes, relinks, fires, abandons_it, comes}
+use Rattle.x25_peer.proofs.sessions.StationActs.{asks, asks_with, connects, disconnects, probes, relinks, fires, abandons_it, comes}
 use Rattle.x25_peer.proofs.sessions.PeerActs.{loses, damages, loses_there, damages_there, leaves, sends, hears_it, answers, layer_does, layer_hears, layer_hears_channel}
 
 forget : (c : Settings) (w : layer_peer.Joined) → IsReachedByOctets c.role c.long_data c.channels w → layer_peer.IsReached c.role c.long_data c.channels w
@@ -47,6 +47,7 @@ in_order_as k own e y layer entries calls stretch = record {
 module _ (below : Below) (c : Settings) (low : 1 ≤ c.window) (high : c.window ≤ 7) (few : c.channels ≤ 16) where
   step_on : (w v : BesideSessions) → Stands c w → Happens c w v → Stands c v
   step_on w v h (Asks request step octets is) = asks below c low high few w h request step octets is
+  step_on w v h (AsksWith given request step of_given octets is) = asks_with below c low high few w h given request step of_given octets is
   step_on w v h (Connects none) = connects below c low high few w h none
   step_on w v h (Disconnects none) = disconnects below c low high few w h none
   step_on w v h (Probes none) = probes below c low high few w h none
@@ -54,18 +55,18 @@ module _ (below : Below) (c : Settings) (low : 1 ≤ c.window) (high : c.window 
   step_on w v h (Fires none due) = fires below c low high few w h none due
   step_on w v h (Receives e rest front not_full) = comes below c low high few w h e rest front not_full
   step_on w v h (Abandons e rest front full) = abandons_it below c low high few w h e rest front full
-  step_on w v h (Loses place) = loses below c low high few w h place
-  step_on w v h (Damages place octets visible) = damages below c low high few w h place octets visible
-  step_on w v h (LosesThere place) = loses_there below c low high few w h place
-  step_on w v h (DamagesThere place octets visible) = damages_there below c low high few w h place octets visible
-  step_on w v h Leaves = leaves below c low high few w h
-  step_on w v h (Sends octets q may) = sends below c low high few w h octets q may
-  step_on w v h (Hears e rest q front may) = hears_it below c low high few w h e rest q front may
-  step_on w v h (AnswersByUa e rest octets f q front is may) = answers below c low high few w h e rest octets f q front is may
-  step_on w v h (LayerDoes deed p octets stand may is configured reads) = layer_does below c low high few w h deed p octets stand may is configured reads
-  step_on w v h (LayerHears p read behind packets all stand reads waits answered read_all) = layer_hears below c low high few w h p read behind packets all stand reads waits answered read_all
+  step_on w v h (Loses place) = loses below c low high w h place
+  step_on w v h (Damages place octets visible) = damages below c low high w h place octets visible
+  step_on w v h (LosesThere place) = loses_there below c low high w h place
+  step_on w v h (DamagesThere place octets visible) = damages_there below c low high w h place octets visible
+  step_on w v h Leaves = leaves below c low high w h
+  step_on w v h (Sends octets q may) = sends below c low high w h octets q may
+  step_on w v h (Hears e rest q front may) = hears_it below c low high w h e rest q front may
+  step_on w v h (AnswersByUa e rest octets f q front is may) = answers below c low high w h e rest octets f q front is may
+  step_on w v h (LayerDoes deed p octets stand may is configured reads) = layer_does below c low high w h deed p octets stand may is configured reads
+  step_on w v h (LayerHears p read behind packets all stand reads waits answered read_all) = layer_hears below c low high w h p read behind packets all stand reads waits answered read_all
   step_on w v h (LayerHearsChannel y p read passed behind packets all stand live has apart reads waits answered read_all) =
-      layer_hears_channel below c low high few w h y p read passed behind packets all stand live has apart reads waits answered read_all
+      layer_hears_channel below c low high w h y p read passed behind packets all stand live has apart reads waits answered read_all
 
   -- ---- the beginning
 
@@ -78,7 +79,7 @@ module _ (below : Below) (c : Settings) (low : 1 ≤ c.window) (high : c.window 
     puts = λ m. [];
     link = record { downs = λ n. []; ups = λ n. []; reached = at_start; is_down = λ n. refl; is_up = λ n. refl };
     now = λ up. absurd (cc);
-    each = λ n. record { layer = refl; out = refl; entries = refl; told = refl; begins = (spelled first.end.given, refl); alone = λ _. refl };
+    each = λ n. record { layer = refl; out = refl; entries = refl; told = refl; begins = tt; alone = λ _. refl };
     later = λ n over. record { end = refl; down = refl; up = refl };
     peers = λ m. record { reads = tt; heard = omega (arith) };
     anew = λ m over. (refl, refl);
@@ -151,9 +152,9 @@ idle_has_arrived below law c low high few w r idle which took =
     let up : is_up w.near.link.phase ≡ true = (and_parts _ _ idle).0 in
     let k : Known = h.known w.begun in
     let can = latest_can_meet below c low high few w h up which in
-    let taken : (now w.peer).taken ≡ spelled k.end.given =
-    below.idle (link_settings c) low high (linked below c low high few w h) h.link.reached idle which ∙ h.link.is_down w.begun ∙ (h.now up).handed in
-    let none = ap (λ (l : List PlainPacket). l ++ drop (their_now w).heard k.end.given) took.passed ∙ none_left (their_now w).heard (now w.peer).taken k.end.given took.heard taken in
+    let taken : (now w.peer).taken ≡ k.down = below.idle (link_settings c) low high (linked below c low high few w h) h.link.reached idle which ∙ h.link.is_down w.begun in
+    let read : ReadAs c (now w.peer).taken k.end.given = subst (λ (os : List (List ℕ)). ReadAs c os k.end.given) (sym taken) (h.now up).handed in
+    let none = ap (λ (l : List PlainPacket). l ++ drop (their_now w).heard k.end.given) took.passed ∙ none_left c (their_now w).heard (now w.peer).taken k.end.given took.heard read in
     let all = law c.role c.long_data c.channels _ (forget c _ (h.pairs w.begun w.peer.begun can)) none in
     subst (λ (es : List Entry). OpenHaveArrived w.near.layer es (their_layer w)) (h.each w.begun).entries
     (subst (λ (l : Layer). OpenHaveArrived l k.end.entries (their_layer w)) (h.now up).layer all)

@@ -7,7 +7,6 @@ use Rattle.x25_frame.specs.Frame.{PlainFrame, ua}
 use Rattle.x25_frame.specs.Reading.{frame_of}
 use Rattle.x25_frame.specs.declared.error.FrameError.{FrameError}
 use Rattle.x25_packet.specs.Packet.{PlainPacket}
-use Rattle.x25_packet.specs.Spelling as packet
 use Rattle.x25_packet.specs.Spelling.{channel_of, HasChannel}
 use Rattle.x25_link.specs.Station.{Settings as LinkSettings, LinkStation}
 use Rattle.x25_link.specs.Hearing.{other}
@@ -26,11 +25,11 @@ use Rattle.x25_layer.specs.laws.Bare.{bare, bare_layer, bare_layers}
 use Rattle.x25_layer.specs.laws.PeerJoined as layer_peer
 use Rattle.x25_layer.specs.laws.PeerJoined.{Joined, IsConfigured, Answers}
 use Rattle.x25_station.specs.Config.{Settings, link_settings, longest_packet}
-use Rattle.x25_station.specs.laws.ReadLaw.{AreReadable, IsReachedByOctets}
+use Rattle.x25_station.specs.laws.ReadLaw.{IsReachedByOctets}
 use Rattle.x25_station.specs.laws.ReadLaw as reached
 use Rattle.x25_peer.specs.laws.BesideSessions.{read_by, ReadAs}
 use Rattle.x25_peer.specs.laws.BesideSessions.{Theirs, BesideSessions, in_session, links_of, handed_down, their_now, their_layer, coming, layer_went, layer_heard}
-use Rattle.x25_peer.proofs.ReadLemmas.{spelled, read_append, ok_same, sent_same, heard_same}
+use Rattle.x25_peer.proofs.ReadLemmas.{ReadFirst, read_append, ok_same, sent_same, heard_same}
 use Rattle.x25_peer.proofs.sessions.Meetings.{CanMeet, could_meet}
 use Rattle.x25_peer.proofs.sessions.SessionLinks.{links_with, LinkReached}
 use Rattle.x25_peer.proofs.sessions.Standing.{Below, in_other, both_cases, PairReached, IsRead, AreAnew, downs_of, ups_of, Stands, way, taken_begins, up_few}
@@ -118,24 +117,23 @@ may_send c link begun down up down₂ up₂ peer out back met r q (free may) = f
 -- ---- what it is read as
 
 -- what its link took from here on, as it is read, is in front of what our layer put from here on
-read_front : (c : Settings) (given : List PlainPacket) (taken rest : List (List ℕ)) (n : ℕ) (read : List PlainPacket) → AreReadable c.long_data given → taken ++ rest ≡ spelled given → n ≤ length taken
-    → ReadAs c (drop n taken) read → drop n given ≡ read ++ drop (length taken) given
-read_front c given [] rest zero [] readable is few reads = refl
-read_front c given [] rest zero (r ∷ read) readable is few reads = absurd reads
-read_front c given [] rest (suc n) read readable is few reads = absurd (never few)
+read_front : (c : Settings) (given : List PlainPacket) (taken : List (List ℕ)) (n : ℕ) (read : List PlainPacket) → ReadFirst c taken given → n ≤ length taken → ReadAs c (drop n taken) read
+    → drop n given ≡ read ++ drop (length taken) given
+read_front c given [] zero [] first few reads = refl
+read_front c given [] zero (r ∷ read) first few reads = absurd reads
+read_front c given [] (suc n) read first few reads = absurd (never few)
   where
     never : suc n ≤ 0 → ⊥
     never low = omega (arith, low)
-read_front c [] (t ∷ taken) rest n read readable is few reads = absurd (cc)
-read_front c (g ∷ given) (t ∷ taken) rest zero [] readable is few reads = absurd reads
-read_front c (g ∷ given) (t ∷ taken) rest zero (r ∷ read) readable is few reads =
-    let same : t ≡ packet.spelling_of g = cc in
-    let one : g ≡ r = ok_same g r (read_by c t) (ap (λ (x : List ℕ). read_by c x) same ∙ readable.0.reads c.wide) reads.0 in
-    let more : given ≡ read ++ drop (length taken) given = read_front c given taken rest 0 read readable.1 (cc) (omega (arith)) reads.1 in
+read_front c [] (t ∷ taken) n read first few reads = absurd first
+read_front c (g ∷ given) (t ∷ taken) zero [] first few reads = absurd reads
+read_front c (g ∷ given) (t ∷ taken) zero (r ∷ read) first few reads =
+    let one : g ≡ r = ok_same g r (read_by c t) first.0 reads.0 in
+    let more : given ≡ read ++ drop (length taken) given = read_front c given taken 0 read first.1 (omega (arith)) reads.1 in
     ap (λ (l : List PlainPacket). g ∷ l) more ∙ ap (λ (x : PlainPacket). x ∷ (read ++ drop (length taken) given)) one
-read_front c (g ∷ given) (t ∷ taken) rest (suc n) read readable is few reads =
+read_front c (g ∷ given) (t ∷ taken) (suc n) read first few reads =
     let low : n ≤ length taken = fewer few in
-    read_front c given taken rest n read readable.1 (cc) low reads
+    read_front c given taken n read first.1 low reads
   where
     fewer : suc n ≤ suc (length taken) → n ≤ length taken
     fewer low = omega (arith, low)
@@ -182,7 +180,7 @@ hand_down c link begun down up peer out back met (o ∷ all) stand l =
       is_up = l.is_up;
     })
 
-module _ (below : Below) (c : Settings) (low : 1 ≤ c.window) (high : c.window ≤ 7) (few : c.channels ≤ 16) (w : BesideSessions) (h : Stands c w) where
+module _ (below : Below) (c : Settings) (low : 1 ≤ c.window) (high : c.window ≤ 7) (w : BesideSessions) (h : Stands c w) where
   abbrev Link : PeerEnd → List Entry → List Entry → List Meeting → Type 0
   Link peer out back met = LinkReached (link_settings c) w.near.link w.begun (downs_of h.known) (ups_of h.known) peer out back met
 
@@ -334,9 +332,7 @@ module _ (below : Below) (c : Settings) (low : 1 ≤ c.window) (high : c.window 
 
     in_front : way (their_now w) given ≡ front ++ p ∷ (behind ++ rest)
     in_front =
-        let readable : AreReadable c.long_data given = below.readable c.role c.long_data c.channels few (layers n) (h.pairs n b can) in
-        let there = taken_begins below c low high w h n b can in
-        let came : drop (their_now w).heard given ≡ read ++ rest = read_front c given (now w.peer).taken there.0 (their_now w).heard read readable there.1 (h.peers b).heard reads in
+        let came : drop (their_now w).heard given ≡ read ++ rest = read_front c given (now w.peer).taken (their_now w).heard read (taken_begins below c low high w h n b can) (h.peers b).heard reads in
         ap (λ (l : List PlainPacket). (their_now w).passed ++ l) came ∙ sym (append_assoc (their_now w).passed read rest) ∙ ap (λ (l : List PlainPacket). l ++ rest) waits ∙ append_assoc front (p ∷ behind) rest
 
   pub layer_hears : (p : PlainPacket) (read behind packets : List PlainPacket) (all : List (List ℕ)) → w.peer.stand ≡ In → ReadAs c (coming w) read → (their_now w).passed ++ read ≡ p ∷ behind

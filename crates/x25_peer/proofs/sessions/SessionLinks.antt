@@ -14,10 +14,14 @@ use Rattle.x25_link.specs.laws.NoteLaw.{PutTells}
 use Rattle.x25_line.specs.laws.Stations as line
 use Rattle.x25_line.specs.laws.Sessions.{Entry, Meeting, Sessions, acts, after_step, sent_in, extended, begun_by}
 use Rattle.x25_line.specs.laws.PeerSessions.{PeerEnd, PeerSessions, IsReached, goes_on, Ours, IsTimely, both_ends, with_peer}
-use Rattle.x25_station.specs.Station.{put_on, all_put}
+use Rattle.x25_given.specs.Given.{PlainGiven}
+use Rattle.x25_given.specs.Writing.{write}
+use Rattle.x25_station.specs.Giving.{all_given}
+use Rattle.x25_station.specs.Station.{behind, put_on, all_put}
+use Rattle.x25_station.specs.laws.GivenLaw.{AreTaken}
 use Rattle.x25_station.specs.laws.JoinLaw.{AreAccepted}
-use Rattle.x25_station.specs.laws.ReadLaw.{AreReadable}
-use Rattle.x25_peer.proofs.ReadLemmas.{spelled}
+use Rattle.x25_station.specs.laws.ReadLaw.{IsReadable, AreReadable}
+use Rattle.x25_peer.proofs.ReadLemmas.{spelled, spelled_with}
 
 abbrev pub links_with : LinkStation → ℕ → (ℕ → List (List ℕ)) → (ℕ → List (List ℕ)) → PeerEnd → List Entry → List Entry → List Meeting → PeerSessions
 links_with link begun down up peer out back met =
@@ -56,6 +60,9 @@ extended_again lists session some more n = by (n == session)
 pub sent_append : (session : ℕ) (role : Role) (fs gs : List PlainFrame) → sent_in session role (fs ++ gs) ≡ sent_in session role fs ++ sent_in session role gs
 sent_append session role [] gs = refl
 sent_append session role (f ∷ fs) gs = ap (λ (es : List Entry). record { session = session; octets = spelling_of role f } ∷ es) (sent_append session role fs gs)
+
+abbrev pub put_behind : LinkSettings → List ℕ → Side → Side
+put_behind c s t = behind t (put_step c s t.near).side
 
 -- ---- acts
 
@@ -101,38 +108,52 @@ module _ (c : LinkSettings) (peer : PeerEnd) where
       (link_steps near begun down (extended up begun []) (out ++ []) back back met met second (quiet t) (λ downs ups. timely downs ups (out ++ []) near second (inr refl)) two
       (link_steps link begun down up out back back met met first (left_at near why) (λ downs ups. timely downs ups out link first (inl refl)) one h)))
 
-  -- a packet is put
-  put_link : (link : LinkStation) (begun : ℕ) (o : List ℕ) (down up : ℕ → List (List ℕ)) (out back : List Entry) (met : List Meeting) → length o ≤ c.longest → put_refusal link ≡ None
-      → LinkReached c link begun down up peer out back met
-      → LinkReached c (put_step c o link).side.near begun (extended down begun (o ∷ [])) up peer (out ++ sent_in begun c.role (put_step c o link).side.out) back met
-  put_link link begun o down up out back met short none h =
-      let w : PeerSessions = links_with link begun h.downs h.ups peer out back met in
-      let accepted : acts c (line.Put o) (both_ends w) ≡ after_step c (both_ends w) back met (o ∷ []) (put_step c o link) = rw (le-leb (length o) c.longest short, none) refl in
-      record {
-        downs = extended h.downs begun (o ∷ []);
+  -- these octets were handed down
+  abbrev pub ArePut : Side → ℕ → (ℕ → List (List ℕ)) → List (List ℕ) → (ℕ → List (List ℕ)) → List Entry → List Entry → List Meeting → Type 0
+  ArePut t begun down handed up o back met = LinkReached c t.near begun (extended down begun handed) up peer (o ++ sent_in begun c.role t.out) back met
+
+  -- the octets of a packet are put
+  put_link : (t : Side) (begun : ℕ) (s : List ℕ) (down up : ℕ → List (List ℕ)) (o back : List Entry) (met : List Meeting) → length s ≤ c.longest → put_refusal t.near ≡ None
+      → LinkReached c t.near begun down up peer (o ++ sent_in begun c.role t.out) back met → ArePut (put_behind c s t) begun down (s ∷ []) up o back met
+  put_link t begun s down up o back met short none h =
+      let frames : List PlainFrame = (put_step c s t.near).side.out in
+      let w : PeerSessions = links_with t.near begun h.downs h.ups peer (o ++ sent_in begun c.role t.out) back met in
+      let accepted : acts c (line.Put s) (both_ends w) ≡ after_step c (both_ends w) back met (s ∷ []) (put_step c s t.near) = rw (le-leb (length s) c.longest short, none) refl in
+      let lines : (o ++ sent_in begun c.role t.out) ++ sent_in begun c.role frames ≡ o ++ sent_in begun c.role (t.out ++ frames) =
+      append_assoc o (sent_in begun c.role t.out) (sent_in begun c.role frames) ∙ ap (λ (l : List Entry). o ++ l) (sym (sent_append begun c.role t.out frames)) in
+      subst (λ (l : List Entry). LinkReached c (put_behind c s t).near begun (extended down begun (s ∷ [])) up peer l back met) lines
+      (record {
+        downs = extended h.downs begun (s ∷ []);
         ups = extended h.ups begun [];
-        reached = subst (λ (v : Sessions). IsReached (Unit {0}) c (with_peer peer v)) accepted (goes_on w (with_peer peer (acts c (line.Put o) (both_ends w))) h.reached (Ours (line.Put o) tt));
-        is_down = λ n. extended_as h.downs down begun (o ∷ []) n (h.is_down n);
+        reached = subst (λ (v : Sessions). IsReached (Unit {0}) c (with_peer peer v)) accepted (goes_on w (with_peer peer (acts c (line.Put s) (both_ends w))) h.reached (Ours (line.Put s) tt));
+        is_down = λ n. extended_as h.downs down begun (s ∷ []) n (h.is_down n);
         is_up = λ n. extended_none h.ups begun n ∙ h.is_up n;
-      }
+      })
 
   pub all_puts : (long_data : Bool) (packets : List PlainPacket) (t : Side) (begun : ℕ) (down up : ℕ → List (List ℕ)) (o back : List Entry) (met : List Meeting)
       → ((p : PlainPacket) → length (packet.spelling_of p) ≤ 4099 → length (packet.spelling_of p) ≤ c.longest) → AreAccepted c packets t → AreReadable long_data packets
-      → LinkReached c t.near begun down up peer (o ++ sent_in begun c.role t.out) back met
-      → LinkReached c (all_put c packets t).near begun (extended down begun (spelled packets)) up peer (o ++ sent_in begun c.role (all_put c packets t).out) back met
+      → LinkReached c t.near begun down up peer (o ++ sent_in begun c.role t.out) back met → ArePut (all_put c packets t) begun down (spelled packets) up o back met
   all_puts long_data [] t begun down up o back met longest ok readable h = by_lists down up (extended down begun []) up (λ n. sym (extended_none down begun n)) (λ n. refl) h
   all_puts long_data (p ∷ packets) t begun down up o back met longest ok readable h =
       let s : List ℕ = packet.spelling_of p in
-      let u : Side = put_on c p t in
-      let one = put_link t.near begun s down up (o ++ sent_in begun c.role t.out) back met (longest p readable.0.short) ok.0 h in
-      let lines : (o ++ sent_in begun c.role t.out) ++ sent_in begun c.role (put_step c s t.near).side.out ≡ o ++ sent_in begun c.role u.out =
-      append_assoc o (sent_in begun c.role t.out) (sent_in begun c.role (put_step c s t.near).side.out)
-      ∙ ap (λ (l : List Entry). o ++ l) (sym (sent_append begun c.role t.out (put_step c s t.near).side.out)) in
-      by_lists (extended (extended down begun (s ∷ [])) begun (spelled packets)) up (extended down begun (spelled (p ∷ packets))) up (λ n. extended_again down begun (s ∷ []) (spelled packets) n) (λ n. refl)
-      (all_puts long_data packets u begun (extended down begun (s ∷ [])) up o back met longest ok.1 readable.1
-      (subst (λ (l : List Entry). LinkReached c u.near begun (extended down begun (s ∷ [])) up peer l back met) lines one))
+      by_lists (extended (extended down begun (s ∷ [])) begun (spelled packets)) up (extended down begun (s ∷ spelled packets)) up (λ n. extended_again down begun (s ∷ []) (spelled packets) n) (λ n. refl)
+      (all_puts long_data packets (put_behind c s t) begun (extended down begun (s ∷ [])) up o back met longest ok.1 readable.1 (put_link t begun s down up o back met (longest p readable.0.short) ok.0 h))
+
+  -- the first with something given
+  pub given_puts : (long_data : Bool) (g : PlainGiven) (packets : List PlainPacket) (t : Side) (begun : ℕ) (down up : ℕ → List (List ℕ)) (o back : List Entry) (met : List Meeting)
+      → ((p : PlainPacket) → length (packet.spelling_of p) ≤ 4099 → length (packet.spelling_of p) ≤ c.longest) → ((p : PlainPacket) → IsReadable long_data p → length (write g (packet.spelling_of p)) ≤ c.longest) → AreTaken c g packets t
+      → AreReadable long_data packets → LinkReached c t.near begun down up peer (o ++ sent_in begun c.role t.out) back met → ArePut (all_given c g packets t) begun down (spelled_with g packets) up o back met
+  given_puts long_data g [] t begun down up o back met longest short ok readable h = all_puts long_data [] t begun down up o back met longest tt tt h
+  given_puts long_data g (p ∷ packets) t begun down up o back met longest short ok readable h =
+      let s : List ℕ = write g (packet.spelling_of p) in
+      by_lists (extended (extended down begun (s ∷ [])) begun (spelled packets)) up (extended down begun (s ∷ spelled packets)) up (λ n. extended_again down begun (s ∷ []) (spelled packets) n) (λ n. refl)
+      (all_puts long_data packets (put_behind c s t) begun (extended down begun (s ∷ [])) up o back met longest ok.1 readable.1 (put_link t begun s down up o back met (short p readable.0) ok.0 h))
 
 -- a link that accepts packets stays up
 pub puts_up : PutTells → (c : LinkSettings) (packets : List PlainPacket) (t : Side) → is_up t.near.phase ≡ true → is_up (all_put c packets t).near.phase ≡ true
 puts_up tells c [] t up = up
 puts_up tells c (p ∷ packets) t up = puts_up tells c packets (put_on c p t) ((tells c (packet.spelling_of p) t.near up).stays refl ∙ up)
+
+pub given_up : PutTells → (c : LinkSettings) (g : PlainGiven) (packets : List PlainPacket) (t : Side) → is_up t.near.phase ≡ true → is_up (all_given c g packets t).near.phase ≡ true
+given_up tells c g [] t up = up
+given_up tells c g (p ∷ packets) t up = puts_up tells c packets (put_behind c (write g (packet.spelling_of p)) t) ((tells c (write g (packet.spelling_of p)) t.near up).stays refl ∙ up)

@@ -2,9 +2,8 @@
 -- each of the other that it met, or may meet yet, as `x25_layer` has it.
 use Rattle.std.proofs.Common.{◌≡◌, ℕ, ◌==◌, ◌≤◌, ◌<◌, inl, inr, List, [], ◌++◌, length, drop, Bool, true, false, if◌then◌else◌, refl, sym, ap, subst, ◌∙◌, append_assoc, eq-eqb, arith}
 use Rattle.std.proofs.lemmas.Bool.{eqb-true}
-use Rattle.std.proofs.lemmas.List.{length-append, length-map, drop-append-le}
+use Rattle.std.proofs.lemmas.List.{drop-append-le}
 use Rattle.x25_packet.specs.Packet.{PlainPacket}
-use Rattle.x25_packet.specs.Spelling.{spelling_of}
 use Rattle.x25_link.specs.Station.{Settings as LinkSettings, LinkStation, is_up}
 use Rattle.x25_link.specs.laws.NoteLaw.{TakeTells, TakeHandsUp, TimerTells, PutTells, ConnectTells, DisconnectTells, AbandonTells, RelinkTells}
 use Rattle.x25_link.specs.laws.SetUp.{RelinkIsTwoSteps}
@@ -18,12 +17,13 @@ use Rattle.x25_layer.specs.Layer.{Layer, goes_up}
 use Rattle.x25_layer.specs.laws.TwoLayers.{End, started}
 use Rattle.x25_station.specs.Config.{Settings, link_settings, layer_settings}
 use Rattle.x25_station.specs.Entry.{layer_entries, layer_notices}
+use Rattle.x25_station.specs.laws.GivenLaw.{GivenIsJoined, GivenIsRead}
 use Rattle.x25_station.specs.laws.JoinLaw.{RequestIsJoined, ReceiveIsJoined, QuietIsJoined, DownIsJoined, UpIsJoined}
-use Rattle.x25_station.specs.laws.KeepLaw.{IsKept, CommandKeeps, TimerKeeps, RequestKeeps, ReceiveKeeps}
+use Rattle.x25_station.specs.laws.KeepLaw.{IsKept, CommandKeeps, TimerKeeps, RequestKeeps, GivenKeeps, ReceiveKeeps}
 use Rattle.x25_station.specs.laws.ReadLaw.{IsReachedByOctets, PutsBesidePeersAreReadable}
 use Rattle.x25_peer.specs.laws.BesideSessions.{ReadAs}
 use Rattle.x25_peer.specs.laws.BesideSessions.{Own, Theirs, BesideSessions, in_session}
-use Rattle.x25_peer.proofs.ReadLemmas.{spelled, read_length}
+use Rattle.x25_peer.proofs.ReadLemmas.{ReadFirst, read_first, first_front, first_length}
 use Rattle.x25_peer.proofs.sessions.Meetings.{CanMeet, true_false, all_some, all_both}
 use Rattle.x25_peer.proofs.sessions.SessionLinks.{links_with, LinkReached}
 
@@ -35,12 +35,15 @@ pub record Below : Type 0 where
   pub idle : WithAnyPeer IdleHasArrived
   pub readable : PutsBesidePeersAreReadable
   pub request : RequestIsJoined
+  pub given : GivenIsJoined
+  pub given_read : GivenIsRead
   pub receive : ReceiveIsJoined
   pub still : QuietIsJoined
   pub down : DownIsJoined
   pub up : UpIsJoined
   pub timer : TimerKeeps
   pub ask : RequestKeeps
+  pub give : GivenKeeps
   pub command : CommandKeeps
   pub takes : ReceiveKeeps
   pub take_tells : TakeTells
@@ -80,17 +83,6 @@ both_cases {A} {B} P s x all y each here others n = by (n == s) refl
     by true is = subst (λ (k : ℕ). P k x y) (sym (eqb-true n s is)) here
     by false is = others n (λ (e : n ≡ s). true_false (sym (eq-eqb n s e) ∙ is))
 
--- ---- prefixes
-
-pub prefix_trans : {T : Type 0} (x y z : List T) → IsPrefix x y → IsPrefix y z → IsPrefix x z
-prefix_trans {T} x y z f g = (f.0 ++ g.0, sym (append_assoc x f.0 g.0) ∙ ap (λ (l : List T). l ++ g.0) f.1 ∙ g.1)
-
-prefix_length : {T : Type 0} (x y : List T) → IsPrefix x y → length x ≤ length y
-prefix_length {T} x y f =
-    let longer = length-append x f.0 in
-    let whole : length (x ++ f.0) ≡ length y = ap length f.1 in
-    omega (arith, longer, whole)
-
 -- ---- a session of the station
 
 -- its layer's end, and the octets that its link was handed down and handed up in it
@@ -99,18 +91,18 @@ pub record Known : Type 0 where
   pub down : List (List ℕ)
   pub up : List (List ℕ)
 
--- the session that stands
-pub record IsStanding (k : Known) (now : Layer) : Type 0 where
+-- the session that stands: what its link was handed down is read as what its layer put
+pub record IsStanding (c : Settings) (k : Known) (now : Layer) : Type 0 where
   pub layer : k.end.layer ≡ now
-  pub handed : k.down ≡ spelled k.end.given
+  pub handed : ReadAs c k.down k.end.given
 
 -- what is known of each session is what the world has of it, and where nothing was handed up the user was told nothing
-pub record IsKnown (n : ℕ) (k : Known) (own : Own) : Type 0 where
+pub record IsKnown (c : Settings) (n : ℕ) (k : Known) (own : Own) : Type 0 where
   pub layer : k.end.layer ≡ own.layer
   pub out : k.end.is_out ≡ false
   pub entries : k.end.entries ≡ layer_entries own.entries
   pub told : k.end.told ≡ layer_notices own.entries
-  pub begins : IsPrefix k.down (spelled k.end.given)
+  pub begins : ReadFirst c k.down k.end.given
   pub alone : k.up ≡ [] → k.end.told ≡ []
 
 -- a session that isn't begun
@@ -148,8 +140,8 @@ pub record Stands (c : Settings) (w : BesideSessions) : Type 0 where
   pub known : ℕ → Known
   pub puts : ℕ → List PlainPacket
   pub link : LinkReached (link_settings c) w.near.link w.begun (downs_of known) (ups_of known) w.peer w.out w.back w.met
-  pub now : is_up w.near.link.phase ≡ true → IsStanding (known w.begun) w.near.layer
-  pub each : (n : ℕ) → IsKnown n (known n) (w.own n)
+  pub now : is_up w.near.link.phase ≡ true → IsStanding c (known w.begun) w.near.layer
+  pub each : (n : ℕ) → IsKnown c n (known n) (w.own n)
   pub later : (n : ℕ) → w.begun < n → IsNotBegun c (known n)
   pub peers : (m : ℕ) → IsRead c (w.peer.of_session m) (w.theirs m) (puts m)
   pub anew : AreAnew w.peer
@@ -213,18 +205,20 @@ module _ (below : Below) (c : Settings) (low : 1 ≤ c.window) (high : c.window 
   pub pair_begins : BothBegin (h.known n).down (h.known n).up (w.peer.of_session m)
   pair_begins = both_begin below (link_settings c) low high w.near.link w.begun (downs_of h.known) (ups_of h.known) w.peer w.out w.back w.met h.link n m can
 
-  -- what the peer's link took is a beginning of the spelling of what our layer put
-  pub taken_begins : IsPrefix (w.peer.of_session m).taken (spelled (h.known n).end.given)
-  taken_begins = prefix_trans (w.peer.of_session m).taken (h.known n).down (spelled (h.known n).end.given) pair_begins.there (h.each n).begins
+  -- what the peer's link took is read as the first of what our layer put
+  pub taken_begins : ReadFirst c (w.peer.of_session m).taken (h.known n).end.given
+  taken_begins =
+      first_front c (w.peer.of_session m).taken pair_begins.there.0 (h.known n).end.given
+      (subst (λ (d : List (List ℕ)). ReadFirst c d (h.known n).end.given) (sym pair_begins.there.1) (h.each n).begins)
 
   pub heard_few : (w.theirs m).heard ≤ length (h.known n).end.given
   heard_few =
       let some : (w.theirs m).heard ≤ length (w.peer.of_session m).taken = (h.peers m).heard in
-      let fits : length (w.peer.of_session m).taken ≤ length (spelled (h.known n).end.given) = prefix_length (w.peer.of_session m).taken (spelled (h.known n).end.given) taken_begins in
-      let long : length (spelled (h.known n).end.given) ≡ length (h.known n).end.given = length-map (h.known n).end.given spelling_of in
-      omega (arith, some, fits, long)
+      let fits : length (w.peer.of_session m).taken ≤ length (h.known n).end.given = first_length c (w.peer.of_session m).taken (h.known n).end.given taken_begins in
+      omega (arith, some, fits)
 
   pub up_few : length (h.known n).up ≤ length (h.puts m)
   up_few =
       let prefix = pair_begins.back in
-      read_length c (h.known n).up prefix.0 (h.puts m) (subst (λ (g : List (List ℕ)). ReadAs c g (h.puts m)) (sym prefix.1) (h.peers m).reads)
+      let whole : ReadFirst c (w.peer.of_session m).given (h.puts m) = read_first c (w.peer.of_session m).given (h.puts m) (h.peers m).reads in
+      first_length c (h.known n).up (h.puts m) (first_front c (h.known n).up prefix.0 (h.puts m) (subst (λ (g : List (List ℕ)). ReadFirst c g (h.puts m)) (sym prefix.1) whole))

@@ -3,10 +3,12 @@ use Rattle.std.proofs.Common.{◌≡◌, ℕ, ◌==◌, ◌≤◌, inl, inr, Lis
 use Rattle.std.specs.Prelude.{remove}
 use Rattle.x25_frame.specs.Frame.{PlainFrame}
 use Rattle.x25_frame.specs.Reading.{frame_of}
+use Rattle.std.proofs.lemmas.Bool.{and_parts}
 use Rattle.x25_packet.specs.Packet.{PlainPacket}
+use Rattle.x25_given.specs.Given.{PlainGiven, may_give}
 use Rattle.x25_link.specs.declared.error.LinkError.{LinkError}
 use Rattle.x25_link.specs.declared.phase.Phase.{Phase}
-use Rattle.x25_link.specs.declared.phase.Phase.TheVariants.{Down, Up, Waiting, Closed}
+use Rattle.x25_link.specs.declared.phase.Phase.TheVariants.{Down, Up, Waiting}
 use Rattle.x25_link.specs.declared.phase.Notes.{Notes}
 use Rattle.x25_link.specs.declared.phase.Reason.TheVariants.{Counts}
 use Rattle.x25_link.specs.Outgoing.{waits}
@@ -16,13 +18,13 @@ use Rattle.x25_link.specs.Link.{alone, take_step, timer_refusal, timer_step, con
 use Rattle.x25_line.specs.laws.Stations as line
 use Rattle.x25_line.specs.laws.StationClaims.{number_in}
 use Rattle.x25_line.specs.laws.Sessions as links
-use Rattle.x25_line.specs.laws.Sessions.{Entry, Meeting, Sessions, acts, after_step, heard, sent_in, extended, begun_by}
+use Rattle.x25_line.specs.laws.Sessions.{Entry, Meeting, acts, after_step, sent_in, extended, begun_by}
 use Rattle.x25_line.specs.laws.SessionClaims.{SomeMet, InStep}
 use Rattle.x25_line.specs.laws.InWindow.{IsPrefix}
 use Rattle.x25_line.specs.laws.PeerSessions.{PeerEnd, PeerSessions, goes_on, Ours, IsTimely, IsDue, both_ends, with_peer}
-use Rattle.x25_layer.specs.Layer.{Layer}
+use Rattle.x25_layer.specs.Layer.{LayerSettings, Layer}
 use Rattle.x25_layer.specs.Calls.{LayerRequest, layer_outcome}
-use Rattle.x25_layer.specs.Rounds.{LinkView, Refuses, went}
+use Rattle.x25_layer.specs.Rounds.{LinkView, Answered, Went, Refuses, went, calls}
 use Rattle.x25_layer.specs.declared.error.LayerError.TheVariants as layer_error
 use Rattle.x25_layer.specs.code.FitsLayer.{is_full}
 use Rattle.x25_layer.specs.laws.TwoLayers.{End, TwoLayers, Move, Requests, HandsUp}
@@ -31,38 +33,49 @@ use Rattle.x25_station.specs.Config.{Settings, link_settings, layer_settings, lo
 use Rattle.x25_station.specs.declared.error.StationError.{StationError}
 use Rattle.x25_station.specs.declared.error.StationError.TheVariants as error
 use Rattle.x25_station.specs.Command.{Connects as ConnectsCommand, Disconnects as DisconnectsCommand, Probes as ProbesCommand, Relinks as RelinksCommand}
-use Rattle.x25_station.specs.Entry.{connect_asked, disconnect_asked, relink_asked}
-use Rattle.x25_station.specs.Station.{Station, view_of}
-use Rattle.x25_station.specs.Step.{Step, Outcome, Did, Refused, unless, led_by, did, entries_of_outcome, follows, abandons, receives, requests}
-use Rattle.x25_station.specs.laws.JoinLaw.{station_with, IsJoined}
+use Rattle.x25_station.specs.Entry.{StationEntry, connect_asked, disconnect_asked, relink_asked}
+use Rattle.x25_station.specs.Giving.{suits, is_taken, view_given, not_taken}
+use Rattle.x25_station.specs.Station.{view_of}
+use Rattle.x25_station.specs.Step.{Step, Outcome, Did, Refused, unless, led_by, did, gave, follows, abandons, receives, requests, gives}
+use Rattle.x25_station.specs.laws.GivenLaw.{GivesOctets}
+use Rattle.x25_station.specs.laws.JoinLaw.{station_with, IsJoined, MovesAs}
 use Rattle.x25_station.specs.laws.KeepLaw.{IsKept, KeptBy}
 use Rattle.x25_station.specs.laws.ReadLaw.{AreReadable, RequestsOctets, IsReachedByOctets}
 use Rattle.x25_peer.specs.laws.BesideSessions.{ReadAs}
 use Rattle.x25_peer.specs.laws.BesideSessions.{Theirs, BesideSessions, stepped, followed, heard_here, links_of}
 use Rattle.x25_peer.proofs.LayerPart.{AllStay, pulls_stay, moves_reached}
-use Rattle.x25_peer.proofs.ReadLemmas.{Next, next_read, timer_packet}
+use Rattle.x25_peer.proofs.ReadLemmas.{Next, next_read, readable_behind, timer_packet}
 use Rattle.x25_peer.proofs.sessions.Meetings.{CanMeet, could_meet, all_some, all_both, met_can_meet, could_meet_some}
-use Rattle.x25_peer.proofs.sessions.SessionLinks.{links_with, LinkReached, extended_none, by_lists, left_at, link_steps, two_link_steps}
+use Rattle.x25_peer.proofs.sessions.SessionLinks.{links_with, LinkReached, extended_none, by_lists, link_steps, two_link_steps}
 use Rattle.x25_peer.proofs.sessions.SessionLayers.{alone_at, AreAsked, pulls_asked, asked_reached, asked_tells}
 use Rattle.x25_peer.proofs.sessions.Standing.{Below, Known, PairReached, downs_of, ups_of, Stands, both_begin, heard_few, way, way_more}
-use Rattle.x25_peer.proofs.sessions.StationSteps.{AreSilent, goes, follows_on}
+use Rattle.x25_peer.proofs.sessions.StationSteps.{AreSilent, IsPut, puts, puts_given, goes, follows_on}
 
 -- a link that isn't up refuses a command to the layer
 refused_did : {A : Type 0} (e : StationError) (step : Step) → Refused e ≡ Did step → A
 refused_did e step is = absurd (subst (λ (o : Outcome). elim o as (λ _. Type 0) [ Did x ↦ ⊥ | Refused y ↦ Unit {0} ]) is tt)
 
-did_up : (c : Settings) (s : Station) (request : LayerRequest) (step : Step) → requests c s request ≡ Did step → is_up s.link.phase ≡ true
-did_up c s request step is = by (is_up s.link.phase) refl
-  where
-    view : LinkView
-    view = view_of (link_settings c) s.link
+-- the layer's call was made
+abbrev IsWent : Answered → Type 0
+IsWent (Went s) = Unit {0}
+IsWent (Refuses e) = ⊥
 
-    by : (b : Bool) → is_up s.link.phase ≡ b → is_up s.link.phase ≡ true
+calls_up : (view : LinkView) (c : LayerSettings) (l : Layer) (request : LayerRequest) → IsWent (calls view c l request) → view.is_up ≡ true
+calls_up view c l request went_on = by view.is_up refl
+  where
+    by : (b : Bool) → view.is_up ≡ b → view.is_up ≡ true
     by true up = up
-    by false off =
-        refused_did (error.Layer layer_error.NotUp) step
-        (sym (ap (λ (b : Bool). did c (alone s.link) (entries_of_outcome (layer_settings c) s.layer request (layer_outcome (layer_settings c) (view.waits [] == 256) s.layer request))
-        (if b then went view (layer_settings c) (layer_outcome (layer_settings c) (view.waits [] == 256) s.layer request) else Refuses layer_error.NotUp)) off) ∙ is)
+    by false off = absurd (subst (λ (b : Bool). IsWent (if b then went view c (layer_outcome c (view.waits [] == 256) l request) else Refuses layer_error.NotUp)) off went_on)
+
+did_went : (c : Settings) (t : Side) (es : List StationEntry) (a : Answered) (step : Step) → did c t es a ≡ Did step → IsWent a
+did_went c t es (Went s) step is = tt
+did_went c t es (Refuses e) step is = refused_did (error.Layer e) step is
+
+-- what is given was taken
+gave_went : (c : Settings) (g : PlainGiven) (taken : Bool) (t : Side) (es : List StationEntry) (a : Answered) (step : Step) → gave c g taken t es a ≡ Did step → IsWent a × (taken ≡ true)
+gave_went c g true t es (Went s) step is = (tt, refl)
+gave_went c g false t es (Went s) step is = refused_did not_taken step is
+gave_went c g taken t es (Refuses e) step is = refused_did (error.Layer e) step is
 
 may_connect : (p : Phase) → connect_refusal p ≡ None → p ≡ Down
 may_connect Down is = refl
@@ -103,35 +116,79 @@ module _ (below : Below) (c : Settings) (low : 1 ≤ c.window) (high : c.window 
   abbrev known_now : Known
   known_now = h.known w.begun
 
-  -- ---- a command to the layer
+  -- ---- a command to the layer, without or with something given
 
-  pub asks : (request : LayerRequest) (step : Step) → RequestsOctets request → requests c w.near request ≡ Did step → Stands c (stepped c w w.begun w.back w.met step)
-  asks request step octets is =
-      let up : is_up w.near.link.phase ≡ true = did_up c w.near request step is in
-      let now = h.now up in
+  -- the layer does so, and pulls at these channels
+  record IsAsked (request : LayerRequest) (step : Step) : Type 0 where
+    channels : List ℕ
+    packets : List PlainPacket
+    layer : MovesAs (alone_at known_now.end) (moves_all (layer_settings c) (alone_at known_now.end) (Requests (waits w.near.link.outgoing == 256) request ∷ pulls_of channels)) packets step
+    put : AreReadable c.long_data packets → IsPut below c few w h b packets step [] w.back w.met
+    up : is_up w.near.link.phase ≡ true
+    kept : IsKept step.near
+
+  asked_stands : (request : LayerRequest) (step : Step) → RequestsOctets request → IsAsked request step → Stands c (stepped c w w.begun w.back w.met step)
+  asked_stands request step octets a =
       let e : End = known_now.end in
-      let there : requests c (station_with w.near.link e.layer) request ≡ Did step = subst (λ (l : Layer). requests c (station_with w.near.link l) request ≡ Did step) (sym now.layer) is in
-      let j = below.request c w.near.link (alone_at e) request step (h.each b).out h.kept.few there in
-      let ms : List Move = Requests (waits w.near.link.outgoing == 256) request ∷ pulls_of j.0 in
-      let asked : AreAsked ms = (tt, pulls_asked j.0) in
-      let stay : AllStay ms = (tt, octets, pulls_stay j.0) in
+      let ms : List Move = Requests (waits w.near.link.outgoing == 256) request ∷ pulls_of a.channels in
+      let asked : AreAsked ms = (tt, pulls_asked a.channels) in
+      let stay : AllStay ms = (tt, octets, pulls_stay a.channels) in
       let v : TwoLayers = moves_all (layer_settings c) (alone_at e) ms in
-      let ps : List PlainPacket = j.2.packets in
+      let ps : List PlainPacket = a.packets in
       let pair : (m : ℕ) → CanMeet b m w.met → PairReached c (record { end = v.near; down = []; up = known_now.up }) (w.theirs m) (h.puts m) =
       (λ m can. (
       let t : Theirs = w.theirs m in
       let r = asked_reached c.role c.long_data c.channels t.layer e (way t e.given) (drop (length known_now.up) (h.puts m)) ms asked stay (h.pairs b m can) in
       let line : way t e.given ++ v.out ≡ way t v.near.given =
-      ap (λ (l : List PlainPacket). way t e.given ++ l) j.2.layer.out ∙ way_more t e.given ps (heard_few below c low high w h b m can) ∙ ap (way t) (sym j.2.layer.given) in
+      ap (λ (l : List PlainPacket). way t e.given ++ l) a.layer.out ∙ way_more t e.given ps (heard_few below c low high w h b m can) ∙ ap (way t) (sym a.layer.given) in
       subst (λ (o : List PlainPacket). IsReachedByOctets c.role c.long_data c.channels (record { near = v.near; peer = t.layer; out = o; back = drop (length known_now.up) (h.puts m) })) line r)) in
       let some = could_meet_some b w.met (below.step (link_settings c) low high (links_with w.near.link b h.link.downs h.link.ups w.peer w.out w.back w.met) h.link.reached) in
       let readable : AreReadable c.long_data v.near.given = below.readable c.role c.long_data c.channels few _ (pair some.0 some.1) in
-      let kept : IsKept step.near = subst KeptBy is (below.ask c w.near request h.kept) in
       let same_up : known_now.up ++ [] ≡ known_now.up = append-nil known_now.up in
-      goes below c few w h e [] [] v (alone w.near.link) [] step [] w.back w.met up up j.2 readable
-      (handed_none c w.near.link b (downs_of h.known) (ups_of h.known) w.peer (w.out ++ []) w.back w.met (subst (λ (o : List Entry). Link w.near.link b (ups_of h.known) o w.back w.met) (sym (append-nil w.out)) h.link))
+      goes below c few w h e [] [] ps v step [] w.back w.met a.up a.layer (a.put (readable_behind c.long_data e.given ps (subst (AreReadable c.long_data) a.layer.given readable)))
       (λ nothing. asked_tells (layer_settings c) (alone_at e) ms asked ∙ (h.each b).alone (sym same_up ∙ nothing)) as_it_met
-      (λ m can. subst (λ (u : List (List ℕ)). PairReached c (record { end = v.near; down = []; up = u }) (w.theirs m) (h.puts m)) (sym same_up) (pair m can)) kept
+      (λ m can. subst (λ (u : List (List ℕ)). PairReached c (record { end = v.near; down = []; up = u }) (w.theirs m) (h.puts m)) (sym same_up) (pair m can)) a.kept
+
+  -- the link takes no step of its own
+  as_it_is : LinkReached (link_settings c) w.near.link b (downs_of h.known) (extended (ups_of h.known) b []) w.peer (w.out ++ []) w.back w.met
+  as_it_is =
+      handed_none c w.near.link b (downs_of h.known) (ups_of h.known) w.peer (w.out ++ []) w.back w.met
+      (subst (λ (o : List Entry). Link w.near.link b (ups_of h.known) o w.back w.met) (sym (append-nil w.out)) h.link)
+
+  pub asks : (request : LayerRequest) (step : Step) → RequestsOctets request → requests c w.near request ≡ Did step → Stands c (stepped c w w.begun w.back w.met step)
+  asks request step octets is =
+      let e : End = known_now.end in
+      let s : LinkStation = w.near.link in
+      let up : is_up s.phase ≡ true = calls_up (view_of (link_settings c) s) (layer_settings c) w.near.layer request (did_went c (alone s) _ _ step is) in
+      let j = below.request c s (alone_at e) request step (h.each b).out h.kept.few (subst (λ (l : Layer). requests c (station_with s l) request ≡ Did step) (sym (h.now up).layer) is) in
+      asked_stands request step octets
+      (record {
+        channels = j.0;
+        packets = j.2.packets;
+        layer = j.2.layer;
+        put = λ readable. puts below c few w h b j.2.packets readable (alone s) up step [] w.back w.met as_it_is j.2.link;
+        up = up;
+        kept = subst KeptBy is (below.ask c w.near request h.kept);
+      })
+
+  pub asks_with : (g : PlainGiven) (request : LayerRequest) (step : Step) → GivesOctets g → RequestsOctets request → gives c w.near g request ≡ Did step → Stands c (stepped c w w.begun w.back w.met step)
+  asks_with g request step of_given octets is =
+      let e : End = known_now.end in
+      let s : LinkStation = w.near.link in
+      let gone = gave_went c g (is_taken c g request) (alone s) _ _ step is in
+      let up : is_up s.phase ≡ true = calls_up (view_given (link_settings c) g s) (layer_settings c) w.near.layer request gone.0 in
+      let wide = and_parts c.wide (may_give g && suits g request) gone.1 in
+      let may : may_give g ≡ true = (and_parts (may_give g) (suits g request) wide.1).0 in
+      let j = below.given c g s (alone_at e) request step (h.each b).out h.kept.few (subst (λ (l : Layer). gives c (station_with s l) g request ≡ Did step) (sym (h.now up).layer) is) in
+      asked_stands request step octets
+      (record {
+        channels = j.0;
+        packets = j.2.packets;
+        layer = j.2.layer;
+        put = λ readable. puts_given below c few w h b j.2.packets readable (alone s) up step [] w.back w.met as_it_is g wide.0 may of_given j.2.link;
+        up = up;
+        kept = subst KeptBy is (below.give c w.near g request h.kept);
+      })
 
   -- ---- commands to the link, and timer T1
 
@@ -330,8 +387,9 @@ module _ (below : Below) (c : Settings) (low : 1 ≤ c.window) (high : c.window 
             let pair : PairReached c (record { end = v.near; down = []; up = up }) theirs (h.puts there) =
             subst (λ (x : List PlainPacket). IsReachedByOctets c.role c.long_data c.channels (record { near = v.near; peer = theirs.layer; out = way theirs v.near.given; back = x })) j.back
             (subst (λ (x : List PlainPacket). IsReachedByOctets c.role c.long_data c.channels (record { near = v.near; peer = theirs.layer; out = x; back = v.back })) line moved) in
-            goes below c few w h ours (way theirs ours.given) (drop (length known_now.up) (h.puts there)) v k.side behind (follows c w.near.layer k) (o ∷ []) rest met still_up was_up j
-            (below.readable c.role c.long_data c.channels few _ pair) link (λ nothing. absurd (never known_now.up nothing)) could
+            let readable : AreReadable c.long_data ps = readable_behind c.long_data ours.given ps (subst (AreReadable c.long_data) j.layer.given (below.readable c.role c.long_data c.channels few _ pair)) in
+            goes below c few w h ours (way theirs ours.given) (drop (length known_now.up) (h.puts there)) ps v (follows c w.near.layer k) (o ∷ []) rest met was_up j.layer
+            (puts below c few w h b ps readable k.side still_up (follows c w.near.layer k) (o ∷ []) rest met link j.link) (λ nothing. absurd (never known_now.up nothing)) could
             (λ m can. subst (λ (i : ℕ). PairReached c (record { end = v.near; down = []; up = up }) (w.theirs i) (h.puts i)) (alone_there m can) pair) kept
           where
             never : (xs : List (List ℕ)) → xs ++ o ∷ [] ≡ [] → ⊥

@@ -1,9 +1,8 @@
 -- A step of the station beside a peer over sessions: in the session that stands, at rest, or as a session begins.
 use Rattle.std.proofs.Common.{◌≡◌, ℕ, suc, ◌≤◌, ◌<◌, List, [], ◌∷◌, ◌++◌, Bool, true, false, if◌then◌else◌, Option, Some, None, option_to_list, refl, sym, ap, ap₂, subst, ◌∙◌, append-nil, arith}
-use Rattle.std.proofs.lemmas.List.{map-append}
 use Rattle.x25_frame.specs.Frame.{PlainFrame}
 use Rattle.x25_packet.specs.Packet.{PlainPacket, restart}
-use Rattle.x25_packet.specs.Spelling as packet
+use Rattle.x25_given.specs.Given.{PlainGiven, may_give}
 use Rattle.x25_link.specs.declared.phase.Reason.{Reason}
 use Rattle.x25_link.specs.declared.phase.Notes.{Notes}
 use Rattle.x25_link.specs.Station.{Settings as LinkSettings, LinkStation, Side, is_up}
@@ -16,15 +15,17 @@ use Rattle.x25_layer.specs.laws.PeerJoined as layer_peer
 use Rattle.x25_layer.specs.laws.TwoLayers.{End, TwoLayers, started}
 use Rattle.x25_station.specs.Config.{Settings, link_settings, layer_settings}
 use Rattle.x25_station.specs.Entry.{StationEntry, link_down, entries_noted, layer_entries, layer_notices}
+use Rattle.x25_station.specs.Giving.{all_given}
 use Rattle.x25_station.specs.Station.{all_put}
 use Rattle.x25_station.specs.Step.{Step, led_by, follows}
-use Rattle.x25_station.specs.laws.JoinLaw.{station_with, IsJoined}
+use Rattle.x25_station.specs.laws.GivenLaw.{GivesOctets, PutsGiven}
+use Rattle.x25_station.specs.laws.JoinLaw.{station_with, PutsBehind, MovesAs}
 use Rattle.x25_station.specs.laws.KeepLaw.{IsKept}
 use Rattle.x25_station.specs.laws.ReadLaw.{AreReadable, at_start}
-use Rattle.x25_peer.specs.laws.BesideSessions.{Own, BesideSessions, in_session, stepped, followed}
-use Rattle.x25_peer.proofs.ReadLemmas.{spelled, layer_append, notices_append, readable_behind}
+use Rattle.x25_peer.specs.laws.BesideSessions.{ReadAs, Own, BesideSessions, in_session, stepped, followed}
+use Rattle.x25_peer.proofs.ReadLemmas.{spelled, spelled_with, layer_append, notices_append, read_append, spelled_read, given_read, read_first}
 use Rattle.x25_peer.proofs.sessions.Meetings.{CanMeet, true_false}
-use Rattle.x25_peer.proofs.sessions.SessionLinks.{LinkReached, extended_none, by_lists, all_puts, puts_up}
+use Rattle.x25_peer.proofs.sessions.SessionLinks.{LinkReached, extended_none, by_lists, all_puts, given_puts, puts_up, given_up}
 use Rattle.x25_peer.proofs.sessions.Standing.{Below, in_here, in_other, in_cases, both_cases, Known, IsStanding, IsKnown, IsNotBegun, PairReached, downs_of, ups_of, Stands, into_down, into_up}
 
 -- entries that aren't the layer's
@@ -55,16 +56,16 @@ module _ (below : Below) (c : Settings) (few : c.channels ≤ 16) where
   -- The station has stepped in this session, of which this is known then.
   pub steps : (w : BesideSessions) (h : Stands c w) (session : ℕ) (k : Known) (step : Step) (left : List Entry) (met : List Meeting)
       → LinkReached lc step.near.link session (downs_of (in_session session k h.known)) (ups_of (in_session session k h.known)) w.peer (w.out ++ sent_in session c.role step.out) left met
-      → (is_up step.near.link.phase ≡ true → IsStanding k step.near.layer)
-      → IsKnown session k (record { layer = if is_up step.near.link.phase then step.near.layer else (w.own session).layer; entries = (w.own session).entries ++ step.entries })
+      → (is_up step.near.link.phase ≡ true → IsStanding c k step.near.layer)
+      → IsKnown c session k (record { layer = if is_up step.near.link.phase then step.near.layer else (w.own session).layer; entries = (w.own session).entries ++ step.entries })
       → w.begun ≤ session → ((n m : ℕ) → CanMeet n m met → CanMeet n m w.met) → ((m : ℕ) → CanMeet session m met → PairReached c k (w.theirs m) (h.puts m)) → IsKept step.near
       → Stands c (stepped c w session left met step)
   steps w h session k step left met l now known low could pairs kept = record {
     known = in_session session k h.known;
     puts = h.puts;
     link = l;
-    now = λ up. subst (λ (x : Known). IsStanding x step.near.layer) (sym (in_here session k h.known)) (now up);
-    each = both_cases IsKnown session k h.known
+    now = λ up. subst (λ (x : Known). IsStanding c x step.near.layer) (sym (in_here session k h.known)) (now up);
+    each = both_cases (IsKnown c) session k h.known
         (record { layer = if is_up step.near.link.phase then step.near.layer else (w.own session).layer; entries = (w.own session).entries ++ step.entries }) w.own known
         (λ n differs. h.each n);
     later = λ n over. subst (IsNotBegun c) (sym (in_other session n k h.known (above n over))) (h.later n (omega (arith, low, over)));
@@ -90,7 +91,7 @@ module _ (below : Below) (c : Settings) (few : c.channels ≤ 16) where
       let own : Own = w.own b in
       steps w h b k step left met
       (by_lists lc w.peer (downs_of h.known) (ups_of h.known) (downs_of (in_session b k h.known)) (ups_of (in_session b k h.known)) (λ n. sym (ap (λ (x : Known). x.down) (same n))) (λ n. sym (ap (λ (x : Known). x.up) (same n))) l)
-      (λ up. subst (λ (x : Layer). IsStanding k x) (sym (stays up).1) (h.now (stays up).0))
+      (λ up. subst (λ (x : Layer). IsStanding c k x) (sym (stays up).1) (h.now (stays up).0))
       (record {
         layer = by_phase (is_up step.near.link.phase) refl;
         out = is.out;
@@ -110,38 +111,65 @@ module _ (below : Below) (c : Settings) (few : c.channels ≤ 16) where
 
   -- ---- the layer moves, and what it puts goes down to the link
 
-  pub goes : (w : BesideSessions) (h : Stands c w) (far : End) (o r : List PlainPacket) (v : TwoLayers) (t : Side) (behind : List PlainPacket) (step : Step) (lifted : List (List ℕ)) (left : List Entry) (met : List Meeting) → is_up t.near.phase ≡ true
-      → is_up w.near.link.phase ≡ true → IsJoined c (record { near = (h.known w.begun).end; far = far; out = o; back = r }) v t behind step → AreReadable c.long_data v.near.given
-      → LinkReached lc t.near w.begun (downs_of h.known) (extended (ups_of h.known) w.begun lifted) w.peer (w.out ++ sent_in w.begun c.role t.out) left met
+  -- what the layer puts is handed down to the link in these octets, which are read as it
+  pub record IsPut (w : BesideSessions) (h : Stands c w) (b : ℕ) (packets : List PlainPacket) (step : Step) (lifted : List (List ℕ)) (left : List Entry) (met : List Meeting) : Type 0 where
+    pub handed : List (List ℕ)
+    pub reads : ReadAs c handed packets
+    pub link : LinkReached lc step.near.link b (extended (downs_of h.known) b handed) (extended (ups_of h.known) b lifted) w.peer (w.out ++ sent_in b c.role step.out) left met
+    pub up : is_up step.near.link.phase ≡ true
+
+  -- behind the link's own step, to this side
+  module _ (w : BesideSessions) (h : Stands c w) (b : ℕ) (packets : List PlainPacket) (readable : AreReadable c.long_data packets) (t : Side) (up : is_up t.near.phase ≡ true) (step : Step) (lifted : List (List ℕ)) (left : List Entry) (met : List Meeting)
+      (l : LinkReached lc t.near b (downs_of h.known) (extended (ups_of h.known) b lifted) w.peer (w.out ++ sent_in b c.role t.out) left met) where
+    abbrev Left : LinkStation → List PlainFrame → List (List ℕ) → Type 0
+    Left link out handed = LinkReached lc link b (extended (downs_of h.known) b handed) (extended (ups_of h.known) b lifted) w.peer (w.out ++ sent_in b c.role out) left met
+
+    is_left : (u : Side) (handed : List (List ℕ)) → step.near.link ≡ u.near → step.out ≡ u.out → Left u.near u.out handed → Left step.near.link step.out handed
+    is_left u handed link out there =
+        subst (λ (s : LinkStation). Left s step.out handed) (sym link) (subst (λ (f : List PlainFrame). Left u.near f handed) (sym out) there)
+
+    pub puts : PutsBehind c t packets step → IsPut w h b packets step lifted left met
+    puts p = record {
+      handed = spelled packets;
+      reads = spelled_read c packets readable;
+      link = is_left (all_put lc packets t) (spelled packets) p.link p.out
+          (all_puts lc w.peer c.long_data packets t b (downs_of h.known) (extended (ups_of h.known) b lifted) w.out left met (λ p short. short) p.accepted readable l);
+      up = ap (λ (s : LinkStation). is_up s.phase) p.link ∙ puts_up below.put_tells lc packets t up;
+    }
+
+    pub puts_given : (g : PlainGiven) → c.wide ≡ true → may_give g ≡ true → GivesOctets g → PutsGiven c g t packets step → IsPut w h b packets step lifted left met
+    puts_given g wide may octets p = record {
+      handed = spelled_with g packets;
+      reads = given_read below.given_read c g packets wide may octets readable;
+      link = is_left (all_given lc g packets t) (spelled_with g packets) p.link p.out
+          (given_puts lc w.peer c.long_data g packets t b (downs_of h.known) (extended (ups_of h.known) b lifted) w.out left met (λ p short. short) (λ p is. (below.given_read c.long_data g p may octets is).short) p.accepted readable l);
+      up = ap (λ (s : LinkStation). is_up s.phase) p.link ∙ given_up below.put_tells lc g packets t up;
+    }
+
+  pub goes : (w : BesideSessions) (h : Stands c w) (far : End) (o r ps : List PlainPacket) (v : TwoLayers) (step : Step) (lifted : List (List ℕ)) (left : List Entry) (met : List Meeting) → is_up w.near.link.phase ≡ true
+      → MovesAs (record { near = (h.known w.begun).end; far = far; out = o; back = r }) v ps step → IsPut w h w.begun ps step lifted left met
       → ((h.known w.begun).up ++ lifted ≡ [] → v.near.told ≡ []) → ((n m : ℕ) → CanMeet n m met → CanMeet n m w.met)
       → ((m : ℕ) → CanMeet w.begun m met
       → PairReached c (record { end = v.near; down = []; up = (h.known w.begun).up ++ lifted }) (w.theirs m) (h.puts m)) → IsKept step.near
       → Stands c (stepped c w w.begun left met step)
-  goes w h far o r v t behind step lifted left met up was_up j readable l alone could pairs kept =
+  goes w h far o r ps v step lifted left met was_up m put alone could pairs kept =
       let b = w.begun in
       let old : Known = h.known b in
       let is = h.each b in
       let own : Own = w.own b in
-      let ps : List PlainPacket = j.packets in
-      let m = j.layer in
-      let k : Known = record { end = v.near; down = old.down ++ spelled ps; up = old.up ++ lifted } in
-      let puts = all_puts lc w.peer c.long_data ps t b (downs_of h.known) (extended (ups_of h.known) b lifted) w.out left met (λ p short. short) j.link.accepted (readable_behind c.long_data old.end.given ps (subst (λ (xs : List PlainPacket). AreReadable c.long_data xs) m.given readable)) l in
-      let there : LinkReached lc (all_put lc ps t).near b (downs_of (in_session b k h.known)) (ups_of (in_session b k h.known)) w.peer (w.out ++ sent_in b c.role (all_put lc ps t).out) left met =
-      by_lists lc w.peer (extended (downs_of h.known) b (spelled ps)) (extended (ups_of h.known) b lifted) (downs_of (in_session b k h.known)) (ups_of (in_session b k h.known))
-      (into_down h.known b k (spelled ps) refl) (into_up h.known b k lifted refl) puts in
-      let still : is_up step.near.link.phase ≡ true = ap (λ (s : LinkStation). is_up s.phase) j.link.link ∙ puts_up below.put_tells lc ps t up in
-      let handed : k.down ≡ spelled k.end.given =
-      ap (λ (l : List (List ℕ)). l ++ spelled ps) (h.now was_up).handed ∙ sym (map-append (λ (p : PlainPacket). packet.spelling_of p) old.end.given ps) ∙ ap spelled (sym m.given) in
+      let k : Known = record { end = v.near; down = old.down ++ put.handed; up = old.up ++ lifted } in
+      let handed : ReadAs c k.down k.end.given =
+      subst (λ (xs : List PlainPacket). ReadAs c k.down xs) (sym m.given) (read_append c old.down put.handed old.end.given ps (h.now was_up).handed put.reads) in
       steps w h b k step left met
-      (subst (λ (s : LinkStation). LinkReached lc s b (downs_of (in_session b k h.known)) (ups_of (in_session b k h.known)) w.peer (w.out ++ sent_in b c.role step.out) left met) (sym j.link.link)
-      (subst (λ (f : List PlainFrame). LinkReached lc (all_put lc ps t).near b (downs_of (in_session b k h.known)) (ups_of (in_session b k h.known)) w.peer (w.out ++ sent_in b c.role f) left met) (sym j.link.out) there))
+      (by_lists lc w.peer (extended (downs_of h.known) b put.handed) (extended (ups_of h.known) b lifted) (downs_of (in_session b k h.known)) (ups_of (in_session b k h.known))
+      (into_down h.known b k put.handed refl) (into_up h.known b k lifted refl) put.link)
       (λ _. record { layer = m.layer; handed = handed })
       (record {
-        layer = m.layer ∙ ap (λ (up : Bool). if up then step.near.layer else own.layer) (sym still);
+        layer = m.layer ∙ ap (λ (up : Bool). if up then step.near.layer else own.layer) (sym put.up);
         out = m.up;
         entries = m.entries ∙ ap (λ (l : List transcript.Entry). l ++ layer_entries step.entries) is.entries ∙ sym (layer_append own.entries step.entries);
         told = m.told ∙ ap (λ (l : List LayerNotice). l ++ layer_notices step.entries) is.told ∙ sym (notices_append own.entries step.entries);
-        begins = ([], append-nil k.down ∙ handed);
+        begins = read_first c k.down k.end.given handed;
         alone = alone;
       })
       (omega (arith)) could pairs kept
@@ -190,28 +218,25 @@ module _ (below : Below) (c : Settings) (few : c.channels ≤ 16) where
         let old : Known = h.known b in
         let is = h.each b in
         let own : Own = w.own b in
-        let n : Known = record { end = old.end; down = spelled ps; up = old.up } in
         let given : old.end.given ≡ ps = ap (λ (e : End). e.given) before.end ∙ first_given c in
-        let handed : spelled ps ≡ spelled old.end.given = ap spelled (sym given) in
         let readable : AreReadable c.long_data ps = below.readable c.role c.long_data c.channels few (layer_peer.start c.role c.long_data c.channels) at_start in
-        let puts = all_puts lc w.peer c.long_data ps k.side b (downs_of h.known) (extended (ups_of h.known) b []) w.out left met (λ p short. short) u.link.accepted readable (link_at true up) in
-        let there : LinkReached lc (all_put lc ps k.side).near b (downs_of (in_session b n h.known)) (ups_of (in_session b n h.known)) w.peer (w.out ++ sent_in b c.role (all_put lc ps k.side).out) left met =
-        by_lists lc w.peer (extended (downs_of h.known) b (spelled ps)) (extended (ups_of h.known) b []) (downs_of (in_session b n h.known)) (ups_of (in_session b n h.known))
-        (into_down h.known b n (spelled ps) (sym (ap (λ (d : List (List ℕ)). d ++ spelled ps) before.down))) (into_up h.known b n [] (sym (append-nil old.up))) puts in
         let fresh_up : is_up k.side.near.phase ≡ true = ap (λ (s : LinkStation). is_up s.phase) (tells.fresh_up up) in
-        let still : is_up whole.near.link.phase ≡ true = ap (λ (s : LinkStation). is_up s.phase) u.link.link ∙ puts_up below.put_tells lc ps k.side fresh_up in
+        let put = puts w h b ps readable k.side fresh_up whole [] left met (link_at true up) (record { accepted = u.link.accepted; link = u.link.link; out = u.link.out }) in
+        let n : Known = record { end = old.end; down = old.down ++ put.handed; up = old.up } in
+        let handed : ReadAs c n.down n.end.given =
+        subst (λ (os : List (List ℕ)). ReadAs c (os ++ put.handed) old.end.given) (sym before.down) (subst (λ (xs : List PlainPacket). ReadAs c put.handed xs) (sym given) put.reads) in
         let layer : old.end.layer ≡ whole.near.layer = ap (λ (e : End). e.layer) before.end ∙ sym u.layer in
         let quiet : AreSilent whole.entries = silent_append asked (follows c w.near.layer k).entries silent (subst AreSilent (sym u.entries) (noted_silent k.notes.down k.notes.up)) in
         steps w h b n whole left met
-        (subst (λ (s : LinkStation). LinkReached lc s b (downs_of (in_session b n h.known)) (ups_of (in_session b n h.known)) w.peer (w.out ++ sent_in b c.role whole.out) left met) (sym u.link.link)
-        (subst (λ (f : List PlainFrame). LinkReached lc (all_put lc ps k.side).near b (downs_of (in_session b n h.known)) (ups_of (in_session b n h.known)) w.peer (w.out ++ sent_in b c.role f) left met) (sym u.link.out) there))
+        (by_lists lc w.peer (extended (downs_of h.known) b put.handed) (extended (ups_of h.known) b []) (downs_of (in_session b n h.known)) (ups_of (in_session b n h.known))
+        (into_down h.known b n put.handed refl) (into_up h.known b n [] (sym (append-nil old.up))) put.link)
         (λ _. record { layer = layer; handed = handed })
         (record {
-          layer = layer ∙ ap (λ (x : Bool). if x then whole.near.layer else own.layer) (sym still);
+          layer = layer ∙ ap (λ (x : Bool). if x then whole.near.layer else own.layer) (sym put.up);
           out = is.out;
           entries = is.entries ∙ sym (append-nil (layer_entries own.entries)) ∙ ap (λ (l : List transcript.Entry). layer_entries own.entries ++ l) (sym quiet.entries) ∙ sym (layer_append own.entries whole.entries);
           told = is.told ∙ sym (append-nil (layer_notices own.entries)) ∙ ap (λ (l : List LayerNotice). layer_notices own.entries ++ l) (sym quiet.told) ∙ sym (notices_append own.entries whole.entries);
-          begins = ([], append-nil (spelled ps) ∙ handed);
+          begins = read_first c n.down n.end.given handed;
           alone = is.alone;
         })
         (omega (arith)) could (λ m yes. h.pairs b m (could b m yes)) kept

@@ -10,6 +10,7 @@ use Rattle.x25_packet.specs.Packet.{PlainPacket}
 use Rattle.x25_packet.specs.Spelling.{channel_of, HasChannel, longest_user}
 use Rattle.x25_packet.specs.declared.error.PacketError.{PacketError}
 use Rattle.x25_wide.specs.Taking.{read_in}
+use Rattle.x25_given.specs.Given.{PlainGiven}
 use Rattle.x25_link.specs.declared.phase.Phase.TheVariants.{Waiting}
 use Rattle.x25_link.specs.Station.{is_up}
 use Rattle.x25_link.specs.Hearing.{Step as LinkStep, other}
@@ -34,7 +35,8 @@ use Rattle.x25_layer.specs.laws.PeerJoined.{IsConfigured, Answers}
 use Rattle.x25_station.specs.Config.{Settings, longest_packet, link_settings, layer_settings}
 use Rattle.x25_station.specs.Entry.{StationEntry, connect_asked, disconnect_asked, relink_asked}
 use Rattle.x25_station.specs.Station.{Station, new_station}
-use Rattle.x25_station.specs.Step.{Step, Did, follows, led_by, abandons, requests}
+use Rattle.x25_station.specs.Step.{Step, Did, follows, led_by, abandons, requests, gives}
+use Rattle.x25_station.specs.laws.GivenLaw.{GivesOctets}
 use Rattle.x25_station.specs.laws.ReadLaw.{RequestsOctets}
 
 -- of a session of the station: its packet layer, as it is or was last while the link is or was up in it, and the
@@ -163,11 +165,14 @@ layer_heard w layer passed all =
 -- ---- What may happen next, with these settings of the station.
 
 pub data Happens (c : Settings) (w : BesideSessions) : BesideSessions → Type 0 where
-  -- The station acts, by the definition that it meets call by call: a call of the user, pulls among them; that the
-  -- link be set up, disconnected, polled, or set up anew; timer T1 runs out, while UA is awaited where it is due; the
-  -- front octets come, and where a count of the layer is full the link is left and they are lost.
+  -- The station acts, by the definition that it meets call by call: a call of the user, pulls among them, without or
+  -- with something given beside its packet; that the link be set up, disconnected, polled, or set up anew; timer T1
+  -- runs out, while UA is awaited where it is due; the front octets come, and where a count of the layer is full the
+  -- link is left and they are lost.
   Asks : (request : LayerRequest) (step : Step) → RequestsOctets request → requests c w.near request ≡ Did step
       → Happens c w (stepped c w w.begun w.back w.met step)
+  AsksWith : (given : PlainGiven) (request : LayerRequest) (step : Step) → GivesOctets given → RequestsOctets request
+      → gives c w.near given request ≡ Did step → Happens c w (stepped c w w.begun w.back w.met step)
   Connects : connect_refusal w.near.link.phase ≡ None
       → Happens c w (followed c w (connect_asked ∷ []) w.back w.met (connect_step (link_settings c) w.near.link))
   Disconnects : disconnect_refusal w.near.link.phase ≡ None
