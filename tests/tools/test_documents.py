@@ -147,6 +147,17 @@ class Names(unittest.TestCase):
                             with self.subTest(f"{document}: {code}"):
                                 self.assertIn(word, self.words)
 
+    def test_each_method_is_there(self):
+        """What is named as `Type::function` is a function of that type or trait."""
+        methods = defaultdict(set)
+        for path in (path for path in files() if path.startswith("crates/") and path.endswith(".rt")):
+            for found in re.finditer(r"^(?:pub )?(?:trait (\w+)|impl\b[^{]*?(\w+)(?:<[^{}]*>)? \{).*?^\}", text_of(path), re.MULTILINE | re.DOTALL):
+                methods[found[1] or found[2]].update(re.findall(r"\bfn (\w+)", found[0]))
+        for document in documents():
+            for kind, method in re.findall(r"\b([A-Z]\w+)::([a-z]\w*)\b(?!::)", text_of(document)):
+                with self.subTest(f"{document}: {kind}::{method}"):
+                    self.assertIn(method, methods[kind])
+
     def test_each_target_of_make_is_there(self):
         makefile = text_of("Makefile")
         for document in documents():

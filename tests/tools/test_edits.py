@@ -56,7 +56,7 @@ class Edits(unittest.TestCase):
         self.assertEqual([path for path in files if not re.search(r"/must-fail/[\w.]+\.edit$|/wrong-bodies/\w+\.edits$", path)], [])
 
     def test_the_gate_tries_few(self):
-        """For the edit of a must-fail/ the gate proves its crate a second time."""
+        """For the edit of a must-fail/ the gate proves its crate a second time, from nothing."""
         tried = {crate: len(found) for crate in crates() if (found := edits.must_fail(crate))}
-        self.assertLessEqual(len(tried), 12)
+        self.assertLessEqual(len(tried), 7)
         self.assertEqual(set(tried.values()), {1})
