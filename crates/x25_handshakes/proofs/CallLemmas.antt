@@ -4,16 +4,17 @@ use Rattle.x25_bits.specs.declared.role.Role.TheVariants.{Dte, Dce}
 use Rattle.x25_circuit.specs.Params.{Terms}
 use Rattle.x25_circuit.specs.Notice.{CallRequest}
 use Rattle.x25_handshakes.specs.laws.Handshake.{At}
-use Rattle.x25_handshakes.specs.laws.Stretch.{Packet, Stretch}
-use Rattle.x25_handshakes.specs.laws.Transfer.{fresh_transfer, transfer_takes, TransferAct, transfer_acts}
+use Rattle.x25_handshakes.specs.laws.Stretch.{Packet, Stretch, fresh}
+use Rattle.x25_handshakes.specs.laws.Transfer.{fresh_transfer, transfer_takes, transfer_acts}
 use Rattle.x25_handshakes.specs.laws.Calls.{Phase, Unused, Waiting, Connection, call_takes, CallAct, call_acts, fresh_call}
 use Rattle.x25_handshakes.proofs.TermsLemmas.{Laws, IsSound}
-use Rattle.x25_handshakes.proofs.TransferRelation.{TransfersRelated, GoodTransfer}
-use Rattle.x25_handshakes.proofs.CallsRelation.{TalksRelated, GoodTalk, stage_of, Joint, GoodCall, IsCalled}
+use Rattle.x25_handshakes.proofs.TransferRelation.{TransfersRelated}
+use Rattle.x25_handshakes.proofs.StretchRelation.{StretchesRelated}
+use Rattle.x25_handshakes.proofs.CallsRelation.{TalksRelated, stage_of, Joint, GoodCall, IsCalled}
 use Rattle.x25_handshakes.proofs.ChannelRelation.{Seen}
 use Rattle.x25_bits.specs.declared.role.Role.{Role}
-use Rattle.x25_handshakes.proofs.TransferLemmas.{TransfersRelated-flip, TransfersRelated-fresh, GoodTransfer-acts, GoodTransfer-takes}
-use Rattle.x25_handshakes.proofs.OwnCallLemmas.{DteTalks, DceTalks, dte_takes, dte_acts, dce_takes, dce_acts}
+use Rattle.x25_handshakes.proofs.TransferLemmas.{TransfersRelated-flip, own_stretches}
+use Rattle.x25_handshakes.proofs.OwnCallLemmas.{own_dte_talks, DteTalks, DceTalks, dte_takes, dte_acts, dce_takes, dce_acts}
 
 -- two ends in p4
 
@@ -27,46 +28,20 @@ TalksRelated-flip t b x u v t₂ b₂ y h = record {
       (subst (λ (s : Terms). TransfersRelated b s y v u x) (sym h.there) (TransfersRelated-flip t b x u v y h.related));
 }
 
-TalksRelated-fresh : (t b : Terms) → IsSound t → IsSound b → TalksRelated t b fresh_transfer [] [] b t fresh_transfer
-TalksRelated-fresh t b sound sound_back = record { there = refl; back = refl; sound = sound; sound_back = sound_back; related = TransfersRelated-fresh t b }
-
-GoodTalk-takes : (t b : Terms) (x : At Stretch) (u : List Packet) (p : Packet) (v : List Packet) (t₂ b₂ : Terms) (y : At Stretch) → TalksRelated t b x u (p ∷ v) t₂ b₂ y
-    → GoodTalk t b (transfer_takes b.size x p) u v t₂ b₂ y
-GoodTalk-takes t b x u p v t₂ b₂ y h =
-    let good : GoodTransfer t b (transfer_takes b.size x p) u v y = GoodTransfer-takes t b h.sound h.sound_back x u p v y h.related in
-    record { quiet = good.quiet; kept = record { there = h.there; back = h.back; sound = h.sound; sound_back = h.sound_back; related = good.kept } }
-
-GoodTalk-acts : (t b : Terms) (x : At Stretch) (u v : List Packet) (t₂ b₂ : Terms) (y : At Stretch) (act : TransferAct) → TalksRelated t b x u v t₂ b₂ y
-    → GoodTalk t b (transfer_acts t x act) u v t₂ b₂ y
-GoodTalk-acts t b x u v t₂ b₂ y act h =
-    let good : GoodTransfer t b (transfer_acts t x act) u v y = GoodTransfer-acts t b h.sound h.sound_back x u v y act h.related in
-    record { quiet = good.quiet; kept = record { there = h.there; back = h.back; sound = h.sound; sound_back = h.sound_back; related = good.kept } }
-
--- the second end acts
-TalksRelated-acts : (t b : Terms) (x : At Stretch) (u v : List Packet) (t₂ b₂ : Terms) (y : At Stretch) (act : TransferAct) → TalksRelated t b x u v t₂ b₂ y
-    → TalksRelated t b x u (v ++ (transfer_acts t₂ y act).out) t₂ b₂ (transfer_acts t₂ y act).next
-TalksRelated-acts t b x u v t₂ b₂ y act h =
-    TalksRelated-flip t₂ b₂ (transfer_acts t₂ y act).next (v ++ (transfer_acts t₂ y act).out) u t b x (GoodTalk-acts t₂ b₂ y v u t b x act (TalksRelated-flip t b x u v t₂ b₂ y h)).kept
-
 -- our own end, with another of our own
 
 dte_talks : DteTalks TalksRelated fresh_transfer
-dte_talks = record {
-  fresh = TalksRelated-fresh;
-  takes = λ t b x u p v t₂ b₂ y h. (let good = GoodTalk-takes t b x u p v t₂ b₂ y h in record { quiet = good.quiet; kept = good.kept });
-  acts = λ t b x u v t₂ b₂ y act h. (let good = GoodTalk-acts t b x u v t₂ b₂ y act h in record { quiet = good.quiet; kept = good.kept });
-}
+dte_talks = own_dte_talks StretchesRelated fresh own_stretches
 
 dce_talks : DceTalks TalksRelated fresh_transfer
 dce_talks = record {
-  fresh = TalksRelated-fresh;
+  fresh = λ t b st sb. dte_talks.fresh t b st sb;
   takes = λ t b x u p v t₂ b₂ y h.
-      (let good = GoodTalk-takes t₂ b₂ y v p u t b x (TalksRelated-flip t b x (p ∷ u) v t₂ b₂ y h) in
+      (let good = dte_talks.takes t₂ b₂ y v p u t b x (TalksRelated-flip t b x (p ∷ u) v t₂ b₂ y h) in
       record { quiet = good.quiet; kept = TalksRelated-flip t₂ b₂ (transfer_takes b₂.size y p).next (v ++ (transfer_takes b₂.size y p).out) u t b x good.kept });
-  acts = λ t b x u v t₂ b₂ y act h. record {
-    quiet = (GoodTalk-acts t₂ b₂ y v u t b x act (TalksRelated-flip t b x u v t₂ b₂ y h)).quiet;
-    kept = TalksRelated-acts t b x u v t₂ b₂ y act h;
-  };
+  acts = λ t b x u v t₂ b₂ y act h.
+      (let good = dte_talks.acts t₂ b₂ y v u t b x act (TalksRelated-flip t b x u v t₂ b₂ y h) in
+      record { quiet = good.quiet; kept = TalksRelated-flip t₂ b₂ (transfer_acts t₂ y act).next (v ++ (transfer_acts t₂ y act).out) u t b x good.kept });
 }
 
 -- ---- the two roles at once

@@ -4,24 +4,25 @@ use Rattle.x25_circuit.specs.declared.params.Params.{Params}
 use Rattle.x25_circuit.specs.Params.{Terms, may_propose, may_answer, said_in, called_terms, calling_terms}
 use Rattle.x25_circuit.specs.Notice.{CallRequest}
 use Rattle.x25_handshakes.specs.laws.Handshake.{At}
-use Rattle.x25_handshakes.specs.laws.Stretch.{Packet, Call, Accept, Stretch}
-use Rattle.x25_handshakes.specs.laws.Transfer.{TransferStep, fresh_transfer}
+use Rattle.x25_handshakes.specs.laws.Stretch.{Packet, Call, Accept, Stretch, fresh}
+use Rattle.x25_handshakes.specs.laws.Transfer.{fresh_transfer}
 use Rattle.x25_handshakes.specs.laws.Calls.{Phase, Unused, Waiting, Offered, Crossed, Talking, Connection, CallStep}
 use Rattle.x25_handshakes.specs.laws.PeerCalls.{Stage, Free, Calling, Called, Collided, InData}
 use Rattle.x25_handshakes.proofs.TermsLemmas.{IsSound}
-use Rattle.x25_handshakes.proofs.TransferRelation.{TransfersRelated}
+use Rattle.x25_handshakes.proofs.TransferRelation.{OwnTransfer}
+use Rattle.x25_handshakes.proofs.StretchRelation.{StretchesRelated}
 
--- two ends in p4: what the one sends by, the other takes by
-pub record TalksRelated (t b : Terms) (x : At Stretch) (u v : List Packet) (t₂ b₂ : Terms) (y : At Stretch) : Type 0 where
+-- our own end and the other one in p4, of whatever kind: what the one sends by, the other takes by; R is kept in a stretch, and y₀ is the other end as one begins
+pub record TalkOf {T : Type 0} (R : Terms → Terms → Stretch → List Packet → List Packet → T → Type 0) (y₀ : T) (t b : Terms) (x : At Stretch) (u v : List Packet) (t₂ b₂ : Terms) (y : At T) : Type 0 where
   pub there : b₂ ≡ t
   pub back : t₂ ≡ b
   pub sound : IsSound t
   pub sound_back : IsSound b
-  pub related : TransfersRelated t b x u v y
+  pub related : OwnTransfer (R t b) y₀ x u v y
 
-pub record GoodTalk (t b : Terms) (s : TransferStep) (u v : List Packet) (t₂ b₂ : Terms) (y : At Stretch) : Type 0 where
-  pub quiet : s.error ≡ None
-  pub kept : TalksRelated t b s.next (u ++ s.out) v t₂ b₂ y
+-- both are our own
+abbrev pub TalksRelated : Terms → Terms → At Stretch → List Packet → List Packet → Terms → Terms → At Stretch → Type 0
+TalksRelated t b x u v t₂ b₂ y = TalkOf StretchesRelated fresh t b x u v t₂ b₂ y
 
 abbrev pub Nil : List Packet → Type 0
 Nil [] = Unit {0}

@@ -6,13 +6,16 @@ use Rattle.x25_bits.specs.declared.role.Role.TheVariants.{Dte, Dce}
 use Rattle.x25_circuit.specs.declared.params.Params.{Params}
 use Rattle.x25_circuit.specs.Params.{Proposal, Terms, may_propose, may_answer, field_for, said_in, called_terms, calling_terms}
 use Rattle.x25_circuit.specs.Notice.{CallRequest}
-use Rattle.x25_handshakes.specs.laws.Handshake.{At}
+use Rattle.x25_handshakes.specs.laws.Handshake.{Live, At}
 use Rattle.x25_handshakes.specs.laws.Stretch.{Packet, Call, Accept, Stretch}
 use Rattle.x25_handshakes.specs.laws.Transfer.{TransferStep, fresh_transfer, transfer_takes, TransferAct, transfer_acts}
 use Rattle.x25_handshakes.specs.laws.Calls.{Phase, Unused, Waiting, Offered, Crossed, Talking, Connection, CallStep, goes, unexpected, called_talk, calling_talk, is_answered, phase_takes, CallAct, PlacesCall, AcceptsCall, Talks, accepts, phase_acts}
 use Rattle.x25_handshakes.specs.laws.PeerCalls.{Stage, Free, Calling, Called, Collided, InData}
 use Rattle.x25_handshakes.proofs.TermsLemmas.{Laws, IsSound, AreSound, answer_sound, answer_read}
-use Rattle.x25_handshakes.proofs.CallsRelation.{Nil, OneCall, MaybeCall, Proposes, IsProposal, IsAnswer, Accepted, CallAccepted, stage_of, TalksOf, JointOf}
+use Rattle.x25_handshakes.proofs.HandshakeLemmas.{both_fresh}
+use Rattle.x25_handshakes.proofs.TransferRelation.{own_level}
+use Rattle.x25_handshakes.proofs.OwnTransferLemmas.{OwnStretches, own_takes, own_acts}
+use Rattle.x25_handshakes.proofs.CallsRelation.{TalkOf, Nil, OneCall, MaybeCall, Proposes, IsProposal, IsAnswer, Accepted, CallAccepted, stage_of, TalksOf, JointOf}
 
 -- proposals and answers
 
@@ -401,3 +404,33 @@ module _ {A : Type 0} (R : TalksOf A (At Stretch)) (x₀ : A) (talks : DceTalks 
       record { quiet = good.quiet; kept = (good.kept, h.1) }
   dce_acts laws other (Talking t b y) ma ia mb ib u v (Talks act) h = absurd h
   dce_acts laws a (Talking t b y) ma ia mb ib u v act h = dce_still a ma ia u v (record { phase = Talking t b y; made = mb; indicated = ib }) h
+
+-- ---- what has to be known of p4, from what is known of a stretch
+
+module _ {T : Type 0} (R : Terms → Terms → Stretch → List Packet → List Packet → T → Type 0) (y₀ : T) (own : (t b : Terms) → IsSound t → IsSound b → OwnStretches (R t b) y₀ t b.size) where
+  abbrev Talk : TalksOf (At Stretch) (At T)
+  Talk t b x u v t₂ b₂ y = TalkOf R y₀ t b x u v t₂ b₂ y
+
+  talk_fresh : (t b : Terms) → IsSound t → IsSound b → Talk t b fresh_transfer [] [] b t (record { epoch = 0; side = Live y₀ })
+  talk_fresh t b st sb = record { there = refl; back = refl; sound = st; sound_back = sb; related = record { hand = both_fresh (own_level (R t b) y₀) (own t b st sb).empty 0; there = tt; back = tt } }
+
+  talk_takes : (t b : Terms) (x : At Stretch) (u : List Packet) (p : Packet) (v : List Packet) (t₂ b₂ : Terms) (y : At T) → Talk t b x u (p ∷ v) t₂ b₂ y → OwnTalk Talk t b (transfer_takes b.size x p) u v t₂ b₂ y
+  talk_takes t b x u p v t₂ b₂ y h =
+      let good = own_takes (R t b) y₀ t b.size (own t b h.sound h.sound_back) x u p v y h.related in
+      record { quiet = good.quiet; kept = record { there = h.there; back = h.back; sound = h.sound; sound_back = h.sound_back; related = good.kept } }
+
+  talk_acts : (t b : Terms) (x : At Stretch) (u v : List Packet) (t₂ b₂ : Terms) (y : At T) (act : TransferAct) → Talk t b x u v t₂ b₂ y → OwnTalk Talk t b (transfer_acts t x act) u v t₂ b₂ y
+  talk_acts t b x u v t₂ b₂ y act h =
+      let good = own_acts (R t b) y₀ t b.size (own t b h.sound h.sound_back) x u v y act h.related in
+      record { quiet = good.quiet; kept = record { there = h.there; back = h.back; sound = h.sound; sound_back = h.sound_back; related = good.kept } }
+
+  pub own_dte_talks : DteTalks Talk (record { epoch = 0; side = Live y₀ })
+  own_dte_talks = record { fresh = talk_fresh; takes = talk_takes; acts = talk_acts }
+
+  -- the other end is the DTE
+  pub own_dce_talks : DceTalks (λ t b y u v t₂ b₂ x. Talk t₂ b₂ x v u t b y) (record { epoch = 0; side = Live y₀ })
+  own_dce_talks = record {
+    fresh = λ t b st sb. talk_fresh b t sb st;
+    takes = λ t b y u p v t₂ b₂ x h. (let good = talk_takes t₂ b₂ x v p u t b y h in record { quiet = good.quiet; kept = good.kept });
+    acts = λ t b y u v t₂ b₂ x act h. (let good = talk_acts t₂ b₂ x v u t b y act h in record { quiet = good.quiet; kept = good.kept });
+  }

@@ -8,57 +8,31 @@ use Rattle.x25_circuit.specs.Params.{Terms, may_answer, said_in, called_terms, c
 use Rattle.x25_circuit.specs.Notice.{CallRequest}
 use Rattle.x25_handshakes.specs.laws.Handshake.{At}
 use Rattle.x25_handshakes.specs.laws.Stretch.{Packet, Call, Accept, Stretch}
-use Rattle.x25_handshakes.specs.laws.Transfer.{fresh_transfer, transfer_takes, transfer_acts}
+use Rattle.x25_handshakes.specs.laws.Transfer.{fresh_transfer}
 use Rattle.x25_handshakes.specs.laws.Calls.{Connection, call_takes, CallAct, call_acts, fresh_call}
-use Rattle.x25_handshakes.specs.laws.PeerStretch.{PeerStretch}
+use Rattle.x25_handshakes.specs.laws.PeerStretch.{PeerStretch, fresh_peer}
 use Rattle.x25_handshakes.specs.laws.PeerTransfer.{fresh_peer_transfer, TransferDeed, MayDoTransfer, does_transfer, transfer_packet_of, transfer_taking}
 use Rattle.x25_handshakes.specs.laws.PeerCalls.{Stage, Free, Calling, Called, Collided, InData, PeerCall, fresh_peer_call, CallDeed, PlacesCall, AcceptsCall, InTransfer, MayDoCall, calling_in_data, does_call, call_packet_of, PeerCallStep, call_taking}
-use Rattle.x25_handshakes.proofs.TermsLemmas.{Laws, IsSound}
+use Rattle.x25_handshakes.proofs.TermsLemmas.{Laws}
 use Rattle.x25_handshakes.proofs.CallsRelation.{Nil, OneCall, MaybeCall, IsProposal, IsAnswer, stage_of, JointOf, GoodCall}
 use Rattle.x25_handshakes.specs.laws.PeerLayers.{other_role}
-use Rattle.x25_handshakes.proofs.OwnCallLemmas.{Agreed, agreed, said, proposes, push_first, nil_is, call_first, accept_first, accept_behind, Accepted-map, CallAccepted-map, DteTalks, dte_takes, dte_acts, DceTalks, dce_takes, dce_acts}
-use Rattle.x25_handshakes.proofs.PeerRelation.{Kept-start}
-use Rattle.x25_handshakes.proofs.PeerTransferActs.{peer_level, KeptTransfer, GoodTransfer, GoodTransfer-acts, GoodTransfer-takes}
+use Rattle.x25_handshakes.proofs.OwnCallLemmas.{own_dte_talks, own_dce_talks, Agreed, agreed, said, proposes, push_first, nil_is, call_first, accept_first, accept_behind, Accepted-map, CallAccepted-map, DteTalks, dte_takes, dte_acts, DceTalks, dce_takes, dce_acts}
+use Rattle.x25_handshakes.proofs.PeerRelation.{Kept}
+use Rattle.x25_handshakes.proofs.PeerTransferActs.{KeptTransfer, own_stretches}
 use Rattle.x25_handshakes.proofs.PeerTransferDeeds.{done_kept, takes_kept}
-use Rattle.x25_handshakes.proofs.HandshakeLemmas.{both_fresh}
 use Rattle.x25_handshakes.proofs.PeerCallsRelation.{PeerTalks, TalksPeer, PeerSeen}
 
 -- ---- in p4
-
-PeerTalks-fresh : (t b : Terms) → IsSound t → IsSound b → PeerTalks t b fresh_transfer [] [] b t fresh_peer_transfer
-PeerTalks-fresh t b sound sound_back = record {
-  there = refl;
-  back = refl;
-  sound = sound;
-  sound_back = sound_back;
-  related = record { hand = both_fresh (peer_level t b.size) (Kept-start t b.size) 0; there = tt; back = tt };
-}
 
 PeerTalks-next : (t b : Terms) (x x₂ : At Stretch) (u v u₂ v₂ : List Packet) (t₂ b₂ : Terms) (y y₂ : At PeerStretch) → PeerTalks t b x u v t₂ b₂ y → KeptTransfer t b.size x₂ u₂ v₂ y₂
     → PeerTalks t b x₂ u₂ v₂ t₂ b₂ y₂
 PeerTalks-next t b x x₂ u v u₂ v₂ t₂ b₂ y y₂ h k = record { there = h.there; back = h.back; sound = h.sound; sound_back = h.sound_back; related = k }
 
 dte_talks : DteTalks PeerTalks fresh_peer_transfer
-dte_talks = record {
-  fresh = PeerTalks-fresh;
-  takes = λ t b x u p v t₂ b₂ y h.
-      (let good : GoodTransfer t b.size (transfer_takes b.size x p) u v y = GoodTransfer-takes t b.size h.sound.size x u p v y h.related in
-      record { quiet = good.quiet; kept = PeerTalks-next t b x _ u _ _ _ t₂ b₂ y _ h good.kept });
-  acts = λ t b x u v t₂ b₂ y act h.
-      (let good : GoodTransfer t b.size (transfer_acts t x act) u v y = GoodTransfer-acts t b.size h.sound.size x u v y act h.related in
-      record { quiet = good.quiet; kept = PeerTalks-next t b x _ u _ _ _ t₂ b₂ y _ h good.kept });
-}
+dte_talks = own_dte_talks (λ t b. Kept t b.size) fresh_peer (λ t b st sb. own_stretches t b.size st.size)
 
 dce_talks : DceTalks TalksPeer fresh_peer_transfer
-dce_talks = record {
-  fresh = λ t b sound sound_back. PeerTalks-fresh b t sound_back sound;
-  takes = λ t b y u p v t₂ b₂ x h.
-      (let good : GoodTransfer t₂ b₂.size (transfer_takes b₂.size x p) v u y = GoodTransfer-takes t₂ b₂.size h.sound.size x v p u y h.related in
-      record { quiet = good.quiet; kept = PeerTalks-next t₂ b₂ x _ v _ _ _ t b y _ h good.kept });
-  acts = λ t b y u v t₂ b₂ x act h.
-      (let good : GoodTransfer t₂ b₂.size (transfer_acts t₂ x act) v u y = GoodTransfer-acts t₂ b₂.size h.sound.size x v u y act h.related in
-      record { quiet = good.quiet; kept = PeerTalks-next t₂ b₂ x _ v _ _ _ t b y _ h good.kept });
-}
+dce_talks = own_dce_talks (λ t b. Kept t b.size) fresh_peer (λ t b st sb. own_stretches t b.size st.size)
 
 -- the peer sends, and takes
 talks_does : (t b : Terms) (x : At Stretch) (u v : List Packet) (t₂ b₂ : Terms) (y : At PeerStretch) (d : TransferDeed) → MayDoTransfer t₂.size y.side d → PeerTalks t b x u v t₂ b₂ y
@@ -147,7 +121,7 @@ peer_dce_does laws (Calling p) (Called theirs) ma ia mb ib u v (AcceptsCall fiel
     let agreed : Agreed p q field = as_said laws p theirs field h.4 may in (
       h.0,
       accept_behind mb p (called_terms q) (calling_terms q) (λ w. PeerTalks (calling_terms q) (called_terms q) fresh_transfer [] w (called_terms q) (calling_terms q) fresh_peer_transfer) field v h.1 agreed.fits
-          (PeerTalks-fresh (calling_terms q) (called_terms q) agreed.terms.calling agreed.terms.called),
+          (dte_talks.fresh (calling_terms q) (called_terms q) agreed.terms.calling agreed.terms.called),
       h.2,
       h.3,
     )
@@ -156,7 +130,7 @@ peer_dce_does laws (Collided p) (Called theirs) ma ia mb ib u v (AcceptsCall fie
     let agreed : Agreed p q field = as_said laws p theirs field h.4 may in (
       h.0,
       accept_first p (called_terms q) (calling_terms q) (λ w. PeerTalks (calling_terms q) (called_terms q) fresh_transfer [] w (called_terms q) (calling_terms q) fresh_peer_transfer) field v h.1 agreed.fits
-          (PeerTalks-fresh (calling_terms q) (called_terms q) agreed.terms.calling agreed.terms.called),
+          (dte_talks.fresh (calling_terms q) (called_terms q) agreed.terms.calling agreed.terms.called),
       h.2,
       h.3,
     )
@@ -244,7 +218,7 @@ peer_dte_does laws (Called theirs) (Calling q) ma ia mb ib u v (AcceptsCall fiel
     let a : Params = said_in theirs field in
     let agreed : Agreed q a field = as_said laws q theirs field h.4 may in (
       accept_first q (called_terms a) (calling_terms a) (λ w. TalksPeer (called_terms a) (calling_terms a) fresh_peer_transfer w [] (calling_terms a) (called_terms a) fresh_transfer) field u h.0 agreed.fits
-          (PeerTalks-fresh (calling_terms a) (called_terms a) agreed.terms.calling agreed.terms.called),
+          (dte_talks.fresh (calling_terms a) (called_terms a) agreed.terms.calling agreed.terms.called),
       h.1,
       h.2,
       h.3,

@@ -1,5 +1,5 @@
 -- What is kept of a circuit of ours and a peer between two clears.
-use Rattle.std.proofs.Common.{◌≡◌, List}
+use Rattle.std.proofs.Common.{List}
 use Rattle.x25_bits.specs.declared.role.Role.{Role}
 use Rattle.x25_bits.specs.declared.role.Role.TheVariants.{Dte, Dce}
 use Rattle.x25_circuit.specs.Params.{Terms}
@@ -7,20 +7,15 @@ use Rattle.x25_handshakes.specs.laws.Handshake.{At}
 use Rattle.x25_handshakes.specs.laws.Stretch.{Packet, Stretch}
 use Rattle.x25_handshakes.specs.laws.Transfer.{fresh_transfer}
 use Rattle.x25_handshakes.specs.laws.Calls.{Connection}
-use Rattle.x25_handshakes.specs.laws.PeerStretch.{PeerStretch}
+use Rattle.x25_handshakes.specs.laws.PeerStretch.{PeerStretch, fresh_peer}
 use Rattle.x25_handshakes.specs.laws.PeerTransfer.{fresh_peer_transfer}
 use Rattle.x25_handshakes.specs.laws.PeerCalls.{PeerCall}
-use Rattle.x25_handshakes.proofs.TermsLemmas.{IsSound}
-use Rattle.x25_handshakes.proofs.CallsRelation.{stage_of, TalksOf, JointOf}
-use Rattle.x25_handshakes.proofs.PeerTransferActs.{KeptTransfer}
+use Rattle.x25_handshakes.proofs.CallsRelation.{TalkOf, stage_of, TalksOf, JointOf}
+use Rattle.x25_handshakes.proofs.PeerRelation.{Kept}
 
--- in p4: what the one sends by, the other takes by
-pub record PeerTalks (t b : Terms) (x : At Stretch) (u v : List Packet) (t₂ b₂ : Terms) (y : At PeerStretch) : Type 0 where
-  pub there : b₂ ≡ t
-  pub back : t₂ ≡ b
-  pub sound : IsSound t
-  pub sound_back : IsSound b
-  pub related : KeptTransfer t b.size x u v y
+-- in p4
+abbrev pub PeerTalks : Terms → Terms → At Stretch → List Packet → List Packet → Terms → Terms → At PeerStretch → Type 0
+PeerTalks t b x u v t₂ b₂ y = TalkOf (λ t b. Kept t b.size) fresh_peer t b x u v t₂ b₂ y
 
 -- the peer is the DTE
 abbrev pub TalksPeer : TalksOf (At PeerStretch) (At Stretch)

@@ -20,7 +20,7 @@ KeptTransfer t size x L K y = OwnTransfer (Kept t size) fresh_peer x L K y
 abbrev pub GoodTransfer : Terms → ℕ → TransferStep → List Packet → List Packet → At PeerStretch → Type 0
 GoodTransfer t size s L K y = GoodOwnTransfer (Kept t size) fresh_peer s L K y
 
-own_stretches : (t : Terms) (size : ℕ) → 1 ≤ t.size → OwnStretches (Kept t size) fresh_peer t size
+pub own_stretches : (t : Terms) (size : ℕ) → 1 ≤ t.size → OwnStretches (Kept t size) fresh_peer t size
 own_stretches t size one = record {
   empty = Kept-start t size;
   kinds = λ x u v y h. h.there.kinds;

@@ -168,74 +168,53 @@ handled down up k = record { fresh = refl; takes = call_taken down up k; acts = 
 
 -- messages and interrupts are such lists
 
-same_by : {T : Type 0} (f : Stretch → T) (x : Stretch) (g : Option ℕ) (good : StretchStep) → f good.next ≡ f x → f (by_ground g x good).next ≡ f x
-same_by f x None good is = is
-same_by f x (Some n) good is = refl
+abbrev Same : Stretch → StretchStep → Type 0
+Same x s = (s.next.down ≡ x.down) × (s.next.int_down ≡ x.int_down)
 
-messages_taken : (size : ℕ) (x : Stretch) (p : Packet) → (stretch_takes size x p).next.down ≡ x.down
-messages_taken size x (Data s r p) = same_by (λ y. y.down) x (data_ground size x s r p) (takes_data x r p) refl
-messages_taken size x (Rr r) = same_by (λ y. y.down) x (ack_ground x r) (takes_status x true r) refl
-messages_taken size x (Rnr r) = same_by (λ y. y.down) x (ack_ground x r) (takes_status x false r) refl
-messages_taken size x IntConf = test x.int_out
+same_by : (x : Stretch) (g : Option ℕ) (good : StretchStep) → Same x good → Same x (by_ground g x good)
+same_by x None good is = is
+same_by x (Some n) good is = (refl, refl)
+
+taken : (size : ℕ) (x : Stretch) (p : Packet) → Same x (stretch_takes size x p)
+taken size x (Data s r p) = same_by x (data_ground size x s r p) (takes_data x r p) (refl, refl)
+taken size x (Rr r) = same_by x (ack_ground x r) (takes_status x true r) (refl, refl)
+taken size x (Rnr r) = same_by x (ack_ground x r) (takes_status x false r) (refl, refl)
+taken size x IntConf = test x.int_out
   where
-    test : (b : Bool) → (if b then stretch_does (record x { int_out = false }) [] else stretch_fails x 43).next.down ≡ x.down
-    test true = refl
-    test false = refl
-messages_taken size x p = refl
+    test : (b : Bool) → Same x (if b then stretch_does (record x { int_out = false }) [] else stretch_fails x 43)
+    test true = (refl, refl)
+    test false = (refl, refl)
+taken size x p = (refl, refl)
 
-interrupts_taken : (size : ℕ) (x : Stretch) (p : Packet) → (stretch_takes size x p).next.int_down ≡ x.int_down
-interrupts_taken size x (Data s r p) = same_by (λ y. y.int_down) x (data_ground size x s r p) (takes_data x r p) refl
-interrupts_taken size x (Rr r) = same_by (λ y. y.int_down) x (ack_ground x r) (takes_status x true r) refl
-interrupts_taken size x (Rnr r) = same_by (λ y. y.int_down) x (ack_ground x r) (takes_status x false r) refl
-interrupts_taken size x IntConf = test x.int_out
-  where
-    test : (b : Bool) → (if b then stretch_does (record x { int_out = false }) [] else stretch_fails x 43).next.int_down ≡ x.int_down
-    test true = refl
-    test false = refl
-interrupts_taken size x p = refl
+record Quiet (x : Stretch) (s : StretchStep) : Type 0 where
+  messages : IsPrefix x.down s.next.down × (s.next.up ≡ x.up)
+  interrupts : IsPrefix x.int_down s.next.int_down × (s.next.int_up ≡ x.int_up)
 
-abbrev Quiet : {M : Type 0} → (Stretch → List M) → (Stretch → List M) → Stretch → StretchStep → Type 0
-Quiet down up x s = IsPrefix (down x) (down s.next) × (up s.next ≡ up x)
+if_quiet : (x : Stretch) (b : Bool) (u v : StretchStep) → Quiet x u → Quiet x v → Quiet x (if b then u else v)
+if_quiet x true u v h g = h
+if_quiet x false u v h g = g
 
-if_quiet : {M : Type 0} (down up : Stretch → List M) (x : Stretch) (b : Bool) (u v : StretchStep) → Quiet down up x u → Quiet down up x v → Quiet down up x (if b then u else v)
-if_quiet down up x true u v h g = h
-if_quiet down up x false u v h g = g
+none_done : (x : Stretch) → Quiet x (stretch_does x [])
+none_done x = record { messages = (alike x.down, refl); interrupts = (alike x.int_down, refl) }
 
-messages_pulled : (t : Terms) (x : Stretch) (ps : List Piece) → Quiet (λ y. y.down) (λ y. y.up) x (pulls t x ps)
-messages_pulled t x [] = (alike x.down, refl)
-messages_pulled t x (p ∷ ps) =
-    if_quiet (λ y. y.down) (λ y. y.up) x x.peer_ready _ _ (if_quiet (λ y. y.down) (λ y. y.up) x (nat_lt (length x.sent) (x.acked + t.window)) _ _ (alike x.down, refl) (alike x.down, refl)) (alike x.down, refl)
+pulled : (t : Terms) (x : Stretch) (ps : List Piece) → Quiet x (pulls t x ps)
+pulled t x [] = none_done x
+pulled t x (p ∷ ps) =
+    if_quiet x x.peer_ready _ _ (if_quiet x (nat_lt (length x.sent) (x.acked + t.window)) _ _ (record { messages = (alike x.down, refl); interrupts = (alike x.int_down, refl) }) (none_done x)) (none_done x)
 
-messages_acted : (t : Terms) (x : Stretch) (a : StretchAct) → Quiet (λ y. y.down) (λ y. y.up) x (stretch_acts t x a)
-messages_acted t x (Send q xs) =
-    if_quiet (λ y. y.down) (λ y. y.up) x (nat_le (length xs) 65535) _ _
-    (if_quiet (λ y. y.down) (λ y. y.up) x (nat_lt (wholes x.rest) 8) _ _ ((record { q = q; user = xs } ∷ [], refl), refl) (alike x.down, refl)) (alike x.down, refl)
-messages_acted t x Pull = messages_pulled t x x.rest
-messages_acted t x (Interrupt xs) =
-    if_quiet (λ y. y.down) (λ y. y.up) x (nat_le 1 (length xs)) _ _
-    (if_quiet (λ y. y.down) (λ y. y.up) x (nat_le (length xs) 32) _ _ (if_quiet (λ y. y.down) (λ y. y.up) x x.int_out _ _ (alike x.down, refl) (alike x.down, refl)) (alike x.down, refl)) (alike x.down, refl)
-messages_acted t x a = (alike x.down, refl)
-
-interrupts_pulled : (t : Terms) (x : Stretch) (ps : List Piece) → Quiet (λ y. y.int_down) (λ y. y.int_up) x (pulls t x ps)
-interrupts_pulled t x [] = (alike x.int_down, refl)
-interrupts_pulled t x (p ∷ ps) =
-    if_quiet (λ y. y.int_down) (λ y. y.int_up) x x.peer_ready _ _
-    (if_quiet (λ y. y.int_down) (λ y. y.int_up) x (nat_lt (length x.sent) (x.acked + t.window)) _ _ (alike x.int_down, refl) (alike x.int_down, refl)) (alike x.int_down, refl)
-
-interrupts_acted : (t : Terms) (x : Stretch) (a : StretchAct) → Quiet (λ y. y.int_down) (λ y. y.int_up) x (stretch_acts t x a)
-interrupts_acted t x (Send q xs) =
-    if_quiet (λ y. y.int_down) (λ y. y.int_up) x (nat_le (length xs) 65535) _ _
-    (if_quiet (λ y. y.int_down) (λ y. y.int_up) x (nat_lt (wholes x.rest) 8) _ _ (alike x.int_down, refl) (alike x.int_down, refl)) (alike x.int_down, refl)
-interrupts_acted t x Pull = interrupts_pulled t x x.rest
-interrupts_acted t x (Interrupt xs) =
-    if_quiet (λ y. y.int_down) (λ y. y.int_up) x (nat_le 1 (length xs)) _ _
-    (if_quiet (λ y. y.int_down) (λ y. y.int_up) x (nat_le (length xs) 32) _ _ (if_quiet (λ y. y.int_down) (λ y. y.int_up) x x.int_out _ _ (alike x.int_down, refl) ((xs ∷ [], refl), refl)) (alike x.int_down, refl))
-    (alike x.int_down, refl)
-interrupts_acted t x a = (alike x.int_down, refl)
+acted : (t : Terms) (x : Stretch) (a : StretchAct) → Quiet x (stretch_acts t x a)
+acted t x (Send q xs) =
+    if_quiet x (nat_le (length xs) 65535) _ _
+    (if_quiet x (nat_lt (wholes x.rest) 8) _ _ (record { messages = ((record { q = q; user = xs } ∷ [], refl), refl); interrupts = (alike x.int_down, refl) }) (none_done x)) (none_done x)
+acted t x Pull = pulled t x x.rest
+acted t x (Interrupt xs) =
+    if_quiet x (nat_le 1 (length xs)) _ _
+    (if_quiet x (nat_le (length xs) 32) _ _ (if_quiet x x.int_out _ _ (none_done x) (record { messages = (alike x.down, refl); interrupts = ((xs ∷ [], refl), refl) })) (none_done x)) (none_done x)
+acted t x a = record { messages = (alike x.down, refl); interrupts = (alike x.int_down, refl) }
 
 pub messages_handled : IsHandled messages
-messages_handled = handled (λ x. x.down) (λ x. x.up) (record { down_fresh = refl; up_fresh = refl; takes = messages_taken; acts = messages_acted; begins = λ giver u taker h. h.begins })
+messages_handled = handled (λ x. x.down) (λ x. x.up) (record { down_fresh = refl; up_fresh = refl; takes = λ size x p. (taken size x p).0; acts = λ t x a. (acted t x a).messages; begins = λ giver u taker h. h.begins })
 
 pub interrupts_handled : IsHandled interrupts
 interrupts_handled =
-    handled (λ x. x.int_down) (λ x. x.int_up) (record { down_fresh = refl; up_fresh = refl; takes = interrupts_taken; acts = interrupts_acted; begins = λ giver u taker h. h.int_begins })
+    handled (λ x. x.int_down) (λ x. x.int_up) (record { down_fresh = refl; up_fresh = refl; takes = λ size x p. (taken size x p).1; acts = λ t x a. (acted t x a).interrupts; begins = λ giver u taker h. h.int_begins })

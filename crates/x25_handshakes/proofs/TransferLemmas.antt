@@ -1,15 +1,15 @@
 -- p4 keeps its relation, and has no procedure error.
-use Rattle.std.proofs.Common.{List, [], ◌∷◌}
+use Rattle.std.proofs.Common.{List, []}
 use Rattle.x25_handshakes.specs.laws.Handshake.{At}
 use Rattle.x25_circuit.specs.Params.{Terms}
 use Rattle.x25_handshakes.proofs.TermsLemmas.{IsSound}
 use Rattle.x25_handshakes.specs.laws.Stretch.{Packet, Stretch, fresh}
-use Rattle.x25_handshakes.specs.laws.Transfer.{fresh_transfer, transfer_takes, TransferAct, transfer_acts}
+use Rattle.x25_handshakes.specs.laws.Transfer.{fresh_transfer}
 use Rattle.x25_handshakes.proofs.HandshakeLemmas.{hand_flip, both_fresh, hand_map}
 use Rattle.x25_handshakes.proofs.StretchRelation.{StretchesRelated}
-use Rattle.x25_handshakes.proofs.TransferRelation.{reset_mark, stretch_level, TransfersRelated, GoodTransfer}
+use Rattle.x25_handshakes.proofs.TransferRelation.{reset_mark, stretch_level, TransfersRelated}
 use Rattle.x25_handshakes.proofs.StretchLemmas.{StretchesRelated-flip, StretchesRelated-fresh, GoodStretch-acts, GoodStretch-takes}
-use Rattle.x25_handshakes.proofs.OwnTransferLemmas.{OwnStretches, own_takes, own_acts}
+use Rattle.x25_handshakes.proofs.OwnTransferLemmas.{OwnStretches}
 
 pub TransfersRelated-flip : (t b : Terms) (x : At Stretch) (L K : List Packet) (y : At Stretch) → TransfersRelated t b x L K y → TransfersRelated b t y K L x
 TransfersRelated-flip t b x L K y h = record {
@@ -22,16 +22,10 @@ TransfersRelated-flip t b x L K y h = record {
 pub TransfersRelated-fresh : (t b : Terms) → TransfersRelated t b fresh_transfer [] [] fresh_transfer
 TransfersRelated-fresh t b = record { hand = both_fresh (stretch_level t b) (StretchesRelated-fresh t b) 0; there = tt; back = tt }
 
-own_stretches : (t b : Terms) → IsSound t → IsSound b → OwnStretches (StretchesRelated t b) fresh t b.size
+pub own_stretches : (t b : Terms) → IsSound t → IsSound b → OwnStretches (StretchesRelated t b) fresh t b.size
 own_stretches t b st sb = record {
   empty = StretchesRelated-fresh t b;
   kinds = λ x u v y h. h.there.kinds;
   acts = λ x u v y a h. (let good = GoodStretch-acts t b st sb x u v y a h in record { quiet = good.quiet; kept = good.kept });
   takes = λ x u p v y h. (let good = GoodStretch-takes t b sb x u p v y h in record { quiet = good.quiet; kept = good.kept });
 }
-
-pub GoodTransfer-takes : (t b : Terms) → IsSound t → IsSound b → (x : At Stretch) (L : List Packet) (p : Packet) (K : List Packet) (y : At Stretch) → TransfersRelated t b x L (p ∷ K) y → GoodTransfer t b (transfer_takes b.size x p) L K y
-GoodTransfer-takes t b st sb x L p K y h = own_takes (StretchesRelated t b) fresh t b.size (own_stretches t b st sb) x L p K y h
-
-pub GoodTransfer-acts : (t b : Terms) → IsSound t → IsSound b → (x : At Stretch) (L K : List Packet) (y : At Stretch) (a : TransferAct) → TransfersRelated t b x L K y → GoodTransfer t b (transfer_acts t x a) L K y
-GoodTransfer-acts t b st sb x L K y a h = own_acts (StretchesRelated t b) fresh t b.size (own_stretches t b st sb) x L K y a h

@@ -43,6 +43,3 @@ pub record GoodOwnTransfer {T : Type 0} (R : Stretch → List Packet → List Pa
 -- both are our own
 abbrev pub TransfersRelated : Terms → Terms → At Stretch → List Packet → List Packet → At Stretch → Type 0
 TransfersRelated t b x L K y = OwnTransfer (StretchesRelated t b) fresh x L K y
-
-abbrev pub GoodTransfer : Terms → Terms → TransferStep → List Packet → List Packet → At Stretch → Type 0
-GoodTransfer t b s L K y = GoodOwnTransfer (StretchesRelated t b) fresh s L K y

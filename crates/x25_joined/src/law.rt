@@ -5,7 +5,7 @@ ghost use Rattle.x25_world.specs.laws.SessionClaims.{SessionsKeepOrder};
 ghost use Rattle.x25_joined.specs.laws.BesidePeerClaims.{KeepsSessions, OfProgram};
 ghost use Rattle.x25_joined.specs.laws.JoinedClaims.{AreLawful, AreWorlds, Arrive, OfPrograms, OfProgramsUpOnce};
 ghost use Rattle.x25_joined.specs.laws.JoinedClaims.{UntilSecondUp};
-ghost use Rattle.x25_joined.specs.rows.BesidePeerRows.{CallIsReported};
+ghost use Rattle.x25_joined.specs.rows.BesidePeerRows.{CallIsAccepted};
 ghost use Rattle.x25_joined.specs.rows.JoinedRows.{FiringHasToWait, LinkIsSetUp, LostSabmGoesAgain, MessageArrives};
 ghost use Rattle.x25_joined.specs.rows.JoinedRows.{OtherLinesDoNothing};
 
@@ -80,9 +80,10 @@ pub fn any_peer_keeps_programs()
     any_peer_keeps_stations_over_sessions();
 }
 
-/// A worked row: a program and a peer set the link up, the peer confirms its RESTART and calls, and that is reported.
+/// A worked row: a program and a peer set the link up, the peer confirms its RESTART and calls, and that is reported,
+/// and accepted with a facility and the D bit.
 pub fn programs_move_beside_peers()
-    ensures { CallIsReported }
+    ensures { CallIsAccepted }
 {}
 
 /// Worked rows, each a history that may happen: what two programs read and write as the link is set up, and as SABM is

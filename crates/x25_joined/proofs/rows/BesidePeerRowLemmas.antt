@@ -14,6 +14,8 @@ use Rattle.x25_packet.specs.Packet.{call, restart, restart_conf}
 use Rattle.x25_packet.specs.Digits.{halves_of, packed}
 use Rattle.x25_packet.specs.Facilities.{facilities_of}
 use Rattle.x25_packet.specs.Reading.{packet_of}
+use Rattle.x25_wide.specs.Facilities.{are_facilities, own_in}
+use Rattle.x25_wide.specs.Reading.{wide_of}
 use Rattle.x25_circuit.specs.Hearing.{request_in}
 use Rattle.x25_link.specs.Station.{pumped}
 use Rattle.x25_line.specs.laws.Sessions.{Entry, Meeting}
@@ -26,7 +28,7 @@ use Rattle.x25_handshakes.specs.laws.Handshake.{At}
 use Rattle.x25_handshakes.specs.laws.Layers.{Restart}
 use Rattle.x25_handshakes.specs.laws.PeerLayer.{PeerChannels, LayerDeed, InChannel, does_layer, layer_taking}
 use Rattle.x25_handshakes.specs.laws.PeerLayers.{other_role}
-use Rattle.x25_script.specs.Reading.{parts_of, number_in, small_number_in, params_in, with_params_in, call_in, accept_in, send_in, interrupt_in, with_fields, command_in, lose_in, damage_in, drain_in, line_in}
+use Rattle.x25_script.specs.Reading.{parts_of, number_in, small_number_in, params_in, with_params_in, call_in, accept_in, send_in, interrupt_in, with_fields, part_in, with_in, command_in, lose_in, damage_in, drain_in, line_in}
 use Rattle.x25_io.specs.Lines.{lines_of}
 use Rattle.x25_transcript.specs.EntryText.{entry_line}
 use Rattle.x25_console.specs.Telling.{frame_line, refusal_line}
@@ -36,8 +38,7 @@ use Rattle.x25_world.specs.laws.TapOctets.{AreOfFrame}
 use Rattle.x25_peer.specs.laws.BesideSessions as beside
 use Rattle.x25_peer.specs.laws.BesideSessions.{BesideSessions, their_now, their_layer, layer_went, layer_heard}
 use Rattle.x25_joined.specs.laws.BesidePeer.{Program, nothing_read, bare, reads, IsReached, at_start, goes_on, Reads, Takes, Elsewhere}
-use Rattle.x25_joined.specs.rows.JoinedRows.{usual}
-use Rattle.x25_joined.specs.rows.BesidePeerRows.{CallIsReported}
+use Rattle.x25_joined.specs.rows.BesidePeerRows.{of_all_forms, CallIsAccepted}
 use Rattle.x25_joined.proofs.rows.JoinedRowLemmas.{opens}
 
 abbrev IsOctet : ℕ → Type 0
@@ -50,7 +51,7 @@ frame_octets o₁ o₂ o₃ o₄ a b d e rest h few = record {
 }
 
 abbrev ours : Settings
-ours = settings_from Dte usual
+ours = settings_from Dte of_all_forms
 
 -- ---- octets on the line
 
@@ -127,9 +128,9 @@ layer_does c p deed = does_layer (their_layer (bare c p)).epoch (their_layer (ba
 
 -- ---- the history
 
-pub call_is_reported : CallIsReported
-unfolding digits decode_pairs piped event_turn turn turns event_in lines_of line_in parts_of number_in lose_in damage_in drain_in command_in with_fields small_number_in params_in with_params_in call_in accept_in send_in interrupt_in saying_line entry_line frame_line refusal_line pumped frame_of packet_of halves_of packed facilities_of is_sealed fcs_of number_of divided low_bits add divisor
-call_is_reported =
+pub call_is_accepted : CallIsAccepted
+unfolding with_in part_in wide_of are_facilities own_in digits decode_pairs piped event_turn turn turns event_in lines_of line_in parts_of number_in lose_in damage_in drain_in command_in with_fields small_number_in params_in with_params_in call_in accept_in send_in interrupt_in saying_line entry_line frame_line refusal_line pumped frame_of packet_of halves_of packed facilities_of is_sealed fcs_of number_of divided low_bits add divisor
+call_is_accepted =
     let p0 : Program = nothing_read in
     let p1 : Program = record p0 { read = codes "dte connect\n"; out = sent 0 sabm_octets ∷ [] } in
     let r1 : IsReached ours p1 = goes_on p0 p1 at_start (Reads (codes "dte connect") (record { is_line = opens (codes "dte connect") refl; is_no_frame = tt; in_time = tt })) in
@@ -168,4 +169,6 @@ call_is_reported =
     let r9 : IsReached ours p9 = goes_on p8 p9 r8 (Takes (sent 1 confirmation_octets) (sent 1 call_octets ∷ []) refl confirmation_fits) in
     let p10 : Program = reads ours p9 (codes "< 032210010b00007528\n") [] (met ∷ met ∷ met ∷ []) in
     let r10 : IsReached ours p10 = goes_on p9 p10 r9 (Takes (sent 1 call_octets) [] refl call_fits) in
-    record { program = p10; reached = r10; text = refl; met = refl }
+    let p11 : Program = reads ours p10 (codes "dte with 0180 - d accept 1\n") [] p10.met in
+    let r11 : IsReached ours p11 = goes_on p10 p11 r10 (Reads (codes "dte with 0180 - d accept 1") (record { is_line = opens (codes "dte with 0180 - d accept 1") refl; is_no_frame = tt; in_time = tt })) in
+    record { program = p11; reached = r11; text = refl; met = refl }
