@@ -24,7 +24,7 @@ TRACES |= {case.name: case.input for case in golden.cases(CASES)}
 
 def words(**given):
     """What `pcap2x25.words` answers, with no words but these."""
-    return types.SimpleNamespace(**{"swap": False, "fcs": False, "lapb": None, "sent_by": None, "port": 1998, "dte": None, "connection": None, **given})
+    return types.SimpleNamespace(**{"swap": False, "fcs": None, "lapb": None, "sent_by": None, "port": 1998, "dte": None, "connection": None, **given})
 
 
 def lines(capture, **given):
@@ -221,6 +221,29 @@ class XotStreams(unittest.TestCase):
         self.assertEqual(text.count("\n"), 2)
         self.assertEqual(notes, {"gap in a connection, octets that weren't captured": 1})
 
+    def test_behind_a_gap_the_next_packet_is_looked_for(self):
+        """Of the second packet the beginning is missing; what is left of it may look like a header, but for its length or its format."""
+        for rest in (self.call[9:], b"\0\0\x20\0" + bytes(9), b"\0\0\0\5\x30" + bytes(9)):
+            end = 1 + len(self.call) + 5 + len(rest)
+            segments = (True, 1, self.call), (True, 6 + len(self.call), rest), (True, end, self.call), (False, 1, self.accept)
+            text, notes = self.read(segments)
+            self.assertEqual([line[6:-4] for line in text.splitlines()], [CALL.hex(), ACCEPT.hex(), CALL.hex()])
+            self.assertEqual(notes, {"gap in a connection, octets that weren't captured": 1, xot.WITHIN: 1})
+
+    def test_fragments_are_told(self):
+        head = samples.tcp(True, 1, self.call, port=1998)
+        other = samples.tcp(True, 1, self.call, port=80)
+        for packets, count in (
+            ([samples.ipv4(True, head[:24], 0x2000), samples.ipv4(True, head[24:], 3)], 1),
+            ([samples.ipv4(True, samples.tcp(True, 1, self.call)), samples.ipv4(True, head[24:], 3), samples.ipv4(False, head[24:], 3)], 1),
+            ([samples.ipv4(True, other[:24], 0x2000), samples.ipv4(True, other[24:], 3)], 0),
+        ):
+            notes = lines(samples.pcap([(0, 0, samples.ethernet(packet)) for packet in packets], link_type=1))[1]
+            self.assertEqual(notes, {xot.FRAGMENT: count} if count else {})
+        payload = bytes([6, 0, 0, 1]) + bytes(4) + head
+        sixth = bytes([0x60, 0, 0, 0]) + len(payload).to_bytes(2, "big") + bytes([44, 64]) + bytes(32) + payload
+        self.assertEqual(lines(samples.pcap([(0, 0, samples.ethernet(sixth, 0x86DD))], link_type=1))[1], {xot.FRAGMENT: 1})
+
     def test_a_connection_that_is_no_xot_is_told_once(self):
         text, notes = self.read([(True, 0, b"", 2), (True, 1, b"GET / HTTP/1.0\r\n"), (True, 17, self.call)])
         self.assertEqual((text, notes), ("", {"connection that isn't XOT, or was read out of step": 1}))
@@ -317,6 +340,7 @@ class Connections(ToolCase):
             (self.capture(port=2000), b"passed over: segment of TCP like XOT, to or from port 2000 (--port) (3)"),
             (samples.pcap([(0, 0, samples.ethernet(bytes(28), 0x0806))], link_type=1), b"passed over: frame of the type 0806 (1)"),
             (samples.pcap([]), b"the capture has no records"),
+            (b"", b"the capture has no records"),
             (samples.pcap([(0, 0, SABM)] * 2, link_type=105), b"left out: record of the link type 105, of which nothing is read (--help lists those that are) (2)"),
         ):
             done = support.run("pcap2x25.py", given=capture)
@@ -475,7 +499,6 @@ class Hostile(ToolCase):
     def test_messages(self):
         whole = samples.section() + samples.interface(207)
         cases = {
-            "neither a pcap nor a pcapng file": b"",
             "neither a pcap nor": b"GET / HTTP/1.0\r\n",
             "the file ends within the file header": samples.pcap([])[:20],
             "record 1 has a wrong length": samples.pcap([]) + bytes.fromhex("0000000000000000ffffffffffffffff"),

@@ -14,6 +14,7 @@ from support import ToolCase
 
 import golden
 from x25tools import messages, x25names
+from x25tools.pcap2x25 import LACKS
 from x25tools.x25lines import fcs
 
 CALL, DATA = bytes.fromhex("10010b43123456700041"), bytes.fromhex("1001006869")
@@ -130,7 +131,20 @@ class Joining(unittest.TestCase):
 
     def test_a_frame_that_the_recorder_missed(self):
         frames = (">", data(1, "b")), ("<", "RR rsp F=0 R=2"), (">", data(2, "c"))
-        self.assertEqual(joined(frames, 0), [("packet not recorded", ""), ("message", "b"), ("message", "c")])
+        unsure = "message, perhaps without its beginning"
+        self.assertEqual(joined(frames, 0), [("packet not recorded", ""), (unsure, "b"), ("message", "c")])
+        frames = (">", data(0, "a", 1)), (">", data(2, "b")), ("<", "RR rsp F=0 R=3"), (">", data(3, "c")), (">", data(4, "d", 0, 2))
+        self.assertEqual(joined(frames, 0), [("message broken off by packet not recorded", "a"), ("packet not recorded", ""), (unsure, "b"), ("message", "c"), (unsure, "d")])
+
+    def test_frames_that_were_not_recorded(self):
+        """However many they are, eight among these; and of packets without frames, which come once each."""
+        unsure = "message, perhaps without its beginning"
+        restart = "I cmd P=0 S=1 R=0 | RESTART cause=0 diag=0"
+        for is_made_up in False, True:
+            line = messages.Messages(0, is_made_up)
+            frames = [f"> {data(0, 'a', 1)}", LACKS, f"> {data(0, 'b')}", "< RR rsp F=0 R=1", f"> {restart}", f"> {data(2, 'c', 0, 2)}"]
+            found = line.take([("", frame) for frame in frames])
+            self.assertEqual([it[1:4] for it in found], [(">", 1, "message broken off by missing frames"), ("", None, LACKS), (">", 1, unsure), (">", 2, "message")])
 
     def test_an_acknowledgement_of_what_was_not_sent_tells_nothing(self):
         frames = (">", data(0, "a")), ("<", "RR rsp F=0 R=5"), ("<", "RR rsp F=0 R=1"), ("<", "RR rsp F=0 R=0"), (">", data(1, "b"))

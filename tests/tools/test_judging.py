@@ -68,7 +68,7 @@ class Lacking(ToolCase):
     def test_what_missing_frames_explain_is_marked(self):
         told, last = self.judged(capture(MISSING))
         self.assertEqual(told, [f" !? dce: {UNSENT}{LACKING}"])
-        self.assertEqual(last, "# told: 0 rules, 0 manners, 1 that frames which the capture lacks would explain")
+        self.assertEqual(last, "# told: 0 rules, 0 manners, 1 in doubt")
         self.assertEqual(self.judged(capture(MISSING), "--strict", status=1), (told, last))
 
     def test_a_capture_that_has_all_frames(self):
@@ -93,7 +93,7 @@ class Lacking(ToolCase):
         skips = "N(S) skips (2.4.5.1): it should be 1"
         told, last = self.judged(capture(frames), "--at", "dte", "--manners", status=1)
         self.assertEqual(told, [f" ~ manners: dte: {skips}", f" ~? manners: dce: {skips}{LACKING}"])
-        self.assertEqual(last, "# told: 0 rules, 1 manners, 1 that frames which the capture lacks would explain")
+        self.assertEqual(last, "# told: 0 rules, 1 manners, 1 in doubt")
 
     def test_a_frame_captured_in_part_may_have_been_any(self):
         whole, (direction, octets) = [*SET_UP, data(">", 0, 0)], data(">", 1, 0)
@@ -118,13 +118,35 @@ class Lacking(ToolCase):
         self.assertIn("left out: frame that the program which captured dropped (3)", self.said)
         self.judged(file(0, 7), status=1)
         self.assertIn("left out: frame that the program which captured dropped, the capture doesn't say where (7)", self.said)
+        doubt = "so --at doesn't hold: what was dropped may explain what is told"
+        self.assertNotIn(doubt, self.said)
+        self.judged(file(0, 7), "--at", "line", status=1)
+        self.assertIn(doubt, self.said)
 
     def test_numbers_modulo_128_are_not_judged(self):
         frames = [command(">", SABME), response("<", UA), command(">", 0, b"\x00\x10\x01\x01"), response("<", 1), command(">", 2, b"\x00\x10\x01\x01"), *SET_UP, data(">", 0, 0)]
         self.assertEqual(self.judged(capture(frames), "--at", "line"), ([], "# told: 0 rules, 0 manners"))
         shown = support.run("x25dump.py", "--judge", "--x25", PROGRAM, given=capture(frames)).stdout.decode()
-        self.assertEqual(shown.count(" ~ note: not judged from here on: SABME and UA, so numbers are modulo 128\n"), 1)
+        self.assertEqual(shown.count(" ~ note: not judged from here on: numbers are modulo 128\n"), 1)
         self.assertEqual([line.partition(", ")[0] for line in shown.splitlines() if " frames, " in line], ["# dte: 5 frames", "# dce: 3 frames"])
+
+    def test_numbers_modulo_128_whose_set_up_is_not_there(self):
+        """RR with a second octet of control shows it, where no SABM stands before, or a SABME waits for its answer."""
+        numbered = [(direction, bytes([1 if direction == ">" else 3, at << 1, at << 1]) + b"\x10\x01\x01") for at in (5, 6) for direction in "><"]
+        acknowledged = [("<", bytes([1, 1, 12])), (">", bytes([3, 1, 12]))]
+        for set_up, at in ([], []), ([], ["--at", "line"]), ([command("<", SABME)], ["--at", "dce"]), ([*SET_UP, command("<", SABME)], ["--at", "dce"]):
+            told, last = self.judged(capture([*set_up, *acknowledged, *numbered, *acknowledged]), *at)
+            self.assertEqual((told, last), ([], "# told: 0 rules, 0 manners"))
+            self.assertEqual(self.counts[0].partition(" judged")[0], f"# dte: {4 + (set_up[:2] == SET_UP)} frames, {int(set_up[:2] == SET_UP)}")
+        of_five = [("<", bytes([1, 0x21, 0]))]
+        told = "dce: no frame of LAPB has these octets (2.3.5.4)"
+        self.assertEqual(self.judged(capture([*SET_UP, *of_five]), "--at", "line", status=1)[0], [f" ! {told}"])
+        self.assertEqual(self.judged(capture([*SET_UP, *of_five]))[0], [f" !? {told}{LACKING}"])
+        # I frames alone don't show it, so what is told of them is in doubt.
+        alone = [(direction, bytes([1 if direction == ">" else 3, at << 1, at << 1]) + b"\x10\x01\x01") for at in range(5, 30) for direction in "><"]
+        told, _ = self.judged(trace(alone))
+        self.assertGreater(len(told), 9)
+        self.assertEqual({it[:4] for it in told}, {" !? "})
 
     def test_numbers_modulo_128_that_the_other_end_refuses(self):
         frames = [*SET_UP, data(">", 0, 0), ready("<", 1), command(">", SABME), response("<", 0x1F), *SET_UP, data(">", 0, 0)]
@@ -144,10 +166,47 @@ class Lacking(ToolCase):
             (other, ["--swap"], ""),
             (sealed, [], "x25dump.py: each frame ends in its frame check sequence already: --fcs adds none\n"),
             (sealed, ["--fcs"], ""),
-            (MISSING, ["--fcs"], "x25dump.py: no frame ends in its frame check sequence: without --fcs each gets one\n"),
+            (MISSING, ["--fcs"], "x25dump.py: no frame ends in its frame check sequence: with --no-fcs each gets one\n"),
         ):
             done = support.run("x25dump.py", "--judge", "--x25", PROGRAM, *words, given=capture(frames))
-            self.assertEqual(done.stderr.decode(), said)
+            self.assertEqual((done.stderr.decode(), done.returncode), (said, 1 if said else 0))
+            self.assertNotIn(b" ! ", done.stdout)
+        done = support.run("x25dump.py", "--judge", "--no-fcs", "--x25", PROGRAM, given=samples.pcap([(0, 0, b"\1\1\x3f")], network_flags=0x1400_0000))
+        self.assertIn(b" > SABM cmd P=1\n", done.stdout)
+
+    def test_how_a_trace_may_be_misread_is_said(self):
+        swapped = trace(MISSING).replace(b">", b"x").replace(b"<", b">").replace(b"x", b"<")
+        bare = b"".join(line[:-4] + b"\n" for line in trace(MISSING).splitlines())
+        right = support.run("x25dump.py", "--judge", "--x25", PROGRAM, given=trace(MISSING)).stdout
+        for given, word, said in (
+            (swapped, "--swap", b"no frame has its sender's address: --swap exchanges the directions"),
+            (bare, "--no-fcs", b"no frame ends in its frame check sequence: with --no-fcs each gets one"),
+        ):
+            done = support.run("x25dump.py", "--judge", "--x25", PROGRAM, given=given)
+            self.assertEqual((done.returncode, done.stderr), (1, b"x25dump.py: " + said + b"\n"))
+            self.assertNotIn(b" ! ", done.stdout)
+            done = support.run("x25dump.py", "--judge", word, "--x25", PROGRAM, given=given)
+            self.assertEqual((done.stdout, done.stderr), (right, b""))
+
+    def test_directions_are_right_where_one_frame_has_its_senders_address(self):
+        told = "dce: no frame of LAPB has these octets (2.3.5.4)"
+        of_dte = ("<", bytes([1, SABM]))
+        self.assertEqual(self.judged(trace([of_dte]), status=1), ([f" !? {told}, or the frame is misread"], "# told: 0 rules, 0 manners, 1 in doubt"))
+        self.assertEqual(self.judged(trace([command(">", SABM), of_dte]), status=1)[0], [f" ! {told}"])
+
+    def test_a_capture_that_breaks_off_is_counted_too(self):
+        done = support.run("x25dump.py", "--judge", "--x25", PROGRAM, given=capture(MISSING)[:-1])
+        self.assertEqual((done.returncode, done.stderr), (2, b"x25dump.py: the file ends within record 5\n"))
+        self.assertTrue(done.stdout.endswith(b"# dce: 2 frames, 2 judged, 0 not judged\n# told: 0 rules, 0 manners\n"), done.stdout)
+
+    def test_what_has_no_frames_is_not_judged(self):
+        for given, said in (
+            (b"# none\n\n", b"nothing was judged: no line has a frame in hexadecimal digits"),
+            (b"> SABM cmd P=1\n", b"nothing was judged: no line has a frame in hexadecimal digits"),
+            (b"> SABM cmd P=1\n> 013febdf\n", b"left out: line of `x25 decode`, which isn't judged (1)"),
+        ):
+            done = support.run("x25dump.py", "--judge", "--x25", PROGRAM, given=given)
+            self.assertEqual((done.returncode, done.stderr), (1, b"x25dump.py: " + said + b"\n"))
 
 
 @support.needs_program
@@ -165,7 +224,8 @@ class Circuits(ToolCase):
                 segment = samples.tcp(is_of_client, sequences[is_of_client], stream, wanted=sequences[not is_of_client])
                 records.append((at, 0, samples.ethernet(samples.ipv4(is_of_client, segment))))
             sequences[is_of_client] += len(stream)
-        done = support.run("x25dump.py", "--judge", "--x25", PROGRAM, given=samples.pcap(records, link_type=1))
+        self.captured = samples.pcap(records, link_type=1)
+        done = support.run("x25dump.py", "--judge", "--x25", PROGRAM, given=self.captured)
         self.assertEqual(done.returncode, status, done)
         return done.stdout.decode().splitlines()[1:]
 
@@ -174,6 +234,14 @@ class Circuits(ToolCase):
         lines = self.judged(ways, 1)
         self.assertTrue(lines[-4].endswith("< RR ch=9 R=3 ! dce: P(R) acknowledges what was never sent (4.4.1.3): at most 1"), lines)
         self.assertEqual(lines[-3:-1], ["# dte channel 1: 2 packets, 1 judged, 1 not judged", "# dce channel 9: 2 packets, 2 judged, 0 not judged"])
+
+    def test_a_gap_is_shown_and_has_a_number_in_a_trace(self):
+        ways = [(True, self.CALL), (False, self.ACCEPTED), (True, self.DATA), (True, self.DATA), (False, bytes.fromhex("100141"))]
+        lines = self.judged(ways, 1, lost=[2])
+        self.assertEqual([line for line in lines if "lacks" in line], ["4.000000000 # the capture lacks frames here"])
+        self.assertIn("lacks", lines[2])
+        shown = support.run("pcap2x25.py", given=self.captured).stdout.decode()
+        self.assertEqual([line[4:6] for line in shown.splitlines()], ["00", "20", "24", "62"])
 
     def test_behind_a_gap_the_channel_is_not_known(self):
         ways = [(True, self.CALL), (False, self.ACCEPTED), *[(True, bytes([0x10, 1, number << 1, 0x41])) for number in (0, 1, 2)], (False, bytes([0x10, 1, 0x61]))]

@@ -66,8 +66,8 @@ class Interface(NamedTuple):
 def blocks(file: x25lines.Readable, notes: Counter[str] | None = None) -> Iterator[list[Record]]:
     """Yields the records of a capture, of whichever format, in lists, each of those that are there at once.
 
-    A file that isn't one, or breaks off, is bad input, told after the records before that. `notes` counts what the capture says was dropped, of
-    which no record says where.
+    A file that isn't one, or breaks off, is bad input, told after the records before that; an empty one has none. `notes` counts what the capture says
+    was dropped, of which no record says where.
     """
     reader: _Pcap | _Pcapng | None = None
     rest = b""
@@ -82,10 +82,8 @@ def blocks(file: x25lines.Readable, notes: Counter[str] | None = None) -> Iterat
             yield records
         if notes is not None and reader is not None and reader.dropped:
             notes[DROPPED] = sum(reader.dropped.values())
-    if reader is None:
-        raise BadInput(NO_CAPTURE)
     if rest:
-        raise BadInput(f"the file ends within {reader.next()}")
+        raise BadInput(f"the file ends within {reader.next()}" if reader else NO_CAPTURE)
 
 
 def is_capture(file: x25lines.Readable) -> bool:

@@ -11,9 +11,9 @@ import re
 from collections import Counter
 from typing import Iterator, Sequence
 
-from x25tools import decoding
-from x25tools.pcap2x25 import Connection
-from x25tools.x25lines import fcs
+from x25tools import decoding, lan
+from x25tools.pcap2x25 import LACKS, Connection
+from x25tools.x25lines import fcs, is_sealed
 
 AT = ("line", "dte", "dce")
 OTHER = {">": "<", "<": ">"}
@@ -24,16 +24,21 @@ UNREAD = {direction: f"{direction} " for direction in OTHER}
 
 # SABM of the DTE, and the UA of the DCE.
 SET_UP = ["> 013febdf", "< 01738357"]
-SABM, SABME, UA, P_OR_F = 0x2F, 0x6F, 0x63, 0x10
+SABM, SABME, UA, DISC, DM, FRMR, P_OR_F = 0x2F, 0x6F, 0x63, 0x43, 0x0F, 0x87, 0x10
+# The octets of RR, RNR or REJ with their frame check sequence, by what numbers count by: modulo 128 they have a second octet of control.
+OCTETS_OF_READY = {4: 8, 5: 128}
 
-# Before the end and the rule that it breaks, and before the same of manners; where frames that the capture lacks would explain it; and what is
-# said after that.
+# Before the end and the rule that it breaks, and before the same of manners; where frames that the capture lacks would explain it, or words by which it
+# is read; and what is said after that.
 RULE, MANNERS = " ! ", " ~ manners: "
 IN_DOUBT = {RULE: " !? ", MANNERS: " ~? manners: "}
-IF_LACKING = ", or the capture lacks frames"
-# No frame that is missing explains this; and this one of the other end may, which the line lost before it came: after it the number is a new one.
+IF_LACKING, IF_MISREAD = ", or the capture lacks frames", ", or the frame is misread"
+# No frame that is missing explains this, but the words by which frames are read may; and this one of the other end may, which the line lost before it came: after it the number is a new one.
 CERTAIN, OTHER_OCTETS = "no frame of LAPB", "an I frame sent again has other octets"
-UNJUDGED = " ~ note: not judged from here on: SABME and UA, so numbers are modulo 128"
+UNJUDGED = " ~ note: not judged from here on: numbers are modulo 128"
+
+# A line that waits for its answer; whether a frame up to it had the address of its sender, and whether numbers are known to be modulo 8.
+Waiting = tuple[str, bool, bool]
 
 COUNTS = re.compile(r"# (dte|dce)(?: channel (\d+))?: (\d+) (?:frames|packets), (\d+) judged, \d+ not judged")
 TOLD = re.compile(r"# told: (\d+) rules, (\d+) manners")
@@ -51,6 +56,11 @@ def is_faulty(text: str, options: argparse.Namespace) -> bool:
     """Whether what is told of a frame makes the status 1."""
     marks = [RULE, MANNERS] if options.manners else [RULE]
     return any(mark in text or (options.strict and IN_DOUBT[mark] in text) for mark in marks)
+
+
+def _octets(line: str) -> bytes:
+    """The octets of the frame of a line."""
+    return bytes.fromhex(line[2:])
 
 
 def _control(line: str) -> int | None:
@@ -87,13 +97,13 @@ class Judge:
         for line in self._lines.values():
             line.close()
 
-    def texts(self, asked: str, connections: Sequence[Connection]) -> list[str | None]:
-        """The answers to the lines of a trace in a text, each of a connection, with what is told of each after it; None for a gap."""
+    def texts(self, asked: str, connections: Sequence[Connection]) -> list[str]:
+        """The answers to the lines of a trace in a text, each of a connection, with what is told of each after it, and what is shown of a gap."""
         lines = asked.splitlines()
         places_of: dict[Connection, list[int]] = {}
         for place, connection in enumerate(connections):
             places_of.setdefault(connection, []).append(place)
-        texts: list[str | None] = [None] * len(lines)
+        texts = [""] * len(lines)
         for connection, places in places_of.items():
             if connection not in self._lines:
                 self._lines[connection] = self._begun(connection)
@@ -124,9 +134,11 @@ class Frames:
         self._seen: Counter[tuple[str, int | None]] = Counter()
         self._judged: Counter[tuple[str, int | None]] = Counter()
         self._told: Counter[str] = Counter()
-        # Whether SABME waits for its answer, and whether UA was that; and which end's UA may be missing.
-        self._asks_128 = self._is_128 = False
+        # What numbers count by, 0 where it isn't known; the direction of a SABME that waits for its answer; and which end's UA may be missing.
+        self._modulus, self._asks_128 = 0, ""
         self._awaits_ua = dict.fromkeys(OTHER, False)
+        # Whether a frame had the address of its sender.
+        self._has_own = False
 
     def _begun(self) -> decoding.Decoder:
         return decoding.Decoder(self._program, self._words, "judge")
@@ -136,20 +148,24 @@ class Frames:
         for program in self._judge, self._decoder:
             program.__exit__()
 
-    def texts(self, lines: list[str]) -> list[str | None]:
-        """The answers to some lines, and None to a gap."""
-        texts: list[str | None] = []
-        waiting: list[str] = []
+    def texts(self, lines: list[str]) -> list[str]:
+        """The answers to some lines, and what is shown of a gap."""
+        texts: list[str] = []
+        waiting: list[Waiting] = []
         for line in lines:
+            was_128 = self._modulus == 128
             if line == GAP:
                 texts += self._answers(waiting)
                 self._begin_anew()
-                texts.append(None)
-            elif self._has_128(line):
+                self._modulus = 128 if was_128 else 0
+                texts.append(LACKS)
+                continue
+            self._see(line)
+            if self._modulus == 128 or _control(line) == SABME:
                 texts += self._answers(waiting)
-                texts.append(self._read(line))
+                texts.append(self._read(line) + ("" if was_128 or self._modulus != 128 else UNJUDGED))
             else:
-                waiting.append(line)
+                waiting.append((line, self._has_own, self._modulus == 8 and not self._asks_128))
         return [*texts, *self._answers(waiting)]
 
     def _begin_anew(self) -> None:
@@ -158,42 +174,50 @@ class Frames:
         self._judge.__exit__()
         self._judge, self._is_behind_gap = self._begun(), True
 
-    def _has_128(self, line: str) -> bool:
-        """Whether a frame asks for numbers modulo 128, or is one of a link that has them."""
-        control, was_128 = _control(line), self._is_128
-        if control == SABM:
-            self._asks_128 = self._is_128 = False
-            if was_128:
+    def _see(self, line: str) -> None:
+        """Sees of a frame what numbers count by: by a set-up or, where one may not be there, by RR, RNR or REJ; and whether it has its sender's address."""
+        control, direction = _control(line), line[0]
+        if not self._has_own:
+            self._has_own = lan.is_of_dte(_octets(line)) == (direction == ">")
+        if control is None or not control & 1 or (control & 3 == 1 and self._modulus and not self._asks_128) or not is_sealed(_octets(line)):
+            return
+        if control & 3 == 1:
+            if self._modulus != 128:
+                self._modulus = OCTETS_OF_READY.get(len(_octets(line)), self._modulus)
+        elif control == SABM:
+            if self._modulus == 128:
                 self._begin_anew()
+            self._modulus, self._asks_128 = 8, ""
         elif control == SABME:
-            self._asks_128 = True
-        elif control == UA and self._asks_128:
-            self._asks_128, self._is_128 = False, True
-        return self._is_128 or control == SABME
+            self._asks_128 = direction
+        elif control == UA and self._asks_128 == OTHER[direction]:
+            self._modulus, self._asks_128 = 128, ""
+        elif control in (DISC, DM, FRMR):
+            self._asks_128 = ""
 
     def _read(self, line: str) -> str:
         """The answer to a line that isn't judged: one of a link modulo 128, or SABME, which the judge hears as a frame of which nothing is known."""
         text, = self._decoder.texts(f"{line}\n")
-        if self._is_128:
+        if self._modulus == 128:
             self._seen[self._end(line[0]), None] += 1
         else:
             self._judge.texts(f"{UNREAD[line[0]]}\n")
-        return text + UNJUDGED if _control(line) == UA else text
+        return text
 
     def _end(self, direction: str) -> str:
         return "dte" if direction == ">" else "dce"
 
-    def _answers(self, waiting: list[str]) -> list[str]:
+    def _answers(self, waiting: list[Waiting]) -> list[str]:
         """The answers to the lines that wait, each with what is told of it."""
         asked: list[str] = []
         places: list[int] = []
-        for line in waiting:
+        for line, _, _ in waiting:
             asked += self._missing(line)
             places.append(len(asked))
             heard = self._heard(line)
             asked += [heard, *self._behind(heard)]
         answers = self._judge.texts("".join([f"{line}\n" for line in asked]))
-        texts = [self._said(line[0], answers[place]) for line, place in zip(waiting, places)]
+        texts = [self._said(of, answers[place]) for of, place in zip(waiting, places)]
         waiting.clear()
         return texts
 
@@ -220,19 +244,31 @@ class Frames:
         """What is judged after a line."""
         return []
 
-    def _said(self, direction: str, text: str) -> str:
+    def _said(self, of: Waiting, text: str) -> str:
         """An answer, with the mark of what the capture may explain."""
         mark = next((mark for mark in IN_DOUBT if mark in text), None)
         if mark is None:
             return text
         whole, _, told = text.partition(mark)
-        is_far = self._at in ENDS and direction != ENDS[self._at]
-        may_lack = self._is_behind_gap or self._lacks() or (is_far and (mark == MANNERS or OTHER_OCTETS in told))
-        if not may_lack or CERTAIN in told:
+        doubt = self._doubt(of, mark, told)
+        if not doubt:
             return text
         self._told[mark] -= 1
         self._told[IN_DOUBT[mark]] += 1
-        return whole + IN_DOUBT[mark] + told + IF_LACKING
+        return whole + IN_DOUBT[mark] + told + doubt
+
+    def _doubt(self, of: Waiting, mark: str, told: str) -> str:
+        """What else may explain what is told, empty where nothing does."""
+        line, has_own, is_8 = of
+        if CERTAIN in told:
+            octets = _octets(line)
+            if is_sealed(octets[:-2]) or not has_own and lan.is_of_dte(octets) is not None:
+                return IF_MISREAD
+            has_more_control = octets[1] & 3 == 1 and OCTETS_OF_READY.get(len(octets)) == 128
+            return IF_LACKING if has_more_control and self._lacks() else ""
+        is_far = self._at in ENDS and line[0] != ENDS[self._at]
+        may_lack = self._is_behind_gap or self._lacks() or not is_8 or (is_far and (mark == MANNERS or OTHER_OCTETS in told))
+        return IF_LACKING if may_lack else ""
 
     def _lacks(self) -> bool:
         """Whether frames of either end may be missing anywhere."""
@@ -256,7 +292,7 @@ class Frames:
             for channel in sorted(channel for of, channel in self._seen if of == end and channel is not None):
                 yield from self._counted(end, channel, "packets")
         in_doubt = sum(self._told[mark] for mark in IN_DOUBT.values())
-        more = f", {in_doubt} that frames which the capture lacks would explain" if in_doubt else ""
+        more = f", {in_doubt} in doubt" if in_doubt else ""
         yield f"# told: {self._told[RULE]} rules, {self._told[MANNERS]} manners{more}"
 
     def _counted(self, end: str, channel: int | None, what: str) -> Iterator[str]:
@@ -289,8 +325,8 @@ class Packets(Frames):
         """The packet as it is judged."""
         return packet
 
-    def _has_128(self, line: str) -> bool:
-        return False
+    def _see(self, _: str) -> None:
+        self._modulus, self._has_own = 8, True
 
     def _lacks(self) -> bool:
         return False
@@ -325,9 +361,9 @@ class Circuit(Packets):
         own, judged_by = self._renamed.get(direction, (-1, -1))
         return packet if channel != own else bytes([packet[0] & 0xF0 | judged_by >> 8, judged_by & 0xFF]) + packet[2:]
 
-    def _said(self, direction: str, text: str) -> str:
-        own, judged_by = self._renamed.get(direction, (-1, -1))
-        return super()._said(direction, text).replace(f" ch={judged_by} ", f" ch={own} ", 1)
+    def _said(self, of: Waiting, text: str) -> str:
+        own, judged_by = self._renamed.get(of[0][0], (-1, -1))
+        return super()._said(of, text).replace(f" ch={judged_by} ", f" ch={own} ", 1)
 
     def _shown(self, end: str, channel: int) -> int:
         own, judged_by = self._renamed.get(ENDS[end], (-1, -1))

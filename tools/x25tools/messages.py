@@ -1,4 +1,7 @@
-"""Messages out of the frames of a line: what each end's link took, in order and once, and its data joined by the M bit."""
+"""Messages out of the frames of a line: what each end's link took, in order and once, and its data joined by the M bit.
+
+Where frames weren't recorded, what was begun is broken off: what comes next on its channel may be the rest of it.
+"""
 
 from __future__ import annotations
 
@@ -6,6 +9,7 @@ import functools
 import re
 from typing import Iterable, Optional, Sequence
 
+from x25tools.pcap2x25 import LACKS
 from x25tools.x25lines import OTHER
 
 # The numbers of a frame: N(S) of an I frame, and N(R) of that and of RR, RNR and REJ.
@@ -17,6 +21,7 @@ DATA, INTERRUPT = re.compile("DATA ch=([0-9]+) S=[0-7] R=[0-7] M=([01]) Q=([01])
 # What an end sends of these ends what it had begun; where the other end asks for it, the answer does.
 ENDED = re.compile(r"((?:RESTART|CLEAR|RESET)(?:CONF)?|CALL|ACCEPT)\b(?: ch=([0-9]+))?")
 MODULUS = 8
+UNRECORDED = "packet not recorded"
 # A message is shown in parts of about this many octets where it is longer.
 MOST_MESSAGE = 1 << 20
 # How many forms of frames and packets are kept as they were read.
@@ -147,10 +152,13 @@ class Way:
 
 
 class Messages:
-    """Joins the messages of one line; `due` is the first number, if it is known."""
+    """Joins the messages of one line; `due` is the first number, if it is known. Frames that were made up bring each packet once."""
 
-    def __init__(self, due: int | None = None) -> None:
+    def __init__(self, due: int | None = None, is_made_up: bool = False) -> None:
         self._ways = {direction: Way(due) for direction in OTHER}
+        self._is_made_up = is_made_up
+        # After frames that weren't recorded the channels on which a message has ended since, by way; None where nothing is missing.
+        self._whole: dict[str, set[int] | None] = dict.fromkeys(OTHER)
         self._begun: dict[tuple[str, int], bytearray] = {}
         self._completed: list[Message] = []
         self._time = ""
@@ -158,7 +166,13 @@ class Messages:
     def take(self, frames: Iterable[tuple[str, str]]) -> list[Message]:
         """Takes some frames, each its time and its text by `x25 decode`; answers the messages that they complete."""
         for self._time, text in frames:
+            if text == LACKS:
+                self._pass_gap()
+                continue
             frame, _, packet = text.partition(" | ")
+            if self._is_made_up:
+                self._packet(frame[0], packet)
+                continue
             direction, sent, heard, sets_up = numbers_of(frame)
             if heard is not None:
                 for taken in self._ways[OTHER[direction]].acknowledge(heard):
@@ -183,10 +197,23 @@ class Messages:
         completed, self._completed = self._completed, []
         return completed
 
+    def _pass_gap(self) -> None:
+        """Frames of either end weren't recorded."""
+        self._ways = {way: Way() for way in OTHER}
+        for way in OTHER:
+            self._lose(way, "missing frames")
+        self._complete("", None, LACKS)
+
+    def _lose(self, direction: str, why: str) -> None:
+        """Breaks off what an end had begun, the rest of which may come."""
+        self._break_off(direction, None, why)
+        self._whole[direction] = set()
+
     def _packet(self, direction: str, packet: str | None) -> None:
         """Takes the packet of an I frame that was taken; None where it isn't known."""
         if packet is None:
-            self._complete(direction, None, "packet not recorded")
+            self._lose(direction, UNRECORDED)
+            self._complete(direction, None, UNRECORDED)
             return
         head, _, rest = packet.partition(" data=")
         digits = "" if rest[:1] == "-" else rest.partition(" ")[0]
@@ -198,11 +225,25 @@ class Messages:
                 if goes_on and len(held) < 2 * MOST_MESSAGE:
                     return
                 digits = self._begun.pop((direction, channel)).decode()
-            self._complete(direction, channel, "message that goes on" if goes_on else "message", digits, q)
+            beginning = "" if self._is_whole(direction, channel) else ", perhaps without its beginning"
+            self._complete(direction, channel, ("message that goes on" if goes_on else "message") + beginning, digits, q)
         elif found := INTERRUPT.fullmatch(head):
             self._complete(direction, int(found[1]), "interrupt", digits)
         elif found := ENDED.match(head):
-            self._break_off(direction, int(found[2]) if found[2] else None, found[1])
+            ended = int(found[2]) if found[2] else None
+            self._break_off(direction, ended, found[1])
+            if ended is None:
+                self._whole[direction] = None
+            else:
+                self._is_whole(direction, ended)
+
+    def _is_whole(self, direction: str, channel: int) -> bool:
+        """Whether what an end sent on a channel is there from its beginning; from here on it is."""
+        whole = self._whole[direction]
+        if whole is None or channel in whole:
+            return True
+        whole.add(channel)
+        return False
 
     def _break_off(self, direction: str, channel: int | None, why: str) -> None:
         """Drops what an end had begun on a channel, or on all, and tells it."""

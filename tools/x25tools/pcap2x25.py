@@ -26,8 +26,8 @@ connection, those of lapbether another; each two ends (addresses and ports) of X
 
 Of a frame of LAPB that was captured in part nothing is known: its line has no octets.
 
-Exit status: 0; 1 where nothing was found or something was left out, which standard error names; 2 for bad words or bad
-input. Traffic that is no X.25 is passed over, and told where nothing was found. Before bad input is told, the lines of all
+Exit status: 0; 1 where nothing was found, something was left out, or no frame reads so (--swap, --fcs, --no-fcs), which standard error
+names; 2 for bad words or bad input. Traffic that is no X.25 is passed over, and told where nothing was found. Before bad input is told, the lines of all
 records before it are written.
 """
 
@@ -50,6 +50,8 @@ ADDRESS = {">": 0x01, "<": 0x03}
 # A line between those of a connection says that frames of it aren't there, any number of either end's; and these are the octets of a frame of
 # which nothing is known.
 GAP, UNREAD = "\n", b""
+# What is shown of a gap.
+LACKS = "# the capture lacks frames here"
 # The connections, the times and the lines of some frames.
 Found = tuple[list["Connection"], list[int], list[str]]
 # A list of connections isn't kept without bound.
@@ -57,19 +59,25 @@ MOST_CONNECTIONS = 65_536
 
 
 class Connection:
-    """What two ends sent each other: its number from 1, its name, how many frames there were each way, and whether they are made up."""
+    """What two ends sent each other: its number from 1, its name, how many frames there were each way, and whether they are made up; and how often
+    packets are missing, for each of which a number is left out where frames are made up."""
 
     def __init__(self, number: int, name: str | None, is_made_up: bool) -> None:
         self.number = number
         self.name = name
         self.is_made_up = is_made_up
-        self.sent = {direction: 0 for direction in OTHER}
+        self.sent = dict.fromkeys(OTHER, 0)
+        self.missed = dict.fromkeys(OTHER, 0)
 
     def __eq__(self, other: object) -> bool:
         return isinstance(other, Connection) and self.number == other.number
 
     def __hash__(self) -> int:
         return self.number
+
+    def counted(self, direction: str) -> int:
+        """The number of the next frame of a direction that is made up."""
+        return self.sent[direction] + self.missed[direction]
 
     def row(self) -> str:
         """The line of a list of connections."""
@@ -86,14 +94,21 @@ class Doubts:
 
     def __init__(self) -> None:
         self._frames: Counter[object] = Counter()
+        self._seen = 0
 
     def see(self, is_of_dte: bool, octets: bytes, has_fcs: bool) -> None:
         """Takes a frame that is read as the DTE's or not, with or without its frame check sequence."""
-        if sum(self._frames.values()) >= 2 * self.MOST:
+        if self.are_enough():
             return
-        by_address = lan.is_of_dte(octets)
+        self._seen += 1
+        is_sealed = x25lines.is_sealed(octets)
+        self._frames["sealed" if is_sealed else "unsealed", has_fcs] += 1
+        by_address = lan.is_of_dte(octets) if is_sealed or not has_fcs else None
         self._frames["silent" if by_address is None else "own" if by_address == is_of_dte else "other"] += 1
-        self._frames["sealed" if x25lines.is_sealed(octets) else "unsealed", has_fcs] += 1
+
+    def are_enough(self) -> bool:
+        """Whether no more frames need be seen."""
+        return self._seen >= self.MOST
 
     def said(self) -> Iterator[str]:
         """Yields what is said of them at the end."""
@@ -102,7 +117,14 @@ class Doubts:
         if self._frames["sealed", False] and not self._frames["unsealed", False]:
             yield "each frame ends in its frame check sequence already: --fcs adds none"
         if self._frames["unsealed", True] and not self._frames["sealed", True]:
-            yield "no frame ends in its frame check sequence: without --fcs each gets one"
+            yield "no frame ends in its frame check sequence: with --no-fcs each gets one"
+
+    def tell(self) -> int:
+        """Says it on standard error; answers the status."""
+        said = list(self.said())
+        for doubt in said:
+            x25lines.warn(doubt)
+        return 1 if said else 0
 
 
 class Converter:
@@ -208,7 +230,8 @@ class Converter:
 
     def _add_frame(self, is_of_dte: bool, octets: bytes, is_cut: bool, has_fcs: bool, has_error: bool = False) -> None:
         """Adds a frame of LAPB, with a frame check sequence where the capture lacks it."""
-        has_fcs = has_fcs or self._options.fcs
+        if self._options.fcs is not None:
+            has_fcs = self._options.fcs
         if is_cut:
             self.notes["frame that was captured in part"] += 1
             octets = UNREAD
@@ -228,10 +251,12 @@ class Converter:
                 self._add_packet(stream.name, stream.is_of_dte, packet)
 
     def _add_gaps(self, dropped: int) -> None:
-        """Frames aren't there that the program which captured has dropped, of whichever connections."""
+        """Frames aren't there that the program which captured has dropped, of whichever connections; the numbers of TCP and LLC show where theirs are
+        missing."""
         self.notes["frame that the program which captured dropped"] += dropped
         for key, connection in self._connections.items():
-            self._add(key, key, True, None)
+            if not connection.is_made_up:
+                self._add(key, key, True, None)
 
     def _add_packet(self, name: str, is_of_dte: bool, packet: bytes | None) -> None:
         """Adds the packet of a connection without frames of LAPB; None is a gap."""
@@ -246,24 +271,25 @@ class Converter:
         direction = "<>"[is_of_dte != self._options.swap]
         connection = self._connections.get(key)
         if octets is None:
-            self._add_line(connection, GAP)
+            if connection is not None:
+                connection.missed[direction] += 1
+                self._add_line(connection, GAP)
             return
         connection = connection or self._begun(key, name, is_made_up)
         if connection is not None:
-            connection.name, sent = name, connection.sent
+            connection.name = name
             if is_made_up:
-                octets = bytes((ADDRESS[direction], (sent[OTHER[direction]] << 5 | sent[direction] << 1 & 0x0E) & 0xFF)) + octets
+                octets = bytes((ADDRESS[direction], (connection.counted(OTHER[direction]) << 5 | connection.counted(direction) << 1 & 0x0E) & 0xFF)) + octets
                 octets += x25lines.fcs(octets)
-            sent[direction] += 1
+            connection.sent[direction] += 1
             self._add_line(connection, f"{direction} {octets.hex()}\n")
 
-    def _add_line(self, connection: Connection | None, line: str) -> None:
+    def _add_line(self, connection: Connection, line: str) -> None:
         """Adds a line of a connection."""
-        if connection is not None:
-            connections, times, lines = self._found
-            connections.append(connection)
-            times.append(self._now)
-            lines.append(line)
+        connections, times, lines = self._found
+        connections.append(connection)
+        times.append(self._now)
+        lines.append(line)
 
     def _begun(self, key: str, name: str, is_made_up: bool) -> Connection | None:
         """A new connection, or None where there are too many."""
@@ -277,13 +303,12 @@ class Converter:
         """Says on standard error what was left out and why; answers the status."""
         for note, count in self.notes.items():
             x25lines.warn(f"left out: {note} ({count})")
-        for doubt in self._doubts.said():
-            x25lines.warn(doubt)
+        status = self._doubts.tell()
         if not self._connections:
             x25lines.warn("nothing was found" + ("" if self.notes or self.passed else ": the capture has no records"))
             for note, count in self.passed.items():
                 x25lines.warn(f"passed over: {note} ({count})")
-        return 1 if self.notes or not self._connections else 0
+        return 1 if self.notes or not self._connections else status
 
 
 def station(text: str) -> bytes:
@@ -303,7 +328,7 @@ def connection_number(text: str) -> int:
 def add_capture_words(parser: argparse.ArgumentParser) -> None:
     """Adds the words that say how a capture is read."""
     parser.add_argument("--swap", action="store_true", help="exchange the directions")
-    parser.add_argument("--fcs", action="store_true", help="the frames have their frame check sequence: add none")
+    parser.add_argument("--fcs", action=argparse.BooleanOptionalAction, help="the frames have their frame check sequence: add none; or they lack it")
     parser.add_argument("--lapb", type=int, metavar="N", help="the link type N holds frames of LAPB")
     parser.add_argument("--from", dest="sent_by", choices=["dte", "dce"], help="whose frames those without a direction are")
     parser.add_argument("--port", type=int, default=xot.XOT_PORT, metavar="N", help="the port of XOT (1998)")

@@ -5,22 +5,22 @@
     tail -f trace | x25dump.py --channel 1
     x25 sim --tap < script | x25dump.py --messages
 
-Reads captures, as pcap2x25.py does (its --help has the link types and the words --swap to --dte), the lines of a trace, also
-with a time and a tab before them, the lines of `x25 decode`, and those of `x25 sim --tap`; each also packed by gzip. Empty lines
+Reads captures, as pcap2x25.py does (its --help has the link types and the words --swap to --dte), the lines of a trace (--swap and
+--no-fcs are for these too), also with a time and a tab before them, the lines of `x25 decode`, and those of `x25 sim --tap`; each also packed by gzip. Empty lines
 and comments, which begin with `#`, are shown as they are; a line that is none of these is answered by `? 60`, as `decode` does.
 Of a capture all connections are shown, each but the first with its number before the direction, and named where it begins;
 --connection takes one of them. Frames that were made up around packets aren't shown, their packets are.
 
   --messages  shows what the ends' users sent: data packets joined by M, and interrupts, as hexadecimal digits and text. Each comes
-              once, though its frame be repeated
+              once, though its frame be repeated; where frames are missing those that are begun are broken off
   --stats     writes at the end how many frames, packets and octets of data went each way, and how many I frames came out of order or again
   --judge     says after a frame which end broke which rule or which manners of the link or the packet layer with it, and what may be noted (`x25 judge`), of each
               connection by itself; --k is the window. Of packets without frames (XOT, LLC) the rules of the packet layer alone; not of lines of `x25 decode`. At the
               end it says how many frames and packets there were, and how many of them were judged
   --at        says where a capture was made: `dte` or `dce`, in front of that end, so that of the other one's frames those are missing that the line lost; or on the
               `line`, and it has all frames. Where nothing is said a capture may lack any frame. What such frames would explain stands after ` !? ` and ` ~? manners: `,
-              and makes the status 1 with --strict alone. After frames that the capture says are missing an end is judged anew; nothing is judged of a link modulo 128.
-              Lines of a trace are all that was on the line, where nothing is said
+              and makes the status 1 with --strict alone; so does what --swap, --fcs or --no-fcs would explain. After frames that the capture says are missing, which a
+              comment shows, both ends are judged anew; nothing is judged of a link modulo 128. Lines of a trace are all that was on the line, where nothing is said
   --strict, --manners
               make the status 1 too where a frame or a packet wasn't judged, or where manners were broken
   --channel   shows the packets of a channel alone; 0 is that of RESTART. With --stats it counts them
@@ -31,8 +31,8 @@ Of a capture all connections are shown, each but the first with its number befor
 The program is the one that --x25 or the variable X25 names, or `x25` of the PATH, or else the one that was built or
 installed with this script, or that of `make look`, which is unproved. Colours are for a terminal alone, and not where the variable NO_COLOR is set.
 
-Exit status: 0; 1 where a line was none, a rule was broken, nothing was found in a capture, or something was left out; 2 for bad
-words or bad input, after what stands before it.
+Exit status: 0; 1 where a line was none, a rule was broken, nothing was found, something was left out, or no frame reads so (--swap,
+--fcs, --no-fcs); 2 for bad words or bad input, after what stands before it.
 """
 
 from __future__ import annotations
@@ -44,13 +44,14 @@ import operator
 import os
 import re
 import sys
+import zlib
 from collections import Counter, defaultdict
 from typing import Callable, Iterable, Iterator, TextIO
 
 from x25tools import captures, decoding, judging, pcap2x25, x25lines, x25names
 from x25tools.ahead import ahead
 from x25tools.messages import KEPT, Message, Messages, all_dumped
-from x25tools.pcap2x25 import Connection
+from x25tools.pcap2x25 import GAP, LACKS, Connection
 from x25tools.x25lines import BadInput
 
 RED, BLUE, GREEN, GREY, PLAIN = "\x1b[31m", "\x1b[34m", "\x1b[32m", "\x1b[90m", "\x1b[0m"
@@ -89,6 +90,8 @@ class Reader:
         self._options = options
         self._time = x25lines.seconds if options.epoch else x25lines.moment
         self.status = 0
+        # With --judge: whether there were frames in digits, and how many lines of `x25 decode`.
+        self._has_frames, self._texts_seen = False, 0
 
     def shown(self, file: x25lines.Readable) -> Iterator[list[Thing]]:
         """Whatever the file holds."""
@@ -103,8 +106,15 @@ class Reader:
                 self.status = max(self.status, found)
                 continue
             connections, times, asked = found
-            shown = zip(map(self._time, times), connections, self._decoder.texts(asked, connections))
-            yield [(time, connection, text) for time, connection, text in shown if text is not None]
+            yield list(zip(map(self._time, times), connections, self._texts(asked, connections)))
+
+    def _texts(self, asked: str, connections: list[Connection]) -> list[str]:
+        """The texts of the lines of frames, and of gaps."""
+        if isinstance(self._decoder, judging.Judge) or GAP * 2 not in GAP + asked:
+            return self._decoder.texts(asked, connections)
+        lines = asked.splitlines(True)
+        texts = iter(self._decoder.texts("".join([line for line in lines if line != GAP])))
+        return [LACKS if line == GAP else next(texts) for line in lines]
 
     def _found(self, file: x25lines.Readable) -> Iterator[tuple[list[Connection], list[int], str] | int]:
         """Yields the connections, the times and the text of the lines of the frames of a capture, in blocks, and at the end the status."""
@@ -114,30 +124,57 @@ class Reader:
             if wanted is not None:
                 are_wanted = [connection.number == wanted for connection in found[0]]
                 found = pcap2x25.picked(found, are_wanted)
-            connections, times, lines = found if self._options.judge else pcap2x25.without_gaps(*found)
+            connections, times, lines = found
             yield connections, times, "".join(lines)
         if 0 < len(converter.connections()) < (wanted or 1):
             raise BadInput(f"there are {len(converter.connections())} connections, and no number {wanted}")
+        if self._options.at and captures.DROPPED in converter.notes and not all(it.is_made_up for it in converter.connections()):
+            x25lines.warn("so --at doesn't hold: what was dropped may explain what is told")
         yield converter.tell()
 
     def _lines(self, file: x25lines.Readable) -> Iterator[list[Thing]]:
-        trace = pcap2x25.Connection(1, None, False)
-        if not file.peek(1):
-            x25lines.warn("nothing was found: the input is empty")
-            self.status = 1
+        trace, doubts, is_empty = pcap2x25.Connection(1, None, False), pcap2x25.Doubts(), not file.peek(1)
         with decoding.Decoder(self._options.x25, ["--loose", *reading(self._options)]) as decoder:
             for _, lines in x25lines.blocks_of_lines(file):
+                if self._options.swap or self._options.fcs is False:
+                    lines = [self._as_asked(line) for line in lines]
+                for line in itertools.takewhile(lambda _: not doubts.are_enough(), lines):
+                    if (frame := x25lines.frame_line(line)) and frame.octets:
+                        doubts.see(frame.direction == ">", frame.octets, True)
                 answers = decoding.answers(decoder, lines)
                 if self._options.judge:
                     answers = self._judged(lines, answers, trace)
                 yield [("", trace, answer) if answer[:1] in COLOURS else self._other(line, answer, trace) for line, answer in zip(lines, answers)]
 
+        if is_empty:
+            self._say("nothing was found: the input is empty")
+        elif self._options.judge and not self._has_frames:
+            self._say("nothing was judged: no line has a frame in hexadecimal digits")
+        elif self._texts_seen:
+            self._say(f"left out: line of `x25 decode`, which isn't judged ({self._texts_seen})")
+        self.status = max(self.status, doubts.tell())
+
+    def _say(self, text: str) -> None:
+        """Says on standard error what isn't there, or wasn't read."""
+        x25lines.warn(text)
+        self.status = 1
+
+    def _as_asked(self, line: bytes) -> bytes:
+        """A line with its direction exchanged, or with a frame check sequence added, where it has a frame in digits."""
+        frame, (time, tab, _) = x25lines.frame_line(line), line.rpartition(b"\t")
+        if frame is None:
+            return line
+        direction = x25lines.OTHER[frame.direction] if self._options.swap else frame.direction
+        octets = frame.octets + (x25lines.fcs(frame.octets) if self._options.fcs is False else b"")
+        return time + tab + f"{direction} {octets.hex()}".encode()
+
     def _judged(self, lines: list[bytes], answers: list[str], trace: Connection) -> list[str]:
         """The answers to lines, those to frames with what is told of each after it."""
         frames = [line.rpartition(b"\t")[2].decode() if decoding.parted(line, answer) else None for line, answer in zip(lines, answers)]
         asked = [f"{frame}\n" for frame in frames if frame]
+        self._has_frames |= bool(asked)
         texts = iter(self._decoder.texts("".join(asked), [trace] * len(asked)))
-        return ["".join(answer.rpartition("\t")[:2]) + (next(texts) or "") if frame else answer for frame, answer in zip(frames, answers)]
+        return ["".join(answer.rpartition("\t")[:2]) + next(texts) if frame else answer for frame, answer in zip(frames, answers)]
 
     def _clock(self, time: str) -> str:
         """A time of a line as it is shown."""
@@ -149,6 +186,7 @@ class Reader:
         if parts := decoding.parted(line, answer):
             return self._clock(parts[0]), trace, parts[1]
         if (found := decoding.TEXT_LINE.fullmatch(line)) and not decoding.NO_DIGITS.search(line):
+            self._texts_seen += self._options.judge
             return (found[1] or b"").decode(), trace, found[2].decode()
         if x25lines.is_passed_over(line):
             return "", trace, line.decode("utf-8", "replace")
@@ -196,7 +234,7 @@ class Lines:
                     self._named.add(connection.number)
                     if connection.name is not None:
                         lines.append(self._paint(GREY, f"connection {connection.number}: {connection.name}"))
-            if is_made_up:
+            if is_made_up and text != LACKS:
                 text = text[:2] + text[PACKET_AT:]
             if not has_plain_texts:
                 text = self._text(text)
@@ -242,7 +280,7 @@ def colour_of(text: str) -> str:
 def heading(paint: Paint, direction: str, channel: int | None, sort: str, count: int, q: str) -> str:
     """What stands above the rows of a message of so many octets."""
     if channel is None:
-        return paint(RED, f"{direction} {sort}")
+        return paint(RED, f"{direction} {sort}".lstrip())
     return paint(COLOURS[direction], f"{direction} ch={channel}{f' Q={q}' if q else ''} {sort}, {count:,} octet{'s' if count != 1 else ''}")
 
 
@@ -260,9 +298,8 @@ class Joined:
         lines: list[str] = []
         for connection, things in itertools.groupby(block, key=CONNECTION):
             if connection not in self._lines:
-                # Frames that were made up count from 0.
-                self._lines[connection] = Messages(0 if connection.is_made_up else None)
-            frames = [(time, text) for time, _, text in things if text[:1] in x25lines.OTHER]
+                self._lines[connection] = Messages(is_made_up=connection.is_made_up)
+            frames = [(time, text) for time, _, text in things if text[:1] in x25lines.OTHER or text == LACKS]
             lines += self._rows(connection, self._lines[connection].take(frames))
         return lines
 
@@ -436,8 +473,14 @@ def main() -> int:
         view: Lines | Joined | Statistic = Joined(paint, options.channel) if options.messages else Statistic() if options.stats else Lines(paint, options.fold)
         if options.channel is not None and not options.messages:
             blocks = ([it for it in block if channel_of(it[2]) == options.channel] for block in blocks)
-        show(view, blocks, sys.stdout)
+        bad: Exception | None = None
+        try:
+            show(view, blocks, sys.stdout)
+        except (BadInput, EOFError, zlib.error) as error:
+            bad = error
         counts = list(decoder.counts()) if isinstance(decoder, judging.Judge) else []
     for number, line in counts:
         print(f"#{number} {line}" if number > 1 else line)
+    if bad is not None:
+        raise bad
     return 1 if options.strict and any(" judged, " in line and not line.endswith(" 0 not judged") for _, line in counts) else reader.status

@@ -16,16 +16,19 @@ Ends = tuple[bytes, bytes, int, int]
 
 RAW_IP, OLD_RAW_IP, OTHER_RAW_IP, IPV4, IPV6 = 101, 12, 14, 228, 229
 NULL, LOOP = 0, 108
-TCP = 6
+TCP, IPV6_FRAGMENT = 6, 44
 # Extension headers of IPv6 that say their own length in the same way.
 EXTENSIONS = (0, 43, 60)
 MOST_EXTENSIONS = 8
 
 SYN, ACK = 2, 16
-WITHIN = "segment that begins within a packet, before the first of a connection that was captured from its midst"
+WITHIN = "segment that begins within a packet, after a gap or where the capture begins within a connection"
+FRAGMENT = "fragment of IP, of which nothing is read"
 # How much is held of a connection while a segment is missing, and of how many connections.
 MOST_SEGMENTS, MOST_STREAMS = 256, 4096
 SEQUENCES = 1 << 32
+# What a packet modulo 8 or 128 begins with, of its format; and the longest.
+FORMATS, FORMAT, MOST_PACKET = (0x10, 0x20), 0x30, 4_099
 
 
 # For each link type that holds IP and no addresses of a local network, the octets of its header.
@@ -64,6 +67,16 @@ def _of_ipv6(octets: bytes) -> Carried | None:
 _READERS = {4: _of_ipv4, 6: _of_ipv6}
 
 
+def fragment(octets: bytes) -> tuple[bytes, bytes, bytes] | None:
+    """Source, target and, of the first one of a segment, ports of a fragment of IP that holds TCP; None of what is none."""
+    if len(octets) >= 20 and octets[0] >> 4 == 4 and octets[9] == TCP and (at := _IPV4(octets)[2] & 0x3FFF):
+        header = 4 * (octets[0] & 0xF)
+        return octets[12:16], octets[16:20], b"" if at & 0x1FFF else octets[header : header + 4]
+    if len(octets) >= 48 and octets[0] >> 4 == 6 and octets[6] == IPV6_FRAGMENT and octets[40] == TCP:
+        return octets[8:24], octets[24:40], b"" if int.from_bytes(octets[42:44], "big") >> 3 else octets[48:52]
+    return None
+
+
 def segment(octets: bytes) -> tuple[Ends, int, int, int, bytes, int] | None:
     """The segment of TCP in a packet of IP: its ends (addresses and ports, source and target), where its octets stand in the stream, where those
     stand that its sender wants next, its flags, its octets, and how many of these weren't captured; None where it holds none."""
@@ -83,8 +96,8 @@ def segment(octets: bytes) -> tuple[Ends, int, int, int, bytes, int] | None:
 class Stream:
     """One direction of a connection, between two ends: puts segments in order, and cuts what comes into packets.
 
-    The DTE is the end that opened the connection to the port of XOT. Where a capture begins within a connection, the first segment that begins
-    with a packet is the first that is read.
+    The DTE is the end that opened the connection to the port of XOT. Where a capture begins within a connection, and after a gap, the first segment
+    that begins with a packet is the first that is read.
     """
 
     def __init__(self, ends: Ends, port: int, notes: Counter[str]) -> None:
@@ -97,7 +110,7 @@ class Stream:
         self._next: int | None = None
         self._ahead: dict[int, bytes] = {}
         self._held = b""
-        self._is_lost = self._has_packets = False
+        self._is_lost = self._is_in_step = False
 
     def take(self, sequence: int, flags: int, octets: bytes) -> list[bytes | None]:
         """Takes the octets of a segment, which stand there in the stream; answers the X.25 packets that are whole now, and None where some are
@@ -112,14 +125,12 @@ class Stream:
             if self._next is None:
                 self._next = sequence
             if self._next == sequence and not self._ahead:
-                self._hold(octets)
+                packets += self._hold(octets)
             else:
                 self._ahead.setdefault(sequence, octets)
-                self._in_order()
+                packets += self._in_order()
                 if len(self._ahead) > MOST_SEGMENTS:
-                    self._pass_gap()
-                    packets.append(None)
-            packets += self._packets()
+                    packets += self._pass_gap()
         return packets
 
     def taken(self, wanted: int) -> list[bytes | None]:
@@ -127,19 +138,14 @@ class Stream:
         packets: list[bytes | None] = []
         # An end of the stream counts as an octet.
         while self._next is not None and self._distance(wanted) > (0 if self._ahead else 1):
-            if self._ahead:
-                self._pass_gap()
-            else:
-                self._skip(wanted)
-            packets += [None, *self._packets()]
+            packets += self._pass_gap() if self._ahead else self._skip(wanted)
         return packets
 
     def end(self) -> list[bytes | None]:
         """Gives up what is missing; answers the packets after it, each after None, and notes what was left within one."""
         packets: list[bytes | None] = []
         while self._ahead:
-            self._pass_gap()
-            packets += [None, *self._packets()]
+            packets += self._pass_gap()
         if self._held:
             self._notes["packet broken off at the end of its connection"] += 1
             self._held = b""
@@ -149,7 +155,7 @@ class Stream:
         """Begins a connection, whose first octet stands after the number of its SYN."""
         self._start = sequence
         self._next = (sequence + 1) % SEQUENCES
-        self._is_lost = self._has_packets = False
+        self._is_lost, self._is_in_step = False, True
 
     def _distance(self, sequence: int) -> int:
         """How far behind the octet that is wanted next a number stands; below 0, before it."""
@@ -157,29 +163,32 @@ class Stream:
         distance = (sequence - self._next) % SEQUENCES
         return distance - SEQUENCES if distance >= SEQUENCES // 2 else distance
 
-    def _in_order(self) -> None:
-        """Moves each segment that has become the next one, or overlaps it, to what is held."""
+    def _in_order(self) -> list[bytes | None]:
+        """Moves each segment that has become the next one, or overlaps it, to what is held; answers the packets that are whole now."""
+        packets: list[bytes | None] = []
         while ready := [it for it in self._ahead if self._distance(it) <= 0]:
             for sequence in ready:
-                self._hold(self._ahead.pop(sequence)[-self._distance(sequence) :])
+                packets += self._hold(self._ahead.pop(sequence)[-self._distance(sequence) :])
+        return packets
 
-    def _hold(self, octets: bytes) -> None:
-        """Takes the octets that are wanted next."""
+    def _hold(self, octets: bytes) -> list[bytes | None]:
+        """Takes the octets that are wanted next; answers the packets that are whole now."""
         assert self._next is not None
         self._held += octets
         self._next = (self._next + len(octets)) % SEQUENCES
+        return self._packets()
 
-    def _pass_gap(self) -> None:
-        """Goes on at the nearest segment."""
-        self._skip(min(self._ahead, key=self._distance))
-        self._in_order()
+    def _pass_gap(self) -> list[bytes | None]:
+        """Goes on at the nearest segment; answers None and the packets that are whole now."""
+        return [*self._skip(min(self._ahead, key=self._distance)), *self._in_order()]
 
-    def _skip(self, sequence: int) -> None:
-        """Goes on there; what was held ends within a packet, and so is dropped."""
+    def _skip(self, sequence: int) -> list[bytes | None]:
+        """Goes on there, and answers None; what was held ends within a packet, and so is dropped."""
         self._notes["gap in a connection, octets that weren't captured"] += 1
         self._held = b""
-        self._is_lost = False
+        self._is_lost = self._is_in_step = False
         self._next = sequence
+        return [None]
 
     def _packets(self) -> list[bytes | None]:
         """Cuts the packets that are whole off what is held."""
@@ -187,8 +196,8 @@ class Stream:
         held, at = self._held, 0
         while not self._is_lost and len(held) - at >= 4:
             version, length = _HEADER(held, at)
-            if version != 0 or length == 0:
-                if self._start is None and not self._has_packets:
+            if version != 0 or length == 0 or not (self._is_in_step or _is_like_packet(held[at + 4 :], length)):
+                if not self._is_in_step:
                     self._notes[WITHIN] += 1
                     held = b""
                     break
@@ -199,7 +208,7 @@ class Stream:
                 break
             else:
                 packets.append(held[at + 4 : at + 4 + length])
-                self._has_packets = True
+                self._is_in_step = True
                 at += 4 + length
         self._held = b"" if self._is_lost else held[at:]
         return packets
@@ -211,9 +220,14 @@ def _end(end: tuple[bytes, int]) -> str:
     return f"[{host}]:{end[1]}" if ":" in host else f"{host}:{end[1]}"
 
 
+def _is_like_packet(octets: bytes, length: int) -> bool:
+    """True where octets, as far as they are there, may be a packet of X.25 of a length."""
+    return 3 <= length <= MOST_PACKET and (not octets or octets[0] & FORMAT in FORMATS)
+
+
 def is_like_xot(octets: bytes) -> bool:
-    """True where octets are a whole packet of XOT: version 0, its length, an X.25 packet modulo 8 or 128."""
-    return len(octets) >= 7 and octets[:2] == b"\0\0" and int.from_bytes(octets[2:4], "big") == len(octets) - 4 and octets[4] & 0x30 in (0x10, 0x20)
+    """True where octets are a whole packet of XOT: version 0, its length, an X.25 packet."""
+    return octets[:2] == b"\0\0" and int.from_bytes(octets[2:4], "big") == len(octets) - 4 and _is_like_packet(octets[4:], len(octets) - 4)
 
 
 class Xot:
@@ -232,7 +246,10 @@ class Xot:
         """Takes a packet of IP; answers the streams that have whole X.25 packets now, each with these."""
         found = segment(octets)
         if found is None:
-            self._passed["packet of IP without a whole segment of TCP"] += 1
+            if self._is_fragment(octets):
+                self._notes[FRAGMENT] += 1
+            else:
+                self._passed["packet of IP without a whole segment of TCP"] += 1
             return []
         ends, sequence, wanted, flags, octets, missing = found
         if self._port not in ends[2:]:
@@ -250,6 +267,14 @@ class Xot:
         back = self._streams.get((ends[1], ends[0], ends[3], ends[2])) if flags & ACK else None
         taken = [(back, back.taken(wanted))] if back else []
         return [*taken, (stream, stream.take(sequence, flags, octets)), *closed]
+
+    def _is_fragment(self, octets: bytes) -> bool:
+        """Whether a packet of IP is a fragment of what one end sent the other, or of a segment to or from the port."""
+        found = fragment(octets)
+        if found is None:
+            return False
+        source, target, ports = found
+        return self._port.to_bytes(2, "big") in (ports[:2], ports[2:]) or any(ends[:2] == (source, target) for ends in self._streams)
 
     def end(self) -> list[tuple[Stream, list[bytes | None]]]:
         """Ends all connections; answers what they still hold."""
