@@ -13,7 +13,7 @@
  *
  * An answer has at most 24 frames of at most 4,103 octets, and 4 events, of which one has at most 65,535 octets; that of
  * x25_receive_all has as many for each frame that was taken. Its memory is set aside before anything happens: reading it takes
- * none, but for x25_entry. A new station takes less than 300 kB, one with all that may wait on 16 channels less than 12 MB.
+ * none, but for x25_entry. A new station takes less than 300 kB, one with all that may wait on 16 channels less than 10 MB.
  *
  * What the library can't see, and the program has to keep:
  * - An x25_station that holds a station isn't copied, only the library reads and writes its fields, and it is in one call at
@@ -71,6 +71,16 @@ typedef struct {
     uint8_t window_called;
     uint8_t window_calling;
 } x25_sizes;
+
+/* What a station that is wide gives beside a call, its acceptance or its clearing. What is left out in braces, as in
+   {.facilities = octets, .facilities_count = 2}, isn't given. */
+typedef struct {
+    const uint8_t *facilities; /* whole ones, 103 octets at most in all, but no packet sizes or windows: x25_sizes has these */
+    size_t facilities_count;
+    const uint8_t *user;       /* user data of an acceptance or a clearing, 128 octets at most; x25_call_with takes that of a call */
+    size_t user_count;
+    bool d;                    /* the D bit of a call or an acceptance */
+} x25_given;
 
 /* How long each answer may take, in milliseconds; 0 is for ever. For a DCE t20 to t23 are its T10 to T13. */
 typedef struct {
@@ -211,11 +221,17 @@ uint32_t x25_restart(x25_station *station, uint8_t cause, uint8_t diagnostic);
    at most 16 octets of user data, or 128 with long_data. 9, 40, 41, 10, 34; channel is then as before. */
 uint32_t x25_call(x25_station *station, const char *called, size_t called_count, const char *calling, size_t calling_count,
                   const uint8_t *user, size_t user_count, x25_sizes sizes, uint16_t *channel);
+/* The same, with what is given beside, as x25_accept_with and x25_clear_with. Where nothing is given they are as those without it.
+   Else 34 too: the station isn't wide, x25_given doesn't let it be given, or it gives user data with a call, or D with a clearing. */
+uint32_t x25_call_with(x25_station *station, const char *called, size_t called_count, const char *calling, size_t calling_count,
+                       const uint8_t *user, size_t user_count, x25_sizes sizes, x25_given given, uint16_t *channel);
 /* Accepts the call that came on a channel, with sizes and windows each from the one proposed to the default.
    9, 40, 42, 10, 30, 34. */
 uint32_t x25_accept(x25_station *station, uint16_t channel, x25_sizes sizes);
+uint32_t x25_accept_with(x25_station *station, uint16_t channel, x25_sizes sizes, x25_given given);
 /* Clears a call, whatever its state. 9, 40, 42, 10, 30, 34. */
 uint32_t x25_clear(x25_station *station, uint16_t channel, uint8_t cause, uint8_t diagnostic);
+uint32_t x25_clear_with(x25_station *station, uint16_t channel, uint8_t cause, uint8_t diagnostic, x25_given given);
 /* Resets a call: messages on the way are lost. 9, 40, 42, 10, 30, 34. */
 uint32_t x25_reset(x25_station *station, uint16_t channel, uint8_t cause, uint8_t diagnostic);
 /* Sends an interrupt of 1 to 32 octets. 9, 40, 42, 10, 30, 34, 33. */

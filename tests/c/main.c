@@ -2,6 +2,8 @@
    timer T1 fires, and each end sends a message. Calls that are refused are tried before. */
 #include "two.h"
 
+static const x25_sizes no_sizes = {0, 0, 0, 0};
+
 static void take(end_t *end)
 {
     take_frames(end);
@@ -63,10 +65,13 @@ static void try_refusals(void)
     expect("entry of none, its length", (uint32_t)count, 7);
     expect("disconnect of none", x25_disconnect(station), X25_NO_STATION);
     expect("restart of none", x25_restart(station, 0, 0), X25_NO_STATION);
-    expect("call of none", x25_call(station, "1", 1, "2", 1, room, 4, (x25_sizes){0, 0, 0, 0}, &channel), X25_NO_STATION);
+    expect("call of none", x25_call(station, "1", 1, "2", 1, room, 4, no_sizes, &channel), X25_NO_STATION);
+    expect("call of none with what is given", x25_call_with(station, "1", 1, "2", 1, room, 4, no_sizes, (x25_given){.d = true}, &channel), X25_NO_STATION);
     expect("call of none, its channel", channel, 78);
-    expect("accept of none", x25_accept(station, 1, (x25_sizes){0, 0, 0, 0}), X25_NO_STATION);
+    expect("accept of none", x25_accept(station, 1, no_sizes), X25_NO_STATION);
+    expect("accept of none with what is given", x25_accept_with(station, 1, no_sizes, (x25_given){.d = true}), X25_NO_STATION);
     expect("clear of none", x25_clear(station, 1, 0, 0), X25_NO_STATION);
+    expect("clear of none with what is given", x25_clear_with(station, 1, 0, 0, (x25_given){.user = room, .user_count = 4}), X25_NO_STATION);
     expect("reset of none", x25_reset(station, 1, 0, 0), X25_NO_STATION);
     expect("interrupt of none", x25_interrupt(station, 1, room, 4), X25_NO_STATION);
     expect("ready of none", x25_ready(station, 1), X25_NO_STATION);
@@ -189,7 +194,7 @@ static void try_beside(void)
     expect("connect", x25_connect(&dte.station), 0);
     expect("UA", x25_receive(&dte.station, ua, sizeof ua), 0);
     expect("a restart", x25_receive(&dte.station, restart, sizeof restart), 0);
-    expect("call", x25_call(&dte.station, "1", 1, "2", 1, NULL, 0, (x25_sizes){0, 0, 0, 0}, &channel), 0);
+    expect("call", x25_call(&dte.station, "1", 1, "2", 1, NULL, 0, no_sizes, &channel), 0);
     expect("its channel", channel, 1);
     expect("an acceptance", x25_receive(&dte.station, acceptance, sizeof acceptance), 0);
     size_t i = x25_frames(&dte.station) + 1;
@@ -227,9 +232,9 @@ static void try_all(void)
     expect("connect", x25_connect(&dte.station), 0);
     for (int step = 0; step < 3; step++) {
         if (step == 1)
-            expect("call", x25_call(&dte.station, "1", 1, "2", 1, NULL, 0, (x25_sizes){0, 0, 0, 0}, &channel), 0);
+            expect("call", x25_call(&dte.station, "1", 1, "2", 1, NULL, 0, no_sizes, &channel), 0);
         if (step == 2) {
-            uint32_t numbers[] = {x25_accept(&dce.station, channel, (x25_sizes){0, 0, 0, 0}), x25_accept(&twin, channel, (x25_sizes){0, 0, 0, 0})};
+            uint32_t numbers[] = {x25_accept(&dce.station, channel, no_sizes), x25_accept(&twin, channel, no_sizes)};
             expect("accept", numbers[0] + numbers[1], 0);
             few = frames_of(&dce.station, octets[0], counts[0]);
             expect("receive", x25_receive_all(&dte.station, octets[0], ROOM, counts[0], few, &taken), 0);
@@ -318,12 +323,67 @@ static void try_reasons(void)
     x25_free(&dce.station);
 }
 
-/* Facilities with a call and user data with its clearing, by text: what goes out, and what is told. A station that isn't wide refuses them. */
+/* The next frame of an end has this packet. */
+static void sends(end_t *end, const char *what, const uint8_t *packet, size_t count)
+{
+    take(end);
+    size_t place = end->first % MOST;
+    expect(what, end->counts[place] == count + 4 && memcmp(end->octets[place] + 2, packet, count) == 0, true);
+}
+
+/* What comes to an end is told so at first. */
+static void is_told(end_t *end, const char *lines)
+{
+    end->length = 0;
+    deliver_all();
+    expect(lines, end->length >= strlen(lines) && memcmp(end->told, lines, strlen(lines)) == 0, true);
+}
+
+static uint32_t call_with(x25_given given, uint16_t *channel)
+{
+    return x25_call_with(&dte.station, "1", 1, "2", 1, (const uint8_t *)"A", 1, no_sizes, given, channel);
+}
+
+/* What may not be given, of one that is wide, and of one that isn't anything. */
+static void try_bad_givens(bool wide)
+{
+    static const uint8_t reverse[104] = {0x01, 0x01}, sizes[] = {0x42, 0x07, 0x07}, users[129] = "hi";
+    const x25_given bad[] = {
+        {.facilities = sizes, .facilities_count = 3}, {.facilities = reverse, .facilities_count = 1}, {.facilities = reverse, .facilities_count = 104},
+        {.user = users, .user_count = 1}, {.facilities = reverse, .facilities_count = 2}, {.d = true}};
+    uint16_t channel = 78;
+    for (size_t i = 0; i < (wide ? 4 : 6); i++)
+        expect("a bad thing beside a call", call_with(bad[i], &channel), X25_BAD_PARAMETER);
+    expect("the channel", channel, 78);
+    expect("facilities by text", x25_command(&dte.station, "with 420707 - call 1 2 -", 24), X25_BAD_PARAMETER);
+    expect("no command", x25_command(&dte.station, "with 0101 call 1 2 -", 20), X25_NO_COMMAND);
+    if (!wide)
+        return;
+    expect("call", x25_call(&dce.station, "1", 1, "2", 1, NULL, 0, no_sizes, &channel), 0);
+    take(&dce);
+    deliver_all();
+    expect("much user data", x25_accept_with(&dte.station, channel, no_sizes, (x25_given){.user = users, .user_count = 129}), X25_BAD_PARAMETER);
+    expect("D with a clearing", x25_clear_with(&dte.station, channel, 0, 0, (x25_given){.d = true}), X25_BAD_PARAMETER);
+    expect("most user data", x25_accept_with(&dte.station, channel, no_sizes, (x25_given){.user = users, .user_count = 128}), 0);
+    take(&dte);
+    deliver_all();
+    expect("most facilities", x25_clear_with(&dte.station, channel, 0, 0, (x25_given){.facilities = reverse, .facilities_count = 102}), 0);
+    take(&dte);
+    deliver_all();
+}
+
+/* A call, its acceptance and its clearing, with what is given and without: what goes out, and what the other end is told. */
 static void try_given(bool wide)
 {
-    static const uint8_t call[] = {0x50, 0x01, 0x0b, 0x11, 0x12, 0x02, 0x01, 0x01, 0x41};
-    static const char told[] = "dce incoming ch=1 at 1.0.0 called=1 calling=2 data=41\ndce beside ch=1 fac=0101 data=-\n";
-    static const char cleared[] = "dce cleared ch=1 cause=0 diag=0\ndce beside ch=1 fac=- data=6279\n";
+    static const uint8_t reverse[] = {0x01, 0x01};
+    static const uint8_t packets[2][3][9] = {
+        {{0x10, 0x01, 0x0b, 0x11, 0x12, 0x00, 0x41}, {0x10, 0x01, 0x0f}, {0x10, 0x01, 0x13, 0x00, 0x05}},
+        {{0x50, 0x01, 0x0b, 0x11, 0x12, 0x02, 0x01, 0x01, 0x41}, {0x50, 0x01, 0x0f, 0x00, 0x02, 0x01, 0x01, 0x68, 0x69}, {0x10, 0x01, 0x13, 0x00, 0x05, 0x00, 0x00, 0x68, 0x69}}};
+    static const size_t counts[2][3] = {{7, 3, 5}, {9, 9, 9}};
+    static const char *const told[2][3] = {
+        {"dce incoming ch=1 at 1.0.0 called=1 calling=2 data=41\n", "dte connected ch=1\n", "dce cleared ch=1 cause=0 diag=5\n"},
+        {"dce incoming ch=1 at 1.1.0 called=1 calling=2 data=41\ndce beside ch=1 fac=0101 data=-\n", "dte connected ch=1\ndte beside ch=1 fac=0101 data=6869\n",
+         "dce cleared ch=1 cause=0 diag=5\ndce beside ch=1 fac=- data=6869\n"}};
     x25_settings settings = one_channel;
     settings.wide = wide;
     expect("new", x25_new(&dte.station, X25_DTE, settings), 0);
@@ -332,26 +392,27 @@ static void try_given(bool wide)
     expect("connect", x25_connect(&dte.station), 0);
     take(&dte);
     deliver_all();
-    if (!wide) {
-        expect("facilities", x25_command(&dte.station, "with 0101 - call 1 2 -", 22), X25_BAD_PARAMETER);
-        dte.length = dce.length = 0;
-        x25_free(&dte.station);
-        x25_free(&dce.station);
-        return;
+    for (int i = 0; i < (wide ? 2 : 1); i++) {
+        x25_given given = {0}, said = {0};
+        uint16_t channel = 78;
+        if (i == 1) {
+            said = (x25_given){.user = (const uint8_t *)"hi", .user_count = 2};
+            given = (x25_given){.facilities = reverse, .facilities_count = 2, .d = true};
+        }
+        expect("a call", call_with(given, &channel), 0);
+        expect("the channel", channel, 1);
+        sends(&dte, "a call", packets[i][0], counts[i][0]);
+        is_told(&dce, told[i][0]);
+        given.user = said.user;
+        given.user_count = said.user_count;
+        expect("an acceptance", x25_accept_with(&dce.station, 1, no_sizes, given), 0);
+        sends(&dce, "an acceptance", packets[i][1], counts[i][1]);
+        is_told(&dte, told[i][1]);
+        expect("a clearing", x25_clear_with(&dte.station, 1, 0, 5, said), 0);
+        sends(&dte, "a clearing", packets[i][2], counts[i][2]);
+        is_told(&dce, told[i][2]);
     }
-    expect("packet sizes", x25_command(&dte.station, "with 420707 - call 1 2 -", 24), X25_BAD_PARAMETER);
-    expect("no command", x25_command(&dte.station, "with 0101 call 1 2 -", 20), X25_NO_COMMAND);
-    ask(&dte, "with 0101 - d call 1 2 41");
-    size_t place = dte.first % MOST;
-    expect("a call, its length", (uint32_t)dte.counts[place], sizeof call + 4);
-    expect("its octets", memcmp(dte.octets[place] + 2, call, sizeof call) != 0, 0);
-    dce.length = 0;
-    deliver_all();
-    expect("what is told", memcmp(dce.told, told, sizeof told - 1) != 0, 0);
-    ask(&dte, "with - 6279 clear 1");
-    dce.length = 0;
-    deliver_all();
-    expect("what is told", memcmp(dce.told, cleared, sizeof cleared - 1) != 0, 0);
+    try_bad_givens(wide);
     dte.length = dce.length = 0;
     x25_free(&dte.station);
     x25_free(&dce.station);
@@ -386,7 +447,7 @@ static void try_clock(void)
     expect("its event", x25_take(&dte.station, 1, &event, NULL, 0) && event.kind == X25_EVENT_TIMEOUT && event.reason == 1 && event.channel == 0, true);
     deliver_all();
     expect("an idle link is due", x25_next(&dte.station, &at) && at == 63500, true);
-    expect("call", x25_call(&dte.station, "1", 1, "2", 1, NULL, 0, (x25_sizes){0, 0, 0, 0}, &channel), 0);
+    expect("call", x25_call(&dte.station, "1", 1, "2", 1, NULL, 0, no_sizes, &channel), 0);
     take(&dte);
     deliver_all();
     expect("what is awaited", x25_awaits(&dte.station, channel), X25_AWAITS_ACCEPTANCE);

@@ -4,7 +4,7 @@
 #include "two.h"
 #include <sys/mman.h>
 
-enum { AREA = 1 << 18, AREAS = 7, SEVERAL = 4, KINDS = 33, ALL = 200000 /* in so many calls each kind comes */ };
+enum { AREA = 1 << 18, AREAS = 9, SEVERAL = 4, KINDS = 33, ALL = 200000 /* in so many calls each kind comes */ };
 
 static uint64_t state;
 static uint8_t *ends[AREAS]; /* of memory behind which none may be touched */
@@ -52,6 +52,20 @@ static x25_sizes sizes(void)
 {
     static const x25_sizes few[] = {{0, 0, 0, 0}, {0, 0, 0, 0}, {7, 7, 2, 2}, {8, 4, 7, 1}, {12, 12, 7, 7}, {3, 7, 2, 2}, {7, 0, 2, 8}};
     return few[draw(sizeof few / sizeof *few)];
+}
+
+/* Mostly what may be given: facilities of one octet, all but those of packet sizes and windows, and user data; at times any octets. */
+static x25_given given(void)
+{
+    x25_given made = {.facilities_count = draw(60), .user_count = draw(4) ? draw(129) : 0, .d = draw(2)};
+    uint8_t *facilities = octets(7, made.facilities_count);
+    if (draw(8))
+        made.facilities_count &= ~(size_t)1;
+    made.facilities = facilities;
+    for (size_t i = 0; i < made.facilities_count && draw(64); i += 2)
+        facilities[i] &= 0x3f;
+    made.user = octets(8, made.user_count);
+    return draw(4) ? made : (x25_given){0};
 }
 
 /* Mostly one that a DTE may give. */
@@ -186,14 +200,17 @@ static uint32_t call(end_t *end, end_t *other)
         return number;
     }
     case 6: case 7:
-        number = x25_call(station, digits(0, first), first, digits(1, second), second, octets(2, count), count, sizes(), &called);
+        number = draw(2) ? x25_call(station, digits(0, first), first, digits(1, second), second, octets(2, count), count, sizes(), &called)
+                         : x25_call_with(station, digits(0, first), first, digits(1, second), second, octets(2, count), count, sizes(), given(), &called);
         if (number ? called != 77 : called < 1 || called > 2)
             fail("the channel of a call", called);
         return number;
     case 8: case 9:
-        return x25_accept(station, channel, sizes());
+        return draw(2) ? x25_accept(station, channel, sizes()) : x25_accept_with(station, channel, sizes(), given());
     case 10:
-        return draw(8) ? x25_pull(station) : x25_clear(station, channel, cause(), (uint8_t)draw(256));
+        if (draw(8))
+            return x25_pull(station);
+        return draw(2) ? x25_clear(station, channel, cause(), (uint8_t)draw(256)) : x25_clear_with(station, channel, cause(), (uint8_t)draw(256), given());
     case 11:
         return draw(8) ? x25_pull(station) : x25_reset(station, channel, cause(), (uint8_t)draw(256));
     case 12:

@@ -79,8 +79,12 @@ static void deliver_all(void)
 
 static void play(void)
 {
-    static const x25_settings settings = {.k = 7, .n2 = 10, .channels = 1, .long_data = true};
+    static const x25_settings settings = {.k = 7, .n2 = 10, .channels = 1, .long_data = true, .wide = true};
+    static const uint8_t reverse[] = {0x01, 0x01};
     static uint8_t message[3000];
+    const x25_given given = {.facilities = reverse, .facilities_count = 2, .d = true}, said = {.user = message, .user_count = 2};
+    const x25_sizes sizes = {0, 0, 0, 0};
+    uint16_t channel;
     x25_times times;
     uint32_t number;
     asked = 0;
@@ -110,6 +114,15 @@ static void play(void)
     ask(&dte, "reset 1");
     deliver_all();
     ask(&dte, "clear 1");
+    deliver_all();
+    expect("call", AGAIN(x25_call_with(&dte.station, "1", 1, "2", 1, message, 4, sizes, given, &channel)), 0);
+    take(&dte);
+    deliver_all();
+    expect("accept", AGAIN(x25_accept_with(&dce.station, channel, sizes, said)), 0);
+    take(&dce);
+    deliver_all();
+    expect("clear", AGAIN(x25_clear_with(&dte.station, channel, 0, 0, said)), 0);
+    take(&dte);
     deliver_all();
     ask(&dte, "disconnect");
     deliver_all();

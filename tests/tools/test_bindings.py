@@ -136,22 +136,37 @@ class Python(unittest.TestCase):
                 with self.assertRaisesRegex(x25.Refused, "34: "):
                     dte.restart(cause, diagnostic)
 
-    def test_what_a_line_gives(self):
-        """Facilities go out with a call, as `decode --wide` reads it, and the other end is told them."""
-        with x25.Station(x25.DTE, library=LIBRARY, wide=True) as dte, x25.Station(x25.DCE, library=LIBRARY, wide=True) as dce:
-            answer = dte.connect()
-            near, far = dte, dce
+    def test_what_is_given(self):
+        """Facilities go out with a call, as `decode --wide` reads it, and the other end is told what is given."""
+
+        def told(answer, near, far):
+            events = []
             while answer.frames:
                 near, far, answer = far, near, far.receive_all(answer.frames)
+                events += [(event.kind, event.facilities, event.user) for event in answer.events]
+            return events
+
+        charged, beside = bytes.fromhex("01800312"), x25.Kind.BESIDE
+        with x25.Station(x25.DTE, library=LIBRARY, wide=True) as dte, x25.Station(x25.DCE, library=LIBRARY, wide=True) as dce:
+            told(dte.connect(), dte, dce)
             for text, number in (("with 42 - call 1 2 -", 34), ("with 0101 - send 1 0 41", 60)):
                 with self.assertRaisesRegex(x25.Refused, f"{number}: "):
                     dte.command(text)
-            call, = dte.command("with 01800312 - d call 1 2 41").frames
-            events = dce.receive(call).events
-            self.assertEqual([(event.kind, event.facilities) for event in events], [(x25.Kind.INCOMING, b""), (x25.Kind.BESIDE, bytes.fromhex("01800312"))])
+            with self.assertRaisesRegex(x25.Refused, "34: "):
+                dte.call("1", "2", facilities=bytes.fromhex("420707"))
+            channel, answer = dte.call("1", "2", b"A", facilities=charged, d=True)
+            call, = answer.frames
+            self.assertEqual(told(answer, dte, dce), [(x25.Kind.INCOMING, b"", b"A"), (beside, charged, b"")])
+            self.assertEqual(told(dce.accept(channel, user=b"h\0i", d=True), dce, dte)[:2], [(x25.Kind.CONNECTED, b"", b""), (beside, b"", b"h\0i")])
+            self.assertEqual(told(dte.clear(channel, 0, 5, facilities=charged), dte, dce)[:2], [(x25.Kind.CLEARED, b"", b""), (beside, charged, b"")])
         if support.PROGRAM:
-            line = support.decode(f"> {call.hex()}\n".encode(), "--wide")[0]
-            self.assertEqual(line.partition(" | ")[2], "CALL ch=1 D=1 called=1 calling=2 fac=01800312 data=41 ~ wide")
+            lines = support.decode(f"> {call.hex()}\n".encode(), "--wide")
+            self.assertEqual(lines[0].partition(" | ")[2], "CALL ch=1 D=1 called=1 calling=2 fac=01800312 data=41 ~ wide")
+        with x25.Station(x25.DTE, library=LIBRARY) as dte, x25.Station(x25.DCE, library=LIBRARY) as dce:
+            told(dte.connect(), dte, dce)
+            with self.assertRaisesRegex(x25.Refused, "34: "):
+                dte.call("1", "2", facilities=charged)
+            self.assertEqual(dte.call("1", "2")[1].frames[0][2:8].hex(), "10010b111200")
 
     def test_a_station_that_was_closed(self):
         with x25.Station(x25.DCE, library=LIBRARY) as station:

@@ -20,7 +20,7 @@ LATER = re.compile(
     r"|dpp[sd]|mpsadbw|phminposuw|insertps|extractps|movntdqa"
 )
 NUMBERS = {"u8": "uint8_t", "u16": "uint16_t", "u32": "uint32_t", "u64": "uint64_t", "usize": "size_t", "bool": "bool"}
-STRUCTURES = {"Settings": "x25_settings", "StretchName": "x25_stretch_name", "Sizes": "x25_sizes", "Event": "x25_event", "Times": "x25_times"}
+STRUCTURES = {"Settings": "x25_settings", "StretchName": "x25_stretch_name", "Sizes": "x25_sizes", "Given": "x25_given", "Event": "x25_event", "Times": "x25_times"}
 # The parameters that are text in C, and not octets.
 TEXTS = ("called", "calling", "text")
 EXPORT = re.compile(r'pub extern "C" fn (\w+)\(([^)]*)\)(?: -> (\w+))?([^{]*\{[^}]*\})?')
@@ -52,7 +52,15 @@ def parameter(text):
 
 def c_type(name):
     """A type as C has it."""
+    name = name.partition("<")[0]
     return STRUCTURES.get(name) or NUMBERS[name]
+
+
+def fields_of(text):
+    """The fields of a structure of the crate, as C has them."""
+    found = re.findall(r"^    pub (\w+): (.+),$", text, re.MULTILINE)
+    pairs = (((f"const uint8_t *{name}", f"size_t {name}_count") if kind == "&'a [u8]" else (f"{c_type(kind)} {name}",)) for name, kind in found)
+    return [field for pair in pairs for field in pair]
 
 
 def exported():
@@ -89,9 +97,9 @@ class Header(unittest.TestCase):
             with self.subTest(called):
                 source = re.sub("([a-z])([A-Z])", r"\1_\2", name).lower()
                 text = support.read(f"crates/x25_c/src/{source}.rt").decode()
-                fields = re.findall(r"^    pub (\w+): (\w+),", re.search(rf"#\[repr\(C\)\]\n.*\npub struct {name} \{{\n([^}}]*)\}}", text)[1], re.MULTILINE)
+                fields = re.search(rf"#\[repr\(C\)\]\n.*\npub struct {name}(?:<'a>)? \{{\n([^}}]*)\}}", text)[1]
                 declared = re.search(rf"typedef struct \{{\n([^}}]*)\}} {called};", self.HEADER)[1]
-                self.assertEqual(re.findall(r"^    (\w+) (\w+);", declared, re.MULTILINE), [(c_type(kind), name) for name, kind in fields])
+                self.assertEqual(re.findall(r"^    (\w.*?);", declared, re.MULTILINE), fields_of(fields))
 
     def test_its_kinds_of_events_are_those_of_the_crate(self):
         event = support.read("crates/x25_c/src/event.rt").decode()

@@ -87,6 +87,29 @@ class Half(unittest.TestCase):
                 self.types(f"{typed}\r")
                 self.assertEqual(self.asked(), [CALL + data])
 
+    def test_facilities_of_a_call(self):
+        for typed, asked in (
+            ("R-123", "with 0101 - call 123 - 01000000"),
+            ("f-123D hi", "with 0180 - call 123 - 01000000206869"),
+            ("G07-123", "with 0307 - call 123 - 01000000"),
+            ("r,F,g1234-123", "with 0181471234 - call 123 - 01000000"),
+        ):
+            with self.subTest(typed):
+                self.begin()
+                self.types(f"{typed}\r")
+                self.assertEqual(self.asked(), [f"dte {asked}"])
+
+    def test_what_comes_beside(self):
+        self.begin()
+        self.seen()
+        self.comes("dte incoming ch=1 at 1.0.0 called=1 calling=4567 data=-", "dte beside ch=1 fac=01010307 data=-", "dte accept ch=1")
+        self.assertEqual(self.seen(), "\r\n4567 COM\r\n# reverse charging, closed user group selection 07\r\n")
+        self.connect()
+        self.comes("dte beside ch=1 fac=- data=57656c636f6d65", "dte beside ch=2 fac=0101 data=41")
+        self.assertEqual(self.seen(), "Welcome")
+        self.comes("dte cleared ch=1 cause=0 diag=0", "dte beside ch=1 fac=- data=62757379")
+        self.assertEqual(self.seen(), "\r\nCLR DTE C:0 D:0\r\n*\r\n# 'busy'\r\n*")
+
     def test_calls_that_come_to_nothing(self):
         for lines, said in (
             (("dte call ch=1 at 1.0.0", "dte cleared ch=1 cause=13 diag=67"), "CLR NP C:13 D:67"),
@@ -122,7 +145,8 @@ class Half(unittest.TestCase):
         for typed, said in (
             ("foo", "'foo' is no command: HELP shows them"),
             ("1234567890123456", "'1234567890123456' is no command: HELP shows them"),
-            ("R-123", "'R-123' is no command: HELP shows them"),
+            ("G1-123", "'G1-123' is no command: HELP shows them"),
+            ("R,-123", "'R,-123' is no command: HELP shows them"),
             ("stat 1", "'stat 1' is no command: HELP shows them"),
             ("prof 2", "'prof 2' is no command: HELP shows them"),
             ("clr", "there is no call"),
@@ -329,18 +353,18 @@ class Two(ToolCase):
         return child, re.search(r":(\d+)$", said)[1]
 
     def test_text_both_ways(self):
-        for near, far in (("--connect", "--listen"), ("--xot", "--xot-listen")):
+        for near, far, sizes in (("--connect", "--listen", ""), ("--xot", "--xot-listen", "packet size 128/128, window size 2/2, ")):
             with self.subTest(near):
                 host, port = self.host("--set", "13:2", "--quiet", "60", line=far)
                 caller = self.begin("dte", near, f"127.0.0.1:{port}", "--address", "4567")
                 host.stdin.write("Welcome\nto all\n")
                 host.stdin.close()
-                caller.stdin.write("123D hi\nhello\nhost")
+                caller.stdin.write("R,G07-123D hi\nhello\nhost")
                 caller.stdin.close()
                 self.assertEqual((caller.stdout.read(), caller.wait(60)), ("Welcome\nto all\n", 0))
                 self.assertEqual((host.stdout.read(), host.wait(60)), ("hello\nhost", 0))
                 self.assertEqual(re.findall("^[A-Z0-9].*", caller.stderr.read(), re.MULTILINE), ["COM", "CLR CONF"])
-                self.assertIn("4567 COM\nCLR DTE C:0 D:0\n", host.stderr.read())
+                self.assertIn(f"4567 COM\n# {sizes}reverse charging, closed user group selection 07\nCLR DTE C:0 D:0\n", host.stderr.read())
 
     def test_long_text_is_whole(self):
         host, port = self.host("--quiet", "60")

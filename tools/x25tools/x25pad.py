@@ -32,7 +32,7 @@ import time
 import tty
 from typing import Callable, Dict, Iterable, Iterator, List, Optional, Tuple
 
-from x25tools import decoding
+from x25tools import decoding, facilities
 from x25tools.places import within
 
 # Of each parameter of X.3 the values that it takes, none where it is only read, and those that it has in the profiles 90 and 91.
@@ -68,8 +68,12 @@ CR, LF, DLE, EOT = 13, 10, 16, 4
 PACKET, MOST_UNSENT = 128, 1 << 16
 # How long the end of a call is waited for at the end, in seconds.
 LAST = 5
-SELECTION = re.compile(r"(\d{1,15})(?:[DPdp](.*))?")
+# What a call may ask for before its address: reverse charging, fast select, a closed user group by two or four digits.
+REQUEST = r"(?:[RF]|G(?:\d\d){1,2})"
+SELECTION = re.compile(rf"(?:({REQUEST}(?:,{REQUEST})*)-)?(\d{{1,15}})(?:[DP](.*))?", re.ASCII | re.IGNORECASE)
+CHARGED, FAST, GROUPS = 0x01, 0x80, {1: 0x03, 2: 0x47}
 HELP = """ADDRESS [D TEXT]    calls it               CLR         clears the call; ICLR asks for that
+R,F,G01-ADDRESS     with reverse charging, fast select, in the closed user group 01
 STAT                FREE or ENGAGED        INT, RESET  sends an interrupt, empties the circuit
 PAR? [N,..]         shows parameters       SET, SET?   N:V,.. sets them, and shows them
 PROF 90, PROF 91    sets all of them       BREAK       does what parameter 7 says
@@ -122,6 +126,16 @@ def spelled(name: str, text: str) -> bytes:
             return b""
         octets += bytes([int(found[1]), int(found[2]) if code != READ else 0])
     return bytes([code]) + octets if octets or code == READ else b""
+
+
+def requested(text: str) -> bytes:
+    """The facilities of what a call asks for, as R,G01; none of an empty text."""
+    charging, groups = 0, b""
+    for request in text.upper().split(","):
+        number = bytes.fromhex(request[1:])
+        charging |= {"R": CHARGED, "F": FAST}.get(request, 0)
+        groups += bytes([GROUPS[len(number)]]) + number if number else b""
+    return (bytes([facilities.CHARGING, charging]) if charging else b"") + groups
 
 
 def shown(indication: bytes) -> str:
@@ -242,7 +256,7 @@ class Pad:
     def _done(self, line: str) -> str:
         """Does a command; answers what is said to it."""
         if found := SELECTION.fullmatch(line):
-            return self._call(found[1], found[2] or "")
+            return self._call(requested(found[1] or ""), found[2], found[3] or "")
         found = re.match(r"[A-Za-z]+\??", line)
         name = found[0].upper() if found else ""
         rest = line[len(name) :].strip()
@@ -272,11 +286,12 @@ class Pad:
         self.has_ended = name == "QUIT"
         return {"HELP": HELP, "STAT": "ENGAGED" if self.stage == "open" else "FREE"}.get(name, "")
 
-    def _call(self, called: str, text: str) -> str:
+    def _call(self, asked: bytes, called: str, text: str) -> str:
         if self.stage != "free" or not self.is_up:
             return "ERR  a call is there" if self.is_up else "ERR  the link isn't up"
         self.stage, self._channel = "calling", 0
-        self._ask(f"call {called} {self._address} 01000000{text.encode().hex()}")
+        given = f"with {asked.hex()} - " if asked else ""
+        self._ask(f"{given}call {called} {self._address} 01000000{text.encode().hex()}")
         return ""
 
     def may_clear(self) -> bool:
@@ -326,6 +341,8 @@ class Pad:
             self._begin_anew(event, entry)
         elif event == "call":
             self._channel = channel
+        elif event == "beside" and channel == self._channel:
+            self._beside(bytes.fromhex(told["fac"].replace("-", "")), bytes.fromhex(told["data"].replace("-", "")))
         elif channel == self._channel and self.stage != "free":
             self._of_this_call(event, told)
 
@@ -352,6 +369,15 @@ class Pad:
             self._say(f"RESET {RESET.get(cause, 'DTE')} {codes}" if event == "wasreset" else "RESET")
         elif event == "collided":
             self._become("free", "CLR OCC  both ends called")
+
+    def _beside(self, asked: bytes, octets: bytes) -> None:
+        """What came with a call, its acceptance or its clearing: facilities, which are shown in words, and text."""
+        if asked:
+            self._signal(f"# {facilities.words(asked)}")
+        if octets and self.stage == "open":
+            self._face.data(octets)
+        elif octets:
+            self._signal(f"# {octets.decode('utf-8', 'replace')!r}")
 
     def _incoming(self, channel: int, told: Dict[str, str]) -> None:
         if self.stage != "free" or not (told["data"] == "-" or told["data"].startswith("01")):

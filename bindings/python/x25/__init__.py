@@ -197,6 +197,16 @@ class _Sizes(ctypes.Structure):
     _fields_ = [(name, ctypes.c_uint8) for name in Sizes._fields]
 
 
+class _Given(ctypes.Structure):
+    _fields_ = [
+        ("facilities", ctypes.c_char_p),
+        ("facilities_count", ctypes.c_size_t),
+        ("user", ctypes.c_char_p),
+        ("user_count", ctypes.c_size_t),
+        ("d", ctypes.c_bool),
+    ]
+
+
 class _Times(ctypes.Structure):
     _fields_ = [(name, ctypes.c_uint32) for name in Times._fields]
 
@@ -215,8 +225,11 @@ _FUNCTIONS: dict[str, tuple[Any, Any]] = {
     "relink": ([_STATION], ctypes.c_uint32),
     "restart": ([_STATION, *_REASON], ctypes.c_uint32),
     "call": ([_STATION, *_OCTETS * 3, _Sizes, ctypes.POINTER(ctypes.c_uint16)], ctypes.c_uint32),
+    "call_with": ([_STATION, *_OCTETS * 3, _Sizes, _Given, ctypes.POINTER(ctypes.c_uint16)], ctypes.c_uint32),
     "accept": ([_STATION, ctypes.c_uint16, _Sizes], ctypes.c_uint32),
+    "accept_with": ([_STATION, ctypes.c_uint16, _Sizes, _Given], ctypes.c_uint32),
     "clear": ([_STATION, ctypes.c_uint16, *_REASON], ctypes.c_uint32),
+    "clear_with": ([_STATION, ctypes.c_uint16, *_REASON, _Given], ctypes.c_uint32),
     "reset": ([_STATION, ctypes.c_uint16, *_REASON], ctypes.c_uint32),
     "interrupt": ([_STATION, ctypes.c_uint16, *_OCTETS], ctypes.c_uint32),
     "ready": ([_STATION, ctypes.c_uint16], ctypes.c_uint32),
@@ -354,20 +367,31 @@ class Station:
         procedure, and either any diagnostic."""
         return self._call(self._library.x25_restart, *self._reason(cause, diagnostic))
 
-    def call(self, called: str, calling: str, user: bytes = b"", sizes: Sizes | None = None) -> tuple[int, Answer]:
-        """Calls the other end, from one address to another, each of at most 15 digits; answers the channel of the call too."""
+    def call(
+        self,
+        called: str,
+        calling: str,
+        user: bytes = b"",
+        sizes: Sizes | None = None,
+        *,
+        facilities: bytes = b"",
+        d: bool = False,
+    ) -> tuple[int, Answer]:
+        """Calls the other end, from one address to another, each of at most 15 digits; answers the channel of the call too. One that is
+        wide may give facilities, and the D bit."""
         channel, texts = ctypes.c_uint16(), (called.encode(), calling.encode(), user)
         words = [word for text in texts for word in (text, len(text))]
-        answer = self._call(self._library.x25_call, *words, _sizes(sizes), channel)
+        answer = self._call(self._library.x25_call_with, *words, _sizes(sizes), _given(facilities, b"", d), channel)
         return channel.value, answer
 
-    def accept(self, channel: int, sizes: Sizes | None = None) -> Answer:
-        """Accepts the call that came on a channel."""
-        return self._on(self._library.x25_accept, channel, _sizes(sizes))
+    def accept(self, channel: int, sizes: Sizes | None = None, *, facilities: bytes = b"", user: bytes = b"", d: bool = False) -> Answer:
+        """Accepts the call that came on a channel. One that is wide may give facilities, user data and the D bit."""
+        return self._on(self._library.x25_accept_with, channel, _sizes(sizes), _given(facilities, user, d))
 
-    def clear(self, channel: int, cause: int = 0, diagnostic: int = 0) -> Answer:
-        """Clears a call, whatever its state, with a cause and a diagnostic, as `restart`."""
-        return self._on(self._library.x25_clear, channel, *self._reason(cause, diagnostic))
+    def clear(self, channel: int, cause: int = 0, diagnostic: int = 0, *, facilities: bytes = b"", user: bytes = b"") -> Answer:
+        """Clears a call, whatever its state, with a cause and a diagnostic, as `restart`. One that is wide may give facilities and user
+        data."""
+        return self._on(self._library.x25_clear_with, channel, *self._reason(cause, diagnostic), _given(facilities, user, False))
 
     def reset(self, channel: int, cause: int = 0, diagnostic: int = 0) -> Answer:
         """Resets a call, as `clear` clears it: messages on the way are lost."""
@@ -576,6 +600,11 @@ class Station:
 def _packer(count: int) -> Callable[..., bytes]:
     """What packs so many counts of octets."""
     return struct.Struct(f"@{count}N").pack
+
+
+def _given(facilities: bytes, user: bytes, d: bool) -> _Given:
+    """What is given as C has it; without any of it the call is as the one without."""
+    return _Given(facilities, len(facilities), user, len(user), d)
 
 
 def _sizes(sizes: Sizes | None) -> _Sizes:

@@ -51,6 +51,25 @@ impl Default for Settings {
     }
 }
 
+/// What a station that is wide gives beside a call, its acceptance or its clearing; by default nothing.
+///
+/// ```
+/// use x25_station::Given;
+///
+/// let reverse_charging = Given { facilities: &[0x01, 0x01], ..Given::default() };
+/// let said = Given { user: b"busy", ..Given::default() };
+/// # assert!(!reverse_charging.d && said.facilities.is_empty());
+/// ```
+#[derive(Clone, Copy, Debug, Default, PartialEq, Eq)]
+pub struct Given<'a> {
+    /// Whole facilities, 103 octets at most in all, but no packet sizes or windows: `Sizes` has these.
+    pub facilities: &'a [u8],
+    /// User data of an acceptance or a clearing, 128 octets at most; a call has its own.
+    pub user: &'a [u8],
+    /// The D bit of a call or an acceptance.
+    pub d: bool,
+}
+
 /// What becomes of timer T1: a program drops its deadline, sets it anew, or leaves it as it is.
 #[derive(Clone, Copy, Debug, PartialEq, Eq)]
 pub enum Timer {
@@ -217,6 +236,33 @@ impl Station {
         Ok((channel, self.answer(number)?))
     }
 
+    /// Calls as `call` does, with what is given beside.
+    pub fn call_with(
+        &mut self,
+        called: &str,
+        calling: &str,
+        user: &[u8],
+        sizes: Option<Sizes>,
+        given: Given<'_>,
+    ) -> Result<(u16, Answer), Refused> {
+        let mut channel = 0;
+        let number = unsafe {
+            raw::x25_call_with(
+                self.slot.get(),
+                called.as_ptr(),
+                called.len(),
+                calling.as_ptr(),
+                calling.len(),
+                user.as_ptr(),
+                user.len(),
+                sizes.unwrap_or_default(),
+                raw::Given::of(given),
+                &mut channel,
+            )
+        };
+        Ok((channel, self.answer(number)?))
+    }
+
     /// Accepts the call that came on a channel, without sizes with those that it proposes.
     pub fn accept(&mut self, channel: u16, sizes: Option<Sizes>) -> Result<Answer, Refused> {
         let number =
@@ -224,9 +270,34 @@ impl Station {
         self.answer(number)
     }
 
+    /// Accepts as `accept` does, with what is given beside.
+    pub fn accept_with(
+        &mut self,
+        channel: u16,
+        sizes: Option<Sizes>,
+        given: Given<'_>,
+    ) -> Result<Answer, Refused> {
+        let (sizes, given) = (sizes.unwrap_or_default(), raw::Given::of(given));
+        let number = unsafe { raw::x25_accept_with(self.slot.get(), channel, sizes, given) };
+        self.answer(number)
+    }
+
     /// Clears a call, whatever its state.
     pub fn clear(&mut self, channel: u16, cause: u8, diagnostic: u8) -> Result<Answer, Refused> {
         let number = unsafe { raw::x25_clear(self.slot.get(), channel, cause, diagnostic) };
+        self.answer(number)
+    }
+
+    /// Clears as `clear` does, with what is given beside.
+    pub fn clear_with(
+        &mut self,
+        channel: u16,
+        cause: u8,
+        diagnostic: u8,
+        given: Given<'_>,
+    ) -> Result<Answer, Refused> {
+        let (slot, given) = (self.slot.get(), raw::Given::of(given));
+        let number = unsafe { raw::x25_clear_with(slot, channel, cause, diagnostic, given) };
         self.answer(number)
     }
 
@@ -589,6 +660,53 @@ mod tests {
         assert_eq!(dte.call("1", "2", b"", None), Err(Refused(9)));
         assert_eq!(Refused(9).to_string(), "9: the link isn't up");
         assert_eq!(Refused(8).text(), "");
+    }
+
+    #[test]
+    fn what_is_given() {
+        let settings = Settings {
+            wide: true,
+            ..Settings::default()
+        };
+        let mut dte = Station::new(End::Dte, settings).unwrap();
+        let mut dce = Station::new(End::Dce, settings).unwrap();
+        let answer = dte.connect().unwrap();
+        talk(answer, &mut dte, &mut dce);
+        let charged = Given {
+            facilities: &[1, 1],
+            ..Given::default()
+        };
+        let said = Given {
+            user: b"hi",
+            ..Given::default()
+        };
+        assert_eq!(dte.call_with("1", "2", b"A", None, said), Err(Refused(34)));
+        let given = Given { d: true, ..charged };
+        let (channel, answer) = dte.call_with("1", "2", b"A", None, given).unwrap();
+        let packet = [0x50, 1, 0x0b, 0x11, 0x12, 2, 1, 1, 0x41];
+        assert_eq!(answer.frames[0][2..11], packet);
+        let beside = |facilities: &[u8], user: &[u8]| Event::Beside {
+            channel,
+            facilities: facilities.to_vec(),
+            user: user.to_vec(),
+        };
+        let told = talk(answer, &mut dte, &mut dce);
+        assert_eq!(told[2..], [beside(&[1, 1], b"")]);
+        let answer = dce.accept_with(channel, None, said).unwrap();
+        let told = talk(answer, &mut dce, &mut dte);
+        assert_eq!(told[2..], [beside(b"", b"hi")]);
+        let answer = dte.clear_with(channel, 0, 0, said).unwrap();
+        let told = talk(answer, &mut dte, &mut dce);
+        assert_eq!(told[2], beside(b"", b"hi"));
+        let settings = Settings::default();
+        let mut narrow = Station::new(End::Dte, settings).unwrap();
+        let answer = narrow.connect().unwrap();
+        let mut dce = Station::new(End::Dce, settings).unwrap();
+        talk(answer, &mut narrow, &mut dce);
+        let refused = narrow.call_with("1", "2", b"A", None, charged);
+        assert_eq!(refused, Err(Refused(34)));
+        let nothing = Given::default();
+        assert!(narrow.call_with("1", "2", b"A", None, nothing).is_ok());
     }
 
     #[test]

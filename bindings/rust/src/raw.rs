@@ -42,6 +42,28 @@ impl Settings {
 }
 
 #[repr(C)]
+pub struct Given {
+    facilities: *const u8,
+    facilities_count: usize,
+    user: *const u8,
+    user_count: usize,
+    d: bool,
+}
+
+impl Given {
+    /// It is good for one call, in which the octets stay where they are.
+    pub fn of(given: crate::Given) -> Given {
+        Given {
+            facilities: given.facilities.as_ptr(),
+            facilities_count: given.facilities.len(),
+            user: given.user.as_ptr(),
+            user_count: given.user.len(),
+            d: given.d,
+        }
+    }
+}
+
+#[repr(C)]
 #[derive(Clone, Copy, Default)]
 pub struct Event {
     pub kind: u16,
@@ -76,8 +98,28 @@ extern "C" {
         sizes: Sizes,
         channel: *mut u16,
     ) -> u32;
+    pub fn x25_call_with(
+        slot: *mut Slot,
+        called: *const u8,
+        called_count: usize,
+        calling: *const u8,
+        calling_count: usize,
+        user: *const u8,
+        user_count: usize,
+        sizes: Sizes,
+        given: Given,
+        channel: *mut u16,
+    ) -> u32;
     pub fn x25_accept(slot: *mut Slot, channel: u16, sizes: Sizes) -> u32;
+    pub fn x25_accept_with(slot: *mut Slot, channel: u16, sizes: Sizes, given: Given) -> u32;
     pub fn x25_clear(slot: *mut Slot, channel: u16, cause: u8, diagnostic: u8) -> u32;
+    pub fn x25_clear_with(
+        slot: *mut Slot,
+        channel: u16,
+        cause: u8,
+        diagnostic: u8,
+        given: Given,
+    ) -> u32;
     pub fn x25_reset(slot: *mut Slot, channel: u16, cause: u8, diagnostic: u8) -> u32;
     pub fn x25_interrupt(slot: *mut Slot, channel: u16, user: *const u8, count: usize) -> u32;
     pub fn x25_ready(slot: *mut Slot, channel: u16) -> u32;

@@ -2,6 +2,7 @@ pub mod Clocked
 pub mod Copying
 pub mod Dialing
 pub mod Event
+pub mod Given
 pub mod Handle
 pub mod Happening
 pub mod Held

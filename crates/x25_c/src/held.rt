@@ -24,6 +24,7 @@ use crate::happening::{Happening, happen};
 use crate::item::Item;
 use crate::numbers::{BAD_PARAMETER, NO_MEMORY};
 use std::alloc::{AllocError, Global};
+use std::mem::replace;
 use x25_clock::{Clock, Due, Times};
 use x25_console::{read_user, station_command};
 use x25_script::{Command, HexDigits, ScriptTaker, read_command};
@@ -220,13 +221,16 @@ impl Held {
         ensures refused { OnErr result (self.new ≡ self.old) }
     {
         let mut clock = Clock::new(alloc, times)?;
-        let Ok(mut step) = Step::new(alloc) else {
-            return Err(AllocError);
-        };
+        // It heeds the step of the last answer, as if that had no entries and T1 began there where it runs.
+        let entries = replace(&mut self.step.entries, Vec::new(alloc));
+        let timer = self.step.timer;
+        self.step.timer = Timer::Off;
         if self.station.timer_runs() {
-            step.timer = Timer::Begins;
+            self.step.timer = Timer::Begins;
         }
-        clock.heed(self.time, &self.station, &step, false);
+        clock.heed(self.time, &self.station, &self.step, false);
+        self.step.entries = entries;
+        self.step.timer = timer;
         self.clock = Some(clock);
         Ok(())
     }

@@ -9,6 +9,7 @@ mod copying;
 mod dialing;
 mod earlier;
 mod event;
+mod given;
 mod handle;
 mod happening;
 mod held;
@@ -41,6 +42,7 @@ ghost use Rattle.x25_station.specs.code.FitsStation.{FitsStation};
 ghost use Rattle.x25_c.specs.Clocked.{TellsNext, next_in, times_in};
 ghost use Rattle.x25_c.specs.Copying.{Copies};
 ghost use Rattle.x25_c.specs.Dialing.{dialed};
+ghost use Rattle.x25_c.specs.Given.{asked_with};
 ghost use Rattle.x25_c.specs.Held.{AreSame, channel_of, frames_of, in_place, lines_of, timer_of};
 ghost use Rattle.x25_c.specs.Item.{Takes, TakesAll, called_at, calling_at, facilities_at, items_of, of_item};
 ghost use Rattle.x25_c.specs.Making.{role_of};
@@ -55,6 +57,7 @@ use crate::clocked::tell_next;
 use crate::copying::copy;
 use crate::dialing::dialed;
 use crate::event::Event;
+use crate::given::{Given, asked_with};
 use crate::happening::Happening;
 use crate::making::{make, role_of_number};
 use crate::numbers::{BAD_PARAMETER, NO_MEMORY, number_awaited, number_of, timer_number};
@@ -67,7 +70,7 @@ use crate::taking::take_all;
 use crate::times::Times;
 use std::alloc::Global;
 use x25_clock::Times as ClockTimes;
-use x25_station::Cmd;
+use x25_station::{CallCmd, Cmd};
 
 /// 10,000 times the first number of the version, 100 times the second, and the third.
 const VERSION: u32 = 100;
@@ -94,6 +97,24 @@ fn ask(alloc: Global, slot: &mut Slot, command: Cmd<'_>) -> u32
     let answer = held.happen(Happening::Asks(command));
     slot.put(held);
     number_of(answer)
+}
+
+// Calls, and tells the channel of the call.
+fn ask_call(alloc: Global, slot: &mut Slot, command: Cmd<'_>, channel: &mut u16) -> u32
+    ensures calls { Answers slot.old.handle.held slot.new.handle.held result (Asks (command_of command.entry)) }
+    ensures channel { result ≡ 0 → IfSome slot.new.handle.held (λ h. channel.new ≡ channel_of h) }
+    ensures refused { result ≢ 0 → channel.new ≡ channel.old }
+{
+    let Some(mut held) = slot.take(alloc) else {
+        return NO_STATION;
+    };
+    let answer = held.happen(Happening::Asks(command));
+    let number = number_of(answer);
+    if number == 0 {
+        *channel = held.channel();
+    }
+    slot.put(held);
+    number
 }
 
 /// The version of the library, as X25_VERSION of the header is that of a program.
@@ -212,21 +233,42 @@ pub extern "C" fn x25_call(
     ensures channel { result ≡ 0 → IfSome slot.new.handle.held (λ h. channel.new ≡ channel_of h) }
     ensures refused { result ≢ 0 → channel.new ≡ channel.old }
 {
-    let Some(mut held) = slot.take(alloc) else {
-        return NO_STATION;
-    };
-    let answer = held.happen(Happening::Asks(Cmd::Call {
+    let call = Cmd::Call {
         called: dialed(called),
         calling: dialed(calling),
         user,
         params: sizes.params(),
-    }));
-    let number = number_of(answer);
-    if number == 0 {
-        *channel = held.channel();
-    }
-    slot.put(held);
-    number
+    };
+    ask_call(alloc, slot, call, channel)
+}
+
+/// The same, with facilities or the D bit beside the call, where some are given.
+///
+/// As `x25_call`, and where something is given as `Station::command` of `Cmd::With`.
+#[unsafe(no_mangle)]
+pub extern "C" fn x25_call_with(
+    alloc: Global,
+    slot: &mut Slot,
+    called: &[u8],
+    calling: &[u8],
+    user: &[u8],
+    sizes: Sizes,
+    given: Given<'_>,
+    channel: &mut u16,
+) -> u32
+    ensures calls { Answers slot.old.handle.held slot.new.handle.held result
+        (Asks (asked_with given.entry (Dials (dialed called.now) (dialed calling.now) user.now
+        (in_brief (unwrap_or (params_in sizes) default_params))))) }
+    ensures channel { result ≡ 0 → IfSome slot.new.handle.held (λ h. channel.new ≡ channel_of h) }
+    ensures refused { result ≢ 0 → channel.new ≡ channel.old }
+{
+    let call = CallCmd::Call {
+        called: dialed(called),
+        calling: dialed(calling),
+        user,
+        params: sizes.params(),
+    };
+    ask_call(alloc, slot, asked_with(given, call), channel)
 }
 
 /// Accepts an incoming call, with the packet sizes and windows that are named, or where none is with those proposed.
@@ -239,6 +281,25 @@ pub extern "C" fn x25_accept(alloc: Global, slot: &mut Slot, channel: u16, sizes
 {
     let params = sizes.params();
     ask(alloc, slot, Cmd::Accept { channel, params })
+}
+
+/// The same, with facilities, user data or the D bit beside the acceptance, where some are given.
+///
+/// As `x25_accept`, and where something is given as `Station::command` of `Cmd::With`.
+#[unsafe(no_mangle)]
+pub extern "C" fn x25_accept_with(
+    alloc: Global,
+    slot: &mut Slot,
+    channel: u16,
+    sizes: Sizes,
+    given: Given<'_>,
+) -> u32
+    ensures { Answers slot.old.handle.held slot.new.handle.held result
+        (Asks (asked_with given.entry (OnChannel channel (Accepts (answer_in_brief (params_in sizes)))))) }
+{
+    let params = sizes.params();
+    let accept = CallCmd::Accept { channel, params };
+    ask(alloc, slot, asked_with(given, accept))
 }
 
 /// Clears a call, with a cause that this end may give and any diagnostic.
@@ -261,6 +322,29 @@ pub extern "C" fn x25_clear(
         diagnostic,
     };
     ask(alloc, slot, clear)
+}
+
+/// The same, with facilities or user data beside the clearing, where some are given.
+///
+/// As `x25_clear`, and where something is given as `Station::command` of `Cmd::With`.
+#[unsafe(no_mangle)]
+pub extern "C" fn x25_clear_with(
+    alloc: Global,
+    slot: &mut Slot,
+    channel: u16,
+    cause: u8,
+    diagnostic: u8,
+    given: Given<'_>,
+) -> u32
+    ensures { Answers slot.old.handle.held slot.new.handle.held result
+        (Asks (asked_with given.entry (OnChannel channel (Clears cause diagnostic)))) }
+{
+    let clear = CallCmd::Clear {
+        channel,
+        cause,
+        diagnostic,
+    };
+    ask(alloc, slot, asked_with(given, clear))
 }
 
 /// Resets a call, with a cause that this end may give and any diagnostic.
