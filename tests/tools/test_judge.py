@@ -186,7 +186,7 @@ class Recorded(support.ToolCase):
         done = subprocess.run([PROGRAM, "judge", "--wide"], input=trace, stdout=subprocess.PIPE, timeout=60)
         lines = [line for line in done.stdout.decode().splitlines() if not line.startswith("# ")]
         told = collections.Counter(told[1].split(" (")[0] for line in lines if (told := order_runs.runs.TOLD.search(line)))
-        clears = {"dte: CLEAR CONFIRMATION of no CLEAR": 4, "dte: nothing but CLEAR goes before its confirmation": 1}
+        clears = {"dte: CLEAR CONFIRMATION of no CLEAR": 6, "dte: nothing but CLEAR goes before its confirmation": 1}
         order = {"dte: P(R) falls": 1, "dte: an I frame sent again has other octets": 1}
         self.assertEqual(told, {**clears, **order, "dte: N(S) repeats without REJ or a poll": 3})
         frames = [order_runs.Frame(chr(line[0]), bytes.fromhex(line[2:].decode())[:-2]) for line in trace.splitlines()]

@@ -1,7 +1,6 @@
 -- What is pulled behind a step, and heeded with it, leaves the deadlines as where each is heeded.
 use Rattle.std.proofs.Common.{◌≡◌, ℕ, ◌+◌, ◌==◌, List, [], ◌∷◌, map, Bool, true, false, not, ◌||◌, if◌then◌else◌, Option, Some, None, refl, sym, ap, subst, ◌∙◌, arith}
-use Rattle.std.specs.Prelude.{◌%◌}
-use Rattle.std.proofs.lemmas.Bool.{true≢false, eq-eqb}
+use Rattle.std.proofs.lemmas.Bool.{true≢false, eq-eqb, le-ltb}
 use Rattle.x25_circuit.specs.declared.awaits.Awaits.{Awaits}
 use Rattle.x25_link.specs.Station.{LinkStation}
 use Rattle.x25_layer.specs.Calls.{PullsAll}
@@ -86,7 +85,7 @@ same_parts d e t1 idle restart waits =
     ∙ ap (λ (x : List Wait). parts e.t1 e.idle e.restart x) waits
 
 same_acked : (before after : LinkStation) → after.outgoing.acked ≡ before.outgoing.acked → is_acknowledged before after ≡ false
-same_acked before after same = ap not (eq-eqb (before.outgoing.acked % 8) (after.outgoing.acked % 8) (ap (λ (n : ℕ). n % 8) (sym same)))
+same_acked before after same = le-ltb _ _ (omega (arith, same))
 
 -- an event that is accepted, and a pull behind it
 module _ (c : Settings) (times : Times) (now : ℕ) (s : Station) (event : timer.Event) (step : Step) (d : Deadlines) where

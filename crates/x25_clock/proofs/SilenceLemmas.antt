@@ -1,7 +1,6 @@
 -- One who asks at once what is due hears nothing no longer than the times say.
 use Rattle.std.proofs.Common.{◌≡◌, ℕ, suc, ◌+◌, ◌-◌, ◌*◌, ◌^◌, ◌<◌, ◌≤◌, ◌⊎◌, inl, inr, List, [], ◌∷◌, Bool, true, false, not, ◌||◌, if◌then◌else◌, Option, Some, None, refl, sym, ap, subst, ◌∙◌, arith}
-use Rattle.std.specs.Prelude.{◌%◌}
-use Rattle.std.proofs.lemmas.Bool.{true≢false, eq-eqb, and_parts}
+use Rattle.std.proofs.lemmas.Bool.{true≢false, le-ltb, and_parts}
 use Rattle.std.proofs.lemmas.Nat.{mul-le}
 use Rattle.std.proofs.lemmas.Option.{none-some}
 use Rattle.std.proofs.Math.Nat.{suc-mul}
@@ -154,7 +153,7 @@ one_firing (timer.Asks command) is = false_true is
 one_firing timer.Fires is = refl
 
 same_acked : (before after : LinkStation) → after.outgoing.acked ≡ before.outgoing.acked → is_acknowledged before after ≡ false
-same_acked before after same = ap not (eq-eqb (before.outgoing.acked % 8) (after.outgoing.acked % 8) (ap (λ (n : ℕ). n % 8) (sym same)))
+same_acked before after same = le-ltb _ _ (omega (arith, same))
 
 -- T1 runs, or the link is at rest
 record IsOn (p : Phase) (s : Station) : Type 0 where

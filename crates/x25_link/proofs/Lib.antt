@@ -1,3 +1,4 @@
+pub mod AckedLemmas
 pub mod OutgoingLemmas
 pub mod EndLemmas
 pub mod FitsLemmas

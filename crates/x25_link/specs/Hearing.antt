@@ -1,7 +1,7 @@
 -- What a station that is Up does with what it takes: the must-send table, row by row.
 -- ITU-T X.25 (10/96), sections 2.4.5 to 2.4.7.
-use Rattle.std.specs.Prelude.{ℕ, ◌+◌, ◌*◌, ◌/◌, ◌%◌, ◌==◌, nat_le, Bool, true, false, not, ◌&&◌, if◌then◌else◌, List}
-use Rattle.std.specs.Prelude.{[], ◌∷◌, ◌++◌, slice_index, Option, Some, None, Result, Ok, Err}
+use Rattle.std.specs.Prelude.{ℕ, ◌+◌, ◌*◌, ◌/◌, ◌%◌, ◌==◌, nat_le, nat_lt, Bool, true, false, not, ◌&&◌}
+use Rattle.std.specs.Prelude.{if◌then◌else◌, List, [], ◌∷◌, ◌++◌, slice_index, Option, Some, None, Result, Ok, Err}
 pub use Rattle.x25_bits.specs.Role.{other}
 use Rattle.x25_frame.specs.Frame.{PlainFrame, info, rr, rnr, rej, sabm, disc, ua, dm, frmr}
 use Rattle.x25_frame.specs.Spelling.{address_of}
@@ -22,6 +22,10 @@ pub record Step : Type 0 where
   pub side : Side
   pub packet : Option (List ℕ)
   pub notes : Notes
+
+-- it acknowledges frames (section 2.4.5.5), so that T1 begins anew (section 2.4.5.9)
+abbrev pub acknowledges : LinkStation → Step → Bool
+acknowledges s step = nat_lt s.outgoing.acked step.side.near.outgoing.acked
 
 -- nothing is handed up or noted
 abbrev pub quiet : Side → Step

@@ -2,11 +2,14 @@ ghost use Rattle.std.specs.Prelude.{◌≡◌, None, Some, false, true};
 
 use crate::phase::{Notes, Reason};
 
-/// What a frame brought: the packet that is handed up, and what is noted.
+/// What a frame brought: the packet that is handed up, what is noted, and whether I frames were acknowledged.
+///
+/// Timer T1 begins anew where the link came up or went down or frames were acknowledged, and at its own firing.
 #[derive(Drop)]
 pub struct Heard<'a> {
     pub packet: Option<&'a [u8]>,
     pub notes: Notes,
+    pub acknowledged: bool,
 }
 
 impl<'a> Heard<'a> {
@@ -14,6 +17,7 @@ impl<'a> Heard<'a> {
     pub(crate) fn quiet() -> Heard<'a>
         ensures packet { result.packet ≡ None }
         ensures notes { result.notes ≡ record { down = None; up = false } }
+        ensures acknowledged { result.acknowledged ≡ false }
     {
         Heard::noted(None, false)
     }
@@ -22,6 +26,7 @@ impl<'a> Heard<'a> {
     pub(crate) fn down(reason: Reason) -> Heard<'a>
         ensures packet { result.packet ≡ None }
         ensures notes { result.notes ≡ record { down = Some reason; up = false } }
+        ensures acknowledged { result.acknowledged ≡ false }
     {
         Heard::noted(Some(reason), false)
     }
@@ -30,10 +35,23 @@ impl<'a> Heard<'a> {
     pub(crate) fn noted(down: Option<Reason>, up: bool) -> Heard<'a>
         ensures packet { result.packet ≡ None }
         ensures notes { result.notes ≡ record { down = down; up = up } }
+        ensures acknowledged { result.acknowledged ≡ false }
     {
         Heard {
             packet: None,
             notes: Notes { down, up },
+            acknowledged: false,
         }
+    }
+
+    /// An N(R), which acknowledged frames or none.
+    pub(crate) fn numbered(acknowledged: bool) -> Heard<'a>
+        ensures packet { result.packet ≡ None }
+        ensures notes { result.notes ≡ record { down = None; up = false } }
+        ensures acknowledged { result.acknowledged ≡ acknowledged }
+    {
+        let mut heard = Heard::noted(None, false);
+        heard.acknowledged = acknowledged;
+        heard
     }
 }

@@ -35,11 +35,11 @@ impl LinkStation {
             (λ c t. numbered c octets.now nr.number (hears_info c.window ns.number p info.now) t) }
         ensures one { length out.new ≤ length out.old + 1 }
     {
-        if !self.acknowledge(nr) {
+        let Some(acknowledged) = self.acknowledge(nr) else {
             return self.reject(octets, INVALID_NR, out);
-        }
+        };
         let packet = self.hear_info(ns, p, info, out);
-        let mut heard = Heard::quiet();
+        let mut heard = Heard::numbered(acknowledged);
         heard.packet = packet;
         heard
     }
@@ -60,12 +60,12 @@ impl LinkStation {
             (λ c t. numbered c octets.now nr.number (λ u. quiet (polls command pf (peer_is busy u))) t) }
         ensures one { length out.new ≤ length out.old + 1 }
     {
-        if !self.acknowledge(nr) {
+        let Some(acknowledged) = self.acknowledge(nr) else {
             return self.reject(octets, INVALID_NR, out);
-        }
+        };
         self.peer_busy = busy;
         self.poll(command, pf, out);
-        Heard::quiet()
+        Heard::numbered(acknowledged)
     }
 
     // REJ.
@@ -82,13 +82,13 @@ impl LinkStation {
             (λ c t. numbered c octets.now nr.number (λ u. quiet (polls command pf (goes_back (peer_is false u)))) t) }
         ensures one { length out.new ≤ length out.old + 1 }
     {
-        if !self.acknowledge(nr) {
+        let Some(acknowledged) = self.acknowledge(nr) else {
             return self.reject(octets, INVALID_NR, out);
-        }
+        };
         self.peer_busy = false;
         self.outgoing.go_back();
         self.poll(command, pf, out);
-        Heard::quiet()
+        Heard::numbered(acknowledged)
     }
 
     // A frame, in Up.
@@ -253,7 +253,7 @@ impl LinkStation {
         requires places { length out.old + 9 ≤ 25 }
         ensures step { (c : Settings) (before : List (List ℕ)) (s : StationState)
             → FitsSide c self.old before out.old (alone s) →
-            FitsHeard c self.new before out.new result (take_step c octets.now s) }
+            FitsHeard c self.new s before out.new result (take_step c octets.now s) }
         ensures settled { (c : Settings) (s : StationState) → FitsStation c self.old s
             → may_send c.window (take_step c octets.now s).side.near ≡ false }
         ensures calm { (c : Settings) (s : StationState) → FitsStation c self.old s

@@ -24,7 +24,7 @@ use crate::waiting_packets::PLACES;
 use std::alloc::Global;
 use std::marker::Model;
 use std::mem;
-use x25_bits::{Role, Seq};
+use x25_bits::Role;
 use x25_frame::N1;
 use x25_window::Receiver;
 
@@ -203,13 +203,6 @@ impl Link {
         ensures { (c : Settings) (s : StationState) → FitsLink c self.now s → result ≡ timer_runs s.phase s }
     {
         self.station.timer_runs()
-    }
-
-    /// The number of the first I frame that the other end didn't acknowledge: all below it are. Section 2.4.5.5.
-    pub fn acknowledged(&self) -> Seq
-        ensures { (c : Settings) (s : StationState) → FitsLink c self.now s → result.number ≡ s.outgoing.acked % 8 }
-    {
-        self.station.outgoing.first()
     }
 
     // Hands a packet down, and leaves its frame behind the others.

@@ -1,5 +1,7 @@
 //! What a station that is Up does with frames that carry an N(R).
-ghost use Rattle.std.specs.Prelude.{◌≡◌, ℕ, ◌+◌, ◌<◌, ◌≤◌, List, length, true, false, option_copied};
+ghost use Rattle.std.specs.Prelude.{◌≡◌, ℕ, ◌+◌, ◌<◌, ◌≤◌, nat_lt, List, length, true, false, option_copied};
+ghost use Rattle.std.specs.Prelude.{is_some, IfSome, OnSome, MatchOption};
+ghost use Rattle.x25_window.specs.code.Modulo.{resolved};
 ghost use Rattle.x25_link.specs.Station.{Settings, LinkStation as StationState, Side};
 ghost use Rattle.x25_link.specs.code.Fits.{FitsStation, FitsSide, Leads};
 ghost use Rattle.x25_link.specs.Hearing.{is_valid, acknowledged, is_taken, takes, answers, passes_over, hears_info};
@@ -11,21 +13,26 @@ use x25_bits::Seq;
 use x25_frame::Frame;
 
 impl LinkStation {
-    /// Takes a received N(R), and says whether it is valid. All frames below it are acknowledged.
+    /// Takes a received N(R): all frames below it are acknowledged. It says whether these are any, and nothing where
+    /// the number isn't valid.
     #[inline(always)]
-    pub fn acknowledge(&mut self, nr: Seq) -> bool
-        ensures valid { (c : Settings) (s : StationState) → FitsStation c self.old s → result ≡ is_valid nr.number s }
+    pub fn acknowledge(&mut self, nr: Seq) -> Option<bool>
+        ensures valid { (c : Settings) (s : StationState) → FitsStation c self.old s
+            → is_some result ≡ is_valid nr.number s }
+        ensures any { (c : Settings) (s : StationState) → FitsStation c self.old s
+            → IfSome result (λ any. any ≡ nat_lt s.outgoing.acked (resolved s.outgoing.acked nr.number)) }
         ensures step { (c : Settings) (before made : List (List ℕ)) (t : Side) → FitsSide c self.old before made t
-            → result ≡ true → FitsSide c self.new before made (acknowledged nr.number t) }
-        ensures unchanged { result ≡ false → self.new ≡ self.old }
+            → OnSome result (FitsSide c self.new before made (acknowledged nr.number t)) }
+        ensures unchanged { MatchOption result (self.new ≡ self.old) (λ _. Unit {0}) }
     {
         let Ok(count) = self.outgoing.ack(nr) else {
-            return false;
+            return None;
         };
-        if count > 0 {
-            self.tries = 0;
+        if count == 0 {
+            return Some(false);
         }
-        true
+        self.tries = 0;
+        Some(true)
     }
 
     /// Takes an I frame whose N(R) is valid. It hands the packet up where the frame is the one wanted and the station

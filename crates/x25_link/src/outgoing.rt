@@ -76,14 +76,6 @@ impl Outgoing {
         self.sender.top()
     }
 
-    /// The number of the first frame that isn't acknowledged.
-    pub fn first(&self) -> Seq
-        ensures { (k : ℕ) (o : OutgoingState) → FitsOutgoing k self.now o → result.number ≡ o.acked % 8 }
-    {
-        let unacked = self.sender.unacked();
-        Seq::modulo(self.sender.top().get() + 8 - unacked)
-    }
-
     /// Lets a packet wait.
     pub fn add(&mut self, packet: Octets)
         requires { length self.old.queue < 256 }

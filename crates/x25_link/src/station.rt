@@ -182,7 +182,7 @@ impl LinkStation {
     #[cold]
     pub fn leave<'a>(&mut self, reason: Reason) -> Heard<'a>
         ensures step { (c : Settings) (before made : List (List ℕ)) (t : Side) → FitsSide c self.old before made t
-            → FitsHeard c self.new before made result (leaves reason t) }
+            → FitsHeard c self.new t.near before made result (leaves reason t) }
     {
         self.clear(Phase::Down);
         Heard::down(reason)

@@ -35,9 +35,9 @@ type Answer = (u8, Option<Reason>, bool);
 /// The frames that it sends: how many, and the octets of the last.
 type Sent = (usize, &'static [u8]);
 
-/// What a link says: whether it is idle, awaits UA, and T1 runs; the number of the first I frame that isn't
-/// acknowledged; and how many packets wait.
-type Says = (bool, bool, bool, u8, usize);
+/// What a link says: whether it is idle, awaits UA, and T1 runs; whether the step acknowledged frames; and how many
+/// packets wait.
+type Says = (bool, bool, bool, bool, usize);
 
 type Row = (Act, Answer, Sent, Says);
 
@@ -47,15 +47,15 @@ const UP: Answer = (0, None, true);
 
 const NONE: Sent = (0, &[]);
 
-const DOWN: Says = (false, false, false, 0, 0);
+const DOWN: Says = (false, false, false, false, 0);
 
-const AWAITS_UA: Says = (false, true, true, 0, 0);
+const AWAITS_UA: Says = (false, true, true, false, 0);
 
-const IDLE: Says = (true, false, false, 0, 0);
+const IDLE: Says = (true, false, false, false, 0);
 
-const IDLE_RUNS: Says = (true, false, true, 0, 0);
+const IDLE_RUNS: Says = (true, false, true, false, 0);
 
-const BUSY: Says = (false, false, true, 0, 0);
+const BUSY: Says = (false, false, true, false, 0);
 
 /// SABM with P=1 of the DTE.
 const SABM: &[u8] = &[0x01, 0x3F, 0xEB, 0xDF];
@@ -63,9 +63,12 @@ const SABM: &[u8] = &[0x01, 0x3F, 0xEB, 0xDF];
 /// UA with F=1 of the DCE.
 const UA: &[u8] = &[0x01, 0x73, 0x83, 0x57];
 
+/// RR with N(R)=2 of the DCE.
+const RR_2: &[u8] = &[0x01, 0x41, 0x12, 0x45];
+
 // A set-up that ends without an answer, one that is answered, packets whose memory can be taken once they are
-// acknowledged, and the end of the link.
-static DTE: [Row; 26] = [
+// acknowledged, by an N(R) that comes twice, and the end of the link.
+static DTE: [Row; 27] = [
     (Act::T1, (11, None, false), NONE, DOWN),
     (Act::Put(1), (9, None, false), NONE, DOWN),
     (Act::Probe, (9, None, false), NONE, DOWN),
@@ -80,32 +83,18 @@ static DTE: [Row; 26] = [
     (Act::Put(1), OK, (1, &[0x01, 0x00, 0x00, 0x10, 0x9C]), BUSY),
     (Act::Put(2), OK, (2, &[0x01, 0x04, 0x00, 0x70, 0xFB]), BUSY),
     (Act::Reuse, (70, None, false), NONE, BUSY),
-    (
-        Act::Take(&[0x01, 0x41, 0x12, 0x45]),
-        OK,
-        NONE,
-        (false, false, true, 2, 0),
-    ),
-    (Act::Reuse, OK, NONE, (false, false, true, 2, 0)),
-    (Act::Reuse, OK, NONE, (false, false, true, 2, 0)),
-    (
-        Act::Reuse,
-        (70, None, false),
-        NONE,
-        (false, false, true, 2, 0),
-    ),
-    (
-        Act::Put(6),
-        OK,
-        (6, &[0x01, 0x00, 0x00, 0x10, 0x9C]),
-        (false, false, true, 2, 0),
-    ),
-    (Act::Put(256), OK, NONE, (false, false, true, 2, 256)),
+    (Act::Take(RR_2), OK, NONE, (false, false, true, true, 0)),
+    (Act::Take(RR_2), OK, NONE, BUSY),
+    (Act::Reuse, OK, NONE, BUSY),
+    (Act::Reuse, OK, NONE, BUSY),
+    (Act::Reuse, (70, None, false), NONE, BUSY),
+    (Act::Put(6), OK, (6, &[0x01, 0x00, 0x00, 0x10, 0x9C]), BUSY),
+    (Act::Put(256), OK, NONE, (false, false, true, false, 256)),
     (
         Act::Put(1),
         (10, None, false),
         NONE,
-        (false, false, true, 2, 256),
+        (false, false, true, false, 256),
     ),
     (
         Act::Disconnect,
@@ -176,35 +165,36 @@ fn long_frame(alloc: Global) -> Result<Vec<u8>, LinkError> {
     Ok(octets)
 }
 
-fn number(answer: Result<(), LinkError>) -> Answer {
+fn number(answer: Result<(), LinkError>) -> (Answer, bool) {
     match answer {
-        Ok(()) => OK,
-        Err(error) => (error.number(), None, false),
+        Ok(()) => (OK, false),
+        Err(error) => ((error.number(), None, false), false),
     }
 }
 
-fn heard(answer: Result<Heard, LinkError>) -> Answer {
+fn heard(answer: Result<Heard, LinkError>) -> (Answer, bool) {
     match answer {
-        Ok(heard) => (0, heard.notes.down, heard.notes.up),
-        Err(error) => (error.number(), None, false),
+        Ok(heard) => ((0, heard.notes.down, heard.notes.up), heard.acknowledged),
+        Err(error) => number(Err(error)),
     }
 }
 
-fn take_long(link: &mut Link, alloc: Global) -> Answer {
+fn take_long(link: &mut Link, alloc: Global) -> (Answer, bool) {
     match long_frame(alloc) {
         Ok(octets) => heard(Ok(take(link, octets.as_slice()))),
         Err(error) => number(Err(error)),
     }
 }
 
-fn reuse(link: &mut Link) -> Answer {
+fn reuse(link: &mut Link) -> (Answer, bool) {
     match link.spent_memory(1) {
-        Some(octets) => (u8::from(!octets.is_empty()), None, false),
-        None => (70, None, false),
+        Some(octets) => ((u8::from(!octets.is_empty()), None, false), false),
+        None => ((70, None, false), false),
     }
 }
 
-fn happens(link: &mut Link, alloc: Global, act: Act) -> Answer {
+// What it answers, and whether it acknowledged frames.
+fn happens(link: &mut Link, alloc: Global, act: Act) -> (Answer, bool) {
     match act {
         Act::Connect => heard(connect(link)),
         Act::Disconnect => heard(disconnect(link)),
@@ -219,12 +209,12 @@ fn happens(link: &mut Link, alloc: Global, act: Act) -> Answer {
     }
 }
 
-fn says(link: &Link) -> Says {
+fn says(link: &Link, acknowledged: bool) -> Says {
     (
         link.idle(),
         link.awaits_ua(),
         link.timer_runs(),
-        link.acknowledged().get(),
+        acknowledged,
         link.waiting(),
     )
 }
@@ -246,8 +236,9 @@ fn sends(link: &mut Link, frames: &mut Frames, (count, octets): Sent) -> bool {
 // The first row in which something else comes of what happens.
 fn odd_row(link: &mut Link, frames: &mut Frames, alloc: Global, rows: &[Row]) -> Option<usize> {
     for (place, &(act, answer, sent, wanted)) in rows.iter().enumerate() {
-        let found = happens(link, alloc, act);
-        if !sends(link, frames, sent) || (found, says(link)) != (answer, wanted) {
+        let (found, acknowledged) = happens(link, alloc, act);
+        let said = says(link, acknowledged);
+        if !sends(link, frames, sent) || (found, said) != (answer, wanted) {
             return Some(place);
         }
     }

@@ -1,2 +1,6 @@
+mod ListLemmas
 pub mod SlotLemmas
-pub mod verdicts
+mod TellingLemmas
+mod BookLemmas
+mod TapeLemmas
+mod RestartLemmas

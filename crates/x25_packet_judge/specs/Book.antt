@@ -1,8 +1,7 @@
 -- The packet layers of both ends and all their channels, and what a frame changes and breaks. ITU-T X.25 (10/96),
 -- sections 3 and 4.
-use Rattle.std.specs.Prelude.{ℕ, ◌/◌, ◌%◌, ◌==◌, Bool, true, false, not, ◌&&◌, ◌||◌, if◌then◌else◌, is_some, List}
-use Rattle.std.specs.Prelude.{[], ◌∷◌}
-use Rattle.std.specs.Prelude.{slice_index_or, slice_set, Option, Some, None, Result, Ok, Err}
+use Rattle.std.specs.Prelude.{ℕ, ◌/◌, ◌%◌, ◌==◌, Bool, true, false, ◌&&◌, ◌||◌, if◌then◌else◌, List, [], ◌∷◌}
+use Rattle.std.specs.Prelude.{slice_set, Option, Some, None, Result, Ok, Err}
 use Rattle.x25_bits.specs.declared.role.Role.{Role}
 use Rattle.x25_bits.specs.declared.role.Role.TheVariants.{Dte, Dce}
 use Rattle.x25_frame.specs.Frame.{PlainFrame, info, rr, rnr, rej, sabm, disc, ua, dm, frmr}
@@ -11,81 +10,49 @@ use Rattle.x25_packet.specs.Reading.{channel_in, packet_of}
 use Rattle.x25_packet.specs.Spelling.{longest_user}
 use Rattle.x25_packet.specs.declared.error.PacketError.{PacketError}
 use Rattle.x25_decode.specs.declared.answer.Reading.{Reading}
+use Rattle.x25_packet_judge.specs.Channel as channels
+use Rattle.x25_packet_judge.specs.Channels.{all_alike, all_take, channel_of}
+use Rattle.x25_packet_judge.specs.Item.{item_of}
 use Rattle.x25_packet_judge.specs.Layer.{unseen}
 use Rattle.x25_packet_judge.specs.Layers as layers
-use Rattle.x25_packet_judge.specs.Packets.{follows}
-use Rattle.x25_packet_judge.specs.Pair.{is_known, noted, unread}
-use Rattle.x25_packet_judge.specs.Port.{all_alike, blank, fresh}
 use Rattle.x25_packet_judge.specs.declared.book.Book.{Book}
 use Rattle.x25_packet_judge.specs.declared.book.Verdict.{Verdict}
+use Rattle.x25_packet_judge.specs.declared.channel.Channel.{Channel}
+use Rattle.x25_packet_judge.specs.declared.channel.Finding.{Finding}
 use Rattle.x25_packet_judge.specs.declared.layers.Layers.{Layers}
-use Rattle.x25_packet_judge.specs.declared.packet_rule.PacketRule.{PacketRule}
-use Rattle.x25_packet_judge.specs.declared.packet_rule.PacketRule.TheVariants.{NoPacket}
-use Rattle.x25_packet_judge.specs.declared.pair.Pair.{Pair}
-use Rattle.x25_packet_judge.specs.declared.port.Port.{Port}
+use Rattle.x25_packet_judge.specs.declared.packet_rule.PacketRule.TheVariants.{NoPacket, RestartAwaited}
+use Rattle.x25_possible.specs.declared.packet.Packet.{Packet as Item}
+use Rattle.x25_possible.specs.declared.packet.Packet.TheVariants.{Elsewhere, Restart, RestartConf}
 use Rattle.x25_wide.specs.Packet as wide_packet
 use Rattle.x25_wide.specs.Packet.{PlainKind, PlainWide}
 use Rattle.x25_wide.specs.Reading.{wide_of}
 use Rattle.x25_wide.specs.Taking.{taken_in}
 
-abbrev pub other : Role → Role
-other Dte = Dce
-other Dce = Dte
-
 -- nothing was sent
 abbrev pub empty : Book
-empty = record { dte = unseen; dce = unseen; dte_ports = all_alike blank; dce_ports = all_alike blank }
+empty = record {
+  dte = unseen;
+  dce = unseen;
+  restarts = channels.any_channel;
+  channels = all_alike channels.any_channel;
+}
 
 -- ---- parts: the end that sends comes first
 
 abbrev pub layers_of : Role → Book → Layers
-layers_of Dte b = record { own = b.dte; other = b.dce; rule = None }
-layers_of Dce b = record { own = b.dce; other = b.dte; rule = None }
+layers_of Dte b = record { own = b.dte; other = b.dce }
+layers_of Dce b = record { own = b.dce; other = b.dte }
 
 abbrev pub keeps : Role → Layers → Book → Book
-keeps Dte t b = record { dte = t.own; dce = t.other; dte_ports = b.dte_ports; dce_ports = b.dce_ports }
-keeps Dce t b = record { dte = t.other; dce = t.own; dte_ports = b.dte_ports; dce_ports = b.dce_ports }
+keeps Dte t b = record { dte = t.own; dce = t.other; restarts = b.restarts; channels = b.channels }
+keeps Dce t b = record { dte = t.other; dce = t.own; restarts = b.restarts; channels = b.channels }
 
--- the channels of an end, or of both, are all as this one
-abbrev pub fills : Role → Port → Book → Book
-fills Dte p b = record { dte = b.dte; dce = b.dce; dte_ports = all_alike p; dce_ports = b.dce_ports }
-fills Dce p b = record { dte = b.dte; dce = b.dce; dte_ports = b.dte_ports; dce_ports = all_alike p }
+-- of restarts, and of all channels
+abbrev pub fills : Channel → Channel → Book → Book
+fills c d b = record { dte = b.dte; dce = b.dce; restarts = c; channels = all_alike d }
 
-abbrev pub fills_both : Port → Book → Book
-fills_both p b = record { dte = b.dte; dce = b.dce; dte_ports = all_alike p; dce_ports = all_alike p }
-
-abbrev pub port_of : ℕ → List Port → Port
-port_of channel ports = slice_index_or ports (channel % 4096) blank
-
-abbrev pub pair_of : Role → Bool → ℕ → Book → Pair
-pair_of Dte reaches channel b = record {
-  from = Dte;
-  reaches = reaches;
-  own = port_of channel b.dte_ports;
-  other = port_of channel b.dce_ports;
-  rule = None;
-}
-pair_of Dce reaches channel b = record {
-  from = Dce;
-  reaches = reaches;
-  own = port_of channel b.dce_ports;
-  other = port_of channel b.dte_ports;
-  rule = None;
-}
-
-abbrev pub puts : Role → ℕ → Pair → Book → Book
-puts Dte channel p b = record {
-  dte = b.dte;
-  dce = b.dce;
-  dte_ports = slice_set b.dte_ports (channel % 4096) p.own;
-  dce_ports = slice_set b.dce_ports (channel % 4096) p.other;
-}
-puts Dce channel p b = record {
-  dte = b.dte;
-  dce = b.dce;
-  dte_ports = slice_set b.dte_ports (channel % 4096) p.other;
-  dce_ports = slice_set b.dce_ports (channel % 4096) p.own;
-}
+abbrev pub forgets : Book → Book
+forgets b = fills channels.any_channel channels.any_channel b
 
 -- ---- a packet
 
@@ -94,89 +61,72 @@ pub record Seen : Type 0 where
   pub book : Book
   pub verdict : Verdict
 
--- the packet was judged
-abbrev pub told : Book → Option PacketRule → Seen
-told b rule = record { book = b; verdict = record { rule = rule; unjudged = None; is_judged = true } }
+abbrev pub seen : Book → Verdict → Seen
+seen b v = record { book = b; verdict = v }
 
 -- the packet wasn't judged: a channel that isn't from there on may be noted, of which 0 stands for all
 abbrev pub passed : Book → Option ℕ → Seen
-passed b unjudged = record { book = b; verdict = record { rule = None; unjudged = unjudged; is_judged = false } }
+passed b unjudged = seen b (record { rule = None; unjudged = unjudged; is_judged = false })
 
 abbrev pub quiet : Book → Seen
 quiet b = passed b None
 
--- the channel isn't judged, which is noted once
-abbrev pub blind : Role → ℕ → Pair → Book → Seen
-blind from channel p b = passed (puts from channel (noted p) b) (if p.own.is_noted || p.other.is_noted then None
-    else Some channel)
+abbrev pub verdict_of : ℕ → Finding → Verdict
+verdict_of channel f = record {
+  rule = f.rule;
+  unjudged = if f.is_first then Some channel else None;
+  is_judged = f.is_judged;
+}
 
--- both ends of its channel, behind it
-abbrev pub put_by : Role → ℕ → Pair → Option PacketRule → Book → Seen
-put_by from channel p rule b = if is_known p || is_some rule then told (puts from channel p b) rule
-    else blind from channel p b
+abbrev pub puts : ℕ → channels.Found → Book → Seen
+puts channel f b = seen (record {
+  dte = b.dte;
+  dce = b.dce;
+  restarts = b.restarts;
+  channels = slice_set b.channels (channel % 4096) f.channel;
+}) (verdict_of channel f.finding)
 
-abbrev pub took : Role → Layers → ℕ → Pair → Book → Seen
-took from t channel p b = put_by from channel p p.rule (keeps from t b)
+-- a packet of a channel, before which RESTART may have to be answered
+abbrev pub told_early : Bool → Seen → Seen
+told_early is_early s = if is_early
+    then seen s.book (record { rule = Some RestartAwaited; unjudged = None; is_judged = true })
+    else s
 
-unfoldable pub takes_on : Role → Layers → ℕ → PlainPacket → Book → Seen
-takes_on from t channel packet b =
-    if is_some t.rule then told (keeps from t b) t.rule
-    else if not (layers.are_sure t)
-    then blind from channel (pair_of from (layers.are_level t) channel b) (keeps from t b)
-    else took from t channel (follows packet (pair_of from (layers.are_level t) channel b)) b
+abbrev pub with_restarts : Channel → Book → Book
+with_restarts c b = record { dte = b.dte; dce = b.dce; restarts = c; channels = b.channels }
 
--- before the confirmation of its RESTART nothing is known of the end's channels
-unfoldable pub runs : Role → ℕ → PlainPacket → Book → Seen
-runs from channel packet b =
-    if layers.runs_early (layers_of from b)
-    then takes_on from (layers.runs (layers_of from b)) channel packet (fills from blank b)
-    else takes_on from (layers.runs (layers_of from b)) channel packet b
+abbrev pub judges : Role → ℕ → Item → Book → Seen
+judges from channel x b = told_early (channels.is_early from b.restarts)
+    (puts channel (channels.judges from x (channel_of channel b.channels))
+    (with_restarts (channels.takes from Elsewhere b.restarts).channel b))
 
--- RESTART and its confirmation: all channels of the end that sends begin anew
-unfoldable pub restarts : Role → Layers → Book → Seen
-restarts from t b = told (keeps from t (fills from fresh b)) t.rule
+-- where nothing was sent since the set-up, the packet layer may go on from before it
+abbrev pub follows : Role → ℕ → Item → Bool → Book → Seen
+follows from channel x is_first b =
+    judges from channel x (if is_first then with_restarts channels.any_channel b else b)
 
--- all channels of both ends do
-abbrev pub refinds : Role → Layers → Book → Seen
-refinds from t b = told (keeps from (layers.refinds t) (fills_both fresh b)) None
+-- RESTART and its confirmation are packets of all channels; of RESTART itself no rule is told
+abbrev pub restarts_as : Bool → channels.Found → List Channel → Book → Seen
+restarts_as is_judged f cs b = seen (record { dte = b.dte; dce = b.dce; restarts = f.channel; channels = cs })
+    (record { rule = f.finding.rule; unjudged = None; is_judged = is_judged || f.finding.is_judged })
 
--- a confirmation of a RESTART behind a fault of restarts
-abbrev pub confirms_lost : Role → Layers → Book → Seen
-confirms_lost from t b = if layers.is_last_answer t then refinds from t b
-    else quiet (keeps from (layers.confirms_lost t) b)
+abbrev pub restarts : Role → Item → Bool → Book → Seen
+restarts from x is_judged b = restarts_as is_judged (channels.takes from x b.restarts)
+    (all_take from x b.channels) b
 
--- a confirmation of a RESTART that was seen
-abbrev pub answers : Role → Layers → Book → Seen
-answers from t b = if layers.are_counted t then restarts from (layers.answers_restart t) b else refinds from t b
-
--- Behind a confirmation of none nothing is known of the channels of its sender. Where restarts aren't counted it may be
--- of one that wasn't seen.
-unfoldable pub confirms : Role → Layers → Book → Seen
-confirms from t b =
-    if layers.are_lost t then confirms_lost from t b
-    else if layers.is_answer t then answers from t b
-    else if layers.is_second_answer t then told (keeps from (layers.confirms_again t) b) None
-    else if layers.are_counted t
-    then told (keeps from (layers.confirms_unseen t) (fills from blank b)) (layers.confirms_unseen t).rule
-    else quiet (keeps from (layers.confirms_unseen t) b)
+abbrev pub spoken : Role → Book → Book
+spoken from b = keeps from (layers.speaks (layers_of from b)) b
 
 unfoldable pub takes : Role → ℕ → PlainPacket → Book → Seen
-takes from channel (restart cause diagnostic) b = restarts from (layers.restarts (layers_of from b)) b
-takes from channel restart_conf b = confirms from (layers_of from b) b
-takes from channel packet b = runs from channel packet b
+takes from channel (restart cause diagnostic) b = restarts from Restart true (spoken from b)
+takes from channel restart_conf b = restarts from RestartConf false (spoken from b)
+takes from channel packet b = follows from channel (item_of packet) (layers_of from b).own.is_quiet (spoken from b)
 
--- a packet of the channel that isn't read
-abbrev pub takes_unread : Role → Layers → ℕ → Book → Seen
-takes_unread from t channel b = blind from channel (unread (pair_of from (layers.are_level t) channel b))
-    (keeps from t b)
-
--- octets that spell none: nothing may be said of restarts where they name no channel
-abbrev pub misses_on : Role → ℕ → Book → Seen
-misses_on from channel b =
-    if channel == 0 then passed (keeps from (layers.are_unsure (layers_of from b)) b) (Some 0)
-    else if layers.runs_early (layers_of from b)
-    then takes_unread from (layers.runs (layers_of from b)) channel (fills from blank b)
-    else takes_unread from (layers.runs (layers_of from b)) channel b
+-- octets that spell none: nothing may be said of any channel where they name none
+abbrev pub misses_on : ℕ → Book → Seen
+misses_on channel b =
+    if channel == 0 then passed (forgets b) (Some 0)
+    else puts channel (channels.misses (channel_of channel b.channels)) b
 
 -- DIAGNOSTIC changes nothing of calls and restarts
 abbrev pub diagnoses : PlainKind → Bool
@@ -189,7 +139,7 @@ is_diagnostic (Err e) = false
 
 abbrev pub takes_read : Role → ℕ → Result PlainPacket PacketError → Book → Seen
 takes_read from channel (Ok packet) b = takes from channel packet b
-takes_read from channel (Err e) b = misses_on from channel b
+takes_read from channel (Err e) b = misses_on channel b
 
 -- in the form that a station writes
 abbrev pub reads_written : Role → ℕ → ℕ → List ℕ → Book → Seen
@@ -205,16 +155,17 @@ abbrev pub is_no_packet : List ℕ → Result PlainWide PacketError → Bool
 is_no_packet octets (Ok w) = false
 is_no_packet octets (Err e) = is_modulo_8 octets
 
-abbrev pub tells_no_packet : Role → ℕ → Book → Seen
-tells_no_packet from channel b = told (misses_on from channel b).book (Some NoPacket)
+abbrev pub tells_no_packet : ℕ → Book → Seen
+tells_no_packet channel b =
+    seen (misses_on channel b).book (record { rule = Some NoPacket; unjudged = None; is_judged = true })
 
 -- in any form: as the packet that a station takes it for
 abbrev pub takes_any : Role → ℕ → Bool → Bool → Result PlainPacket PacketError → Book → Seen
 takes_any from channel diagnoses is_none (Ok packet) b = takes from channel packet b
 takes_any from channel diagnoses is_none (Err e) b =
     if diagnoses then quiet b
-    else if is_none then tells_no_packet from channel b
-    else misses_on from channel b
+    else if is_none then tells_no_packet channel b
+    else misses_on channel b
 
 abbrev pub reads_any : Role → ℕ → ℕ → List ℕ → Book → Seen
 reads_any from channel most octets b =
@@ -233,11 +184,11 @@ reads from reading octets b = reads_on from reading octets (channel_in octets) b
 
 -- ---- a frame
 
--- an N(R): where it shows that packets of the other end weren't seen, nothing is known of its channels
+-- an N(R): where it shows that packets of the other end weren't seen, nothing is known of any channel
 unfoldable pub hears : Role → ℕ → Book → Book
 hears from number b =
     if layers.finds_other number (layers_of from b)
-    then keeps from (layers.hears number (layers_of from b)) (fills (other from) blank b)
+    then keeps from (layers.hears number (layers_of from b)) (forgets b)
     else keeps from (layers.hears number (layers_of from b)) b
 
 abbrev pub reads_if : Bool → Role → Reading → List ℕ → Book → Seen
@@ -255,9 +206,9 @@ sends_info from reading ns nr octets is_broken b =
     if is_broken then quiet (keeps from (layers.loses (layers_of from b)) b)
     else moves from reading ns octets (hears from nr b)
 
--- the channels of both ends begin anew, and are known where an end restarts
+-- both packet layers begin anew; a call that was up may go on
 unfoldable pub begins : Role → Layers → Book → Book
-begins from t b = keeps from t (fills_both blank b)
+begins from t b = keeps from t (fills channels.begun_channel channels.ready_channel b)
 
 -- UA; behind frames of the other end, which is up, it comes again
 unfoldable pub accepts : Role → Layers → Book → Book

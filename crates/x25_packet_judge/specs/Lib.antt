@@ -1,13 +1,10 @@
 pub mod Numbers
 pub mod PacketRuleText
 pub mod PacketRule
-pub mod Flow
-pub mod Message
-pub mod Terms
-pub mod Port
-pub mod Pair
-pub mod Talking
-pub mod Packets
+pub mod Item
+pub mod Reason
+pub mod Channel
+pub mod Channels
 pub mod Layer
 pub mod Layers
 pub mod Book

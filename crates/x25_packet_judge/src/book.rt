@@ -1,29 +1,32 @@
 //! The packet layers of both ends and all their channels.
-ghost use Rattle.std.specs.Prelude.{◌≡◌, IfOk, None, true, false};
+ghost use Rattle.std.specs.Prelude.{◌≡◌, IfOk, None, Some, true, false};
 ghost use Rattle.x25_frame.specs.Frame.{plain as plain_frame};
 ghost use Rattle.x25_packet.specs.Packet.{plain};
 ghost use Rattle.x25_packet_judge.specs.Book as definition;
 ghost use Rattle.x25_wide.specs.Reading.{wide_of};
 
+use crate::channel::{Channel, Finding};
+use crate::channels::Channels;
+use crate::item::item_of;
 use crate::layer::Layer;
 use crate::layers::Layers;
 use crate::packet_rule::PacketRule;
-use crate::pair::Pair;
-use crate::port::Port;
-use crate::ports::Ports;
 use std::alloc::{AllocError, Global};
+use x25_bits::Role;
 use x25_decode::Reading;
-use x25_frame::{Frame, Role};
+use x25_frame::Frame;
 use x25_packet::{Packet, channel, decode_within, longest_user};
+use x25_possible::Packet as Item;
 use x25_wide::{Kind, decode, take};
 
-/// Both packet layers, and the ends of the channels.
+/// Which packets of both ends are followed, and what is known of the ends of the channels.
 #[derive(Drop)]
 pub struct Book {
     pub(crate) dte: Layer,
     pub(crate) dce: Layer,
-    pub(crate) dte_ports: Ports,
-    pub(crate) dce_ports: Ports,
+    /// A channel on which nothing but RESTART and its confirmation was sent, by which these are judged.
+    pub(crate) restarts: Channel,
+    pub(crate) channels: Channels,
 }
 
 /// What is told of a packet: the rule that it breaks, a channel that isn't judged from there on, of which 0 stands for
@@ -35,11 +38,11 @@ pub struct Verdict {
     pub is_judged: bool,
 }
 
-fn told(rule: Option<PacketRule>) -> Verdict
-    ensures { result ≡ record { rule = rule; unjudged = None; is_judged = true } }
+fn told(rule: PacketRule) -> Verdict
+    ensures { result ≡ record { rule = Some rule; unjudged = None; is_judged = true } }
 {
     Verdict {
-        rule,
+        rule: Some(rule),
         unjudged: None,
         is_judged: true,
     }
@@ -86,12 +89,17 @@ fn is_no_packet(most: usize, octets: &[u8]) -> bool
     }
 }
 
-fn other(role: Role) -> Role
-    ensures { result ≡ definition.other role }
+fn verdict_of(channel: u16, finding: Finding) -> Verdict
+    ensures { result ≡ definition.verdict_of channel finding }
 {
-    match role {
-        Role::Dte => Role::Dce,
-        Role::Dce => Role::Dte,
+    Verdict {
+        rule: finding.rule,
+        unjudged: if finding.is_first {
+            Some(channel)
+        } else {
+            None
+        },
+        is_judged: finding.is_judged,
     }
 }
 
@@ -100,13 +108,12 @@ impl Book {
     pub fn new(alloc: Global) -> Result<Book, AllocError>
         ensures { IfOk result (λ book. book ≡ definition.empty) }
     {
-        let dte_ports = Ports::new(alloc)?;
-        let dce_ports = Ports::new(alloc)?;
+        let channels = Channels::new(alloc)?;
         Ok(Book {
             dte: Layer::unseen(),
             dce: Layer::unseen(),
-            dte_ports,
-            dce_ports,
+            restarts: Channel::any(),
+            channels,
         })
     }
 
@@ -118,12 +125,10 @@ impl Book {
             Role::Dte => Layers {
                 own: self.dte,
                 other: self.dce,
-                rule: None,
             },
             Role::Dce => Layers {
                 own: self.dce,
                 other: self.dte,
-                rule: None,
             },
         }
     }
@@ -143,191 +148,45 @@ impl Book {
         }
     }
 
-    /// The channels of an end are all as this one.
-    fn fill(&mut self, role: Role, port: Port)
-        ensures { self.new ≡ definition.fills role port self.old }
+    /// A packet of a channel, before which RESTART may have to be answered.
+    fn judges(&mut self, from: Role, channel: u16, item: Item) -> Verdict
+        ensures book { self.new ≡ (definition.judges from channel item self.old).book }
+        ensures verdict { result ≡ (definition.judges from channel item self.old).verdict }
     {
-        match role {
-            Role::Dte => self.dte_ports.fill(port),
-            Role::Dce => self.dce_ports.fill(port),
-        }
-    }
-
-    /// The channels of both ends are.
-    fn fill_both(&mut self, port: Port)
-        ensures { self.new ≡ definition.fills_both port self.old }
-    {
-        self.dte_ports.fill(port);
-        self.dce_ports.fill(port);
-    }
-
-    /// Both ends of a channel.
-    fn pair(&self, from: Role, reaches: bool, channel: u16) -> Pair
-        ensures { result ≡ definition.pair_of from reaches channel self.now }
-    {
-        match from {
-            Role::Dte => Pair {
-                from,
-                reaches,
-                own: self.dte_ports.get(channel),
-                other: self.dce_ports.get(channel),
-                rule: None,
-            },
-            Role::Dce => Pair {
-                from,
-                reaches,
-                own: self.dce_ports.get(channel),
-                other: self.dte_ports.get(channel),
-                rule: None,
-            },
-        }
-    }
-
-    fn put(&mut self, from: Role, channel: u16, pair: Pair)
-        ensures { self.new ≡ definition.puts from channel pair self.old }
-    {
-        match from {
-            Role::Dte => {
-                self.dte_ports.set(channel, pair.own);
-                self.dce_ports.set(channel, pair.other);
-            }
-            Role::Dce => {
-                self.dce_ports.set(channel, pair.own);
-                self.dte_ports.set(channel, pair.other);
-            }
-        }
-    }
-
-    /// The channel isn't judged, which is noted once.
-    fn blind(&mut self, from: Role, channel: u16, pair: Pair) -> Verdict
-        ensures book { self.new ≡ (definition.blind from channel pair self.old).book }
-        ensures verdict { result ≡ (definition.blind from channel pair self.old).verdict }
-    {
-        self.put(from, channel, pair.noted());
-        if pair.own.is_noted || pair.other.is_noted {
-            passed(None)
+        let is_early = self.restarts.passes_over(from);
+        let finding = self.channels.judges(channel, from, item);
+        if is_early {
+            told(PacketRule::RestartAwaited)
         } else {
-            passed(Some(channel))
+            verdict_of(channel, finding)
         }
     }
 
-    /// Both ends of a channel, behind a packet.
-    fn put_by(&mut self, from: Role, channel: u16, pair: Pair, rule: Option<PacketRule>) -> Verdict
-        ensures book { self.new ≡ (definition.put_by from channel pair rule self.old).book }
-        ensures verdict { result ≡ (definition.put_by from channel pair rule self.old).verdict }
+    /// The same; where nothing was sent since the set-up, the packet layer may go on from before it.
+    fn follows(&mut self, from: Role, channel: u16, item: Item, is_first: bool) -> Verdict
+        ensures book { self.new ≡ (definition.follows from channel item is_first self.old).book }
+        ensures verdict { result ≡ (definition.follows from channel item is_first self.old).verdict }
     {
-        if pair.is_known() || rule.is_some() {
-            self.put(from, channel, pair);
-            told(rule)
+        if is_first {
+            self.restarts = Channel::any();
+            self.judges(from, channel, item)
         } else {
-            self.blind(from, channel, pair)
+            self.judges(from, channel, item)
         }
     }
 
-    /// A packet of a channel.
-    #[tactic(auto, unfolding(crate::specs::Book::takes_on))]
-    fn takes_on(&mut self, from: Role, layers: Layers, channel: u16, packet: &Packet) -> Verdict
-        ensures book { self.new ≡ (definition.takes_on from layers channel (plain packet.now) self.old).book }
-        ensures verdict { result ≡ (definition.takes_on from layers channel (plain packet.now) self.old).verdict }
+    /// RESTART or its confirmation, of all channels. No RESTART breaks a rule.
+    fn restarts(&mut self, from: Role, item: Item, is_judged: bool) -> Verdict
+        ensures book { self.new ≡ (definition.restarts from item is_judged self.old).book }
+        ensures verdict { result ≡ (definition.restarts from item is_judged self.old).verdict }
     {
-        self.keep(from, layers);
-        if layers.rule.is_some() {
-            return told(layers.rule);
+        let finding = self.restarts.takes(from, item);
+        self.channels.take(from, item);
+        Verdict {
+            rule: finding.rule,
+            unjudged: None,
+            is_judged: is_judged || finding.is_judged,
         }
-        let pair = self.pair(from, layers.are_level(), channel);
-        if layers.are_sure() {
-            let next = pair.follows(packet);
-            self.put_by(from, channel, next, next.rule)
-        } else {
-            self.blind(from, channel, pair)
-        }
-    }
-
-    /// A packet of a channel: before the confirmation of its RESTART nothing is known of the end's channels.
-    #[tactic(auto, unfolding(crate::specs::Book::runs))]
-    fn runs(&mut self, from: Role, channel: u16, packet: &Packet) -> Verdict
-        ensures book { self.new ≡ (definition.runs from channel (plain packet.now) self.old).book }
-        ensures verdict { result ≡ (definition.runs from channel (plain packet.now) self.old).verdict }
-    {
-        let layers = self.layers(from);
-        if layers.runs_early() {
-            self.fill(from, Port::blank());
-            self.takes_on(from, layers.runs(), channel, packet)
-        } else {
-            self.takes_on(from, layers.runs(), channel, packet)
-        }
-    }
-
-    /// A RESTART, or a confirmation of one that was seen.
-    #[tactic(auto, unfolding(crate::specs::Book::restarts))]
-    fn restarts(&mut self, from: Role, layers: Layers) -> Verdict
-        ensures book { self.new ≡ (definition.restarts from layers self.old).book }
-        ensures verdict { result ≡ (definition.restarts from layers self.old).verdict }
-    {
-        self.fill(from, Port::fresh());
-        self.keep(from, layers);
-        told(layers.rule)
-    }
-
-    /// A confirmation that makes both ends known.
-    fn refinds(&mut self, from: Role, layers: Layers)
-        ensures { self.new ≡ (definition.refinds from layers self.old).book }
-    {
-        self.fill_both(Port::fresh());
-        self.keep(from, layers.refinds());
-    }
-
-    /// A confirmation of a RESTART behind a fault of restarts.
-    fn confirms_lost(&mut self, from: Role, layers: Layers) -> Verdict
-        ensures book { self.new ≡ (definition.confirms_lost from layers self.old).book }
-        ensures verdict { result ≡ (definition.confirms_lost from layers self.old).verdict }
-    {
-        if layers.is_last_answer() {
-            self.refinds(from, layers);
-            told(None)
-        } else {
-            self.keep(from, layers.confirms_lost());
-            passed(None)
-        }
-    }
-
-    /// A confirmation of a RESTART that was seen.
-    fn answers(&mut self, from: Role, layers: Layers) -> Verdict
-        ensures book { self.new ≡ (definition.answers from layers self.old).book }
-        ensures verdict { result ≡ (definition.answers from layers self.old).verdict }
-    {
-        if layers.are_counted() {
-            self.restarts(from, layers.answers_restart())
-        } else {
-            self.refinds(from, layers);
-            told(None)
-        }
-    }
-
-    /// A confirmation of a RESTART.
-    #[tactic(auto, unfolding(crate::specs::Book::confirms))]
-    fn confirms(&mut self, from: Role, layers: Layers) -> Verdict
-        ensures book { self.new ≡ (definition.confirms from layers self.old).book }
-        ensures verdict { result ≡ (definition.confirms from layers self.old).verdict }
-    {
-        if layers.are_lost() {
-            return self.confirms_lost(from, layers);
-        }
-        if layers.is_answer() {
-            return self.answers(from, layers);
-        }
-        if layers.is_second_answer() {
-            self.keep(from, layers.confirms_again());
-            return told(None);
-        }
-        let next = layers.confirms_unseen();
-        if layers.are_counted() {
-            self.fill(from, Port::blank());
-            self.keep(from, next);
-            return told(next.rule);
-        }
-        self.keep(from, next);
-        passed(None)
     }
 
     /// A packet; what is told of it is answered.
@@ -336,9 +195,11 @@ impl Book {
         ensures book { self.new ≡ (definition.takes from channel (plain packet.now) self.old).book }
         ensures verdict { result ≡ (definition.takes from channel (plain packet.now) self.old).verdict }
     {
+        let layers = self.layers(from);
+        self.keep(from, layers.speaks());
         match packet {
-            Packet::Restart { .. } => self.restarts(from, self.layers(from).restarts()),
-            Packet::RestartConf => self.confirms(from, self.layers(from)),
+            Packet::Restart { .. } => self.restarts(from, Item::Restart, true),
+            Packet::RestartConf => self.restarts(from, Item::RestartConf, false),
             Packet::Call { .. }
             | Packet::Accept { .. }
             | Packet::Clear { .. }
@@ -349,45 +210,43 @@ impl Book {
             | Packet::Interrupt { .. }
             | Packet::InterruptConf { .. }
             | Packet::Reset { .. }
-            | Packet::ResetConf { .. } => self.runs(from, channel, packet),
+            | Packet::ResetConf { .. } => self.follows(
+                from,
+                channel,
+                item_of(packet),
+                layers.own.is_quiet,
+            ),
         }
     }
 
-    /// A packet of the channel that isn't read.
-    fn takes_unread(&mut self, from: Role, layers: Layers, channel: u16) -> Verdict
-        ensures book { self.new ≡ (definition.takes_unread from layers channel self.old).book }
-        ensures verdict { result ≡ (definition.takes_unread from layers channel self.old).verdict }
+    /// Packets of an end were missed, of any channels.
+    fn forget(&mut self)
+        ensures { self.new ≡ definition.forgets self.old }
     {
-        let pair = self.pair(from, layers.are_level(), channel).unread();
-        self.keep(from, layers);
-        self.blind(from, channel, pair)
+        self.restarts = Channel::any();
+        self.channels.begin(Channel::any());
     }
 
-    /// Octets that spell no packet: nothing may be said of restarts where they name no channel.
-    fn misses_on(&mut self, from: Role, channel: u16) -> Verdict
-        ensures book { self.new ≡ (definition.misses_on from channel self.old).book }
-        ensures verdict { result ≡ (definition.misses_on from channel self.old).verdict }
+    /// Octets that spell no packet: nothing may be said of any channel where they name none.
+    fn misses_on(&mut self, channel: u16) -> Verdict
+        ensures book { self.new ≡ (definition.misses_on channel self.old).book }
+        ensures verdict { result ≡ (definition.misses_on channel self.old).verdict }
     {
-        let layers = self.layers(from);
         if channel == 0 {
-            self.keep(from, layers.unsure());
+            self.forget();
             return passed(Some(0));
         }
-        if layers.runs_early() {
-            self.fill(from, Port::blank());
-            self.takes_unread(from, layers.runs(), channel)
-        } else {
-            self.takes_unread(from, layers.runs(), channel)
-        }
+        let finding = self.channels.misses(channel);
+        verdict_of(channel, finding)
     }
 
     /// Octets that are no packet in any form.
-    fn tells_no_packet(&mut self, from: Role, channel: u16) -> Verdict
-        ensures book { self.new ≡ (definition.tells_no_packet from channel self.old).book }
-        ensures verdict { result ≡ (definition.tells_no_packet from channel self.old).verdict }
+    fn tells_no_packet(&mut self, channel: u16) -> Verdict
+        ensures book { self.new ≡ (definition.tells_no_packet channel self.old).book }
+        ensures verdict { result ≡ (definition.tells_no_packet channel self.old).verdict }
     {
-        self.misses_on(from, channel);
-        told(Some(PacketRule::NoPacket))
+        self.misses_on(channel);
+        told(PacketRule::NoPacket)
     }
 
     /// A packet in the form that a station writes.
@@ -397,7 +256,7 @@ impl Book {
     {
         match decode_within(most, octets) {
             Ok(packet) => self.takes(from, channel, &packet),
-            Err(_) => self.misses_on(from, channel),
+            Err(_) => self.misses_on(channel),
         }
     }
 
@@ -410,8 +269,8 @@ impl Book {
         match take(most, octets) {
             Ok(taken) => self.takes(from, channel, &taken),
             Err(_) if is_diagnostic(most, octets) => passed(None),
-            Err(_) if is_no_packet(most, octets) => self.tells_no_packet(from, channel),
-            Err(_) => self.misses_on(from, channel),
+            Err(_) if is_no_packet(most, octets) => self.tells_no_packet(channel),
+            Err(_) => self.misses_on(channel),
         }
     }
 
@@ -432,18 +291,16 @@ impl Book {
         }
     }
 
-    /// An N(R): where it shows that packets of the other end weren't seen, nothing is known of its channels.
+    /// An N(R), which may show that packets of the other end weren't seen.
     #[tactic(auto, unfolding(crate::specs::Book::hears))]
     fn hears(&mut self, from: Role, number: u8)
         ensures { self.new ≡ definition.hears from number self.old }
     {
         let layers = self.layers(from);
         if layers.finds_other(number) {
-            self.fill(other(from), Port::blank());
-            self.keep(from, layers.hears(number));
-        } else {
-            self.keep(from, layers.hears(number));
+            self.forget();
         }
+        self.keep(from, layers.hears(number));
     }
 
     /// An I frame that breaks no rule of the link layer; what is told of its packet is answered.
@@ -466,7 +323,8 @@ impl Book {
     fn begins(&mut self, from: Role, layers: Layers)
         ensures { self.new ≡ definition.begins from layers self.old }
     {
-        self.fill_both(Port::blank());
+        self.restarts = Channel::begun();
+        self.channels.begin(Channel::ready());
         self.keep(from, layers);
     }
 

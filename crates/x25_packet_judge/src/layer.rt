@@ -1,18 +1,8 @@
-//! The packet layer of one end, as the frames of the link and its RESTARTs show it.
+//! The packet layer of one end, as the frames of the link show it.
 ghost use Rattle.std.specs.Prelude.{◌≡◌};
 ghost use Rattle.x25_packet_judge.specs.Layer as definition;
 
 use crate::numbers::less;
-
-/// Where an end is with a restart: nothing was sent since set-up; RESTART was, or its confirmation, and nothing behind
-/// it yet; ready.
-#[derive(Clone, Copy)]
-pub(crate) enum Restart {
-    Begun,
-    Asking,
-    Confirmed,
-    Ready,
-}
 
 /// Whether an end's packets are followed: not yet; not until its next set-up of the link; or each, in the order of
 /// N(S).
@@ -35,20 +25,8 @@ pub(crate) struct Layer {
     pub(crate) acked: u8,
     /// How many SABMs and DISCs of the other end may still be answered.
     pub(crate) asked: u8,
-    pub(crate) restart: Restart,
-    /// How many RESTARTs and confirmations the other end has sent more than this one; where restarts aren't counted,
-    /// how many RESTARTs it may still confirm.
-    pub(crate) owed: u8,
-    /// How many RESTARTs of the other end were sent again while they waited, and may be confirmed once more.
-    pub(crate) again: u8,
-    /// Whether anything may be said of its channels.
-    pub(crate) is_sure: bool,
-    /// Whether anything may be said of its restarts.
-    pub(crate) is_counted: bool,
-    /// A fault left open where it is with restarts.
-    pub(crate) is_lost: bool,
-    /// A confirmation that none of its RESTARTs waits for may be on its way to it.
-    pub(crate) is_stray: bool,
+    /// No packet was sent since the set-up.
+    pub(crate) is_quiet: bool,
 }
 
 impl Track {
@@ -74,13 +52,7 @@ impl Layer {
             next: 0,
             acked: 0,
             asked,
-            restart: Restart::Ready,
-            owed: 0,
-            again: 0,
-            is_sure: true,
-            is_counted: false,
-            is_lost: false,
-            is_stray: false,
+            is_quiet: false,
         }
     }
 
@@ -101,13 +73,7 @@ impl Layer {
             next: 0,
             acked: 0,
             asked,
-            restart: Restart::Begun,
-            owed: 0,
-            again: 0,
-            is_sure: true,
-            is_counted: true,
-            is_lost: false,
-            is_stray: false,
+            is_quiet: true,
         }
     }
 
@@ -121,13 +87,7 @@ impl Layer {
             next: number,
             acked: number,
             asked: self.asked,
-            restart: Restart::Ready,
-            owed: 0,
-            again: 0,
-            is_sure: true,
-            is_counted: false,
-            is_lost: false,
-            is_stray: false,
+            is_quiet: false,
         }
     }
 
@@ -222,174 +182,12 @@ impl Layer {
         }
     }
 
-    pub(crate) fn is_asking(self) -> bool
-        ensures { result ≡ definition.is_asking self.restart }
-    {
-        matches!(self.restart, Restart::Asking)
-    }
-
-    /// Whether it sent nothing since the set-up of the link.
-    pub(crate) fn is_begun(self) -> bool
-        ensures { result ≡ definition.is_begun self.restart }
-    {
-        matches!(self.restart, Restart::Begun)
-    }
-
-    /// Whether it confirmed a RESTART, and sent nothing behind that.
-    pub(crate) fn is_confirmed(self) -> bool
-        ensures { result ≡ definition.is_confirmed self.restart }
-    {
-        matches!(self.restart, Restart::Confirmed)
-    }
-
-    pub(crate) fn with_restart(self, restart: Restart) -> Layer
-        ensures { result ≡ definition.with_restart restart self }
-    {
-        Layer { restart, ..self }
-    }
-
-    /// Behind a confirmation too, where it was so before.
-    pub(crate) fn as_confirmed(self, before: Layer) -> Layer
-        ensures { result ≡ definition.as_confirmed before self }
-    {
-        if before.is_confirmed() {
-            self.with_restart(Restart::Confirmed)
-        } else {
-            self
-        }
-    }
-
-    /// Behind a RESTART or its confirmation of this end.
-    pub(crate) fn restarted(self, restart: Restart) -> Layer
-        ensures { result ≡ definition.restarted restart self }
+    /// It sent a packet.
+    pub(crate) fn spoken(self) -> Layer
+        ensures { result ≡ definition.spoken self }
     {
         Layer {
-            restart,
-            owed: self.owed.saturating_sub(1),
-            ..self
-        }
-    }
-
-    /// The other end sent one.
-    pub(crate) fn owing(self, is_more: bool) -> Layer
-        ensures { result ≡ definition.owing is_more self }
-    {
-        Layer {
-            owed: if is_more {
-                self.owed.saturating_add(1)
-            } else {
-                self.owed
-            },
-            ..self
-        }
-    }
-
-    pub(crate) fn unsure(self) -> Layer
-        ensures { result ≡ definition.unsure self }
-    {
-        Layer {
-            is_sure: false,
-            is_counted: false,
-            ..self
-        }
-    }
-
-    pub(crate) fn uncounted(self) -> Layer
-        ensures { result ≡ definition.uncounted self }
-    {
-        Layer {
-            is_counted: false,
-            ..self
-        }
-    }
-
-    /// A RESTART of the other end was sent again while it waited.
-    pub(crate) fn asked_again(self) -> Layer
-        ensures { result ≡ definition.asked_again self }
-    {
-        Layer {
-            again: self.again.saturating_add(1),
-            ..self
-        }
-    }
-
-    pub(crate) fn confirmed_again(self) -> Layer
-        ensures { result ≡ definition.confirmed_again self }
-    {
-        Layer {
-            again: less(self.again),
-            ..self
-        }
-    }
-
-    /// A confirmation of a RESTART makes both ends sure; one more may be on its way where `is_stray`.
-    pub(crate) fn found(self, restart: Restart, is_stray: bool) -> Layer
-        ensures { result ≡ definition.found restart is_stray self }
-    {
-        Layer {
-            restart,
-            owed: 0,
-            is_sure: true,
-            is_counted: true,
-            is_lost: false,
-            is_stray,
-            ..self
-        }
-    }
-
-    /// A fault left open where it is; the other end has answered its RESTART where `is_answered`.
-    pub(crate) fn given_up(self, is_answered: bool) -> Layer
-        ensures { result ≡ definition.given_up is_answered self }
-    {
-        Layer {
-            restart: Restart::Ready,
-            owed: self.owed.saturating_add(self.again),
-            again: 0,
-            is_sure: false,
-            is_counted: false,
-            is_lost: true,
-            is_stray: self.is_stray || (self.is_asking() && is_answered),
-            ..self
-        }
-    }
-
-    pub(crate) fn owing_less(self) -> Layer
-        ensures { result ≡ definition.owing_less self }
-    {
-        Layer {
-            owed: less(self.owed),
-            ..self
-        }
-    }
-
-    /// Its RESTART and one of the other end answer one another, where restarts aren't counted.
-    pub(crate) fn met(self) -> Layer
-        ensures { result ≡ definition.met self }
-    {
-        Layer {
-            restart: Restart::Ready,
-            owed: self.again,
-            again: 0,
-            is_sure: false,
-            is_counted: false,
-            ..self
-        }
-    }
-
-    pub(crate) fn faultless(self) -> Layer
-        ensures { result ≡ definition.faultless self }
-    {
-        Layer {
-            is_lost: false,
-            ..self
-        }
-    }
-
-    pub(crate) fn strayed(self) -> Layer
-        ensures { result ≡ definition.strayed self }
-    {
-        Layer {
-            is_stray: true,
+            is_quiet: false,
             ..self
         }
     }

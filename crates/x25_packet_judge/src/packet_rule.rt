@@ -60,13 +60,12 @@ impl PacketRule {
     }
 }
 
-/// The first of two rules, but one of order before one of manners.
-pub(crate) fn first(rule: Option<PacketRule>, next: Option<PacketRule>) -> Option<PacketRule>
-    ensures { result ≡ definition.first rule next }
+/// Whether a rule is told, and order stands on it.
+pub(crate) fn is_order(rule: Option<PacketRule>) -> bool
+    ensures { result ≡ definition.is_order rule }
 {
-    match (rule, next) {
-        (None, _) => next,
-        (Some(broken), Some(worse)) if broken.is_of_manners() && !worse.is_of_manners() => next,
-        (Some(_), _) => rule,
+    match rule {
+        Some(broken) => !broken.is_of_manners(),
+        None => false,
     }
 }

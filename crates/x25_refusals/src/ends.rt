@@ -54,7 +54,6 @@ impl Outcome {
 #[derive(Drop, PartialEq)]
 pub(crate) enum Holds {
     Packets {
-        acknowledged: u8,
         is_up: bool,
         waiting: usize,
         promised: usize,

@@ -152,7 +152,6 @@ impl Party for LinkParty {
             awaits_ua: self.link.awaits_ua(),
             timer_runs: self.link.timer_runs(),
             holds: Holds::Packets {
-                acknowledged: self.link.acknowledged().get(),
                 is_up: self.link.is_up(),
                 waiting: self.link.waiting(),
                 promised: self.link.promised(),

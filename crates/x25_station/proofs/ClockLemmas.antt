@@ -1,9 +1,10 @@
 -- What timer T1 does behind a step.
-use Rattle.std.proofs.Common.{◌≡◌, ◌∙◌, ◌+◌, ◌<◌, ◌≤◌, ◌==◌, ℕ, Bool, true, false, List, [], length, drop, map, get_or, Result, Ok, Err, OnOk, OnErr, ap, sym, refl}
-use Rattle.std.specs.Prelude.{not, ◌||◌, ◌%◌}
+use Rattle.std.proofs.Common.{◌≡◌, ◌∙◌, ◌+◌, ◌<◌, ◌≤◌, ℕ, Bool, true, false, List, [], length, drop, map, get_or, Result, Ok, Err, OnOk, OnErr, ap, sym, refl, arith}
+use Rattle.std.specs.Prelude.{not, ◌||◌}
 use Rattle.std.specs.Result.{is_ok}
-use Rattle.std.proofs.lemmas.Bool.{true≢false, eq-eqb}
+use Rattle.std.proofs.lemmas.Bool.{le-ltb}
 use Rattle.std.proofs.lemmas.List.{at_drop_more, drop_all}
+use Rattle.x25_link.specs.Station.{LinkStation}
 use Rattle.x25_station.specs.declared.entry.Entry.{Entry}
 use Rattle.x25_station.specs.code.PlainEntry.{plain_entry}
 use Rattle.x25_station.specs.Station.{Station}
@@ -15,6 +16,7 @@ use Rattle.x25_station.specs.declared.error.StationError.{StationError}
 use Rattle.x25_station.specs.declared.station.Station as code
 use Rattle.x25_station.specs.declared.step.Step as code_step
 use Rattle.x25_station.specs.declared.timer.Timer.{Timer}
+use Rattle.x25_station.proofs.TimerLemmas.{HearsNone}
 use Rattle.x25_station.specs.Timer.{is_of_link, is_acknowledged, tells_link, runs, standing, timer_of, timer_at}
 
 -- among some entries the link came up or went down
@@ -34,40 +36,35 @@ module _ (entries : List Entry) (i : ℕ) (entry : Entry) (inside : i < length e
 pub link_nowhere : (entries : List Entry) (i : ℕ) → length entries ≤ i → up (drop i entries) ≡ up entries → false ≡ up entries
 link_nowhere entries i all same = sym (ap up (drop_all i entries all)) ∙ same
 
-pub timer_is : (s : Station) (step : Step) (before behind fired up another : Bool) → before ≡ runs s → behind ≡ runs step.near → up ≡ tells_link step.entries
-    → another ≡ is_acknowledged s.link step.near.link → timer_of behind (not before || (fired || (up || another))) ≡ timer_at s fired (Did step)
-timer_is s step before behind fired up another e f h k =
-    ap (λ b. timer_of b (not before || (fired || (up || another)))) f
-    ∙ ap (λ b. timer_of (runs step.near) (not b || (fired || (up || another)))) e
-    ∙ ap (λ b. timer_of (runs step.near) (not (runs s) || (fired || (b || another)))) h
-    ∙ ap (λ b. timer_of (runs step.near) (not (runs s) || (fired || (tells_link step.entries || b)))) k
-
 -- ---- what a call answers
 
 -- a step that does nothing leaves T1 as it was
 abbrev none : Station → Step
 none s = record { near = s; out = []; entries = [] }
 
-unmoved : (runs : Bool) (same : Bool) → same ≡ true → timer_of runs (not runs || (false || (false || not same))) ≡ timer_of runs false
-unmoved false same is = refl
-unmoved true true is = refl
-unmoved true false is = absurd (true≢false (sym is))
+unmoved : (runs more : Bool) → more ≡ false → timer_of runs (not runs || (false || (false || more))) ≡ timer_of runs false
+unmoved false more is = refl
+unmoved true more is = ap (timer_of true) is
 
-pub stands : (s : Station) → timer_at s false (Did (none s)) ≡ standing s
-stands s = unmoved (runs s) (s.link.outgoing.acked % 8 == s.link.outgoing.acked % 8) (eq-eqb _ _ refl)
+same_acked : (s : LinkStation) → is_acknowledged s s ≡ false
+same_acked s = le-ltb _ _ (omega arith)
+
+stands : (s : Station) → timer_at s false (Did (none s)) ≡ standing s
+stands s = unmoved (runs s) _ (same_acked s.link)
 
 module _ (c : Settings) (s : Station) (mid new : code.Station) (out : code_step.Step) (t : Timer) (fits : FitsStation c mid s) where
-  accepted : (has_fired : Bool) (o : Outcome) → ((step : Step) → FitsStation c new step.near → map plain_entry out.entries.items ≡ step.entries → t ≡ timer_at s has_fired (Did step))
+  accepted : (has_fired : Bool) (o : Outcome) → HearsNone s o
+      → ((step : Step) → FitsStation c new step.near → map plain_entry out.entries.items ≡ step.entries → false ≡ is_acknowledged s.link step.near.link → t ≡ timer_at s has_fired (Did step))
       → Leaves {T = Unit} c new (Ok tt) o → Enters {T = Unit} out (Ok tt) o → Refuses {T = Unit} (Ok tt) o → t ≡ timer_at s has_fired o
-  accepted has_fired (Did step) h leaves enters none = h step leaves enters
-  accepted has_fired (Refused e) h leaves enters none = absurd none
+  accepted has_fired (Did step) quiet h leaves enters none = h step leaves enters (sym quiet)
+  accepted has_fired (Refused e) quiet h leaves enters none = absurd none
 
-  pub timed : (result : Result Unit StationError) (said : Settings → Station → Outcome) (fired has_fired : Bool) → Does mid new out result said → OnOk result (fired ≡ has_fired) → OnErr result (fired ≡ false)
-      → ((step : Step) → FitsStation c new step.near → map plain_entry out.entries.items ≡ step.entries → t ≡ timer_at s fired (Did step)) → IsTimer s has_fired t result (said c s)
-  timed (Ok u) said fired has_fired d is not_fired h =
-      accepted has_fired (said c s) (λ step near entries. h step near entries ∙ ap (λ b. timer_at s b (Did step)) is) (d.state c s fits) (d.entries c s fits) (d.refused c s fits)
-  timed (Err e) said fired has_fired d is not_fired h =
-      h (none s) (d.stays c s fits) (ap (map plain_entry) d.empty.entries) ∙ ap (λ b. timer_at s b (Did (none s))) not_fired ∙ stands s
+  pub timed : (result : Result Unit StationError) (said : Settings → Station → Outcome) (fired has_fired : Bool) → Does mid new out result said → OnOk result (fired ≡ has_fired) → OnErr result (fired ≡ false) → HearsNone s (said c s)
+      → ((step : Step) → FitsStation c new step.near → map plain_entry out.entries.items ≡ step.entries → false ≡ is_acknowledged s.link step.near.link → t ≡ timer_at s fired (Did step)) → IsTimer s has_fired t result (said c s)
+  timed (Ok u) said fired has_fired d is not_fired quiet h =
+      accepted has_fired (said c s) quiet (λ step near entries more. h step near entries more ∙ ap (λ b. timer_at s b (Did step)) is) (d.state c s fits) (d.entries c s fits) (d.refused c s fits)
+  timed (Err e) said fired has_fired d is not_fired quiet h =
+      h (none s) (d.stays c s fits) (ap (map plain_entry) d.empty.entries) (sym (same_acked s.link)) ∙ ap (λ b. timer_at s b (Did (none s))) not_fired ∙ stands s
 
 -- ---- whether T1 fired
 

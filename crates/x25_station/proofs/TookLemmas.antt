@@ -1,10 +1,11 @@
 -- What the link's step and what the layer does behind it are together is what the definition says of octets that come.
 use Rattle.std.proofs.Common.{◌≡◌, ℕ, List, [], ◌++◌, map, Option, Bool, true, false, if◌then◌else◌, refl, ap, sym, subst, ◌∙◌}
+use Rattle.std.specs.Prelude.{nat_lt}
 use Rattle.x25_frame.specs.Frame.{PlainFrame}
 use Rattle.x25_frame.specs.Spelling.{spelling_of}
 use Rattle.x25_link.specs.declared.phase.Notes.{Notes}
 use Rattle.x25_link.specs.Station.{LinkStation}
-use Rattle.x25_link.specs.Hearing.{Step as LinkStep}
+use Rattle.x25_link.specs.Hearing.{Step as LinkStep, acknowledges}
 use Rattle.x25_link.specs.Link.{take_step, abandon_step}
 use Rattle.x25_link.specs.code.FitsLink.{ShownLink, FitsLink, FitsWhole}
 use Rattle.x25_layer.specs.declared.layer.Layer as layer_code
@@ -18,7 +19,9 @@ use Rattle.x25_station.specs.Step.{Step, layer_at, entries_heard, follows, aband
 use Rattle.x25_station.specs.laws.KeepLaw.{IsKept}
 use Rattle.x25_station.specs.code.FitsParts.{FitsParts}
 use Rattle.x25_station.specs.Receiving.{kept_of}
+use Rattle.x25_station.specs.Timer.{is_acknowledged}
 use Rattle.x25_station.proofs.AskLemmas.{taken_link}
+use Rattle.x25_station.proofs.TimerLemmas.{follows_acked}
 use Rattle.x25_station.proofs.DownLemmas.{downs, follows_down}
 
 -- what the layer does behind this step, by what the step handed up and noted
@@ -80,3 +83,11 @@ pub took_enters : {manner : Manner} (c : Settings) → manner ≡ manner_of c �
     → (let k : LinkStep = take_step (link_settings c) octets s.link in (o ≡ k.packet) × (notes ≡ k.notes)) → entries ≡ entries_noted notes ++ entries_heard (layer_settings c) manner.wide s.layer o notes.down notes.up
     → entries ≡ (receives c s octets).entries
 took_enters c as_set s octets o notes entries on same entered = entered ∙ (took c as_set s octets o notes on same).entries
+
+-- ---- what is acknowledged
+
+pub took_acknowledged : (c : Settings) (s : Station) (octets : List ℕ) → abandons c s ≡ false → acknowledges s.link (take_step (link_settings c) octets s.link) ≡ is_acknowledged s.link (receives c s octets).near.link
+took_acknowledged c s octets on = ap (λ (n : ℕ). nat_lt s.link.outgoing.acked n) (sym (ap (λ (x : Step). x.near.link.outgoing.acked) (takes_on c s octets on) ∙ follows_acked c s.layer (take_step (link_settings c) octets s.link)))
+
+pub gave_up_acknowledged : (c : Settings) (s : Station) (octets : List ℕ) → abandons c s ≡ true → acknowledges s.link (abandon_step (link_settings c) s.link) ≡ is_acknowledged s.link (receives c s octets).near.link
+gave_up_acknowledged c s octets full = ap (λ (n : ℕ). nat_lt s.link.outgoing.acked n) (sym (ap (λ (x : Step). x.near.link.outgoing.acked) (gives_up c s octets full)))

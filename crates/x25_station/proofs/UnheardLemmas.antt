@@ -63,7 +63,7 @@ if_lasts s false u v p q = q
 said_lasts : (s : LinkStation) (busy : Bool) → Lasts s (record s { said_busy = busy })
 said_lasts s busy = record { phase = refl; tries = refl; acked = refl; recovery = refl; peer_busy = refl; sent = omega arith; given = omega arith }
 
-ready_lasts : (command pf : Bool) (t : Side) → Lasts t.near (ready command pf t).near
+pub ready_lasts : (command pf : Bool) (t : Side) → Lasts t.near (ready command pf t).near
 ready_lasts command pf t = if_lasts t.near (is_busy t.near) _ _ (said_lasts t.near true) (said_lasts t.near false)
 
 max_first : (a b : ℕ) → a ≤ max a b

@@ -1,6 +1,6 @@
 -- What becomes of timer T1 at a step (sections 2.4.4.1, 2.4.5.5 and 2.4.5.9): it is off behind it, begins anew, or goes
 -- on.
-use Rattle.std.specs.Prelude.{◌%◌, ◌==◌, Bool, true, false, not, ◌||◌, List, [], ◌∷◌}
+use Rattle.std.specs.Prelude.{nat_lt, Bool, true, false, not, ◌||◌, List, [], ◌∷◌}
 use Rattle.x25_link.specs.Station.{LinkStation}
 use Rattle.x25_link.specs.Link.{timer_runs}
 use Rattle.x25_station.specs.declared.timer.Timer.{Timer}
@@ -22,9 +22,9 @@ abbrev pub tells_link : List StationEntry → Bool
 tells_link [] = false
 tells_link (entry ∷ entries) = is_of_link entry || tells_link entries
 
--- the first frame that isn't acknowledged has another number
+-- more of the frames sent are acknowledged
 abbrev pub is_acknowledged : LinkStation → LinkStation → Bool
-is_acknowledged before behind = not (before.outgoing.acked % 8 == behind.outgoing.acked % 8)
+is_acknowledged before behind = nat_lt before.outgoing.acked behind.outgoing.acked
 
 -- T1 didn't run before, this was its firing, the link came up or went down, or a frame was acknowledged
 abbrev pub is_anew : Station → Bool → Step → Bool

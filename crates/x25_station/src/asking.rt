@@ -208,9 +208,9 @@ impl Station {
         ensures places { HasFewPlaces out.old.entries out.new.entries }
     {
         self.empty(out);
-        let before = self.clock();
+        let ran = self.timer_runs();
         let answer = self.carry_out(&command, out);
-        out.timer = self.timer_behind(before, false, out.entries.as_slice());
+        out.timer = self.timer_behind(ran, false, false, out.entries.as_slice());
         answer
     }
 

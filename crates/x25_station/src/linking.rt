@@ -32,9 +32,9 @@ impl Station {
         ensures places { HasFewPlaces out.old.entries out.new.entries }
     {
         self.empty(out);
-        let before = self.clock();
+        let ran = self.timer_runs();
         let answer = self.set_up(out);
-        out.timer = self.timer_behind(before, false, out.entries.as_slice());
+        out.timer = self.timer_behind(ran, false, false, out.entries.as_slice());
         answer
     }
 
@@ -76,9 +76,9 @@ impl Station {
         ensures places { HasFewPlaces out.old.entries out.new.entries }
     {
         self.empty(out);
-        let before = self.clock();
+        let ran = self.timer_runs();
         let answer = self.fire(out);
-        out.timer = self.timer_behind(before, answer.is_ok(), out.entries.as_slice());
+        out.timer = self.timer_behind(ran, answer.is_ok(), false, out.entries.as_slice());
         answer
     }
 

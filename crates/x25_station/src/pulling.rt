@@ -45,10 +45,10 @@ impl Station {
         ensures untimed { OnErr result (out.new.timer ≡ out.old.timer) }
         ensures refused { RefusesForMemory result }
     {
-        let before = self.clock();
+        let ran = self.timer_runs();
         match self.pull_frames(&mut out.frames) {
             Ok(()) => {
-                out.timer = before.pulled(out.timer, self.clock());
+                out.timer = out.timer.pulled(ran, self.timer_runs());
                 Ok(())
             }
             Err(error) => Err(error),

@@ -9,8 +9,9 @@ ghost use Rattle.x25_layer.specs.Room.{HasRoom, HaveAtMost, IsNotFull, named_by}
 ghost use Rattle.x25_layer.specs.Rounds.{hears, comes_up};
 ghost use Rattle.x25_station.specs.Entry.{bringing, entries_up, entries_noted};
 ghost use Rattle.x25_station.specs.code.Aside.{GrowsBy, HasFewPlaces, HasPlaces, UsesFew};
-ghost use Rattle.x25_station.specs.code.Clock.{TellsTimer};
-ghost use Rattle.x25_station.specs.code.FitsStation.{FitsStation, FitsStill, Does, IsEmpty, RefusesForMemory};
+ghost use Rattle.x25_station.specs.code.Clock.{SaysAcknowledged, TellsTimer};
+ghost use Rattle.x25_station.specs.code.FitsStation.{FitsStation, FitsStill, Does, IsEmpty};
+ghost use Rattle.x25_station.specs.code.FitsStation.{RefusesForMemory, said_alone};
 ghost use Rattle.x25_station.specs.code.PlainEntry.{plain_entry};
 ghost use Rattle.x25_station.specs.Receiving.{kept_of, CanPut, PutsBehind};
 ghost use Rattle.x25_station.specs.Config.{Settings, link_settings, layer_settings};
@@ -26,6 +27,7 @@ use crate::law::steps_keep_bounds;
 use crate::linking::note_down;
 use crate::station::Station;
 use crate::step::Step;
+use crate::timer::Timer;
 use x25_frame::reading_is_the_grammar as reads_frames;
 use x25_layer::Layer;
 use x25_link::{Link, Notes, OrderedLink, holds_few, notes_what_changes};
@@ -154,17 +156,25 @@ impl Station {
         ensures places { HasFewPlaces out.old.entries out.new.entries }
     {
         self.empty(out);
-        let before = self.clock();
-        let answer = self.come(octets, out);
-        out.timer = self.timer_behind(before, false, out.entries.as_slice());
-        answer
+        let ran = self.timer_runs();
+        match self.come(octets, out) {
+            Ok(acknowledged) => {
+                out.timer = self.timer_behind(ran, false, acknowledged, out.entries.as_slice());
+                Ok(())
+            }
+            Err(error) => {
+                out.timer = Timer::of(ran, false);
+                Err(error)
+            }
+        }
     }
 
-    // Octets come, into a step that is empty.
+    // Octets come, into a step that is empty. It says whether frames were acknowledged.
     #[inline(always)]
-    fn come(&mut self, octets: &[u8], out: &mut Step) -> Result<(), StationError>
+    fn come(&mut self, octets: &[u8], out: &mut Step) -> Result<bool, StationError>
         requires { IsEmpty out.old }
-        ensures does { Does self.old self.new out.new result (λ c s. Did (receives c s octets.now)) }
+        ensures does { Does self.old self.new out.new (said_alone result) (λ c s. Did (receives c s octets.now)) }
+        ensures acknowledged { SaysAcknowledged self.old octets.now result }
         ensures refused { RefusesForMemory result }
         ensures places { HasFewPlaces out.old.entries out.new.entries }
     {
@@ -190,11 +200,12 @@ impl Station {
     // A count is at its most: the octets are dropped, and the link goes down.
     #[cold]
     #[inline(never)]
-    fn abandon(&mut self, octets: &[u8], out: &mut Step) -> Result<(), StationError>
+    fn abandon(&mut self, octets: &[u8], out: &mut Step) -> Result<bool, StationError>
         requires up { up_of self.old.link ≡ true }
         requires full { (c : Settings) (s : State) → FitsStation c self.old s → abandons c s ≡ true }
         requires empty { IsEmpty out.old }
-        ensures does { Does self.old self.new out.new result (λ c s. Did (receives c s octets.now)) }
+        ensures does { Does self.old self.new out.new (said_alone result) (λ c s. Did (receives c s octets.now)) }
+        ensures acknowledged { SaysAcknowledged self.old octets.now result }
         ensures refused { RefusesForMemory result }
         ensures places { HasFewPlaces out.old.entries out.new.entries }
     {
@@ -203,7 +214,7 @@ impl Station {
         let heard = self.link.abandon();
         self.link.swap_frames(&mut out.frames);
         note_down(&mut self.layer, heard.notes.down, &mut out.entries);
-        Ok(())
+        Ok(heard.acknowledged)
     }
 
     // Sets memory aside for all that octets may bring on a channel, with so many of user data: room for entries and
@@ -236,11 +247,12 @@ impl Station {
 
     // Octets that the link takes.
     #[inline(always)]
-    fn take(&mut self, octets: &[u8], out: &mut Step) -> Result<(), StationError>
+    fn take(&mut self, octets: &[u8], out: &mut Step) -> Result<bool, StationError>
         requires left { up_of self.old.link ≡ true → IsNotFull self.old.layer }
         requires goes_on { (c : Settings) (s : State) → FitsStation c self.old s → abandons c s ≡ false }
         requires empty { IsEmpty out.old }
-        ensures does { Does self.old self.new out.new result (λ c s. Did (receives c s octets.now)) }
+        ensures does { Does self.old self.new out.new (said_alone result) (λ c s. Did (receives c s octets.now)) }
+        ensures acknowledged { SaysAcknowledged self.old octets.now result }
         ensures refused { RefusesForMemory result }
         ensures places { HasFewPlaces out.old.entries out.new.entries }
     {
@@ -261,6 +273,6 @@ impl Station {
             &mut out.entries,
         );
         self.link.swap_frames(&mut out.frames);
-        Ok(())
+        Ok(heard.acknowledged)
     }
 }

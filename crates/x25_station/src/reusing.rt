@@ -25,7 +25,7 @@ impl Station {
         ensures timer { (c : Settings) (s : State) → FitsStation c self.old s → out.new.timer ≡ standing s }
     {
         self.empty(out);
-        out.timer = self.clock().standing();
+        out.timer = self.standing();
     }
 
     /// As `reuse`, but for timer T1, of which a call says at its end what becomes of it.

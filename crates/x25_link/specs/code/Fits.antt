@@ -5,7 +5,7 @@ use Rattle.x25_frame.specs.Spelling.{spelling_of}
 use Rattle.x25_window.specs.Receiver.{FitsTaken}
 use Rattle.x25_link.specs.declared.station.LinkStation.{LinkStation as StationCode}
 use Rattle.x25_link.specs.declared.heard.Heard.{Heard}
-use Rattle.x25_link.specs.Hearing.{Step}
+use Rattle.x25_link.specs.Hearing.{Step, acknowledges}
 use Rattle.x25_link.specs.code.OutgoingHeld.{FitsOutgoing}
 use Rattle.x25_link.specs.Station.{Settings, LinkStation, Side}
 
@@ -30,12 +30,14 @@ pub record FitsSide (c : Settings) (v : StationCode) (before made : List (List �
   pub near : FitsStation c v t.near
   pub out : Made c before made t.out
 
--- what was heard is that step's: the state and the frames, the packet handed up, and what is noted
-pub record FitsHeard (c : Settings) (v : StationCode) (before made : List (List ℕ)) (heard : Heard)
+-- what was heard is that step's, from this state: the state and the frames, the packet handed up, what is noted, and
+-- whether frames are acknowledged
+pub record FitsHeard (c : Settings) (v : StationCode) (s : LinkStation) (before made : List (List ℕ)) (heard : Heard)
     (step : Step) : Type 0 where
   pub side : FitsSide c v before made step.side
   pub packet : option_copied heard.packet ≡ step.packet
   pub notes : heard.notes ≡ step.notes
+  pub acknowledged : heard.acknowledged ≡ acknowledges s step
 
 -- ---- what a function of the station does, from each side that the code stands for
 
@@ -47,7 +49,7 @@ Leads v w had has f = (c : Settings) (before : List (List ℕ)) (t : Side) → F
 -- it leads to this step's side, and what is heard is that step's
 abbrev pub Hears : StationCode → StationCode → List (List ℕ) → List (List ℕ) → Heard → (Settings → Side → Step) → Type 0
 Hears v w had has heard f = (c : Settings) (before : List (List ℕ)) (t : Side) → FitsSide c v before had t
-    → FitsHeard c w before has heard (f c t)
+    → FitsHeard c w t.near before has heard (f c t)
 
 -- it leads to this side, and makes no frame
 abbrev pub Turns : StationCode → StationCode → (Settings → Side → Side) → Type 0

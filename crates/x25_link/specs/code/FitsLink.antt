@@ -8,7 +8,7 @@ use Rattle.x25_link.specs.declared.station.LinkStation.{LinkStation as StationCo
 use Rattle.x25_link.specs.OrderedLink.{Lists}
 use Rattle.x25_link.specs.Outgoing.{waits}
 use Rattle.x25_link.specs.Station.{Settings, LinkStation, lists_of, is_up, may_send, owes_ready}
-use Rattle.x25_link.specs.Hearing.{Step}
+use Rattle.x25_link.specs.Hearing.{Step, acknowledges}
 use Rattle.x25_link.specs.Link.{RefusesOnly, put_step}
 use Rattle.x25_link.specs.code.Fits.{FitsStation}
 
@@ -33,10 +33,11 @@ pub record FitsLink (c : Settings) (v : ShownLink) (s : LinkStation) : Type 0 wh
   pub settled : may_send c.window s ≡ false
   pub calm : owes_ready s ≡ false
 
--- what is heard is that step's: the packet handed up, and what is noted
-pub record IsHeard (heard : Heard) (step : Step) : Type 0 where
+-- what is heard is that step's: the packet handed up, what is noted, and whether frames are acknowledged
+pub record IsHeard (s : LinkStation) (heard : Heard) (step : Step) : Type 0 where
   pub packet : option_copied heard.packet ≡ step.packet
   pub notes : heard.notes ≡ step.notes
+  pub acknowledged : heard.acknowledged ≡ acknowledges s step
 
 -- A call is refused as the definition says, or does its step. Of each state that the link stood for it leaves that
 -- step's, and what is heard is that step's; its frames, nine at most, are those that `swap_frames` will hand out. Where
@@ -46,7 +47,7 @@ pub record Does (old new : ShownLink) (result : Result Heard LinkError) (refusal
   pub state : (c : Settings) (s : LinkStation) → FitsLink c old s → OnOk result (FitsLink c new (step c s).side.near)
   pub frames : (c : Settings) (s : LinkStation) → FitsLink c old s →
       OnOk result (new.frames ≡ map (spelling_of c.role) (step c s).side.out)
-  pub heard : (c : Settings) (s : LinkStation) → FitsLink c old s → IfOk result (λ heard. IsHeard heard (step c s))
+  pub heard : (c : Settings) (s : LinkStation) → FitsLink c old s → IfOk result (λ heard. IsHeard s heard (step c s))
   pub few : OnOk result (length new.frames ≤ 9)
   pub refused : (c : Settings) (s : LinkStation) → FitsLink c old s → RefusesOnly (refusal s) result
   pub err : OnErr result (new ≡ old)

@@ -1,5 +1,5 @@
 -- Which states of the definition a station stands for, and what its calls answer.
-use Rattle.std.specs.Prelude.{◌≡◌, ◌≤◌, ◌⊎◌, [], length, map, vec_len, Option, Some, None, Result, Err}
+use Rattle.std.specs.Prelude.{◌≡◌, ◌≤◌, ◌⊎◌, [], length, map, vec_len, Option, Some, None, Result, Ok, Err}
 use Rattle.std.specs.Prelude.{OnOk}
 use Rattle.std.specs.Prelude.{OnErr, IfErr, IsErrAnd, IsOk}
 use Rattle.x25_frame.specs.Spelling.{spelling_of}
@@ -62,6 +62,11 @@ RefusesExactly result (Refused e) = result ≡ Err e
 abbrev pub RefusesOnly : {T : Type 0} → Result T StationError → Outcome → Type 0
 RefusesOnly result (Did step) = IsOk result
 RefusesOnly result (Refused e) = result ≡ Err e
+
+-- whether it was accepted, whatever it answers then
+abbrev pub said_alone : {T : Type 0} → Result T StationError → Result Unit StationError
+said_alone (Ok answer) = Ok tt
+said_alone (Err e) = Err e
 
 -- nothing is in it
 pub record IsEmpty (out : code_step.Step) : Type 0 where

@@ -1,7 +1,8 @@
-use Rattle.std.proofs.Common.{rules, [], arith, ap, length, refl}
+use Rattle.std.proofs.Common.{rules, sym, ◌∙◌, [], arith, ap, length, refl}
 use Rattle.x25_link.specs.declared.phase.Reason.TheVariants.{Counts}
 use Rattle.x25_link.specs.Hearing.{Step, leaves}
 use Rattle.x25_link.specs.Link.{alone}
+use Rattle.x25_link.proofs.AckedLemmas.{closed_same}
 use Rattle.x25_link.proofs.LinkLemmas.{begins, closed_state, closed_out}
 use Rattle.x25_link.proofs.link.Link.abandon.Goals as goal
 
@@ -18,7 +19,7 @@ returns c = record {
   heard = λ d s fits.
       let heard = c.leave.ensures.step d _ _ (alone s) (begins d _ _ _ s c.self.view_is fits c.clear.ensures) in
       let step : Step = leaves Counts (alone s) in
-      record { packet = heard.packet; notes = heard.notes };
+      record { packet = heard.packet; notes = heard.notes; acknowledged = heard.acknowledged ∙ sym (closed_same s d.window step) };
   few = omega (arith, ap length c.clear.ensures);
   refused = search rules;
   err = search rules;

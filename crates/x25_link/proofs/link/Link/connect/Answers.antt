@@ -1,6 +1,7 @@
-use Rattle.std.proofs.Common.{rules, [], ap, length, arith, refl}
+use Rattle.std.proofs.Common.{rules, sym, ◌∙◌, [], ap, length, arith, refl}
 use Rattle.x25_link.specs.Hearing.{Step}
 use Rattle.x25_link.specs.Link.{alone, connects}
+use Rattle.x25_link.proofs.AckedLemmas.{closed_same, none_again}
 use Rattle.x25_link.proofs.LinkLemmas.{begins, closed_state, closed_out}
 use Rattle.x25_link.proofs.link.Link.connect.Goals as goal
 
@@ -14,8 +15,11 @@ returns c = record {
       let heard = c.connect.ensures.step d _ (alone s) (begins d _ _ _ s c.self.view_is fits c.clear.ensures) in
       let step : Step = connects (alone s) in
       closed_out d [] _ step.side refl refl heard.out;
-  heard = λ d s fits.
-      record { packet = rw c.quiet.ensures.packet refl; notes = c.quiet.ensures.notes };
+  heard = λ d s fits. record {
+    packet = rw c.quiet.ensures.packet refl;
+    notes = c.quiet.ensures.notes;
+    acknowledged = c.quiet.ensures.acknowledged ∙ none_again (alone s) ∙ sym (closed_same s d.window (connects (alone s)));
+  };
   few = omega (arith, c.connect.ensures.one, ap length c.clear.ensures);
   refused = search rules;
   err = search rules;

@@ -1,6 +1,7 @@
-use Rattle.std.proofs.Common.{rules, [], ap, length, arith, refl}
+use Rattle.std.proofs.Common.{rules, sym, ◌∙◌, [], ap, length, arith, refl}
 use Rattle.x25_link.specs.Hearing.{Step}
 use Rattle.x25_link.specs.Link.{alone, disconnects}
+use Rattle.x25_link.proofs.AckedLemmas.{closed_same}
 use Rattle.x25_link.proofs.LinkLemmas.{begins, closed_state, closed_out}
 use Rattle.x25_link.proofs.link.Link.disconnect.Goals as goal
 
@@ -17,7 +18,7 @@ returns c = record {
   heard = λ d s fits.
       let heard = c.disconnect.ensures.step d _ (alone s) (begins d _ _ _ s c.self.view_is fits c.clear.ensures) in
       let step : Step = disconnects (alone s) in
-      record { packet = heard.packet; notes = heard.notes };
+      record { packet = heard.packet; notes = heard.notes; acknowledged = heard.acknowledged ∙ sym (closed_same s d.window step) };
   few = omega (arith, c.disconnect.ensures.one, ap length c.clear.ensures);
   refused = search rules;
   err = search rules;

@@ -13,7 +13,7 @@ returns c = record {
       heard.side.out;
   heard = λ d s fits.
       let heard = c.hear.ensures.step d _ s (begins d _ _ _ s c.self.view_is fits c.clear.ensures) in
-      record { packet = heard.packet; notes = heard.notes };
+      record { packet = heard.packet; notes = heard.notes; acknowledged = heard.acknowledged };
   few = omega (arith, c.hear.ensures.few, ap length c.clear.ensures);
   refused = search rules;
   err = search rules;

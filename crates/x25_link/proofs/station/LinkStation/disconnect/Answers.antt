@@ -2,6 +2,7 @@ use Rattle.std.proofs.Common.{◌≡◌, Some, None, if◌then◌else◌, sym, a
 use Rattle.x25_link.specs.declared.phase.Phase.TheVariants.{Closed}
 use Rattle.x25_link.specs.declared.phase.Reason.TheVariants.{Local}
 use Rattle.x25_link.specs.Station.{is_up, with_near, with_nothing}
+use Rattle.x25_link.proofs.AckedLemmas.{none_left}
 use Rattle.x25_link.proofs.station.LinkStation.disconnect.Goals as goal
 use Rattle.x25_link.proofs.station.LinkStation.disconnect.Goals.{then-is_up, else-is_up}
 
@@ -16,4 +17,5 @@ returns-clause-step c = λ d before t fits.
       side = c.send.ensures.step d before (with_near t (with_nothing Closed t.near.tries)) (c.clear.ensures.step d before _ t fits);
       packet = rw c.noted.ensures.packet refl;
       notes = rw (sym down) (c.noted.ensures.notes);
+      acknowledged = c.noted.ensures.acknowledged ∙ none_left t.near.outgoing.acked;
     }

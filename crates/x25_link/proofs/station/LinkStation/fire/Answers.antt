@@ -1,8 +1,9 @@
-use Rattle.std.proofs.Common.{◌≡◌, ◌+◌, true, false, refl, ap, arith}
+use Rattle.std.proofs.Common.{◌≡◌, ◌+◌, true, false, refl, ap, ◌∙◌, arith}
 use Rattle.std.specs.Prelude.{nat_lt}
 use Rattle.std.proofs.lemmas.Bool.{lt-ltb, le-ltb}
 use Rattle.x25_link.specs.Station.{with_near}
 use Rattle.x25_link.proofs.FitsLemmas.{tries_fits}
+use Rattle.x25_link.proofs.AckedLemmas.{none_fired}
 use Rattle.x25_link.proofs.station.LinkStation.fire.Goals as goal
 
 pub returns-then-self-clause-step : goal.returns-then-self-clause-step
@@ -19,4 +20,5 @@ returns-clause-step c = λ d before t fits.
       side = c.ask_again.ensures.step d before (with_near t (record t.near { tries = t.near.tries + 1 })) (record { near = tries_fits d _ t.near _ _ (ap (λ n. n + 1) near.tries) near; out = fits.out });
       packet = rw c.quiet.ensures.packet refl;
       notes = c.quiet.ensures.notes;
+      acknowledged = c.quiet.ensures.acknowledged ∙ rw more at (none_fired d t);
     })

@@ -1,6 +1,7 @@
-use Rattle.std.proofs.Common.{refl}
+use Rattle.std.proofs.Common.{refl, ◌∙◌}
 use Rattle.x25_frame.specs.Frame.{ua}
 use Rattle.x25_link.specs.Station.{sends}
+use Rattle.x25_link.proofs.AckedLemmas.{none_left}
 use Rattle.x25_link.proofs.station.LinkStation.hear_down.Goals as goal
 
 pub returns-in-Sabm-clause-step : goal.returns-in-Sabm-clause-step
@@ -9,4 +10,5 @@ returns-in-Sabm-clause-step c = λ d before t fits.
       side = c.set_up.ensures.step d before _ (sends (ua c.in-Sabm.p) t) (c.send.ensures.step d before t fits);
       packet = rw c.noted.ensures.packet refl;
       notes = c.noted.ensures.notes;
+      acknowledged = c.noted.ensures.acknowledged ∙ none_left t.near.outgoing.acked;
     })

@@ -1,4 +1,5 @@
 use Rattle.std.proofs.Common.{◌≡◌, true, sym, ◌∙◌, refl}
+use Rattle.x25_link.proofs.AckedLemmas.{none_left}
 use Rattle.x25_link.proofs.station.LinkStation.hear_waiting.Goals as goal
 
 pub returns-in-Ua-true-clause-step : goal.returns-in-Ua-true-clause-step
@@ -8,4 +9,5 @@ returns-in-Ua-true-clause-step c = λ d before t fits.
       side = c.set_up.ensures.step d before _ t fits;
       packet = rw c.noted.ensures.packet refl;
       notes = c.noted.ensures.notes;
+      acknowledged = c.noted.ensures.acknowledged ∙ none_left t.near.outgoing.acked;
     })

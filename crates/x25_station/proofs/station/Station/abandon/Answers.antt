@@ -8,7 +8,7 @@ use Rattle.x25_station.specs.Step.{Step, receives}
 use Rattle.x25_station.proofs.DownLemmas.{fits_down, frames_down, entries_noted_down}
 use Rattle.x25_station.proofs.AskLemmas.{taken_link}
 use Rattle.x25_station.proofs.OutcomeLemmas.{still_meant}
-use Rattle.x25_station.proofs.TookLemmas.{gives_up}
+use Rattle.x25_station.proofs.TookLemmas.{gives_up, gave_up_acknowledged}
 use Rattle.x25_station.proofs.station.Station.abandon.Goals as goal
 
 pub invariant_of-self : goal.invariant_of-self
@@ -58,3 +58,8 @@ returns-clause-does c = record {
   few_frames = (let same : length c.swap_frames.new.frames ≡ length c.abandon-heard.new.self.frames = ap length c.swap_frames.ensures.frames in omega (arith, same, c.abandon-heard.ensures.few));
   few_entries = grind (arith, c.note_down.ensures.few.length, ap length c.reserve.ensures.empty.entries, c.reserve.new.self.entries.ok);
 }
+
+pub returns-clause-acknowledged : goal.returns-clause-acknowledged
+returns-clause-acknowledged c = λ c' s fits.
+    let heard = c.abandon-heard.ensures.heard (link_settings c') s.link fits.link in
+    heard.acknowledged ∙ gave_up_acknowledged c' s c.args.octets.now (c.requires.full c' s fits)

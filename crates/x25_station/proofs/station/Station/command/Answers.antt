@@ -1,6 +1,7 @@
 use Rattle.std.proofs.Common.{false, refl, ap, map, ◌∙◌}
 use Rattle.x25_station.specs.code.PlainEntry.{plain_entry}
 use Rattle.x25_station.proofs.ClockLemmas.{timed, always, not_ever}
+use Rattle.x25_station.proofs.TimerLemmas.{asked_none}
 use Rattle.x25_station.proofs.DoesLemmas.{reused}
 use Rattle.x25_station.proofs.station.Station.command.Goals as goal
 
@@ -11,7 +12,8 @@ pub returns-clause-timer : goal.returns-clause-timer
 returns-clause-timer c = λ c' s fits.
     let now = c.empty.ensures.fits c' s fits in
     timed c' s c.empty.new.self c.carry_out-answer.new.self c.carry_out-answer.new.out c.timer_behind-out.result now c.carry_out-answer.result _ false false c.carry_out-answer.ensures.does (always c.carry_out-answer.result refl) (not_ever c.carry_out-answer.result refl)
-    (λ step near entries. c.timer_behind-out.ensures c' s step (c.clock-before.ensures c' s now) near (ap (map plain_entry) c.as_slice.ensures.value ∙ entries))
+    (asked_none c' s _)
+    (λ step near entries none. c.timer_behind-out.ensures c' s step (c.timer_runs-ran.ensures c' s now) near (ap (map plain_entry) c.as_slice.ensures.value ∙ entries) none)
 
 pub returns-clause-pull : goal.returns-clause-pull
 returns-clause-pull c = λ is c' s fits. c.carry_out-answer.ensures.pull is c' s (c.empty.ensures.fits c' s fits)

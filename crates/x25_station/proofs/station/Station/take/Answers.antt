@@ -14,7 +14,7 @@ use Rattle.x25_station.specs.Step.{receives, entries_heard}
 use Rattle.x25_station.proofs.FrameLemmas.{few_put}
 use Rattle.x25_station.proofs.OutcomeLemmas.{still_meant}
 use Rattle.x25_station.proofs.TakeLemmas.{handed_short, up_can_put, handed_can_put, handed_was_up, put_by_meaning, least_by_meaning, same_by_meaning, up_by_meaning, handed_named, room_for, no_room, few_made, if_some}
-use Rattle.x25_station.proofs.TookLemmas.{put_behind, took_fits, took_sends, took_enters}
+use Rattle.x25_station.proofs.TookLemmas.{put_behind, took_fits, took_sends, took_enters, took_acknowledged}
 use Rattle.x25_station.proofs.station.Station.take.Goals as goal
 
 pub follow-requires-clause-up : goal.follow-requires-clause-up
@@ -126,3 +126,10 @@ returns-clause-does c = record {
       omega (arith, most, same);
   few_entries = grind (arith, c.follow.ensures.few.length, ap length c.reserve.ensures.empty.entries, c.reserve.new.out.entries.ok);
 }
+
+pub returns-clause-acknowledged : goal.returns-clause-acknowledged
+returns-clause-acknowledged c = λ c' s fits.
+    let lk = link_settings c' in
+    let before = c.in_ok-reserve.ensures.fits c' s fits in
+    let heard = c.take-heard.ensures.heard lk s.link before.link in
+    heard.acknowledged ∙ took_acknowledged c' s c.args.octets.now (c.requires.goes_on c' s fits)

@@ -1,0 +1,78 @@
+-- What is acknowledged at a step is what the N(R) that was heard acknowledges: the rest of the step leaves it.
+use Rattle.std.proofs.Common.{◌≡◌, ℕ, zero, suc, ◌+◌, Bool, true, false, not, if◌then◌else◌, List, Some, None, refl, sym, ap, ◌∙◌, arith}
+use Rattle.std.specs.Prelude.{nat_lt}
+use Rattle.std.proofs.lemmas.Bool.{le-ltb}
+use Rattle.x25_link.specs.declared.phase.Phase.{Phase}
+use Rattle.x25_link.specs.declared.phase.Phase.TheVariants.{Down, Waiting, Up, Closed}
+use Rattle.x25_link.specs.declared.phase.Reason.TheVariants.{Retries}
+use Rattle.x25_link.specs.Station.{Settings, LinkStation, Side, is_busy, with_near, ready, may_send, pumped, owes_ready, ended}
+use Rattle.x25_link.specs.Hearing.{Step, acknowledges, quiet, leaves, is_taken, takes, answers, passes_over, hears_info, polls}
+use Rattle.x25_link.specs.Link.{asks_again, fires, closed_by}
+
+abbrev acked : Side → ℕ
+acked t = t.near.outgoing.acked
+
+if_same : (b : Bool) (t u v : Side) → acked t ≡ acked v → acked u ≡ acked v → acked (if b then t else u) ≡ acked v
+if_same true t u v is other = is
+if_same false t u v is other = other
+
+ready_same : (command pf : Bool) (t : Side) → acked (ready command pf t) ≡ acked t
+ready_same command pf t = if_same (is_busy t.near) _ _ t refl refl
+
+pumped_same : (n k : ℕ) (t : Side) → acked (pumped n k t) ≡ acked t
+unfolding pumped
+pumped_same zero k t = refl
+pumped_same (suc n) k t = if_same (may_send k (pumped n k t).near) _ _ (pumped n k t) refl refl ∙ pumped_same n k t
+
+ended_same : (k : ℕ) (t : Side) → acked (ended k t) ≡ acked t
+ended_same k t = if_same (owes_ready (pumped 7 k t).near) _ _ (pumped 7 k t) (ready_same false false (pumped 7 k t)) refl ∙ pumped_same 7 k t
+
+pub polls_same : (command pf : Bool) (t : Side) → acked (polls command pf t) ≡ acked t
+polls_same true true t = ready_same false true t
+polls_same true false t = refl
+polls_same false true t = refl
+polls_same false false t = refl
+
+answers_same : (k : ℕ) (p : Bool) (t : Side) → acked (answers k p t) ≡ acked t
+answers_same k true t = ready_same false true t
+answers_same k false t = if_same (may_send k t.near) _ _ t refl (ready_same false false t)
+
+passed_same : (p : Bool) (t : Side) → acked (passes_over p t) ≡ acked t
+passed_same p t =
+    if_same (is_busy t.near) _ _ t (ready_same false p t)
+    (if_same (not t.near.rejecting) _ _ t refl (if_same p _ _ t (ready_same false true t) refl))
+
+pub info_same : (k ns : ℕ) (p : Bool) (packet : List ℕ) (t : Side) → acked (hears_info k ns p packet t).side ≡ acked t
+info_same k ns p packet t = by (is_taken ns t.near)
+  where
+    by : (b : Bool) → acked (if b then (record { side = answers k p (takes packet t); packet = Some packet; notes = record { down = None; up = false } }) else quiet (passes_over p t)).side ≡ acked t
+    by true = answers_same k p (takes packet t)
+    by false = passed_same p t
+
+-- the end of a step leaves what it acknowledges
+pub closed_same : (s : LinkStation) (k : ℕ) (step : Step) → acknowledges s (closed_by k step) ≡ acknowledges s step
+closed_same s k step = ap (λ (n : ℕ). nat_lt s.outgoing.acked n) (ended_same k step.side)
+
+-- ---- where none are acknowledged
+
+pub none_again : (t : Side) → false ≡ acknowledges t.near (quiet t)
+none_again t = sym (le-ltb _ _ (omega arith))
+
+pub none_left : (n : ℕ) → false ≡ nat_lt n 0
+none_left n = sym (le-ltb n 0 (omega arith))
+
+pub none_fired : (c : Settings) (t : Side) → false ≡ acknowledges t.near (fires c t)
+none_fired c t = by (nat_lt t.near.tries c.retries)
+  where
+    up : Side
+    up = with_near t (record t.near { tries = t.near.tries + 1 })
+
+    asked : (phase : Phase) → acked (asks_again phase up) ≡ acked t
+    asked Down = refl
+    asked Waiting = refl
+    asked Up = ready_same true true (with_near up (record up.near { recovery = true }))
+    asked Closed = refl
+
+    by : (b : Bool) → false ≡ acknowledges t.near (if b then quiet (asks_again t.near.phase up) else leaves Retries t)
+    by true = none_again t ∙ ap (λ (n : ℕ). nat_lt t.near.outgoing.acked n) (sym (asked t.near.phase))
+    by false = none_left t.near.outgoing.acked

@@ -1,0 +1,84 @@
+-- What the rules of a channel look at of a packet. ITU-T X.25 (10/96), sections 6.12 and 7.2.2; what isn't said of
+-- packet sizes and windows is 128 octets and 2 packets where a call proposes nothing.
+use Rattle.std.specs.Prelude.{ℕ, ◌==◌, nat_lt, if◌then◌else◌, List, length, Option, Some, None, unwrap_or, Result, Ok}
+use Rattle.std.specs.Prelude.{Err}
+use Rattle.x25_packet.specs.Facilities.{facilities_of}
+use Rattle.x25_packet.specs.Packet.{PlainPacket, call, accept, clear, clear_conf, user_data, rr, rnr, interrupt}
+use Rattle.x25_packet.specs.Packet.{interrupt_conf, reset, reset_conf, restart, restart_conf}
+use Rattle.x25_packet.specs.declared.error.PacketError.{PacketError}
+use Rattle.x25_packet.specs.declared.facilities.Directions.{Directions}
+use Rattle.x25_packet.specs.declared.facilities.Facilities.{Facilities}
+use Rattle.x25_possible.specs.declared.packet.Packet.{Packet as Item}
+use Rattle.x25_possible.specs.declared.packet.Packet.TheVariants.{Call, Accept, Clear, ClearConf, Reset, ResetConf}
+use Rattle.x25_possible.specs.declared.packet.Packet.TheVariants.{Restart, RestartConf, Data, Rr, Rnr, Interrupt}
+use Rattle.x25_possible.specs.declared.packet.Packet.TheVariants.{InterruptConf}
+use Rattle.x25_possible.specs.declared.packet.Said.{Said}
+use Rattle.x25_possible.specs.declared.packet.Sizes.{Sizes}
+use Rattle.x25_possible.specs.declared.packet.Terms.{Terms}
+use Rattle.x25_possible.specs.declared.packet.Windows.{Windows}
+
+-- the packet sizes that a facility names, in octets (section 7.2.2.1.1)
+abbrev pub octets_of : ℕ → ℕ
+octets_of size =
+    if size == 4 then 16
+    else if size == 5 then 32
+    else if size == 6 then 64
+    else if size == 7 then 128
+    else if size == 8 then 256
+    else if size == 9 then 512
+    else if size == 10 then 1024
+    else if size == 11 then 2048
+    else if size == 12 then 4096
+    else 0
+
+-- octets of user data: no packet has more than this
+abbrev pub size_of : ℕ → ℕ
+size_of octets = if nat_lt octets 65535 then octets else 65535
+
+abbrev pub sizes_said : Option Directions → Option Sizes
+sizes_said None = None
+sizes_said (Some sizes) = Some (record { calling = octets_of sizes.calling; called = octets_of sizes.called })
+
+abbrev pub windows_said : Option Directions → Option Windows
+windows_said None = None
+windows_said (Some windows) = Some (record { calling = windows.calling; called = windows.called })
+
+abbrev pub said_by : Result Facilities PacketError → Said
+said_by (Ok f) = record { sizes = sizes_said f.packet_size; windows = windows_said f.window_size }
+said_by (Err e) = record { sizes = None; windows = None }
+
+-- by the octets of a facility field
+abbrev pub said : List ℕ → Said
+said field = said_by (facilities_of field)
+
+abbrev pub usual_sizes : Sizes
+usual_sizes = record { calling = 128; called = 128 }
+
+abbrev pub usual_windows : Windows
+usual_windows = record { calling = 2; called = 2 }
+
+abbrev pub with_both : Sizes → Windows → Terms
+with_both sizes windows = record {
+  calling_size = sizes.calling;
+  called_size = sizes.called;
+  calling_window = windows.calling;
+  called_window = windows.called;
+}
+
+abbrev pub proposed : Said → Terms
+proposed s = with_both (unwrap_or s.sizes usual_sizes) (unwrap_or s.windows usual_windows)
+
+unfoldable pub item_of : PlainPacket → Item
+item_of (call channel called calling facilities user) = Call (proposed (said facilities))
+item_of (accept channel facilities) = Accept (said facilities)
+item_of (clear channel cause diagnostic) = Clear
+item_of (clear_conf channel) = ClearConf
+item_of (user_data channel q m ps pr user) = Data q m ps pr (size_of (length user))
+item_of (rr channel pr) = Rr pr
+item_of (rnr channel pr) = Rnr pr
+item_of (interrupt channel user) = Interrupt
+item_of (interrupt_conf channel) = InterruptConf
+item_of (reset channel cause diagnostic) = Reset
+item_of (reset_conf channel) = ResetConf
+item_of (restart cause diagnostic) = Restart
+item_of restart_conf = RestartConf

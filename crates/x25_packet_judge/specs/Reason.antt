@@ -1,0 +1,96 @@
+-- Which rule a packet breaks that no state of its sender allows, by the state that has taken most, and which manners.
+-- ITU-T X.25 (10/96), sections 3.3, 4.1, 4.3 and 4.4.
+use Rattle.std.specs.Prelude.{ℕ, ◌-◌, ◌%◌, ◌==◌, nat_lt, nat_le, not, ◌&&◌, if◌then◌else◌, Option, Some, None}
+use Rattle.std.specs.Prelude.{unwrap_or}
+use Rattle.x25_packet_judge.specs.Numbers.{apart}
+use Rattle.x25_packet_judge.specs.declared.packet_rule.PacketRule.{PacketRule}
+use Rattle.x25_packet_judge.specs.declared.packet_rule.PacketRule.TheVariants.{RestartAwaited, RestartUnasked}
+use Rattle.x25_packet_judge.specs.declared.packet_rule.PacketRule.TheVariants.{ClearAwaited, ClearUnasked, CallAgain}
+use Rattle.x25_packet_judge.specs.declared.packet_rule.PacketRule.TheVariants.{AcceptUnasked, NoCall, ResetAwaited}
+use Rattle.x25_packet_judge.specs.declared.packet_rule.PacketRule.TheVariants.{ResetUnasked, PacketUnsent, PacketFalls}
+use Rattle.x25_packet_judge.specs.declared.packet_rule.PacketRule.TheVariants.{PacketSkips, OverPackets, InterruptAgain}
+use Rattle.x25_packet_judge.specs.declared.packet_rule.PacketRule.TheVariants.{InterruptUnasked, TooManyOctets, NotFull}
+use Rattle.x25_packet_judge.specs.declared.packet_rule.PacketRule.TheVariants.{QualifierChanges}
+use Rattle.x25_possible.specs.declared.packet.Packet.{Packet}
+use Rattle.x25_possible.specs.declared.packet.Packet.TheVariants.{Call, Accept, ClearConf, ResetConf}
+use Rattle.x25_possible.specs.declared.packet.Packet.TheVariants.{RestartConf, Data, Rr, Rnr, Interrupt}
+use Rattle.x25_possible.specs.declared.packet.Packet.TheVariants.{InterruptConf}
+use Rattle.x25_possible.specs.declared.phase.Phase.{Phase}
+use Rattle.x25_possible.specs.declared.phase.Phase.TheVariants.{Talks, Resets, Clears}
+use Rattle.x25_possible.specs.declared.phase.Phase.TheVariants.{Restarts}
+use Rattle.x25_possible.specs.declared.phase.Talk.{Talk}
+
+-- ---- in a call
+
+-- a P(R) that acknowledges what was never sent, or falls, whichever is nearer (section 4.4.1.3): so far ahead of the
+-- last one, with so many data packets that it may acknowledge
+abbrev pub strays : ℕ → ℕ → Talk → Option PacketRule
+strays ahead pending k =
+    if nat_le ahead pending then None
+    else if nat_lt (8 - ahead) (ahead - pending) then Some (PacketFalls (k.told % 8))
+    else Some (PacketUnsent (k.taken % 8))
+
+abbrev pub acknowledges : Talk → ℕ → Option PacketRule
+acknowledges k number = strays (apart number (k.told % 8)) (k.taken - k.told) k
+
+-- P(S) isn't the next one, or the eighth is unacknowledged (sections 4.4.1.1 and 4.4.1.2), or the packet is too long or
+-- changes Q (sections 4.3.2 and 4.3.6)
+abbrev pub follows : Talk → ℕ → ℕ → PacketRule
+follows k ps size =
+    if not (ps == k.sent % 8) then PacketSkips (k.sent % 8)
+    else if nat_le 7 (k.sent - k.acked) then OverPackets 7
+    else if nat_lt 0 k.most && nat_lt k.most size then TooManyOctets k.most
+    else QualifierChanges
+
+abbrev pub in_call : Talk → Packet → PacketRule
+in_call k (Data q m ps pr size) = unwrap_or (acknowledges k pr) (follows k ps size)
+in_call k (Rr pr) = unwrap_or (acknowledges k pr) (PacketUnsent 0)
+in_call k (Rnr pr) = unwrap_or (acknowledges k pr) (PacketUnsent 0)
+in_call k Interrupt = InterruptAgain
+in_call k InterruptConf = InterruptUnasked
+in_call k (Call terms) = CallAgain
+in_call k (Accept said) = AcceptUnasked
+in_call k ResetConf = ResetUnasked
+in_call k ClearConf = ClearUnasked
+in_call k RestartConf = RestartUnasked
+in_call k x = NoCall
+
+-- ---- elsewhere: what belongs to a call breaks this rule
+
+abbrev pub out_of_call : Packet → PacketRule → PacketRule
+out_of_call (Call terms) rule = CallAgain
+out_of_call (Accept said) rule = AcceptUnasked
+out_of_call ClearConf rule = ClearUnasked
+out_of_call RestartConf rule = RestartUnasked
+out_of_call x rule = rule
+
+abbrev pub in_reset : Packet → PacketRule
+in_reset ResetConf = ResetUnasked
+in_reset x = out_of_call x ResetAwaited
+
+abbrev pub in_clear : Packet → PacketRule
+in_clear ClearConf = ClearUnasked
+in_clear RestartConf = RestartUnasked
+in_clear x = ClearAwaited
+
+abbrev pub in_restart : Packet → PacketRule
+in_restart RestartConf = RestartUnasked
+in_restart x = RestartAwaited
+
+abbrev pub reason : Phase → Packet → PacketRule
+reason (Talks k) x = in_call k x
+reason (Resets limits) x = in_reset x
+reason Clears x = in_clear x
+reason Restarts x = in_restart x
+reason s x = out_of_call x NoCall
+
+-- ---- manners: the window of the call, and full packets where the message goes on
+
+abbrev pub talks_rudely : Talk → PacketRule
+talks_rudely k =
+    if nat_lt 0 k.window && (nat_lt k.window 7 && nat_le k.window (k.sent - k.acked)) then OverPackets k.window
+    else NotFull k.most
+
+abbrev pub manners : Phase → PacketRule
+manners (Talks k) = talks_rudely k
+manners s = NotFull 0

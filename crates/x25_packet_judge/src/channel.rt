@@ -1,0 +1,178 @@
+//! Both ends of a logical channel, as the sets of states in which they may be.
+ghost use Rattle.std.specs.Prelude.{◌≡◌};
+ghost use Rattle.x25_packet_judge.specs.Channel as definition;
+ghost use Rattle.x25_possible.specs.declared.packet.Packet.TheVariants.{Elsewhere};
+
+use crate::packet_rule::{PacketRule, is_order};
+use crate::reason::{manners, reason};
+use x25_bits::Role;
+use x25_possible::{Packet, Set, Told};
+
+/// Both ends of a channel, or of all that were never seen.
+#[derive(Drop)]
+pub(crate) struct Channel {
+    pub(crate) dte: Set,
+    pub(crate) dce: Set,
+    /// It was noted that one of them isn't known.
+    pub(crate) is_noted: bool,
+}
+
+/// What is told of a packet, whether it was judged, and whether it is to be noted that it wasn't.
+#[derive(Clone, Copy)]
+pub(crate) struct Finding {
+    pub(crate) rule: Option<PacketRule>,
+    pub(crate) is_judged: bool,
+    pub(crate) is_first: bool,
+}
+
+fn rule_of(told: Told, packet: Packet) -> Option<PacketRule>
+    ensures { result ≡ definition.rule_of told packet }
+{
+    match told {
+        Told::Nothing => None,
+        Told::Rude(phase) => Some(manners(phase)),
+        Told::Broken(phase) => Some(reason(phase, packet)),
+    }
+}
+
+/// An end sends a packet.
+fn sent(own: &mut Set, packet: Packet) -> Finding
+    ensures own { own.new ≡ (definition.sent packet own.old).set }
+    ensures finding { result ≡ (definition.sent packet own.old).finding }
+{
+    let was_known = own.is_known();
+    let rule = rule_of(own.sends(packet), packet);
+    Finding {
+        rule,
+        is_judged: was_known && (rule.is_some() || own.is_known()),
+        is_first: false,
+    }
+}
+
+impl Channel {
+    /// Nothing is known of either end.
+    pub(crate) fn any() -> Channel
+        ensures { result ≡ definition.any_channel }
+    {
+        Channel {
+            dte: Set::any(Role::Dte),
+            dce: Set::any(Role::Dce),
+            is_noted: false,
+        }
+    }
+
+    /// Both have restarted.
+    pub(crate) fn begun() -> Channel
+        ensures { result ≡ definition.begun_channel }
+    {
+        Channel {
+            dte: Set::new(Role::Dte),
+            dce: Set::new(Role::Dce),
+            is_noted: false,
+        }
+    }
+
+    /// The link is set up: nothing is known, but nothing of before comes.
+    pub(crate) fn ready() -> Channel
+        ensures { result ≡ definition.ready_channel }
+    {
+        Channel {
+            dte: Set::ready(Role::Dte),
+            dce: Set::ready(Role::Dce),
+            is_noted: false,
+        }
+    }
+
+    /// The same.
+    pub(crate) fn copy(&self) -> Channel
+        ensures { result ≡ self.now }
+    {
+        Channel {
+            dte: self.dte.copy(),
+            dce: self.dce.copy(),
+            is_noted: self.is_noted,
+        }
+    }
+
+    /// An end sends a packet, which may come to the other one at any moment.
+    pub(crate) fn takes(&mut self, from: Role, packet: Packet) -> Finding
+        ensures channel { self.new ≡ (definition.takes from packet self.old).channel }
+        ensures finding { result ≡ (definition.takes from packet self.old).finding }
+    {
+        match from {
+            Role::Dte => {
+                let finding = sent(&mut self.dte, packet);
+                self.dce.shows(packet);
+                finding
+            }
+            Role::Dce => {
+                let finding = sent(&mut self.dce, packet);
+                self.dte.shows(packet);
+                finding
+            }
+        }
+    }
+
+    /// An end sends a packet on another channel; whether its RESTART, or that of the other end, is to be answered
+    /// first.
+    pub(crate) fn passes_over(&mut self, from: Role) -> bool
+        ensures channel { self.new ≡ (definition.takes from Elsewhere self.old).channel }
+        ensures early { result ≡ definition.is_early from self.old }
+    {
+        is_order(self.takes(from, Packet::Elsewhere).rule)
+    }
+
+    fn is_known(&self) -> bool
+        ensures { result ≡ definition.is_known self.now }
+    {
+        self.dte.is_known() && self.dce.is_known()
+    }
+
+    /// It isn't judged, which is noted once.
+    pub(crate) fn passes(&mut self) -> Finding
+        ensures channel { self.new ≡ (definition.passed self.old).channel }
+        ensures finding { result ≡ (definition.passed self.old).finding }
+    {
+        let is_first = !self.is_noted;
+        self.is_noted = true;
+        Finding {
+            rule: None,
+            is_judged: false,
+            is_first,
+        }
+    }
+
+    /// What isn't judged is noted once, until both ends are known.
+    fn marks(&mut self, finding: Finding) -> Finding
+        ensures channel { self.new ≡ (definition.marked finding self.old).channel }
+        ensures finding { result ≡ (definition.marked finding self.old).finding }
+    {
+        if !finding.is_judged {
+            return self.passes();
+        }
+        if self.is_known() {
+            self.is_noted = false;
+        }
+        finding
+    }
+
+    /// The same as `takes`, and where it isn't judged that is noted.
+    #[tactic(auto, unfolding(crate::specs::Channel::judges))]
+    pub(crate) fn judges(&mut self, from: Role, packet: Packet) -> Finding
+        ensures channel { self.new ≡ (definition.judges from packet self.old).channel }
+        ensures finding { result ≡ (definition.judges from packet self.old).finding }
+    {
+        let finding = self.takes(from, packet);
+        self.marks(finding)
+    }
+
+    /// A packet that isn't read.
+    pub(crate) fn misses(&mut self) -> Finding
+        ensures channel { self.new ≡ (definition.misses self.old).channel }
+        ensures finding { result ≡ (definition.misses self.old).finding }
+    {
+        self.dte.doubt();
+        self.dce.doubt();
+        self.passes()
+    }
+}

@@ -1,0 +1,173 @@
+//! The logical channels, and what is known of both ends of each.
+ghost use Rattle.std.specs.Prelude.{◌≡◌, ◌≤◌, ◌%◌, [], IfOk, List, length, map, slice_set, vec_capacity};
+ghost use Rattle.std.specs.List.{All};
+ghost use Rattle.x25_packet_judge.specs.Channels.{all_alike, all_take, channel_of};
+ghost use Rattle.x25_packet_judge.specs.Channel.{any_channel};
+ghost use Rattle.x25_packet_judge.specs.Channel as definition;
+ghost use Rattle.x25_packet_judge.specs.code.Slots.{IsOld, put, shown, slot_takes};
+ghost use Rattle.x25_packet_judge.specs.declared.channel.Channel as declared;
+
+use crate::channel::{Channel, Finding};
+use std::alloc::{AllocError, Global};
+use std::marker::Model;
+use x25_bits::Role;
+use x25_possible::Packet;
+
+/// How many numbers a logical channel may have.
+const CHANNELS: usize = 4_096;
+
+/// A channel, and behind how many beginnings it was seen.
+#[derive(Drop)]
+pub(crate) struct Slot {
+    pub(crate) begun: u64,
+    pub(crate) channel: Channel,
+}
+
+/// The channels 0 to 4,095: no call but `new` takes memory.
+#[derive(Drop)]
+pub(crate) struct Channels {
+    slots: Vec<Slot>,
+    /// How often all began anew.
+    begun: u64,
+    /// What each is that wasn't seen since then.
+    usual: Channel,
+}
+
+impl Model for Channels {
+    ghost Value = { List declared.Channel };
+
+    ghost view = { λ c. map (shown c.begun c.usual) c.slots.items };
+
+    ghost invariant = { λ c. (length c.slots.items ≡ 4096) × (vec_capacity c.slots ≡ 4096)
+        × All (IsOld c.begun) c.slots.items };
+}
+
+/// Puts as many channels, of which nothing is known.
+fn fill_up(slots: &mut Vec<Slot>)
+    requires empty { slots.old.items ≡ [] }
+    requires room { 4096 ≤ vec_capacity slots.old }
+    ensures alike { (usual : declared.Channel) → map (shown 1 usual) slots.new.items ≡ all_alike usual }
+    ensures old { All (IsOld 0) slots.new.items }
+    ensures size { length slots.new.items ≡ 4096 }
+    ensures room { vec_capacity slots.new ≡ vec_capacity slots.old }
+{
+    for _ in 0..CHANNELS {
+        slots.push_reserved(Slot {
+            begun: 0,
+            channel: Channel::any(),
+        });
+    }
+}
+
+/// Brings a channel up to date.
+fn find(slot: &mut Slot, begun: u64, usual: &Channel)
+    ensures { slot.new ≡ put begun (shown begun usual.now slot.old) }
+{
+    if slot.begun != begun {
+        slot.channel = usual.copy();
+        slot.begun = begun;
+    }
+}
+
+/// A packet of it.
+fn judges(slot: &mut Slot, begun: u64, usual: &Channel, from: Role, packet: Packet) -> Finding
+    ensures slot { slot.new
+        ≡ put begun (definition.judges from packet (shown begun usual.now slot.old)).channel }
+    ensures finding { result ≡ (definition.judges from packet (shown begun usual.now slot.old)).finding }
+{
+    find(slot, begun, usual);
+    slot.channel.judges(from, packet)
+}
+
+/// A packet of it that isn't read.
+fn misses(slot: &mut Slot, begun: u64, usual: &Channel) -> Finding
+    ensures slot { slot.new ≡ put begun (definition.misses (shown begun usual.now slot.old)).channel }
+    ensures finding { result ≡ (definition.misses (shown begun usual.now slot.old)).finding }
+{
+    find(slot, begun, usual);
+    slot.channel.misses()
+}
+
+/// A packet of all, for one that was seen.
+fn take_one(slot: &mut Slot, begun: u64, from: Role, packet: Packet)
+    ensures { slot.new ≡ slot_takes begun from packet slot.old }
+{
+    if slot.begun == begun {
+        slot.channel.takes(from, packet);
+    }
+}
+
+/// A packet of all that were seen.
+fn take_each(slots: &mut Vec<Slot>, begun: u64, from: Role, packet: Packet)
+    ensures items { slots.new.items ≡ map (slot_takes begun from packet) slots.old.items }
+    ensures room { vec_capacity slots.new ≡ vec_capacity slots.old }
+{
+    for slot in slots.iter_mut() {
+        take_one(slot, begun, from, packet);
+    }
+}
+
+impl Channels {
+    /// Nothing is known. Err: no memory.
+    pub(crate) fn new(alloc: Global) -> Result<Channels, AllocError>
+        ensures { IfOk result (λ channels. channels ≡ all_alike any_channel) }
+    {
+        let mut slots = Vec::with_capacity(alloc, CHANNELS)?;
+        fill_up(&mut slots);
+        Ok(Channels {
+            slots,
+            begun: 1,
+            usual: Channel::any(),
+        })
+    }
+
+    /// A packet of a channel.
+    pub(crate) fn judges(&mut self, channel: u16, from: Role, packet: Packet) -> Finding
+        ensures channels { self.new
+            ≡ slice_set self.old (channel % 4096)
+            (definition.judges from packet (channel_of channel self.old)).channel }
+        ensures finding { result ≡ (definition.judges from packet (channel_of channel self.old)).finding }
+    {
+        let index = usize::from(channel) % CHANNELS;
+        judges(
+            &mut self.slots[index],
+            self.begun,
+            &self.usual,
+            from,
+            packet,
+        )
+    }
+
+    /// A packet of a channel that isn't read.
+    pub(crate) fn misses(&mut self, channel: u16) -> Finding
+        ensures channels { self.new
+            ≡ slice_set self.old (channel % 4096) (definition.misses (channel_of channel self.old)).channel }
+        ensures finding { result ≡ (definition.misses (channel_of channel self.old)).finding }
+    {
+        let index = usize::from(channel) % CHANNELS;
+        misses(&mut self.slots[index], self.begun, &self.usual)
+    }
+
+    /// A packet of all channels.
+    pub(crate) fn take(&mut self, from: Role, packet: Packet)
+        ensures { self.new ≡ all_take from packet self.old }
+    {
+        self.usual.takes(from, packet);
+        take_each(&mut self.slots, self.begun, from, packet);
+    }
+
+    /// All are as this one.
+    pub(crate) fn begin(&mut self, usual: Channel)
+        ensures { self.new ≡ all_alike usual }
+    {
+        self.usual = usual;
+        match self.begun.checked_add(1) {
+            Some(begun) => self.begun = begun,
+            None => {
+                self.begun = 1;
+                self.slots.clear();
+                fill_up(&mut self.slots);
+            }
+        }
+    }
+}

@@ -1,0 +1,157 @@
+//! Which rule a packet breaks that no state of its sender allows, and which manners.
+ghost use Rattle.std.specs.Prelude.{◌≡◌};
+ghost use Rattle.x25_packet_judge.specs.Reason as definition;
+
+use crate::numbers::apart;
+use crate::packet_rule::PacketRule;
+use x25_possible::{Packet, Phase, Talk};
+
+/// A P(R) that acknowledges nothing that may be acknowledged: whichever is nearer.
+fn acknowledges(talk: Talk, number: u8) -> Option<PacketRule>
+    ensures { result ≡ definition.acknowledges talk number }
+{
+    let pending = talk.taken.saturating_sub(talk.told);
+    let ahead = apart(number, (talk.told % 8) as u8);
+    if u32::from(ahead) <= pending {
+        None
+    } else if u32::from(8u8.saturating_sub(ahead)) < u32::from(ahead).saturating_sub(pending) {
+        Some(PacketRule::PacketFalls {
+            least: (talk.told % 8) as u8,
+        })
+    } else {
+        Some(PacketRule::PacketUnsent {
+            most: (talk.taken % 8) as u8,
+        })
+    }
+}
+
+/// A data packet, whose P(R) is right.
+fn follows(talk: Talk, ps: u8, size: u16) -> PacketRule
+    ensures { result ≡ definition.follows talk ps size }
+{
+    let next = (talk.sent % 8) as u8;
+    if ps != next {
+        PacketRule::PacketSkips { next }
+    } else if 7 <= talk.sent.saturating_sub(talk.acked) {
+        PacketRule::OverPackets { window: 7 }
+    } else if 0 < talk.most && talk.most < size {
+        PacketRule::TooManyOctets { most: talk.most }
+    } else {
+        PacketRule::QualifierChanges
+    }
+}
+
+/// In a call.
+fn in_call(talk: Talk, packet: Packet) -> PacketRule
+    ensures { result ≡ definition.in_call talk packet }
+{
+    match packet {
+        Packet::Call(_) => PacketRule::CallAgain,
+        Packet::Accept(_) => PacketRule::AcceptUnasked,
+        Packet::ClearConf => PacketRule::ClearUnasked,
+        Packet::RestartConf => PacketRule::RestartUnasked,
+        Packet::ResetConf => PacketRule::ResetUnasked,
+        Packet::Interrupt => PacketRule::InterruptAgain,
+        Packet::InterruptConf => PacketRule::InterruptUnasked,
+        Packet::Data { ps, pr, size, .. } => acknowledges(talk, pr).unwrap_or(follows(
+            talk, ps, size,
+        )),
+        Packet::Rr(pr) | Packet::Rnr(pr) => acknowledges(talk, pr).unwrap_or(
+            PacketRule::PacketUnsent { most: 0 },
+        ),
+        Packet::Clear | Packet::Reset | Packet::Restart | Packet::Elsewhere => PacketRule::NoCall,
+    }
+}
+
+/// Without one, or while it is reset: what it breaks that belongs to a call is `rule`.
+fn out_of_call(packet: Packet, rule: PacketRule) -> PacketRule
+    ensures { result ≡ definition.out_of_call packet rule }
+{
+    match packet {
+        Packet::Call(_) => PacketRule::CallAgain,
+        Packet::Accept(_) => PacketRule::AcceptUnasked,
+        Packet::ClearConf => PacketRule::ClearUnasked,
+        Packet::RestartConf => PacketRule::RestartUnasked,
+        Packet::Clear
+        | Packet::Reset
+        | Packet::ResetConf
+        | Packet::Restart
+        | Packet::Data { .. }
+        | Packet::Rr(_)
+        | Packet::Rnr(_)
+        | Packet::Interrupt
+        | Packet::InterruptConf
+        | Packet::Elsewhere => rule,
+    }
+}
+
+/// While its RESET waits.
+fn in_reset(packet: Packet) -> PacketRule
+    ensures { result ≡ definition.in_reset packet }
+{
+    if matches!(packet, Packet::ResetConf) {
+        PacketRule::ResetUnasked
+    } else {
+        out_of_call(packet, PacketRule::ResetAwaited)
+    }
+}
+
+/// While its CLEAR waits.
+fn in_clear(packet: Packet) -> PacketRule
+    ensures { result ≡ definition.in_clear packet }
+{
+    match packet {
+        Packet::ClearConf => PacketRule::ClearUnasked,
+        Packet::RestartConf => PacketRule::RestartUnasked,
+        _ => PacketRule::ClearAwaited,
+    }
+}
+
+/// While its RESTART waits.
+fn in_restart(packet: Packet) -> PacketRule
+    ensures { result ≡ definition.in_restart packet }
+{
+    if matches!(packet, Packet::RestartConf) {
+        PacketRule::RestartUnasked
+    } else {
+        PacketRule::RestartAwaited
+    }
+}
+
+/// The rule that a packet breaks in a state that doesn't allow it.
+pub(crate) fn reason(phase: Phase, packet: Packet) -> PacketRule
+    ensures { result ≡ definition.reason phase packet }
+{
+    match phase {
+        Phase::Talks(talk) => in_call(talk, packet),
+        Phase::Resets(_) => in_reset(packet),
+        Phase::Clears => in_clear(packet),
+        Phase::Restarts => in_restart(packet),
+        Phase::Idle
+        | Phase::Calls(_)
+        | Phase::WasCalled(_)
+        | Phase::Free
+        | Phase::WasReset(_)
+        | Phase::WasCleared
+        | Phase::WasRestarted => out_of_call(packet, PacketRule::NoCall),
+    }
+}
+
+/// The manners that a packet breaks in a state that allows it.
+pub(crate) fn manners(phase: Phase) -> PacketRule
+    ensures { result ≡ definition.manners phase }
+{
+    match phase {
+        Phase::Talks(talk) => if 0 < talk.window
+            && talk.window < 7
+            && u32::from(talk.window) <= talk.sent.saturating_sub(talk.acked)
+        {
+            PacketRule::OverPackets {
+                window: talk.window,
+            }
+        } else {
+            PacketRule::NotFull { size: talk.most }
+        },
+        _ => PacketRule::NotFull { size: 0 },
+    }
+}

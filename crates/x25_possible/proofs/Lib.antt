@@ -1,0 +1,9 @@
+mod Lists
+mod Exactly
+mod ChannelLaws
+mod StepLemmas
+mod LoopLemmas
+mod SetLemmas
+mod RoomLemmas
+mod MannerLemmas
+mod TapeLemmas

@@ -1,0 +1,131 @@
+-- Loops over a list of states, one by one.
+use Rattle.std.proofs.Common.{Bool, true, false, ◌≡◌, ℕ, suc, ◌+◌, ◌<◌, ◌≤◌, ◌&&◌, nat_le, if◌then◌else◌}
+use Rattle.std.proofs.Common.{List, [], ◌∷◌, drop, length, get_or, sym, ap, ◌∙◌, Option, Some, None, arith}
+use Rattle.std.proofs.Common.{drop_of_length-le}
+use Rattle.std.proofs.Math.Seq.{drop-cons}
+use Rattle.std.proofs.lemmas.Bool.{false_from_ne_true, leb-true, le-leb}
+use Rattle.x25_bits.specs.declared.role.Role.{Role}
+use Rattle.x25_possible.specs.Channel.{at_once, takes}
+use Rattle.x25_possible.specs.code.Steps.{kept, is_large, spot_at, taken_on, settles_by, settles}
+use Rattle.x25_possible.specs.code.Steps.{all_of, and_then, made, are_at_end}
+use Rattle.x25_possible.specs.declared.packet.Packet.{Packet}
+use Rattle.x25_possible.specs.declared.phase.Phase.{Phase}
+use Rattle.x25_possible.specs.declared.spots.Spot.{Spot}
+
+-- the one that is looked at, and the rest
+pub here : {X : Type 0} (xs : List X) (i : ℕ) (d : X) → i < length xs → drop i xs ≡ get_or xs i d ∷ drop (i + 1) xs
+here xs i d less =
+    let more : i + 1 ≡ suc i = omega arith in
+    drop-cons xs i d less ∙ ap (λ n. get_or xs i d ∷ drop n xs) (sym more)
+
+-- What a function says of all is what it says of what is left: where the next one tells nothing it is so of the rest.
+pub next_of_left : {X Y : Type 0} (f : List X → Y) (xs : List X) (i : ℕ) (d : X) → i < length xs → f (drop i xs) ≡ f xs
+    → f (get_or xs i d ∷ drop (i + 1) xs) ≡ f (drop (i + 1) xs) → f (drop (i + 1) xs) ≡ f xs
+next_of_left f xs i d less before same = sym same ∙ sym (ap f (here xs i d less)) ∙ before
+
+pub found_of_left : {X Y : Type 0} (f : List X → Y) (xs : List X) (i : ℕ) (d : X) (y : Y) → i < length xs → f (drop i xs) ≡ f xs
+    → f (get_or xs i d ∷ drop (i + 1) xs) ≡ y → f xs ≡ y
+found_of_left f xs i d y less before found = sym before ∙ ap f (here xs i d less) ∙ found
+
+pub none_of_left : {X Y : Type 0} (f : List X → Y) (xs : List X) (i : ℕ) → length xs ≤ i → f (drop i xs) ≡ f xs → f [] ≡ f xs
+none_of_left f xs i far before = sym (ap f (drop_of_length-le xs far)) ∙ before
+
+-- where what is made so far is looked at too
+pub next_made : (step : Spot → List Spot → Option (List Spot)) (qs : List Spot) (i : ℕ) (d : Spot) (first now new : List Spot) (b : Bool)
+    → i < length qs → all_of step (drop i qs) now ≡ all_of step qs first → made b new ≡ step (get_or qs i d) now → b ≡ true
+    → all_of step (drop (i + 1) qs) new ≡ all_of step qs first
+next_made step qs i d first now new b less before step_is ok =
+    let one : Some new ≡ step (get_or qs i d) now = sym (ap (λ c. made c new) ok) ∙ step_is in
+    ap (λ o. and_then o (all_of step (drop (i + 1) qs))) one ∙ sym (ap (λ xs. all_of step xs now) (here qs i d less)) ∙ before
+
+pub not_made : (step : Spot → List Spot → Option (List Spot)) (qs : List Spot) (i : ℕ) (d : Spot) (first now new : List Spot) (b : Bool)
+    → i < length qs → all_of step (drop i qs) now ≡ all_of step qs first → made b new ≡ step (get_or qs i d) now → b ≡ false
+    → None ≡ all_of step qs first
+not_made step qs i d first now new b less before step_is not_ok =
+    let one : None ≡ step (get_or qs i d) now = sym (ap (λ c. made c new) not_ok) ∙ step_is in
+    ap (λ o. and_then o (all_of step (drop (i + 1) qs))) one ∙ sym (ap (λ xs. all_of step xs now) (here qs i d less)) ∙ before
+
+pub all_made : (step : Spot → List Spot → Option (List Spot)) (qs : List Spot) (i : ℕ) (first now : List Spot) → length qs ≤ i
+    → all_of step (drop i qs) now ≡ all_of step qs first → Some now ≡ all_of step qs first
+all_made step qs i first now far before = sym (ap (λ xs. all_of step xs now) (drop_of_length-le qs far)) ∙ before
+
+-- ---- one by one
+
+at_least : (a b : ℕ) → a ≤ b → nat_le a b ≡ true
+at_least a b h = le-leb a b h
+
+not_at_least : (a b : ℕ) → b < a → nat_le a b ≡ false
+not_at_least a b h = false_from_ne_true (nat_le a b) (λ e. let g = leb-true a b e in omega (arith, g, h))
+
+pub next_past : (n : ℕ) (qs : List Spot) (i : ℕ) (d : Spot) → i < length qs → n ≤ (get_or qs i d).at
+    → are_at_end n (drop i qs) ≡ are_at_end n qs → are_at_end n (drop (i + 1) qs) ≡ are_at_end n qs
+next_past n qs i d less far before =
+    next_of_left (are_at_end n) qs i d less before
+    (ap (λ b. b && are_at_end n (drop (i + 1) qs)) (at_least n (get_or qs i d).at far))
+
+pub not_past : (n : ℕ) (qs : List Spot) (i : ℕ) (d : Spot) → i < length qs → (get_or qs i d).at < n
+    → are_at_end n (drop i qs) ≡ are_at_end n qs → false ≡ are_at_end n qs
+not_past n qs i d less near before =
+    sym (found_of_left (are_at_end n) qs i d false less before
+    (ap (λ b. b && are_at_end n (drop (i + 1) qs)) (not_at_least n (get_or qs i d).at near)))
+
+-- ---- all to which a state comes
+
+module _ (role : Role) (n : ℕ) (way : List Packet) (s : Phase) (out : List Spot) where
+  abbrev All : Option (List Spot)
+  All = settles role n (drop n way) s out
+
+  large_of : (rest : List Packet) → is_large s ≡ true → None ≡ settles role n rest s out
+  large_of [] large = sym (ap (λ b. if b then None else kept (spot_at n s) out) large)
+  large_of (x ∷ rest) large =
+      sym (ap (λ b. if b then None else settles_by (at_once s x) (takes role s x) (spot_at n s) (settles role (n + 1) rest) out) large)
+
+  pub settles_large : is_large s ≡ true → None ≡ All
+  settles_large large = large_of (drop n way) large
+
+  pub settles_end : is_large s ≡ false → length way ≤ n → kept (spot_at n s) out ≡ All
+  settles_end small far =
+      sym (ap (λ w. settles role n w s out) (drop_of_length-le way far) ∙ ap (λ b. if b then None else kept (spot_at n s) out) small)
+
+module _ (role : Role) (n : ℕ) (way : List Packet) (d : Packet) (s : Phase) (out : List Spot) where
+  abbrev Here : Option (List Spot)
+  Here = settles role n (drop n way) s out
+
+  abbrev Rest : Phase → List Spot → Option (List Spot)
+  Rest = settles role (n + 1) (drop (n + 1) way)
+
+  abbrev X : Packet
+  X = get_or way n d
+
+  settles_front : is_large s ≡ false → n < length way → settles_by (at_once s X) (takes role s X) (spot_at n s) Rest out ≡ Here
+  settles_front small less =
+      sym (ap (λ w. settles role n w s out) (here way n d less)
+      ∙ ap (λ b. if b then None else settles_by (at_once s X) (takes role s X) (spot_at n s) Rest out) small)
+
+  pub settles_once : (u : Phase) → is_large s ≡ false → n < length way → at_once s X ≡ Some u → Rest u out ≡ Here
+  settles_once u small less e =
+      sym (ap (λ o. settles_by o (takes role s X) (spot_at n s) Rest out) e) ∙ settles_front small less
+
+  settles_kept : is_large s ≡ false → n < length way → at_once s X ≡ None → and_then (kept (spot_at n s) out) (taken_on (takes role s X) Rest) ≡ Here
+  settles_kept small less e =
+      sym (ap (λ o. settles_by o (takes role s X) (spot_at n s) Rest out) e) ∙ settles_front small less
+
+  pub settles_full : is_large s ≡ false → n < length way → at_once s X ≡ None → kept (spot_at n s) out ≡ None → None ≡ Here
+  settles_full small less e k = sym (ap (λ o. and_then o (taken_on (takes role s X) Rest)) k) ∙ settles_kept small less e
+
+  pub settles_stop : (mid : List Spot) → is_large s ≡ false → n < length way → at_once s X ≡ None → kept (spot_at n s) out ≡ Some mid
+      → takes role s X ≡ None → Some mid ≡ Here
+  settles_stop mid small less e k t =
+      sym (ap (λ o. and_then o (taken_on (takes role s X) Rest)) k ∙ ap (λ o. taken_on o Rest mid) t) ∙ settles_kept small less e
+
+  pub settles_on : (mid : List Spot) (u : Phase) → is_large s ≡ false → n < length way → at_once s X ≡ None → kept (spot_at n s) out ≡ Some mid
+      → takes role s X ≡ Some u → Rest u mid ≡ Here
+  settles_on mid u small less e k t =
+      sym (ap (λ o. and_then o (taken_on (takes role s X) Rest)) k ∙ ap (λ o. taken_on o Rest mid) t) ∙ settles_kept small less e
+
+-- what was made is what the definition has
+pub made_some : (b : Bool) (new : List Spot) (o : Option (List Spot)) → made b new ≡ o → b ≡ true → o ≡ Some new
+made_some b new o e ok = sym e ∙ ap (λ c. made c new) ok
+
+pub made_none : (b : Bool) (new : List Spot) (o : Option (List Spot)) → made b new ≡ o → b ≡ false → o ≡ None
+made_none b new o e not_ok = sym e ∙ ap (λ c. made c new) not_ok

@@ -1,0 +1,30 @@
+use Rattle.std.proofs.Common.{refl}
+use Rattle.x25_possible.proofs.law.rows_are_told.Goals as goal
+
+pub returns : goal.returns
+returns c = record {
+  told = record { pr_behind_restart = refl; conf_behind_restart = refl; rr_behind_reset = refl; elsewhere = refl; pr_behind_both = refl };
+  untold = record {
+    restart_again = refl;
+    clear_again = refl;
+    reset_again = refl;
+    answered_once = refl;
+    answered_twice = refl;
+    collision = refl;
+    elsewhere = refl;
+    resets = refl;
+  };
+  known = record {
+    restarted = refl;
+    cleared = refl;
+    accepted = refl;
+    restart_answered = refl;
+    clear_answered = refl;
+    call_answered = refl;
+    in_call = refl;
+    set_up = refl;
+    restarts = refl;
+    of_before = refl;
+    in_doubt = refl;
+  };
+}

@@ -1,0 +1,5 @@
+pub mod Channel
+pub mod Spots
+pub mod code
+pub mod laws
+pub mod rows

@@ -1,0 +1,356 @@
+-- What a set of states becomes, packet by packet: over lists, in the order in which the code goes. No list has more
+-- than eight states: None where there is no room, or a number is too large.
+use Rattle.std.specs.Prelude.{ℕ, ◌+◌, ◌==◌, nat_lt, nat_le, Bool, true, false, not, ◌&&◌, ◌||◌, if◌then◌else◌}
+use Rattle.std.specs.Prelude.{List, [], ◌∷◌, ◌++◌, length, drop, map, Option, Some, None}
+use Rattle.arrayvec.specs.ArrayVec.{ArrayVec}
+use Rattle.x25_bits.specs.declared.role.Role.{Role}
+use Rattle.x25_bits.specs.declared.role.Role.TheVariants.{Dte, Dce}
+use Rattle.x25_possible.specs.Channel.{at_once, goes_on, is_polite, sends, takes}
+use Rattle.x25_possible.specs.laws.Possible.{Item, Own, Other}
+use Rattle.x25_possible.specs.declared.packet.Packet.{Packet}
+use Rattle.x25_possible.specs.declared.packet.Packet.TheVariants.{Accept, Clear, ClearConf, Restart, RestartConf, Data}
+use Rattle.x25_possible.specs.declared.packet.Packet.TheVariants.{Rr, Rnr, Interrupt, InterruptConf}
+use Rattle.x25_possible.specs.declared.phase.Limits.{Limits}
+use Rattle.x25_possible.specs.declared.phase.Phase.{Phase}
+use Rattle.x25_possible.specs.declared.phase.Phase.TheVariants.{Idle, Calls, Talks, Free, Resets, WasReset}
+use Rattle.x25_possible.specs.declared.phase.Phase.TheVariants.{Clears, WasCleared, Restarts, WasRestarted}
+use Rattle.x25_possible.specs.declared.set.Knowledge.{Knowledge}
+use Rattle.x25_possible.specs.declared.set.Knowledge.TheVariants.{Blind, Any, Ready, Doubt, Known}
+use Rattle.x25_possible.specs.declared.set.Set.{Set}
+use Rattle.x25_possible.specs.declared.set.Told.{Told}
+use Rattle.x25_possible.specs.declared.set.Told.TheVariants.{Nothing, Rude, Broken}
+use Rattle.x25_possible.specs.declared.spots.Spot.{Spot}
+
+-- ---- one more state
+
+-- whether two are surely one
+abbrev pub same_limits : Limits → Limits → Bool
+same_limits a b = a.most == b.most && a.window == b.window
+
+abbrev pub is_same : Phase → Phase → Bool
+is_same Idle Idle = true
+is_same Free Free = true
+is_same Clears Clears = true
+is_same WasCleared WasCleared = true
+is_same Restarts Restarts = true
+is_same WasRestarted WasRestarted = true
+is_same (Resets a) (Resets b) = same_limits a b
+is_same (WasReset a) (WasReset b) = same_limits a b
+is_same s r = false
+
+abbrev pub is_there : Spot → List Spot → Bool
+is_there spot [] = false
+is_there spot (q ∷ qs) = (q.at == spot.at && is_same q.phase spot.phase) || is_there spot qs
+
+abbrev pub kept : Spot → List Spot → Option (List Spot)
+kept spot out = if is_there spot out then Some out else if length out == 8 then None else Some (out ++ spot ∷ [])
+
+-- a list that was made, where there was room
+abbrev pub made : Bool → List Spot → Option (List Spot)
+made b out = if b then Some out else None
+
+abbrev pub listed : Option (ArrayVec Spot) → Option (List Spot)
+listed None = None
+listed (Some v) = Some v.items
+
+abbrev pub and_then : Option (List Spot) → (List Spot → Option (List Spot)) → Option (List Spot)
+and_then None f = None
+and_then (Some out) f = f out
+
+-- ---- all to which a state comes
+
+-- numbers that aren't counted on
+abbrev pub is_large : Phase → Bool
+is_large (Talks k) =
+    nat_lt 2000000000 k.sent || nat_lt 2000000000 k.acked || nat_lt 2000000000 k.taken || nat_lt 2000000000 k.told
+    || nat_lt 2000000000 k.owed
+is_large s = false
+
+abbrev pub spot_at : ℕ → Phase → Spot
+spot_at n s = record { phase = s; at = n }
+
+abbrev pub taken_on : Option Phase → (Phase → List Spot → Option (List Spot)) → List Spot → Option (List Spot)
+taken_on None next out = Some out
+taken_on (Some u) next out = next u out
+
+abbrev pub settles_by : Option Phase → Option Phase → Spot → (Phase → List Spot → Option (List Spot)) → List Spot
+    → Option (List Spot)
+settles_by (Some u) o spot next out = next u out
+settles_by None o spot next out = and_then (kept spot out) (taken_on o next)
+
+-- with so much of the way in front of it
+abbrev pub settles : Role → ℕ → List Packet → Phase → List Spot → Option (List Spot)
+settles role n [] s out = if is_large s then None else kept (spot_at n s) out
+settles role n (x ∷ rest) s out =
+    if is_large s then None
+    else settles_by (at_once s x) (takes role s x) (spot_at n s) (settles role (n + 1) rest) out
+
+-- of each of these
+abbrev pub all_of : (Spot → List Spot → Option (List Spot)) → List Spot → List Spot → Option (List Spot)
+all_of step [] out = Some out
+all_of step (q ∷ qs) out = and_then (step q out) (all_of step qs)
+
+-- ---- as the end sends a packet
+
+-- by the rules, or behind a fault
+abbrev pub next_of : Bool → Phase → Packet → Option Phase
+next_of breaks s x = if breaks then goes_on s x else sends s x
+
+abbrev pub goes_by : Role → List Packet → ℕ → Option Phase → List Spot → Option (List Spot)
+goes_by role way n None out = Some out
+goes_by role way n (Some u) out = settles role n (drop n way) u out
+
+abbrev pub goes : Bool → Role → List Packet → Packet → Spot → List Spot → Option (List Spot)
+goes breaks role way x q out =
+    if is_large q.phase then None else goes_by role way q.at (next_of breaks q.phase x) out
+
+abbrev pub go_all : Bool → Role → List Packet → Packet → List Spot → List Spot → Option (List Spot)
+go_all breaks role way x qs out = all_of (goes breaks role way x) qs out
+
+-- ---- as the other end sends one, the last on the way
+
+abbrev pub grows : Role → ℕ → List Packet → Spot → List Spot → Option (List Spot)
+grows role last way q out =
+    if nat_le last q.at then settles role last (drop last way) q.phase out else kept q out
+
+abbrev pub grow_all : Role → ℕ → List Packet → List Spot → List Spot → Option (List Spot)
+grow_all role last way qs out = all_of (grows role last way) qs out
+
+-- ---- where nothing is left on the way
+
+abbrev pub are_at_end : ℕ → List Spot → Bool
+are_at_end n [] = true
+are_at_end n (q ∷ qs) = nat_le n q.at && are_at_end n qs
+
+abbrev pub anew_at : Spot → List Spot → Option (List Spot)
+anew_at q out = kept (spot_at 0 q.phase) out
+
+abbrev pub anew : List Spot → List Spot → Option (List Spot)
+anew qs out = all_of anew_at qs out
+
+-- ---- what is told
+
+abbrev pub must_answer : Phase → Bool
+must_answer (WasReset limits) = true
+must_answer WasCleared = true
+must_answer WasRestarted = true
+must_answer s = false
+
+-- the first state of those that have taken most, and have nothing to answer
+abbrev pub latest_from : Bool → Phase → ℕ → List Spot → Phase
+latest_from is_first s n [] = s
+latest_from is_first s n (q ∷ qs) =
+    if (is_first || nat_lt n q.at) && not (must_answer q.phase) then latest_from false q.phase q.at qs
+    else latest_from is_first s n qs
+
+abbrev pub is_some : Option Phase → Bool
+is_some None = false
+is_some (Some s) = true
+
+abbrev pub may_send : Phase → Packet → Bool
+may_send s x = if is_large s then false else is_some (sends s x)
+
+-- the last state that may send it, where none may politely
+abbrev pub rude_from : Packet → Option Phase → List Spot → Option Phase
+rude_from x found [] = found
+rude_from x found (q ∷ qs) =
+    if may_send q.phase x then (if is_polite q.phase x then None else rude_from x (Some q.phase) qs)
+    else rude_from x found qs
+
+-- ---- what makes a set known
+
+abbrev pub is_idle : Phase → Bool
+is_idle Idle = true
+is_idle s = false
+
+abbrev pub is_one_idle : List Spot → Bool
+is_one_idle [] = false
+is_one_idle (q ∷ qs) = is_idle q.phase || is_one_idle qs
+
+abbrev pub is_free : Phase → Bool
+is_free Free = true
+is_free s = false
+
+abbrev pub are_bound : List Spot → Bool
+are_bound [] = true
+are_bound (q ∷ qs) = not (is_free q.phase) && are_bound qs
+
+abbrev pub is_dte : Role → Bool
+is_dte Dte = true
+is_dte Dce = false
+
+-- whether a state waits for such a packet; of a DCE that called, the DTE may have called before
+abbrev pub is_answered : Role → Packet → Phase → Bool
+is_answered role Restart Restarts = true
+is_answered role RestartConf Restarts = true
+is_answered role Clear Clears = true
+is_answered role ClearConf Clears = true
+is_answered role (Accept said) (Calls terms) = is_dte role
+is_answered role x s = false
+
+abbrev pub are_answered : Role → Packet → List Spot → Bool
+are_answered role x [] = true
+are_answered role x (q ∷ qs) = is_answered role x q.phase && are_answered role x qs
+
+abbrev pub is_ready : Knowledge → Bool
+is_ready Ready = true
+is_ready k = false
+
+abbrev pub is_doubt : Knowledge → Bool
+is_doubt Doubt = true
+is_doubt k = false
+
+-- A packet that the end sends makes it known: an answer, where the request was seen, or a request that crosses one; one
+-- of a call that was seen to begin; and behind a set-up its RESTART. Behind what wasn't read no call is known.
+abbrev pub makes_known : Knowledge → Packet → List Spot → Bool
+makes_known k RestartConf qs = true
+makes_known k ClearConf qs = true
+makes_known k (Accept said) qs = not (is_doubt k)
+makes_known k Restart qs = is_ready k || is_one_idle qs
+makes_known k Clear qs = is_one_idle qs
+makes_known k (Data q m ps pr size) qs = not (is_doubt k) && are_bound qs
+makes_known k (Rr pr) qs = not (is_doubt k) && are_bound qs
+makes_known k (Rnr pr) qs = not (is_doubt k) && are_bound qs
+makes_known k Interrupt qs = not (is_doubt k) && are_bound qs
+makes_known k InterruptConf qs = not (is_doubt k) && are_bound qs
+makes_known k x qs = false
+
+-- ---- a set
+
+abbrev pub known_by : Knowledge → Bool
+known_by Known = true
+known_by k = false
+
+abbrev pub is_known : Set → Bool
+is_known s = known_by s.knowledge
+
+abbrev pub blind_by : Knowledge → Bool
+blind_by Blind = true
+blind_by k = false
+
+abbrev pub is_blind : Set → Bool
+is_blind s = blind_by s.knowledge
+
+abbrev pub standing : Role → List Packet → List Spot → Knowledge → Set
+standing role way spots k = record {
+  role = role;
+  way = record { items = way };
+  spots = record { items = spots };
+  knowledge = k;
+}
+
+-- it has restarted, and there is no call
+abbrev pub begun : Role → Set
+begun role = standing role [] (spot_at 0 Idle ∷ []) Known
+
+-- nothing is known
+abbrev pub any_phases : List Phase
+any_phases = Idle ∷ Free ∷ Clears ∷ Restarts ∷ []
+
+abbrev pub any_spots : List Spot
+any_spots = map (spot_at 0) any_phases
+
+abbrev pub any_as : Role → Knowledge → Set
+any_as role k = standing role [] any_spots k
+
+abbrev pub any : Role → Set
+any role = any_as role Any
+
+-- behind a set-up of the link: nothing of before comes
+abbrev pub ready : Role → Set
+ready role = any_as role Ready
+
+-- behind a packet that wasn't read
+abbrev pub doubted : Set → Set
+doubted s = any_as s.role Doubt
+
+-- where there is no room
+abbrev pub without_room : Set → Set
+without_room s = any_as s.role Blind
+
+abbrev pub trimmed_to : Option (List Spot) → Set → Set
+trimmed_to None s = s
+trimmed_to (Some qs) s = standing s.role [] qs s.knowledge
+
+abbrev pub trimmed : Set → Set
+trimmed s = if are_at_end (length s.way.items) s.spots.items then trimmed_to (anew s.spots.items []) s else s
+
+-- a set, and what is told
+pub record Stepped : Type 0 where
+  pub set : Set
+  pub told : Told
+
+abbrev pub quietly : Set → Stepped
+quietly s = record { set = s; told = Nothing }
+
+-- behind a packet that no state allows: numbers go on from it, or nothing is known
+abbrev pub broken_to : Option (List Spot) → Set → Set
+broken_to None s = any s.role
+broken_to (Some qs) s =
+    if length qs == 0 then any s.role else standing s.role s.way.items qs s.knowledge
+
+abbrev pub breaks : Packet → Set → Set
+breaks x s = broken_to (go_all true s.role s.way.items x s.spots.items []) s
+
+-- the same where nothing is known: it begins with the packet
+abbrev pub begun_to : Option (List Spot) → Set → Set
+begun_to None s = s
+begun_to (Some qs) s = if length qs == 0 then s else standing s.role s.way.items qs s.knowledge
+
+abbrev pub begins : Packet → Set → Set
+begins x s = begun_to (go_all false s.role s.way.items x s.spots.items []) s
+
+abbrev pub unexplained : Packet → Set → Stepped
+unexplained x s =
+    if is_known s then record { set = breaks x s; told = Broken (latest_from true Idle 0 s.spots.items) }
+    else quietly (begins x (any_as s.role s.knowledge))
+
+abbrev pub told_by : Option Phase → Told
+told_by None = Nothing
+told_by (Some s) = Rude s
+
+abbrev pub explained : Packet → List Spot → Set → Stepped
+explained x qs s =
+    if is_known s
+    then record { set = standing s.role s.way.items qs Known; told = told_by (rude_from x None s.spots.items) }
+    else quietly (standing s.role s.way.items qs (if makes_known s.knowledge x qs then Known else s.knowledge))
+
+abbrev pub sent_to : Packet → Option (List Spot) → Set → Stepped
+sent_to x None s = quietly (without_room s)
+sent_to x (Some qs) s = if length qs == 0 then unexplained x s else explained x qs s
+
+abbrev pub sent : Packet → Set → Stepped
+sent x s = sent_to x (go_all false s.role s.way.items x s.spots.items []) s
+
+abbrev pub trims : Stepped → Stepped
+trims r = record { set = trimmed r.set; told = r.told }
+
+-- the end sends a packet
+abbrev pub sends_to : Packet → Set → Stepped
+sends_to x s = if is_blind s then quietly s else trims (sent x s)
+
+abbrev pub shown_to : Packet → Option (List Spot) → Set → Set
+shown_to x None s = without_room s
+shown_to x (Some qs) s =
+    standing s.role (s.way.items ++ x ∷ []) qs (if is_known s || are_answered s.role x s.spots.items then Known
+    else s.knowledge)
+
+abbrev pub shown : Packet → Set → Set
+shown x s =
+    if length s.way.items == 16 then without_room s
+    else shown_to x (grow_all s.role (length s.way.items) (s.way.items ++ x ∷ []) s.spots.items []) s
+
+-- the other end sends a packet
+abbrev pub shows_to : Packet → Set → Set
+shows_to x s = if is_blind s then s else trimmed (shown x s)
+
+-- ---- over a tape, latest first
+
+abbrev pub played : Set → List (Item Packet) → Set
+played s [] = s
+played s (Own x ∷ tape) = (sends_to x (played s tape)).set
+played s (Other x ∷ tape) = shows_to x (played s tape)
+
+-- from a restart on
+abbrev pub behind : Role → List (Item Packet) → Set
+behind role tape = played (begun role) tape

@@ -1,0 +1,82 @@
+-- Tapes that an end of a channel can't, or can, have sent, latest first: worked out by the definition.
+use Rattle.std.specs.Prelude.{◌≡◌, Bool, true, false, List, [], ◌∷◌, None}
+use Rattle.x25_possible.specs.laws.Possible.{Item, Own, Other, Place, possible}
+use Rattle.x25_possible.specs.Channel.{channel_choices}
+use Rattle.x25_possible.specs.code.Steps.{any, doubted, is_known, played, ready}
+use Rattle.x25_possible.specs.declared.packet.Said.{Said}
+use Rattle.x25_possible.specs.declared.packet.Packet.{Packet}
+use Rattle.x25_possible.specs.declared.packet.Packet.TheVariants.{Call, Accept, Clear, ClearConf, Reset, ResetConf}
+use Rattle.x25_possible.specs.declared.packet.Packet.TheVariants.{Restart, RestartConf, Rr, InterruptConf, Elsewhere}
+use Rattle.x25_possible.specs.declared.packet.Terms.{Terms}
+use Rattle.x25_possible.specs.declared.phase.Phase.{Phase}
+use Rattle.x25_bits.specs.declared.role.Role.{Role}
+use Rattle.x25_bits.specs.declared.role.Role.TheVariants.{Dte, Dce}
+use Rattle.x25_possible.specs.declared.phase.Phase.TheVariants.{Idle}
+
+abbrev pub usual : Terms
+usual = record { calling_size = 128; called_size = 128; calling_window = 2; called_window = 2 }
+
+abbrev pub as_proposed : Said
+as_proposed = record { sizes = None; windows = None }
+
+-- the end called and was accepted; or was called and accepted
+abbrev pub calling : List (Item Packet)
+calling = Other (Accept as_proposed) ∷ Own (Call usual) ∷ []
+
+abbrev pub called : List (Item Packet)
+called = Own (Accept as_proposed) ∷ Other (Call usual) ∷ []
+
+abbrev pub is_nothing : List (Place Phase Packet) → Bool
+is_nothing [] = true
+is_nothing (q ∷ qs) = false
+
+abbrev pub is_told : Role → List (Item Packet) → Bool
+is_told role tape = is_nothing (possible (channel_choices role) (Idle ∷ []) tape)
+
+pub record RowsAreTold : Type 0 where
+  -- P(R) of no data, and a confirmation of no interrupt, while the other end's RESTART is on the way
+  pub pr_behind_restart : is_told Dte (Own (Rr 5) ∷ Other Restart ∷ calling) ≡ true
+  pub conf_behind_restart : is_told Dte (Own InterruptConf ∷ Other Restart ∷ calling) ≡ true
+  -- RR behind its own RESET, while the other end's CLEAR is
+  pub rr_behind_reset : is_told Dce (Own (Rr 0) ∷ Own Reset ∷ Other Clear ∷ called) ≡ true
+  -- on another channel while its RESTART waits
+  pub elsewhere : is_told Dte (Own Elsewhere ∷ Own Restart ∷ []) ≡ true
+  -- P(R) out of range while the other end's RESET and then its CLEAR are
+  pub pr_behind_both : is_told Dte (Own (Rr 4) ∷ Other Clear ∷ Other Reset ∷ calling) ≡ true
+
+pub record RowsAreUntold : Type 0 where
+  -- RESTART again, as timer T20 has it, and one confirmation; CLEAR and RESET again, as T23 and T22 have it
+  pub restart_again : is_told Dte (Own (Call usual) ∷ Other RestartConf ∷ Own Restart ∷ Own Restart ∷ []) ≡ false
+  pub clear_again : is_told Dte (Own (Call usual) ∷ Other ClearConf ∷ Own Clear ∷ Own Clear ∷ calling) ≡ false
+  pub reset_again : is_told Dte (Own (Rr 0) ∷ Other ResetConf ∷ Own Reset ∷ Own Reset ∷ calling) ≡ false
+  -- a CLEAR that came twice, confirmed once, and twice
+  pub answered_once :
+      is_told Dte (Own (Rr 0) ∷ Other (Accept as_proposed) ∷ Own (Call usual) ∷ Own ClearConf ∷ Other Clear
+      ∷ Other Clear ∷ [])
+      ≡ false
+  pub answered_twice : is_told Dte (Own ClearConf ∷ Own ClearConf ∷ Other Clear ∷ Other Clear ∷ calling) ≡ false
+  -- both call: the DCE accepts the call of the DTE, and the DTE's call goes ahead
+  pub collision : is_told Dce (Own (Accept as_proposed) ∷ Other (Call usual) ∷ Own (Call usual) ∷ []) ≡ false
+  -- on other channels while its CLEAR waits
+  pub elsewhere : is_told Dte (Own Elsewhere ∷ Own Clear ∷ Own Elsewhere ∷ calling) ≡ false
+  -- two resets on the way, of which it has taken one
+  pub resets : is_told Dte (Own (Rr 0) ∷ Own ResetConf ∷ Other Reset ∷ Other Reset ∷ calling) ≡ false
+
+-- where a set becomes known that wasn't, and where it doesn't
+pub record RowsAreKnown : Type 0 where
+  -- the other end's RESTART, CLEAR or CALL was seen, and is answered
+  pub restarted : is_known (played (any Dte) (Own RestartConf ∷ Other Restart ∷ [])) ≡ true
+  pub cleared : is_known (played (any Dte) (Own ClearConf ∷ Other Clear ∷ [])) ≡ true
+  pub accepted : is_known (played (any Dte) (Own (Accept as_proposed) ∷ Other (Call usual) ∷ [])) ≡ true
+  -- so is its own
+  pub restart_answered : is_known (played (any Dce) (Other RestartConf ∷ Own Restart ∷ [])) ≡ true
+  pub clear_answered : is_known (played (any Dce) (Other ClearConf ∷ Own Clear ∷ [])) ≡ true
+  pub call_answered : is_known (played (any Dte) calling) ≡ true
+  -- it talks in a call that was seen to begin
+  pub in_call : is_known (played (any Dce) (Own (Rr 0) ∷ calling)) ≡ true
+  -- its RESTART right behind a set-up of the link
+  pub set_up : is_known (played (ready Dte) (Own Restart ∷ [])) ≡ true
+  -- a request alone, a call of before, a call behind what wasn't read
+  pub restarts : is_known (played (any Dte) (Own Restart ∷ [])) ≡ false
+  pub of_before : is_known (played (any Dte) (Own (Rr 0) ∷ Other (Rr 0) ∷ [])) ≡ false
+  pub in_doubt : is_known (played (doubted (any Dte)) (Own (Rr 0) ∷ called)) ≡ false

@@ -1,0 +1,626 @@
+//! What an end may send and take in each state, as the definition has it.
+ghost use Rattle.std.specs.Prelude.{◌≡◌, ◌+◌, ◌<◌, ◌^◌, false};
+ghost use Rattle.x25_possible.specs.Channel as definition;
+ghost use Rattle.x25_possible.specs.Spots.{IsSmall};
+ghost use Rattle.x25_possible.specs.code.Steps.{is_large as large};
+ghost use Rattle.x25_possible.specs.declared.packet.Packet.TheVariants.{Data, Rr};
+ghost use Rattle.x25_possible.specs.declared.phase.Phase.TheVariants.{Talks};
+
+use crate::packet::{Packet, Said, Terms};
+use crate::phase::{Limits, Phase, Talk};
+use x25_bits::Role;
+
+/// Numbers up to here are counted; a set with larger ones says nothing.
+const LARGEST: u32 = 2_000_000_000;
+
+/// What isn't known counts as this number.
+const FAR: u32 = 1_000_000_000;
+
+/// What nothing is known of.
+const NO_LIMITS: Limits = Limits { most: 0, window: 0 };
+
+/// Whether a number is so large that it isn't counted on.
+pub(crate) fn is_large(phase: Phase) -> bool
+    ensures same { result ≡ large phase }
+    ensures small { result ≡ false → IsSmall phase }
+{
+    match phase {
+        Phase::Talks(talk) => {
+            talk.sent > LARGEST
+                || talk.acked > LARGEST
+                || talk.taken > LARGEST
+                || talk.told > LARGEST
+                || talk.owed > LARGEST
+        }
+        _ => false,
+    }
+}
+
+/// The first whole number from `low` on that is this one modulo 8.
+fn nth(low: u32, number: u8) -> u32
+    requires { low < 2 ^ 31 }
+    ensures { result ≡ definition.nth low number }
+{
+    low + (number as u32 + 8 - low % 8) % 8
+}
+
+fn calling_limits(terms: Terms, said: Said) -> Limits
+    ensures { result ≡ definition.calling_limits terms said }
+{
+    Limits {
+        most: match said.sizes {
+            Some(sizes) => sizes.calling,
+            None => terms.calling_size,
+        },
+        window: match said.windows {
+            Some(windows) => windows.calling,
+            None => terms.calling_window,
+        },
+    }
+}
+
+fn called_limits(terms: Terms, said: Said) -> Limits
+    ensures { result ≡ definition.called_limits terms said }
+{
+    Limits {
+        most: match said.sizes {
+            Some(sizes) => sizes.called,
+            None => terms.called_size,
+        },
+        window: match said.windows {
+            Some(windows) => windows.called,
+            None => terms.called_window,
+        },
+    }
+}
+
+fn limits_of(talk: Talk) -> Limits
+    ensures { result ≡ definition.limits_of talk }
+{
+    Limits {
+        most: talk.most,
+        window: talk.window,
+    }
+}
+
+fn fresh(limits: Limits) -> Phase
+    ensures { result ≡ definition.fresh limits }
+{
+    Phase::Talks(Talk {
+        most: limits.most,
+        window: limits.window,
+        sent: 0,
+        acked: 0,
+        taken: 0,
+        told: 0,
+        begun: None,
+        is_out: false,
+        owed: 0,
+    })
+}
+
+fn may_ack(t: u32, talk: Talk, pr: u8) -> bool
+    ensures { result ≡ definition.may_ack t talk pr }
+{
+    pr as u32 == t % 8 && talk.told <= t && t <= talk.taken
+}
+
+fn is_one_message(begun: Option<bool>, q: bool) -> bool
+    ensures { result ≡ definition.is_one_message begun q }
+{
+    match begun {
+        None => true,
+        Some(true) => q,
+        Some(false) => !q,
+    }
+}
+
+fn fits(most: u16, size: u16) -> bool
+    ensures { result ≡ definition.fits most size }
+{
+    most == 0 || size <= most
+}
+
+fn may_number(talk: Talk, ps: u8) -> bool
+    requires { IsSmall (Talks talk) }
+    ensures { result ≡ definition.may_number talk ps }
+{
+    ps as u32 == talk.sent % 8 && talk.sent < talk.acked + 7
+}
+
+fn begun_by(m: bool, q: bool) -> Option<bool>
+    ensures { result ≡ definition.begun_by m q }
+{
+    if m { Some(q) } else { None }
+}
+
+fn may_follow(talk: Talk, q: bool, ps: u8, size: u16) -> bool
+    requires { IsSmall (Talks talk) }
+    ensures { result ≡ definition.may_follow talk q ps size }
+{
+    may_number(talk, ps) && (fits(talk.most, size) && is_one_message(talk.begun, q))
+}
+
+/// Behind a data packet, which says that it took all below `t`.
+fn talked(t: u32, talk: Talk, q: bool, m: bool) -> Talk
+    requires { IsSmall (Talks talk) }
+    ensures { result ≡ record talk { sent = talk.sent + 1; told = t; begun = definition.begun_by m q } }
+{
+    Talk {
+        sent: talk.sent + 1,
+        told: t,
+        begun: begun_by(m, q),
+        ..talk
+    }
+}
+
+fn sends_data(t: u32, talk: Talk, q: bool, m: bool, ps: u8, pr: u8, size: u16) -> Option<Phase>
+    requires { IsSmall (Talks talk) }
+    ensures { result ≡ definition.talk_sends t talk (Data q m ps pr size) }
+{
+    let may = may_ack(t, talk, pr) && may_follow(talk, q, ps, size);
+    if may {
+        Some(Phase::Talks(talked(t, talk, q, m)))
+    } else {
+        None
+    }
+}
+
+/// RR or RNR.
+fn sends_ready(t: u32, talk: Talk, pr: u8) -> Option<Phase>
+    ensures { result ≡ definition.talk_sends t talk (Rr pr) }
+{
+    if may_ack(t, talk, pr) {
+        Some(Phase::Talks(Talk { told: t, ..talk }))
+    } else {
+        None
+    }
+}
+
+fn talk_sends(talk: Talk, packet: Packet) -> Option<Phase>
+    requires { IsSmall (Talks talk) }
+    ensures { result ≡ definition.sends (Talks talk) packet }
+{
+    match packet {
+        Packet::Reset => Some(Phase::Resets(limits_of(talk))),
+        Packet::Clear => Some(Phase::Clears),
+        Packet::Restart => Some(Phase::Restarts),
+        Packet::Data { q, m, ps, pr, size } => sends_data(
+            nth(talk.told, pr),
+            talk,
+            q,
+            m,
+            ps,
+            pr,
+            size,
+        ),
+        Packet::Rr(pr) | Packet::Rnr(pr) => sends_ready(nth(talk.told, pr), talk, pr),
+        Packet::Interrupt => {
+            if talk.is_out {
+                None
+            } else {
+                Some(Phase::Talks(Talk {
+                    is_out: true,
+                    ..talk
+                }))
+            }
+        }
+        Packet::InterruptConf => {
+            if talk.owed > 0 {
+                Some(Phase::Talks(Talk {
+                    owed: talk.owed - 1,
+                    ..talk
+                }))
+            } else {
+                None
+            }
+        }
+        Packet::Elsewhere => Some(Phase::Talks(talk)),
+        _ => None,
+    }
+}
+
+/// What ends the call, or all; and what goes on another channel.
+fn ending_sends(phase: Phase, packet: Packet) -> Option<Phase>
+    ensures { result ≡ definition.ending_sends phase packet }
+{
+    match packet {
+        Packet::Clear => Some(Phase::Clears),
+        Packet::Restart => Some(Phase::Restarts),
+        Packet::Elsewhere => Some(phase),
+        _ => None,
+    }
+}
+
+fn silent_sends(packet: Packet) -> Option<Phase>
+    ensures { result ≡ definition.silent_sends packet }
+{
+    match packet {
+        Packet::Restart => Some(Phase::Restarts),
+        _ => None,
+    }
+}
+
+fn idle_sends(packet: Packet) -> Option<Phase>
+    ensures { result ≡ definition.idle_sends packet }
+{
+    match packet {
+        Packet::Call(terms) => Some(Phase::Calls(terms)),
+        _ => ending_sends(Phase::Idle, packet),
+    }
+}
+
+fn called_sends(terms: Terms, packet: Packet) -> Option<Phase>
+    ensures { result ≡ definition.called_sends terms packet }
+{
+    match packet {
+        Packet::Accept(said) => Some(fresh(called_limits(terms, said))),
+        _ => ending_sends(Phase::WasCalled(terms), packet),
+    }
+}
+
+fn free_sends(packet: Packet) -> Option<Phase>
+    ensures { result ≡ definition.free_sends packet }
+{
+    match packet {
+        Packet::Data { .. }
+        | Packet::Rr(_)
+        | Packet::Rnr(_)
+        | Packet::Interrupt
+        | Packet::InterruptConf => Some(Phase::Free),
+        Packet::Reset => Some(Phase::Resets(NO_LIMITS)),
+        _ => ending_sends(Phase::Free, packet),
+    }
+}
+
+fn resets_sends(limits: Limits, packet: Packet) -> Option<Phase>
+    ensures { result ≡ definition.resets_sends limits packet }
+{
+    match packet {
+        Packet::Reset => Some(Phase::Resets(limits)),
+        _ => ending_sends(Phase::Resets(limits), packet),
+    }
+}
+
+fn reset_sends(limits: Limits, packet: Packet) -> Option<Phase>
+    ensures { result ≡ definition.reset_sends limits packet }
+{
+    match packet {
+        Packet::ResetConf => Some(fresh(limits)),
+        _ => ending_sends(Phase::WasReset(limits), packet),
+    }
+}
+
+fn clears_sends(packet: Packet) -> Option<Phase>
+    ensures { result ≡ definition.clears_sends packet }
+{
+    match packet {
+        Packet::Clear | Packet::Elsewhere => Some(Phase::Clears),
+        _ => silent_sends(packet),
+    }
+}
+
+fn cleared_sends(packet: Packet) -> Option<Phase>
+    ensures { result ≡ definition.cleared_sends packet }
+{
+    match packet {
+        Packet::ClearConf => Some(Phase::Idle),
+        Packet::Elsewhere => Some(Phase::WasCleared),
+        _ => silent_sends(packet),
+    }
+}
+
+fn restarted_sends(packet: Packet) -> Option<Phase>
+    ensures { result ≡ definition.restarted_sends packet }
+{
+    match packet {
+        Packet::RestartConf => Some(Phase::Idle),
+        _ => silent_sends(packet),
+    }
+}
+
+/// Where it is behind a packet that it sends; None where it may not.
+pub(crate) fn sends(phase: Phase, packet: Packet) -> Option<Phase>
+    requires { IsSmall phase }
+    ensures { result ≡ definition.sends phase packet }
+{
+    match phase {
+        Phase::Idle => idle_sends(packet),
+        Phase::Calls(_) => ending_sends(phase, packet),
+        Phase::WasCalled(terms) => called_sends(terms, packet),
+        Phase::Talks(talk) => talk_sends(talk, packet),
+        Phase::Free => free_sends(packet),
+        Phase::Resets(limits) => resets_sends(limits, packet),
+        Phase::WasReset(limits) => reset_sends(limits, packet),
+        Phase::Clears => clears_sends(packet),
+        Phase::Restarts => silent_sends(packet),
+        Phase::WasCleared => cleared_sends(packet),
+        Phase::WasRestarted => restarted_sends(packet),
+    }
+}
+
+/// What it makes of what comes in the stretch.
+fn heard(talk: Talk, packet: Packet) -> Talk
+    requires { IsSmall (Talks talk) }
+    ensures { result ≡ definition.heard talk packet }
+{
+    match packet {
+        Packet::Data { ps, pr, .. } => Talk {
+            acked: nth(talk.acked, pr),
+            taken: if ps as u32 == talk.taken % 8 {
+                talk.taken + 1
+            } else {
+                talk.taken
+            },
+            ..talk
+        },
+        Packet::Rr(pr) | Packet::Rnr(pr) => Talk {
+            acked: nth(talk.acked, pr),
+            ..talk
+        },
+        Packet::Interrupt => Talk {
+            owed: talk.owed + 1,
+            ..talk
+        },
+        Packet::InterruptConf => Talk {
+            is_out: false,
+            ..talk
+        },
+        _ => talk,
+    }
+}
+
+fn ended_by(packet: Packet, phase: Phase) -> Phase
+    ensures { result ≡ definition.ended_by packet phase }
+{
+    match packet {
+        Packet::Clear => Phase::WasCleared,
+        Packet::Restart => Phase::WasRestarted,
+        _ => phase,
+    }
+}
+
+fn calls_takes(role: Role, terms: Terms, packet: Packet) -> Phase
+    ensures { result ≡ definition.calls_takes role terms packet }
+{
+    match packet {
+        Packet::Call(theirs) => match role {
+            Role::Dte => Phase::Calls(terms),
+            Role::Dce => Phase::WasCalled(theirs),
+        },
+        Packet::Accept(said) => fresh(calling_limits(terms, said)),
+        _ => ended_by(packet, Phase::Calls(terms)),
+    }
+}
+
+fn idle_takes(packet: Packet) -> Phase
+    ensures { result ≡ definition.idle_takes packet }
+{
+    match packet {
+        Packet::Call(terms) => Phase::WasCalled(terms),
+        _ => ended_by(packet, Phase::Idle),
+    }
+}
+
+fn talk_takes(talk: Talk, packet: Packet) -> Phase
+    requires { IsSmall (Talks talk) }
+    ensures { result ≡ definition.talk_takes talk packet }
+{
+    match packet {
+        Packet::Reset => Phase::WasReset(limits_of(talk)),
+        _ => ended_by(packet, Phase::Talks(heard(talk, packet))),
+    }
+}
+
+fn free_takes(packet: Packet) -> Phase
+    ensures { result ≡ definition.free_takes packet }
+{
+    match packet {
+        Packet::Reset => Phase::WasReset(NO_LIMITS),
+        _ => ended_by(packet, Phase::Free),
+    }
+}
+
+fn resets_takes(limits: Limits, packet: Packet) -> Phase
+    ensures { result ≡ definition.resets_takes limits packet }
+{
+    match packet {
+        Packet::Reset | Packet::ResetConf => fresh(limits),
+        _ => ended_by(packet, Phase::Resets(limits)),
+    }
+}
+
+fn clears_takes(packet: Packet) -> Phase
+    ensures { result ≡ definition.clears_takes packet }
+{
+    match packet {
+        Packet::Clear | Packet::ClearConf => Phase::Idle,
+        Packet::Restart => Phase::WasRestarted,
+        _ => Phase::Clears,
+    }
+}
+
+fn restarts_takes(packet: Packet) -> Phase
+    ensures { result ≡ definition.restarts_takes packet }
+{
+    match packet {
+        Packet::Restart | Packet::RestartConf => Phase::Idle,
+        _ => Phase::Restarts,
+    }
+}
+
+fn reset_takes(limits: Limits, packet: Packet) -> Option<Phase>
+    ensures { result ≡ definition.reset_takes limits packet }
+{
+    match packet {
+        Packet::Reset => Some(Phase::WasReset(limits)),
+        _ => None,
+    }
+}
+
+fn cleared_takes(packet: Packet) -> Option<Phase>
+    ensures { result ≡ definition.cleared_takes packet }
+{
+    match packet {
+        Packet::Clear => Some(Phase::WasCleared),
+        _ => None,
+    }
+}
+
+fn restarted_takes(packet: Packet) -> Option<Phase>
+    ensures { result ≡ definition.restarted_takes packet }
+{
+    match packet {
+        Packet::Restart => Some(Phase::WasRestarted),
+        _ => None,
+    }
+}
+
+/// Where it is behind a packet that comes; None where it has to answer first.
+pub(crate) fn takes(role: Role, phase: Phase, packet: Packet) -> Option<Phase>
+    requires { IsSmall phase }
+    ensures { result ≡ definition.takes role phase packet }
+{
+    match phase {
+        Phase::Idle => Some(idle_takes(packet)),
+        Phase::Calls(terms) => Some(calls_takes(role, terms, packet)),
+        Phase::WasCalled(terms) => Some(ended_by(packet, Phase::WasCalled(terms))),
+        Phase::Talks(talk) => Some(talk_takes(talk, packet)),
+        Phase::Free => Some(free_takes(packet)),
+        Phase::Resets(limits) => Some(resets_takes(limits, packet)),
+        Phase::WasReset(limits) => reset_takes(limits, packet),
+        Phase::Clears => Some(clears_takes(packet)),
+        Phase::WasCleared => cleared_takes(packet),
+        Phase::Restarts => Some(restarts_takes(packet)),
+        Phase::WasRestarted => restarted_takes(packet),
+    }
+}
+
+fn dropped(packet: Packet, phase: Phase) -> Option<Phase>
+    ensures { result ≡ definition.dropped packet phase }
+{
+    match packet {
+        Packet::Data { .. }
+        | Packet::Rr(_)
+        | Packet::Rnr(_)
+        | Packet::Interrupt
+        | Packet::InterruptConf
+        | Packet::Elsewhere => Some(phase),
+        _ => None,
+    }
+}
+
+fn dropped_in_call(packet: Packet, phase: Phase) -> Option<Phase>
+    ensures { result ≡ definition.dropped_in_call packet phase }
+{
+    match packet {
+        Packet::Call(_) | Packet::Accept(_) => Some(phase),
+        _ => dropped(packet, phase),
+    }
+}
+
+fn talk_at_once(talk: Talk, packet: Packet) -> Option<Phase>
+    requires { IsSmall (Talks talk) }
+    ensures { result ≡ definition.talk_at_once talk packet }
+{
+    let next = Phase::Talks(heard(talk, packet));
+    match packet {
+        Packet::InterruptConf => if talk.is_out { Some(next) } else { None },
+        _ => dropped_in_call(packet, next),
+    }
+}
+
+/// Where it is behind a packet that comes and may be taken at once.
+pub(crate) fn at_once(phase: Phase, packet: Packet) -> Option<Phase>
+    requires { IsSmall phase }
+    ensures { result ≡ definition.at_once phase packet }
+{
+    match phase {
+        Phase::Talks(talk) => talk_at_once(talk, packet),
+        Phase::Idle | Phase::Calls(_) => dropped(packet, phase),
+        Phase::Free | Phase::Resets(_) => dropped_in_call(packet, phase),
+        Phase::Clears => match packet {
+            Packet::Clear | Packet::ClearConf | Packet::Restart | Packet::RestartConf => None,
+            _ => Some(phase),
+        },
+        Phase::Restarts => match packet {
+            Packet::Restart | Packet::RestartConf => None,
+            _ => Some(phase),
+        },
+        _ => None,
+    }
+}
+
+// ---- beside the rules
+
+/// Whether it keeps the window of the call, and M=1 in full packets alone.
+pub(crate) fn is_polite(phase: Phase, packet: Packet) -> bool
+    requires { IsSmall phase }
+    ensures { result ≡ definition.is_polite phase packet }
+{
+    match (phase, packet) {
+        (Phase::Talks(talk), Packet::Data { m, size, .. }) => {
+            (talk.window == 0 || talk.sent < talk.acked + talk.window as u32)
+                && (!m || talk.most <= size)
+        }
+        _ => true,
+    }
+}
+
+/// Numbers go on behind a P(R) that is out of range.
+fn unacked(talk: Talk) -> Talk
+    ensures { result ≡ record talk { acked = definition.far; taken = definition.far } }
+{
+    Talk {
+        acked: FAR,
+        taken: FAR,
+        ..talk
+    }
+}
+
+fn next_sent(ps: u8, sent: u32) -> u32
+    requires { sent < 2 ^ 31 }
+    ensures { result ≡ definition.next_sent ps sent }
+{
+    if ps as u32 == sent % 8 {
+        sent + 1
+    } else {
+        ps as u32 + 1
+    }
+}
+
+fn talks_on(talk: Talk, packet: Packet) -> Option<Phase>
+    requires { IsSmall (Talks talk) }
+    ensures { result ≡ definition.talks_on talk packet }
+{
+    match packet {
+        Packet::Data { q, m, ps, pr, .. } => {
+            let t = nth(talk.told, pr);
+            let may = may_ack(t, talk, pr) && may_number(talk, ps);
+            if may {
+                Some(Phase::Talks(talked(t, talk, q, m)))
+            } else {
+                Some(Phase::Talks(Talk {
+                    sent: next_sent(ps, talk.sent),
+                    acked: FAR,
+                    taken: FAR,
+                    begun: begun_by(m, q),
+                    ..talk
+                }))
+            }
+        }
+        Packet::Rr(_) | Packet::Rnr(_) => Some(Phase::Talks(unacked(talk))),
+        _ => None,
+    }
+}
+
+/// Where numbers go on behind a packet that breaks a rule of them, of the size or of Q.
+pub(crate) fn goes_on(phase: Phase, packet: Packet) -> Option<Phase>
+    requires { IsSmall phase }
+    ensures { result ≡ definition.goes_on phase packet }
+{
+    match phase {
+        Phase::Talks(talk) => talks_on(talk, packet),
+        _ => None,
+    }
+}

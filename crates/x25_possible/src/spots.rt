@@ -1,0 +1,347 @@
+//! The states in which an end may be, in a fixed room: each with the place on the way up to which it has come.
+ghost use Rattle.std.specs.Prelude.{◌≡◌, None, [], drop, true};
+ghost use Rattle.x25_possible.specs.code.Steps as definition;
+ghost use Rattle.x25_possible.specs.declared.phase.Phase.TheVariants.{Idle};
+
+use crate::channel::{at_once, goes_on, is_large, is_polite, sends, takes};
+use crate::packet::Packet;
+use crate::phase::{Limits, Phase};
+use arrayvec::ArrayVec;
+use x25_bits::Role;
+
+/// A state, and how much of what is on the way has come.
+#[derive(Clone, Copy, Default)]
+pub struct Spot {
+    pub phase: Phase,
+    pub at: usize,
+}
+
+pub type Spots = ArrayVec<Spot, 8>;
+
+fn same_limits(one: Limits, two: Limits) -> bool
+    ensures { result ≡ definition.same_limits one two }
+{
+    one.most == two.most && one.window == two.window
+}
+
+/// Whether two states are surely one.
+fn is_same(one: Phase, two: Phase) -> bool
+    ensures { result ≡ definition.is_same one two }
+{
+    match (one, two) {
+        (Phase::Idle, Phase::Idle) => true,
+        (Phase::Free, Phase::Free) => true,
+        (Phase::Clears, Phase::Clears) => true,
+        (Phase::WasCleared, Phase::WasCleared) => true,
+        (Phase::Restarts, Phase::Restarts) => true,
+        (Phase::WasRestarted, Phase::WasRestarted) => true,
+        (Phase::Resets(one), Phase::Resets(two)) => same_limits(one, two),
+        (Phase::WasReset(one), Phase::WasReset(two)) => same_limits(one, two),
+        _ => false,
+    }
+}
+
+fn is_there(spots: &[Spot], spot: Spot) -> bool
+    ensures { result ≡ definition.is_there spot spots.now }
+{
+    for other in spots {
+        if other.at == spot.at && is_same(other.phase, spot.phase) {
+            return true;
+        }
+    }
+    false
+}
+
+/// Adds one that isn't there. False: no room.
+fn keep(out: &mut Spots, spot: Spot) -> bool
+    ensures { definition.made result out.new.items ≡ definition.kept spot out.old.items }
+{
+    if is_there(out.as_slice(), spot) {
+        return true;
+    }
+    if out.is_full() {
+        return false;
+    }
+    out.push(spot);
+    true
+}
+
+/// Adds all to which it comes from there on. False: no room.
+fn settle(role: Role, phase: Phase, at: usize, way: &[Packet], out: &mut Spots) -> bool
+    ensures { definition.made result out.new.items ≡ definition.settles role at (drop at way.now) phase out.old.items }
+{
+    if is_large(phase) {
+        return false;
+    }
+    if at >= way.len() {
+        return keep(out, Spot { phase, at });
+    }
+    if let Some(next) = at_once(phase, way[at]) {
+        return settle(role, next, at + 1, way, out);
+    }
+    if !keep(out, Spot { phase, at }) {
+        return false;
+    }
+    match takes(role, phase, way[at]) {
+        None => true,
+        Some(next) => settle(role, next, at + 1, way, out),
+    }
+}
+
+/// Adds all that one comes to as the end sends a packet, by the rules, or where that breaks one. False: no room.
+fn goes(
+    breaks: bool,
+    role: Role,
+    spot: Spot,
+    way: &[Packet],
+    packet: Packet,
+    out: &mut Spots,
+) -> bool
+    ensures { definition.made result out.new.items ≡ definition.goes breaks role way.now packet spot out.old.items }
+{
+    if is_large(spot.phase) {
+        return false;
+    }
+    let next = if breaks {
+        goes_on(spot.phase, packet)
+    } else {
+        sends(spot.phase, packet)
+    };
+    match next {
+        None => true,
+        Some(next) => settle(role, next, spot.at, way, out),
+    }
+}
+
+fn go_all(
+    breaks: bool,
+    role: Role,
+    spots: &[Spot],
+    way: &[Packet],
+    packet: Packet,
+    out: &mut Spots,
+) -> bool
+    ensures { definition.made result out.new.items
+        ≡ definition.go_all breaks role way.now packet spots.now out.old.items }
+{
+    for spot in spots {
+        if !goes(breaks, role, *spot, way, packet, out) {
+            return false;
+        }
+    }
+    true
+}
+
+/// Adds all that one comes to as the other end sends a packet, the last on the way. False: no room.
+fn grows(role: Role, spot: Spot, last: usize, way: &[Packet], out: &mut Spots) -> bool
+    ensures { definition.made result out.new.items ≡ definition.grows role last way.now spot out.old.items }
+{
+    if spot.at >= last {
+        settle(role, spot.phase, last, way, out)
+    } else {
+        keep(out, spot)
+    }
+}
+
+fn grow_all(role: Role, spots: &[Spot], last: usize, way: &[Packet], out: &mut Spots) -> bool
+    ensures { definition.made result out.new.items ≡ definition.grow_all role last way.now spots.now out.old.items }
+{
+    for spot in spots {
+        if !grows(role, *spot, last, way, out) {
+            return false;
+        }
+    }
+    true
+}
+
+fn is_past(spots: &[Spot], end: usize) -> bool
+    ensures { result ≡ definition.are_at_end end spots.now }
+{
+    for spot in spots {
+        if spot.at < end {
+            return false;
+        }
+    }
+    true
+}
+
+/// Adds all, with nothing on the way. False: no room.
+fn anew_all(spots: &[Spot], out: &mut Spots) -> bool
+    ensures { definition.made result out.new.items ≡ definition.anew spots.now out.old.items }
+{
+    for spot in spots {
+        if !keep(
+            out,
+            Spot {
+                phase: spot.phase,
+                at: 0,
+            },
+        ) {
+            return false;
+        }
+    }
+    true
+}
+
+// ---- a new list; None: no room
+
+pub(crate) fn gone(
+    breaks: bool,
+    role: Role,
+    spots: &Spots,
+    way: &ArrayVec<Packet, 16>,
+    packet: Packet,
+) -> Option<Spots>
+    ensures { definition.listed result
+        ≡ definition.go_all breaks role way.now.items packet spots.now.items [] }
+{
+    let mut out = Spots::new();
+    if go_all(
+        breaks,
+        role,
+        spots.as_slice(),
+        way.as_slice(),
+        packet,
+        &mut out,
+    ) {
+        Some(out)
+    } else {
+        None
+    }
+}
+
+/// With `last` in front of the last packet on the way.
+pub(crate) fn grown(
+    role: Role,
+    spots: &Spots,
+    last: usize,
+    way: &ArrayVec<Packet, 16>,
+) -> Option<Spots>
+    ensures { definition.listed result ≡ definition.grow_all role last way.now.items spots.now.items [] }
+{
+    let mut out = Spots::new();
+    if grow_all(role, spots.as_slice(), last, way.as_slice(), &mut out) {
+        Some(out)
+    } else {
+        None
+    }
+}
+
+pub(crate) fn anew(spots: &Spots) -> Option<Spots>
+    ensures { definition.listed result ≡ definition.anew spots.now.items [] }
+{
+    let mut out = Spots::new();
+    if anew_all(spots.as_slice(), &mut out) {
+        Some(out)
+    } else {
+        None
+    }
+}
+
+/// Whether each has come to the end of the way.
+pub(crate) fn are_at_end(spots: &Spots, end: usize) -> bool
+    ensures { result ≡ definition.are_at_end end spots.now.items }
+{
+    is_past(spots.as_slice(), end)
+}
+
+// ---- what is told
+
+fn must_answer(phase: Phase) -> bool
+    ensures { result ≡ definition.must_answer phase }
+{
+    matches!(
+        phase,
+        Phase::WasReset(_) | Phase::WasCleared | Phase::WasRestarted
+    )
+}
+
+/// The first state of those that have taken most, and have nothing to answer.
+pub(crate) fn latest(spots: &[Spot]) -> Phase
+    ensures { result ≡ definition.latest_from true Idle 0 spots.now }
+{
+    let mut phase = Phase::Idle;
+    let mut at = 0;
+    let mut is_first = true;
+    for spot in spots {
+        if (is_first || spot.at > at) && !must_answer(spot.phase) {
+            phase = spot.phase;
+            at = spot.at;
+            is_first = false;
+        }
+    }
+    phase
+}
+
+fn may_send(phase: Phase, packet: Packet) -> bool
+    ensures { result ≡ definition.may_send phase packet }
+{
+    if is_large(phase) {
+        return false;
+    }
+    sends(phase, packet).is_some()
+}
+
+/// The last state that may send a packet, where none may politely.
+pub(crate) fn rude(spots: &[Spot], packet: Packet) -> Option<Phase>
+    ensures { result ≡ definition.rude_from packet None spots.now }
+{
+    let mut found = None;
+    for spot in spots {
+        if may_send(spot.phase, packet) {
+            if is_polite(spot.phase, packet) {
+                return None;
+            }
+            found = Some(spot.phase);
+        }
+    }
+    found
+}
+
+// ---- what makes a set known
+
+pub(crate) fn is_one_idle(spots: &[Spot]) -> bool
+    ensures { result ≡ definition.is_one_idle spots.now }
+{
+    for spot in spots {
+        if matches!(spot.phase, Phase::Idle) {
+            return true;
+        }
+    }
+    false
+}
+
+/// Whether each is of a call of which something is known, or of none.
+pub(crate) fn are_bound(spots: &[Spot]) -> bool
+    ensures { result ≡ definition.are_bound spots.now }
+{
+    for spot in spots {
+        if matches!(spot.phase, Phase::Free) {
+            return false;
+        }
+    }
+    true
+}
+
+/// Whether a state waits for such a packet; of a DCE that called, the DTE may have called before.
+fn is_answered(role: Role, packet: Packet, phase: Phase) -> bool
+    ensures { result ≡ definition.is_answered role packet phase }
+{
+    match phase {
+        Phase::Restarts => matches!(packet, Packet::Restart | Packet::RestartConf),
+        Phase::Clears => matches!(packet, Packet::Clear | Packet::ClearConf),
+        Phase::Calls(_) => matches!(packet, Packet::Accept(_)) && matches!(role, Role::Dte),
+        _ => false,
+    }
+}
+
+pub(crate) fn are_answered(role: Role, spots: &[Spot], packet: Packet) -> bool
+    ensures { result ≡ definition.are_answered role packet spots.now }
+{
+    for spot in spots {
+        if !is_answered(role, packet, spot.phase) {
+            return false;
+        }
+    }
+    true
+}

@@ -1,0 +1,256 @@
+-- A peer of the packet layer keeps the rules of a channel.
+use Rattle.std.proofs.Common.{◌≡◌, ℕ, ◌+◌, ◌-◌, ◌%◌, ◌^◌, List, [], ◌∷◌, ◌++◌, length, Option, Some, None, Bool, true, false}
+use Rattle.std.proofs.Common.{refl, sym, ap, ap₂, ◌∙◌, arith, cond, ◌==◌, ◌&&◌, ◌||◌, nat_le, nat_lt, not, if◌then◌else◌, Ok, Err, Result}
+use Rattle.std.proofs.Math.Bool.{or-true}
+use Rattle.std.proofs.lemmas.Bool.{and_from, eq-eqb, le-leb, lt-ltb}
+use Rattle.std.proofs.lemmas.List.{length_push}
+use Rattle.std.proofs.lemmas.Option.{none-some}
+use Rattle.x25_circuit.specs.Message.{Piece, More, Last, Partial, no_part, joining, joined, may_have_q, q_of, user_of}
+use Rattle.x25_handshakes.specs.laws.Handshake.{Side, Live, Left, At}
+use Rattle.x25_bits.specs.declared.role.Role.{Role}
+use Rattle.x25_bits.specs.declared.role.Role.TheVariants.{Dte, Dce}
+use Rattle.x25_packet.specs.Facilities.{facilities_of}
+use Rattle.x25_packet.specs.declared.error.PacketError.{PacketError}
+use Rattle.x25_packet.specs.declared.facilities.Directions.{Directions}
+use Rattle.x25_packet.specs.declared.facilities.Facilities.{Facilities}
+use Rattle.x25_circuit.specs.Notice.{CallRequest}
+use Rattle.x25_circuit.specs.Params.{said_or, said_by, said_in, sizes_of as directions_of}
+use Rattle.x25_circuit.specs.declared.params.Params.{Params}
+use Rattle.x25_handshakes.specs.laws.Stretch as theirs
+use Rattle.x25_handshakes.specs.laws.PeerTransfer.{TransferDeed, InStretch, Resets, MayDoTransfer, does_transfer, transfer_packet_of, transfer_taking}
+use Rattle.x25_handshakes.specs.laws.PeerCalls.{Stage, Free, Calling, Called, Collided, InData, CallDeed, PlacesCall, AcceptsCall, InTransfer}
+use Rattle.x25_handshakes.specs.laws.PeerCalls.{MayDoCall, does_call, call_packet_of, call_taking, calling_in_data, stands}
+use Rattle.x25_handshakes.specs.laws.PeerChannel.{InCall, Clears}
+use Rattle.x25_handshakes.specs.laws.PeerStretch as stretch
+use Rattle.x25_handshakes.specs.laws.PeerStretch.{PeerStretch, Deed, Sends, Says, Interrupts, Confirms}
+use Rattle.x25_possible.specs.Channel.{fits as within, called_size, calling_size, may_number}
+use Rattle.x25_possible.specs.Channel.{may_ack, may_follow, is_one_message, talked, talk_sends, sends_as, takes, nth, fresh}
+use Rattle.x25_possible.specs.declared.phase.Phase.TheVariants as phase
+use Rattle.x25_possible.specs.declared.packet.Packet.TheVariants as item
+use Rattle.x25_possible_peers.specs.laws.Peers.{talk_of, item_of, data_of, transfer_phase, stage_phase, sizes_by, sizes_in, said_of, terms_of, limits}
+use Rattle.x25_possible_peers.specs.laws.Peers.{DeedsAreSends, PacketsAreTaken, IsTakenSo, IsNextAt, IsNext, IsOfRole}
+
+joining_push : (j : Partial) (ps : List Piece) (p : Piece) → joining j (ps ++ p ∷ []) ≡ joined (joining j ps) p
+joining_push j [] p = refl
+joining_push j (q ∷ qs) p = joining_push (joined j q) qs p
+
+-- which packets may follow
+record Fitting (size n : ℕ) (begun : Option Bool) (q : Bool) : Type 0 where
+  small : nat_le n size ≡ true
+  same : may_have_q begun q ≡ true
+
+abbrev grounds : Bool → Bool → Bool → Option ℕ
+grounds a b c = if a then (if b then (if c then None else Some 83) else Some 39) else Some 39
+
+fitting : (size n m : ℕ) (begun : Option Bool) (q : Bool)
+    → grounds (nat_le n size) (nat_le m 65535) (may_have_q begun q) ≡ None → Fitting size n begun q
+fitting size n m begun q h = go (nat_le n size) (nat_le m 65535) (may_have_q begun q) refl refl h
+  where
+    go : (a b c : Bool) → nat_le n size ≡ a → may_have_q begun q ≡ c → grounds a b c ≡ None
+        → Fitting size n begun q
+    go true true true e f h = record { small = e; same = f }
+    go true true false e f h = absurd (none-some 83 (sym h))
+    go true false c e f h = absurd (none-some 39 (sym h))
+    go false b c e f h = absurd (none-some 39 (sym h))
+
+same_message : (begun : Option Bool) (q : Bool) → may_have_q begun q ≡ true → is_one_message begun q ≡ true
+same_message None q h = refl
+same_message (Some true) q h = h
+same_message (Some false) true h = h
+same_message (Some false) false h = refl
+
+acks : (size : ℕ) (y : PeerStretch) (n : ℕ) → stretch.MayAcknowledge y n → may_ack n (talk_of size y) (n % 8) ≡ true
+acks size y n may =
+    and_from (n % 8 == n % 8 && nat_le y.told n) (nat_le n (length y.taken))
+    (and_from (n % 8 == n % 8) (nat_le y.told n) (eq-eqb (n % 8) (n % 8) refl) (le-leb y.told n may.rising))
+    (le-leb n (length y.taken) may.taken)
+
+follows : (size : ℕ) (y : PeerStretch) (p : Piece) → stretch.MayFollow size y p
+    → may_follow (talk_of size y) (q_of p) (length y.sent % 8) (length (user_of p)) ≡ true
+follows size y p may =
+    let fits = fitting size (length (user_of p)) (length (joining no_part y.sent).user + length (user_of p)) (joining no_part y.sent).begun (q_of p) may.fits in
+    and_from (may_number (talk_of size y) (length y.sent % 8))
+    (within size (length (user_of p)) && is_one_message (joining no_part y.sent).begun (q_of p))
+    (and_from (length y.sent % 8 == length y.sent % 8) (nat_lt (length y.sent) (y.acked + 7))
+    (eq-eqb (length y.sent % 8) (length y.sent % 8) refl) (lt-ltb (length y.sent) (y.acked + 7) may.window))
+    (and_from (within size (length (user_of p))) (is_one_message (joining no_part y.sent).begun (q_of p))
+    (ap (λ b. size == 0 || b) fits.small ∙ or-true (size == 0))
+    (same_message (joining no_part y.sent).begun (q_of p) fits.same))
+
+sends_then : (b : Bool) (j k : _) → b ≡ true → j ≡ k → cond b (Some (phase.Talks j)) None ≡ Some (phase.Talks k)
+sends_then b j k e f = ap (λ c. cond c (Some (phase.Talks j)) None) e ∙ ap (λ t. Some (phase.Talks t)) f
+
+-- ---- d1
+
+stretch_sends : (size : ℕ) (y : PeerStretch) (d : Deed) → stretch.MayDo size y d
+    → (t : ℕ) × (talk_sends t (talk_of size y) (item_of (stretch.packet_of y d)) ≡ Some (phase.Talks (talk_of size (stretch.does y d))))
+stretch_sends size y (Sends (More q user) n) may = (
+  n,
+  sends_then (may_ack n (talk_of size y) (n % 8) && may_follow (talk_of size y) q (length y.sent % 8) (length user))
+      (talked n (talk_of size y) (data_of (length y.sent % 8) (n % 8) (More q user))) (talk_of size (stretch.does y (Sends (More q user) n)))
+      (and_from (may_ack n (talk_of size y) (n % 8)) (may_follow (talk_of size y) q (length y.sent % 8) (length user))
+      (acks size y n may.0) (follows size y (More q user) may.1))
+      (ap₂ (λ m b. record (talk_of size y) { sent = m; told = n; begun = b }) (sym (length_push y.sent (More q user)))
+      (ap (λ j. j.begun) (sym (joining_push no_part y.sent (More q user))))),
+)
+stretch_sends size y (Sends (Last q user) n) may = (
+  n,
+  sends_then (may_ack n (talk_of size y) (n % 8) && may_follow (talk_of size y) q (length y.sent % 8) (length user))
+      (talked n (talk_of size y) (data_of (length y.sent % 8) (n % 8) (Last q user))) (talk_of size (stretch.does y (Sends (Last q user) n)))
+      (and_from (may_ack n (talk_of size y) (n % 8)) (may_follow (talk_of size y) q (length y.sent % 8) (length user))
+      (acks size y n may.0) (follows size y (Last q user) may.1))
+      (ap₂ (λ m b. record (talk_of size y) { sent = m; told = n; begun = b }) (sym (length_push y.sent (Last q user)))
+      (ap (λ j. j.begun) (sym (joining_push no_part y.sent (Last q user))))),
+)
+stretch_sends size y (Says true n) may =
+    (n, sends_then (may_ack n (talk_of size y) (n % 8)) (record (talk_of size y) { told = n }) (record (talk_of size y) { told = n }) (acks size y n may) refl)
+stretch_sends size y (Says false n) may =
+    (n, sends_then (may_ack n (talk_of size y) (n % 8)) (record (talk_of size y) { told = n }) (record (talk_of size y) { told = n }) (acks size y n may) refl)
+stretch_sends size y (Interrupts user) may =
+    (0, sends_then (not y.int_out) (record (talk_of size y) { is_out = true }) (record (talk_of size y) { is_out = true }) (ap not may) refl)
+stretch_sends size y Confirms may = (
+  0,
+  sends_then (nat_lt 0 y.owed) (record (talk_of size y) { owed = y.owed - 1 }) (record (talk_of size y) { owed = y.owed - 1 })
+      (lt-ltb 0 y.owed (omega (arith, may))) refl,
+)
+
+transfer_sends : (size e : ℕ) (y : Side PeerStretch) (d : TransferDeed) → MayDoTransfer size y d
+    → (t : ℕ) × (sends_as t (transfer_phase size y) (item_of (transfer_packet_of y d)) ≡ Some (transfer_phase size (does_transfer e y d).side))
+transfer_sends size e (Live y) (InStretch d) may = stretch_sends size y d may
+transfer_sends size e (Live y) Resets may = (0, refl)
+transfer_sends size e (Left y) d may = absurd may
+
+-- ---- calls
+
+called_most : (known : Params) (r : Result Facilities PacketError)
+    → called_size (2 ^ known.size_called) (sizes_in r) ≡ 2 ^ (said_by known r).size_called
+called_most known (Ok f) = by_sizes f.packet_size
+  where
+    by_sizes : (o : Option Directions)
+        → called_size (2 ^ known.size_called) (sizes_by o) ≡ 2 ^ (said_or (directions_of known) o).called
+    by_sizes None = refl
+    by_sizes (Some said) = refl
+called_most known (Err e) = refl
+
+calling_most : (known : Params) (r : Result Facilities PacketError)
+    → calling_size (2 ^ known.size_calling) (sizes_in r) ≡ 2 ^ (said_by known r).size_calling
+calling_most known (Ok f) = by_sizes f.packet_size
+  where
+    by_sizes : (o : Option Directions)
+        → calling_size (2 ^ known.size_calling) (sizes_by o) ≡ 2 ^ (said_or (directions_of known) o).calling
+    by_sizes None = refl
+    by_sizes (Some said) = refl
+calling_most known (Err e) = refl
+
+call_sends : (stage : Stage (At PeerStretch)) (m i : List CallRequest) (d : CallDeed) → MayDoCall stage d
+    → (t : ℕ) × (sends_as t (stage_phase stage) (item_of (call_packet_of stage d)) ≡ Some (stage_phase (does_call stage m i d).stage))
+call_sends Free m i (PlacesCall n) may = (0, refl)
+call_sends (Called theirs) m i (AcceptsCall field) may = (0, ap (λ n. Some (fresh (limits n))) (called_most theirs (facilities_of field)))
+call_sends (InData t b at) m i (InTransfer d) may = transfer_sends t.size at.epoch at.side d may
+call_sends stage m i d may = absurd may
+
+transfer_clears : (size : ℕ) (y : Side PeerStretch) → sends_as 0 (transfer_phase size y) item.Clear ≡ Some phase.Clears
+transfer_clears size (Live y) = refl
+transfer_clears size (Left y) = refl
+
+stage_clears : (stage : Stage (At PeerStretch)) → sends_as 0 (stage_phase stage) item.Clear ≡ Some phase.Clears
+stage_clears (InData t b at) = transfer_clears t.size at.side
+stage_clears Free = refl
+stage_clears (Calling mine) = refl
+stage_clears (Called theirs) = refl
+stage_clears (Collided mine) = refl
+
+pub channel_sends : DeedsAreSends
+channel_sends e (Live y) (InCall d) may = call_sends y.stage y.made y.indicated d may
+channel_sends e (Live y) Clears may = (0, stage_clears y.stage)
+channel_sends e (Left y) d may = absurd may
+
+-- ---- what it takes
+
+NotClear : theirs.Packet → Type 0
+NotClear theirs.Clear = ⊥
+NotClear p = Unit {0}
+
+-- one is taken where P(S) is the next
+taken_next : (ns n : ℕ) → ns ≡ n % 8 → (if ns == n % 8 then n + 1 else n) ≡ n + 1
+taken_next ns n e = ap (λ b. if b then n + 1 else n) (eq-eqb ns (n % 8) e)
+
+takes_data : (size : ℕ) (y : PeerStretch) (ns nr : ℕ) (piece : Piece) (role : Role) → ns ≡ length y.taken % 8
+    → takes role (phase.Talks (talk_of size y)) (data_of ns nr piece) ≡ Some (phase.Talks (talk_of size (stretch.taking y (theirs.Data ns nr piece))))
+takes_data size y ns nr (More q user) role next =
+    ap (λ n. Some (phase.Talks (record (talk_of size y) { acked = nth y.acked nr; taken = n })))
+    (taken_next ns (length y.taken) next ∙ sym (length_push y.taken (More q user)))
+takes_data size y ns nr (Last q user) role next =
+    ap (λ n. Some (phase.Talks (record (talk_of size y) { acked = nth y.acked nr; taken = n })))
+    (taken_next ns (length y.taken) next ∙ sym (length_push y.taken (Last q user)))
+
+IsNextHere : theirs.Packet → Side PeerStretch → Type 0
+IsNextHere (theirs.Data ns nr piece) y = IsNextAt ns y
+IsNextHere p y = Unit {0}
+
+transfer_takes : (role : Role) (size e : ℕ) (y : Side PeerStretch) (p : theirs.Packet) → NotClear p → IsNextHere p y
+    → IsTakenSo role (transfer_phase size y) (item_of p) (transfer_taking e y p).out (transfer_phase size (transfer_taking e y p).next.side)
+unfolding NotClear IsNextHere
+transfer_takes role size e (Live y) theirs.Clear clear next = absurd clear
+transfer_takes role size e (Live y) theirs.Reset clear next = (phase.WasReset (limits size), refl, refl)
+transfer_takes role size e (Live y) (theirs.Data ns nr piece) clear next = takes_data size y ns nr piece role next
+transfer_takes role size e (Live y) p clear next = refl
+transfer_takes role size e (Left y) theirs.Clear clear next = absurd clear
+transfer_takes role size e (Left y) (theirs.Data ns nr (More q user)) clear next = refl
+transfer_takes role size e (Left y) (theirs.Data ns nr (Last q user)) clear next = refl
+transfer_takes role size e (Left y) p clear next = refl
+
+calls_accept : (known : Params) (field : List ℕ) (role : Role)
+    → takes role (phase.Calls (terms_of known)) (item.Accept (said_of (facilities_of field))) ≡ Some (stage_phase (calling_in_data (said_in known field)))
+calls_accept known field role = ap (λ n. Some (fresh (limits n))) (calling_most known (facilities_of field))
+
+call_takes : (r : Role) (stage : Stage (At PeerStretch)) (m i : List CallRequest) (p : theirs.Packet) → NotClear p
+    → IsOfRole r (Live (stands stage m i)) → IsNext p (Live (stands stage m i))
+    → IsTakenSo r (stage_phase stage) (item_of p) (call_taking r stage m i p).out (stage_phase (call_taking r stage m i p).next.stage)
+unfolding NotClear IsNextHere
+call_takes r Free m i theirs.Clear clear of next = absurd clear
+call_takes r Free m i (theirs.Data ns nr (More q user)) clear of next = refl
+call_takes r Free m i (theirs.Data ns nr (Last q user)) clear of next = refl
+call_takes r Free m i p clear of next = refl
+call_takes r (Calling mine) m i theirs.Clear clear of next = absurd clear
+call_takes Dte (Calling mine) m i (theirs.Call n) clear of next = refl
+call_takes Dce (Calling mine) m i (theirs.Call n) clear of next = refl
+call_takes r (Calling mine) m i (theirs.Accept field) clear of next = calls_accept mine field r
+call_takes r (Calling mine) m i (theirs.Data ns nr (More q user)) clear of next = refl
+call_takes r (Calling mine) m i (theirs.Data ns nr (Last q user)) clear of next = refl
+call_takes r (Calling mine) m i p clear of next = refl
+call_takes r (Called their) m i theirs.Clear clear of next = absurd clear
+call_takes r (Called their) m i (theirs.Data ns nr (More q user)) clear of next = refl
+call_takes r (Called their) m i (theirs.Data ns nr (Last q user)) clear of next = refl
+call_takes r (Called their) m i p clear of next = refl
+call_takes r (Collided mine) m i theirs.Clear clear of next = absurd clear
+call_takes Dte (Collided mine) m i (theirs.Call n) clear of next = refl
+call_takes Dce (Collided mine) m i (theirs.Call n) clear of next = absurd of
+call_takes r (Collided mine) m i (theirs.Accept field) clear of next = calls_accept mine field r
+call_takes r (Collided mine) m i (theirs.Data ns nr (More q user)) clear of next = refl
+call_takes r (Collided mine) m i (theirs.Data ns nr (Last q user)) clear of next = refl
+call_takes r (Collided mine) m i p clear of next = refl
+call_takes r (InData t b at) m i p clear of next = transfer_takes r t.size at.epoch at.side p clear (here p next)
+  where
+    here : (p : theirs.Packet) → IsNext p (Live (stands (InData t b at) m i)) → IsNextHere p at.side
+    here (theirs.Data ns nr piece) h = h
+    here p h = tt
+
+transfer_cleared : (role : Role) (size : ℕ) (y : Side PeerStretch) → takes role (transfer_phase size y) item.Clear ≡ Some phase.WasCleared
+transfer_cleared role size (Live y) = refl
+transfer_cleared role size (Left y) = refl
+
+stage_cleared : (role : Role) (stage : Stage (At PeerStretch)) → takes role (stage_phase stage) item.Clear ≡ Some phase.WasCleared
+stage_cleared role (InData t b at) = transfer_cleared role t.size at.side
+stage_cleared role Free = refl
+stage_cleared role (Calling mine) = refl
+stage_cleared role (Called theirs) = refl
+stage_cleared role (Collided mine) = refl
+
+pub channel_takes : PacketsAreTaken
+unfolding NotClear
+channel_takes r e (Live c) theirs.Clear of next = (phase.WasCleared, stage_cleared r c.stage, refl)
+channel_takes r e (Live c) p of next = call_takes r c.stage c.made c.indicated p tt of next
+channel_takes r e (Left c) (theirs.Data ns nr (More q user)) of next = refl
+channel_takes r e (Left c) (theirs.Data ns nr (Last q user)) of next = refl
+channel_takes r e (Left c) p of next = refl

@@ -1,0 +1,2 @@
+-- What the laws of this crate say (src/law.rt).
+pub mod Peers
