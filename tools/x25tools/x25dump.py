@@ -5,22 +5,27 @@
     tail -f trace | x25dump.py --channel 1
     x25 sim --tap < script | x25dump.py --messages
 
-Reads captures, as pcap2x25.py does (its --help has the link types and the words --swap to --dte), the lines of a trace (--swap and
---no-fcs are for these too), also with a time and a tab before them, the lines of `x25 decode`, and those of `x25 sim --tap`; each also packed by gzip. Empty lines
-and comments, which begin with `#`, are shown as they are; a line that is none of these is answered by `? 60`, as `decode` does.
-Of a capture all connections are shown, each but the first with its number before the direction, and named where it begins;
---connection takes one of them. Frames that were made up around packets aren't shown, their packets are.
+Reads captures, as pcap2x25.py does (its --help has the link types and the words --swap to --dte), the lines of a trace (--swap
+and --no-fcs are for these too), also with a time and a tab before them, the lines of `x25 decode`, and those of
+`x25 sim --tap`; each also packed by gzip. Empty lines and comments, which begin with `#`, are shown as they are; a line that is none of
+these is answered by `? 60`, as `decode` does. Of a capture all connections are shown, each but the first with its number before
+the direction, and named where it begins; --connection takes one of them. Frames that were made up around packets aren't shown,
+their packets are.
 
-  --messages  shows what the ends' users sent: data packets joined by M, and interrupts, as hexadecimal digits and text. Each comes
-              once, though its frame be repeated; where frames are missing those that are begun are broken off
-  --stats     writes at the end how many frames, packets and octets of data went each way, and how many I frames came out of order or again
-  --judge     says after a frame which end broke which rule or which manners of the link or the packet layer with it, and what may be noted (`x25 judge`), of each
-              connection by itself; --k is the window. Of packets without frames (XOT, LLC) the rules of the packet layer alone; not of lines of `x25 decode`. At the
-              end it says how many frames and packets there were, and how many of them were judged
-  --at        says where a capture was made: `dte` or `dce`, in front of that end, so that of the other one's frames those are missing that the line lost; or on the
-              `line`, and it has all frames. Where nothing is said a capture may lack any frame. What such frames would explain stands after ` !? ` and ` ~? manners: `,
-              and makes the status 1 with --strict alone; so does what --swap, --fcs or --no-fcs would explain. After frames that the capture says are missing, which a
-              comment shows, both ends are judged anew; nothing is judged of a link modulo 128. Lines of a trace are all that was on the line, where nothing is said
+  --messages  shows what the ends' users sent: data packets joined by M, and interrupts, as hexadecimal digits and text. Each
+              comes once, though its frame be repeated; where frames are missing those that are begun are broken off
+  --stats     writes at the end how many frames, packets and octets of data went each way, and how many I frames came out of
+              order or again
+  --judge     says after a frame which end broke which rule or which manners of the link or the packet layer with it, and what
+              may be noted (`x25 judge`), of each connection by itself; --k is the window. Of packets without frames (XOT, LLC)
+              the rules of the packet layer alone; not of lines of `x25 decode`. At the end it says how many frames and packets
+              there were, and how many of them were judged
+  --at        says where a capture was made: `dte` or `dce`, in front of that end, so that of the other one's frames those are
+              missing that the line lost; or on the `line`, and it has all frames. Where nothing is said a capture may lack any
+              frame. What such frames would explain stands after ` !? ` and ` ~? manners: `, and makes the status 1 with
+              --strict alone; so does what --swap, --fcs or --no-fcs would explain. After frames that the capture says are
+              missing, which a comment shows, both ends are judged anew; nothing is judged of a link modulo 128. Lines of a
+              trace are all that was on the line, where nothing is said
   --strict, --manners
               make the status 1 too where a frame or a packet wasn't judged, or where manners were broken
   --channel   shows the packets of a channel alone; 0 is that of RESTART. With --stats it counts them
@@ -28,11 +33,12 @@ Of a capture all connections are shown, each but the first with its number befor
   --fold      shows of data over 32 octets the first 24 and how many there are, as on a terminal; --whole shows all there too
   --no-wide   reads as `x25 decode` does, which has `fault` for packets in another form than a station writes
 
-The program is the one that --x25 or the variable X25 names, or `x25` of the PATH, or else the one that was built or
-installed with this script, or that of `make look`, which is unproved. Colours are for a terminal alone, and not where the variable NO_COLOR is set.
+The program is the one that --x25 or the variable X25 names, or `x25` of the PATH, or else the one that was built or installed
+with this script, or that of `make look`, which is unproved. Colours are for a terminal alone, and not where the variable
+NO_COLOR is set.
 
-Exit status: 0; 1 where a line was none, a rule was broken, nothing was found, something was left out, or no frame reads so (--swap,
---fcs, --no-fcs); 2 for bad words or bad input, after what stands before it.
+Exit status: 0; 1 where a line was none, a rule was broken, nothing was found, something was left out, or no frame reads so
+(--swap, --fcs, --no-fcs); 2 for bad words or bad input, after what stands before it.
 """
 
 from __future__ import annotations
