@@ -51,8 +51,9 @@ keeps Dce t b = record { dte = t.other; dce = t.own; restarts = b.restarts; chan
 abbrev pub fills : Channel → Channel → Book → Book
 fills c d b = record { dte = b.dte; dce = b.dce; restarts = c; channels = all_alike d }
 
+-- packets of an end were missed, of any channels
 abbrev pub forgets : Book → Book
-forgets b = fills channels.any_channel channels.any_channel b
+forgets b = fills (channels.lost b.restarts) channels.any_channel b
 
 -- ---- a packet
 

@@ -25,6 +25,10 @@ begun_channel = record { dte = sets.begun Dte; dce = sets.begun Dce; is_noted = 
 abbrev pub ready_channel : Channel
 ready_channel = record { dte = sets.ready Dte; dce = sets.ready Dce; is_noted = false }
 
+-- packets of both ends weren't seen
+abbrev pub lost : Channel → Channel
+lost c = record { dte = sets.lost c.dte; dce = sets.lost c.dce; is_noted = false }
+
 abbrev pub rule_of : Told → Packet → Option PacketRule
 rule_of Nothing x = None
 rule_of (Rude s) x = Some (manners s)

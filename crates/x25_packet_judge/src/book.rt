@@ -223,7 +223,7 @@ impl Book {
     fn forget(&mut self)
         ensures { self.new ≡ definition.forgets self.old }
     {
-        self.restarts = Channel::any();
+        self.restarts.lose();
         self.channels.begin(Channel::any());
     }
 

@@ -83,6 +83,15 @@ impl Channel {
         }
     }
 
+    /// Packets of both ends weren't seen.
+    pub(crate) fn lose(&mut self)
+        ensures { self.new ≡ definition.lost self.old }
+    {
+        self.dte.lose();
+        self.dce.lose();
+        self.is_noted = false;
+    }
+
     /// The same.
     pub(crate) fn copy(&self) -> Channel
         ensures { result ≡ self.now }

@@ -133,6 +133,21 @@ impl Set {
         }
     }
 
+    /// Packets of both ends weren't seen: nothing is known. Where something that was seen before may come yet, nothing is
+    /// told any more.
+    pub fn lose(&mut self)
+        ensures { self.new ≡ definition.lost self.old }
+    {
+        if self.is_blind() {
+            return;
+        }
+        if self.way.is_empty() {
+            self.forget();
+        } else {
+            self.give_up();
+        }
+    }
+
     /// Nothing is known behind a packet that wasn't read.
     pub fn doubt(&mut self)
         ensures { self.new ≡ definition.doubted self.old }

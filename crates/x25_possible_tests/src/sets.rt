@@ -170,6 +170,21 @@ fn doubts_an_end(rt: HostRuntime) {
     assert!(rt; is_found(&set, b"<L>M"));
 }
 
+// Packets of both ends weren't seen: it is found again, but where a RESTART of before may come yet.
+#[test]
+fn loses_an_end(rt: HostRuntime) {
+    let mut set = Set::new(Role::Dte);
+    set.lose();
+    assert!(rt; !is_found(&set, b""));
+    assert!(rt; is_found(&set, b">T<U"));
+    set.shows(Packet::Restart);
+    set.lose();
+    assert!(rt; !is_found(&set, b">T<U"));
+    assert!(rt; is_told(&set, b">T<T>U", b".."));
+    set.lose();
+    assert!(rt; !is_found(&set, b">T<U"));
+}
+
 // More wait than there is room for.
 #[test]
 fn tells_nothing_without_room(rt: HostRuntime) {

@@ -268,6 +268,10 @@ doubted s = any_as s.role Doubt
 abbrev pub without_room : Set → Set
 without_room s = any_as s.role Blind
 
+-- packets of both ends weren't seen, and something that was seen before may come yet, or nothing
+abbrev pub lost : Set → Set
+lost s = if is_blind s then s else if length s.way.items == 0 then any s.role else without_room s
+
 abbrev pub trimmed_to : Option (List Spot) → Set → Set
 trimmed_to None s = s
 trimmed_to (Some qs) s = standing s.role [] qs s.knowledge
