@@ -133,8 +133,8 @@ impl Set {
         }
     }
 
-    /// Packets of both ends weren't seen: nothing is known. Where something that was seen before may come yet, nothing is
-    /// told any more.
+    /// Packets of both ends weren't seen: nothing is known. Where something that was seen before may come yet, nothing
+    /// is told any more.
     pub fn lose(&mut self)
         ensures { self.new ≡ definition.lost self.old }
     {
