@@ -1,5 +1,5 @@
 -- What rest shows at a world of two stations; and how its two links heal, while the layers put nothing.
-use Rattle.std.proofs.Common.{◌≡◌, ℕ, ◌+◌, List, [], ◌∷◌, ◌++◌, map, Bool, true, false, ◌&&◌, if◌then◌else◌, Option, Some, None, refl, sym, ap, ◌∙◌, subst, nat_lt, suc, length, ◌≤◌, inl}
+use Rattle.std.proofs.Common.{◌≡◌, ℕ, ◌+◌, List, [], ◌∷◌, ◌++◌, map, Bool, true, false, ◌&&◌, if◌then◌else◌, Option, Some, None, refl, sym, ap, ◌∙◌, subst, suc, length, ◌≤◌, inl}
 use Rattle.std.specs.Prelude.{◌==◌}
 use Rattle.std.proofs.lemmas.Bool.{eq-eqb}
 use Rattle.x25_bits.specs.declared.role.Role.{Role}
@@ -7,10 +7,9 @@ use Rattle.x25_bits.specs.declared.role.Role.TheVariants.{Dte, Dce}
 use Rattle.x25_frame.specs.Spelling.{spelling_of}
 use Rattle.x25_packet.specs.Packet.{PlainPacket}
 use Rattle.x25_link.specs.declared.error.LinkError.{LinkError}
-use Rattle.x25_link.specs.declared.phase.Reason.TheVariants.{Retries}
-use Rattle.x25_link.specs.Station.{Settings as LinkSettings, LinkStation, with_near, is_up, awaits_ua}
-use Rattle.x25_link.specs.Hearing.{Step as LinkStep, other, quiet, leaves}
-use Rattle.x25_link.specs.Link.{alone, closed_by, asks_again, take_step, timer_step, timer_refusal, timer_runs, abandon_step}
+use Rattle.x25_link.specs.Station.{Settings as LinkSettings, LinkStation, is_up, awaits_ua}
+use Rattle.x25_link.specs.Hearing.{Step as LinkStep, other}
+use Rattle.x25_link.specs.Link.{take_step, timer_step, timer_refusal, timer_runs, abandon_step}
 use Rattle.x25_link.specs.Link as link
 use Rattle.x25_link.specs.laws.RestLaw.{IsAtRest}
 use Rattle.x25_line.specs.laws.Stations as line
@@ -42,7 +41,7 @@ use Rattle.x25_world.proofs.OneLink.{octets_append, octets_sent}
 use Rattle.x25_world.proofs.WorldLemmas.{refusal-swapped}
 use Rattle.x25_world.proofs.sessions.SessionReaches.{both_down, known_sessions}
 use Rattle.x25_world.proofs.sessions.SessionJoined.{SessionsJoined}
-use Rattle.x25_world.proofs.sessions.SessionFollows.{silent}
+use Rattle.x25_world.proofs.sessions.SessionFollows.{silent, timer_silent}
 use Rattle.x25_world.proofs.sessions.SessionRuns.{throughout_joined}
 use Rattle.x25_world.proofs.sessions.SessionsAlong.{links_append, timely_append}
 
@@ -62,22 +61,6 @@ back_after w (Happened next) = refl
 back_after w (Declined e) = refl
 
 -- ---- timer T1 hands nothing up and notes no LinkUp, so the layer puts nothing
-
-timer_packet : (c : LinkSettings) (s : LinkStation) → (timer_step c s).packet ≡ None
-timer_packet c s = by (nat_lt s.tries c.retries)
-  where
-    by : (b : Bool)
-        → (closed_by c.window (if b then quiet (asks_again s.phase (with_near (alone s) (record s { tries = s.tries + 1 }))) else leaves Retries (alone s))).packet ≡ None
-    by true = refl
-    by false = refl
-
-timer_up : (c : LinkSettings) (s : LinkStation) → (timer_step c s).notes.up ≡ false
-timer_up c s = by (nat_lt s.tries c.retries)
-  where
-    by : (b : Bool)
-        → (closed_by c.window (if b then quiet (asks_again s.phase (with_near (alone s) (record s { tries = s.tries + 1 }))) else leaves Retries (alone s))).notes.up ≡ false
-    by true = refl
-    by false = refl
 
 module _ (c : Settings) (w : World) (v : Sessions) (h : Alike w v) where
   -- a step of the near link behind which its layer puts nothing
@@ -122,7 +105,7 @@ module _ (c : Settings) (w : World) (v : Sessions) (h : Alike w v) where
       by : (o : Option LinkError) → Alike (after w (of_station c w (unless o (follows c w.near.layer k)))) (links.unless o v (links.after_step (link_settings c) v v.back v.met [] k))
       by (Some e) = h
       by None = step_alike v.back w.back v.met k h.back
-          (silent (view_of (link_settings c) k.side.near) (layer_settings c) c.wide w.near.layer k.packet k.notes.down k.notes.up (timer_packet (link_settings c) w.near.link) (timer_up (link_settings c) w.near.link))
+          (silent (view_of (link_settings c) k.side.near) (layer_settings c) c.wide w.near.layer k.packet k.notes.down k.notes.up (timer_silent (link_settings c) w.near.link).0 (timer_silent (link_settings c) w.near.link).1)
 
 -- ---- events
 

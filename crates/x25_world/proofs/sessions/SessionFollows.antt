@@ -1,13 +1,15 @@
 -- A step of the link that hands nothing up: nothing is noted; or LinkDown; or LinkUp, by which a session begins.
-use Rattle.std.proofs.Common.{◌≡◌, ℕ, suc, ◌==◌, List, [], ◌∷◌, ◌++◌, map, Bool, true, false, Option, Some, None, refl, sym, ap, ap₂, ◌∙◌, subst, arith}
+use Rattle.std.proofs.Common.{◌≡◌, ℕ, suc, List, [], ◌∷◌, ◌++◌, map, ◌+◌, nat_lt, Bool, true, false, if◌then◌else◌, Option, Some, None, refl, sym, ap, ap₂, ◌∙◌, subst, arith}
 use Rattle.x25_bits.specs.declared.role.Role.{Role}
 use Rattle.x25_frame.specs.Frame.{PlainFrame}
 use Rattle.x25_frame.specs.Spelling.{spelling_of}
 use Rattle.x25_packet.specs.Packet.{PlainPacket, restart}
 use Rattle.x25_link.specs.declared.phase.Reason.{Reason}
+use Rattle.x25_link.specs.declared.phase.Reason.TheVariants.{Retries}
 use Rattle.x25_link.specs.declared.phase.Notes.{Notes}
-use Rattle.x25_link.specs.Station.{LinkStation, is_up}
-use Rattle.x25_link.specs.Hearing.{Step as LinkStep}
+use Rattle.x25_link.specs.Station.{Settings as LinkSettings, LinkStation, is_up, with_near}
+use Rattle.x25_link.specs.Hearing.{Step as LinkStep, quiet, leaves}
+use Rattle.x25_link.specs.Link.{timer_step, alone, closed_by, asks_again}
 use Rattle.x25_link.specs.laws.NoteLaw.{IsQuiet, Tells}
 use Rattle.x25_line.specs.laws.Stations as line
 use Rattle.x25_line.specs.laws.Sessions.{Sessions}
@@ -27,7 +29,7 @@ use Rattle.x25_station.specs.laws.JoinLaw.{station_with}
 use Rattle.x25_station.specs.laws.ReadLaw.{AreReadable}
 use Rattle.x25_world.specs.World.{World, after_step}
 use Rattle.x25_world.specs.laws.Claims.{link_of}
-use Rattle.x25_world.specs.laws.Sessions.{Progress, is_in, entry_if}
+use Rattle.x25_world.specs.laws.Sessions.{Progress, after_entries, session_from, is_in, entry_if}
 use Rattle.x25_world.proofs.Known.{IsConfigured, true_false}
 use Rattle.x25_world.proofs.sessions.SessionTrace.{layer_of, own, TakeNothing}
 use Rattle.x25_world.proofs.sessions.SessionReaches.{Beginning, MayAsk, SessionsReach, known_sessions}
@@ -35,7 +37,7 @@ use Rattle.x25_world.proofs.sessions.SessionJoined.{HasMet, PairsAreInOrder, Ses
 use Rattle.x25_world.specs.laws.LawsBelow.{SessionLaws}
 use Rattle.x25_world.proofs.sessions.SessionKnown.{nothing_in_order, own_readable}
 use Rattle.x25_world.proofs.sessions.SessionLinks.{SessionGoes, spelled, puts_spelled, spelled_back, back_read, back_octets, puts_go, PutsRead, puts_up}
-use Rattle.x25_world.proofs.sessions.SessionGoes.{IsSilent, IsPrefix, not_in, rests, begins_session}
+use Rattle.x25_world.proofs.sessions.SessionGoes.{IsSilent, not_in, rests, begins_session}
 
 -- the command that a step is of, if it is one of the link
 pub data Lead : Type 0 where
@@ -61,85 +63,46 @@ asked_told : (b : Bool) (e : StationEntry) → layer_notices (e ∷ []) ≡ [] �
 asked_told true e none = none
 asked_told false e none = refl
 
-asked_elsewhere : (n : ℕ) (p : Progress) (e : StationEntry) → (n ≡ p.begun → ⊥) → entry_if (is_in n p) e ++ [] ≡ []
-asked_elsewhere n p e differs = ap (λ (b : Bool). entry_if b e ++ []) (not_in n p differs)
+-- where one of them alone is of a session, which is that of r
+asked_silent : (p r : Progress) (still : Bool) (e : StationEntry) (es : List StationEntry) → after_entries p es ≡ record { begun = r.begun; stands = still } → ((n : ℕ) → session_from n p es ≡ entry_if (is_in n r) e ++ [])
+    → layer_entries (e ∷ []) ≡ [] → layer_notices (e ∷ []) ≡ [] → layer_entries es ≡ [] → layer_notices es ≡ [] → IsSilent p (record { begun = r.begun; stands = still }) es
+asked_silent p r still e es progress is none untold all told = record {
+  progress = progress;
+  entries = λ n. ap layer_entries (is n) ∙ asked_entries (is_in n r) e none;
+  told = λ n. ap layer_notices (is n) ∙ asked_told (is_in n r) e untold;
+  all_entries = all;
+  all_told = told;
+  later = λ n differs. is n ∙ ap (λ (b : Bool). entry_if b e ++ []) (not_in n r differs);
+}
 
 -- where nothing is noted
-quiet_silent : (lead : Lead) (p : Progress) (still : Bool) → p.stands ≡ still → IsSilent p still (lead_of lead ++ [])
+quiet_silent : (lead : Lead) (p : Progress) (still : Bool) → p.stands ≡ still → IsSilent p (record { begun = p.begun; stands = still }) (lead_of lead ++ [])
 quiet_silent no_command p still same = record { progress = ap (λ (b : Bool). record { begun = p.begun; stands = b }) same; entries = λ n. refl; told = λ n. refl; all_entries = refl; all_told = refl; later = λ n differs. refl }
-quiet_silent connect p still same = record {
-  progress = ap (λ (b : Bool). record { begun = p.begun; stands = b }) same;
-  entries = λ n. asked_entries (is_in n p) connect_asked refl;
-  told = λ n. asked_told (is_in n p) connect_asked refl;
-  all_entries = refl;
-  all_told = refl;
-  later = λ n differs. asked_elsewhere n p connect_asked differs;
-}
-quiet_silent disconnect p still same = record {
-  progress = ap (λ (b : Bool). record { begun = p.begun; stands = b }) same;
-  entries = λ n. asked_entries (is_in n p) disconnect_asked refl;
-  told = λ n. asked_told (is_in n p) disconnect_asked refl;
-  all_entries = refl;
-  all_told = refl;
-  later = λ n differs. asked_elsewhere n p disconnect_asked differs;
-}
-quiet_silent relink p still same = record {
-  progress = ap (λ (b : Bool). record { begun = p.begun; stands = b }) same;
-  entries = λ n. asked_entries (is_in n p) relink_asked refl;
-  told = λ n. asked_told (is_in n p) relink_asked refl;
-  all_entries = refl;
-  all_told = refl;
-  later = λ n differs. asked_elsewhere n p relink_asked differs;
-}
+quiet_silent connect p still same = asked_silent p p still connect_asked (connect_asked ∷ []) (ap (λ (b : Bool). record { begun = p.begun; stands = b }) same) (λ n. refl) refl refl refl refl
+quiet_silent disconnect p still same = asked_silent p p still disconnect_asked (disconnect_asked ∷ []) (ap (λ (b : Bool). record { begun = p.begun; stands = b }) same) (λ n. refl) refl refl refl refl
+quiet_silent relink p still same = asked_silent p p still relink_asked (relink_asked ∷ []) (ap (λ (b : Bool). record { begun = p.begun; stands = b }) same) (λ n. refl) refl refl refl refl
 
 -- LinkDown alone
-down_silent : (lead : Lead) (p : Progress) (reason : Reason) → IsSilent p false (lead_of lead ++ link_down reason ∷ [])
+down_silent : (lead : Lead) (p : Progress) (reason : Reason) → IsSilent p (record { begun = p.begun; stands = false }) (lead_of lead ++ link_down reason ∷ [])
 down_silent no_command p reason = record { progress = refl; entries = λ n. refl; told = λ n. refl; all_entries = refl; all_told = refl; later = λ n differs. refl }
-down_silent connect p reason = record {
-  progress = refl;
-  entries = λ n. asked_entries (is_in n p) connect_asked refl;
-  told = λ n. asked_told (is_in n p) connect_asked refl;
-  all_entries = refl;
-  all_told = refl;
-  later = λ n differs. asked_elsewhere n p connect_asked differs;
-}
-down_silent disconnect p reason = record {
-  progress = refl;
-  entries = λ n. asked_entries (is_in n p) disconnect_asked refl;
-  told = λ n. asked_told (is_in n p) disconnect_asked refl;
-  all_entries = refl;
-  all_told = refl;
-  later = λ n differs. asked_elsewhere n p disconnect_asked differs;
-}
-down_silent relink p reason = record {
-  progress = refl;
-  entries = λ n. asked_entries (is_in n p) relink_asked refl;
-  told = λ n. asked_told (is_in n p) relink_asked refl;
-  all_entries = refl;
-  all_told = refl;
-  later = λ n differs. asked_elsewhere n p relink_asked differs;
-}
+down_silent connect p reason = asked_silent p p false connect_asked (connect_asked ∷ link_down reason ∷ []) refl (λ n. refl) refl refl refl refl
+down_silent disconnect p reason = asked_silent p p false disconnect_asked (disconnect_asked ∷ link_down reason ∷ []) refl (λ n. refl) refl refl refl refl
+down_silent relink p reason = asked_silent p p false relink_asked (relink_asked ∷ link_down reason ∷ []) refl (λ n. refl) refl refl refl refl
 
 -- LinkUp, after LinkDown or alone
-up_begins : (p : Progress) (down : Option Reason) → IsPrefix p.begun p (entries_noted (record { down = down; up = true }))
-up_begins p None = record {
-  progress = refl;
-  entries = λ m. asked_entries (m == suc p.begun) link_up refl;
-  told = λ m. asked_told (m == suc p.begun) link_up refl;
-  all_entries = refl;
-  all_told = refl;
-  others = λ m differs. asked_elsewhere m (record { begun = suc p.begun; stands = true }) link_up differs;
-}
-up_begins p (Some reason) = record {
-  progress = refl;
-  entries = λ m. asked_entries (m == suc p.begun) link_up refl;
-  told = λ m. asked_told (m == suc p.begun) link_up refl;
-  all_entries = refl;
-  all_told = refl;
-  others = λ m differs. asked_elsewhere m (record { begun = suc p.begun; stands = true }) link_up differs;
-}
+up_begins : (p : Progress) (down : Option Reason) → IsSilent p (record { begun = suc p.begun; stands = true }) (entries_noted (record { down = down; up = true }))
+up_begins p None = asked_silent p (record { begun = suc p.begun; stands = true }) true link_up (link_up ∷ []) refl (λ n. refl) refl refl refl refl
+up_begins p (Some reason) = asked_silent p (record { begun = suc p.begun; stands = true }) true link_up (link_down reason ∷ link_up ∷ []) refl (λ n. refl) refl refl refl refl
 
 -- ---- what is put
+
+-- a firing of T1 hands nothing up and notes no LinkUp
+pub timer_silent : (c : LinkSettings) (s : LinkStation) → ((timer_step c s).packet ≡ None) × ((timer_step c s).notes.up ≡ false)
+timer_silent c s = by (nat_lt s.tries c.retries)
+  where
+    by : (b : Bool) → let k = closed_by c.window (if b then quiet (asks_again s.phase (with_near (alone s) (record s { tries = s.tries + 1 }))) else leaves Retries (alone s)) in (k.packet ≡ None) × (k.notes.up ≡ false)
+    by true = (refl, refl)
+    by false = (refl, refl)
 
 -- nothing where the link hands nothing up and notes no LinkUp
 pub silent : (view : LinkView) (c : LayerSettings) (wide : Bool) (l : Layer) (packet : Option (List ℕ)) (down : Option Reason) (up : Bool) → packet ≡ None → up ≡ false → (layer_at view c wide l packet down up).put ≡ []
@@ -216,7 +179,7 @@ module _ {since : Beginning} (laws : SessionLaws) (cfg : Cfg) (fine : IsConfigur
       let same : step ≡ whole_step = ap (λ (s : Step). led_by (lead_of lead) s) (sym is) in
       let off : is_up k.side.near.phase ≡ false = tells.left reason (ap (λ (n : Notes). n.down) noted) (ap (λ (n : Notes). n.up) noted) in
       subst (λ (s : Step). SessionsJoined since cfg end (after_step (settings_from end cfg) w back s)) same
-      (rests cfg end w h step back v v.met g (subst (λ (b : Bool). IsSilent standing b (lead_of lead ++ link_down reason ∷ [])) (sym off) (down_silent lead standing reason)) (λ still. true_false (sym still ∙ off))
+      (rests cfg end w h step back v v.met g (subst (λ (b : Bool). IsSilent standing (record { begun = standing.begun; stands = b }) (lead_of lead ++ link_down reason ∷ [])) (sym off) (down_silent lead standing reason)) (λ still. true_false (sym still ∙ off))
       (subst (λ (s : Step). IsKept s.near) (sym same) kept) reach pairs more)
 
   pub follows_silent : k.notes.up ≡ false → GoesTo h.links.near.begun → k.packet ≡ None → IsKept whole_step.near → SessionsJoined since cfg end (after_step (settings_from end cfg) w back whole_step)
@@ -238,8 +201,8 @@ module _ {since : Beginning} (laws : SessionLaws) (cfg : Cfg) (fine : IsConfigur
       let p = puts_spelled (settings_from end cfg) k.side packets step u.link in
       let r = puts_go cfg end h.links v (suc h.links.near.begun) handed packets k.side [] [] back v.met asks reach g p.accepted readable in
       let still : is_up step.near.link.phase ≡ true = ap (λ (s : LinkStation). is_up s.phase) p.link ∙ puts_up laws.stations.put_tells c handed k.side (ap (λ (s : LinkStation). is_up s.phase) (tells.fresh_up up)) in
-      let begins : IsPrefix h.links.near.begun standing step.entries =
-      subst (λ (es : List StationEntry). IsPrefix h.links.near.begun standing es) (sym (u.entries ∙ ap (λ (b : Bool). entries_noted (record { down = k.notes.down; up = b })) up)) (up_begins standing k.notes.down) in
+      let begins : IsSilent standing (record { begun = suc h.links.near.begun; stands = true }) step.entries =
+      subst (λ (es : List StationEntry). IsSilent standing (record { begun = suc h.links.near.begun; stands = true }) es) (sym (u.entries ∙ ap (λ (b : Bool). entries_noted (record { down = k.notes.down; up = b })) up)) (up_begins standing k.notes.down) in
       let known = known_sessions OnlyBegunHaveLists laws.begun cfg fine end h.links h.reach in
       begins_session cfg end w h step back r.links v.met handed (back_read cfg handed packets readable) (back_octets cfg handed packets readable)
       (record {

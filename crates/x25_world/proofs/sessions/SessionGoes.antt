@@ -68,22 +68,13 @@ nothing_of (x ∷ xs) ys e = absurd (cc)
 -- ---- entries that aren't the layer's
 
 -- behind them the same session stands, or not; none are of another
-pub record IsSilent (p : Progress) (still : Bool) (es : List StationEntry) : Type 0 where
-  pub progress : after_entries p es ≡ record { begun = p.begun; stands = still }
+pub record IsSilent (p q : Progress) (es : List StationEntry) : Type 0 where
+  pub progress : after_entries p es ≡ q
   pub entries : (n : ℕ) → layer_entries (session_from n p es) ≡ []
   pub told : (n : ℕ) → layer_notices (session_from n p es) ≡ []
   pub all_entries : layer_entries es ≡ []
   pub all_told : layer_notices es ≡ []
-  pub later : (n : ℕ) → (n ≡ p.begun → ⊥) → session_from n p es ≡ []
-
--- behind them the next session stands
-pub record IsPrefix (n : ℕ) (p : Progress) (es : List StationEntry) : Type 0 where
-  pub progress : after_entries p es ≡ record { begun = suc n; stands = true }
-  pub entries : (m : ℕ) → layer_entries (session_from m p es) ≡ []
-  pub told : (m : ℕ) → layer_notices (session_from m p es) ≡ []
-  pub all_entries : layer_entries es ≡ []
-  pub all_told : layer_notices es ≡ []
-  pub others : (m : ℕ) → (m ≡ suc n → ⊥) → session_from m p es ≡ []
+  pub later : (n : ℕ) → (n ≡ q.begun → ⊥) → session_from n p es ≡ []
 
 -- ---- the layer in the session that stands
 
@@ -381,7 +372,7 @@ module _ {since : Beginning} (cfg : Cfg) (end : Role) (w : World) (h : SessionsJ
   -- ---- where nothing is asked of the layer
 
   -- entries that aren't the layer's: the session that stands has gone on so
-  module _ (g : SessionGoes (link_of cfg end) h.links v session step.near.link step.out [] [] back met) (silent : IsSilent standing (is_up step.near.link.phase) step.entries)
+  module _ (g : SessionGoes (link_of cfg end) h.links v session step.near.link step.out [] [] back met) (silent : IsSilent standing (record { begun = session; stands = is_up step.near.link.phase }) step.entries)
       (layer_stays : is_up step.near.link.phase ≡ true → (is_up w.near.link.phase ≡ true) × (step.near.layer ≡ w.near.layer)) (kept : IsKept step.near) where
     down_same : (n : ℕ) → v.near.down n ≡ h.links.near.down n
     down_same n = g.down n ∙ extended_none h.links.near.down session n
@@ -427,7 +418,7 @@ module _ {since : Beginning} (cfg : Cfg) (end : Role) (w : World) (h : SessionsJ
 
   module _ (handed : List (List ℕ)) (puts : all_read cfg handed ≡ as_read (restart (restart_cause end) 0 ∷ [])) (in_octets : AllAreOctets handed)
       (g : SessionGoes (link_of cfg end) h.links v (suc session) step.near.link step.out handed [] back met)
-      (begins : IsPrefix session standing step.entries) (fresh : (n : ℕ) → session < n → (h.links.near.down n ≡ []) × (h.links.near.up n ≡ [])) (still : is_up step.near.link.phase ≡ true)
+      (begins : IsSilent standing (record { begun = suc session; stands = true }) step.entries) (fresh : (n : ℕ) → session < n → (h.links.near.down n ≡ []) × (h.links.near.up n ≡ [])) (still : is_up step.near.link.phase ≡ true)
       (layer_begins : step.near.layer ≡ (goes_up (layer_of cfg end)).next) (kept : IsKept step.near) where
     abbrev the_next : ℕ
     the_next = suc session
@@ -482,7 +473,7 @@ module _ {since : Beginning} (cfg : Cfg) (end : Role) (w : World) (h : SessionsJ
       octets = begun_octets;
       later = λ n more. (let above = subst (λ (m : ℕ). m < n) g.begun more in
           let nothing = h.near.later n (omega (arith, above)) in
-          record { moves = nothing.moves; entries = session_more n ∙ ap₂ (λ (a b : List StationEntry). a ++ b) nothing.entries (begins.others n (over n above)) });
+          record { moves = nothing.moves; entries = session_more n ∙ ap₂ (λ (a b : List StationEntry). a ++ b) nothing.entries (begins.later n (over n above)) });
       now = λ _. subst (λ (n : ℕ). IsLayer (own cfg end n h.trace) step.near) (sym g.begun)
           (subst (λ (e : layer.End). IsLayer e step.near) (sym own_afresh) (record { layer = sym layer_begins; out = refl }));
       alone = λ n none. h.near.alone n (sym (begun_up_same n) ∙ none);

@@ -121,37 +121,27 @@ hears_turned n up met ms h = elim h [ inl none ↦ inl none | inr some ↦ inr (
 hears_back : (n : ℕ) (up : List (List ℕ)) (met : Option ℕ) (ms : List Meeting) → Hears (λ (n m : ℕ). HasMet m n ms) n up met → Hears (λ (n m : ℕ). HasMet n m (map turned ms)) n up met
 hears_back n up met ms h = elim h [ inl none ↦ inl none | inr some ↦ inr (record { session = some.session; told = some.told; has_met = met_turned some.session n ms some.has_met; begun = some.begun }) ]
 
+twice : (end : Role) (P : Role → Type 0) → P end → P (other (other end))
+twice Dte P h = h
+twice Dce P h = h
+
 pub sessions_swapped : {since : Beginning} (cfg : Cfg) (end : Role) (w : World) → SessionsJoined since cfg end w → SessionsJoined since cfg (other end) (swapped w)
-sessions_swapped cfg Dte w h = record {
+sessions_swapped cfg end w h = record {
   links = links.swapped h.links;
   trace = h.trace;
-  reach = reach_swapped cfg Dte h.links h.reach;
+  reach = reach_swapped cfg end h.links h.reach;
   near = h.far;
-  far = h.near;
+  far = twice end (λ (e : Role). IsEnd cfg e w.near h.links.near h.trace (entries_at e w.transcript)) h.near;
   out = h.back;
   back = h.out;
   tap = h.tap;
   octets = h.octets;
-  pairs = pairs_turned cfg Dte h.trace h.links.met h.pairs;
-  near_hears = λ n. hears_back n (h.links.far.up n) (meets Dce n w.transcript) h.links.met (h.far_hears n);
-  far_hears = λ n. hears_turned n (h.links.near.up n) (meets Dte n w.transcript) h.links.met (h.near_hears n);
-}
-sessions_swapped cfg Dce w h = record {
-  links = links.swapped h.links;
-  trace = h.trace;
-  reach = reach_swapped cfg Dce h.links h.reach;
-  near = h.far;
-  far = h.near;
-  out = h.back;
-  back = h.out;
-  tap = h.tap;
-  octets = h.octets;
-  pairs = pairs_turned cfg Dce h.trace h.links.met h.pairs;
-  near_hears = λ n. hears_back n (h.links.far.up n) (meets Dte n w.transcript) h.links.met (h.far_hears n);
-  far_hears = λ n. hears_turned n (h.links.near.up n) (meets Dce n w.transcript) h.links.met (h.near_hears n);
+  pairs = pairs_turned cfg end h.trace h.links.met h.pairs;
+  near_hears = λ n. hears_back n (h.links.far.up n) (meets (other end) n w.transcript) h.links.met (h.far_hears n);
+  far_hears = λ n. twice end (λ (e : Role). Hears (λ (n m : ℕ). HasMet m n (map turned h.links.met)) n (h.links.near.up n) (meets e n w.transcript))
+      (hears_turned n (h.links.near.up n) (meets end n w.transcript) h.links.met (h.near_hears n));
 }
 
 pub links_swapped : {since : Beginning} (cfg : Cfg) (end : Role) (w : World) (h : SessionsJoined since cfg end w) → (sessions_swapped cfg end w h).links ≡ links.swapped h.links
 unfolding sessions_swapped
-links_swapped cfg Dte w h = refl
-links_swapped cfg Dce w h = refl
+links_swapped cfg end w h = refl

@@ -17,7 +17,7 @@ use Rattle.x25_link.specs.Station.{Settings as LinkSettings, LinkStation, Side, 
 use Rattle.x25_link.specs.Link.{put_refusal, put_step, take_step}
 use Rattle.x25_line.specs.laws.Stations as line
 use Rattle.x25_line.specs.laws.Sessions as links
-use Rattle.x25_line.specs.laws.Sessions.{SessionEnd, Meeting, Sessions, sent_in, extended, begun_by}
+use Rattle.x25_line.specs.laws.Sessions.{Meeting, Sessions, sent_in, extended, begun_by}
 use Rattle.x25_line.specs.laws.SessionClaims.{octets_of}
 use Rattle.x25_station.specs.declared.config.Cfg.{Cfg}
 use Rattle.x25_station.specs.Config.{Settings, settings_from, link_settings, longest_packet}

@@ -1,5 +1,5 @@
 -- Timer T1 runs out, and the link is polled, connected, disconnected and set up anew, over set-up and re-set-up.
-use Rattle.std.proofs.Common.{◌≡◌, ℕ, ◌+◌, List, [], ◌∷◌, Bool, true, false, ◌&&◌, ◌||◌, if◌then◌else◌, Option, Some, None, Result, Ok, option_to_list, refl, sym, ap, ◌∙◌, subst, arith, nat_lt}
+use Rattle.std.proofs.Common.{◌≡◌, ℕ, ◌+◌, List, [], ◌∷◌, Bool, true, false, ◌&&◌, ◌||◌, if◌then◌else◌, Option, Some, None, Result, Ok, option_to_list, refl, sym, ap, ◌∙◌, subst, arith}
 use Rattle.std.specs.List.{list_any}
 use Rattle.x25_bits.specs.Role as bits
 use Rattle.x25_bits.specs.declared.role.Role.{Role}
@@ -10,10 +10,10 @@ use Rattle.x25_frame.specs.declared.error.FrameError.{FrameError}
 use Rattle.x25_link.specs.declared.error.LinkError.{LinkError}
 use Rattle.x25_link.specs.declared.phase.Phase.{Phase}
 use Rattle.x25_link.specs.declared.phase.Phase.TheVariants.{Waiting, Down, Up, Closed}
-use Rattle.x25_link.specs.Station.{LinkStation, Side, is_up, with_nothing, awaits_ua, Settings as LinkSettings, with_near}
-use Rattle.x25_link.specs.Hearing.{other, Step as LinkStep, quiet, leaves}
+use Rattle.x25_link.specs.Station.{LinkStation, Side, is_up, with_nothing, awaits_ua, Settings as LinkSettings}
+use Rattle.x25_link.specs.Hearing.{other, Step as LinkStep, quiet}
 use Rattle.x25_link.specs.laws.NoteLaw.{Tells}
-use Rattle.x25_link.specs.Link.{timer_refusal, timer_step, connect_refusal, connect_step, disconnect_refusal, disconnect_step, alone, closed_by, asks_again, probe_refusal, abandon_step, relink_refusal, relink_step}
+use Rattle.x25_link.specs.Link.{timer_refusal, timer_step, connect_refusal, connect_step, disconnect_refusal, disconnect_step, probe_refusal, abandon_step, relink_refusal, relink_step}
 use Rattle.x25_line.specs.laws.Stations as line
 use Rattle.x25_line.specs.laws.Sessions as links
 use Rattle.x25_line.specs.laws.Sessions.{Meeting, Sessions, begun_by, sabm_in, ua_in, how_many, IsTimely}
@@ -21,7 +21,7 @@ use Rattle.x25_line.specs.laws.SessionClaims.{octets_of}
 use Rattle.x25_station.specs.declared.config.Cfg.{Cfg}
 use Rattle.x25_station.specs.Config.{settings_from, longest_packet}
 use Rattle.x25_station.specs.Command.{Connects, Disconnects, Probes, Relinks}
-use Rattle.x25_station.specs.Entry.{connect_asked, disconnect_asked, relink_asked}
+use Rattle.x25_station.specs.Entry.{connect_asked, relink_asked}
 use Rattle.x25_station.specs.Step.{Step, follows, led_by, fires, connects, connects_asked, disconnects, probes, relinks, unless}
 use Rattle.x25_station.specs.laws.KeepLaw.{IsKept, KeptBy, ConnectKeeps}
 use Rattle.x25_world.specs.SetUp.{is_a, reads_as, carries}
@@ -35,16 +35,8 @@ use Rattle.x25_world.proofs.sessions.SessionReaches.{Beginning, set_up, MayAct, 
 use Rattle.x25_world.proofs.sessions.SessionJoined.{HasMet, PairsAreInOrder, SessionsJoined}
 use Rattle.x25_world.specs.laws.LawsBelow.{SessionLaws}
 use Rattle.x25_world.proofs.sessions.SessionLinks.{SessionGoes, own_step, left_at, two_steps_go}
-use Rattle.x25_world.proofs.sessions.SessionFollows.{Lead, no_command, connect, disconnect, relink, lead_of, follows_silent}
-use Rattle.x25_link.specs.declared.phase.Reason.TheVariants.{Retries, Counts}
-
-timer_packet : (c : LinkSettings) (s : LinkStation) → (timer_step c s).packet ≡ None
-timer_packet c s = by (nat_lt s.tries c.retries)
-  where
-    by : (b : Bool)
-        → (closed_by c.window (if b then quiet (asks_again s.phase (with_near (alone s) (record s { tries = s.tries + 1 }))) else leaves Retries (alone s))).packet ≡ None
-    by true = refl
-    by false = refl
+use Rattle.x25_world.proofs.sessions.SessionFollows.{Lead, no_command, connect, disconnect, relink, lead_of, timer_silent, follows_silent}
+use Rattle.x25_link.specs.declared.phase.Reason.TheVariants.{Counts}
 
 -- connect is accepted in Down alone
 was_down : (p : Phase) → connect_refusal p ≡ None → p ≡ Down
@@ -122,6 +114,23 @@ module _ {since : Beginning} (laws : SessionLaws) (cfg : Cfg) (fine : IsConfigur
       (subst (λ (os : List (List ℕ)). SessionGoes c h.links v (begun_by k.notes.up h.links.near.begun) k.side.near k.side.out [] (option_to_list k.packet) os h.links.met) h.back
       (own_step c h.links h.links.back h.links.met k)))) none kept
 
+  -- or that is refused
+  act_joined : (lead : Lead) (act : line.Act) (refusal : LinkStation → Option LinkError) (step : LinkStation → LinkStep)
+      → links.acts (link_of cfg end) act h.links
+      ≡ links.unless (refusal h.links.near.station) h.links (links.after_step (link_of cfg end) h.links h.links.back h.links.met [] (step h.links.near.station))
+      → (links.acts (link_of cfg end) act h.links).near.begun ≡ h.links.near.begun → IsTimely (link_of cfg end) (link_of cfg (other end)) act h.links
+      → (refusal w.near.link ≡ None → MayAct since act h.links) → MayAsk since end act → (step w.near.link).packet ≡ None → (refusal w.near.link ≡ None → Tells w.near.link (step w.near.link))
+      → KeptBy (unless (refusal w.near.link) (led_by (lead_of lead) (follows (settings_from end cfg) w.near.layer (step w.near.link))))
+      → SessionsJoined since cfg end (after w (of_station (settings_from end cfg) w (unless (refusal w.near.link) (led_by (lead_of lead) (follows (settings_from end cfg) w.near.layer (step w.near.link))))))
+  act_joined lead act refusal step is same timely may asks none tells = by (refusal w.near.link) refl
+    where
+      done : Step
+      done = led_by (lead_of lead) (follows (settings_from end cfg) w.near.layer (step w.near.link))
+
+      by : (o : Option LinkError) → refusal w.near.link ≡ o → KeptBy (unless o done) → SessionsJoined since cfg end (after w (of_station (settings_from end cfg) w (unless o done)))
+      by (Some e) refused kept = h
+      by None accepted kept = act_follows lead act refusal step is same timely (may accepted) asks accepted none (tells accepted) kept
+
   -- while UA is awaited T1 doesn't run out
   is_timely : (awaits_ua w.near.link.phase && is_on_line (settings_from end cfg) w) ≡ false → IsTimely (link_of cfg end) (link_of cfg (other end)) line.T1 h.links
   is_timely off waiting =
@@ -138,17 +147,9 @@ module _ {since : Beginning} (laws : SessionLaws) (cfg : Cfg) (fine : IsConfigur
       by Dce none = none
 
   fires_joined : IsAt since end Fires → (awaits_ua w.near.link.phase && is_on_line (settings_from end cfg) w) ≡ false → SessionsJoined since cfg end (after w (of_station (settings_from end cfg) w (fires (settings_from end cfg) w.near)))
-  fires_joined is_at off = by (timer_refusal w.near.link) refl
-    where
-      step : Step
-      step = follows (settings_from end cfg) w.near.layer (timer_step (link_of cfg end) w.near.link)
-
-      by : (o : Option LinkError) → timer_refusal w.near.link ≡ o → SessionsJoined since cfg end (after w (of_station (settings_from end cfg) w (unless o step)))
-      by (Some e) is = h
-      by None is =
-          act_follows no_command line.T1 timer_refusal (timer_step (link_of cfg end)) refl (laws.hands (link_of cfg end) (link_of cfg end) (line.Near line.T1) h.links).0.begun (is_timely off) (λ off s same. tt) (may_ask end Fires line.T1 is_at tt) is
-          (timer_packet (link_of cfg end) w.near.link) (laws.stations.timer_tells (link_of cfg end) w.near.link)
-          (subst (λ (o : Option LinkError). KeptBy (unless o step)) is (laws.stations.timer_keeps (settings_from end cfg) w.near h.near.kept))
+  fires_joined is_at off =
+      act_joined no_command line.T1 timer_refusal (timer_step (link_of cfg end)) refl (laws.hands (link_of cfg end) (link_of cfg end) (line.Near line.T1) h.links).0.begun (is_timely off) (λ accepted off s same. tt)
+      (may_ask end Fires line.T1 is_at tt) (timer_silent (link_of cfg end) w.near.link).0 (λ accepted. laws.stations.timer_tells (link_of cfg end) w.near.link) (laws.stations.timer_keeps (settings_from end cfg) w.near h.near.kept)
 
   pub fired_joined : IsAt since end Fires → SessionsJoined since cfg end (after w (fired (settings_from end cfg) w))
   fired_joined is_at = by (awaits_ua w.near.link.phase && is_on_line (settings_from end cfg) w) refl
@@ -162,17 +163,9 @@ module _ {since : Beginning} (laws : SessionLaws) (cfg : Cfg) (fine : IsConfigur
   connecting : (lead : Lead) → MayAsk since end line.Connect → (since ≡ set_up false → connect_refusal w.near.link.phase ≡ None → ⊥) → KeptBy (unless (connect_refusal w.near.link.phase) (led_by (lead_of lead) (follows (settings_from end cfg) w.near.layer (connect_step (link_of cfg end) w.near.link))))
       → SessionsJoined since cfg end
       (after w (of_station (settings_from end cfg) w (unless (connect_refusal w.near.link.phase) (led_by (lead_of lead) (follows (settings_from end cfg) w.near.layer (connect_step (link_of cfg end) w.near.link))))))
-  connecting lead asks may keeps = by (connect_refusal w.near.link.phase) refl keeps
-    where
-      step : Step
-      step = led_by (lead_of lead) (follows (settings_from end cfg) w.near.layer (connect_step (link_of cfg end) w.near.link))
-
-      by : (o : Option LinkError) → connect_refusal w.near.link.phase ≡ o → KeptBy (unless o step) → SessionsJoined since cfg end (after w (of_station (settings_from end cfg) w (unless o step)))
-      by (Some e) is keeps = h
-      by None is keeps =
-          act_follows lead line.Connect (λ (s : LinkStation). connect_refusal s.phase) (connect_step (link_of cfg end)) refl (laws.hands (link_of cfg end) (link_of cfg end) (line.Near line.Connect) h.links).0.begun tt
-          (λ free s same accepted. may free (ap (λ (x : LinkStation). connect_refusal x.phase) (sym (same ∙ h.near.link)) ∙ accepted)) asks is refl
-          (laws.stations.connect_tells (link_of cfg end) w.near.link (was_down w.near.link.phase is)) keeps
+  connecting lead asks may =
+      act_joined lead line.Connect (λ (s : LinkStation). connect_refusal s.phase) (connect_step (link_of cfg end)) refl (laws.hands (link_of cfg end) (link_of cfg end) (line.Near line.Connect) h.links).0.begun tt
+      (λ accepted free s same is. may free accepted) asks refl (λ accepted. laws.stations.connect_tells (link_of cfg end) w.near.link (was_down w.near.link.phase accepted))
 
   pub connects_joined : IsAt since end (Commands Connects) → (since ≡ set_up false → IsNoConnect (Commands Connects) (refusal_of (of_station (settings_from end cfg) w (connects_asked (settings_from end cfg) w.near))))
       → SessionsJoined since cfg end (after w (of_station (settings_from end cfg) w (connects_asked (settings_from end cfg) w.near)))
@@ -183,31 +176,16 @@ module _ {since : Beginning} (laws : SessionLaws) (cfg : Cfg) (fine : IsConfigur
   connects_alone_joined asks unasked keeps = connecting no_command asks (λ free accepted. unasked free) (keeps (settings_from end cfg) w.near h.near.kept)
 
   pub disconnects_joined : IsAt since end (Commands Disconnects) → SessionsJoined since cfg end (after w (of_station (settings_from end cfg) w (disconnects (settings_from end cfg) w.near)))
-  disconnects_joined is_at = by (disconnect_refusal w.near.link.phase) refl
-    where
-      step : Step
-      step = led_by (disconnect_asked ∷ []) (follows (settings_from end cfg) w.near.layer (disconnect_step (link_of cfg end) w.near.link))
-
-      by : (o : Option LinkError) → disconnect_refusal w.near.link.phase ≡ o → SessionsJoined since cfg end (after w (of_station (settings_from end cfg) w (unless o step)))
-      by (Some e) is = h
-      by None is =
-          act_follows disconnect line.Disconnect (λ (s : LinkStation). disconnect_refusal s.phase) (disconnect_step (link_of cfg end)) refl
-          (laws.hands (link_of cfg end) (link_of cfg end) (line.Near line.Disconnect) h.links).0.begun tt (λ off s same. tt) (may_ask end (Commands Disconnects) line.Disconnect is_at tt) is refl (laws.stations.disconnect_tells (link_of cfg end) w.near.link)
-          (subst (λ (o : Option LinkError). KeptBy (unless o step)) is (laws.stations.command_keeps (settings_from end cfg) w.near Disconnects h.near.kept))
+  disconnects_joined is_at =
+      act_joined disconnect line.Disconnect (λ (s : LinkStation). disconnect_refusal s.phase) (disconnect_step (link_of cfg end)) refl (laws.hands (link_of cfg end) (link_of cfg end) (line.Near line.Disconnect) h.links).0.begun tt
+      (λ accepted off s same. tt) (may_ask end (Commands Disconnects) line.Disconnect is_at tt) refl (λ accepted. laws.stations.disconnect_tells (link_of cfg end) w.near.link)
+      (laws.stations.command_keeps (settings_from end cfg) w.near Disconnects h.near.kept)
 
   pub probes_joined : IsAt since end (Commands Probes) → SessionsJoined since cfg end (after w (of_station (settings_from end cfg) w (probes (settings_from end cfg) w.near)))
-  probes_joined is_at = by (probe_refusal w.near.link.phase) refl
-    where
-      step : Step
-      step = follows (settings_from end cfg) w.near.layer (timer_step (link_of cfg end) w.near.link)
-
-      by : (o : Option LinkError) → probe_refusal w.near.link.phase ≡ o → SessionsJoined since cfg end (after w (of_station (settings_from end cfg) w (unless o step)))
-      by (Some e) is = h
-      by None is =
-          act_follows no_command line.Probe (λ (s : LinkStation). probe_refusal s.phase) (timer_step (link_of cfg end)) (probe_acts (link_of cfg end) h.links)
-          (laws.hands (link_of cfg end) (link_of cfg end) (line.Near line.Probe) h.links).0.begun tt (λ off s same. tt) (may_ask end (Commands Probes) line.Probe is_at tt) is
-          (timer_packet (link_of cfg end) w.near.link) (laws.stations.timer_tells (link_of cfg end) w.near.link)
-          (subst (λ (o : Option LinkError). KeptBy (unless o step)) is (laws.stations.command_keeps (settings_from end cfg) w.near Probes h.near.kept))
+  probes_joined is_at =
+      act_joined no_command line.Probe (λ (s : LinkStation). probe_refusal s.phase) (timer_step (link_of cfg end)) (probe_acts (link_of cfg end) h.links) (laws.hands (link_of cfg end) (link_of cfg end) (line.Near line.Probe) h.links).0.begun tt
+      (λ accepted off s same. tt) (may_ask end (Commands Probes) line.Probe is_at tt) (timer_silent (link_of cfg end) w.near.link).0 (λ accepted. laws.stations.timer_tells (link_of cfg end) w.near.link)
+      (laws.stations.command_keeps (settings_from end cfg) w.near Probes h.near.kept)
 
   -- the link is abandoned, and then connected
   pub relinks_joined : IsAt since end (Commands Relinks) → (since ≡ set_up false → IsNoConnect (Commands Relinks) (refusal_of (of_station (settings_from end cfg) w (relinks (settings_from end cfg) w.near))))
