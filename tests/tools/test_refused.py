@@ -41,7 +41,7 @@ class Played(unittest.TestCase):
         *(f"{call}({asked}" for call in ("Station::command", "World::step") for asked in ("Call)", "Call) with sizes", "With)", "Send)", "Interrupt)")),
     }
     PROMISED = {
-        *(f"Link::{call}" for call in ("reserve and put", "connect", "disconnect", "probe", "relink", "take", "t1")),
+        *(f"Link::{call}" for call in ("put", "connect", "disconnect", "probe", "relink", "take", "t1")),
         "Station::connect",
         "Station::command(Pull)",
         "World::step(Lose)",

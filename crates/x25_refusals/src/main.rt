@@ -34,7 +34,7 @@ use worlds::Worlds;
 /// The calls of a link.
 static CALLS_OF_LINKS: [(Kind, &str); 9] = [
     (Kind::New, "Link::new"),
-    (Kind::Send, "Link::reserve and put"),
+    (Kind::Send, "Link::put"),
     (Kind::Connect, "Link::connect"),
     (Kind::Disconnect, "Link::disconnect"),
     (Kind::Probe, "Link::probe"),
