@@ -191,7 +191,7 @@ round_past pulls link c vs (suc m) n t low fits none =
     ∙ none_waits pulls link c vs (m + n) (round link c n t) (let e : m + n < length vs = omega (arith, low) in e) fits (λ v is. none (m + n) v (let e : n ≤ m + n = omega arith in e) is)
 
 -- all circuits are asked
-pub asked_all : (vs : List circuit_code.Circuit) (p : Places) → ((k : ℕ) → k < 2 ^ 64 - 1 → IsOutside p k → ⊥) → length vs ≤ 16 → WaitAt p vs
+pub asked_all : (vs : List circuit_code.Circuit) (p : Places) → ((k : ℕ) → k < 2 ^ 64 - 1 → IsOutside p k → ⊥) → length vs ≤ 4095 → WaitAt p vs
 asked_all vs p all few k v is out = let low = slice_get_within vs k v is in absurd (all k (let e : k < 2 ^ 64 - 1 = omega (arith, low, few) in e) out)
 
 -- A round keeps whether a restart is under way, and how many were done.

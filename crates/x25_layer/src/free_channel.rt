@@ -11,7 +11,7 @@ use x25_bits::Role;
 use x25_circuit::Circuit;
 
 fn lowest_free(circuits: &[Circuit]) -> Option<u16>
-    requires { length circuits.now ≤ 16 }
+    requires { length circuits.now ≤ 4095 }
     ensures value { (c : LayerSettings) (f : ℕ → Channel) → FitsCircuits c circuits.now f
         → result ≡ lowest_free f (length circuits.now) }
     ensures some { IfSome result (λ channel. is_channel (length circuits.now) channel ≡ true) }
@@ -27,7 +27,7 @@ fn lowest_free(circuits: &[Circuit]) -> Option<u16>
 }
 
 fn highest_free(circuits: &[Circuit]) -> Option<u16>
-    requires { length circuits.now ≤ 16 }
+    requires { length circuits.now ≤ 4095 }
     ensures value { (c : LayerSettings) (f : ℕ → Channel) → FitsCircuits c circuits.now f
         → result ≡ highest_free f (length circuits.now) }
     ensures some { IfSome result (λ channel. is_channel (length circuits.now) channel ≡ true) }

@@ -14,7 +14,7 @@ use x25_bits::{Promise, Role};
 use x25_circuit::{Awaits, Circuit, Params};
 
 /// The most channels of a layer (profile).
-pub const CHANNELS: usize = 16;
+pub const CHANNELS: usize = 4095;
 
 // 1 where it is so.
 fn one_if(is_so: bool) -> usize
@@ -38,7 +38,7 @@ pub struct Layer {
     pub(crate) restarts: u64,
     /// The first is on channel 1.
     pub(crate) circuits: Vec<Circuit>,
-    ghost few: { length circuits.items ≤ 16 },
+    ghost few: { length circuits.items ≤ 4095 },
     /// The circuits that are asked for what waits: in the others no message does.
     pub(crate) asked: Places,
     ghost still: { WaitAt asked circuits.items },
@@ -62,8 +62,8 @@ impl Layer {
     ghost use Rattle.x25_layer.specs.Layer.InPart.{joined_at};
     ghost use Rattle.x25_layer.specs.Layer.MessageRoom.{room_at};
 
-    /// The layer of an end whose link isn't up, with so many channels, 1 to 16. With `long_data` a call has at most 128
-    /// octets of user data (profile), else at most 16. It is the same at both ends.
+    /// The layer of an end whose link isn't up, with so many channels, 1 to 4,095. With `long_data` a call has at most
+    /// 128 octets of user data (profile), else at most 16. It is the same at both ends.
     ///
     /// 14 BadConfig for another number of channels, and else 70 alone.
     pub fn with(
@@ -75,8 +75,8 @@ impl Layer {
         ensures fits { IfOk result (λ v. FitsLayer
             (record { channels = channels; circuit = record { role = role; long_data = long_data } }) v at_rest) }
         ensures none_aside { IfOk result (λ v. v.memory ≡ 0) }
-        ensures config { IsErrOf result LayerError.BadConfig ↔ (is_channel 16 channels ≡ false) }
-        ensures memory { is_channel 16 channels ≡ true → IfErr result (λ e. e ≡ LayerError.NoMemory) }
+        ensures config { IsErrOf result LayerError.BadConfig ↔ (is_channel 4095 channels ≡ false) }
+        ensures memory { is_channel 4095 channels ≡ true → IfErr result (λ e. e ≡ LayerError.NoMemory) }
     {
         if channels == 0 || channels > CHANNELS {
             return Err(LayerError::BadConfig);

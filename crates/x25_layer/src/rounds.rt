@@ -85,7 +85,7 @@ fn round<L: OrderedLink>(
     memory: &mut PacketMemory,
     asked: &mut Places,
 ) -> bool
-    requires few { length circuits.old.items ≤ 16 }
+    requires few { length circuits.old.items ≤ 4095 }
     requires up { L.up link.old ≡ true }
     requires still { WaitAt asked.old circuits.old.items }
     requires longest { 4099 ≤ L.longest link.old }
@@ -106,7 +106,7 @@ fn go_round<L: OrderedLink>(
     memory: &mut PacketMemory,
     asked: &mut Places,
 ) -> bool
-    requires few { length circuits.old.items ≤ 16 }
+    requires few { length circuits.old.items ≤ 4095 }
     requires up { L.up link.old ≡ true }
     requires still { WaitAt asked.old circuits.old.items }
     requires longest { 4099 ≤ L.longest link.old }
