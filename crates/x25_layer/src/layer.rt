@@ -1,12 +1,12 @@
 ghost use Rattle.std.specs.Prelude.{◌≡◌, ℕ, ◌-◌, ◌^◌, ◌<◌, ◌≤◌, ◌↔◌, length, if◌then◌else◌, true, false, Some, IfOk};
-ghost use Rattle.std.specs.Prelude.{IfErr};
+ghost use Rattle.std.specs.Prelude.{IfErr, vec_capacity};
 ghost use Rattle.std.specs.Prelude.{IfSome, IfNone, IsErrOf, slice_get};
 ghost use Rattle.x25_layer.specs.code.Counts.{HaveCountsLeft};
-ghost use Rattle.x25_layer.specs.code.Waiting.{WaitAt};
+ghost use Rattle.x25_layer.specs.code.Idle.{IdleBeside};
 
+use crate::busy::Busy;
 use crate::circuits::{begun_circuits, forget_all};
 use crate::error::LayerError;
-use crate::places::Places;
 use crate::putting::PacketMemory;
 use crate::stretch::Stretch;
 use std::alloc::Global;
@@ -39,9 +39,10 @@ pub struct Layer {
     /// The first is on channel 1.
     pub(crate) circuits: Vec<Circuit>,
     ghost few: { length circuits.items ≤ 4095 },
-    /// The circuits that are asked for what waits: in the others no message does.
-    pub(crate) asked: Places,
-    ghost still: { WaitAt asked circuits.items },
+    /// The circuits of all other channels are idle.
+    pub(crate) busy: Busy,
+    ghost places: { vec_capacity busy.channels ≡ length circuits.items },
+    ghost still: { IdleBeside busy.channels.items circuits.items },
     /// It is known that no count is at 2^64 - 1.
     pub(crate) counts_left: bool,
     ghost restarts_left: { counts_left ≡ true → restarts < 2 ^ 64 - 1 },
@@ -81,14 +82,16 @@ impl Layer {
         if channels == 0 || channels > CHANNELS {
             return Err(LayerError::BadConfig);
         }
+        let mut busy = Busy::with(alloc, channels)?;
         let circuits = begun_circuits(alloc, role, channels, long_data)?;
+        busy.note_all(&circuits);
         Ok(Layer {
             role,
             long_data,
             restarting: false,
             restarts: 0,
             circuits,
-            asked: Places::everywhere(),
+            busy,
             counts_left: false,
             memory: Promise::new(alloc),
         })
@@ -144,8 +147,10 @@ impl Layer {
             → result ≡ awaited_up_to l.circuits c.channels }
     {
         let mut awaited = 0;
-        for circuit in self.circuits.iter() {
-            awaited += one_if(circuit.awaits().is_any());
+        let mut channel = 0;
+        while let Some(next) = self.busy.after(channel) {
+            awaited += one_if(self.circuits[usize::from(next) - 1].awaits().is_any());
+            channel = next;
         }
         awaited
     }
@@ -163,8 +168,10 @@ impl Layer {
             → result ≡ waits_up_to l.circuits c.channels }
     {
         let mut waits = 0;
-        for circuit in self.circuits.iter() {
-            waits += circuit.waits();
+        let mut channel = 0;
+        while let Some(next) = self.busy.after(channel) {
+            waits += self.circuits[usize::from(next) - 1].waits();
+            channel = next;
         }
         waits
     }
@@ -227,9 +234,9 @@ impl Layer {
         ensures memory { self.new.memory ≡ self.old.memory }
     {
         self.restarting = false;
-        self.asked = Places::everywhere();
         self.counts_left = false;
         forget_all(&mut self.circuits);
+        self.busy.note_all(&self.circuits);
     }
 
     /// The circuit of a channel.
