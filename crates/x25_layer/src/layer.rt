@@ -141,6 +141,27 @@ impl Layer {
         }
     }
 
+    /// How many channels there are.
+    pub fn channels(&self) -> u16
+        ensures { (c : LayerSettings) (l : State) → FitsLayer c self.now l → result ≡ c.channels }
+    {
+        self.circuits.len() as u16
+    }
+
+    /// The next channel after one on which something may be under way: on those between no answer is awaited.
+    pub fn busy_after(&self, channel: u16) -> Option<u16>
+        ensures higher { IfSome result (λ next. channel < next) }
+        ensures between { (c : LayerSettings) (l : State) → FitsLayer c self.now l
+            → IfSome result (λ next. (k : ℕ) → channel < k → k < next → awaited_at c l k ≡ Awaits.Nothing) }
+        ensures none { (c : LayerSettings) (l : State) → FitsLayer c self.now l
+            → IfNone result ((k : ℕ) → channel < k → awaited_at c l k ≡ Awaits.Nothing) }
+    {
+        if usize::from(channel) >= self.circuits.len() {
+            return None;
+        }
+        Some(channel + 1)
+    }
+
     /// On how many channels an answer is awaited.
     pub fn awaited(&self) -> usize
         ensures { (c : LayerSettings) (l : State) → FitsLayer c self.now l
