@@ -10,10 +10,14 @@ use Rattle.std.proofs.lemmas.List.Edits.{length-insert, get_or-insert_below, get
 use Rattle.x25_circuit.specs.declared.circuit.Circuit as circuit_code
 use Rattle.x25_circuit.specs.Awaits.{awaited_in, is_any}
 use Rattle.x25_circuit.specs.Circuit.{Circuit, waits}
-use Rattle.x25_layer.specs.Layer.{LayerSettings}
-use Rattle.x25_layer.specs.code.FitsLayer.{FitsCircuits, waits_up_to, awaited_up_to}
+use Rattle.x25_circuit.specs.declared.awaits.Awaits.{Awaits}
+use Rattle.x25_circuit.specs.declared.awaits.Awaits.TheVariants.{Nothing, Acceptance, ResetConfirmation, ClearConfirmation}
+use Rattle.x25_layer.specs.declared.layer.Layer as code
+use Rattle.x25_layer.specs.Layer.{LayerSettings, Layer, is_channel}
+use Rattle.x25_layer.specs.code.FitsLayer.{FitsCircuits, FitsLayer, awaited_at, waits_up_to, awaited_up_to}
 use Rattle.x25_layer.specs.code.Idle.{AreRising, IsOutside, IdleBeside}
 use Rattle.x25_layer.proofs.FitLemmas.{there}
+use Rattle.x25_layer.proofs.CallLemmas.{configured}
 
 -- where a place lies beside another
 pub place : (k at : ℕ) → (k < at) ⊎ ((k ≡ at) ⊎ (at < k))
@@ -236,3 +240,20 @@ module _ (c : LayerSettings) (vs : List circuit_code.Circuit) (hs : List ℕ) (f
         ap (λ (k : ℕ). awaited_up_to f k) behind_is
         ∙ past (λ k. awaited_up_to f k) (λ k. if is_any (awaited_in (f k).state) then 1 else 0) (λ k. refl) (i - n) n
         (λ k more less. ap (λ (b : Bool). if b then 1 else 0) (idle_on k (omega (arith, more)) (omega (arith, less, up, high)) (out k more (omega (arith, less, up)))).1)
+
+-- no answer is awaited on a channel that isn't one of the busy ones
+pub none_awaited : (c : LayerSettings) (v : code.Layer) (l : Layer) → FitsLayer c v l → (k : ℕ) → IsOutside v.busy.channels.items k → awaited_at c l k ≡ Nothing
+none_awaited c v l fits k out = by (is_channel c.channels k) refl
+  where
+    not_any : (a : Awaits) → is_any a ≡ false → a ≡ Nothing
+    not_any Nothing is = refl
+    not_any Acceptance is = absurd (cc)
+    not_any ResetConfirmation is = absurd (cc)
+    not_any ClearConfirmation is = absurd (cc)
+
+    by : (b : Bool) → is_channel c.channels k ≡ b → (if b then awaited_in (l.circuits k).state else Nothing) ≡ Nothing
+    by false is = refl
+    by true is =
+        let within = configured c.channels k is in
+        let channels = fits.channels in
+        not_any (awaited_in (l.circuits k).state) (idle_on c v.circuits.items v.busy.channels.items l.circuits fits.circuits v.still k within.0 (let high = within.1 in omega (arith, high, channels)) out).1

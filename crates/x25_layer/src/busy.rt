@@ -57,7 +57,8 @@ impl Busy {
     pub(crate) fn after(&self, channel: u16) -> Option<u16>
         ensures higher { IfSome result (λ next. channel < next) }
         ensures within { IfSome result (λ next. next ≤ vec_capacity self.now.channels) }
-        ensures between { IfSome result (λ next. (k : ℕ) → channel < k → k < next → IsOutside self.now.channels.items k) }
+        ensures between { IfSome result (λ next. (k : ℕ) → channel < k → k < next
+            → IsOutside self.now.channels.items k) }
         ensures none { IfNone result ((k : ℕ) → channel < k → IsOutside self.now.channels.items k) }
     {
         let at = self.count_to(channel);
@@ -85,7 +86,8 @@ impl Busy {
 
     /// Without this channel.
     pub(crate) fn remove(&mut self, channel: u16)
-        ensures others { (k : ℕ) → (k ≡ channel → ⊥) → IsOutside self.new.channels.items k → IsOutside self.old.channels.items k }
+        ensures others { (k : ℕ) → (k ≡ channel → ⊥) → IsOutside self.new.channels.items k
+            → IsOutside self.old.channels.items k }
         ensures places { vec_capacity self.new.channels ≡ vec_capacity self.old.channels }
     {
         let Ok(at) = self.channels.binary_search(&channel) else {
@@ -98,7 +100,8 @@ impl Busy {
     #[inline(always)]
     pub(crate) fn note(&mut self, channel: u16, circuit: &Circuit)
         requires { is_channel (vec_capacity self.old.channels) channel ≡ true }
-        ensures others { (k : ℕ) → (k ≡ channel → ⊥) → IsOutside self.new.channels.items k → IsOutside self.old.channels.items k }
+        ensures others { (k : ℕ) → (k ≡ channel → ⊥) → IsOutside self.new.channels.items k
+            → IsOutside self.old.channels.items k }
         ensures this { IsOutside self.new.channels.items channel → IsIdle circuit.now }
         ensures places { vec_capacity self.new.channels ≡ vec_capacity self.old.channels }
     {

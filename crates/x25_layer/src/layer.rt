@@ -156,10 +156,7 @@ impl Layer {
         ensures none { (c : LayerSettings) (l : State) → FitsLayer c self.now l
             → IfNone result ((k : ℕ) → channel < k → awaited_at c l k ≡ Awaits.Nothing) }
     {
-        if usize::from(channel) >= self.circuits.len() {
-            return None;
-        }
-        Some(channel + 1)
+        self.busy.after(channel)
     }
 
     /// On how many channels an answer is awaited.

@@ -54,7 +54,8 @@ fn reserve_on(
     ensures count { length circuits.new.items ≡ length circuits.old.items }
     ensures left { HaveCountsLeft circuits.old.items → HaveCountsLeft circuits.new.items }
     ensures places { vec_capacity busy.new.channels ≡ vec_capacity busy.old.channels }
-    ensures still { IdleBeside busy.old.channels.items circuits.old.items → IdleBeside busy.new.channels.items circuits.new.items }
+    ensures still { IdleBeside busy.old.channels.items circuits.old.items
+        → IdleBeside busy.new.channels.items circuits.new.items }
     ensures room { OnOk result (HasRoomOn channel len circuits.new.items) }
     ensures err { IfErr result (λ e. e ≡ LayerError.NoMemory) }
     ensures enough { HasRoomOn channel len circuits.old.items → IsOk result }

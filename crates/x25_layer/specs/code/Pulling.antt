@@ -1,5 +1,6 @@
 -- A step of a layer over a link, within its rounds of pulls.
-use Rattle.std.specs.Prelude.{◌≡◌, ℕ, ◌+◌, ◌<◌, ◌≤◌, List, length, vec_capacity, None, Bool, true, false, if◌then◌else◌, nat_lt}
+use Rattle.std.specs.Prelude.{◌≡◌, ℕ, ◌+◌, ◌<◌, ◌≤◌, List, length, vec_capacity, None, Bool, true, false, if◌then◌else◌}
+use Rattle.std.specs.Prelude.{nat_lt}
 use Rattle.std.specs.Prelude.{option_to_list}
 use Rattle.x25_link.specs.OrderedLink.{Lists}
 use Rattle.x25_link.specs.declared.ordered_link.OrderedLink.{Ghosts}
