@@ -1,7 +1,7 @@
 use Rattle.std.proofs.Common.{◌≡◌, map}
 use Rattle.x25_clock.specs.Clock.{renewed}
 use Rattle.x25_clock.proofs.ListLemmas.{left_mapped}
-use Rattle.x25_clock.proofs.clock.Clock.renew.Given as goal
+use Rattle.x25_clock.proofs.awaited.renew_in.Given as goal
 
 -- those in front are changed
 abbrev pub invariant-loop-wait : goal.invariant-loop-wait
