@@ -13,7 +13,7 @@
  *
  * An answer has at most 24 frames of at most 4,103 octets, and 4 events, of which one has at most 65,535 octets; that of
  * x25_receive_all has as many for each frame that was taken. Its memory is set aside before anything happens: reading it takes
- * none, but for x25_entry. A new station takes less than 300 kB, one with all that may wait on 16 channels less than 10 MB.
+ * none, but for x25_entry. A new station takes less than 250 kB, one with all that may wait on 16 channels less than 10 MB.
  *
  * What the library can't see, and the program has to keep:
  * - An x25_station that holds a station isn't copied, only the library reads and writes its fields, and it is in one call at
@@ -294,7 +294,7 @@ size_t x25_facilities(const x25_station *station, size_t i, uint8_t *room, size_
 size_t x25_frames(const x25_station *station);
 size_t x25_frame(const x25_station *station, size_t i, uint8_t *room, size_t size);
 size_t x25_entries(const x25_station *station);
-uint32_t x25_entry(x25_station *station, size_t i, char *text, size_t size, size_t *count);
+uint32_t x25_entry(const x25_station *station, size_t i, char *text, size_t size, size_t *count);
 /* What became of timer T1 at the last call. */
 uint32_t x25_timer(const x25_station *station);
 

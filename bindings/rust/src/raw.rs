@@ -154,7 +154,7 @@ extern "C" {
     pub fn x25_facilities(slot: *const Slot, i: usize, room: *mut u8, size: usize) -> usize;
     pub fn x25_entries(slot: *const Slot) -> usize;
     pub fn x25_entry(
-        slot: *mut Slot,
+        slot: *const Slot,
         i: usize,
         text: *mut u8,
         size: usize,
