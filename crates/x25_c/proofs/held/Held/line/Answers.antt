@@ -6,7 +6,7 @@ use Rattle.x25_c.specs.Held.{lines_of}
 use Rattle.x25_c.proofs.ItemLemmas.{past_from}
 use Rattle.x25_c.proofs.held.Held.line.Goals as goal
 
-pub returns-in_default : goal.returns-in_default
-returns-in_default c =
+pub returns-in-None : goal.returns-in-None
+returns-in-None c =
     let h = c.args.self.now in let entries = h.earlier.entries.items ++ h.step.entries.items in
-    sym (get_or_past (lines_of h) c.args.i _ (omega (arith, length-map entries (λ entry. entry_line h.end (plain_entry entry)), past_from entries c.args.i (sym c.in_default.ensures))))
+    sym (get_or_past (lines_of h) c.args.i _ (omega (arith, length-map entries (λ entry. entry_line h.end (plain_entry entry)), past_from entries c.args.i (sym c.in-None.ensures))))
