@@ -1,0 +1,5 @@
+mod Stands
+mod Covers
+mod Sends
+mod Leads
+mod Exactly

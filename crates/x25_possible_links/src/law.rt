@@ -1,0 +1,17 @@
+//! The judge of a link, as laws: each is the contract of a function that does nothing.
+ghost use Rattle.std.specs.Prelude.{List};
+ghost use Rattle.x25_possible_links.specs.laws.Links.{TellsExactly};
+ghost use Rattle.x25_possible_links.specs.rows.Rows.{RowsAreTold, RowsAreToldLater, RowsAreUntold};
+ghost use Rattle.x25_possible_links.specs.declared.stand.Stand.{Stand};
+
+/// The places that a judge of a link keeps tell exactly which tapes an end explains that keeps the rules.
+pub fn links_tell_exactly()
+    ensures { (begun : List Stand) → TellsExactly begun }
+{}
+
+/// Worked rows: nothing in the definition is empty.
+pub fn rows_are_told()
+    ensures told { RowsAreTold }
+    ensures untold { RowsAreUntold }
+    ensures later { RowsAreToldLater }
+{}
