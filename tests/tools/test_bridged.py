@@ -156,10 +156,10 @@ class Two(ToolCase):
     def test_a_command_that_is_refused(self):
         dce, words = self.listening("--t1", "1", "--quiet", "8")
         dte = self.begin("dte", *words, "--t1", "1", "--quiet", "3")
-        dce.stdin.close()
         out, said = dte.communicate("dte call 1 2 -\n", timeout=SECONDS)
         self.assertEqual((dte.returncode, out.partition("\n")[2]), (1, "! 9\n# ! 9, the link isn't up: 'dte call 1 2 -'\n"), said)
         self.assertEqual(out.partition("\n")[0], f"# connected to {words[1]}")
+        dce.stdin.close()
         dce.stdout.close()
         dce.stderr.close()
         dce.wait(SECONDS)

@@ -143,6 +143,7 @@ pub fn read_user(command: &Command, octets: &mut Vec<u8>) -> Result<usize, Alloc
 }
 
 /// What is asked of a call, with its octets of user data.
+#[inline(always)]
 fn call_command<'a>(call: &CallPart<'a>, user: &'a [u8]) -> CallCmd<'a>
     requires { user.now ≡ part_user (plain_part call.now) }
     ensures { request_of result ≡ part_asked (plain_part call.now) }
@@ -172,6 +173,7 @@ fn call_command<'a>(call: &CallPart<'a>, user: &'a [u8]) -> CallCmd<'a>
 }
 
 /// What is asked of a call with something beside it, with the octets of both.
+#[inline(always)]
 fn given_command<'a>(
     facilities: &HexDigits,
     user: &HexDigits,

@@ -124,6 +124,7 @@ impl<T: LineTaker> LineTaker for Loosely<T> {
 
     ghost ended = { λ s old now lines text. T.ended s.1 old now (asked_lines s.0 lines) (asked_text s.0 text) };
 
+    #[inline(always)]
     fn take_line<W: Sink>(&mut self, line: Option<&[u8]>, writer: &mut W) -> Result<(), Fault> {
         let Some(line) = line else {
             return self.taker.take_line(None, writer);

@@ -50,18 +50,6 @@ module _ (c : Settings) (times : Times) (old next : Option (List ℕ)) (told : L
 -- ---- a turn that is made in parts
 
 module _ (c : Settings) (times : Times) (old now next : Option (List ℕ)) (p u : TimedPipe) (told : List ℕ) (refused : Bool) (whole : TimedTurn) where
-  -- all of it is left
-  pub all_left : (rest : Timed → TimedTurn) (w : Timed) → rest w ≡ whole → StandsTimed c times old now p w told refused → LeavesTimed c times old now p rest told refused whole
-  all_left rest w is h = record {
-    at = w;
-    text = told;
-    status = refused;
-    stands = h;
-    next = ap (λ t. t.next) is;
-    same = ap (λ t. told ++ t.text) is;
-    any = ap (λ t. refused || t.is_refused) is;
-  }
-
   -- nothing of it is left but what says nothing
   pub none_left : (rest : Timed → TimedTurn) (l : LeavesTimed c times old now p rest told refused whole) (w : Timed) → rest l.at ≡ writes w [] → StandsTimed c times old next u w l.text l.status
       → StandsTimedAt c times old next u told refused whole

@@ -45,9 +45,6 @@ module _ (c : Settings) (times : Times) where
   here : (w : Watched) → Leads c times w w
   here w = record { moments = []; is = refl }
 
-  one : (m : Moment) (w : Watched) → Leads c times w (watched_by c times m w)
-  one m w = record { moments = m ∷ []; is = refl }
-
   -- a deed and its pull are two moments
   deeds_lead : (event : Event) (o : Outcome) (w : Watched) → Leads c times w (wait.all_done c times (with_pull (wait.Happens 0 event) o) w)
   deeds_lead event (Did step) w = record { moments = Happens 0 event ∷ Happens 0 (Asks (Requests PullsAll)) ∷ []; is = refl }

@@ -2,10 +2,10 @@
 ghost use Rattle.std.specs.Prelude.{◌≡◌, ◌↔◌, ◌++◌, ◌≤◌, IfErr, IfOk, IsTrue};
 ghost use Rattle.x25_pipe.specs.Pipe.{is_same as are_same};
 
-use crate::telling::{tell_entries, tell_frames, tell_mark, tell_refusal};
+use crate::telling::{tell_frames, tell_mark};
 use std::alloc::Global;
 use x25_clock::Due;
-use x25_console::{read_user, station_command, tell_nothing};
+use x25_console::{read_user, station_command, tell_entries, tell_nothing, tell_refusal};
 use x25_decode::read_sent;
 use x25_io::{Fault, Output, Sink};
 use x25_script::{Command, HexDigits, ScriptTaker, read_line};
@@ -180,7 +180,7 @@ impl Pipe {
         }
         self.is_refused = true;
         self.station.reuse(&mut self.step);
-        tell_refusal(error, &mut self.output, writer)
+        tell_refusal(error.number(), &mut self.output, writer)
     }
 
     /// Tells that a line asks for nothing.

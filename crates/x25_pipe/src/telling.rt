@@ -1,11 +1,8 @@
-//! What is told of a step of the station: a line for each entry and behind these for each frame, and the mark.
+//! What is told of a step of the station beside its entries: a line for each frame, and the mark.
 ghost use Rattle.std.specs.Prelude.{◌≡◌, ◌++◌, OnOk, codes, map};
 ghost use Rattle.x25_io.specs.code.MarksFaults.{MarksFaults};
 ghost use Rattle.x25_io.specs.code.Written.{TellsMore};
-ghost use Rattle.x25_console.specs.Telling.{refusal_line as line_of_refusal};
-ghost use Rattle.x25_station.specs.code.PlainEntry.{plain_entry};
-ghost use Rattle.x25_station.specs.Error.{number_of};
-ghost use Rattle.x25_pipe.specs.Pipe.{enters, marks, saying_line, sayings_text, sends};
+ghost use Rattle.x25_pipe.specs.Pipe.{marks, saying_line, sayings_text, sends};
 ghost use Rattle.x25_pipe.specs.Pipe.{work_text};
 ghost use Rattle.x25_pipe.specs.Timed.{channel_for, channel_in, next_line, next_text, timeout_line, timer_text};
 ghost use Rattle.x25_transcript.specs.EntryText.{end_text};
@@ -14,25 +11,11 @@ use std::alloc::AllocError;
 use x25_clock::Due;
 use x25_console::{tell, tell_frame};
 use x25_io::{Fault, Output, Sink};
-use x25_station::{Awaits, Entry, Role, StationError, Timer};
+use x25_station::{Awaits, Role, Timer};
 use x25_text::Text;
 
 /// So much room is made before a line of the clock is written where it waits: none is longer.
 const LINE: usize = 64;
-
-/// Tells the entries of a step.
-pub(crate) fn tell_entries<W: Sink>(
-    end: Role,
-    entries: &[Entry],
-    output: &mut Output,
-    writer: &mut W,
-) -> Result<(), Fault>
-    ensures tells { TellsMore result (W.contents writer.old) (W.contents writer.new) output.old output.new
-        (sayings_text end (map enters (map plain_entry entries.now))) }
-    ensures faults { MarksFaults W.Sink writer.old writer.new result }
-{
-    x25_console::tell_entries(end, entries, output, writer)
-}
 
 /// Tells the frames of a step.
 #[tactic(auto, unfolding(crate::specs::Pipe::saying_line))]
@@ -50,19 +33,6 @@ pub(crate) fn tell_frames<W: Sink>(
         tell_frame(end, frame.as_slice(), output, writer)?;
     }
     Ok(())
-}
-
-/// Tells that what a line asks for is refused.
-pub(crate) fn tell_refusal<W: Sink>(
-    error: StationError,
-    output: &mut Output,
-    writer: &mut W,
-) -> Result<(), Fault>
-    ensures tells { TellsMore result (W.contents writer.old) (W.contents writer.new) output.old output.new
-        (line_of_refusal (number_of error)) }
-    ensures faults { MarksFaults W.Sink writer.old writer.new result }
-{
-    x25_console::tell_refusal(error.number(), output, writer)
 }
 
 /// The line of a mark: what T1 does, and whether the station is idle, or an answer is due of the other end then.

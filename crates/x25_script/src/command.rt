@@ -26,7 +26,6 @@ fn call(text: &[u8]) -> Option<CallPart<'_>>
     })
 }
 
-#[inline(always)]
 #[tactic(auto, unfolding(crate::specs::Reading::accept_in))]
 fn accept_part(text: &[u8]) -> Option<CallPart<'_>>
     ensures { GivesPart result (accept_in text.now) }
@@ -139,11 +138,17 @@ fn alone_in(part: Option<CallPart<'_>>) -> Option<Command<'_>>
     }
 }
 
+/// As `accept_part`, made at once.
 #[inline(always)]
+#[tactic(auto, unfolding(crate::specs::Reading::accept_in))]
 pub(crate) fn accept(text: &[u8]) -> Option<Command<'_>>
     ensures { GivesCommand result (accept_in text.now) }
 {
-    alone_in(accept_part(text))
+    let (channel, params) = with_params(text)?;
+    Some(Command::Accept {
+        params,
+        channel: number(channel)?,
+    })
 }
 
 /// What is asked of a call, by its first word.

@@ -16,18 +16,6 @@ use Rattle.x25_io.proofs.ToldLemmas.{prefix_more, told_prefix}
 use Rattle.x25_sim.proofs.StandLemmas.{StandsAt, BeginsAt, parts_text, parts_refused}
 
 module _ (cfg : Cfg) (shown : Shown) (old now next : Option (List ℕ)) (s u : Stage) (told : List ℕ) (refused : Bool) (whole : Turn) where
-  -- all of it is left
-  pub all_left : (rest : World → Turn) (w : World) → Stands cfg shown old now s w told refused → rest w ≡ whole → Leaves cfg shown old now s rest told refused whole
-  all_left rest w h e = record {
-    at = w;
-    text = told;
-    status = refused;
-    stands = h;
-    next = ap (λ t. t.next) e;
-    same = ap (λ t. told ++ sayings_text t.sayings) e;
-    any = ap (λ t. refused || has_refusal t.sayings) e;
-  }
-
   -- nothing of it is left
   pub none_left : (rest : World → Turn) (l : Leaves cfg shown old now s rest told refused whole) → rest l.at ≡ quiet l.at → StandsAt cfg shown old now s told refused whole
   none_left rest l is =

@@ -99,7 +99,7 @@ impl<W: Sink, P: Reporter> ScriptTaker<W> for Simulator<P> {
         self.stage.happen(Event::T1(end), writer)
     }
 
-    #[inline(never)]
+    #[inline(always)]
     #[tactic(auto, unfolding(crate::specs::Stage::line_turn))]
     fn deliver(&mut self, from: Role, writer: &mut W) -> Result<(), Fault> {
         self.stage.happen(Event::Deliver(away_from(from)), writer)

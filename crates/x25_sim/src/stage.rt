@@ -6,9 +6,9 @@ ghost use Rattle.x25_world.specs.code.FitsWorld.{FitsWorld};
 ghost use Rattle.x25_world.specs.code.ShownWorld.{ShownWorld, line_from, line_of};
 ghost use Rattle.x25_sim.specs.code.Stands.{opening};
 
-use crate::telling::{tell_entries, tell_frames, tell_mark, tell_refusal};
+use crate::telling::{refusal_number, tell_frames, tell_mark};
 use std::alloc::Global;
-use x25_console::tell_nothing;
+use x25_console::{tell_entries, tell_nothing, tell_refusal};
 use x25_io::{Fault, Output, Sink};
 use x25_script::Command;
 use x25_station::{Cfg, Cmd, Step};
@@ -172,7 +172,7 @@ impl Stage {
     {
         unless_memory(error)?;
         self.is_refused = true;
-        tell_refusal(error, &mut self.output, writer)
+        tell_refusal(refusal_number(error), &mut self.output, writer)
     }
 
     /// Tells an event, where events are told.

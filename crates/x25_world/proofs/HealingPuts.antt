@@ -205,7 +205,7 @@ all_asked laws cfg fine (e ∷ events) w h v like are octets free =
     let next = after w (happens cfg w e) in
     let a = event_asked laws cfg fine e.at e.act w h v like are.0 octets.0 free.0 in
     let first = all_at e.at (asked_of a.comes a.handed) in
-    let joined = event_joined laws cfg fine e.at e.act w (λ before x is. absurd (down_at_none before x is)) octets.0 (λ off. not_set_up false off) h in
+    let joined = (event_joined laws cfg fine e.at e.act w (λ before x is. absurd (down_at_none before x is)) octets.0 (λ off. not_set_up false off) h).joined in
     let r = all_asked laws cfg fine events next joined (links.run c d first v) a.alike are.1 octets.1 free.1 in
     record {
       asked = first ++ r.asked;
@@ -276,7 +276,7 @@ module _ (laws : SessionLaws) (keeps : ConnectKeeps) where
 
       -- both fire
       fire : (at : Role) (x : World) → SessionsJoined both_down cfg Dte x → SessionsJoined both_down cfg Dte (after x (happens cfg x (firing at)))
-      fire at x joined = event_joined laws cfg configured at Fires x (λ before e same. absurd (down_at_none before e same)) tt (λ off. not_set_up false off) joined
+      fire at x joined = (event_joined laws cfg configured at Fires x (λ before e same. absurd (down_at_none before e same)) tt (λ off. not_set_up false off) joined).joined
 
       both : World
       both = run cfg (firing Dte ∷ firing Dce ∷ []) w

@@ -95,7 +95,7 @@ module _ (laws : SessionLaws) (cfg : Cfg) (fine : IsConfigured cfg) where
         one_link = λ asks is. event_is_none asks h.links e is;
         grown = λ before x is. record { asked = []; may = tt; timely = tt; run = sym (ap (λ (b : Beginning). links_in b h.links) is) };
       }) in
-      let j = event_joined laws cfg fine e.at e.act w (λ before x is. sym (ap (λ (b : Beginning). event_in b e) is)) octets (λ free. event_is_none false h.links e free) within in
+      let j = (event_joined laws cfg fine e.at e.act w (λ before x is. sym (ap (λ (b : Beginning). event_in b e) is)) octets (λ free. event_is_none false h.links e free) within).joined in
       let g = j.reach.grown h.links e refl in
       record {
         joined = retold cfg (after w (happens cfg w e)) j (record {

@@ -21,6 +21,7 @@ use Rattle.x25_world.specs.World.{World, swapped, Event, Act, Commands, Receives
 use Rattle.x25_world.specs.laws.Claims.{ActsInOctets, AreInOctets, entries_at, ups_in, IsUpOnce, IsUpAtMostOnce, IsBeginning, UpOnceUnlessConnected, Always, UntilSecondUp, IsLawful, IsNamed, ArrivesAll, HasNoProcedureError}
 use Rattle.x25_world.proofs.Established.{connected_tells}
 use Rattle.x25_world.specs.laws.SessionClaims.{Throughout, ThroughoutAlong, MeetInStep, AreLawfulWhereMet, AreNamedInSessions, AllArrive, UnmetAreToldNothing, OpenStretchesMeet, SessionsKeepOrder}
+use Rattle.x25_world.specs.laws.BesideClaims.{BesideIsGiven}
 use Rattle.x25_world.specs.laws.SessionWindow.{SessionsStayInWindow}
 use Rattle.x25_world.specs.laws.WindowGoes.{StaysInWindow}
 use Rattle.x25_world.specs.code.ShownLine.{ShownLine}
@@ -252,7 +253,8 @@ all_of_sessions step lawful named arrives unmet stand quiet window cfg fine from
 }
 
 -- by the laws on two stations the claims hold of each call that goes on with the run
-module _ (lawful : UntilSecondUp IsLawful) (named : UntilSecondUp IsNamed) (arrives : UntilSecondUp ArrivesAll) (quiet : UntilSecondUp HasNoProcedureError) (window : Always StaysInWindow) (up_once : UpOnceUnlessConnected) (sessions : Throughout SessionsKeepOrder) (links : ThroughoutAlong SessionsStayInWindow) where
+module _ (lawful : UntilSecondUp IsLawful) (named : UntilSecondUp IsNamed) (arrives : UntilSecondUp ArrivesAll) (quiet : UntilSecondUp HasNoProcedureError) (window : Always StaysInWindow) (up_once : UpOnceUnlessConnected) (sessions : Throughout SessionsKeepOrder) (links : ThroughoutAlong SessionsStayInWindow)
+    (beside : ThroughoutAlong BesideIsGiven) where
   pub claims_hold : (old new : ShownWorld) (more : List Event → List Event)
       → ((cfg : Cfg) (from : World) (past : List Event) → FitsRun cfg from old past → FitsRun cfg from new (more past)) → Claims old new more
   claims_hold old new more runs = record {
@@ -265,6 +267,7 @@ module _ (lawful : UntilSecondUp IsLawful) (named : UntilSecondUp IsNamed) (arri
     up_once = λ cfg past h none. let r = runs cfg (established cfg) past h in record { fits = r; holds = up_once cfg r.settings (more past) r.octets none };
     sessions = λ cfg from past begins h. let r = runs cfg from past h in record { fits = r; holds = sessions cfg r.settings from begins (more past) r.octets };
     links = λ cfg from past begins h. let r = runs cfg from past h in record { fits = r; holds = links cfg r.settings from begins (more past) r.octets };
+    beside = λ cfg from past begins h. let r = runs cfg from past h in record { fits = r; holds = beside cfg r.settings from begins (more past) r.octets };
   }
 
   -- they hold of a world that was just made
@@ -277,6 +280,7 @@ module _ (lawful : UntilSecondUp IsLawful) (named : UntilSecondUp IsNamed) (arri
     quiet = quiet cfg h.settings from begins [] tt once;
     sessions = sessions cfg h.settings from begins [] tt;
     links = links cfg h.settings from begins [] tt;
+    beside = beside cfg h.settings from begins [] tt;
   }
 
   -- they hold of one whose link was just set up

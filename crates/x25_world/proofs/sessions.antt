@@ -1,6 +1,7 @@
 -- What holds over set-up and re-set-up: proofs of the claims on sessions.
 pub mod SessionTrace
 pub mod SessionReaches
+pub mod SessionBeside
 pub mod SessionJoined
 pub mod SessionEntries
 pub mod SessionKnown

@@ -1,5 +1,6 @@
 -- What the laws of this crate say (src/law.rt), and the machines that they are about.
 pub mod Claims
+pub mod BesideClaims
 pub mod SessionClaims
 pub mod LawsBelow
 pub mod OctetLaw

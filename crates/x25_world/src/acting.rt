@@ -120,6 +120,7 @@ fn command(
 }
 
 // The front frame on the line to the end arrives.
+#[inline(always)]
 fn deliver(at: Role, near: &mut Station, line: &mut Line, out: &mut Step) -> Result<(), WorldError>
     ensures step { IsStepOf result out.new 3 }
     ensures places { TakesFew 17 line.old line.new }

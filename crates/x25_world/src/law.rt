@@ -4,6 +4,7 @@ ghost use Rattle.x25_station.specs.Command.{RequestsWith, request_of};
 ghost use Rattle.x25_station.specs.laws.ReadLaw.{AreOctets};
 ghost use Rattle.x25_world.specs.World.{event_of};
 ghost use Rattle.x25_world.specs.rows.WorldRows.{SetsUp, MessageArrives, LostArrives, DamagedArrives};
+ghost use Rattle.x25_world.specs.rows.WorldRows.{GivenArrives};
 ghost use Rattle.x25_world.specs.rows.WorldRows.{DisconnectEndsBoth, ConnectSetsUp, ConnectGoesAgain, SecondMeetsFirst};
 ghost use Rattle.x25_world.specs.rows.WorldRows.{SecondMeet, TimerWaits, IsRefused};
 ghost use Rattle.x25_world.specs.laws.SessionClaims.{Throughout, ThroughoutAlong, MeetInStep, AreLawfulWhereMet};
@@ -19,12 +20,14 @@ ghost use Rattle.x25_world.specs.laws.Claims.{ArrivesAll, HasNoProcedureError, U
 ghost use Rattle.x25_world.specs.laws.WindowGoes.{StaysInWindow};
 ghost use Rattle.x25_world.specs.laws.SessionWindow.{SessionsStayInWindow};
 ghost use Rattle.x25_world.specs.laws.TapOctets.{IsTapOfOctets};
+ghost use Rattle.x25_world.specs.laws.BesideClaims.{BesideIsGiven};
 
 use crate::Event;
 use x25_frame::reads_what_is_spelled;
 use x25_layer::{apart_layers_keep_order, each_end_is_by_itself};
 use x25_line::{each_session_event_hands_one, links_keep_order, sessions_keep_order};
 use x25_link::{notes_what_changes, sets_up_by_rows};
+use x25_packet::reading_is_the_grammar;
 use x25_station::{
     CallCmd, Cmd, Given, puts_are_readable, stations_hold_few, steps_are_joined, steps_keep_bounds,
     what_is_given_is_told,
@@ -45,6 +48,7 @@ pub(crate) fn laws_below()
     notes_what_changes();
     sets_up_by_rows();
     reads_what_is_spelled();
+    reading_is_the_grammar();
 }
 
 /// Two stations joined by a line of octets that keeps order and may lose or visibly damage any frame, from both links
@@ -115,6 +119,10 @@ pub fn two_stations_keep_order()
 /// after it: an end whose link is up has its session, and the one that it meets or is to meet, in the machine, with the
 /// unbounded numbers behind those on the line to it, and behind those on both lines where both links are up. A frame
 /// keeps the numbers that it was given as it was put.
+/// - `beside`: what a user is told that came beside the packet of a call, an acceptance or a clearing, in a session
+/// that meets one, is what the other end's user gave there: in order, each at most once, on its channel, the user data
+/// as given and the facilities behind the station's own packet sizes and windows. In a session that meets none nothing
+/// is told of it.
 ///
 /// Premises: k is 1 to 7, N2 1 to 255, channels 1 to 16, and the users hand down octets.
 pub fn stations_meet_in_sessions()
@@ -127,6 +135,7 @@ pub fn stations_meet_in_sessions()
     ensures quiet { Throughout HasNoProcedureError }
     ensures octets { Throughout IsTapOfOctets }
     ensures window { ThroughoutAlong SessionsStayInWindow }
+    ensures beside { ThroughoutAlong BesideIsGiven }
 {
     laws_below();
 }
@@ -156,6 +165,7 @@ pub fn worlds_hold_few()
 }
 
 /// Worked rows: the octets of set-up; a message that arrives, also where its frame is lost or damaged and goes again;
+/// what is given with a call and its acceptance, of which the other user is told;
 /// `disconnect`, by which both ends go down; `connect`, by which both come up, also where both ask, or UA is lost, so
 /// that the second session of the DCE meets the first of the DTE, and again after the DTE left, so that the second of
 /// both meet; timer T1, which waits for SABM and UA that are on the line; and refusals.
@@ -164,6 +174,7 @@ pub fn two_stations_move()
     ensures arrives { MessageArrives }
     ensures lost { LostArrives }
     ensures damaged { DamagedArrives }
+    ensures given { GivenArrives }
     ensures disconnect { DisconnectEndsBoth }
     ensures connect { ConnectSetsUp }
     ensures connect_again { ConnectGoesAgain }

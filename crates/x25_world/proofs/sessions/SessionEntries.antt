@@ -1,23 +1,33 @@
 -- What entries that an end's step adds say of its sessions, and of whom they meet.
-use Rattle.std.proofs.Common.{◌≡◌, ℕ, List, [], ◌∷◌, ◌++◌, Bool, true, false, if◌then◌else◌, Option, Some, None, refl, sym, ap, ap₂, ◌∙◌, subst, append_assoc}
+use Rattle.std.proofs.Common.{◌≡◌, ℕ, List, [], ◌∷◌, ◌++◌, inl, Bool, true, false, if◌then◌else◌, Option, Some, None, Result, Ok, refl, sym, ap, ap₂, ◌∙◌, subst, append_assoc, append-nil}
 use Rattle.x25_bits.specs.declared.role.Role.{Role}
 use Rattle.x25_bits.specs.declared.role.Role.TheVariants.{Dte, Dce}
 use Rattle.x25_link.specs.declared.phase.Notes.{Notes}
 use Rattle.x25_link.specs.Hearing.{other}
 use Rattle.x25_link.specs.laws.NoteLaw.{IsQuiet}
 use Rattle.x25_link.specs.Hearing.{Step as LinkStep}
-use Rattle.x25_layer.specs.Layer.{LayerSettings, Layer, LayerNotice, on_channel, restarted, restart_done, layer_fault}
+use Rattle.x25_packet.specs.Packet.{PlainPacket, restart, restart_conf}
+use Rattle.x25_packet.specs.Spelling.{channel_of}
+use Rattle.x25_packet.specs.declared.error.PacketError.{PacketError}
+use Rattle.x25_circuit.specs.Hearing.{Answer, answers}
+use Rattle.x25_circuit.specs.Notice.{PlainNotice}
+use Rattle.x25_layer.specs.Layer.{LayerSettings, Layer, LayerAnswer, LayerNotice, on_channel, restarted, restart_done, layer_fault, is_channel, notices_on, answers_on, drops, answers_in, layer_answers}
+use Rattle.x25_layer.specs.Rounds.{answer_to}
 use Rattle.x25_layer.specs.Calls.{LayerRequest, Asks, Dials, Restarts, PullsAll, LayerOutcome, Accepted, Declined}
 use Rattle.x25_layer.specs.laws.Transcript.{Entry, Said, Asked, Told}
 use Rattle.x25_layer.specs.laws.TwoLayers.{entries_asked}
 use Rattle.x25_layer.specs.laws.ApartLaw.{BeginsRestarted}
 use Rattle.x25_station.specs.Beside.{PlainBeside, nothing, fields, diagnosed, beside_in}
-use Rattle.x25_station.specs.Config.{Settings, layer_settings}
-use Rattle.x25_station.specs.Entry.{StationEntry, of_channel, restart_asked, connect_asked, disconnect_asked, relink_asked, link_up, link_down, was_restarted, restart_confirmed, at_fault, came_beside, was_diagnosed, bringing, entries_beside, of_channels, station_told, entries_noted, notice_of, layer_notices}
-use Rattle.x25_station.specs.Step.{entries_of_outcome, layer_answer, entries_heard, follows}
+use Rattle.x25_station.specs.declared.config.Cfg.{Cfg}
+use Rattle.x25_station.specs.Config.{Settings, settings_from, layer_settings}
+use Rattle.x25_station.specs.Entry.{StationEntry, of_channel, restart_asked, connect_asked, disconnect_asked, relink_asked, link_up, link_down, was_restarted, restart_confirmed, at_fault, came_beside, was_diagnosed, may_bring, bringing, entries_beside, of_channels, station_told, entries_noted, notice_of, layer_notices}
+use Rattle.x25_station.specs.Step.{entries_of_outcome, layer_answer, entries_of_packet, entries_heard, follows}
 use Rattle.x25_world.specs.World.{AtEnd, entered}
+use Rattle.x25_world.specs.laws.BesideClaims.{Came, came_in}
 use Rattle.x25_world.specs.laws.Claims.{entry_of_end, entries_at}
 use Rattle.x25_world.specs.laws.Sessions.{Progress, none_begun, after_entry, after_entries, is_in, entry_if, session_from, first_of, met_at, met_by, meets_from, meets}
+use Rattle.x25_world.proofs.Growing.{read_by}
+use Rattle.x25_world.proofs.sessions.SessionBeside.{brought_as, brought_by, brought, AreTold}
 
 -- ---- one behind the other
 
@@ -221,3 +231,73 @@ heard_plain c l k octets some quiet =
     ∙ ap (λ (n : Notes). entries_noted n ++ entries_heard (layer_settings c) c.wide l (Some octets) n.down n.up) quiet))
     (told_plain (layer_answer (layer_settings c) c.wide l octets).next (layer_answer (layer_settings c) c.wide l octets).notices
     (beside_in c.wide octets) (bringing (layer_answer (layer_settings c) c.wide l octets).notices))
+
+-- ---- what came beside
+
+channel_beside : (es : List Entry) → came_in (of_channels es) ≡ []
+channel_beside [] = refl
+channel_beside (e ∷ es) = channel_beside es
+
+-- a command of a user tells nothing of it
+pub outcome_beside : (c : LayerSettings) (l : Layer) (request : LayerRequest) (o : LayerOutcome) → came_in (entries_of_outcome c l request o) ≡ []
+outcome_beside c l (Asks h request) (Accepted next packet) = channel_beside (entries_asked c l next (Asks h request))
+outcome_beside c l (Dials called calling user params) (Accepted next packet) = channel_beside (entries_asked c l next (Dials called calling user params))
+outcome_beside c l (Restarts cause diagnostic) (Accepted next packet) = refl
+outcome_beside c l PullsAll (Accepted next packet) = refl
+outcome_beside c l request (Declined e) = refl
+
+told_beside : (l : Layer) (notices : List LayerNotice) (es : List StationEntry) → came_in (station_told l notices ++ es) ≡ came_in es
+told_beside l [] es = refl
+told_beside l (on_channel h notice ∷ notices) es = told_beside l notices es
+told_beside l (restarted cause diagnostic ∷ notices) es = told_beside l notices es
+told_beside l (restart_done ∷ notices) es = told_beside l notices es
+told_beside l (layer_fault diagnostic ∷ notices) es = told_beside l notices es
+
+-- a notice is of the channel of its packet
+bringing_on : (h k : ℕ) (notices : List PlainNotice) → bringing (notices_on k notices) ≡ Some h → k ≡ h
+bringing_on h k [] e = absurd (cc)
+bringing_on h k (notice ∷ notices) e = by (may_bring notice) (bringing_on h k notices) e
+  where
+    by : (b : Bool) → (bringing (notices_on k notices) ≡ Some h → k ≡ h) → (if b then Some k else bringing (notices_on k notices)) ≡ Some h → k ≡ h
+    by true rest e = cc
+    by false rest e = rest e
+
+answer_on : (c : LayerSettings) (l : Layer) (p : PlainPacket) (h : ℕ) → bringing (layer_answers c l p).notices ≡ Some h → channel_of p ≡ h
+answer_on c l p h = by l.restarting p
+  where
+    none : {A : Type 0} → None ≡ Some h → A
+    none e = absurd (cc)
+
+    if_channel : (b : Bool) (k : ℕ) (a : Answer) → bringing (if b then answers_on l.restarts l.circuits k a else drops false l.restarts l.circuits).notices ≡ Some h → k ≡ h
+    if_channel true k a e = bringing_on h k a.notices e
+    if_channel false k a e = none e
+
+    by : (restarting : Bool) (p : PlainPacket) → bringing (answers_in c restarting l.restarts l.circuits p).notices ≡ Some h → channel_of p ≡ h
+    by true (restart cause diagnostic) e = none e
+    by true restart_conf e = none e
+    by true p e = none e
+    by false (restart cause diagnostic) e = none e
+    by false restart_conf e = none e
+    by false p e = if_channel (is_channel c.channels (channel_of p)) (channel_of p) (answers c.circuit (l.circuits (channel_of p)) p) e
+
+brings_told : (p : PlainPacket) (b : PlainBeside) (o : Option ℕ) → ((h : ℕ) → o ≡ Some h → channel_of p ≡ h) → AreTold (came_in (entries_beside b o)) (brought_as (Ok p) b)
+brings_told p nothing o is = tt
+brings_told p (fields facilities user) None is = tt
+brings_told p (fields facilities user) (Some h) is = inl (ap (λ (k : ℕ). record { channel = k; facilities = facilities; user = user }) (sym (is h refl)), tt)
+brings_told p (diagnosed diagnostic) o is = tt
+
+-- what is told of a packet that is handed up is what its octets bring, or nothing
+pub heard_beside : (cfg : Cfg) (end : Role) (l : Layer) (k : LinkStep) (octets : List ℕ) (p : PlainPacket) → k.packet ≡ Some octets → IsQuiet k → read_by cfg octets ≡ Ok p
+    → AreTold (came_in (follows (settings_from end cfg) l k).entries) (brought cfg (octets ∷ []))
+heard_beside cfg end l k octets p some quiet reads =
+    let c = settings_from end cfg in
+    let a = layer_answer (layer_settings c) c.wide l octets in
+    let entries : (follows c l k).entries ≡ entries_of_packet (layer_settings c) c.wide l octets =
+    ap (λ (o : Option (List ℕ)). entries_noted k.notes ++ entries_heard (layer_settings c) c.wide l o k.notes.down k.notes.up) some
+    ∙ ap (λ (n : Notes). entries_noted n ++ entries_heard (layer_settings c) c.wide l (Some octets) n.down n.up) quiet in
+    let answered : a ≡ layer_answers (layer_settings c) l p = ap (λ (r : Result PlainPacket PacketError). answer_to (layer_settings c) l octets r) reads in
+    let all : brought cfg (octets ∷ []) ≡ brought_as (Ok p) (beside_in c.wide octets) =
+    append-nil (brought_by cfg octets) ∙ ap (λ (r : Result PlainPacket PacketError). brought_as r (beside_in c.wide octets)) reads in
+    subst (λ (xs : List Came). AreTold (came_in (follows c l k).entries) xs) (sym all)
+    (subst (λ (es : List Came). AreTold es (brought_as (Ok p) (beside_in c.wide octets))) (sym (ap came_in entries ∙ told_beside a.next a.notices (entries_beside (beside_in c.wide octets) (bringing a.notices))))
+    (brings_told p (beside_in c.wide octets) (bringing a.notices) (λ h e. answer_on (layer_settings c) l p h (ap (λ (x : LayerAnswer). bringing x.notices) (sym answered) ∙ e))))

@@ -28,12 +28,14 @@ use Rattle.x25_station.specs.laws.KeepLaw.{IsKept}
 use Rattle.x25_station.specs.laws.JoinLaw.{station_with}
 use Rattle.x25_station.specs.laws.ReadLaw.{AreReadable}
 use Rattle.x25_world.specs.World.{World, after_step}
+use Rattle.x25_world.specs.laws.BesideClaims.{came_in}
 use Rattle.x25_world.specs.laws.Claims.{link_of}
 use Rattle.x25_world.specs.laws.Sessions.{Progress, after_entries, session_from, is_in, entry_if}
 use Rattle.x25_world.proofs.Known.{IsConfigured, true_false}
 use Rattle.x25_world.proofs.sessions.SessionTrace.{layer_of, own, TakeNothing}
 use Rattle.x25_world.proofs.sessions.SessionReaches.{Beginning, MayAsk, SessionsReach, known_sessions}
-use Rattle.x25_world.proofs.sessions.SessionJoined.{HasMet, PairsAreInOrder, SessionsJoined}
+use Rattle.x25_world.proofs.sessions.SessionBeside.{spelled_bring}
+use Rattle.x25_world.proofs.sessions.SessionJoined.{HasMet, PairsAreInOrder, SessionsJoined, Goes, gave_none}
 use Rattle.x25_world.specs.laws.LawsBelow.{SessionLaws}
 use Rattle.x25_world.proofs.sessions.SessionKnown.{nothing_in_order, own_readable}
 use Rattle.x25_world.proofs.sessions.SessionLinks.{SessionGoes, spelled, puts_spelled, spelled_back, back_read, back_octets, puts_go, PutsRead, puts_up}
@@ -63,13 +65,18 @@ asked_told : (b : Bool) (e : StationEntry) → layer_notices (e ∷ []) ≡ [] �
 asked_told true e none = none
 asked_told false e none = refl
 
+asked_beside : (b : Bool) (e : StationEntry) → came_in (e ∷ []) ≡ [] → came_in (entry_if b e ++ []) ≡ []
+asked_beside true e none = none
+asked_beside false e none = refl
+
 -- where one of them alone is of a session, which is that of r
 asked_silent : (p r : Progress) (still : Bool) (e : StationEntry) (es : List StationEntry) → after_entries p es ≡ record { begun = r.begun; stands = still } → ((n : ℕ) → session_from n p es ≡ entry_if (is_in n r) e ++ [])
-    → layer_entries (e ∷ []) ≡ [] → layer_notices (e ∷ []) ≡ [] → layer_entries es ≡ [] → layer_notices es ≡ [] → IsSilent p (record { begun = r.begun; stands = still }) es
-asked_silent p r still e es progress is none untold all told = record {
+    → layer_entries (e ∷ []) ≡ [] → layer_notices (e ∷ []) ≡ [] → came_in (e ∷ []) ≡ [] → layer_entries es ≡ [] → layer_notices es ≡ [] → IsSilent p (record { begun = r.begun; stands = still }) es
+asked_silent p r still e es progress is none untold alone all told = record {
   progress = progress;
   entries = λ n. ap layer_entries (is n) ∙ asked_entries (is_in n r) e none;
   told = λ n. ap layer_notices (is n) ∙ asked_told (is_in n r) e untold;
+  beside = λ n. ap came_in (is n) ∙ asked_beside (is_in n r) e alone;
   all_entries = all;
   all_told = told;
   later = λ n differs. is n ∙ ap (λ (b : Bool). entry_if b e ++ []) (not_in n r differs);
@@ -77,22 +84,22 @@ asked_silent p r still e es progress is none untold all told = record {
 
 -- where nothing is noted
 quiet_silent : (lead : Lead) (p : Progress) (still : Bool) → p.stands ≡ still → IsSilent p (record { begun = p.begun; stands = still }) (lead_of lead ++ [])
-quiet_silent no_command p still same = record { progress = ap (λ (b : Bool). record { begun = p.begun; stands = b }) same; entries = λ n. refl; told = λ n. refl; all_entries = refl; all_told = refl; later = λ n differs. refl }
-quiet_silent connect p still same = asked_silent p p still connect_asked (connect_asked ∷ []) (ap (λ (b : Bool). record { begun = p.begun; stands = b }) same) (λ n. refl) refl refl refl refl
-quiet_silent disconnect p still same = asked_silent p p still disconnect_asked (disconnect_asked ∷ []) (ap (λ (b : Bool). record { begun = p.begun; stands = b }) same) (λ n. refl) refl refl refl refl
-quiet_silent relink p still same = asked_silent p p still relink_asked (relink_asked ∷ []) (ap (λ (b : Bool). record { begun = p.begun; stands = b }) same) (λ n. refl) refl refl refl refl
+quiet_silent no_command p still same = record { progress = ap (λ (b : Bool). record { begun = p.begun; stands = b }) same; entries = λ n. refl; told = λ n. refl; beside = λ n. refl; all_entries = refl; all_told = refl; later = λ n differs. refl }
+quiet_silent connect p still same = asked_silent p p still connect_asked (connect_asked ∷ []) (ap (λ (b : Bool). record { begun = p.begun; stands = b }) same) (λ n. refl) refl refl refl refl refl
+quiet_silent disconnect p still same = asked_silent p p still disconnect_asked (disconnect_asked ∷ []) (ap (λ (b : Bool). record { begun = p.begun; stands = b }) same) (λ n. refl) refl refl refl refl refl
+quiet_silent relink p still same = asked_silent p p still relink_asked (relink_asked ∷ []) (ap (λ (b : Bool). record { begun = p.begun; stands = b }) same) (λ n. refl) refl refl refl refl refl
 
 -- LinkDown alone
 down_silent : (lead : Lead) (p : Progress) (reason : Reason) → IsSilent p (record { begun = p.begun; stands = false }) (lead_of lead ++ link_down reason ∷ [])
-down_silent no_command p reason = record { progress = refl; entries = λ n. refl; told = λ n. refl; all_entries = refl; all_told = refl; later = λ n differs. refl }
-down_silent connect p reason = asked_silent p p false connect_asked (connect_asked ∷ link_down reason ∷ []) refl (λ n. refl) refl refl refl refl
-down_silent disconnect p reason = asked_silent p p false disconnect_asked (disconnect_asked ∷ link_down reason ∷ []) refl (λ n. refl) refl refl refl refl
-down_silent relink p reason = asked_silent p p false relink_asked (relink_asked ∷ link_down reason ∷ []) refl (λ n. refl) refl refl refl refl
+down_silent no_command p reason = record { progress = refl; entries = λ n. refl; told = λ n. refl; beside = λ n. refl; all_entries = refl; all_told = refl; later = λ n differs. refl }
+down_silent connect p reason = asked_silent p p false connect_asked (connect_asked ∷ link_down reason ∷ []) refl (λ n. refl) refl refl refl refl refl
+down_silent disconnect p reason = asked_silent p p false disconnect_asked (disconnect_asked ∷ link_down reason ∷ []) refl (λ n. refl) refl refl refl refl refl
+down_silent relink p reason = asked_silent p p false relink_asked (relink_asked ∷ link_down reason ∷ []) refl (λ n. refl) refl refl refl refl refl
 
 -- LinkUp, after LinkDown or alone
 up_begins : (p : Progress) (down : Option Reason) → IsSilent p (record { begun = suc p.begun; stands = true }) (entries_noted (record { down = down; up = true }))
-up_begins p None = asked_silent p (record { begun = suc p.begun; stands = true }) true link_up (link_up ∷ []) refl (λ n. refl) refl refl refl refl
-up_begins p (Some reason) = asked_silent p (record { begun = suc p.begun; stands = true }) true link_up (link_down reason ∷ link_up ∷ []) refl (λ n. refl) refl refl refl refl
+up_begins p None = asked_silent p (record { begun = suc p.begun; stands = true }) true link_up (link_up ∷ []) refl (λ n. refl) refl refl refl refl refl
+up_begins p (Some reason) = asked_silent p (record { begun = suc p.begun; stands = true }) true link_up (link_down reason ∷ link_up ∷ []) refl (λ n. refl) refl refl refl refl refl
 
 -- ---- what is put
 
@@ -162,35 +169,35 @@ module _ {since : Beginning} (laws : SessionLaws) (cfg : Cfg) (fine : IsConfigur
   abbrev standing : Progress
   standing = record { begun = h.links.near.begun; stands = is_up w.near.link.phase }
 
-  quiet_step : GoesTo h.links.near.begun → k.packet ≡ None → IsKept whole_step.near → IsQuiet k → SessionsJoined since cfg end (after_step (settings_from end cfg) w back whole_step)
+  quiet_step : GoesTo h.links.near.begun → k.packet ≡ None → IsKept whole_step.near → IsQuiet k → Goes since cfg end h.links gave_none (after_step (settings_from end cfg) w back whole_step)
   quiet_step g none kept quiet =
       let is = laws.stations.quiet (settings_from end cfg) w.near.layer k none quiet in
       let step : Step = record { near = station_with k.side.near w.near.layer; out = k.side.out; entries = lead_of lead ++ [] } in
       let same : step ≡ whole_step = ap (λ (s : Step). led_by (lead_of lead) s) (sym is) in
-      subst (λ (s : Step). SessionsJoined since cfg end (after_step (settings_from end cfg) w back s)) same
+      subst (λ (s : Step). Goes since cfg end h.links gave_none (after_step (settings_from end cfg) w back s)) same
       (rests cfg end w h step back v v.met g (quiet_silent lead standing (is_up k.side.near.phase) (sym (tells.stays quiet))) (λ still. (sym (tells.stays quiet) ∙ still, refl))
       (subst (λ (s : Step). IsKept s.near) (sym same) kept) reach pairs more)
 
   down_step : GoesTo h.links.near.begun → IsKept whole_step.near → (reason : Reason) → k.notes ≡ record { down = Some reason; up = false }
-      → SessionsJoined since cfg end (after_step (settings_from end cfg) w back whole_step)
+      → Goes since cfg end h.links gave_none (after_step (settings_from end cfg) w back whole_step)
   down_step g kept reason noted =
       let is = laws.stations.down (settings_from end cfg) w.near.layer k reason noted in
       let step : Step = record { near = station_with k.side.near (rested w.near.layer); out = k.side.out; entries = lead_of lead ++ link_down reason ∷ [] } in
       let same : step ≡ whole_step = ap (λ (s : Step). led_by (lead_of lead) s) (sym is) in
       let off : is_up k.side.near.phase ≡ false = tells.left reason (ap (λ (n : Notes). n.down) noted) (ap (λ (n : Notes). n.up) noted) in
-      subst (λ (s : Step). SessionsJoined since cfg end (after_step (settings_from end cfg) w back s)) same
+      subst (λ (s : Step). Goes since cfg end h.links gave_none (after_step (settings_from end cfg) w back s)) same
       (rests cfg end w h step back v v.met g (subst (λ (b : Bool). IsSilent standing (record { begun = standing.begun; stands = b }) (lead_of lead ++ link_down reason ∷ [])) (sym off) (down_silent lead standing reason)) (λ still. true_false (sym still ∙ off))
       (subst (λ (s : Step). IsKept s.near) (sym same) kept) reach pairs more)
 
-  pub follows_silent : k.notes.up ≡ false → GoesTo h.links.near.begun → k.packet ≡ None → IsKept whole_step.near → SessionsJoined since cfg end (after_step (settings_from end cfg) w back whole_step)
+  pub follows_silent : k.notes.up ≡ false → GoesTo h.links.near.begun → k.packet ≡ None → IsKept whole_step.near → Goes since cfg end h.links gave_none (after_step (settings_from end cfg) w back whole_step)
   follows_silent not_up g none kept = by k.notes.down refl
     where
-      by : (o : Option Reason) → k.notes.down ≡ o → SessionsJoined since cfg end (after_step (settings_from end cfg) w back whole_step)
+      by : (o : Option Reason) → k.notes.down ≡ o → Goes since cfg end h.links gave_none (after_step (settings_from end cfg) w back whole_step)
       by None is = quiet_step g none kept (ap₂ (λ (d : Option Reason) (u : Bool). record { down = d; up = u }) is not_up)
       by (Some reason) is = down_step g kept reason (ap₂ (λ (d : Option Reason) (u : Bool). record { down = d; up = u }) is not_up)
 
   pub follows_up : ((octets : List ℕ) → MayAsk since end (line.Put octets)) → k.notes.up ≡ true → GoesTo (suc h.links.near.begun) → IsKept (follows (settings_from end cfg) w.near.layer k).near
-      → SessionsJoined since cfg end (after_step (settings_from end cfg) w back (follows (settings_from end cfg) w.near.layer k))
+      → Goes since cfg end h.links gave_none (after_step (settings_from end cfg) w back (follows (settings_from end cfg) w.near.layer k))
   follows_up asks up g kept =
       let c = link_of cfg end in
       let step : Step = follows (settings_from end cfg) w.near.layer k in
@@ -204,7 +211,7 @@ module _ {since : Beginning} (laws : SessionLaws) (cfg : Cfg) (fine : IsConfigur
       let begins : IsSilent standing (record { begun = suc h.links.near.begun; stands = true }) step.entries =
       subst (λ (es : List StationEntry). IsSilent standing (record { begun = suc h.links.near.begun; stands = true }) es) (sym (u.entries ∙ ap (λ (b : Bool). entries_noted (record { down = k.notes.down; up = b })) up)) (up_begins standing k.notes.down) in
       let known = known_sessions OnlyBegunHaveLists laws.begun cfg fine end h.links h.reach in
-      begins_session cfg end w h step back r.links v.met handed (back_read cfg handed packets readable) (back_octets cfg handed packets readable)
+      begins_session cfg end w h step back r.links v.met handed (back_read cfg handed packets readable) (back_octets cfg handed packets readable) (spelled_bring laws.stations cfg packets (restart_readable laws cfg fine end w h))
       (record {
         station = r.goes.station ∙ sym p.link;
         begun = r.goes.begun;

@@ -29,8 +29,10 @@ use Rattle.x25_world.specs.laws.Sessions.{Progress, none_begun, after_entries, i
 use Rattle.x25_world.proofs.Growing.{all_read, as_read, none_read, nothing_read, grown, AllAreOctets, all_octets_append, AreOnTap, entries_more, entries_other, layer_append, notices_append, on_tap}
 use Rattle.x25_world.proofs.Known.{true_false}
 use Rattle.x25_world.proofs.sessions.SessionTrace.{layer_of, Done, moved, own_in, own, own_more, own_same, own_other, own_goes, same_number, other_number, TakeNothing, nothing_append, BringOctets, octets_append}
+use Rattle.x25_world.specs.laws.BesideClaims.{Came, came_in, Gave, IsGiven, AreSomeOf}
 use Rattle.x25_world.proofs.sessions.SessionReaches.{Beginning, SessionsReach}
-use Rattle.x25_world.proofs.sessions.SessionJoined.{HaveAll, IsSession, IsLayer, IsEnd, HasMet, Meets, Hears, PairsAreInOrder, SessionsJoined}
+use Rattle.x25_world.proofs.sessions.SessionBeside.{brought, AreTold, told_more, MoreIs, none_more}
+use Rattle.x25_world.proofs.sessions.SessionJoined.{HaveAll, IsSession, IsLayer, IsEnd, HasMet, Meets, Hears, PairsAreInOrder, SessionsJoined, Goes, gave_none}
 use Rattle.x25_world.proofs.sessions.SessionEntries.{after_append, session_append, meets_more, meets_other, none_met, ArePlain, plain_progress, plain_here, plain_elsewhere, restart_met, elsewhere_met}
 use Rattle.x25_world.proofs.sessions.SessionLinks.{SessionGoes, extended_none}
 
@@ -72,6 +74,7 @@ pub record IsSilent (p q : Progress) (es : List StationEntry) : Type 0 where
   pub progress : after_entries p es ≡ q
   pub entries : (n : ℕ) → layer_entries (session_from n p es) ≡ []
   pub told : (n : ℕ) → layer_notices (session_from n p es) ≡ []
+  pub beside : (n : ℕ) → came_in (session_from n p es) ≡ []
   pub all_entries : layer_entries es ≡ []
   pub all_told : layer_notices es ≡ []
   pub later : (n : ℕ) → (n ≡ q.begun → ⊥) → session_from n p es ≡ []
@@ -88,25 +91,27 @@ pub record OwnGoes (e f : layer.End) (l : Layer) (put lifted : List PlainPacket)
   pub told : f.told ≡ e.told ++ layer_notices es
 
 session_goes : (cfg : Cfg) (e f : layer.End) (l : Layer) (put lifted : List PlainPacket) (handed came : List (List ℕ)) (es before all : List StationEntry) (down up down₂ up₂ : List (List ℕ)) → OwnGoes e f l put lifted es
-    → IsSession cfg e down up before → all_read cfg handed ≡ as_read put → all_read cfg came ≡ as_read lifted
+    → IsSession cfg e down up before → all_read cfg handed ≡ as_read put → all_read cfg came ≡ as_read lifted → AreTold (came_in es) (brought cfg came)
     → all ≡ before ++ es → down₂ ≡ down ++ handed → up₂ ≡ up ++ came → IsSession cfg f down₂ up₂ all
-session_goes cfg e f l put lifted handed came es before all down up down₂ up₂ o h puts took is more_down more_up = record {
+session_goes cfg e f l put lifted handed came es before all down up down₂ up₂ o h puts took tells is more_down more_up = record {
   down = grown cfg down down₂ handed e.given f.given put h.down more_down puts o.given;
   up = grown cfg up up₂ came e.taken f.taken lifted h.up more_up took o.taken;
   entries = o.entries ∙ ap (λ (l : List Entry). l ++ layer_entries es) h.entries ∙ sym (layer_append before es) ∙ ap layer_entries (sym is);
   told = o.told ∙ ap (λ (l : List LayerNotice). l ++ layer_notices es) h.told ∙ sym (notices_append before es) ∙ ap layer_notices (sym is);
+  beside = told_more cfg before es all up came up₂ h.beside tells is more_up;
 }
 
 -- with nothing put or taken, and entries that aren't the layer's
 session_rests : (cfg : Cfg) (e f : layer.End) (before all more : List StationEntry) (down up down₂ up₂ : List (List ℕ)) → f ≡ e → IsSession cfg e down up before → all ≡ before ++ more → layer_entries more ≡ []
-    → layer_notices more ≡ [] → down₂ ≡ down → up₂ ≡ up → IsSession cfg f down₂ up₂ all
-session_rests cfg e f before all more down up down₂ up₂ same h is none untold same_down same_up = record {
+    → layer_notices more ≡ [] → came_in more ≡ [] → down₂ ≡ down → up₂ ≡ up → IsSession cfg f down₂ up₂ all
+session_rests cfg e f before all more down up down₂ up₂ same h is none untold alone same_down same_up = record {
   down = ap (all_read cfg) same_down ∙ h.down ∙ ap (λ (x : layer.End). as_read x.given) (sym same);
   up = ap (all_read cfg) same_up ∙ h.up ∙ ap (λ (x : layer.End). as_read x.taken) (sym same);
   entries = ap (λ (x : layer.End). x.entries) same ∙ h.entries ∙ sym (append-nil (layer_entries before)) ∙ ap (λ (l : List Entry). layer_entries before ++ l) (sym none)
       ∙ sym (layer_append before more) ∙ ap layer_entries (sym is);
   told = ap (λ (x : layer.End). x.told) same ∙ h.told ∙ sym (append-nil (layer_notices before)) ∙ ap (λ (l : List LayerNotice). layer_notices before ++ l) (sym untold)
       ∙ sym (notices_append before more) ∙ ap layer_notices (sym is);
+  beside = told_more cfg before more all up [] up₂ h.beside (subst (λ (l : List Came). AreTold l []) (sym alone) tt) is (same_up ∙ sym (append-nil up));
 }
 
 none_behind : (xs ys : List (List ℕ)) → xs ++ ys ≡ [] → ys ≡ []
@@ -226,7 +231,8 @@ module _ {since : Beginning} (cfg : Cfg) (end : Role) (w : World) (h : SessionsJ
   module _ (moves : List OwnMove) (packets lifted : List PlainPacket) (handed came : List (List ℕ)) (puts : all_read cfg handed ≡ as_read packets) (took : all_read cfg came ≡ as_read lifted) (in_octets : AllAreOctets handed)
       (g : SessionGoes (link_of cfg end) h.links v session step.near.link step.out handed came back met)
       (o : OwnGoes (own cfg end session h.trace) (own_run (layer_of cfg end) moves (own cfg end session h.trace)) step.near.layer packets lifted step.entries) (up : is_up w.near.link.phase ≡ true)
-      (still : is_up step.near.link.phase ≡ true) (plain : ArePlain step.entries) (kept : IsKept step.near) where
+      (still : is_up step.near.link.phase ≡ true) (plain : ArePlain step.entries) (kept : IsKept step.near)
+      (tells : AreTold (came_in step.entries) (brought cfg came)) (gave : ℕ → List Gave) (gives : AreSomeOf IsGiven (brought cfg handed) (gave session)) where
     abbrev trace_on : List Done
     trace_on = h.trace ++ moved end session moves
 
@@ -253,7 +259,7 @@ module _ {since : Beginning} (cfg : Cfg) (end : Role) (w : World) (h : SessionsJ
         session_goes cfg (own cfg end session h.trace) (own cfg end session trace_on) step.near.layer packets lifted handed came step.entries (session_from session none_begun told_before)
         (session_from session none_begun (told_before ++ step.entries)) (h.links.near.down session) (h.links.near.up session) (v.near.down session) (v.near.up session)
         (subst (λ (e : layer.End). OwnGoes (own cfg end session h.trace) e step.near.layer packets lifted step.entries) (sym (own_goes cfg end session h.trace moves)) o)
-        (h.near.sessions session (h.near.first up) (omega arith)) puts took
+        (h.near.sessions session (h.near.first up) (omega arith)) puts took tells
         (session_more session ∙ ap (λ (l : List StationEntry). session_from session none_begun told_before ++ l) (plain_here session standing step.entries plain stands_here))
         (g.down session ∙ here_extended h.links.near.down session handed) up_here
 
@@ -262,7 +268,7 @@ module _ {since : Beginning} (cfg : Cfg) (end : Role) (w : World) (h : SessionsJ
         session_rests cfg (own cfg end n h.trace) (own cfg end n trace_on) (session_from n none_begun told_before) (session_from n none_begun (told_before ++ step.entries)) []
         (h.links.near.down n) (h.links.near.up n) (v.near.down n) (v.near.up n) (own_elsewhere n differs) (h.near.sessions n low high)
         (session_more n ∙ ap (λ (l : List StationEntry). session_from n none_begun told_before ++ l) (plain_elsewhere n standing step.entries plain (not_in n standing differs)))
-        refl refl (down_elsewhere n differs) (up_elsewhere n differs)
+        refl refl refl (down_elsewhere n differs) (up_elsewhere n differs)
 
     -- all that was handed down is octets
     down_octets : (n : ℕ) → AllAreOctets (v.near.down n)
@@ -334,9 +340,16 @@ module _ {since : Beginning} (cfg : Cfg) (end : Role) (w : World) (h : SessionsJ
     pub goes_on : SessionsReach since cfg end v → (lifted ≡ [] → TakeNothing moves) → AreNoFaults (layer_notices step.entries) → BringOctets (moved end session moves)
         → PairsAreInOrder cfg end trace_on met → ((n m : ℕ) → HasMet n m h.links.met → HasMet n m met)
         → ((own cfg end session h.trace).taken ≡ [] → ((lifted ≡ []) × (layer_notices step.entries ≡ [])) ⊎ IsNews session h.links.far.begun met (layer_notices step.entries))
-        → SessionsJoined since cfg end (after_step (settings_from end cfg) w back step)
-    goes_on reach alone no_fault octets pairs more news =
-        joined_of moves session reach g.far g.out g.back g.sent g.met (near_goes_on alone no_fault) octets pairs more hears
+        → Goes since cfg end h.links gave (after_step (settings_from end cfg) w back step)
+    unfolding joined_of
+    goes_on reach alone no_fault octets pairs more news = record {
+      joined = joined_of moves session reach g.far g.out g.back g.sent g.met (near_goes_on alone no_fault) octets pairs more hears;
+      down = λ n. same_or_not n session
+          (λ (is : n ≡ session). subst (λ (k : ℕ). MoreIs cfg (h.links.near.down k) (v.near.down k) (gave k)) (sym is)
+          (record { more = handed; is = g.down session ∙ here_extended h.links.near.down session handed; given = gives }))
+          (λ (differs : n ≡ session → ⊥). none_more cfg (h.links.near.down n) (v.near.down n) (gave n) (down_elsewhere n differs));
+      far = g.far;
+    }
       where
         far_begun : (after_entries none_begun told_there).begun ≡ h.links.far.begun
         far_begun = ap (λ (p : Progress). p.begun) h.far.progress
@@ -389,7 +402,7 @@ module _ {since : Beginning} (cfg : Cfg) (end : Role) (w : World) (h : SessionsJ
       before = (down_same 0 ∙ h.near.before.0, up_same 0 ∙ h.near.before.1);
       sessions = λ n low high.
           session_rests cfg (own cfg end n h.trace) (own cfg end n h.trace) (session_from n none_begun told_before) (session_from n none_begun (told_before ++ step.entries)) (session_from n standing step.entries)
-          (h.links.near.down n) (h.links.near.up n) (v.near.down n) (v.near.up n) refl (h.near.sessions n low (subst (λ (m : ℕ). n ≤ m) g.begun high)) (session_more n) (silent.entries n) (silent.told n)
+          (h.links.near.down n) (h.links.near.up n) (v.near.down n) (v.near.up n) refl (h.near.sessions n low (subst (λ (m : ℕ). n ≤ m) g.begun high)) (session_more n) (silent.entries n) (silent.told n) (silent.beside n)
           (down_same n) (up_same n);
       octets = λ n. subst AllAreOctets (sym (down_same n)) (h.near.octets n);
       later = λ n more. (let above = subst (λ (m : ℕ). m < n) g.begun more in
@@ -406,17 +419,21 @@ module _ {since : Beginning} (cfg : Cfg) (end : Role) (w : World) (h : SessionsJ
         over : (n : ℕ) → session < n → n ≡ session → ⊥
         over n more is = omega (arith, more, is)
 
-    pub rests : SessionsReach since cfg end v → PairsAreInOrder cfg end h.trace met → ((n m : ℕ) → HasMet n m h.links.met → HasMet n m met) → SessionsJoined since cfg end (after_step (settings_from end cfg) w back step)
-    rests reach pairs more =
-        joined_of [] session reach g.far g.out g.back g.sent g.met (subst (λ (t : List Done). IsEnd cfg end step.near v.near t (told_before ++ step.entries)) (sym (append-nil h.trace)) near_rests) tt
-        (subst (λ (t : List Done). PairsAreInOrder cfg end t met) (sym (append-nil h.trace)) pairs) more
-        (λ n. hears_more (λ (n m : ℕ). HasMet n m h.links.met) (λ (n m : ℕ). HasMet n m met) n (h.links.near.up n) (v.near.up n) (meets end n w.transcript) (found n)
-        (meets end n (w.transcript ++ entered end step.entries)) (λ m has. more n m has) (meets_now n)
-        (λ none. inl (up_same n ∙ none, none_met n standing (after_entries none_begun told_there) step.entries silent.all_told)) (h.near_hears n))
+    pub rests : SessionsReach since cfg end v → PairsAreInOrder cfg end h.trace met → ((n m : ℕ) → HasMet n m h.links.met → HasMet n m met) → Goes since cfg end h.links gave_none (after_step (settings_from end cfg) w back step)
+    unfolding joined_of
+    rests reach pairs more = record {
+      joined = joined_of [] session reach g.far g.out g.back g.sent g.met (subst (λ (t : List Done). IsEnd cfg end step.near v.near t (told_before ++ step.entries)) (sym (append-nil h.trace)) near_rests) tt
+          (subst (λ (t : List Done). PairsAreInOrder cfg end t met) (sym (append-nil h.trace)) pairs) more
+          (λ n. hears_more (λ (n m : ℕ). HasMet n m h.links.met) (λ (n m : ℕ). HasMet n m met) n (h.links.near.up n) (v.near.up n) (meets end n w.transcript) (found n)
+          (meets end n (w.transcript ++ entered end step.entries)) (λ m has. more n m has) (meets_now n)
+          (λ none. inl (up_same n ∙ none, none_met n standing (after_entries none_begun told_there) step.entries silent.all_told)) (h.near_hears n));
+      down = λ n. none_more cfg (h.links.near.down n) (v.near.down n) [] (down_same n);
+      far = g.far;
+    }
 
   -- ---- as a session begins
 
-  module _ (handed : List (List ℕ)) (puts : all_read cfg handed ≡ as_read (restart (restart_cause end) 0 ∷ [])) (in_octets : AllAreOctets handed)
+  module _ (handed : List (List ℕ)) (puts : all_read cfg handed ≡ as_read (restart (restart_cause end) 0 ∷ [])) (in_octets : AllAreOctets handed) (bring_none : brought cfg handed ≡ [])
       (g : SessionGoes (link_of cfg end) h.links v (suc session) step.near.link step.out handed [] back met)
       (begins : IsSilent standing (record { begun = suc session; stands = true }) step.entries) (fresh : (n : ℕ) → session < n → (h.links.near.down n ≡ []) × (h.links.near.up n ≡ [])) (still : is_up step.near.link.phase ≡ true)
       (layer_begins : step.near.layer ≡ (goes_up (layer_of cfg end)).next) (kept : IsKept step.near) where
@@ -455,6 +472,7 @@ module _ {since : Beginning} (cfg : Cfg) (end : Role) (w : World) (h : SessionsJ
           up = ap (all_read cfg) (begun_up_same the_next ∙ nothing.1);
           entries = sym (ap layer_entries all ∙ begins.entries the_next);
           told = sym (ap layer_notices all ∙ begins.told the_next);
+          beside = subst (λ (l : List Came). AreTold l (brought cfg (v.near.up the_next))) (sym (ap came_in all ∙ begins.beside the_next)) tt;
         })
       where
         by_role : (end : Role) → as_read (restart (restart_cause end) 0 ∷ []) ≡ as_read (started (goes_up (layer_of cfg end))).given
@@ -494,12 +512,19 @@ module _ {since : Beginning} (cfg : Cfg) (end : Role) (w : World) (h : SessionsJ
         session_before : (n : ℕ) → 1 ≤ n → n ≤ session → (n ≡ the_next → ⊥) → IsSessionBegun n
         session_before n low high differs =
             session_rests cfg (own cfg end n h.trace) (own cfg end n h.trace) (session_from n none_begun told_before) (session_from n none_begun (told_before ++ step.entries)) (session_from n standing step.entries)
-            (h.links.near.down n) (h.links.near.up n) (v.near.down n) (v.near.up n) refl (h.near.sessions n low high) (session_more n) (begins.entries n) (begins.told n) (begun_down_same n differs) (begun_up_same n)
+            (h.links.near.down n) (h.links.near.up n) (v.near.down n) (v.near.up n) refl (h.near.sessions n low high) (session_more n) (begins.entries n) (begins.told n) (begins.beside n) (begun_down_same n differs) (begun_up_same n)
 
-    pub begins_session : SessionsReach since cfg end v → PairsAreInOrder cfg end h.trace met → ((n m : ℕ) → HasMet n m h.links.met → HasMet n m met) → SessionsJoined since cfg end (after_step (settings_from end cfg) w back step)
-    begins_session reach pairs more =
-        joined_of [] session reach g.far g.out g.back g.sent g.met (subst (λ (t : List Done). IsEnd cfg end step.near v.near t (told_before ++ step.entries)) (sym (append-nil h.trace)) near_begins) tt
-        (subst (λ (t : List Done). PairsAreInOrder cfg end t met) (sym (append-nil h.trace)) pairs) more
-        (λ n. hears_more (λ (n m : ℕ). HasMet n m h.links.met) (λ (n m : ℕ). HasMet n m met) n (h.links.near.up n) (v.near.up n) (meets end n w.transcript) (found n)
-        (meets end n (w.transcript ++ entered end step.entries)) (λ m has. more n m has) (meets_now n)
-        (λ none. inl (begun_up_same n ∙ none, none_met n standing (after_entries none_begun told_there) step.entries begins.all_told)) (h.near_hears n))
+    pub begins_session : SessionsReach since cfg end v → PairsAreInOrder cfg end h.trace met → ((n m : ℕ) → HasMet n m h.links.met → HasMet n m met) → Goes since cfg end h.links gave_none (after_step (settings_from end cfg) w back step)
+    unfolding joined_of
+    begins_session reach pairs more = record {
+      joined = joined_of [] session reach g.far g.out g.back g.sent g.met (subst (λ (t : List Done). IsEnd cfg end step.near v.near t (told_before ++ step.entries)) (sym (append-nil h.trace)) near_begins) tt
+          (subst (λ (t : List Done). PairsAreInOrder cfg end t met) (sym (append-nil h.trace)) pairs) more
+          (λ n. hears_more (λ (n m : ℕ). HasMet n m h.links.met) (λ (n m : ℕ). HasMet n m met) n (h.links.near.up n) (v.near.up n) (meets end n w.transcript) (found n)
+          (meets end n (w.transcript ++ entered end step.entries)) (λ m has. more n m has) (meets_now n)
+          (λ none. inl (begun_up_same n ∙ none, none_met n standing (after_entries none_begun told_there) step.entries begins.all_told)) (h.near_hears n));
+      down = λ n. same_or_not n the_next
+          (λ (is : n ≡ the_next). subst (λ (k : ℕ). MoreIs cfg (h.links.near.down k) (v.near.down k) []) (sym is)
+          (record { more = handed; is = g.down the_next ∙ here_extended h.links.near.down the_next handed; given = subst (λ (l : List Came). AreSomeOf IsGiven l []) (sym bring_none) tt }))
+          (λ (differs : n ≡ the_next → ⊥). none_more cfg (h.links.near.down n) (v.near.down n) [] (begun_down_same n differs));
+      far = g.far;
+    }

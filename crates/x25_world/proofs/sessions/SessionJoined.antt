@@ -20,7 +20,9 @@ use Rattle.x25_world.specs.laws.Claims.{entries_at}
 use Rattle.x25_world.specs.laws.Sessions.{none_begun, after_entries, session_from, meets}
 use Rattle.x25_world.proofs.Growing.{all_read, as_read, AllAreOctets, AreOnTap}
 use Rattle.x25_world.proofs.sessions.SessionTrace.{Done, own_in, own, pair_at, pair_turned, TakeNothing, BringOctets}
+use Rattle.x25_world.specs.laws.BesideClaims.{Gave, came_in}
 use Rattle.x25_world.proofs.sessions.SessionReaches.{Beginning, SessionsReach, reach_swapped}
+use Rattle.x25_world.proofs.sessions.SessionBeside.{brought, AreTold, MoreIs, none_more}
 
 -- ---- an end
 
@@ -35,6 +37,7 @@ pub record IsSession (cfg : Cfg) (e : layer.End) (handed lifted : List (List ℕ
   pub up : all_read cfg lifted ≡ as_read e.taken
   pub entries : e.entries ≡ layer_entries es
   pub told : e.told ≡ layer_notices es
+  pub beside : AreTold (came_in es) (brought cfg lifted)
 
 -- a session that isn't begun has nothing
 pub record HasNothing (end : Role) (n : ℕ) (trace : List Done) (es : List StationEntry) : Type 0 where
@@ -102,30 +105,45 @@ pub record SessionsJoined (since : Beginning) (cfg : Cfg) (end : Role) (w : Worl
   pub near_hears : (n : ℕ) → Hears (λ (n m : ℕ). HasMet n m links.met) n (links.near.up n) (meets end n w.transcript)
   pub far_hears : (n : ℕ) → Hears (λ (n m : ℕ). HasMet m n links.met) n (links.far.up n) (meets (other end) n w.transcript)
 
+-- ---- a step of the near end
+
+-- It leads here from these links, and the near end is handed down more in its sessions, with what its user gave.
+pub record Goes (since : Beginning) (cfg : Cfg) (end : Role) (v : Sessions) (gave : ℕ → List Gave) (w : World) : Type 0 where
+  pub joined : SessionsJoined since cfg end w
+  pub down : (n : ℕ) → MoreIs cfg (v.near.down n) (joined.links.near.down n) (gave n)
+  pub far : joined.links.far ≡ v.far
+
+abbrev pub gave_none : ℕ → List Gave
+gave_none n = []
+
+-- nothing happened
+pub stays : {since : Beginning} (cfg : Cfg) (end : Role) (w : World) (h : SessionsJoined since cfg end w) (gave : ℕ → List Gave) → Goes since cfg end h.links gave w
+stays cfg end w h gave = record { joined = h; down = λ n. none_more cfg (h.links.near.down n) (h.links.near.down n) (gave n) refl; far = refl }
+
 -- ---- as the other end sees it
 
 pub met_turned : (n m : ℕ) (met : List Meeting) → HasMet n m met → HasMet m n (map turned met)
 met_turned n m [] h = absurd h
 met_turned n m (p ∷ met) h = elim h [ inl here ↦ inl (here.1, here.0) | inr there ↦ inr (met_turned n m met there) ]
 
-pairs_turned : (cfg : Cfg) (end : Role) (trace : List Done) (met : List Meeting) → PairsAreInOrder cfg end trace met → PairsAreInOrder cfg (other end) trace (map turned met)
+pub pairs_turned : (cfg : Cfg) (end : Role) (trace : List Done) (met : List Meeting) → PairsAreInOrder cfg end trace met → PairsAreInOrder cfg (other end) trace (map turned met)
 pairs_turned cfg end trace [] h = tt
 pairs_turned cfg end trace (p ∷ met) h = (
   subst (λ (es : List ApartEvent). AreInOrder cfg.long_data cfg.channels es (apart_start cfg.long_data cfg.channels)) (sym (pair_turned end p.near p.far trace)) h.0,
   pairs_turned cfg end trace met h.1,
 )
 
-hears_turned : (n : ℕ) (up : List (List ℕ)) (met : Option ℕ) (ms : List Meeting) → Hears (λ (n m : ℕ). HasMet n m ms) n up met → Hears (λ (n m : ℕ). HasMet m n (map turned ms)) n up met
+pub hears_turned : (n : ℕ) (up : List (List ℕ)) (met : Option ℕ) (ms : List Meeting) → Hears (λ (n m : ℕ). HasMet n m ms) n up met → Hears (λ (n m : ℕ). HasMet m n (map turned ms)) n up met
 hears_turned n up met ms h = elim h [ inl none ↦ inl none | inr some ↦ inr (record { session = some.session; told = some.told; has_met = met_turned n some.session ms some.has_met; begun = some.begun }) ]
 
-hears_back : (n : ℕ) (up : List (List ℕ)) (met : Option ℕ) (ms : List Meeting) → Hears (λ (n m : ℕ). HasMet m n ms) n up met → Hears (λ (n m : ℕ). HasMet n m (map turned ms)) n up met
+pub hears_back : (n : ℕ) (up : List (List ℕ)) (met : Option ℕ) (ms : List Meeting) → Hears (λ (n m : ℕ). HasMet m n ms) n up met → Hears (λ (n m : ℕ). HasMet n m (map turned ms)) n up met
 hears_back n up met ms h = elim h [ inl none ↦ inl none | inr some ↦ inr (record { session = some.session; told = some.told; has_met = met_turned some.session n ms some.has_met; begun = some.begun }) ]
 
-twice : (end : Role) (P : Role → Type 0) → P end → P (other (other end))
+pub twice : (end : Role) (P : Role → Type 0) → P end → P (other (other end))
 twice Dte P h = h
 twice Dce P h = h
 
-pub sessions_swapped : {since : Beginning} (cfg : Cfg) (end : Role) (w : World) → SessionsJoined since cfg end w → SessionsJoined since cfg (other end) (swapped w)
+unfoldable pub sessions_swapped : {since : Beginning} (cfg : Cfg) (end : Role) (w : World) → SessionsJoined since cfg end w → SessionsJoined since cfg (other end) (swapped w)
 sessions_swapped cfg end w h = record {
   links = links.swapped h.links;
   trace = h.trace;

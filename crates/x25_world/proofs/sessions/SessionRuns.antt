@@ -1,25 +1,30 @@
 -- Each event keeps the runs of two links and of the layers in each session, so each list of events does: from nothing, and from set-up.
-use Rattle.std.proofs.Common.{◌≡◌, ℕ, ◌≤◌, inl, inr, List, [], ◌∷◌, Bool, false, None, refl, sym, ap, ◌∙◌, subst, arith}
+use Rattle.std.proofs.Common.{◌≡◌, ℕ, ◌≤◌, inl, inr, List, [], ◌∷◌, ◌++◌, ◌==◌, Bool, false, Option, None, refl, sym, ap, ◌∙◌, subst, arith}
 use Rattle.x25_bits.specs.declared.role.Role.{Role}
 use Rattle.x25_bits.specs.declared.role.Role.TheVariants.{Dte, Dce}
-use Rattle.x25_line.specs.laws.Sessions.{Sessions, from_nothing}
+use Rattle.x25_line.specs.laws.Sessions as links
+use Rattle.x25_line.specs.laws.Sessions.{SessionEnd, Sessions, from_nothing}
 use Rattle.x25_station.specs.declared.config.Cfg.{Cfg}
 use Rattle.x25_station.specs.Config.{settings_from, config_refusal}
 use Rattle.x25_station.specs.Entry.{link_up}
 use Rattle.x25_station.specs.Command.{Requests, RequestsWith, Connects, Disconnects, Probes, Relinks, said_by}
 use Rattle.x25_station.specs.Station.{new_station}
 use Rattle.x25_station.specs.laws.KeepLaw.{ConnectKeeps}
+use Rattle.x25_world.specs.declared.error.WorldError.{WorldError}
 use Rattle.x25_world.specs.World.{AtEnd, World, swapped, WorldOutcome, Happened, Declined, swapped_back, Act, Commands, Receives, Fires, Loses, Damages, acts, Event, happens, refusal_of, after, run, start, connected, established}
 use Rattle.x25_world.specs.laws.Claims.{ActsInOctets, AreInOctets, IsBeginning, IsNoConnect, NoneConnects}
 use Rattle.x25_world.specs.laws.Sessions.{Progress, progress_at, last_session}
 use Rattle.x25_world.specs.laws.WindowGoes.{both_put, two_links}
-use Rattle.x25_world.specs.laws.SessionClaims.{Throughout}
+use Rattle.x25_world.specs.laws.SessionClaims.{Throughout, ThroughoutAlong}
+use Rattle.x25_world.specs.laws.BesideClaims.{Gave, gave_where, gave_by, gave_at, gave_in}
 use Rattle.x25_world.proofs.Known.{IsConfigured, is_configured}
 use Rattle.x25_world.proofs.Established.{kept_new, just_set_up}
 use Rattle.x25_world.proofs.WorldLemmas.{refusal-swapped}
 use Rattle.x25_world.proofs.OneLink.{AreAlike}
 use Rattle.x25_world.proofs.sessions.SessionReaches.{Beginning, both_down, set_up, at_event, IsAt}
-use Rattle.x25_world.proofs.sessions.SessionJoined.{IsEnd, SessionsJoined, sessions_swapped}
+use Rattle.x25_world.proofs.sessions.SessionTrace.{layer_of}
+use Rattle.x25_world.proofs.sessions.SessionBeside.{MoreIs, none_more, more_again, said_channel}
+use Rattle.x25_world.proofs.sessions.SessionJoined.{IsEnd, SessionsJoined, Goes, gave_none, sessions_swapped}
 use Rattle.x25_world.specs.laws.LawsBelow.{SessionLaws}
 use Rattle.x25_world.proofs.sessions.acts.SessionLines.{lost_joined, damaged_joined}
 use Rattle.x25_world.proofs.sessions.acts.SessionTimers.{fired_joined, connects_joined, connects_alone_joined, disconnects_joined, probes_joined, relinks_joined}
@@ -53,12 +58,34 @@ one_up Dce transcript is = ap (λ (t : List AtEnd). (progress_at Dce t).begun) i
 
 -- ---- acts and events
 
+-- They lead here from these links, and each end is handed down more in its sessions, with what its user gave.
+pub record RunGoes (since : Beginning) (cfg : Cfg) (v : Sessions) (dte dce : ℕ → List Gave) (w : World) : Type 0 where
+  pub joined : SessionsJoined since cfg Dte w
+  pub near : (n : ℕ) → MoreIs cfg (v.near.down n) (joined.links.near.down n) (dte n)
+  pub far : (n : ℕ) → MoreIs cfg (v.far.down n) (joined.links.far.down n) (dce n)
+
+abbrev begun_in : Progress → ℕ
+begun_in p = p.begun
+
+-- a run behind another
+behind : {since : Beginning} {cfg : Cfg} {w : World} (v u : Sessions) (dte dte_more dce dce_more : ℕ → List Gave) → ((n : ℕ) → MoreIs cfg (v.near.down n) (u.near.down n) (dte n)) → ((n : ℕ) → MoreIs cfg (v.far.down n) (u.far.down n) (dce n))
+    → RunGoes since cfg u dte_more dce_more w → RunGoes since cfg v (λ (n : ℕ). dte n ++ dte_more n) (λ (n : ℕ). dce n ++ dce_more n) w
+behind {cfg = cfg} v u dte dte_more dce dce_more near far r = record {
+  joined = r.joined;
+  near = λ n. more_again cfg (v.near.down n) (u.near.down n) (r.joined.links.near.down n) (dte n) (dte_more n) (near n) (r.near n);
+  far = λ n. more_again cfg (v.far.down n) (u.far.down n) (r.joined.links.far.down n) (dce n) (dce_more n) (far n) (r.far n);
+}
+
 module _ (laws : SessionLaws) (cfg : Cfg) (fine : IsConfigured cfg) where
-  acts_joined : {since : Beginning} (end : Role) (w : World) → SessionsJoined since cfg end w → (act : Act) → IsAt since end act → ActsInOctets act
-      → (since ≡ set_up false → IsNoConnect act (refusal_of (acts (settings_from end cfg) w act))) → SessionsJoined since cfg end (after w (acts (settings_from end cfg) w act))
+  acts_joined : {since : Beginning} (end : Role) (w : World) (h : SessionsJoined since cfg end w) (act : Act) → IsAt since end act → ActsInOctets act
+      → (let o = acts (settings_from end cfg) w act in (since ≡ set_up false → IsNoConnect act (refusal_of o))
+      → Goes since cfg end h.links (λ (n : ℕ). gave_by (layer_of cfg end) w.near.layer (n == h.links.near.begun) act (refusal_of o)) (after w o))
   acts_joined end w h (Commands (Requests request)) is_at octets none = requests_joined laws cfg fine end w h request (said_by cfg.say_sizes w.near.layer request) is_at (said_octets cfg.say_sizes w.near.layer request octets)
-  acts_joined end w h (Commands (RequestsWith given request)) is_at octets none =
-      gives_joined laws cfg fine end w h given request (said_by cfg.say_sizes w.near.layer request) is_at octets.0 (said_octets cfg.say_sizes w.near.layer request octets.1)
+  acts_joined {since} end w h (Commands (RequestsWith given request)) is_at octets none =
+      let said = said_by cfg.say_sizes w.near.layer request in
+      let o = acts (settings_from end cfg) w (Commands (RequestsWith given request)) in
+      subst (λ (k : Option ℕ). Goes since cfg end h.links (λ (n : ℕ). gave_where (n == h.links.near.begun) (refusal_of o) (record { channel = k; given = given })) (after w o)) (said_channel (layer_of cfg end) w.near.layer cfg.say_sizes request)
+      (gives_joined laws cfg fine end w h given request said is_at octets.0 (said_octets cfg.say_sizes w.near.layer request octets.1))
   acts_joined end w h (Commands Connects) is_at octets none = connects_joined laws cfg fine end w h is_at none
   acts_joined end w h (Commands Disconnects) is_at octets none = disconnects_joined laws cfg fine end w h is_at
   acts_joined end w h (Commands Probes) is_at octets none = probes_joined laws cfg fine end w h is_at
@@ -68,18 +95,48 @@ module _ (laws : SessionLaws) (cfg : Cfg) (fine : IsConfigured cfg) where
   acts_joined end w h (Loses place) is_at octets none = lost_joined cfg end w h place is_at
   acts_joined end w h (Damages place octets) is_at fits none = damaged_joined cfg end w h place octets is_at
 
-  pub event_joined : {since : Beginning} (at : Role) (act : Act) (w : World) → IsAt since at act → ActsInOctets act → (since ≡ set_up false → IsNoConnect act (refusal_of (happens cfg w (record { at = at; act = act }))))
-      → SessionsJoined since cfg Dte w → SessionsJoined since cfg Dte (after w (happens cfg w (record { at = at; act = act })))
-  event_joined Dte act w is_at octets none h = acts_joined Dte w h act is_at octets none
-  event_joined {since} Dce act w is_at octets none h =
-      let o = acts (settings_from Dce cfg) (swapped w) act in
-      subst (λ (x : World). SessionsJoined since cfg Dte x) (sym (back_after w o))
-      (sessions_swapped cfg Dce (after (swapped w) o) (acts_joined Dce (swapped w) (sessions_swapped cfg Dte w h) act is_at octets (λ free. subst (IsNoConnect act) (refusal-swapped o) (none free))))
+  -- a step of the far end
+  far_goes : (since : Beginning) (w : World) (h : SessionsJoined since cfg Dte w) (act : Act) (o : WorldOutcome)
+      → Goes since cfg Dce (links.swapped h.links) (λ (n : ℕ). gave_by (layer_of cfg Dce) w.far.layer (n == h.links.far.begun) act (refusal_of o)) (after (swapped w) o)
+      → RunGoes since cfg h.links (λ (n : ℕ). []) (λ (n : ℕ). gave_by (layer_of cfg Dce) w.far.layer (n == last_session Dce w) act (refusal_of (swapped_back o))) (swapped (after (swapped w) o))
+  unfolding sessions_swapped
+  far_goes since w h act o s = record {
+    joined = sessions_swapped cfg Dce (after (swapped w) o) s.joined;
+    near = λ n. none_more cfg (h.links.near.down n) (s.joined.links.far.down n) [] (ap (λ (k : SessionEnd). k.down n) s.far);
+    far = λ n. subst (λ (k : ℕ). MoreIs cfg (h.links.far.down n) (s.joined.links.near.down n) (gave_by (layer_of cfg Dce) w.far.layer (n == k) act (refusal_of (swapped_back o)))) (sym (ap begun_in h.far.progress))
+        (subst (λ (r : Option WorldError). MoreIs cfg (h.links.far.down n) (s.joined.links.near.down n) (gave_by (layer_of cfg Dce) w.far.layer (n == h.links.far.begun) act r)) (sym (refusal-swapped o)) (s.down n));
+  }
 
-  run_joined : {since : Beginning} (events : List Event) (w : World) → IsAtNone since → AreInOctets events → (since ≡ set_up false → NoneConnects cfg events w) → SessionsJoined since cfg Dte w → SessionsJoined since cfg Dte (run cfg events w)
-  run_joined [] w never octets none h = h
+  pub event_joined : {since : Beginning} (at : Role) (act : Act) (w : World) → IsAt since at act → ActsInOctets act
+      → (let e : Event = record { at = at; act = act } in let o = happens cfg w e in (since ≡ set_up false → IsNoConnect act (refusal_of o))
+      → (h : SessionsJoined since cfg Dte w) → RunGoes since cfg h.links (λ (n : ℕ). gave_at cfg Dte n w e) (λ (n : ℕ). gave_at cfg Dce n w e) (after w o))
+  unfolding sessions_swapped
+  event_joined Dte act w is_at octets none h =
+      let o = acts (settings_from Dte cfg) w act in
+      let s = acts_joined Dte w h act is_at octets none in
+      record {
+        joined = s.joined;
+        near = λ n. subst (λ (k : ℕ). MoreIs cfg (h.links.near.down n) (s.joined.links.near.down n) (gave_by (layer_of cfg Dte) w.near.layer (n == k) act (refusal_of o))) (sym (ap begun_in h.near.progress)) (s.down n);
+        far = λ n. none_more cfg (h.links.far.down n) (s.joined.links.far.down n) [] (ap (λ (k : SessionEnd). k.down n) s.far);
+      }
+  event_joined {since} Dce act w is_at octets none h =
+      let e : Event = record { at = Dce; act = act } in
+      let o = acts (settings_from Dce cfg) (swapped w) act in
+      subst (λ (x : World). RunGoes since cfg h.links (λ (n : ℕ). gave_at cfg Dte n w e) (λ (n : ℕ). gave_at cfg Dce n w e) x) (sym (back_after w o))
+      (far_goes since w h act o (acts_joined Dce (swapped w) (sessions_swapped cfg Dte w h) act is_at octets (λ free. subst (IsNoConnect act) (refusal-swapped o) (none free))))
+
+  run_joined : {since : Beginning} (events : List Event) (w : World) → IsAtNone since → AreInOctets events → (since ≡ set_up false → NoneConnects cfg events w) → (h : SessionsJoined since cfg Dte w)
+      → RunGoes since cfg h.links (λ (n : ℕ). gave_in cfg Dte n events w) (λ (n : ℕ). gave_in cfg Dce n events w) (run cfg events w)
+  run_joined [] w never octets none h = record {
+    joined = h;
+    near = λ n. none_more cfg (h.links.near.down n) (h.links.near.down n) [] refl;
+    far = λ n. none_more cfg (h.links.far.down n) (h.links.far.down n) [] refl;
+  }
   run_joined (e ∷ events) w never octets none h =
-      run_joined events (after w (happens cfg w e)) never octets.1 (λ free. (none free).1) (event_joined e.at e.act w (λ before x is. absurd (never before x is)) octets.0 (λ free. (none free).0) h)
+      let next = after w (happens cfg w e) in
+      let one = event_joined e.at e.act w (λ before x is. absurd (never before x is)) octets.0 (λ free. (none free).0) h in
+      behind h.links one.joined.links (λ (n : ℕ). gave_at cfg Dte n w e) (λ (n : ℕ). gave_in cfg Dte n events next) (λ (n : ℕ). gave_at cfg Dce n w e) (λ (n : ℕ). gave_in cfg Dce n events next) one.near one.far
+      (run_joined events next never octets.1 (λ free. (none free).1) one.joined)
 
   -- ---- how a run begins
 
@@ -119,12 +176,28 @@ module _ (laws : SessionLaws) (cfg : Cfg) (fine : IsConfigured cfg) where
     far_hears = λ n. inl (refl, refl);
   }
 
-  connected_joined : ConnectKeeps → SessionsJoined both_down cfg Dte (connected cfg)
-  connected_joined keeps = connects_alone_joined laws cfg fine Dte start start_joined (λ before e is. absurd (down_at_none before e is)) (λ off. not_set_up false off) keeps
+  -- with nothing that a user gave
+  abbrev pub BeginsSo : World → Type 0
+  BeginsSo w = RunGoes both_down cfg from_nothing gave_none gave_none w
+
+  start_goes : BeginsSo start
+  unfolding start_joined
+  start_goes = record { joined = start_joined; near = λ n. none_more cfg [] [] [] refl; far = λ n. none_more cfg [] [] [] refl }
+
+  connected_goes : ConnectKeeps → BeginsSo (connected cfg)
+  unfolding start_joined
+  connected_goes keeps =
+      let s = connects_alone_joined laws cfg fine Dte start start_joined (λ before e is. absurd (down_at_none before e is)) (λ off. not_set_up false off) keeps in
+      record { joined = s.joined; near = s.down; far = λ n. none_more cfg [] (s.joined.links.far.down n) [] (ap (λ (k : SessionEnd). k.down n) s.far) }
+
+  established_goes : ConnectKeeps → BeginsSo (established cfg)
+  established_goes keeps =
+      let c = connected_goes keeps in
+      behind from_nothing c.joined.links gave_none gave_none gave_none gave_none c.near c.far
+      (run_joined (record { at = Dce; act = Receives } ∷ record { at = Dte; act = Receives } ∷ []) (connected cfg) down_at_none (tt, (tt, tt)) (λ off. not_set_up false off) c.joined)
 
   pub established_joined : ConnectKeeps → SessionsJoined both_down cfg Dte (established cfg)
-  established_joined keeps =
-      run_joined (record { at = Dce; act = Receives } ∷ record { at = Dte; act = Receives } ∷ []) (connected cfg) down_at_none (tt, (tt, tt)) (λ off. not_set_up false off) (connected_joined keeps)
+  established_joined keeps = (established_goes keeps).joined
 
   -- two stations begin alike
   pub set_up_alike : (keeps : ConnectKeeps) → AreAlike (established_joined keeps).links (two_links cfg)
@@ -169,22 +242,31 @@ module _ (laws : SessionLaws) (cfg : Cfg) (fine : IsConfigured cfg) where
       }
 
 -- at any beginning
-pub begin_joined : (laws : SessionLaws) → ConnectKeeps → (cfg : Cfg) → IsConfigured cfg → (begin : World) → IsBeginning cfg begin → SessionsJoined both_down cfg Dte begin
-begin_joined laws keeps cfg fine begin is = elim is [
-  | inl same ↦ subst (λ (w : World). SessionsJoined both_down cfg Dte w) (sym same) (start_joined laws cfg fine)
+begin_goes : (laws : SessionLaws) → ConnectKeeps → (cfg : Cfg) (fine : IsConfigured cfg) (begin : World) → IsBeginning cfg begin → RunGoes both_down cfg from_nothing gave_none gave_none begin
+begin_goes laws keeps cfg fine begin is = elim is [
+  | inl same ↦ subst (BeginsSo laws cfg fine) (sym same) (start_goes laws cfg fine)
   | inr rest ↦ elim rest [
-    | inl same ↦ subst (λ (w : World). SessionsJoined both_down cfg Dte w) (sym same) (connected_joined laws cfg fine keeps)
-    | inr same ↦ subst (λ (w : World). SessionsJoined both_down cfg Dte w) (sym same) (established_joined laws cfg fine keeps)
+    | inl same ↦ subst (BeginsSo laws cfg fine) (sym same) (connected_goes laws cfg fine keeps)
+    | inr same ↦ subst (BeginsSo laws cfg fine) (sym same) (established_goes laws cfg fine keeps)
   ]
 ]
 
+pub begin_joined : (laws : SessionLaws) → ConnectKeeps → (cfg : Cfg) → IsConfigured cfg → (begin : World) → IsBeginning cfg begin → SessionsJoined both_down cfg Dte begin
+begin_joined laws keeps cfg fine begin is = (begin_goes laws keeps cfg fine begin is).joined
+
 -- at each world of a run from there
+pub throughout_goes : (laws : SessionLaws) → ConnectKeeps
+    → ThroughoutAlong (λ (cfg : Cfg) (begin : World) (events : List Event) (w : World). RunGoes both_down cfg from_nothing (λ (n : ℕ). gave_in cfg Dte n events begin) (λ (n : ℕ). gave_in cfg Dce n events begin) w)
+throughout_goes laws keeps cfg fine begin is events octets =
+    let b = begin_goes laws keeps cfg (is_configured cfg fine) begin is in
+    behind from_nothing b.joined.links gave_none (λ (n : ℕ). gave_in cfg Dte n events begin) gave_none (λ (n : ℕ). gave_in cfg Dce n events begin) b.near b.far
+    (run_joined laws cfg (is_configured cfg fine) events begin down_at_none octets (λ off. not_set_up false off) b.joined)
+
 pub throughout_joined : (laws : SessionLaws) → ConnectKeeps → Throughout (λ (cfg : Cfg) (w : World). SessionsJoined both_down cfg Dte w)
-throughout_joined laws keeps cfg fine begin is events octets =
-    run_joined laws cfg (is_configured cfg fine) events begin down_at_none octets (λ off. not_set_up false off) (begin_joined laws keeps cfg (is_configured cfg fine) begin is)
+throughout_joined laws keeps cfg fine begin is events octets = (throughout_goes laws keeps cfg fine begin is events octets).joined
 
 -- at each world of a run from a link just set up, after which, where `asks` is false, no `connect` is accepted
 pub set_up_throughout : (laws : SessionLaws) → ConnectKeeps → (asks : Bool) (cfg : Cfg) → config_refusal cfg ≡ None → (events : List Event) → AreInOctets events
     → (set_up asks ≡ set_up false → NoneConnects cfg events (established cfg)) → SessionsJoined (set_up asks) cfg Dte (run cfg events (established cfg))
 set_up_throughout laws keeps asks cfg fine events octets none =
-    run_joined laws cfg (is_configured cfg fine) events (established cfg) (set_up_at_none asks) octets none (set_up_joined laws cfg (is_configured cfg fine) asks keeps)
+    (run_joined laws cfg (is_configured cfg fine) events (established cfg) (set_up_at_none asks) octets none (set_up_joined laws cfg (is_configured cfg fine) asks keeps)).joined

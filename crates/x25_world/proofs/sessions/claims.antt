@@ -6,4 +6,5 @@ pub mod SessionArrives
 pub mod SessionWaits
 pub mod SessionQuiet
 pub mod SessionOctets
+pub mod SessionGiven
 pub mod SessionHeadline

@@ -18,6 +18,7 @@ use Rattle.x25_world.specs.laws.Claims.{AreInOctets, IsUpOnce, IsUpAtMostOnce, S
 use Rattle.x25_world.specs.laws.Claims.{IsLawful, IsNamed, ArrivesAll, HasNoProcedureError}
 use Rattle.x25_world.specs.laws.WindowGoes.{StaysInWindow}
 use Rattle.x25_world.specs.laws.SessionClaims.{SessionsKeepOrder}
+use Rattle.x25_world.specs.laws.BesideClaims.{BesideIsGiven}
 use Rattle.x25_world.specs.laws.SessionWindow.{SessionsStayInWindow}
 use Rattle.x25_world.specs.code.ShownLine.{ShownLine, line_to}
 use Rattle.x25_world.specs.BitDamage.{bit_damage, RefusesBits}
@@ -118,7 +119,7 @@ UpOnceAfter old new more =
 
 -- The world that is left is that of a run. Of each run up to the moment at which an end goes up a second time
 -- `lawful` to `quiet` hold, `window` and `up_once` from a link just set up; of each run, also where the link is set
--- up anew, `sessions` and `links`.
+-- up anew, `sessions`, `links` and `beside`.
 pub record Claims (old new : ShownWorld) (more : List Event → List Event) : Type 0 where
   pub run : (cfg : Cfg) (from : World) (past : List Event) → FitsRun cfg from old past →
       FitsRun cfg from new (more past)
@@ -130,6 +131,7 @@ pub record Claims (old new : ShownWorld) (more : List Event → List Event) : Ty
   pub up_once : UpOnceAfter old new more
   pub sessions : HoldsThroughout SessionsKeepOrder old new more
   pub links : GoesOnThroughout SessionsStayInWindow old new more
+  pub beside : GoesOnThroughout BesideIsGiven old new more
 
 -- the same of a world that was just made, from where its runs begin
 pub record ClaimsOfNew (cfg : Cfg) (from : World) (v : ShownWorld) : Type 0 where
@@ -140,6 +142,7 @@ pub record ClaimsOfNew (cfg : Cfg) (from : World) (v : ShownWorld) : Type 0 wher
   pub quiet : HasNoProcedureError cfg from
   pub sessions : SessionsKeepOrder cfg from
   pub links : SessionsStayInWindow cfg from [] from
+  pub beside : BesideIsGiven cfg from [] from
 
 -- the claims of a world whose link was just set up
 pub record ClaimsOfSetUp (cfg : Cfg) : Type 0 where

@@ -14,7 +14,8 @@ use Rattle.x25_layer.specs.laws.NameLaw.{NamesAreCounted}
 use Rattle.x25_layer.specs.laws.Apart.{AlwaysApart}
 use Rattle.x25_layer.specs.laws.ApartLaw.{IsOverLinks, RestartsFirst, BeginsAlone, OwnMovesDecide, EventsRunOn}
 use Rattle.x25_station.specs.laws.JoinLaw.{RequestIsJoined, ReceiveIsJoined, QuietIsJoined, DownIsJoined, UpIsJoined}
-use Rattle.x25_station.specs.laws.GivenLaw.{GivenIsJoined, GivenIsRead}
+use Rattle.x25_packet.specs.laws.ReadingLaw.{ReadsWhatIsSpelled}
+use Rattle.x25_station.specs.laws.GivenLaw.{GivenIsJoined, GivenIsRead, GivenIsTold, GivenIsWritten}
 use Rattle.x25_station.specs.laws.KeepLaw.{ConnectKeeps, TimerKeeps, RequestKeeps, GivenKeeps, CommandKeeps}
 use Rattle.x25_station.specs.laws.KeepLaw.{ReceiveKeeps}
 use Rattle.x25_station.specs.laws.ReadLaw.{PutsAreReadable}
@@ -25,6 +26,8 @@ pub record Laws : Type 0 where
   pub request : RequestIsJoined
   pub given : GivenIsJoined
   pub given_read : GivenIsRead
+  pub given_written : GivenIsWritten
+  pub given_told : GivenIsTold
   pub receive : ReceiveIsJoined
   pub quiet : QuietIsJoined
   pub down : DownIsJoined
@@ -47,6 +50,7 @@ pub record Laws : Type 0 where
   pub take_waits : TakeWaits
   pub take_sets_up : TakeSetsUp
   pub reads : ReadsSpelled
+  pub grammar : ReadsWhatIsSpelled
 
 -- those of one station, of two links over set-up and re-set-up, and of two layers of which each end is by itself
 pub record SessionLaws : Type 0 where

@@ -6,18 +6,20 @@ use Rattle.x25_link.specs.declared.error.LinkError.TheVariants as link_error
 use Rattle.x25_link.specs.declared.phase.Reason.TheVariants.{Local, Disc, Reset, Retries}
 use Rattle.x25_circuit.specs.Params.{default_params, in_brief}
 use Rattle.x25_circuit.specs.Calling.{Accepts, Sends}
+use Rattle.x25_given.specs.Given.{PlainGiven}
 use Rattle.x25_handshakes.specs.laws.Names.{Name}
 use Rattle.x25_layer.specs.Calls.{LayerRequest, Asks, Dials, Restarts}
 use Rattle.x25_layer.specs.laws.Transcript.{under, messages_in}
 use Rattle.x25_station.specs.declared.config.Cfg.{Cfg}
 use Rattle.x25_station.specs.declared.error.StationError.TheVariants as station_error
-use Rattle.x25_station.specs.Command.{Requests, Connects, Disconnects}
+use Rattle.x25_station.specs.Command.{Requests, RequestsWith, Connects, Disconnects}
 use Rattle.x25_station.specs.Entry.{restart_asked, connect_asked, disconnect_asked, link_up, link_down, was_restarted}
 use Rattle.x25_station.specs.Config.{settings_from}
 use Rattle.x25_station.specs.Station.Told.{is_idle, stretch}
 use Rattle.x25_world.specs.declared.error.WorldError.TheVariants as error
 use Rattle.x25_world.specs.World.{AtEnd, World, Act, Commands, Receives, Fires, Loses, Damages, Event, happens}
 use Rattle.x25_world.specs.World.{refusal_of, run, start, established}
+use Rattle.x25_world.specs.laws.BesideClaims.{came_in, gave_in}
 use Rattle.x25_world.specs.laws.Claims.{handed_at}
 use Rattle.x25_world.specs.Healing.{IsDrained, firing, AreReceiptsAndRequests, FreeThroughout, BothMayHeal}
 use Rattle.x25_world.specs.laws.Sessions.{session_at, meets}
@@ -96,6 +98,34 @@ MoreArrives =
     × (let u = run two_channels sends_more fired in IsDrained u
     × ((messages_in (under 2 first_stretch (handed_at Dce u))).up
     ≡ record { q = false; user = codes "hi" } ∷ record { q = false; user = codes "ho" } ∷ [])))
+
+-- ---- something given with a call and its acceptance, at stations that read packets in all their forms
+
+abbrev pub in_all_forms : Cfg
+in_all_forms = record { k = 7; n2 = 10; channels = 2; long_data = false; say_sizes = false; wide = true }
+
+abbrev pub reverse_charging : PlainGiven
+reverse_charging = record { facilities = 1 ∷ 1 ∷ []; user = []; d = false }
+
+abbrev pub one_octet : PlainGiven
+one_octet = record { facilities = []; user = 111 ∷ []; d = false }
+
+abbrev pub gives : Role → PlainGiven → LayerRequest → Event
+gives at given request = event at (Commands (RequestsWith given request))
+
+abbrev pub calls_and_accepts : List Event
+calls_and_accepts = delivers 3
+    ++ gives Dte reverse_charging (Dials (codes "123") (codes "4567") [] (in_brief default_params)) ∷ delivers 2
+    ++ gives Dce one_octet (Asks 2 (Accepts None)) ∷ delivers 2
+
+-- each user is told of what the other one gave
+abbrev pub GivenArrives : Type 0
+GivenArrives =
+    (let begin = established in_all_forms in let w = run in_all_forms calls_and_accepts begin in
+    (gave_in in_all_forms Dte 1 calls_and_accepts begin ≡ record { channel = Some 2; given = reverse_charging } ∷ [])
+    × (came_in (session_at Dce 1 w.transcript) ≡ record { channel = 2; facilities = 1 ∷ 1 ∷ []; user = [] } ∷ [])
+    × (gave_in in_all_forms Dce 1 calls_and_accepts begin ≡ record { channel = Some 2; given = one_octet } ∷ [])
+    × (came_in (session_at Dte 1 w.transcript) ≡ record { channel = 2; facilities = []; user = 111 ∷ [] } ∷ []))
 
 -- ---- `disconnect`: the link goes down at both ends, at the DCE behind the RESTART that came before
 

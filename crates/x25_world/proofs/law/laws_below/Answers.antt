@@ -16,6 +16,8 @@ returns c =
       request = joins.request;
       given = joins.given;
       given_read = c.what_is_given_is_told.ensures.read;
+      given_written = c.what_is_given_is_told.ensures.written;
+      given_told = c.what_is_given_is_told.ensures.told;
       receive = joins.receive;
       quiet = joins.quiet;
       down = joins.down;
@@ -38,6 +40,7 @@ returns c =
       take_waits = sets_up.waits;
       take_sets_up = sets_up.sets_up;
       reads = c.reads_what_is_spelled.ensures.reads;
+      grammar = c.reading_is_the_grammar.ensures.spelled;
     } in
     record {
       stations = stations;

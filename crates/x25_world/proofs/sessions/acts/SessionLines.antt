@@ -1,5 +1,5 @@
 -- Octets on the line to an end are lost or damaged, over set-up and re-set-up.
-use Rattle.std.proofs.Common.{◌≡◌, ℕ, List, length, remove, Bool, true, false, nat_lt, if◌then◌else◌, refl, ap, ◌∙◌}
+use Rattle.std.proofs.Common.{◌≡◌, ℕ, List, [], length, remove, Bool, true, false, nat_lt, if◌then◌else◌, refl, ap, ◌∙◌}
 use Rattle.x25_bits.specs.declared.role.Role.{Role}
 use Rattle.x25_line.specs.laws.Stations as line
 use Rattle.x25_line.specs.laws.Stations.{is_visible}
@@ -10,42 +10,47 @@ use Rattle.x25_world.specs.World.{World, Happened, Declined, Loses, Damages, on_
 use Rattle.x25_world.specs.declared.error.WorldError.TheVariants as error
 use Rattle.x25_world.proofs.OneLink.{octets_removed, octets_replaced}
 use Rattle.x25_world.proofs.sessions.SessionReaches.{Beginning, SessionsReach, IsAt, may_ask, sessions_act}
-use Rattle.x25_world.proofs.sessions.SessionJoined.{SessionsJoined}
+use Rattle.x25_world.proofs.sessions.SessionJoined.{SessionsJoined, Goes, gave_none, stays}
+use Rattle.x25_world.proofs.sessions.SessionBeside.{none_more}
 
 -- other octets are left on the line
 left_joined : {since : Beginning} (cfg : Cfg) (end : Role) (w : World) (h : SessionsJoined since cfg end w) (es : List links.Entry) (left : List (List ℕ)) → octets_of es ≡ left → SessionsReach since cfg end (record h.links { back = es })
-    → SessionsJoined since cfg end (on_line w left)
+    → Goes since cfg end h.links gave_none (on_line w left)
 left_joined cfg end w h es left same reach = record {
-  links = record h.links { back = es };
-  trace = h.trace;
-  reach = reach;
-  near = h.near;
-  far = h.far;
-  out = h.out;
-  back = same;
-  tap = h.tap;
-  octets = h.octets;
-  pairs = h.pairs;
-  near_hears = h.near_hears;
-  far_hears = h.far_hears;
+  joined = record {
+    links = record h.links { back = es };
+    trace = h.trace;
+    reach = reach;
+    near = h.near;
+    far = h.far;
+    out = h.out;
+    back = same;
+    tap = h.tap;
+    octets = h.octets;
+    pairs = h.pairs;
+    near_hears = h.near_hears;
+    far_hears = h.far_hears;
+  };
+  down = λ n. none_more cfg (h.links.near.down n) (h.links.near.down n) [] refl;
+  far = refl;
 }
 
-pub lost_joined : {since : Beginning} (cfg : Cfg) (end : Role) (w : World) → SessionsJoined since cfg end w → (place : ℕ) → IsAt since end (Loses place) → SessionsJoined since cfg end (after w (lost w place))
+pub lost_joined : {since : Beginning} (cfg : Cfg) (end : Role) (w : World) (h : SessionsJoined since cfg end w) (place : ℕ) → IsAt since end (Loses place) → Goes since cfg end h.links gave_none (after w (lost w place))
 lost_joined {since} cfg end w h place is_at = by (nat_lt place (length w.back))
   where
-    by : (b : Bool) → SessionsJoined since cfg end (after w (if b then Happened (on_line w (remove w.back place)) else Declined error.NoSuchFrame))
+    by : (b : Bool) → Goes since cfg end h.links gave_none (after w (if b then Happened (on_line w (remove w.back place)) else Declined error.NoSuchFrame))
     by true = left_joined cfg end w h (remove h.links.back place) (remove w.back place) (octets_removed h.links.back place ∙ ap (λ (l : List (List ℕ)). remove l place) h.back)
         (sessions_act cfg end (line.Lose place) h.links tt (λ off s same. tt) (may_ask end (Loses place) (line.Lose place) is_at refl) h.reach)
-    by false = h
+    by false = stays cfg end w h gave_none
 
-pub damaged_joined : {since : Beginning} (cfg : Cfg) (end : Role) (w : World) → SessionsJoined since cfg end w → (place : ℕ) (octets : List ℕ) → IsAt since end (Damages place octets) → SessionsJoined since cfg end (after w (damaged w place octets))
+pub damaged_joined : {since : Beginning} (cfg : Cfg) (end : Role) (w : World) (h : SessionsJoined since cfg end w) (place : ℕ) (octets : List ℕ) → IsAt since end (Damages place octets) → Goes since cfg end h.links gave_none (after w (damaged w place octets))
 damaged_joined {since} cfg end w h place octets is_at =
     by (nat_lt place (length w.back)) (is_visible octets)
     (sessions_act cfg end (line.Damage place octets) h.links tt (λ off s same. tt) (may_ask end (Damages place octets) (line.Damage place octets) is_at (refl, refl)) h.reach)
   where
     by : (b seen : Bool) → SessionsReach since cfg end (if seen then record h.links { back = links.replaced h.links.back place octets } else h.links)
-        → SessionsJoined since cfg end (after w (if b then (if seen then Happened (on_line w (line.replaced w.back place octets)) else Declined error.Unseen) else Declined error.NoSuchFrame))
+        → Goes since cfg end h.links gave_none (after w (if b then (if seen then Happened (on_line w (line.replaced w.back place octets)) else Declined error.Unseen) else Declined error.NoSuchFrame))
     by true true reach = left_joined cfg end w h (links.replaced h.links.back place octets) (line.replaced w.back place octets)
         (octets_replaced h.links.back place octets ∙ ap (λ (l : List (List ℕ)). line.replaced l place octets) h.back) reach
-    by true false reach = h
-    by false seen reach = h
+    by true false reach = stays cfg end w h gave_none
+    by false seen reach = stays cfg end w h gave_none

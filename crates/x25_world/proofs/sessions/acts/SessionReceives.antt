@@ -24,7 +24,7 @@ use Rattle.x25_layer.specs.laws.TwoLayers as layer
 use Rattle.x25_layer.specs.laws.TwoLayers.{HandsUp}
 use Rattle.x25_layer.specs.laws.RoundLaw.{moves_all, pulls_of}
 use Rattle.x25_layer.specs.laws.Apart as apart
-use Rattle.x25_layer.specs.laws.Apart.{OwnMove, Takes, Ends, own_run, apart_happens, AreInOrder}
+use Rattle.x25_layer.specs.laws.Apart.{OwnMove, Takes, Ends, own_run, AreInOrder}
 use Rattle.x25_layer.specs.laws.ApartLaw.{BeginsRestarted, IsToldFirst}
 use Rattle.x25_station.specs.declared.config.Cfg.{Cfg}
 use Rattle.x25_station.specs.Config.{Settings, settings_from, layer_settings}
@@ -32,16 +32,19 @@ use Rattle.x25_station.specs.Entry.{layer_notices}
 use Rattle.x25_station.specs.Step.{Step, follows, abandons, receives}
 use Rattle.x25_station.specs.laws.JoinLaw.{station_with, IsJoined}
 use Rattle.x25_station.specs.laws.KeepLaw.{IsKept}
+use Rattle.x25_station.specs.laws.ReadLaw.{AreReadable}
 use Rattle.x25_world.specs.World.{World, Receives, delivered, after, after_step}
+use Rattle.x25_world.specs.laws.BesideClaims.{Came, IsGiven, AreSomeOf}
 use Rattle.x25_world.specs.laws.Claims.{link_of}
 use Rattle.x25_world.proofs.Known.{IsConfigured, both_true, true_false}
 use Rattle.x25_world.proofs.Growing.{read_by, all_read, is_read, as_read, first_read}
 use Rattle.x25_world.proofs.sessions.SessionTrace.{layer_of, Done, moved, own, own_goes, events_of, nothing_goes}
 use Rattle.x25_world.proofs.sessions.SessionReaches.{Beginning, SessionsReach, IsAt, may_ask, known_sessions, sessions_act}
-use Rattle.x25_world.proofs.sessions.SessionJoined.{HasMet, PairIsInOrder, PairsAreInOrder, SessionsJoined}
+use Rattle.x25_world.proofs.sessions.SessionJoined.{HasMet, PairIsInOrder, PairsAreInOrder, SessionsJoined, Goes, gave_none, stays}
+use Rattle.x25_world.proofs.sessions.SessionBeside.{spelled_bring}
 use Rattle.x25_world.specs.laws.LawsBelow.{SessionLaws}
 use Rattle.x25_world.proofs.sessions.SessionKnown.{all_no_earlier, met_in_order, pair_ends, here_in, here_is, there_is, pair_world, own_order, own_first, nothing_in_order}
-use Rattle.x25_world.proofs.sessions.SessionEntries.{heard_plain}
+use Rattle.x25_world.proofs.sessions.SessionEntries.{heard_plain, heard_beside}
 use Rattle.x25_world.proofs.sessions.SessionLinks.{SessionGoes, spelled, puts_spelled, spelled_back, own_step, front_entry, deliver_goes, PutsRead}
 use Rattle.x25_world.proofs.sessions.SessionGoes.{here_extended}
 use Rattle.x25_world.proofs.sessions.SessionFollows.{no_command, up_puts, silent_puts, follows_silent, follows_up}
@@ -142,7 +145,7 @@ module _ {since : Beginning} (laws : SessionLaws) (cfg : Cfg) (fine : IsConfigur
     gone = links.acts (link_of cfg end) (line.Lose 0) (links.acts (link_of cfg end) line.Abandon h.links)
 
     abandoned : abandons (settings_from end cfg) w.near ≡ true → IsKept (follows (settings_from end cfg) w.near.layer (abandon_step (link_of cfg end) w.near.link)).near
-        → SessionsJoined since cfg end (after_step (settings_from end cfg) w back (follows (settings_from end cfg) w.near.layer (abandon_step (link_of cfg end) w.near.link)))
+        → Goes since cfg end h.links gave_none (after_step (settings_from end cfg) w back (follows (settings_from end cfg) w.near.layer (abandon_step (link_of cfg end) w.near.link)))
     abandoned full kept =
         let c = link_of cfg end in
         let up : is_up w.near.link.phase ≡ true = (both_true (is_up w.near.link.phase) (is_full (layer_settings (settings_from end cfg)) w.near.layer) full).0 in
@@ -332,6 +335,11 @@ module _ {since : Beginning} (laws : SessionLaws) (cfg : Cfg) (fine : IsConfigur
           ∙ ap (λ (b : Bool). follows c w.near.layer (if b then abandon_step (link_of cfg end) w.near.link else taken)) none in
           (j.0, subst (λ (s : Step). IsJoined c begin (world_on j.0) taken.side [] s) is j.2)
 
+      joined_readable : (none : abandons (settings_from end cfg) w.near ≡ false) → AreReadable cfg.long_data (joined_on none).1.packets
+      joined_readable none =
+          let j = joined_on none in
+          puts_readable laws cfg fine end w h (moves j.0) j.1.packets (ap (λ (e : layer.End). e.given) (sym (near_on j.0)) ∙ j.1.layer.given) (tt, pulls_bring_octets end here j.0) (there, pair_on j.0)
+
       handed_puts : abandons (settings_from end cfg) w.near ≡ false → PutsRead cfg end taken.side step
       handed_puts none =
           let j = joined_on none in
@@ -339,10 +347,10 @@ module _ {since : Beginning} (laws : SessionLaws) (cfg : Cfg) (fine : IsConfigur
             handed = spelled j.1.packets;
             packets = j.1.packets;
             link = puts_spelled (settings_from end cfg) taken.side j.1.packets step j.1.link;
-            readable = spelled_back cfg j.1.packets (puts_readable laws cfg fine end w h (moves j.0) j.1.packets (ap (λ (e : layer.End). e.given) (sym (near_on j.0)) ∙ j.1.layer.given) (tt, pulls_bring_octets end here j.0) (there, pair_on j.0));
+            readable = spelled_back cfg j.1.packets (joined_readable none);
           }
 
-      handed : abandons (settings_from end cfg) w.near ≡ false → IsKept step.near → SessionsJoined since cfg end (after_step (settings_from end cfg) w back step)
+      handed : abandons (settings_from end cfg) w.near ≡ false → IsKept step.near → Goes since cfg end h.links gave_none (after_step (settings_from end cfg) w back step)
       unfolding handed_puts joined_on
       handed none kept =
           let hands = laws.stations.take_hands_up (link_of cfg end) octets w.near.link in
@@ -355,6 +363,8 @@ module _ {since : Beginning} (laws : SessionLaws) (cfg : Cfg) (fine : IsConfigur
           let all = own_goes cfg end here h.trace (moves j.0) in
           joins laws cfg fine end w h step after_taken taken.side (world_on j.0) (moves j.0) (f.packet ∷ []) (f.packet ∷ []) (packet_octets ∷ [])
           (ap (λ (r : Result PlainPacket PacketError). r ∷ []) f.reads) back goes_up_one up up_after (handed_puts none) j.1.layer near takes (heard_plain (settings_from end cfg) w.near.layer taken packet_octets some quiet) kept (tt, pulls_bring_octets end here j.0) (there, pair_on j.0)
+          (heard_beside cfg end w.near.layer taken packet_octets f.packet some quiet f.reads) gave_none
+          (subst (λ (l : List Came). AreSomeOf IsGiven l []) (sym (spelled_bring laws.stations cfg j.1.packets (joined_readable none))) tt)
           (λ o. may_ask end Receives (line.Put o) is_at tt) reach_taken (λ nothing. absurd (not_empty f.packet nothing)) (pairs_on j.0) met_taken.more
           (λ first. inr (record {
             has_met = subst (λ (ms : List Meeting). HasMet here there ms) (sym met_now) (inl (refl, refl));
@@ -378,10 +388,10 @@ module _ {since : Beginning} (laws : SessionLaws) (cfg : Cfg) (fine : IsConfigur
     -- ---- all that may come
 
     takes_joined : abandons (settings_from end cfg) w.near ≡ false → IsKept (follows (settings_from end cfg) w.near.layer taken).near
-        → SessionsJoined since cfg end (after_step (settings_from end cfg) w back (follows (settings_from end cfg) w.near.layer taken))
+        → Goes since cfg end h.links gave_none (after_step (settings_from end cfg) w back (follows (settings_from end cfg) w.near.layer taken))
     takes_joined none kept = by taken.notes.up taken.packet refl refl
       where
-        by : (up : Bool) (o : Option (List ℕ)) → taken.notes.up ≡ up → taken.packet ≡ o → SessionsJoined since cfg end (after_step (settings_from end cfg) w back (follows (settings_from end cfg) w.near.layer taken))
+        by : (up : Bool) (o : Option (List ℕ)) → taken.notes.up ≡ up → taken.packet ≡ o → Goes since cfg end h.links gave_none (after_step (settings_from end cfg) w back (follows (settings_from end cfg) w.near.layer taken))
         by true None up is =
             follows_up laws cfg fine end w h no_command back taken after_taken reach_taken met_taken.pairs met_taken.more (laws.stations.take_tells (link_of cfg end) octets w.near.link) (λ o. may_ask end Receives (line.Put o) is_at tt) up (goes_in true None up is) kept
         by true (Some packet_octets) up is =
@@ -390,19 +400,19 @@ module _ {since : Beginning} (laws : SessionLaws) (cfg : Cfg) (fine : IsConfigur
             follows_silent laws cfg fine end w h no_command back taken after_taken reach_taken met_taken.pairs met_taken.more (laws.stations.take_tells (link_of cfg end) octets w.near.link) up (goes_in false None up is) is kept
         by false (Some packet_octets) up is = handed up packet_octets is none kept
 
-    came_joined : SessionsJoined since cfg end (after_step (settings_from end cfg) w back (receives (settings_from end cfg) w.near octets))
+    came_joined : Goes since cfg end h.links gave_none (after_step (settings_from end cfg) w back (receives (settings_from end cfg) w.near octets))
     came_joined = by (abandons (settings_from end cfg) w.near) refl (laws.stations.receive_keeps (settings_from end cfg) w.near octets h.near.kept)
       where
         step : Bool → Step
         step b = follows (settings_from end cfg) w.near.layer (if b then abandon_step (link_of cfg end) w.near.link else taken)
 
-        by : (b : Bool) → abandons (settings_from end cfg) w.near ≡ b → IsKept (step b).near → SessionsJoined since cfg end (after_step (settings_from end cfg) w back (step b))
+        by : (b : Bool) → abandons (settings_from end cfg) w.near ≡ b → IsKept (step b).near → Goes since cfg end h.links gave_none (after_step (settings_from end cfg) w back (step b))
         by true is kept = abandoned is kept
         by false is kept = takes_joined is kept
 
-  pub receives_joined : SessionsJoined since cfg end (after w (delivered (settings_from end cfg) w w.back))
+  pub receives_joined : Goes since cfg end h.links gave_none (after w (delivered (settings_from end cfg) w w.back))
   receives_joined = by w.back refl
     where
-      by : (l : List (List ℕ)) → w.back ≡ l → SessionsJoined since cfg end (after w (delivered (settings_from end cfg) w l))
-      by [] is = h
+      by : (l : List (List ℕ)) → w.back ≡ l → Goes since cfg end h.links gave_none (after w (delivered (settings_from end cfg) w l))
+      by [] is = stays cfg end w h gave_none
       by (octets ∷ back) is = came_joined octets back is

@@ -1,5 +1,5 @@
 -- A command to the layer in a session, without or with something given: its own packet is put, and then what waits.
-use Rattle.std.proofs.Common.{◌≡◌, ℕ, suc, ◌==◌, ◌⊎◌, inl, inr, List, [], ◌∷◌, ◌++◌, map, Bool, true, refl, sym, ap, ◌∙◌, subst, append-nil, arith, false, if◌then◌else◌, ◌&&◌}
+use Rattle.std.proofs.Common.{◌≡◌, ℕ, suc, ◌==◌, ◌⊎◌, inl, inr, List, [], ◌∷◌, ◌++◌, map, Bool, true, Option, None, refl, sym, ap, ◌∙◌, subst, append-nil, arith, false, if◌then◌else◌, ◌&&◌}
 use Rattle.std.proofs.lemmas.List.{append_cancel_left}
 use Rattle.x25_bits.specs.declared.role.Role.{Role}
 use Rattle.x25_frame.specs.Frame.{PlainFrame}
@@ -15,13 +15,13 @@ use Rattle.x25_given.specs.Given.{PlainGiven, may_give}
 use Rattle.x25_layer.specs.Layer.{Layer, LayerNotice}
 use Rattle.x25_circuit.specs.Calling as circuit
 use Rattle.x25_layer.specs.Calls as asked
-use Rattle.x25_layer.specs.Calls.{LayerRequest, layer_outcome}
+use Rattle.x25_layer.specs.Calls.{LayerRequest, LayerOutcome, Accepted, Declined, layer_outcome}
 use Rattle.x25_layer.specs.laws.Quiet.{AreNoFaults}
 use Rattle.x25_layer.specs.laws.TwoLayers as layer
 use Rattle.x25_layer.specs.laws.TwoLayers.{Requests as Requested}
 use Rattle.x25_layer.specs.laws.RoundLaw.{moves_all, pulls_of}
 use Rattle.x25_layer.specs.laws.Apart as apart
-use Rattle.x25_layer.specs.laws.Apart.{OwnMove, Requests, apart_start, own_moves, own_run, AreInOrder}
+use Rattle.x25_layer.specs.laws.Apart.{OwnMove, Requests, apart_start, own_run, AreInOrder}
 use Rattle.x25_station.specs.declared.config.Cfg.{Cfg}
 use Rattle.x25_station.specs.Config.{Settings, settings_from, layer_settings, link_settings}
 use Rattle.x25_station.specs.Command as command
@@ -32,16 +32,19 @@ use Rattle.x25_station.specs.laws.GivenLaw.{GivesOctets}
 use Rattle.x25_station.specs.laws.JoinLaw.{station_with, MovesAs}
 use Rattle.x25_station.specs.laws.KeepLaw.{IsKept, KeptBy}
 use Rattle.x25_station.specs.laws.ReadLaw.{AreReadable, RequestsOctets}
-use Rattle.x25_world.specs.World.{World, Commands, of_station, after, after_step}
+use Rattle.x25_world.specs.declared.error.WorldError.{WorldError}
+use Rattle.x25_world.specs.World.{World, Commands, of_station, refusal_of, after, after_step}
+use Rattle.x25_world.specs.laws.BesideClaims.{Came, came_in, Gave, channel_for, gave_where, IsGiven, AreSomeOf}
 use Rattle.x25_world.specs.laws.Claims.{link_of}
 use Rattle.x25_world.proofs.Known.{IsConfigured, both_true}
 use Rattle.x25_world.proofs.Growing.{all_read, as_read}
-use Rattle.x25_world.proofs.sessions.SessionTrace.{layer_of, Done, moved, own, own_goes, pair_at, events_of, pair_more, pair_same, TakeNothing, nothing_goes, BringOctets, octets_append}
+use Rattle.x25_world.proofs.sessions.SessionTrace.{layer_of, Done, moved, own, own_goes, same_number, pair_at, events_of, pair_more, pair_same, TakeNothing, nothing_goes, BringOctets, octets_append}
 use Rattle.x25_world.proofs.sessions.SessionReaches.{Beginning, MayAsk, IsAt, may_ask, SessionsReach}
-use Rattle.x25_world.proofs.sessions.SessionJoined.{HasMet, PairIsInOrder, PairsAreInOrder, SessionsJoined}
+use Rattle.x25_world.proofs.sessions.SessionJoined.{HasMet, PairIsInOrder, PairsAreInOrder, SessionsJoined, Goes, gave_none, stays}
+use Rattle.x25_world.proofs.sessions.SessionBeside.{brought, AreTold, spelled_bring, FirstMayGo, spelled_with_bring, own_goes_first}
 use Rattle.x25_world.specs.laws.LawsBelow.{SessionLaws}
 use Rattle.x25_world.proofs.sessions.SessionKnown.{met_in_order, all_map, pair_ends, own_quiet, own_readable, nothing_in_order}
-use Rattle.x25_world.proofs.sessions.SessionEntries.{ArePlain, outcome_plain}
+use Rattle.x25_world.proofs.sessions.SessionEntries.{ArePlain, outcome_plain, outcome_beside}
 use Rattle.x25_world.proofs.sessions.SessionLinks.{puts_up, SessionGoes, PutsOctets, spelled, puts_spelled, spelled_with, puts_spelled_with, AreReadBack, spelled_back, spelled_with_back, back_read, back_octets, puts_go, stays_goes, PutsRead}
 use Rattle.x25_world.proofs.sessions.SessionGoes.{same_or_not, IsNews, goes_on}
 use Rattle.x25_world.proofs.sessions.SessionMoves.{own_pulls, pulls_take_nothing, pulls_bring_octets, near_pulls, request_leaves}
@@ -49,7 +52,7 @@ use Rattle.x25_station.specs.declared.error.StationError.{StationError}
 use Rattle.x25_station.specs.declared.error.StationError.TheVariants as error
 use Rattle.x25_layer.specs.declared.error.LayerError.TheVariants as layer_error
 use Rattle.x25_station.specs.Station.{Station, view_of}
-use Rattle.x25_layer.specs.Rounds.{LinkView, Answered, Went, Refuses, went}
+use Rattle.x25_layer.specs.Rounds.{Refuses, went}
 
 abbrev step_in : Step → Outcome → Step
 step_in k (Did step) = step
@@ -63,52 +66,46 @@ pub said_octets : (says : Bool) (l : Layer) (request : LayerRequest) → Request
 said_octets says l (asked.Asks h (circuit.Calls called calling user proposal)) octets = octets
 said_octets says l request octets = octets
 
--- the entries of a command that is accepted
-did_entries : (c : Settings) (t : Side) (entries : List StationEntry) (a : Answered) (step : Step) → did c t entries a ≡ Did step → step.entries ≡ entries
-did_entries c t entries (Went s) step is = ap (λ (o : Outcome). (step_in step o).entries) (sym is)
-did_entries c t entries (Refuses e) step is = refused_did (error.Layer e) step is
-
--- the same with something given, which is taken then
-gave_entries : (c : Settings) (g : PlainGiven) (taken : Bool) (t : Side) (entries : List StationEntry) (a : Answered) (step : Step) → gave c g taken t entries a ≡ Did step → step.entries ≡ entries
-gave_entries c g true t entries (Went s) step is = ap (λ (o : Outcome). (step_in step o).entries) (sym is)
-gave_entries c g false t entries (Went s) step is = refused_did not_taken step is
-gave_entries c g taken t entries (Refuses e) step is = refused_did (error.Layer e) step is
-
-gave_taken : (c : Settings) (g : PlainGiven) (taken : Bool) (t : Side) (entries : List StationEntry) (a : Answered) (step : Step) → gave c g taken t entries a ≡ Did step → taken ≡ true
-gave_taken c g true t entries a step is = refl
-gave_taken c g false t entries (Went s) step is = refused_did not_taken step is
-gave_taken c g false t entries (Refuses e) step is = refused_did (error.Layer e) step is
-
 pub readable_behind : (long_data : Bool) (ps qs : List PlainPacket) → AreReadable long_data (ps ++ qs) → AreReadable long_data qs
 readable_behind long_data [] qs h = h
 readable_behind long_data (p ∷ ps) qs h = readable_behind long_data ps qs h.1
 
--- a link that isn't up refuses a command to the layer
-did_up : (c : Settings) (s : Station) (request : LayerRequest) (step : Step) → requests c s request ≡ Did step → is_up s.link.phase ≡ true
-did_up c s request step is = by (is_up s.link.phase) refl
+-- What is seen of a command that is accepted: the link is up, what is given is taken, and the layer accepts it.
+record IsGranted (up taken : Bool) (o : LayerOutcome) (told : List StationEntry) (step : Step) : Type 0 where
+  is_up : up ≡ true
+  is_taken : taken ≡ true
+  next : Layer
+  own : Option PlainPacket
+  accepted : o ≡ Accepted next own
+  entries : step.entries ≡ told
+
+entries_did : (step next : Step) → Did next ≡ Did step → step.entries ≡ next.entries
+entries_did step next is = ap (λ (o : Outcome). (step_in next o).entries) (sym is)
+
+did_granted : (c : Settings) (s : Station) (request : LayerRequest) (step : Step) → requests c s request ≡ Did step
+    → (let o = layer_outcome (layer_settings c) (waits s.link.outgoing == 256) s.layer request in IsGranted (is_up s.link.phase) true o (entries_of_outcome (layer_settings c) s.layer request o) step)
+did_granted c s request step is = by (is_up s.link.phase) (layer_outcome (layer_settings c) (waits s.link.outgoing == 256) s.layer request) is
   where
-    view : LinkView
-    view = view_of (link_settings c) s.link
+    entries : LayerOutcome → List StationEntry
+    entries o = entries_of_outcome (layer_settings c) s.layer request o
 
-    by : (b : Bool) → is_up s.link.phase ≡ b → is_up s.link.phase ≡ true
-    by true up = up
-    by false off =
-        refused_did (error.Layer layer_error.NotUp) step
-        (sym (ap (λ (b : Bool). did c (alone s.link) (entries_of_outcome (layer_settings c) s.layer request (layer_outcome (layer_settings c) (view.waits [] == 256) s.layer request))
-        (if b then went view (layer_settings c) (layer_outcome (layer_settings c) (view.waits [] == 256) s.layer request) else Refuses layer_error.NotUp)) off) ∙ is)
+    by : (up : Bool) (o : LayerOutcome) → did c (alone s.link) (entries o) (if up then went (view_of (link_settings c) s.link) (layer_settings c) o else Refuses layer_error.NotUp) ≡ Did step → IsGranted up true o (entries o) step
+    by true (Accepted next own) is = record { is_up = refl; is_taken = refl; next = next; own = own; accepted = refl; entries = entries_did step _ is }
+    by true (Declined e) is = refused_did (error.Layer e) step is
+    by false o is = refused_did (error.Layer layer_error.NotUp) step is
 
-gave_up : (c : Settings) (s : Station) (g : PlainGiven) (request : LayerRequest) (step : Step) → gives c s g request ≡ Did step → is_up s.link.phase ≡ true
-gave_up c s g request step is = by (is_up s.link.phase) refl
+gave_granted : (c : Settings) (s : Station) (g : PlainGiven) (request : LayerRequest) (step : Step) → gives c s g request ≡ Did step
+    → (let o = layer_outcome (layer_settings c) (waits s.link.outgoing == 256) s.layer request in IsGranted (is_up s.link.phase) (is_taken c g request) o (entries_of_outcome (layer_settings c) s.layer request o) step)
+gave_granted c s g request step is = by (is_up s.link.phase) (is_taken c g request) (layer_outcome (layer_settings c) (waits s.link.outgoing == 256) s.layer request) is
   where
-    view : LinkView
-    view = view_given (link_settings c) g s.link
+    entries : LayerOutcome → List StationEntry
+    entries o = entries_of_outcome (layer_settings c) s.layer request o
 
-    by : (b : Bool) → is_up s.link.phase ≡ b → is_up s.link.phase ≡ true
-    by true up = up
-    by false off =
-        refused_did (error.Layer layer_error.NotUp) step
-        (sym (ap (λ (b : Bool). gave c g (is_taken c g request) (alone s.link) (entries_of_outcome (layer_settings c) s.layer request (layer_outcome (layer_settings c) (waits s.link.outgoing == 256) s.layer request))
-        (if b then went view (layer_settings c) (layer_outcome (layer_settings c) (waits s.link.outgoing == 256) s.layer request) else Refuses layer_error.NotUp)) off) ∙ is)
+    by : (up taken : Bool) (o : LayerOutcome) → gave c g taken (alone s.link) (entries o) (if up then went (view_given (link_settings c) g s.link) (layer_settings c) o else Refuses layer_error.NotUp) ≡ Did step → IsGranted up taken o (entries o) step
+    by true true (Accepted next own) is = record { is_up = refl; is_taken = refl; next = next; own = own; accepted = refl; entries = entries_did step _ is }
+    by true false (Accepted next own) is = refused_did not_taken step is
+    by true taken (Declined e) is = refused_did (error.Layer e) step is
+    by false taken o is = refused_did (error.Layer layer_error.NotUp) step is
 
 no_faults_behind : (xs ys : List LayerNotice) → AreNoFaults (xs ++ ys) → AreNoFaults ys
 no_faults_behind [] ys h = h
@@ -168,7 +165,8 @@ module _ {since : Beginning} (laws : SessionLaws) (cfg : Cfg) (fine : IsConfigur
       (g : SessionGoes (link_of cfg end) h.links v session t.near t.out [] came back v.met) (up : is_up w.near.link.phase ≡ true) (up_after : is_up t.near.phase ≡ true)
       (p : PutsRead cfg end t step) (m : MovesAs (apart.alone own_now coming) u p.packets step) (near : u.near ≡ own_run (layer_of cfg end) moves own_now)
       (taken : (own_run (layer_of cfg end) moves own_now).taken ≡ own_now.taken ++ lifted) (plain : ArePlain step.entries) (kept : IsKept step.near)
-      (octets : BringOctets (moved end session moves)) (paired : (m : ℕ) × PairIsInOrder cfg end (h.trace ++ moved end session moves) session m) where
+      (octets : BringOctets (moved end session moves)) (paired : (m : ℕ) × PairIsInOrder cfg end (h.trace ++ moved end session moves) session m)
+      (tells : AreTold (came_in step.entries) (brought cfg came)) (gave : ℕ → List Gave) (gives : AreSomeOf IsGiven (brought cfg p.handed) (gave session)) where
     abbrev own_then : layer.End
     own_then = own_run (layer_of cfg end) moves own_now
 
@@ -177,7 +175,7 @@ module _ {since : Beginning} (laws : SessionLaws) (cfg : Cfg) (fine : IsConfigur
 
     pub joins : ((octets : List ℕ) → MayAsk since end (line.Put octets)) → SessionsReach since cfg end v → (lifted ≡ [] → TakeNothing moves) → PairsAreInOrder cfg end (h.trace ++ moved end session moves) v.met → ((n m : ℕ) → HasMet n m h.links.met → HasMet n m v.met)
         → (own_now.taken ≡ [] → ((lifted ≡ []) × (layer_notices step.entries ≡ [])) ⊎ IsNews session h.links.far.begun v.met (layer_notices step.entries))
-        → SessionsJoined since cfg end (after_step (settings_from end cfg) w back step)
+        → Goes since cfg end h.links gave (after_step (settings_from end cfg) w back step)
     joins asks reach alone pairs more news =
         let r = puts_go cfg end h.links v session p.handed p.packets t [] came back v.met asks reach g p.link.accepted p.readable in
         let still : is_up step.near.link.phase ≡ true = ap (λ (s : LinkStation). is_up s.phase) p.link.link ∙ puts_up laws.stations.put_tells (link_of cfg end) p.handed t up_after in
@@ -201,15 +199,15 @@ module _ {since : Beginning} (laws : SessionLaws) (cfg : Cfg) (fine : IsConfigur
           entries = ap (λ (e : layer.End). e.entries) (sym near) ∙ m.entries;
           told = told_then;
         })
-        up still plain kept r.reach alone
+        up still plain kept tells gave gives r.reach alone
         (no_faults_behind own_now.told (layer_notices step.entries)
         (subst AreNoFaults (ap (λ (e : layer.End). e.told) (own_goes cfg end session h.trace moves) ∙ told_then) (own_quiet laws cfg end session paired.0 (h.trace ++ moved end session moves) paired.1).told))
         octets pairs more news
 
   -- ---- a command
 
-  -- the layer does so, and pulls at these channels: it puts these packets, of which these octets are handed down
-  record IsAsked (request : LayerRequest) (step : Step) : Type 0 where
+  -- the layer does so, and pulls at these channels: it puts these packets, of which these octets are handed down, with what the user gave
+  record IsAsked (request : LayerRequest) (gave : List Gave) (step : Step) : Type 0 where
     channels : List ℕ
     packets : List PlainPacket
     handed : List (List ℕ)
@@ -218,9 +216,11 @@ module _ {since : Beginning} (laws : SessionLaws) (cfg : Cfg) (fine : IsConfigur
     back : AreReadable cfg.long_data packets → AreReadBack cfg handed packets
     up : is_up w.near.link.phase ≡ true
     plain : ArePlain step.entries
+    alone : came_in step.entries ≡ []
+    gives : AreReadable cfg.long_data packets → AreSomeOf IsGiven (brought cfg handed) gave
     kept : IsKept step.near
 
-  module _ (request : LayerRequest) (octets : RequestsOctets request) (step : Step) (a : IsAsked request step) where
+  module _ (request : LayerRequest) (octets : RequestsOctets request) (gave : ℕ → List Gave) (step : Step) (a : IsAsked request (gave session) step) where
     abbrev full : Bool
     full = waits w.near.link.outgoing == 256
 
@@ -239,15 +239,13 @@ module _ {since : Beginning} (laws : SessionLaws) (cfg : Cfg) (fine : IsConfigur
     pair_on : (m : ℕ) × PairIsInOrder cfg end (h.trace ++ moved end session moves) session m
     pair_on = (let pair = session_pair session in (pair.0, pair_goes_quietly laws cfg end h.trace session moves (tt, pulls_take_nothing a.channels) session pair.0 pair.1))
 
-    asked_puts : PutsRead cfg end (alone w.near.link) step
-    asked_puts = record {
-      handed = a.handed;
-      packets = a.packets;
-      link = a.link;
-      readable = a.back (puts_readable moves a.packets (ap (λ (e : layer.End). e.given) (sym near_on) ∙ a.layer.given) (octets, pulls_bring_octets end session a.channels) pair_on);
-    }
+    asked_readable : AreReadable cfg.long_data a.packets
+    asked_readable = puts_readable moves a.packets (ap (λ (e : layer.End). e.given) (sym near_on) ∙ a.layer.given) (octets, pulls_bring_octets end session a.channels) pair_on
 
-    asked_joined : ((o : List ℕ) → MayAsk since end (line.Put o)) → SessionsJoined since cfg end (after_step (settings_from end cfg) w w.back step)
+    asked_puts : PutsRead cfg end (alone w.near.link) step
+    asked_puts = record { handed = a.handed; packets = a.packets; link = a.link; readable = a.back asked_readable }
+
+    asked_joined : ((o : List ℕ) → MayAsk since end (line.Put o)) → Goes since cfg end h.links gave (after_step (settings_from end cfg) w w.back step)
     unfolding asked_puts
     asked_joined may =
         let nothing : TakeNothing moves = (tt, pulls_take_nothing a.channels) in
@@ -255,16 +253,16 @@ module _ {since : Beginning} (laws : SessionLaws) (cfg : Cfg) (fine : IsConfigur
         let untold : layer_notices step.entries ≡ [] =
         append_cancel_left own_now.told (layer_notices step.entries) [] (sym a.layer.told ∙ ap (λ (e : layer.End). e.told) near_on ∙ leaves.told ∙ sym (append-nil own_now.told)) in
         joins step h.links (alone w.near.link) world_on moves [] [] [] refl w.back (stays_goes (link_of cfg end) h.links w.near.link w.back h.near.link h.back) a.up a.up asked_puts a.layer near_on (leaves.taken ∙ sym (append-nil own_now.taken))
-        a.plain a.kept (octets, pulls_bring_octets end session a.channels) pair_on
+        a.plain a.kept (octets, pulls_bring_octets end session a.channels) pair_on (subst (λ (l : List Came). AreTold l []) (sym a.alone) tt) gave (a.gives asked_readable)
         may h.reach (λ none. nothing) (pairs_go_quietly laws cfg end h.trace session moves nothing h.links.met h.pairs) (λ n m has. has) (λ none. inl (refl, untold))
 
   -- ---- without anything given
 
-  request_asked : (request : LayerRequest) (step : Step) → requests (settings_from end cfg) w.near request ≡ Did step → IsAsked request step
+  request_asked : (request : LayerRequest) (step : Step) → requests (settings_from end cfg) w.near request ≡ Did step → IsAsked request [] step
   request_asked request step is =
       let c : Settings = settings_from end cfg in
-      let up = did_up c w.near request step is in
-      let now = h.near.now up in
+      let granted = did_granted c w.near request step is in
+      let now = h.near.now granted.is_up in
       let j = laws.stations.request c w.near.link (apart.alone own_now []) request step now.out h.near.kept.few (ap (λ (l : Layer). requests c (station_with w.near.link l) request) now.layer ∙ is) in
       record {
         channels = j.0;
@@ -273,50 +271,67 @@ module _ {since : Beginning} (laws : SessionLaws) (cfg : Cfg) (fine : IsConfigur
         link = puts_spelled c (alone w.near.link) j.2.packets step j.2.link;
         layer = j.2.layer;
         back = spelled_back cfg j.2.packets;
-        up = up;
-        plain = subst ArePlain (sym (did_entries c (alone w.near.link) _ _ step is)) (outcome_plain (layer_settings c) w.near.layer request _);
+        up = granted.is_up;
+        plain = subst ArePlain (sym granted.entries) (outcome_plain (layer_settings c) w.near.layer request _);
+        alone = ap came_in granted.entries ∙ outcome_beside (layer_settings c) w.near.layer request _;
+        gives = λ readable. subst (λ (l : List Came). AreSomeOf IsGiven l []) (sym (spelled_bring laws.stations cfg j.2.packets readable)) tt;
         kept = subst KeptBy is (laws.stations.request_keeps c w.near request h.near.kept);
       }
 
   pub request_puts : (request : LayerRequest) → RequestsOctets request → (step : Step) → requests (settings_from end cfg) w.near request ≡ Did step → PutsRead cfg end (alone w.near.link) step
-  request_puts request octets step is = asked_puts request octets step (request_asked request step is)
+  request_puts request octets step is = asked_puts request octets gave_none step (request_asked request step is)
 
   -- what is asked for may be said in full
-  pub requests_joined : (asked request : LayerRequest) → IsAt since end (Commands (command.Requests asked)) → RequestsOctets request → SessionsJoined since cfg end (after w (of_station (settings_from end cfg) w (requests (settings_from end cfg) w.near request)))
+  pub requests_joined : (asked request : LayerRequest) → IsAt since end (Commands (command.Requests asked)) → RequestsOctets request → Goes since cfg end h.links gave_none (after w (of_station (settings_from end cfg) w (requests (settings_from end cfg) w.near request)))
   requests_joined asked request is_at octets = by (requests (settings_from end cfg) w.near request) refl
     where
-      by : (o : Outcome) → requests (settings_from end cfg) w.near request ≡ o → SessionsJoined since cfg end (after w (of_station (settings_from end cfg) w o))
-      by (Did step) is = asked_joined request octets step (request_asked request step is) (λ o. may_ask end (Commands (command.Requests asked)) (line.Put o) is_at tt)
-      by (Refused e) is = h
+      by : (o : Outcome) → requests (settings_from end cfg) w.near request ≡ o → Goes since cfg end h.links gave_none (after w (of_station (settings_from end cfg) w o))
+      by (Did step) is = asked_joined request octets gave_none step (request_asked request step is) (λ o. may_ask end (Commands (command.Requests asked)) (line.Put o) is_at tt)
+      by (Refused e) is = stays cfg end w h gave_none
 
   -- ---- with something given
 
-  given_asked : (g : PlainGiven) (request : LayerRequest) → GivesOctets g → (step : Step) → gives (settings_from end cfg) w.near g request ≡ Did step → IsAsked request step
+  -- by a request, which is refused or not
+  abbrev pub gave_by_request : PlainGiven → LayerRequest → Option WorldError → ℕ → List Gave
+  gave_by_request g request refusal n = gave_where (n == session) refusal (record { channel = channel_for (layer_of cfg end) w.near.layer request; given = g })
+
+  given_asked : (g : PlainGiven) (request : LayerRequest) → GivesOctets g → (step : Step) → gives (settings_from end cfg) w.near g request ≡ Did step → IsAsked request (gave_by_request g request None session) step
   given_asked g request of_given step is =
       let c : Settings = settings_from end cfg in
-      let up = gave_up c w.near g request step is in
-      let now = h.near.now up in
+      let granted = gave_granted c w.near g request step is in
+      let now = h.near.now granted.is_up in
       let j = laws.stations.given c g w.near.link (apart.alone own_now []) request step now.out h.near.kept.few (ap (λ (l : Layer). gives c (station_with w.near.link l) g request) now.layer ∙ is) in
-      let taken = both_true c.wide (may_give g && suits g request) (gave_taken c g (is_taken c g request) (alone w.near.link) _ _ step is) in
+      let taken = both_true c.wide (may_give g && suits g request) granted.is_taken in
+      let may = both_true (may_give g) (suits g request) taken.1 in
+      let first = subst (λ (l : Layer). FirstMayGo g (channel_for (layer_of cfg end) l request) j.2.packets) now.layer
+      (own_goes_first (layer_of cfg end) g own_now (waits w.near.link.outgoing == 256) request j.0 j.2.packets now.out may.1 granted.next granted.own
+      (ap (λ (l : Layer). layer_outcome (layer_of cfg end) (waits w.near.link.outgoing == 256) l request) now.layer ∙ granted.accepted) j.2.layer.given) in
       record {
         channels = j.0;
         packets = j.2.packets;
         handed = spelled_with g j.2.packets;
         link = puts_spelled_with c g (alone w.near.link) j.2.packets step j.2.link;
         layer = j.2.layer;
-        back = spelled_with_back laws.stations.given_read cfg g j.2.packets taken.0 (both_true (may_give g) (suits g request) taken.1).0 of_given;
-        up = up;
-        plain = subst ArePlain (sym (gave_entries c g (is_taken c g request) (alone w.near.link) _ _ step is)) (outcome_plain (layer_settings c) w.near.layer request _);
+        back = spelled_with_back laws.stations.given_read cfg g j.2.packets taken.0 may.0 of_given;
+        up = granted.is_up;
+        plain = subst ArePlain (sym granted.entries) (outcome_plain (layer_settings c) w.near.layer request _);
+        alone = ap came_in granted.entries ∙ outcome_beside (layer_settings c) w.near.layer request _;
+        gives = λ readable.
+            (let channel = channel_for (layer_of cfg end) w.near.layer request in
+            subst (λ (b : Bool). AreSomeOf IsGiven (brought cfg (spelled_with g j.2.packets)) (gave_where b None (record { channel = channel; given = g }))) (sym (same_number session))
+            (spelled_with_bring laws.stations cfg g channel taken.0 may.0 of_given j.2.packets first readable));
         kept = subst KeptBy is (laws.stations.given_keeps c w.near g request h.near.kept);
       }
 
   pub given_puts : (g : PlainGiven) (request : LayerRequest) → GivesOctets g → RequestsOctets request → (step : Step) → gives (settings_from end cfg) w.near g request ≡ Did step → PutsRead cfg end (alone w.near.link) step
-  given_puts g request of_given octets step is = asked_puts request octets step (given_asked g request of_given step is)
+  given_puts g request of_given octets step is = asked_puts request octets (gave_by_request g request None) step (given_asked g request of_given step is)
 
   pub gives_joined : (g : PlainGiven) (asked request : LayerRequest) → IsAt since end (Commands (command.RequestsWith g asked)) → GivesOctets g → RequestsOctets request
-      → SessionsJoined since cfg end (after w (of_station (settings_from end cfg) w (gives (settings_from end cfg) w.near g request)))
+      → (let o = of_station (settings_from end cfg) w (gives (settings_from end cfg) w.near g request) in Goes since cfg end h.links (gave_by_request g request (refusal_of o)) (after w o))
   gives_joined g asked request is_at of_given octets = by (gives (settings_from end cfg) w.near g request) refl
     where
-      by : (o : Outcome) → gives (settings_from end cfg) w.near g request ≡ o → SessionsJoined since cfg end (after w (of_station (settings_from end cfg) w o))
-      by (Did step) is = asked_joined request octets step (given_asked g request of_given step is) (λ o. may_ask end (Commands (command.RequestsWith g asked)) (line.Put o) is_at tt)
-      by (Refused e) is = h
+      by : (o : Outcome) → gives (settings_from end cfg) w.near g request ≡ o
+          → Goes since cfg end h.links (gave_by_request g request (refusal_of (of_station (settings_from end cfg) w o))) (after w (of_station (settings_from end cfg) w o))
+      by (Did step) is =
+          asked_joined request octets (gave_by_request g request None) step (given_asked g request of_given step is) (λ o. may_ask end (Commands (command.RequestsWith g asked)) (line.Put o) is_at tt)
+      by (Refused e) is = stays cfg end w h (gave_by_request g request (refusal_of (of_station (settings_from end cfg) w (Refused e))))

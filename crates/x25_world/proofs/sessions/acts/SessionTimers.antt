@@ -32,7 +32,7 @@ use Rattle.x25_world.specs.World.{World, Declined, Commands, Fires, of_station, 
 use Rattle.x25_world.specs.laws.Claims.{link_of, IsNoConnect}
 use Rattle.x25_world.proofs.Known.{IsConfigured, true_false, second_false}
 use Rattle.x25_world.proofs.sessions.SessionReaches.{Beginning, set_up, MayAct, MayAsk, IsAt, may_ask, SessionsReach, sessions_act}
-use Rattle.x25_world.proofs.sessions.SessionJoined.{HasMet, PairsAreInOrder, SessionsJoined}
+use Rattle.x25_world.proofs.sessions.SessionJoined.{HasMet, PairsAreInOrder, SessionsJoined, Goes, gave_none, stays}
 use Rattle.x25_world.specs.laws.LawsBelow.{SessionLaws}
 use Rattle.x25_world.proofs.sessions.SessionLinks.{SessionGoes, own_step, left_at, two_steps_go}
 use Rattle.x25_world.proofs.sessions.SessionFollows.{Lead, no_command, connect, disconnect, relink, lead_of, timer_silent, follows_silent}
@@ -99,7 +99,7 @@ module _ {since : Beginning} (laws : SessionLaws) (cfg : Cfg) (fine : IsConfigur
       ≡ links.unless (refusal h.links.near.station) h.links (links.after_step (link_of cfg end) h.links h.links.back h.links.met [] (step h.links.near.station))
       → (links.acts (link_of cfg end) act h.links).near.begun ≡ h.links.near.begun → IsTimely (link_of cfg end) (link_of cfg (other end)) act h.links → MayAct since act h.links → MayAsk since end act → refusal w.near.link ≡ None
       → (step w.near.link).packet ≡ None → Tells w.near.link (step w.near.link) → IsKept (led_by (lead_of lead) (follows (settings_from end cfg) w.near.layer (step w.near.link))).near
-      → SessionsJoined since cfg end (after_step (settings_from end cfg) w w.back (led_by (lead_of lead) (follows (settings_from end cfg) w.near.layer (step w.near.link))))
+      → Goes since cfg end h.links gave_none (after_step (settings_from end cfg) w w.back (led_by (lead_of lead) (follows (settings_from end cfg) w.near.layer (step w.near.link))))
   act_follows lead act refusal step is same timely may asks accepted none tells kept =
       let c = link_of cfg end in
       let k = step w.near.link in
@@ -121,14 +121,14 @@ module _ {since : Beginning} (laws : SessionLaws) (cfg : Cfg) (fine : IsConfigur
       → (links.acts (link_of cfg end) act h.links).near.begun ≡ h.links.near.begun → IsTimely (link_of cfg end) (link_of cfg (other end)) act h.links
       → (refusal w.near.link ≡ None → MayAct since act h.links) → MayAsk since end act → (step w.near.link).packet ≡ None → (refusal w.near.link ≡ None → Tells w.near.link (step w.near.link))
       → KeptBy (unless (refusal w.near.link) (led_by (lead_of lead) (follows (settings_from end cfg) w.near.layer (step w.near.link))))
-      → SessionsJoined since cfg end (after w (of_station (settings_from end cfg) w (unless (refusal w.near.link) (led_by (lead_of lead) (follows (settings_from end cfg) w.near.layer (step w.near.link))))))
+      → Goes since cfg end h.links gave_none (after w (of_station (settings_from end cfg) w (unless (refusal w.near.link) (led_by (lead_of lead) (follows (settings_from end cfg) w.near.layer (step w.near.link))))))
   act_joined lead act refusal step is same timely may asks none tells = by (refusal w.near.link) refl
     where
       done : Step
       done = led_by (lead_of lead) (follows (settings_from end cfg) w.near.layer (step w.near.link))
 
-      by : (o : Option LinkError) → refusal w.near.link ≡ o → KeptBy (unless o done) → SessionsJoined since cfg end (after w (of_station (settings_from end cfg) w (unless o done)))
-      by (Some e) refused kept = h
+      by : (o : Option LinkError) → refusal w.near.link ≡ o → KeptBy (unless o done) → Goes since cfg end h.links gave_none (after w (of_station (settings_from end cfg) w (unless o done)))
+      by (Some e) refused kept = stays cfg end w h gave_none
       by None accepted kept = act_follows lead act refusal step is same timely (may accepted) asks accepted none (tells accepted) kept
 
   -- while UA is awaited T1 doesn't run out
@@ -146,42 +146,42 @@ module _ {since : Beginning} (laws : SessionLaws) (cfg : Cfg) (fine : IsConfigur
       by Dte none = none
       by Dce none = none
 
-  fires_joined : IsAt since end Fires → (awaits_ua w.near.link.phase && is_on_line (settings_from end cfg) w) ≡ false → SessionsJoined since cfg end (after w (of_station (settings_from end cfg) w (fires (settings_from end cfg) w.near)))
+  fires_joined : IsAt since end Fires → (awaits_ua w.near.link.phase && is_on_line (settings_from end cfg) w) ≡ false → Goes since cfg end h.links gave_none (after w (of_station (settings_from end cfg) w (fires (settings_from end cfg) w.near)))
   fires_joined is_at off =
       act_joined no_command line.T1 timer_refusal (timer_step (link_of cfg end)) refl (laws.hands (link_of cfg end) (link_of cfg end) (line.Near line.T1) h.links).0.begun (is_timely off) (λ accepted off s same. tt)
       (may_ask end Fires line.T1 is_at tt) (timer_silent (link_of cfg end) w.near.link).0 (λ accepted. laws.stations.timer_tells (link_of cfg end) w.near.link) (laws.stations.timer_keeps (settings_from end cfg) w.near h.near.kept)
 
-  pub fired_joined : IsAt since end Fires → SessionsJoined since cfg end (after w (fired (settings_from end cfg) w))
+  pub fired_joined : IsAt since end Fires → Goes since cfg end h.links gave_none (after w (fired (settings_from end cfg) w))
   fired_joined is_at = by (awaits_ua w.near.link.phase && is_on_line (settings_from end cfg) w) refl
     where
       by : (b : Bool) → (awaits_ua w.near.link.phase && is_on_line (settings_from end cfg) w) ≡ b
-          → SessionsJoined since cfg end (after w (if b then Declined error.OnLine else of_station (settings_from end cfg) w (fires (settings_from end cfg) w.near)))
-      by true is = h
+          → Goes since cfg end h.links gave_none (after w (if b then Declined error.OnLine else of_station (settings_from end cfg) w (fires (settings_from end cfg) w.near)))
+      by true is = stays cfg end w h gave_none
       by false is = fires_joined is_at is
 
   -- set-up is asked for, by a command or not
   connecting : (lead : Lead) → MayAsk since end line.Connect → (since ≡ set_up false → connect_refusal w.near.link.phase ≡ None → ⊥) → KeptBy (unless (connect_refusal w.near.link.phase) (led_by (lead_of lead) (follows (settings_from end cfg) w.near.layer (connect_step (link_of cfg end) w.near.link))))
-      → SessionsJoined since cfg end
+      → Goes since cfg end h.links gave_none
       (after w (of_station (settings_from end cfg) w (unless (connect_refusal w.near.link.phase) (led_by (lead_of lead) (follows (settings_from end cfg) w.near.layer (connect_step (link_of cfg end) w.near.link))))))
   connecting lead asks may =
       act_joined lead line.Connect (λ (s : LinkStation). connect_refusal s.phase) (connect_step (link_of cfg end)) refl (laws.hands (link_of cfg end) (link_of cfg end) (line.Near line.Connect) h.links).0.begun tt
       (λ accepted free s same is. may free accepted) asks refl (λ accepted. laws.stations.connect_tells (link_of cfg end) w.near.link (was_down w.near.link.phase accepted))
 
   pub connects_joined : IsAt since end (Commands Connects) → (since ≡ set_up false → IsNoConnect (Commands Connects) (refusal_of (of_station (settings_from end cfg) w (connects_asked (settings_from end cfg) w.near))))
-      → SessionsJoined since cfg end (after w (of_station (settings_from end cfg) w (connects_asked (settings_from end cfg) w.near)))
+      → Goes since cfg end h.links gave_none (after w (of_station (settings_from end cfg) w (connects_asked (settings_from end cfg) w.near)))
   connects_joined is_at none = connecting connect (may_ask end (Commands Connects) line.Connect is_at tt) (λ free accepted. subst (λ (o : Option LinkError). IsNoConnect (Commands Connects) (refusal_of (of_station (settings_from end cfg) w (unless o
       (led_by (connect_asked ∷ []) (follows (settings_from end cfg) w.near.layer (connect_step (link_of cfg end) w.near.link))))))) accepted (none free)) (laws.stations.command_keeps (settings_from end cfg) w.near Connects h.near.kept)
 
-  pub connects_alone_joined : MayAsk since end line.Connect → (since ≡ set_up false → ⊥) → ConnectKeeps → SessionsJoined since cfg end (after w (of_station (settings_from end cfg) w (connects (settings_from end cfg) w.near)))
+  pub connects_alone_joined : MayAsk since end line.Connect → (since ≡ set_up false → ⊥) → ConnectKeeps → Goes since cfg end h.links gave_none (after w (of_station (settings_from end cfg) w (connects (settings_from end cfg) w.near)))
   connects_alone_joined asks unasked keeps = connecting no_command asks (λ free accepted. unasked free) (keeps (settings_from end cfg) w.near h.near.kept)
 
-  pub disconnects_joined : IsAt since end (Commands Disconnects) → SessionsJoined since cfg end (after w (of_station (settings_from end cfg) w (disconnects (settings_from end cfg) w.near)))
+  pub disconnects_joined : IsAt since end (Commands Disconnects) → Goes since cfg end h.links gave_none (after w (of_station (settings_from end cfg) w (disconnects (settings_from end cfg) w.near)))
   disconnects_joined is_at =
       act_joined disconnect line.Disconnect (λ (s : LinkStation). disconnect_refusal s.phase) (disconnect_step (link_of cfg end)) refl (laws.hands (link_of cfg end) (link_of cfg end) (line.Near line.Disconnect) h.links).0.begun tt
       (λ accepted off s same. tt) (may_ask end (Commands Disconnects) line.Disconnect is_at tt) refl (λ accepted. laws.stations.disconnect_tells (link_of cfg end) w.near.link)
       (laws.stations.command_keeps (settings_from end cfg) w.near Disconnects h.near.kept)
 
-  pub probes_joined : IsAt since end (Commands Probes) → SessionsJoined since cfg end (after w (of_station (settings_from end cfg) w (probes (settings_from end cfg) w.near)))
+  pub probes_joined : IsAt since end (Commands Probes) → Goes since cfg end h.links gave_none (after w (of_station (settings_from end cfg) w (probes (settings_from end cfg) w.near)))
   probes_joined is_at =
       act_joined no_command line.Probe (λ (s : LinkStation). probe_refusal s.phase) (timer_step (link_of cfg end)) (probe_acts (link_of cfg end) h.links) (laws.hands (link_of cfg end) (link_of cfg end) (line.Near line.Probe) h.links).0.begun tt
       (λ accepted off s same. tt) (may_ask end (Commands Probes) line.Probe is_at tt) (timer_silent (link_of cfg end) w.near.link).0 (λ accepted. laws.stations.timer_tells (link_of cfg end) w.near.link)
@@ -189,7 +189,7 @@ module _ {since : Beginning} (laws : SessionLaws) (cfg : Cfg) (fine : IsConfigur
 
   -- the link is abandoned, and then connected
   pub relinks_joined : IsAt since end (Commands Relinks) → (since ≡ set_up false → IsNoConnect (Commands Relinks) (refusal_of (of_station (settings_from end cfg) w (relinks (settings_from end cfg) w.near))))
-      → SessionsJoined since cfg end (after w (of_station (settings_from end cfg) w (relinks (settings_from end cfg) w.near)))
+      → Goes since cfg end h.links gave_none (after w (of_station (settings_from end cfg) w (relinks (settings_from end cfg) w.near)))
   relinks_joined is_at none = by (relink_refusal w.near.link.phase) refl none
     where
       c : LinkSettings
@@ -214,8 +214,8 @@ module _ {since : Beginning} (laws : SessionLaws) (cfg : Cfg) (fine : IsConfigur
       v = links.acts c line.Connect (links.acts c line.Abandon h.links)
 
       by : (o : Option LinkError) → relink_refusal s.phase ≡ o → (since ≡ set_up false → IsNoConnect (Commands Relinks) (refusal_of (of_station (settings_from end cfg) w (unless o step))))
-          → SessionsJoined since cfg end (after w (of_station (settings_from end cfg) w (unless o step)))
-      by (Some e) is none = h
+          → Goes since cfg end h.links gave_none (after w (of_station (settings_from end cfg) w (unless o step)))
+      by (Some e) is none = stays cfg end w h gave_none
       by None is none =
           let two = laws.stations.relinks c s in
           let was : links.acts c line.Abandon h.links ≡ left (left_at (with_nothing Down s.tries) (Some Counts)) =

@@ -4,7 +4,7 @@ use Rattle.x25_io.specs.code.Written.{AppendsPrefix, Tells}
 use Rattle.x25_station.specs.code.PlainEntry.{plain_entry}
 use Rattle.x25_io.proofs.ToldLemmas.{part_of_all}
 use Rattle.x25_pipe.specs.Pipe.{enters, sends, sayings_text}
-use Rattle.x25_pipe.proofs.SayingLemmas.{text-append, parts_text}
+use Rattle.x25_pipe.proofs.SayingLemmas.{text-append, parts_text, entries_said}
 use Rattle.x25_pipe.proofs.pipe.Pipe.tell_answer.Goals as goal
 
 pub returns-in_err-tell_entries-clause-tells : goal.returns-in_err-tell_entries-clause-tells
@@ -14,7 +14,8 @@ returns-in_err-tell_entries-clause-tells g c = λ old told h.
     let step = c.args.self.now.step in
     rw p.1 (part_of_all old _ told _ _ _ (text-append end (map enters (map plain_entry step.entries.items)) (map sends step.frames))
     (subst (λ entries. AppendsPrefix old (g.W.Sink.contents c.tell_entries.new.writer) (told ++ sayings_text end (map enters (map plain_entry entries)))) c.as_slice-entries.ensures.value
-    (c.in_err-tell_entries.ensures.tells old told h)))
+    (subst (λ text. AppendsPrefix old (g.W.Sink.contents c.tell_entries.new.writer) (told ++ text)) (entries_said end (map plain_entry c.as_slice-entries.result.now))
+    (c.in_err-tell_entries.ensures.tells old told h))))
 
 pub returns-clause-tells : goal.returns-clause-tells
 returns-clause-tells g c = λ old told h.
@@ -24,6 +25,8 @@ returns-clause-tells g c = λ old told h.
     ap (λ entries. (told ++ sayings_text end (map enters (map plain_entry entries))) ++ sayings_text end (map sends (map (λ frame. frame.items) c.as_slice-frames.result.now))) c.as_slice-entries.ensures.value
     ∙ ap (λ frames. (told ++ sayings_text end (map enters (map plain_entry step.entries.items))) ++ sayings_text end (map sends frames)) c.as_slice-frames.ensures.frames
     ∙ parts_text end told (map enters (map plain_entry step.entries.items)) (map sends step.frames) in
-    MatchResult-weaker c.tell_frames.result (c.tell_frames.ensures.tells old _ (c.in_ok-tell_entries.ensures.tells old told h))
+    let entered = subst (λ text. Tells old (g.W.Sink.contents c.tell_entries.new.writer) c.tell_entries.new.output (told ++ text)) (entries_said end (map plain_entry c.as_slice-entries.result.now))
+    (c.in_ok-tell_entries.ensures.tells old told h) in
+    MatchResult-weaker c.tell_frames.result (c.tell_frames.ensures.tells old _ entered)
     (λ _ tells. subst (Tells old (g.W.Sink.contents c.tell_frames.new.writer) c.tell_frames.new.output) both tells)
     (λ _ begins. subst (AppendsPrefix old (g.W.Sink.contents c.tell_frames.new.writer)) both begins)

@@ -12,6 +12,6 @@ returns-in_err-unless_memory-clause-stood g c = λ cfg shown old w outcome told 
 pub returns-clause-stood : goal.returns-clause-stood
 returns-clause-stood g c = λ cfg shown old w outcome told refused h how.
     let refusal = refusal_is how c.in_ok-unless_memory.ensures.other in
-    MatchResult-weaker c.tell_refusal.result (c.tell_refusal.ensures.tells old told h.tells)
+    MatchResult-weaker c.tell_refusal.result (rw c.refusal_number.ensures at (c.tell_refusal.ensures.tells old told h.tells))
     (λ _ tells. stands_refused cfg shown old _ _ _ _ w outcome told refused h c.args.error refusal refl refl refl tells)
     (λ _ begins. begins_refused cfg shown old _ _ c.args.self.now c.args.self.now w outcome told refused h c.args.error refusal begins)
