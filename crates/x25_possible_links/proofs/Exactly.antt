@@ -42,12 +42,12 @@ in_either (z ∷ zs) ys x (inr h) = go (in_either zs ys x h)
     go (inl g) = inl (inr g)
     go (inr g) = inr g
 
-in_all : {X Y : Type 0} (f : X → List Y) (xs : List X) (x : X) (y : Y) → IsIn x xs → IsIn y (f x) → IsIn y (flat_map f xs)
+pub in_all : {X Y : Type 0} (f : X → List Y) (xs : List X) (x : X) (y : Y) → IsIn x xs → IsIn y (f x) → IsIn y (flat_map f xs)
 in_all f [] x y h g = absurd h
 in_all f (z ∷ zs) x y (inl e) g = in_left (f z) (flat_map f zs) y (subst (λ w. IsIn y (f w)) e g)
 in_all f (z ∷ zs) x y (inr h) g = in_right (f z) (flat_map f zs) y (in_all f zs x y h g)
 
-from_all : {X Y : Type 0} (f : X → List Y) (xs : List X) (y : Y) → IsIn y (flat_map f xs) → (x : X) × IsIn x xs × IsIn y (f x)
+pub from_all : {X Y : Type 0} (f : X → List Y) (xs : List X) (y : Y) → IsIn y (flat_map f xs) → (x : X) × IsIn x xs × IsIn y (f x)
 from_all f [] y h = absurd h
 from_all f (z ∷ zs) y h = go (in_either (f z) (flat_map f zs) y h) (from_all f zs y)
   where
@@ -60,12 +60,12 @@ none_in : {X : Type 0} (xs : List X) → ((x : X) → IsIn x xs → ⊥) → xs 
 none_in [] h = refl
 none_in (x ∷ xs) h = absurd (h x (inl refl))
 
-in_map : {X Y : Type 0} (f : X → Y) (xs : List X) (x : X) → IsIn x xs → IsIn (f x) (map f xs)
+pub in_map : {X Y : Type 0} (f : X → Y) (xs : List X) (x : X) → IsIn x xs → IsIn (f x) (map f xs)
 in_map f [] x h = absurd h
 in_map f (y ∷ ys) x (inl e) = inl (ap f e)
 in_map f (y ∷ ys) x (inr h) = inr (in_map f ys x h)
 
-from_map : {X Y : Type 0} (f : X → Y) (xs : List X) (y : Y) → IsIn y (map f xs) → (x : X) × IsIn x xs × (y ≡ f x)
+pub from_map : {X Y : Type 0} (f : X → Y) (xs : List X) (y : Y) → IsIn y (map f xs) → (x : X) × IsIn x xs × (y ≡ f x)
 from_map f [] y h = absurd h
 from_map f (x ∷ xs) y (inl e) = (x, inl refl, e)
 from_map f (x ∷ xs) y (inr h) = let g = from_map f xs y h in (g.0, inr g.1, g.2)
@@ -191,7 +191,7 @@ sent_covers u v _ _ way _ k (was_none s _) = self_any u v s s way k (below_self 
 
 -- ---- each run is covered
 
-HoldsIn : List (Place Stand Frame) → State → List Frame → Type 0
+abbrev pub HoldsIn : List (Place Stand Frame) → State → List Frame → Type 0
 HoldsIn qs s way = (q : Place Stand Frame) × IsIn q qs × HoldsAt q.state q.way s way
 
 -- where a frame may be sent as x, as z
@@ -211,7 +211,7 @@ before_stays u v _ _ c end rest e (Steps g x way _ _ p l) k = absurd (not_plain 
 
 holds_sends : (u : Stand) (v : List Frame) (s r : State) (way : List Frame) (x z : Frame) → Covering u v x z
     → ((y : Frame) → x ≡ Unread → Covering u v y z) → HoldsAt u v s way → MaySend s way x r → HoldsIn (walks z (at u v)) r way
-unfolding HoldsIn Covering
+unfolding Covering
 holds_sends u v _ _ way x z cover any h (sends s r _ _ n t e) =
     let first = sends_more n t s h.good way x r h.below e in
     let behind = leads_sends h.good way h.stand h.end x first.0 h.leads first.1 in
@@ -237,9 +237,9 @@ holds_sends u v _ _ way _ z cover any h (was_none s _) =
       record { good = h.good; below = h.below; stand = h.stand; end = h.end; leads = h.leads; covers = g.2 },
     )
 
-sends_held : (u : Stand) (v : List Frame) (s r : State) (way : List Frame) (x : Frame) → HoldsAt u v s way → MaySend s way x r
+pub sends_held : (u : Stand) (v : List Frame) (s r : State) (way : List Frame) (x : Frame) → HoldsAt u v s way → MaySend s way x r
     → HoldsIn (walks x (at u v)) r way
-unfolding HoldsIn Covering
+unfolding Covering
 sends_held u v s r way x h may =
     holds_sends u v s r way x x (λ p q w k m. sent_covers u v p q w x k m)
     (λ y e p q w k m. subst (λ z. IsCovered (walks z (at u v)) q w) (sym e) (any_covers u v p q w y k m)) h may
@@ -247,7 +247,6 @@ sends_held u v s r way x h may =
 module _ (begun : List Stand) where
   covered : (tape : List (Item Frame)) (s : State) (way : List Frame) → Stands (link_rules begun) tape s way
       → HoldsIn (places begun tape) s way
-  unfolding HoldsIn
   covered _ _ _ (Begins s b) = (
     at b.0 [],
     in_map (λ u. at u []) begun b.0 b.1,
@@ -372,7 +371,7 @@ same_frame begun tape x s r way may = may
 as_any : (begun : List Stand) (tape : List (Item Frame)) (x : Frame) → May begun tape Unread x
 as_any begun tape x s r way may = was_any s r way x may
 
-walks_stand : (begun : List Stand) (tape : List (Item Frame)) (x : Frame) (p q : Place Stand Frame)
+pub walks_stand : (begun : List Stand) (tape : List (Item Frame)) (x : Frame) (p q : Place Stand Frame)
     → Stands (link_rules begun) tape (At p.state) p.way → IsIn q (walks x p)
     → Stands (link_rules begun) (Own x ∷ tape) (At q.state) q.way
 walks_stand begun tape Ua p q h is = answers_stand begun tape Ua (same_frame begun tape Ua) p.way p.state q h is
@@ -399,7 +398,7 @@ walks_stand begun tape Dm p q h is = goes_stand begun tape Dm Dm (same_frame beg
 walks_stand begun tape Frmr p q h is = goes_stand begun tape Frmr Frmr (same_frame begun tape Frmr) p.way p.state q h is
 walks_stand begun tape Before p q h is = goes_stand begun tape Before Before (same_frame begun tape Before) p.way p.state q h is
 
-settled_stand : (begun : List Stand) (tape : List (Item Frame)) (v : List Frame) (u : Stand) → Stands (link_rules begun) tape (At u) v
+pub settled_stand : (begun : List Stand) (tape : List (Item Frame)) (v : List Frame) (u : Stand) → Stands (link_rules begun) tape (At u) v
     → Stands (link_rules begun) tape (At (settled u v).state) (settled u v).way
 settled_stand begun tape [] u h = h
 settled_stand begun tape (x ∷ v) u h =
@@ -428,7 +427,6 @@ stands begun (Other x ∷ tape) q is =
     (Shows tape (At g.0.state) g.0.way x (stands begun tape g.0 g.1)))
 
 pub tells_exactly : (begun : List Stand) → TellsExactly begun
-unfolding HoldsIn
 tells_exactly begun = record {
   told = λ tape e s way h. let g = covered begun tape s way h in subst (λ qs. IsIn g.0 qs) e g.1;
   untold = λ tape none. none_in (places begun tape) (λ q is. none (At q.state) q.way (stands begun tape q is));

@@ -3,3 +3,6 @@ mod Covers
 mod Sends
 mod Leads
 mod Exactly
+mod LoopLemmas
+mod StepLemmas
+mod SetLemmas

@@ -2,3 +2,4 @@
 pub mod Link
 pub mod Links
 pub mod Places
+pub mod Sets

@@ -1,7 +1,7 @@
 //! What the rules of a link look at of a frame.
 
 /// A frame of either end, or what stands for some.
-#[derive(Clone, Copy)]
+#[derive(Clone, Copy, Default)]
 pub enum Frame {
     /// An I frame, and whether its number is known to have gone before with other octets.
     Info { ns: u8, nr: u8, differs: bool },
@@ -13,6 +13,7 @@ pub enum Frame {
     Dm,
     Frmr,
     /// Octets that spell no frame: they may have been any.
+    #[default]
     Unread,
     /// All that was sent before the first frame that was seen.
     Before,

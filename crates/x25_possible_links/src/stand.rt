@@ -10,7 +10,7 @@ pub struct Numbers {
     pub told: u64,
 }
 
-#[derive(Clone, Copy)]
+#[derive(Clone, Copy, Default)]
 pub enum Stand {
     /// In no session.
     Out,
@@ -19,5 +19,6 @@ pub enum Stand {
     /// In a session.
     Up(Numbers),
     /// Nothing is known.
+    #[default]
     Free,
 }

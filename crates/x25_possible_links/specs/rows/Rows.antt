@@ -2,6 +2,7 @@
 -- definition.
 use Rattle.std.specs.Prelude.{◌≡◌, Bool, true, false, List, [], ◌∷◌}
 use Rattle.x25_possible.specs.laws.Possible.{Item, Own, Other, Place}
+use Rattle.x25_possible_links.specs.code.Steps.{begun_as, shows_to, unknown}
 use Rattle.x25_possible_links.specs.laws.Places.{places}
 use Rattle.x25_possible_links.specs.declared.frame.Frame.{Frame}
 use Rattle.x25_possible_links.specs.declared.frame.Frame.TheVariants.{Info, Ready, Sabm, Disc, Ua, Dm, Unread, Before}
@@ -64,6 +65,10 @@ pub record RowsAreUntold : Type 0 where
   pub unknown : is_nothing (places (Free ∷ []) (Own (Info 5 3 false) ∷ Other Before ∷ [])) ≡ false
   pub before : is_nothing (places (Free ∷ []) (Own (Info 0 1 false) ∷ Other (Info 0 0 false) ∷ Own Ua ∷ Other Before
       ∷ [])) ≡ false
+
+-- a set of which nothing is known is that of an end that may stand anywhere, to which all was sent before
+abbrev pub NewIsFree : Type 0
+NewIsFree = shows_to Before (begun_as (Free ∷ [])) ≡ unknown
 
 pub record RowsAreToldLater : Type 0 where
   -- behind its UA its numbers are known

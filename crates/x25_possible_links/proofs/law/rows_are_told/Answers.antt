@@ -31,4 +31,5 @@ returns c = record {
     before = refl;
   };
   later = record { numbers = refl };
+  new = refl;
 }
