@@ -10,9 +10,9 @@ use Rattle.x25_possible_links.specs.laws.Link.{State, At, link_rules}
 use Rattle.x25_possible_links.specs.laws.Places.{settled, settle}
 use Rattle.x25_possible_links.specs.laws.Places as place
 use Rattle.x25_possible_links.specs.laws.Sets.{GuiltyAreTold, InnocentsStayUntold}
-use Rattle.x25_possible_links.specs.code.Steps.{begun_as, broken, has_room_to_show, grow_all, grows, had_room, has_some, least, played, sends_to, sent_to, set_of}
-use Rattle.x25_possible_links.specs.code.Steps.{settles, shift_all, shift_at, shifted_to, shown_to, shows_to, spot_at, Stepped, trimmed, unknown}
-use Rattle.x25_possible_links.specs.code.Steps.{walk_all, walks}
+use Rattle.x25_possible_links.specs.code.Steps.{begun_as, blind, broken, grow_all, grows, least, played, sends_to, sent_to, set_as}
+use Rattle.x25_possible_links.specs.code.Steps.{settles, shift_all, shift_at, shifted_to, shown_to, spot_at, Stepped, trimmed, walk_all}
+use Rattle.x25_possible_links.specs.code.Steps.{walks}
 use Rattle.x25_possible_links.specs.declared.frame.Frame.{Frame}
 use Rattle.x25_possible_links.specs.declared.set.LinkSet.{LinkSet}
 use Rattle.x25_possible_links.specs.declared.spots.Spot.{Spot}
@@ -230,19 +230,19 @@ shift_fits begun tape way qs new n below fits e = record {
 abbrev FitsSet : List Stand → List (Item Frame) → LinkSet → Type 0
 FitsSet begun tape s = Fits begun tape s.way.items s.spots.items
 
-trim_fits : (begun : List Stand) (tape : List (Item Frame)) (way : List Frame) (qs : List Spot) → Fits begun tape way qs
-    → FitsSet begun tape (trimmed (set_of way qs))
-trim_fits begun tape way qs fits = go (least qs (length way) == 0)
+trim_fits : (begun : List Stand) (tape : List (Item Frame)) (set : LinkSet) (way : List Frame) (qs : List Spot) → Fits begun tape way qs
+    → FitsSet begun tape (trimmed (set_as set way qs))
+trim_fits begun tape set way qs fits = go (least qs (length way) == 0)
   where
     shift : (o : Option (List Spot)) → shift_all (least qs (length way)) qs [] ≡ o
-        → FitsSet begun tape (shifted_to (least qs (length way)) o (set_of way qs))
+        → FitsSet begun tape (shifted_to (least qs (length way)) o (set_as set way qs))
     shift None e = fits
     shift (Some new) e =
         shift_fits begun tape way qs new (least qs (length way)) (λ q is. least_is qs (length way) q is) fits e
 
     go : (b : Bool)
-        → FitsSet begun tape (if b then set_of way qs
-        else shifted_to (least qs (length way)) (shift_all (least qs (length way)) qs []) (set_of way qs))
+        → FitsSet begun tape (if b then set_as set way qs
+        else shifted_to (least qs (length way)) (shift_all (least qs (length way)) qs []) (set_as set way qs))
     go true = fits
     go false = shift (shift_all (least qs (length way)) qs []) refl
 
@@ -274,12 +274,12 @@ none_left begun tape way (q ∷ qs) s end fits h e = absurd (some (eqb-true (len
 
 abbrev stepped : Bool → Frame → LinkSet → List Spot → Stepped
 stepped b x set qs =
-    if b then record { set = broken x set; told = true } else record { set = trimmed (set_of set.way.items qs); told = false }
+    if b then record { set = broken x set; told = true } else record { set = trimmed (set_as set set.way.items qs); told = false }
 
 sent_fits : (begun : List Stand) (tape : List (Item Frame)) (set : LinkSet) (x : Frame) (s : State) (end : List Frame)
-    (o : Option (List Spot)) → walk_all x set.way.items set.spots.items [] ≡ o → has_some o ≡ true → FitsSet begun tape set
+    (o : Option (List Spot)) → walk_all x set.way.items set.spots.items [] ≡ o → (sent_to x o set).set.is_blind ≡ false → FitsSet begun tape set
     → Stands (link_rules begun) (Own x ∷ tape) s end → FitsSet begun (Own x ∷ tape) (sent_to x o set).set
-sent_fits begun tape set x s end None e some fits h = absurd (both_ways false refl some)
+sent_fits begun tape set x s end None e some fits h = absurd (both_ways true some refl)
 sent_fits begun tape set x s end (Some qs) e some fits h = go (length qs == 0) refl
   where
     now : Fits begun (Own x ∷ tape) set.way.items qs
@@ -288,14 +288,15 @@ sent_fits begun tape set x s end (Some qs) e some fits h = go (length qs == 0) r
     go : (b : Bool) → (length qs == 0) ≡ b
         → FitsSet begun (Own x ∷ tape) (stepped b x set qs).set
     go true k = absurd (none_left begun (Own x ∷ tape) set.way.items qs s end now h k)
-    go false k = trim_fits begun (Own x ∷ tape) set.way.items qs now
+    go false k = trim_fits begun (Own x ∷ tape) set set.way.items qs now
 
 shown_fits : (begun : List Stand) (tape : List (Item Frame)) (set : LinkSet) (x : Frame) (o : Option (List Spot))
-    → grow_all (length set.way.items) (set.way.items ++ x ∷ []) set.spots.items [] ≡ o → has_some o ≡ true → FitsSet begun tape set
-    → FitsSet begun (Other x ∷ tape) (shown_to (set.way.items ++ x ∷ []) o)
-shown_fits begun tape set x None e some fits = absurd (both_ways false refl some)
+    → grow_all (length set.way.items) (set.way.items ++ x ∷ []) set.spots.items [] ≡ o
+    → (shown_to set (set.way.items ++ x ∷ []) o).is_blind ≡ false → FitsSet begun tape set
+    → FitsSet begun (Other x ∷ tape) (shown_to set (set.way.items ++ x ∷ []) o)
+shown_fits begun tape set x None e some fits = absurd (both_ways true some refl)
 shown_fits begun tape set x (Some qs) e some fits =
-    trim_fits begun (Other x ∷ tape) (set.way.items ++ x ∷ []) qs (other_fits begun tape set.way.items set.spots.items qs x fits e)
+    trim_fits begun (Other x ∷ tape) set (set.way.items ++ x ∷ []) qs (other_fits begun tape set.way.items set.spots.items qs x fits e)
 
 nothing_holds : (begun : List Stand) (items : List (Item Frame)) (s : State) (end : List Frame) → items ≡ []
     → Stands (link_rules begun) items s end → (q : Spot) × IsIn q (map (spot_at 0) begun) × HoldsAt q.stand (drop q.at []) s end
@@ -309,31 +310,47 @@ nothing_holds begun _ _ _ e (Sends tape s r end y may h) = absurd (no_item y tap
 nothing_holds begun _ _ _ e (Takes tape s r end y may h) =
     let g = nothing_holds begun tape s (y ∷ end) e h in (g.0, g.1, holds_takes g.0.stand (drop g.0.at []) s r y end g.2 may)
 
-played_fits : (begun : List Stand) (tape : List (Item Frame)) (s : State) (end : List Frame) → had_room (begun_as begun) tape ≡ true
-    → Stands (link_rules begun) tape s end → FitsSet begun tape (played (begun_as begun) tape)
-played_fits begun [] s end room h = record {
+abbrev sends_by : Bool → Frame → LinkSet → Stepped
+sends_by b x set =
+    if b then record { set = set; told = false } else sent_to x (walk_all x set.way.items set.spots.items []) set
+
+abbrev shows_by : Bool → Bool → Frame → LinkSet → LinkSet
+shows_by b full x set =
+    if b then set
+    else if full then blind
+    else shown_to set (set.way.items ++ x ∷ []) (grow_all (length set.way.items) (set.way.items ++ x ∷ []) set.spots.items [])
+
+own_step : (begun : List Stand) (tape : List (Item Frame)) (set : LinkSet) (x : Frame) (s : State) (end : List Frame) (b : Bool)
+    → set.is_blind ≡ b → (set.is_blind ≡ false → FitsSet begun tape set) → Stands (link_rules begun) (Own x ∷ tape) s end
+    → (sends_by b x set).set.is_blind ≡ false → FitsSet begun (Own x ∷ tape) (sends_by b x set).set
+own_step begun tape set x s end true e fits h sees = absurd (both_ways set.is_blind sees e)
+own_step begun tape set x s end false e fits h sees =
+    sent_fits begun tape set x s end (walk_all x set.way.items set.spots.items []) refl sees (fits e) h
+
+other_step : (begun : List Stand) (tape : List (Item Frame)) (set : LinkSet) (x : Frame) (b full : Bool) → set.is_blind ≡ b
+    → (set.is_blind ≡ false → FitsSet begun tape set) → (shows_by b full x set).is_blind ≡ false
+    → FitsSet begun (Other x ∷ tape) (shows_by b full x set)
+other_step begun tape set x true full e fits sees = absurd (both_ways set.is_blind sees e)
+other_step begun tape set x false true e fits sees = absurd (both_ways true sees refl)
+other_step begun tape set x false false e fits sees =
+    shown_fits begun tape set x (grow_all (length set.way.items) (set.way.items ++ x ∷ []) set.spots.items []) refl sees (fits e)
+
+played_fits : (begun : List Stand) (tape : List (Item Frame)) (s : State) (end : List Frame) → Stands (link_rules begun) tape s end
+    → (played (begun_as begun) tape).is_blind ≡ false → FitsSet begun tape (played (begun_as begun) tape)
+played_fits begun [] s end h sees = record {
   stands = λ q is.
       let g = from_map (spot_at 0) begun q is in
       subst (λ r. Stands (link_rules begun) [] (At r.stand) (drop r.at [])) (sym g.2) (Begins (At g.0) (g.0, g.1, refl));
   holds = λ r w k. nothing_holds begun [] r w refl k;
 }
-played_fits begun (Own x ∷ tape) s end room h =
+played_fits begun (Own x ∷ tape) s end h sees =
     let set = played (begun_as begun) tape in
-    let parts = and_parts (has_some (walk_all x set.way.items set.spots.items [])) (had_room (begun_as begun) tape) room in
     let g = before_own begun (Own x ∷ tape) tape x s end refl h in
-    sent_fits begun tape set x s end (walk_all x set.way.items set.spots.items []) refl parts.0
-    (played_fits begun tape g.0 g.1 parts.1 g.2) h
-played_fits begun (Other x ∷ tape) s end room h =
+    own_step begun tape set x s end set.is_blind refl (λ k. played_fits begun tape g.0 g.1 g.2 k) h sees
+played_fits begun (Other x ∷ tape) s end h sees =
     let set = played (begun_as begun) tape in
-    let parts = and_parts (has_room_to_show x set) (had_room (begun_as begun) tape) room in
-    let some = and_parts (not (length set.way.items == 128))
-    (has_some (grow_all (length set.way.items) (set.way.items ++ x ∷ []) set.spots.items [])) parts.0 in
     let g = before_other begun (Other x ∷ tape) tape x s end refl h in
-    subst (λ b. FitsSet begun (Other x ∷ tape) (if b then unknown
-    else shown_to (set.way.items ++ x ∷ []) (grow_all (length set.way.items) (set.way.items ++ x ∷ []) set.spots.items [])))
-    (sym (not-true (length set.way.items == 128) some.0))
-    (shown_fits begun tape set x (grow_all (length set.way.items) (set.way.items ++ x ∷ []) set.spots.items []) refl some.1
-    (played_fits begun tape g.0 g.1 parts.1 g.2))
+    other_step begun tape set x set.is_blind (length set.way.items == 128) refl (λ k. played_fits begun tape g.0 g.1 g.2 k) sees
 
 -- ---- what is told
 
@@ -350,23 +367,36 @@ untold begun tape set x s end (Some qs) e fits h = go (length qs == 0) refl
         (own_fits begun tape set.way.items set.spots.items qs x fits e) h k)
     go false k = refl
 
+untold_by : (begun : List Stand) (tape : List (Item Frame)) (set : LinkSet) (x : Frame) (s : State) (end : List Frame) (b : Bool)
+    → set.is_blind ≡ b → (set.is_blind ≡ false → FitsSet begun tape set) → Stands (link_rules begun) (Own x ∷ tape) s end
+    → (sends_by b x set).told ≡ false
+untold_by begun tape set x s end true e fits h = refl
+untold_by begun tape set x s end false e fits h =
+    untold begun tape set x s end (walk_all x set.way.items set.spots.items []) refl (fits e) h
+
 pub innocents_stay_untold : InnocentsStayUntold
-innocents_stay_untold begun tape x s end room h =
-    let g = before_own begun (Own x ∷ tape) tape x s end refl h in
+innocents_stay_untold begun tape x s end h =
     let set = played (begun_as begun) tape in
-    untold begun tape set x s end (walk_all x set.way.items set.spots.items []) refl (played_fits begun tape g.0 g.1 room g.2) h
+    let g = before_own begun (Own x ∷ tape) tape x s end refl h in
+    untold_by begun tape set x s end set.is_blind refl (λ k. played_fits begun tape g.0 g.1 g.2 k) h
 
 told : (begun : List Stand) (tape : List (Item Frame)) (set : LinkSet) (x : Frame) (o : Option (List Spot))
-    → walk_all x set.way.items set.spots.items [] ≡ o → has_some o ≡ true → FitsSet begun tape set
+    → walk_all x set.way.items set.spots.items [] ≡ o → (sent_to x o set).set.is_blind ≡ false → FitsSet begun tape set
     → IsUnexplained (link_rules begun) (Own x ∷ tape) → (sent_to x o set).told ≡ true
-told begun tape set x None e some fits none = absurd (both_ways false refl some)
+told begun tape set x None e some fits none = absurd (both_ways true some refl)
 told begun tape set x (Some []) e some fits none = refl
 told begun tape set x (Some (q ∷ qs)) e some fits none =
     let now = own_fits begun tape set.way.items set.spots.items (q ∷ qs) x fits e in
     absurd (none (At q.stand) (drop q.at set.way.items) (now.stands q (inl refl)))
 
+told_by : (begun : List Stand) (tape : List (Item Frame)) (set : LinkSet) (x : Frame) (b : Bool) → set.is_blind ≡ b
+    → (set.is_blind ≡ false → FitsSet begun tape set) → (sends_by b x set).set.is_blind ≡ false
+    → IsUnexplained (link_rules begun) (Own x ∷ tape) → (sends_by b x set).told ≡ true
+told_by begun tape set x true e fits sees none = absurd (both_ways set.is_blind sees e)
+told_by begun tape set x false e fits sees none =
+    told begun tape set x (walk_all x set.way.items set.spots.items []) refl sees (fits e) none
+
 pub guilty_are_told : GuiltyAreTold
-guilty_are_told begun tape x s end room h none =
+guilty_are_told begun tape x s end h sees none =
     let set = played (begun_as begun) tape in
-    let parts = and_parts (has_some (walk_all x set.way.items set.spots.items [])) (had_room (begun_as begun) tape) room in
-    told begun tape set x (walk_all x set.way.items set.spots.items []) refl parts.0 (played_fits begun tape s end parts.1 h) none
+    told_by begun tape set x set.is_blind refl (λ k. played_fits begun tape s end h k) sees none

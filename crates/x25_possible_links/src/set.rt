@@ -12,6 +12,8 @@ use arrayvec::ArrayVec;
 pub struct LinkSet {
     pub way: ArrayVec<Frame, 128>,
     pub spots: Spots,
+    /// There was no room: nothing is told any more.
+    pub is_blind: bool,
 }
 
 fn are_known(spots: &[Spot]) -> bool
@@ -37,7 +39,11 @@ impl LinkSet {
             stand: Stand::Free,
             at: 0,
         });
-        LinkSet { way, spots }
+        LinkSet {
+            way,
+            spots,
+            is_blind: false,
+        }
     }
 
     /// Whether it is known where the end stands, or in which of some places.
@@ -45,6 +51,14 @@ impl LinkSet {
         ensures { result ≡ definition.is_known self.now }
     {
         are_known(self.spots.as_slice())
+    }
+
+    /// There is no room.
+    fn lose(&mut self)
+        ensures { self.new ≡ definition.blind }
+    {
+        *self = LinkSet::new();
+        self.is_blind = true;
     }
 
     /// Takes what has come to all places off the way.
@@ -81,9 +95,12 @@ impl LinkSet {
         ensures set { self.new ≡ (definition.sends_to frame self.old).set }
         ensures told { result ≡ (definition.sends_to frame self.old).told }
     {
+        if self.is_blind {
+            return false;
+        }
         match walked(frame, self.spots.as_slice(), self.way.as_slice()) {
             None => {
-                *self = LinkSet::new();
+                self.lose();
                 false
             }
             Some(spots) => if spots.is_empty() {
@@ -101,14 +118,17 @@ impl LinkSet {
     pub fn shows(&mut self, frame: Frame)
         ensures { self.new ≡ definition.shows_to frame self.old }
     {
+        if self.is_blind {
+            return;
+        }
         if self.way.is_full() {
-            *self = LinkSet::new();
+            self.lose();
             return;
         }
         let last = self.way.len();
         self.way.push(frame);
         match grown(self.spots.as_slice(), last, self.way.as_slice()) {
-            None => *self = LinkSet::new(),
+            None => self.lose(),
             Some(spots) => {
                 self.spots = spots;
                 self.trim();

@@ -138,5 +138,7 @@ fn tells_nothing_without_room(rt: HostRuntime) {
         set.shows(Frame::Sabm);
     }
     assert!(rt; !set.is_known());
+    assert!(rt; !set.sends(Frame::Sabm));
     assert!(rt; !set.sends(Frame::Ready(5)));
+    assert!(rt; !set.is_known());
 }

@@ -141,11 +141,18 @@ least (q ∷ qs) n = least qs (if nat_lt q.at n then q.at else n)
 -- ---- a set
 
 abbrev pub set_of : List Frame → List Spot → LinkSet
-set_of way spots = record { way = record { items = way }; spots = record { items = spots } }
+set_of way spots = record { way = record { items = way }; spots = record { items = spots }; is_blind = false }
+
+abbrev pub set_as : LinkSet → List Frame → List Spot → LinkSet
+set_as s way spots = record { way = record { items = way }; spots = record { items = spots }; is_blind = s.is_blind }
 
 -- nothing is known
 abbrev pub unknown : LinkSet
 unknown = set_of (Before ∷ []) (spot_at 0 Free ∷ [])
+
+-- where there was no room
+abbrev pub blind : LinkSet
+blind = record { way = unknown.way; spots = unknown.spots; is_blind = true }
 
 abbrev pub is_free : Stand → Bool
 is_free Free = true
@@ -160,7 +167,7 @@ is_known s = are_known s.spots.items
 
 abbrev pub shifted_to : ℕ → Option (List Spot) → LinkSet → LinkSet
 shifted_to n None s = s
-shifted_to n (Some qs) s = set_of (drop n s.way.items) qs
+shifted_to n (Some qs) s = set_as s (drop n s.way.items) qs
 
 abbrev pub trimmed_by : ℕ → LinkSet → LinkSet
 trimmed_by n s = if n == 0 then s else shifted_to n (shift_all n s.spots.items []) s
@@ -179,24 +186,26 @@ broken Ua s = s
 broken x s = unknown
 
 abbrev pub sent_to : Frame → Option (List Spot) → LinkSet → Stepped
-sent_to x None s = record { set = unknown; told = false }
+sent_to x None s = record { set = blind; told = false }
 sent_to x (Some qs) s =
     if length qs == 0 then record { set = broken x s; told = true }
-    else record { set = trimmed (set_of s.way.items qs); told = false }
+    else record { set = trimmed (set_as s s.way.items qs); told = false }
 
 -- the end sends a frame
 abbrev pub sends_to : Frame → LinkSet → Stepped
-sends_to x s = sent_to x (walk_all x s.way.items s.spots.items []) s
+sends_to x s =
+    if s.is_blind then record { set = s; told = false } else sent_to x (walk_all x s.way.items s.spots.items []) s
 
-abbrev pub shown_to : List Frame → Option (List Spot) → LinkSet
-shown_to way None = unknown
-shown_to way (Some qs) = trimmed (set_of way qs)
+abbrev pub shown_to : LinkSet → List Frame → Option (List Spot) → LinkSet
+shown_to s way None = blind
+shown_to s way (Some qs) = trimmed (set_as s way qs)
 
 -- the other end sends one
 abbrev pub shows_to : Frame → LinkSet → LinkSet
 shows_to x s =
-    if length s.way.items == 128 then unknown
-    else shown_to (s.way.items ++ x ∷ []) (grow_all (length s.way.items) (s.way.items ++ x ∷ []) s.spots.items [])
+    if s.is_blind then s
+    else if length s.way.items == 128 then blind
+    else shown_to s (s.way.items ++ x ∷ []) (grow_all (length s.way.items) (s.way.items ++ x ∷ []) s.spots.items [])
 
 -- ---- over a tape, latest first
 
@@ -208,22 +217,3 @@ abbrev pub played : LinkSet → List (Item Frame) → LinkSet
 played s [] = s
 played s (Own x ∷ tape) = (sends_to x (played s tape)).set
 played s (Other x ∷ tape) = shows_to x (played s tape)
-
-abbrev pub has_some : Option (List Spot) → Bool
-has_some None = false
-has_some (Some qs) = true
-
--- as the end, and as the other one, sends a frame
-abbrev pub has_room_to_send : Frame → LinkSet → Bool
-has_room_to_send x s = has_some (walk_all x s.way.items s.spots.items [])
-
-abbrev pub has_room_to_show : Frame → LinkSet → Bool
-has_room_to_show x s =
-    not (length s.way.items == 128)
-    && has_some (grow_all (length s.way.items) (s.way.items ++ x ∷ []) s.spots.items [])
-
--- there was room all the time
-abbrev pub had_room : LinkSet → List (Item Frame) → Bool
-had_room s [] = true
-had_room s (Own x ∷ tape) = has_room_to_send x (played s tape) && had_room s tape
-had_room s (Other x ∷ tape) = has_room_to_show x (played s tape) && had_room s tape
