@@ -16,59 +16,12 @@ use Rattle.x25_possible_links.specs.declared.frame.Frame.TheVariants.{Info, Read
 use Rattle.x25_possible_links.specs.declared.stand.Numbers.{Numbers}
 use Rattle.x25_possible_links.specs.declared.stand.Stand.{Stand}
 use Rattle.x25_possible_links.specs.declared.stand.Stand.TheVariants.{Out, Asking, Up, Free}
+use Rattle.x25_possible_links.proofs.Lists.{in_left, in_right, in_either, in_all, from_all, none_in, in_map, from_map}
 use Rattle.x25_possible_links.proofs.Stands.{AreBelow, Below, below_self, sends_more, Acknowledges, acknowledges, IsNumbered, is_numbered}
 use Rattle.x25_possible_links.proofs.Covers.{Covers, Here, covers_less}
 use Rattle.x25_possible_links.proofs.Sends.{IsCovered, asked_more, goes_covers, answers_covers, before_covers}
 use Rattle.x25_possible_links.proofs.Leads.{Leads, Stays, Steps, Holds, HoldsAt, holds_shown, holds_takes, holds_settled, leads_sends}
 use Rattle.x25_possible_links.proofs.Leads.{onward_may, stays_at, front_of}
-
--- ---- lists
-
-in_left : {X : Type 0} (xs ys : List X) (x : X) → IsIn x xs → IsIn x (xs ++ ys)
-in_left [] ys x h = absurd h
-in_left (z ∷ zs) ys x (inl e) = inl e
-in_left (z ∷ zs) ys x (inr h) = inr (in_left zs ys x h)
-
-in_right : {X : Type 0} (xs ys : List X) (x : X) → IsIn x ys → IsIn x (xs ++ ys)
-in_right [] ys x h = h
-in_right (z ∷ zs) ys x h = inr (in_right zs ys x h)
-
-in_either : {X : Type 0} (xs ys : List X) (x : X) → IsIn x (xs ++ ys) → IsIn x xs ⊎ IsIn x ys
-in_either [] ys x h = inr h
-in_either (z ∷ zs) ys x (inl e) = inl (inl e)
-in_either (z ∷ zs) ys x (inr h) = go (in_either zs ys x h)
-  where
-    go : IsIn x zs ⊎ IsIn x ys → IsIn x (z ∷ zs) ⊎ IsIn x ys
-    go (inl g) = inl (inr g)
-    go (inr g) = inr g
-
-pub in_all : {X Y : Type 0} (f : X → List Y) (xs : List X) (x : X) (y : Y) → IsIn x xs → IsIn y (f x) → IsIn y (flat_map f xs)
-in_all f [] x y h g = absurd h
-in_all f (z ∷ zs) x y (inl e) g = in_left (f z) (flat_map f zs) y (subst (λ w. IsIn y (f w)) e g)
-in_all f (z ∷ zs) x y (inr h) g = in_right (f z) (flat_map f zs) y (in_all f zs x y h g)
-
-pub from_all : {X Y : Type 0} (f : X → List Y) (xs : List X) (y : Y) → IsIn y (flat_map f xs) → (x : X) × IsIn x xs × IsIn y (f x)
-from_all f [] y h = absurd h
-from_all f (z ∷ zs) y h = go (in_either (f z) (flat_map f zs) y h) (from_all f zs y)
-  where
-    go : IsIn y (f z) ⊎ IsIn y (flat_map f zs) → (IsIn y (flat_map f zs) → (x : _) × IsIn x zs × IsIn y (f x))
-        → (x : _) × IsIn x (z ∷ zs) × IsIn y (f x)
-    go (inl g) rest = (z, inl refl, g)
-    go (inr g) rest = let r = rest g in (r.0, inr r.1, r.2)
-
-none_in : {X : Type 0} (xs : List X) → ((x : X) → IsIn x xs → ⊥) → xs ≡ []
-none_in [] h = refl
-none_in (x ∷ xs) h = absurd (h x (inl refl))
-
-pub in_map : {X Y : Type 0} (f : X → Y) (xs : List X) (x : X) → IsIn x xs → IsIn (f x) (map f xs)
-in_map f [] x h = absurd h
-in_map f (y ∷ ys) x (inl e) = inl (ap f e)
-in_map f (y ∷ ys) x (inr h) = inr (in_map f ys x h)
-
-pub from_map : {X Y : Type 0} (f : X → Y) (xs : List X) (y : Y) → IsIn y (map f xs) → (x : X) × IsIn x xs × (y ≡ f x)
-from_map f [] y h = absurd h
-from_map f (x ∷ xs) y (inl e) = (x, inl refl, e)
-from_map f (x ∷ xs) y (inr h) = let g = from_map f xs y h in (g.0, inr g.1, g.2)
 
 -- ---- octets that spell no frame
 

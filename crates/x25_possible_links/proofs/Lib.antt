@@ -1,3 +1,4 @@
+mod Lists
 mod Stands
 mod Covers
 mod Sends

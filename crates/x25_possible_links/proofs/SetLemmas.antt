@@ -21,7 +21,8 @@ use Rattle.x25_possible_links.proofs.LoopLemmas.{least_most}
 use Rattle.x25_possible_links.proofs.Stands.{below_self}
 use Rattle.x25_possible_links.proofs.Covers.{Here}
 use Rattle.x25_possible_links.proofs.Leads.{HoldsAt, holds_shown, holds_takes, holds_settled, stays_at}
-use Rattle.x25_possible_links.proofs.Exactly.{HoldsIn, in_map, from_map, in_all, from_all, sends_held, settled_stand, walks_stand}
+use Rattle.x25_possible_links.proofs.Exactly.{HoldsIn, sends_held, settled_stand, walks_stand}
+use Rattle.x25_possible_links.proofs.Lists.{in_map, from_map, in_all, from_all}
 use Rattle.x25_possible_links.proofs.StepLemmas.{Adds, adds_all, adds_kept, adds_settled, adds_walks, placed}
 
 -- its places are such as a run comes to, and there is one for each run

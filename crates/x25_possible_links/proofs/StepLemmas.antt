@@ -18,6 +18,7 @@ use Rattle.x25_possible_links.specs.declared.spots.Spot.{Spot}
 use Rattle.x25_possible_links.specs.declared.stand.Numbers.{Numbers}
 use Rattle.x25_possible_links.specs.declared.stand.Stand.{Stand}
 use Rattle.x25_possible_links.specs.declared.stand.Stand.TheVariants.{Out, Asking, Up, Free}
+use Rattle.x25_possible_links.proofs.Lists.{in_left, in_right, in_either}
 use Rattle.x25_possible_links.proofs.Stands.{AreBelow, Below, below_self, below_onward}
 use Rattle.x25_possible_links.proofs.Covers.{Covers, Later, covers_more}
 use Rattle.x25_possible_links.proofs.Leads.{Holds, HoldsAt}
@@ -113,24 +114,6 @@ adds_nothing : (way : List Frame) (xs ys : List Spot) → Some xs ≡ Some ys �
 adds_nothing way xs ys e =
     subst (λ zs. Adds way xs zs []) (same_Some xs ys e)
     (record { from = λ q is. inl is; keeps = λ q is. is; holds = λ p is. absurd is })
-
-in_left : {X : Type 0} (xs ys : List X) (x : X) → IsIn x xs → IsIn x (xs ++ ys)
-in_left [] ys x h = absurd h
-in_left (z ∷ zs) ys x (inl e) = inl e
-in_left (z ∷ zs) ys x (inr h) = inr (in_left zs ys x h)
-
-in_right : {X : Type 0} (xs ys : List X) (x : X) → IsIn x ys → IsIn x (xs ++ ys)
-in_right [] ys x h = h
-in_right (z ∷ zs) ys x h = inr (in_right zs ys x h)
-
-in_either : {X : Type 0} (xs ys : List X) (x : X) → IsIn x (xs ++ ys) → IsIn x xs ⊎ IsIn x ys
-in_either [] ys x h = inr h
-in_either (z ∷ zs) ys x (inl e) = inl (inl e)
-in_either (z ∷ zs) ys x (inr h) = go (in_either zs ys x h)
-  where
-    go : IsIn x zs ⊎ IsIn x ys → IsIn x (z ∷ zs) ⊎ IsIn x ys
-    go (inl g) = inl (inr g)
-    go (inr g) = inr g
 
 adds_both : (way : List Frame) (xs ys zs : List Spot) (ps qs : List (Place Stand Frame)) → Adds way xs ys ps → Adds way ys zs qs
     → Adds way xs zs (ps ++ qs)
