@@ -4,7 +4,7 @@
 # make lib           30 minutes       rt, cc              proves the library for C, and leaves libx25.a, libx25.so and x25.pc in build/
 # make check-c       a minute         build/libx25.a, cc  runs tests/c over it, under ASan, UBSan and valgrind where these are
 # make demo          a second         build/x25           decodes the traces of examples/ and runs its scripts
-# make test          an hour          rt, cc              the gate: all proofs, from nothing, the must-fail edits, all tests
+# make test          an hour          rt, cc              the gate: all proofs, the must-fail edits, all tests
 # make golden        a second         build/x25           runs the stored cases of tests/golden
 # make check-tools   a minute                             runs the tests of tools/; those for which something isn't there are left out
 # make judge-runs    8 minutes        build/x25           judges random runs: of two stations, as captures have them too, of one end beside an odd one, and with one frame changed

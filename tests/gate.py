@@ -3,8 +3,8 @@
 
 The tests of the tools that need no program run before, too: they take a minute, and the first that fails ends the gate. The
 line 'N passed, M failed' of `rt ci` is held back, and the last line is one such line that counts all three: proofs and must-fail
-edits, the library for C, a golden case for each build of the program, a test of the tools. The line before it has the time that the whole run took, of the
-processors and on the clock. Exit status: 0 nothing failed, 1 something did.
+edits, the library for C, a golden case for each build of the program, a test of the tools. The line before it has the minutes of
+processors that the whole run and each part took, and those on the clock. Exit status: 0 nothing failed, 1 something did.
 """
 
 from __future__ import annotations
@@ -93,9 +93,14 @@ def main() -> int:
     if not quick():
         print("0 passed, 1 failed")
         return 1
-    counts = [proofs(), library(), golden_cases(), tools()]
+    counts: list[tuple[int, int]] = []
+    spent: list[str] = []
+    for name, part in (("rt ci", proofs), ("library for C", library), ("golden cases", golden_cases), ("tools", tools)):
+        before = processor_seconds()
+        counts.append(part())
+        spent.append(f"{name} {(processor_seconds() - before) / 60:.1f}")
     passed, failed = (sum(column) for column in zip(*counts))
-    print(f"{processor_seconds() / 60:.0f} processor minutes, {(time.monotonic() - begun) / 60:.0f} on the clock")
+    print(f"{processor_seconds() / 60:.1f} processor minutes ({', '.join(spent)}), {(time.monotonic() - begun) / 60:.0f} on the clock")
     print(f"{passed} passed, {failed} failed")
     return 1 if failed else 0
 

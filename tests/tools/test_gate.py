@@ -54,7 +54,7 @@ class Proofs(ToolCase):
                 self.assertEqual(gate.main(), 1)
         *before, last = out.getvalue().splitlines()
         self.assertEqual(last, "33 passed, 3 failed")
-        self.assertRegex(before[-1], r"^\d+ processor minutes, 0 on the clock$")
+        self.assertRegex(before[-1], r"^[\d.]+ processor minutes \(rt ci 0.0, library for C 0.0, golden cases 0.0, tools 0.0\), 0 on the clock$")
 
     def test_processor_time_of_what_has_ended_is_counted(self):
         before = gate.processor_seconds()

@@ -4,7 +4,7 @@ use Rattle.std.proofs.Common.{◌≡◌, ℕ, ◌==◌, ◌≤◌, inl, inr, Lis
 use Rattle.std.proofs.lemmas.Bool.{eqb-true}
 use Rattle.std.proofs.lemmas.List.{append_cancel_left}
 use Rattle.x25_packet.specs.Facilities.{IsFacilityField}
-use Rattle.x25_packet.specs.Packet.{PlainPacket, call, accept, clear, clear_conf, user_data, rr, rnr, interrupt, interrupt_conf, reset, reset_conf, restart, restart_conf}
+use Rattle.x25_packet.specs.Packet.{PlainPacket, call, accept, clear}
 use Rattle.x25_packet.specs.Reading.{packet_of}
 use Rattle.x25_packet.specs.Spelling.{IsInRange, channel_of, longest_user, spelling_of}
 use Rattle.x25_packet.specs.declared.error.PacketError.{PacketError}
@@ -16,7 +16,7 @@ use Rattle.x25_circuit.specs.Circuit.{Circuit}
 use Rattle.x25_circuit.specs.Params.{Proposal, default_params, field_for, may_answer}
 use Rattle.x25_circuit.specs.Cause.{may_clear_for}
 use Rattle.x25_circuit.specs.declared.state.State.{State}
-use Rattle.x25_circuit.specs.declared.state.State.TheVariants.{Free, Calling, Arriving, Open, Resetting, Clearing, Collision}
+use Rattle.x25_circuit.specs.declared.state.State.TheVariants.{Free, Calling, Arriving, Open, Clearing}
 use Rattle.x25_circuit.specs.Calling as circuit
 use Rattle.x25_circuit.specs.declared.error.CircuitError.TheVariants.{BadParameter}
 use Rattle.x25_layer.specs.declared.error.LayerError.{LayerError}
@@ -131,18 +131,7 @@ more_again cfg old new newer xs ys f g = record {
 -- with more user data of a CALL at most
 wider : (most : ℕ) → most ≤ 128 → (v : PlainPacket) → IsInRange most v → IsInRange 128 v
 wider most low (call h called calling field user) range = (let few = range.4 in (range.0, range.1, range.2, range.3, omega (arith, few, low)))
-wider most low (accept h field) range = range
-wider most low (clear h cause diagnostic) range = range
-wider most low (clear_conf h) range = range
-wider most low (user_data h q m ps pr user) range = range
-wider most low (rr h pr) range = range
-wider most low (rnr h pr) range = range
-wider most low (interrupt h user) range = range
-wider most low (interrupt_conf h) range = range
-wider most low (reset h cause diagnostic) range = range
-wider most low (reset_conf h) range = range
-wider most low (restart cause diagnostic) range = range
-wider most low restart_conf range = range
+wider most low v range = range
 
 user_short : (long_data : Bool) → longest_user long_data ≤ 128
 user_short true = omega arith
@@ -202,16 +191,7 @@ module _ (laws : Laws) (cfg : Cfg) (g : PlainGiven) (channel : Option ℕ) (wide
       some_fields (accept h field) (field ++ g.facilities) g.user (λ k same. record { channel = may ∙ ap (λ (n : ℕ). Some n) (sym same); own = field; of_own = range.1; facilities = refl; user = refl })
   told_brings (clear h cause diagnostic) may range =
       some_fields (clear h cause diagnostic) g.facilities g.user (λ k same. record { channel = may ∙ ap (λ (n : ℕ). Some n) (sym same); own = []; of_own = no_field; facilities = refl; user = refl })
-  told_brings (clear_conf h) may range = tt
-  told_brings (user_data h q m ps pr user) may range = tt
-  told_brings (rr h pr) may range = tt
-  told_brings (rnr h pr) may range = tt
-  told_brings (interrupt h user) may range = tt
-  told_brings (interrupt_conf h) may range = tt
-  told_brings (reset h cause diagnostic) may range = tt
-  told_brings (reset_conf h) may range = tt
-  told_brings (restart cause diagnostic) may range = tt
-  told_brings restart_conf may range = tt
+  told_brings p may range = tt
 
   with_brings : (p : PlainPacket) → MayGoOn g channel p → IsReadable cfg.long_data p → AreSomeOf IsGiven (brought_by cfg (write g (spelling_of p))) gave
   with_brings p may r = by (packet_of 128 o) refl
@@ -282,12 +262,7 @@ module _ (c : LayerSettings) (g : PlainGiven) (restarts : ℕ) (circuits : ℕ �
 
       by : (s : State) → PutsOwn g (Some h) (on_h (circuit.accept_in (circuits h) s answer))
       by Arriving = with_answer answer
-      by Collision = tt
-      by Free = tt
-      by Calling = tt
-      by Open = tt
-      by Resetting = tt
-      by Clearing = tt
+      by s = tt
 
   clears_own : (cause diagnostic : ℕ) → PutsOwn g (Some h) (on_h (circuit.outcome c.circuit (circuits h) (circuit.Clears cause diagnostic)))
   clears_own cause diagnostic = by (circuits h).state
@@ -299,11 +274,7 @@ module _ (c : LayerSettings) (g : PlainGiven) (restarts : ℕ) (circuits : ℕ �
       by : (s : State) → PutsOwn g (Some h) (on_h (circuit.clear_in c.circuit (circuits h) s cause diagnostic))
       by Free = tt
       by Clearing = tt
-      by Arriving = if_may (may_clear_for c.circuit.role cause)
-      by Calling = if_may (may_clear_for c.circuit.role cause)
-      by Collision = if_may (may_clear_for c.circuit.role cause)
-      by Open = if_may (may_clear_for c.circuit.role cause)
-      by Resetting = if_may (may_clear_for c.circuit.role cause)
+      by s = if_may (may_clear_for c.circuit.role cause)
 
   calls_own : (called calling user : List ℕ) (proposal : Proposal) → g.user ≡ [] → PutsOwn g (Some h) (on_h (circuit.outcome c.circuit (circuits h) (circuit.Calls called calling user proposal)))
   calls_own called calling user proposal none = by (circuits h).state
@@ -314,12 +285,7 @@ module _ (c : LayerSettings) (g : PlainGiven) (restarts : ℕ) (circuits : ℕ �
 
       by : (s : State) → PutsOwn g (Some h) (on_h (circuit.call_in c.circuit (circuits h) s called calling user proposal))
       by Free = if_may (circuit.may_call c.circuit.long_data called calling user proposal.params)
-      by Collision = tt
-      by Clearing = tt
-      by Arriving = tt
-      by Calling = tt
-      by Open = tt
-      by Resetting = tt
+      by s = tt
 
 none_long : (xs : List ℕ) → (length xs == 0) ≡ true → xs ≡ []
 none_long [] e = refl
