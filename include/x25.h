@@ -13,7 +13,8 @@
  *
  * An answer has at most 24 frames of at most 4,103 octets, and 4 events, of which one has at most 65,535 octets; that of
  * x25_receive_all has as many for each frame that was taken. Its memory is set aside before anything happens: reading it takes
- * none, but for x25_entry. A new station takes less than 250 kB, one with all that may wait on 16 channels less than 10 MB.
+ * none, but for x25_entry. A new station takes less than 250 kB, with 4,095 channels less than 3 MB; one with all that may wait on
+ * 16 channels less than 10 MB.
  *
  * What the library can't see, and the program has to keep:
  * - An x25_station that holds a station isn't copied, only the library reads and writes its fields, and it is in one call at

@@ -108,7 +108,7 @@ static void fill_one(void)
     did((who = &dte, x25_call(&dte.station, "1", 1, "2", 1, NULL, 0, sizes, &channel)));
     did((who = &dce, x25_accept(&dce.station, channel, sizes)));
     did((who = &dte, x25_send(&dte.station, channel, false, message, sizeof message)));
-    expect("more than 8 MB", most[0] > 8000000 || most[1] > 8000000, false);
+    expect("more than 3 MB", most[0] > 3000000 || most[1] > 3000000, false);
     printf(", 4095 channels: %zu kB new, %zu and %zu kB at most with one in use", empty / 1000, most[0] / 1000, most[1] / 1000);
     who = &dte, x25_free(&dte.station);
     who = &dce, x25_free(&dce.station);
