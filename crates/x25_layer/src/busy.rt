@@ -1,6 +1,6 @@
 //! The channels in which something is under way, so that no step asks the circuits of the others.
 ghost use Rattle.std.specs.Prelude.{◌≡◌, ℕ, ◌<◌, ◌≤◌, length, slice_index, vec_capacity, true, IfOk, IfErr, IfSome};
-ghost use Rattle.std.specs.Prelude.{IfNone};
+ghost use Rattle.std.specs.Prelude.{◌-◌, IfNone};
 ghost use Rattle.x25_layer.specs.Layer.{is_channel};
 ghost use Rattle.x25_layer.specs.code.Idle.{AreRising, IsOutside, IsIdle, IdleBeside};
 
@@ -38,6 +38,17 @@ impl Busy {
         }
     }
 
+    // Whether a channel and all below are of them, for which the list isn't searched.
+    #[inline(always)]
+    fn has_all_to(&self, channel: u16) -> bool
+        requires { 1 ≤ channel }
+        ensures within { result ≡ true → channel ≤ length self.now.channels.items }
+        ensures place { result ≡ true → slice_index self.now.channels.items (channel - 1) ≡ channel }
+    {
+        let count = usize::from(channel);
+        count <= self.channels.len() && self.channels[count - 1] == channel
+    }
+
     // How many of them are up to a channel.
     #[inline(always)]
     fn count_to(&self, channel: u16) -> usize
@@ -46,6 +57,12 @@ impl Busy {
         ensures above { (i : ℕ) → result ≤ i → i < length self.now.channels.items
             → channel < slice_index self.now.channels.items i }
     {
+        if channel == 0 {
+            return 0;
+        }
+        if self.has_all_to(channel) {
+            return usize::from(channel);
+        }
         match self.channels.binary_search(&channel) {
             Ok(at) => at + 1,
             Err(at) => at,
@@ -55,6 +72,7 @@ impl Busy {
     /// The next one after a channel.
     #[inline(always)]
     pub(crate) fn after(&self, channel: u16) -> Option<u16>
+        ensures listed { IfSome result (λ next. IsOutside self.now.channels.items next → ⊥) }
         ensures higher { IfSome result (λ next. channel < next) }
         ensures within { IfSome result (λ next. next ≤ vec_capacity self.now.channels) }
         ensures between { IfSome result (λ next. (k : ℕ) → channel < k → k < next
@@ -75,6 +93,9 @@ impl Busy {
         ensures this { IsOutside self.new.channels.items channel → ⊥ }
         ensures places { vec_capacity self.new.channels ≡ vec_capacity self.old.channels }
     {
+        if self.has_all_to(channel) {
+            return;
+        }
         let Err(at) = self.channels.binary_search(&channel) else {
             return;
         };
@@ -96,7 +117,7 @@ impl Busy {
         self.channels.remove(at);
     }
 
-    /// With this channel, but where its circuit is idle.
+    /// With this channel, where its circuit isn't idle.
     #[inline(always)]
     pub(crate) fn note(&mut self, channel: u16, circuit: &Circuit)
         requires { is_channel (vec_capacity self.old.channels) channel ≡ true }
@@ -105,14 +126,28 @@ impl Busy {
         ensures this { IsOutside self.new.channels.items channel → IsIdle circuit.now }
         ensures places { vec_capacity self.new.channels ≡ vec_capacity self.old.channels }
     {
-        if is_idle(circuit) {
-            self.remove(channel);
-        } else {
+        if !is_idle(circuit) {
             self.insert(channel);
         }
     }
 
-    /// With all of these but where the circuit is idle; the first is on channel 1.
+    /// Without this channel, which is one of them, where its circuit is idle; but one that is alone stays, as it is
+    /// sooner asked than taken out and put in.
+    #[inline(always)]
+    pub(crate) fn leave_idle(&mut self, channel: u16, circuit: &Circuit)
+        requires listed { IsOutside self.old.channels.items channel → ⊥ }
+        ensures others { (k : ℕ) → (k ≡ channel → ⊥) → IsOutside self.new.channels.items k
+            → IsOutside self.old.channels.items k }
+        ensures this { IsOutside self.new.channels.items channel → IsIdle circuit.now }
+        ensures places { vec_capacity self.new.channels ≡ vec_capacity self.old.channels }
+    {
+        if self.channels.len() == 1 || !is_idle(circuit) {
+            return;
+        }
+        self.remove(channel);
+    }
+
+    /// With all of these whose circuits aren't idle; the first is on channel 1.
     pub(crate) fn note_all(&mut self, circuits: &[Circuit])
         requires few { length circuits.now ≤ 4095 }
         requires places { vec_capacity self.old.channels ≡ length circuits.now }

@@ -121,7 +121,7 @@ fn go_round<L: OrderedLink>(
     while let Some(next) = busy.after(channel) {
         let circuit = &mut circuits[usize::from(next) - 1];
         is_put |= pull_one(circuit, next, link, memory);
-        busy.note(next, circuit);
+        busy.leave_idle(next, circuit);
         channel = next;
     }
     is_put

@@ -57,10 +57,10 @@ loop-next-preserved g c =
           (counts_left _ c.pull_one-is_put.new.circuit p.clears p.resets (c.loop-next.invariant.left all i _ read));
       takes = takes_then g.L.OrderedLink _ _ _ _ _ _ c.loop-next.invariant.takes p.takes;
       fewer = λ is. by (either c.loop-next.is_put c.pull_one-is_put.result is);
-      places = c.note.ensures.places ∙ c.loop-next.invariant.places ∙ sym (length-set c.loop-next.circuits.items i c.pull_one-is_put.new.circuit);
-      still = rest_changed (λ (k : ℕ) (v : circuit_code.Circuit). IsOutside c.note.new.self.channels.items (suc k) → IsIdle v) c.loop-next.circuits.items i c.pull_one-is_put.new.circuit
-          (λ k v differs at out. c.loop-next.invariant.still k v at (c.note.ensures.others (suc k) (λ on. differs (let e : k ≡ i = omega (arith, on, up) in e)) out))
-          (λ out. c.note.ensures.this (subst (λ (h : ℕ). IsOutside c.note.new.self.channels.items h) up out));
+      places = c.leave_idle.ensures.places ∙ c.loop-next.invariant.places ∙ sym (length-set c.loop-next.circuits.items i c.pull_one-is_put.new.circuit);
+      still = rest_changed (λ (k : ℕ) (v : circuit_code.Circuit). IsOutside c.leave_idle.new.self.channels.items (suc k) → IsIdle v) c.loop-next.circuits.items i c.pull_one-is_put.new.circuit
+          (λ k v differs at out. c.loop-next.invariant.still k v at (c.leave_idle.ensures.others (suc k) (λ on. differs (let e : k ≡ i = omega (arith, on, up) in e)) out))
+          (λ out. c.leave_idle.ensures.this (subst (λ (h : ℕ). IsOutside c.leave_idle.new.self.channels.items h) up out));
       high = (let all = length-set c.loop-next.circuits.items i c.pull_one-is_put.new.circuit in omega (arith, up, low, all));
     }
   where
