@@ -6,7 +6,8 @@ ghost use Rattle.x25_packet.specs.Digits.{IsAddress, packed};
 ghost use Rattle.x25_packet.specs.Packet.{plain};
 ghost use Rattle.x25_packet.specs.Reading.{packet_of};
 ghost use Rattle.x25_bits.specs.Bits.{bit};
-ghost use Rattle.x25_packet.specs.Spelling.{IsInRange, IsWithoutD, accept_body, body_of, call_body, channel_of, format_of};
+ghost use Rattle.x25_packet.specs.Spelling.{IsInRange, IsWithoutD, accept_body, body_of, call_body, channel_of};
+ghost use Rattle.x25_packet.specs.Spelling.{format_of};
 ghost use Rattle.x25_packet.specs.Spelling.{spelling_of, type_of};
 
 use crate::codes;
