@@ -1,4 +1,5 @@
-ghost use Rattle.std.specs.Prelude.{◌≡◌, ℕ, ◌+◌, ◌%◌, ◌<◌, ◌≤◌, ◌==◌, nat_le, nat_lt, length, drop, List, ◌∷◌, [], ◌++◌, true};
+ghost use Rattle.std.specs.Prelude.{◌≡◌, ℕ, ◌+◌, ◌%◌, ◌<◌, ◌≤◌, ◌==◌, nat_le, nat_lt, length, drop, List, ◌∷◌, []};
+ghost use Rattle.std.specs.Prelude.{◌++◌, true};
 ghost use Rattle.std.specs.Prelude.{false, IfOk, IfErr, OnOk, OnErr, OnSome, IfSome, IfNone, Bool, option_to_list};
 ghost use Rattle.std.specs.Prelude.{Some, None, if◌then◌else◌, max, vec_capacity};
 ghost use Rattle.x25_window.specs.code.Modulo.{resolved};

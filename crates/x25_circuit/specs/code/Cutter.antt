@@ -13,7 +13,8 @@ pub record ShownCutter : Type 0 where
 -- the next packet of these messages, of at most this size
 abbrev pub first_cut : ℕ → List Message → Piece
 first_cut size [] = Last (with_q false) []
-first_cut size (m ∷ ms) = if nat_le (length m.user) size then Last m.q m.user else More (with_q m.q.q) (take size m.user)
+first_cut size (m ∷ ms) = if nat_le (length m.user) size then Last m.q m.user
+    else More (with_q m.q.q) (take size m.user)
 
 -- what is left of them then
 abbrev pub first_left : ℕ → List Message → List Message

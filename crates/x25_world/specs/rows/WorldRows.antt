@@ -88,7 +88,8 @@ abbrev pub hi_lost : World
 hi_lost = run two_channels (sends_hi ∷ event Dce (Loses 0) ∷ []) called
 
 abbrev pub sends_more : List Event
-sends_more = asks Dte (Asks 2 (Sends (with_q false) (codes "ho"))) ∷ delivers 4 ++ event Dte Receives ∷ event Dce Receives ∷ []
+sends_more = asks Dte (Asks 2 (Sends (with_q false) (codes "ho"))) ∷ delivers 4
+    ++ event Dte Receives ∷ event Dce Receives ∷ []
 
 -- it is a moment in which both may heal; no end is busy behind the firings, and both messages have been handed up
 abbrev pub MoreArrives : Type 0
