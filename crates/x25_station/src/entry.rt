@@ -47,6 +47,12 @@ pub enum Entry {
         facilities: Vec<u8>,
         user: Vec<u8>,
     },
+    /// So many messages more of this stretch are confirmed, of those whose confirmation was asked.
+    Confirmed {
+        channel: u16,
+        name: Stretch,
+        count: u8,
+    },
     /// A DIAGNOSTIC came.
     Diagnosed {
         diagnostic: u8,
