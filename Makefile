@@ -8,6 +8,7 @@
 # make golden        a second         build/x25           runs the stored cases of tests/golden
 # make check-tools   a minute                             runs the tests of tools/; those for which something isn't there are left out
 # make judge-runs    8 minutes        build/x25           judges random runs: of two stations, as captures have them too, of one end beside an odd one, and with one frame changed
+# make with-runs     20 seconds       build/x25           gives facilities, user data and D by 100,000 random lines, and reads them again
 # make refused       30 minutes       rt, cc, build/x25   refuses each allocation of stored cases and of scripts in turn
 # make wrong-bodies  minutes a crate  rt                  tries wrong bodies that the gate leaves out; CRATE="NAME .." of these crates
 # make interop       20 minutes       build/x25, a guest  plays a station against Linux's X.25; interop/README.md says more
@@ -24,7 +25,7 @@
 # The times are those of four processors with nothing beside. rt, the command of the Rattle kit, wants up to 4 GB of memory for each
 # processor; cc is a C compiler. All need Python 3.9 or later. What needs build/x25 has it proved first, where it isn't there.
 
-.PHONY: help look x25 lib check-c demo test golden judge-runs check-tools refused wrong-bodies interop install install-lib uninstall dist dist-binary deb clean kit
+.PHONY: help look x25 lib check-c demo test golden judge-runs with-runs check-tools refused wrong-bodies interop install install-lib uninstall dist dist-binary deb clean kit
 
 SOURCES := crates.txt $(shell find crates -path '*/out' -prune -o -type f ! -name '*.md' -print)
 
@@ -100,6 +101,9 @@ judge-runs: build/x25
 	python3 tests/link_runs.py --program build/x25
 	python3 tests/again_runs.py --program build/x25
 	python3 tests/order_runs.py --program build/x25
+
+with-runs: build/x25
+	python3 tests/with_runs.py --program build/x25
 
 check-tools:
 	python3 tests/check_tools.py

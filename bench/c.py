@@ -20,7 +20,7 @@ from timing import instructions, processor_time, rates
 sys.path.append(os.path.join(TOP, "bindings", "python"))
 import x25  # noqa: E402
 
-LENGTHS, READS, RUNS = (3, 128, 1000, 4000), 1000, 9
+LENGTHS, READS, RUNS, CHANNELS = (3, 128, 1000, 4000), 1000, 9, (1, 16, 4095)
 
 
 def talk(answer, near, far):
@@ -52,9 +52,9 @@ def least(run, *words):
     return min(run(*words) for _ in range(RUNS))
 
 
-def each_takes(*words):
-    """The instructions that a message of 1,000 octets takes of these words, which are followed by a count and a length."""
-    few, many = (instructions([*words, str(count), "1000"]) for count in (100, 300))
+def each_takes(*words, more=()):
+    """The instructions that a message of 1,000 octets takes of these words, which are followed by a count, a length and more."""
+    few, many = (instructions([*words, str(count), "1000", *more]) for count in (100, 300))
     return (many - few) / 200
 
 
@@ -72,6 +72,8 @@ def main(count):
         os.environ["PYTHONHASHSEED"] = "0"
         one, other = each_takes(program), each_takes(sys.executable, __file__, "--python")
         print(f"messages of 1000 octets: {one:,.0f} instructions from C, {other:,.0f} from Python, {other / one:.1f} times as many")
+        for channels in CHANNELS:
+            print(f"on one of {channels} channels: {each_takes(program, more=('1', str(channels))):,.0f} instructions")
     rates(program, "message", count)
 
 

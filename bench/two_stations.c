@@ -1,7 +1,9 @@
 /* Two stations in memory, from C: the user of the one sends messages, and what each puts on the line arrives at the other at once,
  * whose user reads it.
  *
- *     two_stations COUNT LENGTH [READS]     writes how many messages were delivered, each of which is read so often
+ *     two_stations COUNT LENGTH [READS [CHANNELS]]
+ *
+ * It writes how many messages were delivered, each of which is read so often; the call goes on one of so many channels.
  */
 #include "x25.h"
 #include <stdio.h>
@@ -58,7 +60,8 @@ int main(int argc, char **argv)
     long count = argc > 1 ? atol(argv[1]) : 1;
     size_t length = argc > 2 ? (size_t)atol(argv[2]) : 3;
     reads = argc > 3 ? atol(argv[3]) : 1;
-    x25_settings settings = {.k = 7, .n2 = 10, .channels = 1};
+    uint16_t channels = argc > 4 ? (uint16_t)atoi(argv[4]) : 1;
+    x25_settings settings = {.k = 7, .n2 = 10, .channels = channels};
     x25_sizes sizes = {0, 0, 0, 0};
     uint16_t channel;
     check(x25_new(&stations[0], X25_DTE, settings));

@@ -13,7 +13,8 @@
  *
  * An answer has at most 24 frames of at most 4,103 octets, and 4 events, of which one has at most 65,535 octets; that of
  * x25_receive_all has as many for each frame that was taken. Its memory is set aside before anything happens: reading it takes
- * none, but for x25_entry. A new station takes less than 300 kB, one with all that may wait on 16 channels less than 10 MB.
+ * none, but for x25_entry. A new station takes less than 250 kB, with 4,095 channels less than 3 MB; one with all that may wait on
+ * 16 channels less than 10 MB.
  *
  * What the library can't see, and the program has to keep:
  * - An x25_station that holds a station isn't copied, only the library reads and writes its fields, and it is in one call at
@@ -45,14 +46,14 @@ typedef struct {
 
 /* The settings of a station, for x25_new. One that is left out in braces, as in {.k = 7, .n2 = 10, .channels = 1}, is off. */
 typedef struct {
-    uint8_t k;        /* the window of the link, 1 to 7 */
-    uint8_t n2;       /* how often a command of the link is sent again, 1 to 255 */
-    uint8_t channels; /* logical channels, 1 to 16 */
-    bool long_data;   /* a call may have up to 128 octets of user data, in place of up to 16; the same at both ends */
-    bool say_sizes;   /* each CALL and CALL ACCEPTED says packet sizes and windows, as X.25 over TCP asks for */
-    bool wide;        /* packets are read in all the forms that X.25 lets equipment send, and not only as a station writes them */
-    uint16_t later;   /* 0: room for settings of later versions, as is */
-    uint64_t more;    /* this */
+    uint8_t k;         /* the window of the link, 1 to 7 */
+    uint8_t n2;        /* how often a command of the link is sent again, 1 to 255 */
+    uint16_t channels; /* logical channels, 1 to 4,095 */
+    bool long_data;    /* a call may have up to 128 octets of user data, in place of up to 16; the same at both ends */
+    bool say_sizes;    /* each CALL and CALL ACCEPTED says packet sizes and windows, as X.25 over TCP asks for */
+    bool wide;         /* packets are read in all the forms that X.25 lets equipment send, and not only as a station writes them */
+    uint8_t later;     /* 0: room for settings of later versions, as is */
+    uint64_t more;     /* this */
 } x25_settings;
 
 /* The name of a stretch of a channel: the restarts done since link set-up, the clears done since the last of these, and the
@@ -294,7 +295,7 @@ size_t x25_facilities(const x25_station *station, size_t i, uint8_t *room, size_
 size_t x25_frames(const x25_station *station);
 size_t x25_frame(const x25_station *station, size_t i, uint8_t *room, size_t size);
 size_t x25_entries(const x25_station *station);
-uint32_t x25_entry(x25_station *station, size_t i, char *text, size_t size, size_t *count);
+uint32_t x25_entry(const x25_station *station, size_t i, char *text, size_t size, size_t *count);
 /* What became of timer T1 at the last call. */
 uint32_t x25_timer(const x25_station *station);
 

@@ -11,6 +11,7 @@
  *   qbit 0|1                  whether their messages begin with an octet that is the Q bit: "set"
  *   listen ADDRESS            "listening"; each call that comes is accepted: "accepted SLOT .."
  *   call FROM TO DATA         "connected SLOT .." or "refused .."; DATA is hexadecimal digits or -
+ *   given SLOT                what the other end gave with its call or its acceptance: "given THROUGHPUT REVERSE CALLING CALLED DATA"
  *   send SLOT LENGTH SEED     a message whose octet at i is i * 7 + SEED, modulo 256
  *   interrupt SLOT OCTET      an interrupt
  *   close SLOT                clears the circuit: "closing SLOT"
@@ -305,6 +306,29 @@ static void start_to_call(char **words) {
     pthread_detach(thread);
 }
 
+/* The digits of an address extension, - where there are none. */
+static const char *digits_of(char *text, const unsigned char *octets, int count) {
+    for (int i = 0; i < count; i++) text[i] = '0' + (octets[i / 2] >> (i % 2 ? 0 : 4) & 15);
+    text[count] = 0;
+    return count ? text : "-";
+}
+
+static void tell_given(int slot) {
+    struct x25_facilities it;
+    struct x25_dte_facilities of_ends;
+    struct x25_calluserdata data;
+    char calling[256], called[256], octets[2 * sizeof data.cuddata + 2] = "-";
+    memset(&it, 0, sizeof it);
+    memset(&of_ends, 0, sizeof of_ends);
+    memset(&data, 0, sizeof data);
+    if (ioctl(circuits[slot], SIOCX25GFACILITIES, &it)) failed("facilities");
+    if (ioctl(circuits[slot], SIOCX25GDTEFACILITIES, &of_ends)) failed("extensions");
+    if (ioctl(circuits[slot], SIOCX25GCALLUSERDATA, &data)) failed("user data");
+    for (unsigned i = 0; i < data.cudlength; i++) sprintf(octets + 2 * i, "%02x", data.cuddata[i]);
+    say("given %x %x %s %s %s", it.throughput, it.reverse, digits_of(calling, of_ends.calling_ae, of_ends.calling_len),
+        digits_of(called, of_ends.called_ae, of_ends.called_len), octets);
+}
+
 static void send_message(int slot, int length, int seed) {
     unsigned char *octets = malloc(length + 1);
     for (int i = 0; i < length; i++) octets[i] = i * 7 + seed;
@@ -328,6 +352,7 @@ static void obey(char **word) {
     else if (!strcmp(word[0], "qbit")) { is_qbit = atoi(word[1]); say("set"); }
     else if (!strcmp(word[0], "listen")) start_to_listen(word[1]);
     else if (!strcmp(word[0], "call")) start_to_call(word + 1);
+    else if (!strcmp(word[0], "given")) tell_given(atoi(word[1]));
     else if (!strcmp(word[0], "send")) send_message(atoi(word[1]), atoi(word[2]), atoi(word[3]));
     else if (!strcmp(word[0], "interrupt")) send_interrupt(atoi(word[1]), atoi(word[2]));
     else if (!strcmp(word[0], "close")) is_closing[atoi(word[1])] = 1;

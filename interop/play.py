@@ -31,6 +31,8 @@ CHANNELS = 4
 # select (neither alone), address extensions of the calling and of the called end.
 REVERSE = "81"
 OPTIONS = list(itertools.product(("0", "bb"), ("0", REVERSE), ("-", "12345"), ("-", "678")))
+# Those of calls by the station: reverse charging and fast select alone, too.
+GIVEN = list(itertools.product(("0", "bb"), ("0", "1", "80", REVERSE), (("-", "-"), ("12345", "678"))))
 # The addresses that the guest listens at: with nothing set, with the Q bit shown to its user, with these sizes and windows.
 PLAIN, QUALIFIED, LARGE = 222, 333, 444
 LISTENERS = (("", PLAIN, ""), ("qbit 1", QUALIFIED, "qbit 0"), ("facilities 8 8 3 3", LARGE, "facilities 0 0 0 0"))
@@ -109,9 +111,9 @@ def channel_of(notice):
     return int(re.search(r" ch=(\d+)", notice)[1])
 
 
-def call(it, words="", address=PLAIN):
+def call(it, words="", address=PLAIN, given="", data="c0ffee"):
     """Has us call the guest; answers channel, slot, and what both say of the call."""
-    ours, guests = it.both(lambda: it.ours.tell(f"dce call {address} 111 c0ffee{words}"), "dce connected", "accepted")
+    ours, guests = it.both(lambda: it.ours.tell(f"dce {given}call {address} 111 {data}{words}"), "dce connected", "accepted")
     return channel_of(ours), int(guests.split()[1]), ours, guests
 
 
@@ -193,6 +195,38 @@ def equipped(it):
 def fast_select(it):
     """a call by the kernel with fast select, 128 octets of user data"""
     taken(it, ("0", REVERSE, "-", "-"), pattern(128, 7))
+    it.order("options 0 0 - -", "set")
+
+
+def gives(it, slot, *words):
+    """Whether the kernel has what we gave with our call or our acceptance."""
+    line = it.order(f"given {slot}", "given ")
+    if line.split()[1:] != list(words):
+        raise Missing(f"the kernel has otherwise what was given as {' '.join(words)}: {line}")
+
+
+def giving(it):
+    """16 calls by the station, with each of these facilities"""
+    for throughput, reverse, extensions in GIVEN:
+        field = b"".join(facilities_of(throughput, reverse, *extensions)).hex() or "-"
+        channel, slot, _, _ = call(it, given=f"with {field} - ")
+        gives(it, slot, throughput, reverse, *extensions, "c0ffee")
+        clear(it, channel, slot)
+
+
+def giving_data(it):
+    """128 octets of user data with a call, an acceptance, a clearing"""
+    data = pattern(128, 7)
+    channel, slot, _, _ = call(it, given="with 0180 - ", data=data)
+    gives(it, slot, "0", "80", "-", "-", data)
+    it.both(lambda: it.ours.tell(f"dce with - {data} clear {channel}"), f"dce cleardone ch={channel}", f"closed {slot} ")
+    it.order(f"options 0 {REVERSE} - -", "set")
+    there = it.guest.mark()
+    channel = channel_of(it.heed("call 111 222 aabb", "dce incoming"))
+    it.ours.tell(f"dce with - {data} accept {channel}")
+    slot = int(it.guest.hear(there, "connected", it.patience)[0].split()[1])
+    gives(it, slot, "0", REVERSE, "-", "-", data)
+    clear(it, channel, slot)
     it.order("options 0 0 - -", "set")
 
 
@@ -291,7 +325,7 @@ def again(it):
     clear(it, channel, slot)
 
 
-ROWS = (set_up, called, negotiated, calls, equipped, fast_select, messages, at_once, q_bit, interrupts, resets)
+ROWS = (set_up, called, negotiated, calls, equipped, fast_select, giving, giving_data, messages, at_once, q_bit, interrupts, resets)
 # Played where there is a link that may end, and where no frame of it is lost alone.
 LINK_ROWS, LAST_ROWS = (again,), (too_long,)
 

@@ -11,7 +11,8 @@ _x25() {
             dump:* | convert:* | pcap:* | chart:* | losses:* | bridge:* | pad:*) words=$(_x25_options "${COMP_WORDS[@]:0:2}") ;;
             sim:--k | station:--k | judge:--k) words="1 2 3 4 5 6 7" ;;
             sim:--n2 | station:--n2) words="1 10 255" ;;
-            sim:--channels | station:--channels) words="1 2 3 4 5 6 7 8 9 10 11 12 13 14 15 16" ;;
+            sim:--channels) words="1 2 4 16" ;;
+            station:--channels) words="1 16 255 4095" ;;
             sim:*) words="--tap --events --down --loose --long --say-sizes --wide --k --n2 --channels --help" ;;
             station:station) words="dte dce --help" ;;
             station:*) words="--long --say-sizes --wide --k --n2 --channels --clock --t1 --t3 --t20 --t21 --t22 --t23 --help" ;;

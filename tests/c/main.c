@@ -92,6 +92,7 @@ static void try_refusals(void)
     expect("a bad end", x25_new(station, 2, one_channel), X25_BAD_SETTING);
     expect("a bad window", x25_new(station, X25_DTE, (x25_settings){.k = 8, .n2 = 10, .channels = 1}), X25_BAD_SETTING);
     expect("no channel", x25_new(station, X25_DTE, (x25_settings){.k = 7, .n2 = 10}), X25_BAD_SETTING);
+    expect("too many channels", x25_new(station, X25_DTE, (x25_settings){.k = 7, .n2 = 10, .channels = 4096}), X25_BAD_SETTING);
     expect("a setting of a later version", x25_new(station, X25_DTE, (x25_settings){.k = 7, .n2 = 10, .channels = 1, .more = 1}), X25_BAD_SETTING);
     expect("new", x25_new(station, X25_DTE, one_channel), 0);
     expect("new again", x25_new(station, X25_DTE, one_channel), X25_IN_USE);
@@ -136,6 +137,36 @@ static void try_stretch(uint16_t channel, bool is_open)
     expect("its restarts", (uint32_t)name.restarts, is_open ? 1 : 7);
     expect("its clears", (uint32_t)name.clears, is_open ? 0 : 8);
     expect("its resets", (uint32_t)name.resets, is_open ? 0 : 9);
+}
+
+/* A call on the highest of all channels there are, and a message each way. */
+static void try_many(void)
+{
+    const x25_settings settings = {.k = 7, .n2 = 10, .channels = 4095};
+    uint16_t channel = 0;
+    expect("new", x25_new(&dte.station, X25_DTE, settings), 0);
+    expect("new", x25_new(&dce.station, X25_DCE, settings), 0);
+    expect("connect", x25_connect(&dte.station), 0);
+    take(&dte);
+    deliver_all();
+    expect("call", x25_call(&dte.station, "1", 1, "2", 1, NULL, 0, no_sizes, &channel), 0);
+    take(&dte);
+    expect("its channel", channel, 4095);
+    deliver_all();
+    expect("accept", x25_accept(&dce.station, channel, no_sizes), 0);
+    take(&dce);
+    deliver_all();
+    try_stretch(channel, true);
+    try_stretch(channel - 1, false);
+    expect("send", x25_send(&dte.station, channel, false, (const uint8_t *)"hi", 2), 0);
+    take(&dte);
+    expect("send", x25_send(&dce.station, channel, true, (const uint8_t *)"ho", 2), 0);
+    take(&dce);
+    deliver_all();
+    expect("idle", x25_idle(&dte.station) && x25_idle(&dce.station), true);
+    expect("no such channel", x25_send(&dte.station, 4096, false, (const uint8_t *)"hi", 2), X25_NO_CHANNEL);
+    x25_free(&dte.station);
+    x25_free(&dce.station);
 }
 
 /* A call between two new stations, of which the DTE says sizes: its facilities are packet sizes of 128 octets and windows of 2. */
@@ -500,6 +531,7 @@ int main(void)
     expect("held", dte.station.is_open || dce.station.is_open, false);
     fwrite(dte.told, 1, dte.length, stdout);
     fwrite(dce.told, 1, dce.length, stdout);
+    try_many();
     try_sizes();
     try_forms(true);
     try_forms(false);

@@ -173,7 +173,7 @@ class Python(unittest.TestCase):
             self.assertEqual(station.timer, x25.Timer.OFF)
         with self.assertRaisesRegex(x25.Refused, "16: no station is held"):
             station.connect()
-        for settings in ({"k": 8}, {"k": 256}, {"channels": -1}, {"n2": 0}):
+        for settings in ({"k": 8}, {"k": 256}, {"channels": -1}, {"channels": 0}, {"channels": 4096}, {"channels": 65537}, {"n2": 0}):
             with self.assertRaisesRegex(x25.Refused, "14: "):
                 x25.Station(x25.DTE, library=LIBRARY, **settings)
 

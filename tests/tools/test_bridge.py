@@ -110,7 +110,7 @@ class Forms(unittest.TestCase):
         self.assert_says("come to more than 1", "dte", "--stdio", "--lose", "0.6", "--damage", "0.6")
         self.assert_says("'9' is no number from 1 to 7", "dte", "--stdio", "--k", "9")
         self.assert_says("'0' is no number from 1 to 255", "dte", "--stdio", "--n2", "0")
-        self.assert_says("'17' is no number from 1 to 16", "dte", "--stdio", "--channels", "17")
+        self.assert_says("'4096' is no number from 1 to 4095", "dte", "--stdio", "--channels", "4096")
         self.assert_says("name one line", "dte", "--stdio", "--xot", "there")
         self.assert_says("XOT loses and damages nothing", "dte", "--xot", "there", "--lose", "0.1")
         self.assert_says("in brackets", "dte", "--connect", "::1:7000")
@@ -610,13 +610,13 @@ class Joined(ToolCase):
                 self.assertEqual([event for _, event in self.asked()], ["dte connect"])
 
     def test_a_call_on_a_channel_that_there_is_not(self):
-        for channel, words in ((5, "--channels 5 would have it"), (300, "a station has at most 16")):
+        for channel in (5, 300, 4095):
             with self.subTest(channel):
                 call = line(sealed(bytes([3, 0, 0x10 | channel >> 8, channel & 255]) + bytes.fromhex("0b00000000")))
                 self.begin(f". off idle\n= {call}\n. off idle\n= {call}\n. off idle\n", "--channels", "4")
                 self.sends(call)
                 self.sends(call)
-                self.assertEqual(self.end()[1], [f"# a call came on channel {channel}, and there are 4: nothing answers it; {words}"])
+                self.assertEqual(self.end()[1], [f"# a call came on channel {channel}, and there are 4: nothing answers it; --channels {channel} would have it"])
 
     def test_a_frame_that_the_station_does_not_take(self):
         self.begin(f". off idle\n= {UA}\n? 60\n. off idle\n= {RESTART}\ndte linkup\n. off idle\n")

@@ -19,6 +19,8 @@ LATER = re.compile(
     r"|test|mul(?:ld|dq)|m(?:ax|in)(?:sb|uw|ud|sd)|(?:ins|ext)r[bdq]|mov[sz]x\w+|ackusdw|cmp(?:eqq|gtq|[ei]str[im])|blend(?:w|vb))|blendv?p[sd]|round[ps][sd]"
     r"|dpp[sd]|mpsadbw|phminposuw|insertps|extractps|movntdqa"
 )
+# The sources of the exports, in the order of the header.
+SOURCES = ("lib", "calls", "timing", "telling", "standing", "refusal_text")
 NUMBERS = {"u8": "uint8_t", "u16": "uint16_t", "u32": "uint32_t", "u64": "uint64_t", "usize": "size_t", "bool": "bool"}
 STRUCTURES = {"Settings": "x25_settings", "StretchName": "x25_stretch_name", "Sizes": "x25_sizes", "Given": "x25_given", "Event": "x25_event", "Times": "x25_times"}
 # The parameters that are text in C, and not octets.
@@ -66,7 +68,7 @@ def fields_of(text):
 def exported():
     """The functions that the crate exports, in order, as C declares them."""
     found = []
-    for name, parameters, result, clause in EXPORT.findall(support.read("crates/x25_c/src/lib.rt").decode()):
+    for name, parameters, result, clause in EXPORT.findall("".join(support.read(f"crates/x25_c/src/{name}.rt").decode() for name in SOURCES)):
         texts = [parameter(" ".join(text.split())) for text in parameters.split(",") if text.strip()]
         if KEPT in clause:
             texts = ["const x25_station *station" if text == "x25_station *station" else text for text in texts]
@@ -124,8 +126,8 @@ class Header(unittest.TestCase):
             self.assertEqual((x25names.REFUSALS | others)[int(number)], text)
         numbers = numbers_of(self.HEADER.partition("/* Why a call is refused.")[2])
         self.assertEqual(sorted(numbers.values()), [int(number) for number, _ in texts])
-        source = support.read("crates/x25_c/src/lib.rt").decode()
-        for name, number in re.findall(r"^const (?!VERSION)(\w+): u32 = (\d+);", source, re.MULTILINE):
+        source = support.read("crates/x25_c/src/numbers.rt").decode()
+        for name, number in re.findall(r"^pub\(crate\) const (\w+): u32 = (\d+);", source, re.MULTILINE):
             self.assertEqual(numbers[name], int(number))
 
 

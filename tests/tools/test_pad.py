@@ -93,11 +93,23 @@ class Half(unittest.TestCase):
             ("f-123D hi", "with 0180 - call 123 - 01000000206869"),
             ("G07-123", "with 0307 - call 123 - 01000000"),
             ("r,F,g1234-123", "with 0181471234 - call 123 - 01000000"),
+            ("123D" + 12 * "x", "call 123 - 01000000" + 12 * "78"),
+            ("R,F-123D" + 124 * "x", "with 0181 - call 123 - 01000000" + 124 * "78"),
         ):
             with self.subTest(typed):
                 self.begin()
                 self.types(f"{typed}\r")
                 self.assertEqual(self.asked(), [f"dte {asked}"])
+
+    def test_more_text_than_a_call_has_room_for(self):
+        for typed, count in (("123D" + 13 * "x", 13), ("G07-123D" + 13 * "x", 13), ("R-123D" + 7 * "\u00e9", 14), ("F-123D" + 125 * "x", 125)):
+            with self.subTest(typed):
+                self.begin()
+                self.seen()
+                for octet in f"{typed}\r".encode():
+                    self.pad.types(octet)
+                self.assertEqual((self.asked(), self.pad.stage, self.pad.status), ([], "free", 1))
+                self.assertIn(f"ERR  the text has {count} octets: 12 at most, with fast select 124", self.seen())
 
     def test_what_comes_beside(self):
         self.begin()
@@ -359,12 +371,12 @@ class Two(ToolCase):
                 caller = self.begin("dte", near, f"127.0.0.1:{port}", "--address", "4567")
                 host.stdin.write("Welcome\nto all\n")
                 host.stdin.close()
-                caller.stdin.write("R,G07-123D hi\nhello\nhost")
+                caller.stdin.write(f"R,F,G07-123D{124 * 'h'}\nhello\nhost")
                 caller.stdin.close()
                 self.assertEqual((caller.stdout.read(), caller.wait(60)), ("Welcome\nto all\n", 0))
                 self.assertEqual((host.stdout.read(), host.wait(60)), ("hello\nhost", 0))
                 self.assertEqual(re.findall("^[A-Z0-9].*", caller.stderr.read(), re.MULTILINE), ["COM", "CLR CONF"])
-                self.assertIn(f"4567 COM\n# {sizes}reverse charging, closed user group selection 07\nCLR DTE C:0 D:0\n", host.stderr.read())
+                self.assertIn(f"4567 COM\n# {sizes}reverse charging and fast select without restriction, closed user group selection 07\nCLR DTE C:0 D:0\n", host.stderr.read())
 
     def test_long_text_is_whole(self):
         host, port = self.host("--quiet", "60")

@@ -231,6 +231,19 @@ class Tshark(ToolCase):
             trace = b"".join(line for line in (case.input + case.output).splitlines(True) if line[:1] in (b"<", b">"))
             self.check(trace, support.decode(trace, "--wide"), least)
 
+    @support.needs_program
+    def test_each_facility_that_users_give(self):
+        """With a call, its acceptance and its clearing; packet and window sizes before a marker are the station's own."""
+        script = ["drain 9"]
+        for it in [*(it for it in corpus.FACILITIES if it[:2] not in ("42", "43")), "000f420808", "0000430303", "00ffcb0304abcd"]:
+            for line in (f"dte with {it} - d call 1 2 c0", f"dce with {it} c0ffee d accept 1", f"dte with {it} c0ffee clear 1"):
+                script += [line, "drain 9"]
+        script += ["dte call 1 2 - 8 9 3 4", "drain 9", f"dce with 0101 {128 * 'c0'} accept 1 7 8 2 3", "drain 9"]
+        done = subprocess.run([support.PROGRAM, "sim", "--wide", "--tap"], input="\n".join(script).encode(), capture_output=True, timeout=60)
+        self.assertEqual((done.returncode, done.stderr), (0, b""))
+        trace = b"".join(line for line in done.stdout.splitlines(True) if line[:1] in (b"<", b">"))
+        self.check(trace, support.decode(trace, "--wide"), 400)
+
     def test_facilities_have_their_names(self):
         table = subprocess.run(["tshark", "-G", "values"], capture_output=True, text=True, timeout=60, check=True).stdout
         named = {}

@@ -6,9 +6,11 @@ The octets of each packet and frame that was read are built again from its text,
 import random
 import subprocess
 import unittest
+import unittest.mock
 
 import corpus
 import support
+import with_runs
 from x25tools.x25lines import fcs
 
 # Packets of which each cut is tried, and each with more after it: in other forms, and one of each in the form that a station writes.
@@ -161,28 +163,13 @@ if __name__ == "__main__":
 class Given(unittest.TestCase):
     """What users give beside calls, acceptances and clearings goes out as they gave it."""
 
-    ROUNDS = 100
-    # Packet and window sizes before a marker are the station's own.
-    MAY = [it for it in corpus.FACILITIES if it[:2] not in ("42", "43")]
-    BEHIND = ("", "", "000f420808", "00ffcb0304abcd")
+    RUNS = 4
 
     def test_random_lines_come_back(self):
-        dice, script, given = random.Random(11), ["drain 9"], []
-        for _ in range(self.ROUNDS):
-            for end, name in (("dte", "CALL"), ("dce", "ACCEPT"), (dice.choice(("dte", "dce")), "CLEAR")):
-                facilities = "".join(dice.choices(self.MAY, k=dice.randrange(5))) + dice.choice(self.BEHIND) or "-"
-                user = dice.randbytes(dice.choice((0, 1, 16) if name == "CALL" else (0, 1, 16, 128))).hex() or "-"
-                d = name != "CLEAR" and dice.random() < 0.5
-                rest = f"- {'d ' * d}call 123 4567 {user}" if name == "CALL" else f"{user} {'d ' * d}{name.lower()} 1"
-                script += [f"{end} with {facilities} {rest}", "drain 9"]
-                given.append((name, facilities, user, str(int(d))))
-        done = subprocess.run([support.PROGRAM, "sim", "--wide", "--tap"], input="\n".join(script), capture_output=True, text=True, timeout=60)
-        self.assertEqual((done.returncode, done.stderr), (0, ""))
-        trace = "".join(line for line in done.stdout.splitlines(True) if line[0] in "<>")
-        said = []
-        for line in support.decode(trace.encode(), "--wide"):
-            name, *words = line.partition(" | ")[2].removesuffix(" ~ wide").split(" ")
-            if name in ("CALL", "ACCEPT", "CLEAR"):
-                fields = dict(word.split("=") for word in words)
-                said.append((name, fields.get("fac", "-"), fields.get("data", "-"), fields.get("D", "0")))
-        self.assertEqual(said, given)
+        for seed in range(self.RUNS):
+            self.assertEqual(with_runs.faults(support.PROGRAM, seed)[0], [], f"seed {seed}")
+
+    def test_what_does_not_come_back_is_told(self):
+        for name, other in (("own_facilities", lambda numbers, but: b""), ("HEARS", {">": "dte", "<": "dce"}), ("refused", with_runs.given)):
+            with self.subTest(name), unittest.mock.patch.object(with_runs, name, other):
+                self.assertNotEqual(with_runs.faults(support.PROGRAM, 0)[0], [])

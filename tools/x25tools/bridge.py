@@ -93,7 +93,7 @@ IN_VAIN = "! 61"
 MOST_UNSENT = 1 << 20
 # The bridge ends after a time without a frame, this many times T1.
 QUIET_T1S = 5
-MOST_CHANNELS = 16
+MOST_CHANNELS = 4095
 OTHER = {">": "<", "<": ">"}
 OTHER_END = {"dte": "dce ", "dce": "dte "}
 CALL, UA, DM = 0x0B, 0x63, 0x0F
@@ -312,8 +312,9 @@ class Bridge:
         channel = called_channel(octets)
         if channel is not None and channel > self._options.channels and channel not in self._unknown:
             self._unknown.add(channel)
-            hint = f"--channels {channel} would have it" if channel <= MOST_CHANNELS else f"a station has at most {MOST_CHANNELS}"
-            self._user.note(f"a call came on channel {channel}, and there are {self._options.channels}: nothing answers it; {hint}")
+            self._user.note(
+                f"a call came on channel {channel}, and there are {self._options.channels}: nothing answers it; --channels {channel} would have it"
+            )
 
     def _make_room(self) -> None:
         """What was refused as too much waits is asked again: a frame came, or the user did something else than send."""
@@ -470,7 +471,7 @@ def add_station_words(parser: argparse.ArgumentParser) -> None:
     parser.add_argument("end", choices=["dte", "dce"], help="which end the station is")
     parser.add_argument("--k", type=within(int, 1, 7), metavar="N", help="the window of the link, 1 to 7 (7)")
     parser.add_argument("--n2", type=within(int, 1, 255), metavar="N", help="how often a command is sent again, 1 to 255 (10)")
-    parser.add_argument("--channels", type=within(int, 1, MOST_CHANNELS), default=1, metavar="N", help="logical channels, 1 to 16 (1)")
+    parser.add_argument("--channels", type=within(int, 1, MOST_CHANNELS), default=1, metavar="N", help="logical channels, 1 to 4095 (1)")
     parser.add_argument("--long", action="store_true", help="a call may have up to 128 octets of user data")
     parser.add_argument("--no-wide", dest="wide", action="store_false", help="read packets only in the form that a station writes")
     parser.add_argument("--t1", type=within(float, 0.001, 86_400), default=1, metavar="SECONDS", help="how long T1 is (1)")

@@ -25,7 +25,6 @@ class Station:
     def __init__(self, path: str, end: str, times: Mapping[str, int | None], **settings: Any) -> None:
         self._path, self._end, self._settings = path, end, settings
         self._times = {name: time for name, time in times.items() if time is not None}
-        self._channels = range(1, settings.get("channels", 1) + 1)
         self._station: x25.Station | None = None
 
     def __enter__(self) -> Station:
@@ -45,6 +44,8 @@ class Station:
             raise BadInput(str(error)) from error
         self._station.set_times(self._station.standard_times()._replace(**self._times))
         self._said: int | None = None
+        # The channels on which something is awaited: nothing begins to be but with an event of the channel.
+        self._awaited: set[int] = set()
         self.first = self._told([], [], None)
 
     def _held(self) -> x25.Station:
@@ -80,6 +81,7 @@ class Station:
             if refusal.number == 70:
                 raise BadInput("no memory") from refusal
             return self._told([], [], "? 60" if refusal.number == 60 else f"! {refusal.number}")
+        self._awaited.update(event.channel for event in answer.events)
         passed = [self._timeout(event) for event in answer.events if event.kind is x25.Kind.TIMEOUT]
         frames = [FrameLine(ENDS[self._end][1], octets) for octets in answer.frames]
         return self._told(passed + [line.rstrip("\n") for line in lines], frames, None)
@@ -92,7 +94,8 @@ class Station:
         """An answer, with what a mark says."""
         station = self._held()
         is_idle = station.is_idle
-        awaits = is_idle and (station.is_restarting or any(map(station.awaits, self._channels)))
+        self._awaited = {channel for channel in self._awaited if station.awaits(channel)}
+        awaits = is_idle and (station.is_restarting or bool(self._awaited))
         return Answer(notices, frames, refusal, "", is_idle, awaits, station.next())
 
     def _asked(self, event: str) -> x25.Answer:

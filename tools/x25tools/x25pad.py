@@ -72,6 +72,8 @@ LAST = 5
 REQUEST = r"(?:[RF]|G(?:\d\d){1,2})"
 SELECTION = re.compile(rf"(?:({REQUEST}(?:,{REQUEST})*)-)?(\d{{1,15}})(?:[DP](.*))?", re.ASCII | re.IGNORECASE)
 CHARGED, FAST, GROUPS = 0x01, 0x80, {1: 0x03, 2: 0x47}
+# How many octets of text a call has room for, and with fast select.
+MOST_TEXT, MOST_FAST = 12, 124
 HELP = """ADDRESS [D TEXT]    calls it               CLR         clears the call; ICLR asks for that
 R,F,G01-ADDRESS     with reverse charging, fast select, in the closed user group 01
 STAT                FREE or ENGAGED        INT, RESET  sends an interrupt, empties the circuit
@@ -289,9 +291,13 @@ class Pad:
     def _call(self, asked: bytes, called: str, text: str) -> str:
         if self.stage != "free" or not self.is_up:
             return "ERR  a call is there" if self.is_up else "ERR  the link isn't up"
+        octets = text.encode()
+        most = MOST_FAST if asked[:1] == bytes([facilities.CHARGING]) and asked[1] & FAST else MOST_TEXT
+        if len(octets) > most:
+            return f"ERR  the text has {len(octets)} octets: {MOST_TEXT} at most, with fast select {MOST_FAST}"
         self.stage, self._channel = "calling", 0
         given = f"with {asked.hex()} - " if asked else ""
-        self._ask(f"{given}call {called} {self._address} 01000000{text.encode().hex()}")
+        self._ask(f"{given}call {called} {self._address} 01000000{octets.hex()}")
         return ""
 
     def may_clear(self) -> bool:
@@ -550,7 +556,7 @@ def main() -> int:
     pad = Pad(options.end, options.address, {SIGNALS: 5, **options.set}, face)
     if options.end == "dte" and not any(word.startswith("--xot") for word in others):
         pad.asks += b"dte connect\n"
-    command = [sys.executable, os.path.join(decoding.FOLDER, "bridge.py"), options.end, *others]
+    command = [sys.executable, os.path.join(decoding.FOLDER, "bridge.py"), options.end, "--long", *others]
     signal.signal(signal.SIGTERM, lambda *_: sys.exit(143))
     # In a session of its own CTRL-C doesn't end it first.
     with subprocess.Popen(command, stdin=subprocess.PIPE, stdout=subprocess.PIPE, stderr=subprocess.STDOUT, start_new_session=True) as child:

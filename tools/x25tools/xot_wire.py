@@ -215,13 +215,13 @@ class Xot(wires.Wire):
     def _is_given_a_channel(self, it: Circuit, packet: bytes) -> bool:
         """Finds a channel for a CALL that came; without one it is cleared."""
         self._coming.remove(it)
-        free = set(range(1, self._channels + 1)) - set(self._circuits) - self._gone
-        if not free or not self._link.is_up:
+        free = next((h for h in range(1, self._channels + 1) if h not in self._circuits and h not in self._gone), None)
+        if free is None or not self._link.is_up:
             it.send(packet[:2] + bytes([CLEAR, CONGESTION, NO_CHANNEL]))
             self._ending.append(it)
             self._note("a call came, and no channel is free: it is cleared")
             return False
-        it.channel = min(free)
+        it.channel = free
         self._circuits[it.channel] = it
         self._note(f"a connection has come from {it.connection.other()}, with a call on channel {it.channel}")
         return True

@@ -182,9 +182,10 @@ class _Slot(ctypes.Structure):
 
 class _Settings(ctypes.Structure):
     _fields_ = [
-        *((name, ctypes.c_uint8) for name in ("k", "n2", "channels")),
+        *((name, ctypes.c_uint8) for name in ("k", "n2")),
+        ("channels", ctypes.c_uint16),
         *((name, ctypes.c_bool) for name in ("long_data", "say_sizes", "wide")),
-        ("later", ctypes.c_uint16),
+        ("later", ctypes.c_uint8),
         ("more", ctypes.c_uint64),
     ]
 
@@ -303,7 +304,7 @@ def load(path: str | None = None) -> ctypes.PyDLL:
 
 
 class Station:
-    """A station, DTE or DCE: window k, n2 tries of a command, 1 to 16 channels, whether a call may have 128 octets of user data,
+    """A station, DTE or DCE: window k, n2 tries of a command, 1 to 4,095 channels, whether a call may have 128 octets of user data,
     whether calls and acceptances say packet sizes and windows, as X.25 over TCP asks for, and whether packets are read in all the forms
     that X.25 lets equipment send."""
 
@@ -328,7 +329,7 @@ class Station:
         self._receive_all, self._take_all = self._library.x25_receive_all, self._library.x25_take_all
         self._take_first = functools.partial(self._take_all, self._slot, _size(0), self._items_at, _MOST, self._room, _SPACE)
         self._end = end
-        self._check(0 if all(0 <= setting < 256 for setting in (end, k, n2, channels)) else 14)
+        self._check(0 if all(0 <= setting < 256 for setting in (end, k, n2)) and 0 <= channels < 65536 else 14)
         self._check(self._library.x25_new(self._slot, end, _Settings(k, n2, channels, long_data, say_sizes, wide)))
 
     def __enter__(self) -> Station:

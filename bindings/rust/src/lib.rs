@@ -25,14 +25,14 @@ pub enum End {
     Dce,
 }
 
-/// The window, 1 to 7; how often a command is sent again, 1 to 255; how many channels there are, 1 to 16; whether a call may have
+/// The window, 1 to 7; how often a command is sent again, 1 to 255; how many channels there are, 1 to 4,095; whether a call may have
 /// 128 octets of user data in place of 16; whether calls and acceptances say packet sizes and windows, as X.25 over TCP asks for;
 /// and whether packets are read in all the forms that X.25 lets equipment send.
 #[derive(Clone, Copy, Debug, PartialEq, Eq)]
 pub struct Settings {
     pub k: u8,
     pub n2: u8,
-    pub channels: u8,
+    pub channels: u16,
     pub long_data: bool,
     pub say_sizes: bool,
     pub wide: bool,

@@ -18,11 +18,11 @@ pub struct Slot {
 pub struct Settings {
     k: u8,
     n2: u8,
-    channels: u8,
+    channels: u16,
     long_data: bool,
     say_sizes: bool,
     wide: bool,
-    later: u16,
+    later: u8,
     more: u64,
 }
 
@@ -154,7 +154,7 @@ extern "C" {
     pub fn x25_facilities(slot: *const Slot, i: usize, room: *mut u8, size: usize) -> usize;
     pub fn x25_entries(slot: *const Slot) -> usize;
     pub fn x25_entry(
-        slot: *mut Slot,
+        slot: *const Slot,
         i: usize,
         text: *mut u8,
         size: usize,

@@ -4,7 +4,6 @@ ghost use Rattle.x25.specs.Tasks.{WritesScript, is_plain, place_program, program
 ghost use Rattle.x25.specs.Tasks.{times_in};
 ghost use Rattle.x25_io.specs.Loose.{asked_text};
 ghost use Rattle.x25_io.specs.code.Runs.{OfInput, Runs};
-ghost use Rattle.x25_settings.specs.Options as options;
 ghost use Rattle.x25_settings.specs.Words.{AreInRange};
 ghost use Rattle.x25_sim.specs.code.Stream as simulating;
 ghost use Rattle.x25_sim.specs.laws.WritesRun.{WritesRun};
@@ -64,7 +63,7 @@ fn answer_lines<R: Source, W: Sink>(
     reader: &mut R,
     writer: &mut W,
 ) -> Result<u8, Fault>
-    requires { options.AreInRange place.station }
+    requires { AreInRange (Task.Station place) }
     ensures { Runs R.Source W.Sink (place_program place) reader.old reader.new writer.old writer.new result }
 {
     let end = role_of(place.end);
@@ -83,7 +82,7 @@ fn simulate<P: Reporter, R: Source, W: Sink>(
     reader: &mut R,
     writer: &mut W,
 ) -> Result<u8, Fault>
-    requires { options.AreInRange simulation.station }
+    requires { AreInRange (Task.Sim simulation) }
     ensures runs { Runs R.Source W.Sink
         (simulating.program (settings_in simulation.station) simulation.down (shown_in simulation) simulation.loose)
         reader.old reader.new writer.old writer.new result }

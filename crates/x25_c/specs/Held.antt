@@ -1,5 +1,5 @@
 -- What a station that is held last answered, as C takes it (profile).
-use Rattle.std.specs.Prelude.{◌≡◌, ℕ, List, [], ◌∷◌, ◌++◌, map, get_or, Option, Some, None}
+use Rattle.std.specs.Prelude.{◌≡◌, ℕ, List, [], ◌∷◌, ◌++◌, map, get_or}
 use Rattle.x25_station.specs.declared.step.Step.{Step}
 use Rattle.x25_station.specs.declared.timer.Timer.{Timer}
 use Rattle.x25_station.specs.declared.timer.Timer.TheVariants.{Off, Begins, GoesOn}
@@ -83,20 +83,3 @@ channel_of h = first_channel (map plain_entry h.step.entries.items)
 -- one of a list; none of the octets where there is none
 abbrev pub in_place : List (List ℕ) → ℕ → List ℕ
 in_place xs i = get_or xs i []
-
--- all but the line of an entry is as before
-pub record IsSame (old new : Held) : Type 0 where
-  pub end : new.end ≡ old.end
-  pub station : new.station ≡ old.station
-  pub step : new.step ≡ old.step
-  pub earlier : new.earlier ≡ old.earlier
-  pub waits : new.waits ≡ old.waits
-  pub clock : new.clock ≡ old.clock
-  pub time : new.time ≡ old.time
-  pub passed : new.passed ≡ old.passed
-
-abbrev pub AreSame : Option Held → Option Held → Type 0
-AreSame None None = Unit {0}
-AreSame None (Some new) = ⊥
-AreSame (Some old) None = ⊥
-AreSame (Some old) (Some new) = IsSame old new

@@ -1,5 +1,5 @@
 //! A station, and what it last answered.
-ghost use Rattle.std.specs.Prelude.{◌≡◌, ◌≤◌, ◌+◌, None, OnErr, OnOk, length, slice_get};
+ghost use Rattle.std.specs.Prelude.{◌≡◌, ◌≤◌, ◌+◌, [], None, IfOk, OnErr, OnOk, length, slice_get, unwrap_or};
 ghost use Rattle.std.specs.Option.{option_map};
 ghost use Rattle.x25_bits.specs.declared.role.Role.{Role};
 ghost use Rattle.x25_console.specs.Commands.{command_asked};
@@ -30,7 +30,7 @@ use x25_console::{read_user, station_command};
 use x25_script::{Command, HexDigits, ScriptTaker, read_command};
 use x25_station::{Entry, Role, Station, StationError, Step, Timer};
 use x25_text::Text;
-use x25_transcript::push_entry;
+use x25_transcript::entry_line;
 
 /// A station, which end it is, what it answered to its last call, nothing where that was refused, and whether memory
 /// was refused for the pull behind that. Of frames that came in one call, `earlier` is what all but the last were
@@ -45,11 +45,10 @@ pub struct Held {
     pub clock: Option<Clock>,
     pub time: u64,
     pub passed: Option<Passed>,
-    pub(crate) line: Text,
 }
 
 impl Held {
-    pub(crate) fn new(alloc: Global, end: Role, station: Station, step: Step, line: Text) -> Held
+    pub(crate) fn new(alloc: Global, end: Role, station: Station, step: Step) -> Held
         requires empty { IsEmpty step }
         requires timer { step.timer ≡ Timer.Off }
         ensures { (cfg : Cfg) → FitsStation (settings_from end cfg) station new_station →
@@ -64,7 +63,6 @@ impl Held {
             clock: None,
             time: 0,
             passed: None,
-            line,
         }
     }
 
@@ -220,7 +218,7 @@ impl Held {
         ensures set { OnOk result (Sets self.old self.new times) }
         ensures refused { OnErr result (self.new ≡ self.old) }
     {
-        let mut clock = Clock::new(alloc, times)?;
+        let mut clock = Clock::new(alloc, times, self.station.channels())?;
         // It heeds the step of the last answer, as if that had no entries and T1 began there where it runs.
         let entries = replace(&mut self.step.entries, Vec::new(alloc));
         let timer = self.step.timer;
@@ -355,22 +353,13 @@ impl Held {
         }
     }
 
-    /// Writes the line of entry `i` into the line; nothing where there is none. Err: no memory.
-    pub(crate) fn write(&mut self, i: usize) -> Result<(), AllocError>
-        ensures line { OnOk result (self.new.line ≡ in_place (lines_of self.old) i) }
-        ensures station { self.new.station ≡ self.old.station }
-        ensures step { self.new.step ≡ self.old.step }
-        ensures earlier { self.new.earlier ≡ self.old.earlier }
-        ensures end { self.new.end ≡ self.old.end }
-        ensures waits { self.new.waits ≡ self.old.waits }
-        ensures clock { self.new.clock ≡ self.old.clock }
-        ensures time { self.new.time ≡ self.old.time }
-        ensures passed { self.new.passed ≡ self.old.passed }
+    /// The line of entry `i`, where there is one. Err: no memory.
+    pub(crate) fn line(&self, alloc: Global, i: usize) -> Result<Option<Text>, AllocError>
+        ensures { IfOk result (λ line. unwrap_or line [] ≡ in_place (lines_of self.now) i) }
     {
-        self.line.clear();
         match in_both(&self.earlier.entries, &self.step.entries, i) {
-            Some(entry) => push_entry(self.end, entry, &mut self.line),
-            None => Ok(()),
+            Some(entry) => Ok(Some(entry_line(alloc, self.end, entry)?)),
+            None => Ok(None),
         }
     }
 }

@@ -10,7 +10,6 @@ ghost use Rattle.x25_c.specs.code.Happens.{IsNew};
 use crate::held::Held;
 use std::alloc::Global;
 use x25_station::{Cfg, Role, Station, StationError, Step};
-use x25_text::Text;
 
 pub(crate) fn role_of_number(end: u8) -> Option<Role>
     ensures { result ≡ role_of end }
@@ -41,15 +40,11 @@ fn make_at(alloc: Global, end: Role, cfg: Cfg) -> Result<Box<Held>, StationError
         Ok(station) => station,
         Err(error) => return Err(error),
     };
-    let Ok(line) = Text::new(alloc) else {
-        drop(station);
-        return Err(StationError::NoMemory);
-    };
     let Ok(step) = Step::new(alloc) else {
         drop(station);
         return Err(StationError::NoMemory);
     };
-    boxed(alloc, Held::new(alloc, end, station, step, line))
+    boxed(alloc, Held::new(alloc, end, station, step))
 }
 
 /// A station in a box. 14 where a setting is out of its range, and else 70 alone.

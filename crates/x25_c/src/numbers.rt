@@ -5,8 +5,20 @@ ghost use Rattle.x25_c.specs.Slot.{number_in, number_of_timer};
 
 use x25_station::{Awaits, StationError, Timer};
 
+/// A setting is out of its range.
+pub(crate) const BAD_SETTING: u32 = 14;
+
+/// The slot holds no station.
+pub(crate) const NO_STATION: u32 = 16;
+
+/// The slot holds a station.
+pub(crate) const IN_USE: u32 = 17;
+
 /// The octets of a frame aren't there, or a time is before the one that was said last.
 pub(crate) const BAD_PARAMETER: u32 = 34;
+
+/// A text spells no command.
+pub(crate) const NO_COMMAND: u32 = 60;
 
 /// Memory was refused.
 pub(crate) const NO_MEMORY: u32 = 70;

@@ -1,6 +1,9 @@
 //! What the number of a refusal says.
-ghost use Rattle.std.specs.Prelude.{◌≡◌};
+ghost use Rattle.std.specs.Prelude.{◌≡◌, length};
+ghost use Rattle.x25_c.specs.Copying.{Copies};
 ghost use Rattle.x25_c.specs.RefusalText.{text_of};
+
+use crate::copying::copy;
 
 /// Why a call is refused that answers this number; nothing where none does.
 pub(crate) fn refusal_text(number: u32) -> &'static [u8]
@@ -28,4 +31,13 @@ pub(crate) fn refusal_text(number: u32) -> &'static [u8]
         70 => b"no memory",
         _ => b"",
     }
+}
+
+/// Copies what the number of a refusal says, as `x25_frame` does; 0 where there is no such number.
+#[unsafe(no_mangle)]
+pub extern "C" fn x25_refusal_text(number: u32, text: &mut [u8]) -> usize
+    ensures copied { Copies (text_of number) text.old text.new }
+    ensures count { result ≡ length (text_of number) }
+{
+    copy(refusal_text(number), text)
 }

@@ -10,12 +10,12 @@ use x25_station::Cfg;
 pub struct Settings {
     pub k: u8,
     pub n2: u8,
-    pub channels: u8,
+    pub channels: u16,
     pub long_data: bool,
     pub say_sizes: bool,
     pub wide: bool,
     /// For settings of later versions, together with `more`.
-    pub later: u16,
+    pub later: u8,
     pub more: u64,
 }
 

@@ -8,7 +8,7 @@ use Rattle.x25_link.specs.declared.phase.Phase.TheVariants.{Up}
 use Rattle.x25_link.specs.Station.{is_up}
 use Rattle.x25_station.specs.Config.{Settings, layer_settings}
 use Rattle.x25_station.specs.Station.{Station}
-use Rattle.x25_station.specs.Step.{Step, Outcome, Did, Refused}
+use Rattle.x25_station.specs.Step.{Outcome, Did, Refused}
 use Rattle.x25_station.specs.laws.TimerLaw as timer
 use Rattle.x25_station.specs.laws.EndLaw.{is_answered_on, is_left_on, IsTold, EndIsTold}
 use Rattle.x25_station.specs.laws.WayOutLaw.{rank_of, rank, AwaitsStill}
@@ -55,5 +55,5 @@ module _ (c : Settings) (h : ℕ) where
       (high, untold.0, all_awaited told times deeds (done c times deed w) next untold.2)
 
 pub answer_is_told : EndIsTold → NothingWaits → AnswerIsTold
-answer_is_told told waits c times h moments deeds few set small high obeyed untold =
-    waits c times h moments deeds few set small obeyed (all_awaited c h told times deeds (watched c times moments) high untold)
+answer_is_told told waits c times h moments deeds set small high obeyed untold =
+    waits c times h moments deeds set small obeyed (all_awaited c h told times deeds (watched c times moments) high untold)

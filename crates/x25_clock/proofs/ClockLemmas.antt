@@ -1,5 +1,5 @@
 -- Deadlines stand for what is awaited.
-use Rattle.std.proofs.Common.{◌≡◌, ℕ, zero, suc, ◌+◌, ◌==◌, List, [], ◌∷◌, ◌++◌, map, Bool, true, false, not, ◌||◌, if◌then◌else◌, Option, Some, None, refl, sym, ap, ◌∙◌, arith}
+use Rattle.std.proofs.Common.{◌≡◌, ℕ, zero, suc, ◌+◌, ◌==◌, List, [], ◌∷◌, map, Bool, true, false, not, ◌||◌, if◌then◌else◌, Option, Some, None, refl, sym, ap, ◌∙◌, arith}
 use Rattle.std.proofs.lemmas.Bool.{true≢false}
 use Rattle.std.proofs.lemmas.Option.{none-some}
 use Rattle.x25_circuit.specs.declared.awaits.Awaits.{Awaits}
@@ -207,21 +207,8 @@ module _ (c : Settings) (times : Times) where
   off_first : (time : ℕ) → Stands 0 time false None
   off_first time = record { on = λ e. false_true e; off = λ e. refl }
 
-  first_true : AreTrue c times (record { station = new_station; deadlines = nothing_awaited; now = 0 })
-  first_true = record { t1 = off_first times.t1; idle = off_first times.t3; restart = off_first times.t20; waits = first_waits 16 1; channels = refl }
+  first_true : AreTrue c times (record { station = new_station; deadlines = nothing_awaited c.channels; now = 0 })
+  first_true = record { t1 = off_first times.t1; idle = off_first times.t3; restart = off_first times.t20; waits = first_waits c.channels 1; channels = refl }
 
 pub deadlines_are_true : DeadlinesAreTrue
 deadlines_are_true c times moments = from_here c times moments _ (first_true c times)
-
--- ---- a new clock
-
-abbrev new_on : ℕ → Wait
-new_on h = record { channel = h; awaits = Nothing; until = None }
-
-more_channels : (n first h : ℕ) → h ≡ first + n → channels_from first n ++ new_on h ∷ [] ≡ channels_from first (suc n)
-more_channels zero first h is = ap (λ (k : ℕ). new_on k ∷ []) (let e : h ≡ first = omega (arith, is) in e)
-more_channels (suc n) first h is = ap (λ (l : List Wait). new_on first ∷ l) (more_channels n (first + 1) h (omega (arith, is)))
-
-pub one_channel_more : (n : ℕ) (xs : List Wait) → xs ≡ channels_from 1 n → xs ++ new_on (n + 1) ∷ [] ≡ channels_from 1 (n + 1)
-one_channel_more n xs is =
-    ap (λ (l : List Wait). l ++ new_on (n + 1) ∷ []) is ∙ more_channels n 1 (n + 1) (omega arith) ∙ ap (channels_from 1) (let e : suc n ≡ n + 1 = omega arith in e)

@@ -1,4 +1,5 @@
 pub mod ListLemmas
+pub mod ListedLemmas
 pub mod ClockLemmas
 pub mod DeadlineLemmas
 pub mod WaitLemmas

@@ -1,5 +1,5 @@
 -- What is pulled behind a step, and heeded with it, leaves the deadlines as where each is heeded.
-use Rattle.std.proofs.Common.{◌≡◌, ℕ, ◌+◌, ◌==◌, List, [], ◌∷◌, map, Bool, true, false, not, ◌||◌, if◌then◌else◌, Option, Some, None, refl, sym, ap, subst, ◌∙◌, arith}
+use Rattle.std.proofs.Common.{◌≡◌, ℕ, ◌+◌, ◌==◌, List, [], ◌∷◌, map, Bool, true, false, not, ◌||◌, if◌then◌else◌, Option, Some, None, refl, sym, ap, ◌∙◌, arith}
 use Rattle.std.proofs.lemmas.Bool.{true≢false, eq-eqb, le-ltb}
 use Rattle.x25_circuit.specs.declared.awaits.Awaits.{Awaits}
 use Rattle.x25_link.specs.Station.{LinkStation}
@@ -20,8 +20,8 @@ use Rattle.x25_clock.specs.declared.times.Times.{Times}
 use Rattle.x25_clock.specs.declared.wait.Wait.{Wait}
 use Rattle.x25_clock.specs.Clock.{Deadlines, Seen, deadline, time_of, number_of, t1_after, running, wait_after, heeded}
 use Rattle.x25_clock.specs.laws.ClockLaw.{Watched, seen_of, heeds, comes}
-use Rattle.x25_clock.specs.laws.WaitLaw.{Deed, Happens, IsAsked, event_of, found_by, done}
-use Rattle.x25_clock.specs.laws.PullLaw.{seen_pulled, pull, pulled_by, PullIsHeeded}
+use Rattle.x25_clock.specs.laws.WaitLaw.{Happens, IsAsked, event_of, found_by, done}
+use Rattle.x25_clock.specs.laws.PullLaw.{seen_pulled, pull, PullIsHeeded}
 use Rattle.x25_clock.proofs.WaitLemmas.{after_channel}
 
 -- ---- one deadline, heeded twice at one moment

@@ -104,7 +104,7 @@ if_wait h false u v p q = q
 pub after_channel : (times : Times) (now : ℕ) (a : Awaits) (w : Wait) → (wait_after times now a w).channel ≡ w.channel
 after_channel times now a w = if_wait w.channel (number_of w.awaits == number_of a) _ _ refl refl
 
-renewed_channel : (times : Times) (now k : ℕ) (w : Wait) → (renewed times now k w).channel ≡ w.channel
+pub renewed_channel : (times : Times) (now k : ℕ) (w : Wait) → (renewed times now k w).channel ≡ w.channel
 renewed_channel times now k w = if_wait w.channel (not (w.channel == k)) _ _ refl refl
 
 same_after : (times : Times) (now : ℕ) (a : Awaits) (w : Wait) → w.awaits ≡ a → wait_after times now a w ≡ w
@@ -191,16 +191,16 @@ module _ (c : Settings) (times : Times) (h bound : ℕ) (set : AreSet times) (sm
       subst (λ (a : Awaits). now + left a ≤ bound) (are.0.awaits ∙ ap f is) (end_in_time bound now w.until (left w.awaits) (on.0 is) past.0)
   channel_in_time before now f (w ∷ ws) (inr has) are on past = channel_in_time before now f ws has are.1 on.1 past.1
 
-  has_it : (w : Watched) → c.channels ≤ 16 → AreTrue c times w → is_channel c.channels h ≡ true → Has h (map channel_in w.deadlines.waits)
-  has_it w few true_now is =
+  has_it : (w : Watched) → AreTrue c times w → is_channel c.channels h ≡ true → Has h (map channel_in w.deadlines.waits)
+  has_it w true_now is =
       let both = and_parts (nat_le 1 h) (nat_le h c.channels) is in
       let low : 1 ≤ h = leb-true 1 h both.0 in
       let high : h ≤ c.channels = leb-true h c.channels both.1 in
-      subst (Has h) (sym true_now.channels) (has_channel h 16 1 low (omega (arith, high, few)))
+      subst (Has h) (sym true_now.channels) (has_channel h c.channels 1 low (omega (arith, high)))
 
-  in_time : (w : Watched) (now : ℕ) → c.channels ≤ 16 → AreTrue c times w → 2 ≤ rank c w.station h → IsNotPast now (next_of w.deadlines) → IsBy w.station.layer.restarting w.deadlines.restart w.deadlines.waits
+  in_time : (w : Watched) (now : ℕ) → AreTrue c times w → 2 ≤ rank c w.station h → IsNotPast now (next_of w.deadlines) → IsBy w.station.layer.restarting w.deadlines.restart w.deadlines.waits
       → InTime w.station.layer.restarting (awaited w.station) now
-  in_time w now few true_now high past by = on w.station.layer.restarting refl by
+  in_time w now true_now high past by = on w.station.layer.restarting refl by
     where
       d : Deadlines
       d = w.deadlines
@@ -210,7 +210,7 @@ module _ (c : Settings) (times : Times) (h bound : ℕ) (set : AreSet times) (sm
       on false is by =
           let two : 2 ≤ rank_of w.station.link.phase false (awaited w.station) = subst (λ (r : Bool). 2 ≤ rank_of w.station.link.phase r (awaited w.station)) is high in
           channel_in_time w.now now (λ k. awaited_at (layer_settings c) w.station.layer k) d.waits
-          (has_it w few true_now (is_configured w.station.link.phase (is_channel c.channels h) (w.station.layer.circuits h).state two)) true_now.waits by (waits_past now d.waits (sooner (sooner d.t1 d.idle) d.restart) past)
+          (has_it w true_now (is_configured w.station.link.phase (is_channel c.channels h) (w.station.layer.circuits h).state two)) true_now.waits by (waits_past now d.waits (sooner (sooner d.t1 d.idle) d.restart) past)
 
   now_in_time : (r : Bool) (a : Awaits) (now : ℕ) → InTime r a now → now ≤ bound
   now_in_time true a now low = low
@@ -473,13 +473,13 @@ module _ (c : Settings) (times : Times) (h bound : ℕ) (set : AreSet times) (sm
   higher_next [] w all = all
   higher_next (deed ∷ deeds) w all = all.0
 
-  all_by : Laws → c.channels ≤ 16 → (deeds : List Deed) (w : Watched) → AreTrue c times w → AreObeyed c times deeds w → AwaitsAll c times h deeds w → w.now ≤ bound
+  all_by : Laws → (deeds : List Deed) (w : Watched) → AreTrue c times w → AreObeyed c times deeds w → AwaitsAll c times h deeds w → w.now ≤ bound
       → IsBy w.station.layer.restarting w.deadlines.restart w.deadlines.waits → (all_done c times deeds w).now ≤ bound
-  all_by laws few [] w true_now obeyed all low by = low
-  all_by laws few (deed ∷ deeds) w true_now obeyed all low by =
-      let late : InTime w.station.layer.restarting (awaited w.station) (w.now + later_by deed) = in_time w (w.now + later_by deed) few true_now all.0 obeyed.1 by in
+  all_by laws [] w true_now obeyed all low by = low
+  all_by laws (deed ∷ deeds) w true_now obeyed all low by =
+      let late : InTime w.station.layer.restarting (awaited w.station) (w.now + later_by deed) = in_time w (w.now + later_by deed) true_now all.0 obeyed.1 by in
       let v : Watched = done c times deed w in
-      all_by laws few deeds v (deed_true w deed true_now) obeyed.2 all.2 (now_in_time w.station.layer.restarting (awaited w.station) (w.now + later_by deed) late)
+      all_by laws deeds v (deed_true w deed true_now) obeyed.2 all.2 (now_in_time w.station.layer.restarting (awaited w.station) (w.now + later_by deed) late)
       (deed_by laws w deed true_now all.0 obeyed.0 all.1 (higher_next deeds v all.2) by late)
 
 -- ---- where it begins
@@ -515,10 +515,10 @@ module _ (c : Settings) (times : Times) (h : ℕ) (set : AreSet times) where
       first_on bound w.now few (λ k. awaited_at (layer_settings c) w.station.layer k) w.deadlines.waits same (subst (λ (n : ℕ). 2 ≤ n) two high) true_now.waits
 
 pub nothing_waits : ClearLeadsOn → RestartLeadsOn → RelinkLeadsOn → NothingLeadsBack → NothingWaits
-nothing_waits clear restart relink back c times h moments deeds few set small obeyed all =
+nothing_waits clear restart relink back c times h moments deeds set small obeyed all =
     let w : Watched = watched c times moments in
     let r : Bool = w.station.layer.restarting in
     let bound : ℕ = w.now + longest_wait times r (awaited_at (layer_settings c) w.station.layer h) in
     let true_now : AreTrue c times w = deadlines_are_true c times moments in
-    all_by c times h bound set small (record { clear = clear; restart = restart; relink = relink; back = back }) few deeds w true_now obeyed all (omega arith)
+    all_by c times h bound set small (record { clear = clear; restart = restart; relink = relink; back = back }) deeds w true_now obeyed all (omega arith)
     (first_by c times h set bound w small r refl refl (higher_next c times h bound set small deeds w all) true_now)

@@ -1,7 +1,6 @@
 -- The deadlines of one who has a clock beside a station (profile), and what each step of the station makes of them.
 use Rattle.std.specs.Prelude.{ℕ, zero, suc, ◌+◌, ◌^◌, ◌==◌, nat_le, nat_lt, Bool, true, false, not, if◌then◌else◌, List}
-use Rattle.std.specs.Prelude.{[], ◌∷◌}
-use Rattle.std.specs.Prelude.{map, Option, Some, None}
+use Rattle.std.specs.Prelude.{[], ◌∷◌, length, map, Option, Some, None}
 use Rattle.x25_circuit.specs.declared.awaits.Awaits.{Awaits}
 use Rattle.x25_circuit.specs.declared.awaits.Awaits.TheVariants.{Nothing, Acceptance, ResetConfirmation}
 use Rattle.x25_circuit.specs.declared.awaits.Awaits.TheVariants.{ClearConfirmation}
@@ -29,16 +28,31 @@ pub record Deadlines : Type 0 where
   pub restart : Option ℕ
   pub waits : List Wait
 
+-- nothing is awaited on a channel
+abbrev pub nothing_on : ℕ → Wait
+nothing_on h = record { channel = h; awaits = Nothing; until = None }
+
+-- what a list has of a channel
+abbrev pub wait_at : ℕ → List Wait → Wait
+wait_at h [] = nothing_on h
+wait_at h (w ∷ ws) = if w.channel == h then w else wait_at h ws
+
+-- what it has of so many channels from a number on
+abbrev pub spread : ℕ → ℕ → List Wait → List Wait
+spread zero first ws = []
+spread (suc n) first ws = wait_at first ws ∷ spread n (first + 1) ws
+
 abbrev pub plain : code.Clock → Deadlines
-plain v = record { t1 = v.t1; idle = v.idle; restart = v.restart; waits = v.waits.items }
+plain v = record { t1 = v.t1; idle = v.idle; restart = v.restart; waits = spread v.channels 1 v.waits.items }
 
 -- channels from a number on, so many
 abbrev pub channels_from : ℕ → ℕ → List Wait
 channels_from first zero = []
-channels_from first (suc n) = record { channel = first; awaits = Nothing; until = None } ∷ channels_from (first + 1) n
+channels_from first (suc n) = nothing_on first ∷ channels_from (first + 1) n
 
-abbrev pub nothing_awaited : Deadlines
-nothing_awaited = record { t1 = None; idle = None; restart = None; waits = channels_from 1 16 }
+-- of a station with so many channels
+abbrev pub nothing_awaited : ℕ → Deadlines
+nothing_awaited channels = record { t1 = None; idle = None; restart = None; waits = channels_from 1 channels }
 
 -- ---- moments, in milliseconds below 2^64; a time of 0 is for ever
 
@@ -142,6 +156,10 @@ asked_for h ClearConfirmation = Some (due.Restart h)
 
 abbrev pub due_on : Wait → Option Due
 due_on w = asked_for w.channel w.awaits
+
+-- how much may be due at one moment: T1, an idle link, a restart, and what each channel awaits
+abbrev pub most_due : Deadlines → ℕ
+most_due d = 3 + length d.waits
 
 -- T1; a restart that isn't confirmed, by which the link is set up anew; the first channel; an idle link
 abbrev pub unless_on : Option Wait → Option Due → Option Due

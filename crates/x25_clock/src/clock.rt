@@ -1,21 +1,19 @@
-ghost use Rattle.std.specs.Prelude.{◌≡◌, map, length};
-ghost use Rattle.x25_layer.specs.code.FitsLayer.{awaited_at};
+ghost use Rattle.std.specs.Prelude.{◌≡◌, map, length, vec_capacity};
+ghost use Rattle.x25_clock.specs.Awaited.{AreListed, listed_is_fact};
 ghost use Rattle.x25_station.specs.code.FitsStation.{FitsStation};
 ghost use Rattle.x25_station.specs.Config.{Settings, layer_settings};
 ghost use Rattle.x25_station.specs.Station.{Station as State};
 
+use crate::awaited::{list_all, overdue_in, renew_in, soonest};
 use crate::due::Due;
 use crate::times::Times;
 use crate::wait::{Wait, deadline, is_past, running, sooner, time_of};
 use std::alloc::{AllocError, Global};
-use x25_layer::Awaits;
+use std::mem;
 use x25_station::{Station, Step, Timer};
 
-/// The most channels of a station (profile).
-const CHANNELS: u16 = 16;
-
 /// The deadlines of a station: of T1, of an idle link, of a restart, and of what is awaited on each channel. It holds
-/// one list of 16 of these, which is made in `new`.
+/// two lists of these, each with a place for each channel, which are made in `new`.
 ///
 /// After each step of the station, pulls among it, it is to `heed` that. `next` says when something is due, if nothing
 /// happens before; then `due` says what is to be asked, one after another, each to be heeded in turn.
@@ -25,36 +23,39 @@ pub struct Clock {
     t1: Option<u64>,
     idle: Option<u64>,
     restart: Option<u64>,
+    channels: u16,
+    /// What is awaited on channels, in rising order.
     waits: Vec<Wait>,
+    ghost listed: { AreListed channels 0 waits.items } by { listed_is_fact channels 0 waits.items },
+    ghost places: { vec_capacity waits ≡ channels },
+    /// Where the next list is made.
+    spare: Vec<Wait>,
+    ghost spare_places: { vec_capacity spare ≡ channels },
 }
 
 impl Clock {
-    ghost use Rattle.std.specs.Prelude.{IfOk, vec_capacity};
+    ghost use Rattle.std.specs.Prelude.{IfOk};
     ghost use Rattle.x25_clock.specs.Clock.{after_due, due_of, heeded, heeded_on, next_of, nothing_awaited, overdue_of};
-    ghost use Rattle.x25_clock.specs.Clock.{plain, renewed, seen};
+    ghost use Rattle.x25_clock.specs.Clock.{most_due, plain, renewed, seen};
 
-    /// The clock of a station whose link is down.
+    /// The clock of a station with so many channels (`Station::channels`) whose link is down.
     ///
     /// Err: memory was refused.
-    pub fn new(alloc: Global, times: Times) -> Result<Clock, AllocError>
-        ensures plain { IfOk result (λ clock. plain clock ≡ nothing_awaited) }
+    pub fn new(alloc: Global, times: Times, channels: u16) -> Result<Clock, AllocError>
+        ensures plain { IfOk result (λ clock. plain clock ≡ nothing_awaited channels) }
         ensures times { IfOk result (λ clock. clock.times ≡ times) }
-        ensures most { IfOk result (λ clock. vec_capacity clock.waits ≡ 16) }
+        ensures most { IfOk result (λ clock. clock.channels ≡ channels) }
     {
-        let mut waits = Vec::with_capacity(alloc, CHANNELS as usize)?;
-        for place in 0..CHANNELS {
-            waits.push_reserved(Wait {
-                channel: place + 1,
-                awaits: Awaits::Nothing,
-                until: None,
-            });
-        }
+        let waits = Vec::with_capacity(alloc, usize::from(channels))?;
+        let spare = Vec::with_capacity(alloc, usize::from(channels))?;
         Ok(Clock {
             times,
             t1: None,
             idle: None,
             restart: None,
+            channels,
             waits,
+            spare,
         })
     }
 
@@ -64,7 +65,7 @@ impl Clock {
         ensures heeds { (c : Settings) (s : State) → FitsStation c station.now s
             → plain self.new ≡ heeded self.old.times now (seen c s step.now has_come) (plain self.old) }
         ensures times { self.new.times ≡ self.old.times }
-        ensures places { vec_capacity self.new.waits ≡ vec_capacity self.old.waits }
+        ensures channels { self.new.channels ≡ self.old.channels }
     {
         let times = self.times;
         self.t1 = match step.timer {
@@ -82,50 +83,55 @@ impl Clock {
 
     // What is awaited on channels.
     fn heed_channels(&mut self, now: u64, station: &Station)
-        ensures waits { (c : Settings) (s : State) → FitsStation c station.now s → self.new.waits.items
-            ≡ map (heeded_on self.old.times now (layer_settings c) s.layer) self.old.waits.items }
-        ensures places { vec_capacity self.new.waits ≡ vec_capacity self.old.waits }
-        ensures kept { self.new ≡ record self.old { waits = self.new.waits } }
+        ensures waits { (c : Settings) (s : State) → FitsStation c station.now s → (plain self.new).waits
+            ≡ map (heeded_on self.old.times now (layer_settings c) s.layer) (plain self.old).waits }
+        ensures kept { plain self.new ≡ record (plain self.old) { waits = (plain self.new).waits } }
+        ensures times { self.new.times ≡ self.old.times }
+        ensures channels { self.new.channels ≡ self.old.channels }
     {
-        let times = self.times;
-        for wait in self.waits.iter_mut() {
-            *wait = wait.heed(times, now, station.awaits(wait.channel));
-        }
+        let waits = self.waits.as_slice();
+        list_all(
+            waits,
+            &mut self.spare,
+            self.channels,
+            self.times,
+            now,
+            station,
+        );
+        mem::swap(&mut self.waits, &mut self.spare);
     }
 
     /// The next moment at which something is due; none where nothing is.
     pub fn next(&self) -> Option<u64>
         ensures { result ≡ next_of (plain self.now) }
     {
-        let mut first = sooner(sooner(self.t1, self.idle), self.restart);
-        for wait in self.waits.iter() {
-            first = sooner(first, wait.until);
-        }
-        first
+        let first = sooner(sooner(self.t1, self.idle), self.restart);
+        soonest(self.waits.as_slice(), first)
+    }
+
+    /// How much may be due at one moment, each asked for once: T1, an idle link, a restart, and what each channel
+    /// awaits.
+    pub fn most_due(&self) -> usize
+        ensures { result ≡ most_due (plain self.now) }
+    {
+        3 + usize::from(self.channels)
     }
 
     // The first channel on which an answer is due.
     fn overdue(&self, now: u64) -> Option<Wait>
         ensures { result ≡ overdue_of now (plain self.now).waits }
     {
-        for wait in self.waits.iter() {
-            if is_past(wait.until, now) {
-                return Some(*wait);
-            }
-        }
-        None
+        overdue_in(self.waits.as_slice(), now)
     }
 
     // The time of the answer on a channel begins anew.
     fn renew(&mut self, now: u64, channel: u16)
-        ensures waits { self.new.waits.items ≡ map (renewed self.old.times now channel) self.old.waits.items }
-        ensures places { vec_capacity self.new.waits ≡ vec_capacity self.old.waits }
-        ensures kept { self.new ≡ record self.old { waits = self.new.waits } }
+        ensures waits { (plain self.new).waits ≡ map (renewed self.old.times now channel) (plain self.old).waits }
+        ensures kept { plain self.new ≡ record (plain self.old) { waits = (plain self.new).waits } }
+        ensures times { self.new.times ≡ self.old.times }
+        ensures channels { self.new.channels ≡ self.old.channels }
     {
-        let times = self.times;
-        for wait in self.waits.iter_mut() {
-            *wait = wait.renewed(times, now, channel);
-        }
+        renew_in(&mut self.waits, self.times, now, channel);
     }
 
     /// What is to be asked at a moment: T1, then what wasn't answered, a restart before channels in rising order, and
@@ -135,7 +141,7 @@ impl Clock {
         ensures due { result ≡ due_of now (plain self.old) }
         ensures after { plain self.new ≡ after_due self.old.times now (plain self.old) }
         ensures times { self.new.times ≡ self.old.times }
-        ensures places { vec_capacity self.new.waits ≡ vec_capacity self.old.waits }
+        ensures channels { self.new.channels ≡ self.old.channels }
     {
         let times = self.times;
         if is_past(self.t1, now) {

@@ -2,6 +2,7 @@
 //! pass, and what is then to be asked. ITU-T X.25 (10/96), sections 2.4.8 and Annex D.
 #![tactic(auto)]
 
+mod awaited;
 mod clock;
 mod due;
 mod law;

@@ -1,7 +1,7 @@
 //! Deadlines, and the answer that is awaited on a channel.
 ghost use Rattle.std.specs.Prelude.{◌≡◌, ◌==◌, not};
 ghost use Rattle.x25_clock.specs.Clock.{deadline, is_past, number_of, running, sooner, time_of, wait_after};
-ghost use Rattle.x25_clock.specs.Clock.{due_on, renewed};
+ghost use Rattle.x25_clock.specs.Clock.{due_on, nothing_on, renewed};
 
 use crate::due::Due;
 use crate::times::Times;
@@ -82,6 +82,17 @@ pub(crate) fn time_of(times: Times, awaits: Awaits) -> u32
 }
 
 impl Wait {
+    /// Nothing is awaited on a channel.
+    pub(crate) fn nothing_on(channel: u16) -> Wait
+        ensures { result ≡ nothing_on channel }
+    {
+        Wait {
+            channel,
+            awaits: Awaits::Nothing,
+            until: None,
+        }
+    }
+
     /// As this is awaited: another answer than before has its time from now on.
     pub(crate) fn heed(self, times: Times, now: u64, awaits: Awaits) -> Wait
         ensures { result ≡ wait_after times now awaits self }

@@ -5,7 +5,7 @@ use std::alloc::Global;
 use x25_clock::{Clock, Due, Times};
 use x25_station::{Awaits, Cfg, Cmd, Role, Station, StationError, Step};
 
-/// A DTE with two channels.
+/// N2 = 1, and two channels.
 const SETTINGS: Cfg = Cfg {
     k: 7,
     n2: 1,
@@ -21,12 +21,17 @@ fn boxed<T: Drop>(alloc: Global, value: T) -> Option<Box<T>> {
     Box::new(alloc, value).ok()
 }
 
-pub fn station(alloc: Global) -> Option<Box<Station>> {
-    boxed(alloc, Station::new(alloc, Role::Dte, SETTINGS).ok()?)
+/// A DTE with so many channels.
+pub fn station(alloc: Global, channels: u16) -> Option<Box<Station>> {
+    let cfg = Cfg {
+        channels,
+        ..SETTINGS
+    };
+    boxed(alloc, Station::new(alloc, Role::Dte, cfg).ok()?)
 }
 
-pub fn clock(alloc: Global, times: Times) -> Option<Box<Clock>> {
-    boxed(alloc, Clock::new(alloc, times).ok()?)
+pub fn clock(alloc: Global, times: Times, channels: u16) -> Option<Box<Clock>> {
+    boxed(alloc, Clock::new(alloc, times, channels).ok()?)
 }
 
 pub fn ask(station: &mut Station, command: Cmd<'_>, out: &mut Step) -> Result<(), StationError> {
@@ -53,11 +58,16 @@ pub fn next(clock: &Clock) -> Option<u64> {
     clock.next()
 }
 
-/// What a station says of what it awaits: on channel 2, the first that a DTE takes, whether a restart is under way, and
-/// whether it awaits anything.
+/// How much may be due at one moment.
+pub fn most_due(clock: &Clock) -> usize {
+    clock.most_due()
+}
+
+/// What a station says of what it awaits: on its highest channel, the first that a DTE takes, whether a restart is
+/// under way, and whether it awaits anything.
 pub fn awaited(station: &Station) -> (Awaits, bool, bool) {
     (
-        station.awaits(2),
+        station.awaits(station.channels()),
         station.is_restarting(),
         station.awaits_answers(),
     )

@@ -1,7 +1,7 @@
 //! Moments at which more than one thing is due or happens, that are earlier than the last one, or the last there is.
 
 use crate::silence::{
-    Act, CALL, CALLED, CLEARED, NONE, RESTART, RESTARTS, RR_1, RR_2, RR_3, Row, TIMES, UA,
+    Act, CALL, CALLED, CLEARED, NONE, RESTART, RESTARTS, RR_1, RR_2, RR_3, RR_4, Row, TIMES, UA,
     odd_row_of,
 };
 use x25_clock::{Due, Times};
@@ -112,13 +112,43 @@ static LAST: [Row; 3] = [
     (u64::MAX, UA, 0, None, None, RESTARTS),
 ];
 
+/// Two calls, of 4,095 channels: the one on the highest isn't answered, and neither is its clearing.
+static ON_THE_HIGHEST: [Row; 11] = [
+    (0, Act::Ask(Cmd::Connect), 0, None, Some(10), NONE),
+    (0, UA, 0, None, Some(10), RESTARTS),
+    (0, RR_1, 0, None, Some(200), RESTARTS),
+    (0, RESTART, 0, None, Some(1000), NONE),
+    (30, CALL, 0, None, Some(40), CALLED),
+    (31, RR_2, 0, None, Some(240), CALLED),
+    (32, CALL, 0, None, Some(42), CALLED),
+    (33, RR_3, 0, None, Some(240), CALLED),
+    (
+        240,
+        Act::Obey,
+        0,
+        Some(Due::Clear { channel: 4095 }),
+        Some(242),
+        CLEARED,
+    ),
+    (
+        242,
+        Act::Obey,
+        0,
+        Some(Due::Clear { channel: 4094 }),
+        Some(250),
+        CLEARED,
+    ),
+    (250, RR_4, 0, None, Some(260), CLEARED),
+];
+
 #[test]
 fn moments_are_told_apart(rt: HostRuntime) {
     let odd_rows = [
-        odd_row_of(rt.alloc(), ALIKE, &DUE_AT_ONCE),
-        odd_row_of(rt.alloc(), ALIKE, &DUE_WITH_A_RESTART),
-        odd_row_of(rt.alloc(), RESETS, &ANSWERED),
-        odd_row_of(rt.alloc(), TIMES, &LAST),
+        odd_row_of(rt.alloc(), (2, ALIKE), &DUE_AT_ONCE),
+        odd_row_of(rt.alloc(), (2, ALIKE), &DUE_WITH_A_RESTART),
+        odd_row_of(rt.alloc(), (2, RESETS), &ANSWERED),
+        odd_row_of(rt.alloc(), (2, TIMES), &LAST),
+        odd_row_of(rt.alloc(), (4095, TIMES), &ON_THE_HIGHEST),
     ];
-    assert_eq!(rt; odd_rows, [Some(None); 4]);
+    assert_eq!(rt; odd_rows, [Some(None); 5]);
 }

@@ -24,8 +24,8 @@ pub(crate) enum Act {
     Obey,
 }
 
-/// The time, what happens then, the number of a refusal or 0, what was due, the next moment, and what is awaited on
-/// channel 2, whether a restart is, and whether anything.
+/// The time, what happens then, the number of a refusal or 0, what was due, the next moment, and what is awaited on the
+/// highest channel, whether a restart is, and whether anything.
 pub(crate) type Row = (u64, Act, u8, Option<Due>, Option<u64>, (Awaits, bool, bool));
 
 pub(crate) const NONE: (Awaits, bool, bool) = (Awaits::Nothing, false, false);
@@ -54,7 +54,7 @@ pub(crate) const RR_2: Act = Act::Take(&[0x01, 0x41, 0x12, 0x45]);
 
 pub(crate) const RR_3: Act = Act::Take(&[0x01, 0x61, 0x10, 0x64]);
 
-const RR_4: Act = Act::Take(&[0x01, 0x81, 0x1E, 0x83]);
+pub(crate) const RR_4: Act = Act::Take(&[0x01, 0x81, 0x1E, 0x83]);
 
 static ROWS: [Row; 20] = [
     (5, Act::Ask(Cmd::Connect), 0, None, Some(15), NONE),
@@ -154,14 +154,18 @@ fn odd_row(
     None
 }
 
-pub(crate) fn odd_row_of(alloc: Global, times: Times, rows: &[Row]) -> Option<Option<usize>> {
-    let mut station = station(alloc)?;
-    let mut clock = clock(alloc, times)?;
+pub(crate) fn odd_row_of(
+    alloc: Global,
+    (channels, times): (u16, Times),
+    rows: &[Row],
+) -> Option<Option<usize>> {
+    let mut station = station(alloc, channels)?;
+    let mut clock = clock(alloc, times, channels)?;
     let mut out = Step::new(alloc).ok()?;
     Some(odd_row(rows, &mut station, &mut clock, &mut out))
 }
 
 #[test]
 fn a_silent_end_is_left_step_by_step(rt: HostRuntime) {
-    assert_eq!(rt; odd_row_of(rt.alloc(), TIMES, &ROWS), Some(None));
+    assert_eq!(rt; odd_row_of(rt.alloc(), (2, TIMES), &ROWS), Some(None));
 }

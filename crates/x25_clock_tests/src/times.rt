@@ -1,20 +1,22 @@
 //! Moments at the edges, and the times of the standard.
 
-use crate::calls::{clock, due, next};
+use crate::calls::{clock, due, most_due, next};
 use std::alloc::Global;
 use x25_clock::{Due, Times};
 use x25_station::{Cmd, Role};
 
-fn quiet(alloc: Global, now: u64) -> Option<(Option<u64>, Option<Due>)> {
-    let mut clock = clock(alloc, Times::standard(Role::Dte))?;
+// The next moment, what is due, and how much may be.
+fn quiet(alloc: Global, now: u64, channels: u16) -> Option<(Option<u64>, Option<Due>, usize)> {
+    let mut clock = clock(alloc, Times::standard(Role::Dte), channels)?;
     let moment = next(&clock);
-    Some((moment, due(&mut clock, now)))
+    Some((moment, due(&mut clock, now), most_due(&clock)))
 }
 
 #[test]
 fn nothing_is_due_of_a_new_station(rt: HostRuntime) {
-    for now in [0, 1, u64::MAX] {
-        assert_eq!(rt; quiet(rt.alloc(), now), Some((None, None)), "{now}");
+    for &(now, channels, most) in &[(0, 1, 4), (1, 4095, 4098), (u64::MAX, 0, 3)] {
+        let said = quiet(rt.alloc(), now, channels);
+        assert_eq!(rt; said, Some((None, None, most)), "{now} {channels}");
     }
 }
 

@@ -21,8 +21,8 @@ use x25_world::{stations_meet_in_sessions, two_stations_keep_order};
 /// put on the line, and the stations and the frames on the line are those where the run leads. A line that is refused,
 /// and one that names the other end's user, is no event of it.
 ///
-/// Premises: k is 1 to 7, N2 1 to 255, channels 1 to 16; a user's line is no frame of the other end; timer T1 of an end
-/// that awaits UA doesn't run out while its SABM, or a UA to it, is on the line.
+/// Premises: k is 1 to 7, N2 1 to 255, channels 1 to 4,095; a user's line is no frame of the other end; timer T1 of an
+/// end that awaits UA doesn't run out while its SABM, or a UA to it, is on the line.
 pub fn two_programs_are_a_world()
     ensures { AreWorlds }
 {
@@ -71,8 +71,8 @@ pub fn programs_meet_in_sessions()
 /// `any_peer_keeps_stations_over_sessions` says: who meets whom, the order, that all was taken where its link is idle,
 /// and that it reports no error of procedure.
 ///
-/// Premises: k is 1 to 7, N2 1 to 255, channels 1 to 16; a user's line is no frame of the other end; a frame that comes
-/// is at most 4,103 octets; timer T1 of a station that awaits UA runs out where it is due.
+/// Premises: k is 1 to 7, N2 1 to 255, channels 1 to 4,095; a user's line is no frame of the other end; a frame that
+/// comes is at most 4,103 octets; timer T1 of a station that awaits UA runs out where it is due.
 pub fn any_peer_keeps_programs()
     ensures { OfProgram KeepsSessions }
 {

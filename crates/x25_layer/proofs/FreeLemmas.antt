@@ -1,5 +1,5 @@
--- The lowest and the highest free channel, one channel more at a time.
-use Rattle.std.proofs.Common.{◌≡◌, ◌⊎◌, inl, inr, ℕ, zero, suc, ◌+◌, ◌<◌, ◌≤◌, List, length, Option, Some, None, Bool, true, false, if◌then◌else◌, get_or, sym, ap, ◌∙◌, arith}
+-- The lowest and the highest free channel, one channel at a time.
+use Rattle.std.proofs.Common.{◌≡◌, ◌⊎◌, inl, inr, ℕ, zero, suc, ◌+◌, ◌-◌, ◌<◌, ◌≤◌, List, length, Option, Some, None, Bool, true, false, if◌then◌else◌, get_or, sym, ap, ◌∙◌, arith}
 use Rattle.x25_bits.specs.declared.role.Role.{Role}
 use Rattle.x25_circuit.specs.declared.circuit.Circuit as circuit_code
 use Rattle.x25_circuit.specs.Circuit.{Settings, Circuit, is_free}
@@ -34,12 +34,12 @@ pub lowest_some : (f : ℕ → Circuit) (i n channel : ℕ) → channel ≡ i �
 lowest_some f i n channel at none is low =
     ap (λ (k : ℕ). Some k) (let e : channel + 1 ≡ suc i = omega (arith, at) in e) ∙ sym (lowest_stays f (suc i) n (suc i) (lowest_next f i true none is) low)
 
-pub highest_next : (f : ℕ → Circuit) (i channel : ℕ) (b : Bool) (free : Option ℕ) → channel ≡ i → free ≡ highest_free f i → is_free (f (suc i)) ≡ b → (if b then Some (channel + 1) else free) ≡ highest_free f (i + 1)
-highest_next f i channel b free at same is =
-    let up : i + 1 ≡ suc i = omega arith in
-    let here : channel + 1 ≡ suc i = omega (arith, at) in
-    ap (λ (k : ℕ). if b then Some k else free) here ∙ ap (λ (o : Option ℕ). if b then Some (suc i) else o) same
-    ∙ ap (λ (a : Bool). if a then Some (suc i) else highest_free f i) (sym is) ∙ ap (λ (n : ℕ). highest_free f n) (sym up)
+pub highest_at : (f : ℕ → Circuit) (n : ℕ) (b : Bool) → 0 < n → is_free (f (suc (n - 1))) ≡ b → highest_free f n ≡ (if b then Some n else highest_free f (n - 1))
+highest_at f zero b low is = absurd (omega (arith, low))
+highest_at f (suc m) b low is =
+    let back : suc m - 1 ≡ m = omega arith in
+    ap (λ (a : Bool). if a then Some (suc m) else highest_free f m) (ap (λ (k : ℕ). is_free (f (suc k))) (sym back) ∙ is)
+    ∙ ap (λ (k : ℕ). if b then Some (suc m) else highest_free f k) (sym back)
 
 pub free_by_role : (r s : Role) (f : ℕ → Circuit) (n m : ℕ) → r ≡ s → n ≡ m → free_channel r f n ≡ free_channel s f m
 free_by_role r s f n m e d = ap (λ (t : Role). free_channel t f n) e ∙ ap (λ (k : ℕ). free_channel s f k) d

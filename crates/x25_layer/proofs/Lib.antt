@@ -20,6 +20,7 @@ pub mod RoundLemmas
 pub mod SettleLemmas
 pub mod PullLemmas
 pub mod FreeLemmas
+pub mod BusyLemmas
 pub mod ClearLemmas
 pub mod NameLemmas
 pub mod CountLemmas

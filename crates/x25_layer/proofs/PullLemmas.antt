@@ -15,8 +15,6 @@ use Rattle.x25_circuit.specs.laws.PullLaw.{PullsWhatWaits}
 use Rattle.x25_layer.specs.Layer.{LayerSettings, put_at, packet_on}
 use Rattle.x25_layer.specs.Calls.{layer_pulled}
 use Rattle.x25_layer.specs.code.FitsLayer.{FitsCircuits}
-use Rattle.x25_layer.specs.code.Waiting.{IsOutside, WaitAt}
-use Rattle.x25_layer.specs.declared.places.Places.{Places}
 use Rattle.x25_link.specs.declared.ordered_link.OrderedLink.{Ghosts}
 use Rattle.x25_layer.specs.code.OverLink.{after_all, view_of, Takes}
 use Rattle.x25_layer.specs.Rounds.{LinkView, Putting, with_pulled, pull_one, round}
@@ -172,27 +170,15 @@ none_waits pulls link c vs n t low fits none =
     let nothing : pulled c.circuit x ≡ pulls_nothing x = pulls c.circuit found.0 x (fits n found.0 found.1) (none found.0 found.1) in
     one_none link c (suc n) t (ap (λ (p : Pulled). p.packet) (where_nothing (nat_lt (link.waits t.put) 8) c.circuit x nothing))
 
--- a round of these
-pub round_still : PullsWhatWaits → (link : LinkView) (c : LayerSettings) (vs : List circuit_code.Circuit) (n : ℕ) (t : Putting) → n ≤ length vs → FitsCircuits c vs t.layer.circuits
-    → ((k : ℕ) (v : circuit_code.Circuit) → k < n → slice_get vs k ≡ Some v → waits_of v ≡ 0) → round link c n t ≡ t
-round_still pulls link c vs zero t low fits none = refl
-round_still pulls link c vs (suc n) t low fits none =
-    ap (λ (u : Putting). pull_one link c (suc n) u) (round_still pulls link c vs n t (let e : n ≤ length vs = omega (arith, low) in e) fits (λ k v less is. none k v (let e : k < suc n = omega (arith, less) in e) is))
-    ∙ none_waits pulls link c vs n t (let e : n < length vs = omega (arith, low) in e) fits (λ v is. none n v (let e : n < suc n = omega arith in e) is)
-
--- these behind a round of others
+-- a round of these behind one of others
 pub round_past : PullsWhatWaits → (link : LinkView) (c : LayerSettings) (vs : List circuit_code.Circuit) (m n : ℕ) (t : Putting) → m + n ≤ length vs → FitsCircuits c vs (round link c n t).layer.circuits
-    → ((k : ℕ) (v : circuit_code.Circuit) → n ≤ k → slice_get vs k ≡ Some v → waits_of v ≡ 0) → round link c (m + n) t ≡ round link c n t
+    → ((k : ℕ) (v : circuit_code.Circuit) → n ≤ k → k < m + n → slice_get vs k ≡ Some v → waits_of v ≡ 0) → round link c (m + n) t ≡ round link c n t
 round_past pulls link c vs zero n t low fits none = let same : zero + n ≡ n = omega arith in ap (λ (k : ℕ). round link c k t) same
 round_past pulls link c vs (suc m) n t low fits none =
     let next : suc m + n ≡ suc (m + n) = omega arith in
     ap (λ (k : ℕ). round link c k t) next
-    ∙ ap (λ (u : Putting). pull_one link c (suc (m + n)) u) (round_past pulls link c vs m n t (let e : m + n ≤ length vs = omega (arith, low) in e) fits none)
-    ∙ none_waits pulls link c vs (m + n) (round link c n t) (let e : m + n < length vs = omega (arith, low) in e) fits (λ v is. none (m + n) v (let e : n ≤ m + n = omega arith in e) is)
-
--- all circuits are asked
-pub asked_all : (vs : List circuit_code.Circuit) (p : Places) → ((k : ℕ) → k < 2 ^ 64 - 1 → IsOutside p k → ⊥) → length vs ≤ 16 → WaitAt p vs
-asked_all vs p all few k v is out = let low = slice_get_within vs k v is in absurd (all k (let e : k < 2 ^ 64 - 1 = omega (arith, low, few) in e) out)
+    ∙ ap (λ (u : Putting). pull_one link c (suc (m + n)) u) (round_past pulls link c vs m n t (let e : m + n ≤ length vs = omega (arith, low) in e) fits (λ k v high less is. none k v high (let e : k < suc m + n = omega (arith, less) in e) is))
+    ∙ none_waits pulls link c vs (m + n) (round link c n t) (let e : m + n < length vs = omega (arith, low) in e) fits (λ v is. none (m + n) v (let e : n ≤ m + n = omega arith in e) (let e : m + n < suc m + n = omega arith in e) is)
 
 -- A round keeps whether a restart is under way, and how many were done.
 pub record KeepsRestarts (s t : Putting) : Type 0 where

@@ -1,5 +1,5 @@
 -- What the code's values stand for: contracts and proofs need it, and a reader of the claims doesn't.
-pub mod Waiting
+pub mod Idle
 pub mod Counts
 pub mod FitsLayer
 pub mod OverLink

@@ -66,7 +66,7 @@ impl Layer {
         ensures missing { IsErrOf result LayerError.NoMemory → is_message (plain_request request.entry) ≡ true }
     {
         let place = usize::from(channel) - 1;
-        self.asked = self.asked.with_place(place);
+        self.busy.insert(channel);
         match self.circuits[place].ask(request) {
             Ok(packet) => Ok(packet),
             Err(error) => Err(LayerError::of_circuit(error)),

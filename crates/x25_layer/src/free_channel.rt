@@ -11,7 +11,7 @@ use x25_bits::Role;
 use x25_circuit::Circuit;
 
 fn lowest_free(circuits: &[Circuit]) -> Option<u16>
-    requires { length circuits.now ≤ 16 }
+    requires { length circuits.now ≤ 4095 }
     ensures value { (c : LayerSettings) (f : ℕ → Channel) → FitsCircuits c circuits.now f
         → result ≡ lowest_free f (length circuits.now) }
     ensures some { IfSome result (λ channel. is_channel (length circuits.now) channel ≡ true) }
@@ -27,20 +27,19 @@ fn lowest_free(circuits: &[Circuit]) -> Option<u16>
 }
 
 fn highest_free(circuits: &[Circuit]) -> Option<u16>
-    requires { length circuits.now ≤ 16 }
+    requires { length circuits.now ≤ 4095 }
     ensures value { (c : LayerSettings) (f : ℕ → Channel) → FitsCircuits c circuits.now f
         → result ≡ highest_free f (length circuits.now) }
     ensures some { IfSome result (λ channel. is_channel (length circuits.now) channel ≡ true) }
 {
-    let mut free = None;
-    let mut channel = 0;
-    for circuit in circuits {
-        channel += 1;
-        if circuit.is_free() {
-            free = Some(channel);
+    let mut channel = circuits.len();
+    while channel > 0 {
+        if circuits[channel - 1].is_free() {
+            return Some(channel as u16);
         }
+        channel -= 1;
     }
-    free
+    None
 }
 
 impl Layer {

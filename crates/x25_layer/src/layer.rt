@@ -1,12 +1,12 @@
 ghost use Rattle.std.specs.Prelude.{◌≡◌, ℕ, ◌-◌, ◌^◌, ◌<◌, ◌≤◌, ◌↔◌, length, if◌then◌else◌, true, false, Some, IfOk};
-ghost use Rattle.std.specs.Prelude.{IfErr};
+ghost use Rattle.std.specs.Prelude.{IfErr, vec_capacity};
 ghost use Rattle.std.specs.Prelude.{IfSome, IfNone, IsErrOf, slice_get};
 ghost use Rattle.x25_layer.specs.code.Counts.{HaveCountsLeft};
-ghost use Rattle.x25_layer.specs.code.Waiting.{WaitAt};
+ghost use Rattle.x25_layer.specs.code.Idle.{IdleBeside};
 
+use crate::busy::Busy;
 use crate::circuits::{begun_circuits, forget_all};
 use crate::error::LayerError;
-use crate::places::Places;
 use crate::putting::PacketMemory;
 use crate::stretch::Stretch;
 use std::alloc::Global;
@@ -14,7 +14,7 @@ use x25_bits::{Promise, Role};
 use x25_circuit::{Awaits, Circuit, Params};
 
 /// The most channels of a layer (profile).
-pub const CHANNELS: usize = 16;
+pub const CHANNELS: usize = 4095;
 
 // 1 where it is so.
 fn one_if(is_so: bool) -> usize
@@ -38,10 +38,11 @@ pub struct Layer {
     pub(crate) restarts: u64,
     /// The first is on channel 1.
     pub(crate) circuits: Vec<Circuit>,
-    ghost few: { length circuits.items ≤ 16 },
-    /// The circuits that are asked for what waits: in the others no message does.
-    pub(crate) asked: Places,
-    ghost still: { WaitAt asked circuits.items },
+    ghost few: { length circuits.items ≤ 4095 },
+    /// The circuits of all other channels are idle.
+    pub(crate) busy: Busy,
+    ghost places: { vec_capacity busy.channels ≡ length circuits.items },
+    ghost still: { IdleBeside busy.channels.items circuits.items },
     /// It is known that no count is at 2^64 - 1.
     pub(crate) counts_left: bool,
     ghost restarts_left: { counts_left ≡ true → restarts < 2 ^ 64 - 1 },
@@ -62,8 +63,8 @@ impl Layer {
     ghost use Rattle.x25_layer.specs.Layer.InPart.{joined_at};
     ghost use Rattle.x25_layer.specs.Layer.MessageRoom.{room_at};
 
-    /// The layer of an end whose link isn't up, with so many channels, 1 to 16. With `long_data` a call has at most 128
-    /// octets of user data (profile), else at most 16. It is the same at both ends.
+    /// The layer of an end whose link isn't up, with so many channels, 1 to 4,095. With `long_data` a call has at most
+    /// 128 octets of user data (profile), else at most 16. It is the same at both ends.
     ///
     /// 14 BadConfig for another number of channels, and else 70 alone.
     pub fn with(
@@ -75,20 +76,22 @@ impl Layer {
         ensures fits { IfOk result (λ v. FitsLayer
             (record { channels = channels; circuit = record { role = role; long_data = long_data } }) v at_rest) }
         ensures none_aside { IfOk result (λ v. v.memory ≡ 0) }
-        ensures config { IsErrOf result LayerError.BadConfig ↔ (is_channel 16 channels ≡ false) }
-        ensures memory { is_channel 16 channels ≡ true → IfErr result (λ e. e ≡ LayerError.NoMemory) }
+        ensures config { IsErrOf result LayerError.BadConfig ↔ (is_channel 4095 channels ≡ false) }
+        ensures memory { is_channel 4095 channels ≡ true → IfErr result (λ e. e ≡ LayerError.NoMemory) }
     {
         if channels == 0 || channels > CHANNELS {
             return Err(LayerError::BadConfig);
         }
+        let mut busy = Busy::with(alloc, channels)?;
         let circuits = begun_circuits(alloc, role, channels, long_data)?;
+        busy.note_all(&circuits);
         Ok(Layer {
             role,
             long_data,
             restarting: false,
             restarts: 0,
             circuits,
-            asked: Places::everywhere(),
+            busy,
             counts_left: false,
             memory: Promise::new(alloc),
         })
@@ -138,14 +141,34 @@ impl Layer {
         }
     }
 
+    /// How many channels there are.
+    pub fn channels(&self) -> u16
+        ensures { (c : LayerSettings) (l : State) → FitsLayer c self.now l → result ≡ c.channels }
+    {
+        self.circuits.len() as u16
+    }
+
+    /// The next channel after one on which something may be under way: on those between no answer is awaited.
+    pub fn busy_after(&self, channel: u16) -> Option<u16>
+        ensures higher { IfSome result (λ next. channel < next) }
+        ensures between { (c : LayerSettings) (l : State) → FitsLayer c self.now l
+            → IfSome result (λ next. (k : ℕ) → channel < k → k < next → awaited_at c l k ≡ Awaits.Nothing) }
+        ensures none { (c : LayerSettings) (l : State) → FitsLayer c self.now l
+            → IfNone result ((k : ℕ) → channel < k → awaited_at c l k ≡ Awaits.Nothing) }
+    {
+        self.busy.after(channel)
+    }
+
     /// On how many channels an answer is awaited.
     pub fn awaited(&self) -> usize
         ensures { (c : LayerSettings) (l : State) → FitsLayer c self.now l
             → result ≡ awaited_up_to l.circuits c.channels }
     {
         let mut awaited = 0;
-        for circuit in self.circuits.iter() {
-            awaited += one_if(circuit.awaits().is_any());
+        let mut channel = 0;
+        while let Some(next) = self.busy.after(channel) {
+            awaited += one_if(self.circuits[usize::from(next) - 1].awaits().is_any());
+            channel = next;
         }
         awaited
     }
@@ -163,8 +186,10 @@ impl Layer {
             → result ≡ waits_up_to l.circuits c.channels }
     {
         let mut waits = 0;
-        for circuit in self.circuits.iter() {
-            waits += circuit.waits();
+        let mut channel = 0;
+        while let Some(next) = self.busy.after(channel) {
+            waits += self.circuits[usize::from(next) - 1].waits();
+            channel = next;
         }
         waits
     }
@@ -227,9 +252,9 @@ impl Layer {
         ensures memory { self.new.memory ≡ self.old.memory }
     {
         self.restarting = false;
-        self.asked = Places::everywhere();
         self.counts_left = false;
         forget_all(&mut self.circuits);
+        self.busy.note_all(&self.circuits);
     }
 
     /// The circuit of a channel.

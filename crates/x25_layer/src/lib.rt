@@ -3,13 +3,13 @@
 #![tactic(auto)]
 
 mod asking;
+mod busy;
 mod calls;
 mod circuits;
 mod error;
 mod free_channel;
 mod law;
 mod layer;
-mod places;
 mod putting;
 mod receiving;
 mod report;

@@ -101,9 +101,8 @@ impl Layer {
         let place = usize::from(channel) - 1;
         let circuit = &mut self.circuits[place];
         let answer = hear_circuit(circuit, read);
-        let waits = circuit.waits();
         let is_full = is_full(circuit);
-        self.asked = self.asked.with_waiting(place, waits);
+        self.busy.note(channel, circuit);
         self.counts_left &= !is_full;
         match answer {
             Ok(reply) => Ok(reply),

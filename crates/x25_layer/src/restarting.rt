@@ -16,7 +16,6 @@ ghost use Rattle.x25_layer.specs.Room.{HasRoom, HaveRoomStill};
 use crate::circuits::{begin_all, forget_all};
 use crate::error::LayerError;
 use crate::layer::Layer;
-use crate::places::Places;
 use crate::report::Report;
 use x25_bits::Role;
 use x25_circuit::{CircuitError, may_restart_for};
@@ -77,9 +76,9 @@ impl Layer {
         self.reserve_packets(link, 1)?;
         self.restarting = true;
         self.restarts = 0;
-        self.asked = Places::everywhere();
         self.counts_left = false;
         begin_all(&mut self.circuits);
+        self.busy.note_all(&self.circuits);
         let packet = Packet::Restart {
             cause: restart_cause(self.role),
             diagnostic: 0,
@@ -131,9 +130,9 @@ impl Layer {
         ensures room { HaveRoomStill self.old.circuits.items self.new.circuits.items }
     {
         self.restarting = true;
-        self.asked = Places::everywhere();
         self.counts_left = false;
         forget_all(&mut self.circuits);
+        self.busy.note_all(&self.circuits);
         let packet = Packet::Restart { cause, diagnostic };
         self.put(link, &packet, RESTART_OCTETS);
     }
@@ -148,9 +147,9 @@ impl Layer {
     {
         self.restarting = false;
         self.restarts += 1;
-        self.asked = Places::everywhere();
         self.counts_left = false;
         begin_all(&mut self.circuits);
+        self.busy.note_all(&self.circuits);
     }
 
     /// RESTART. It confirms this end's RESTART, or else it is confirmed (section 3.3.2 and 3.3.3).

@@ -1,18 +1,18 @@
 //! What a layer is asked before a packet is handed up: whether its counts have room, and memory to be set aside.
-ghost use Rattle.std.specs.Prelude.{◌≡◌, ℕ, ◌≤◌, ◌||◌, length, max, false, IfErr, IsOk, OnOk};
+ghost use Rattle.std.specs.Prelude.{◌≡◌, ℕ, ◌≤◌, ◌||◌, length, vec_capacity, max, false, IfErr, IsOk, OnOk};
 ghost use Rattle.x25_circuit.specs.Circuit.{Settings};
 ghost use Rattle.x25_circuit.specs.Circuit.{Circuit as Channel};
 ghost use Rattle.x25_circuit.specs.code.FitsCircuit.{FitsCircuit};
 ghost use Rattle.x25_layer.specs.Layer.{LayerSettings};
 ghost use Rattle.x25_layer.specs.Layer.{Layer as State};
 ghost use Rattle.x25_layer.specs.code.FitsLayer.{FitsLayer, FitsCircuits, is_most, full_up_to, is_full, FitsStill};
-ghost use Rattle.x25_layer.specs.code.Waiting.{WaitAt};
+ghost use Rattle.x25_layer.specs.code.Idle.{IdleBeside};
 ghost use Rattle.x25_layer.specs.Room.{HasCountsLeft, HaveCountsLeft, IsNotFull, HasRoomOn, HasRoom, HaveAtMost};
 ghost use Rattle.x25_layer.specs.Room.{KeepOthers};
 
+use crate::busy::Busy;
 use crate::error::LayerError;
 use crate::layer::Layer;
-use crate::places::Places;
 use crate::putting::MOST_PUT;
 use x25_circuit::Circuit;
 
@@ -42,12 +42,20 @@ fn any_full(circuits: &[Circuit]) -> bool
 
 // Sets memory aside in the circuit of a channel, where it is configured, for so many octets of user data of a packet,
 // but for no more than the longest has.
-fn reserve_on(circuits: &mut Vec<Circuit>, channel: u16, len: usize) -> Result<(), LayerError>
+fn reserve_on(
+    circuits: &mut Vec<Circuit>,
+    busy: &mut Busy,
+    channel: u16,
+    len: usize,
+) -> Result<(), LayerError>
+    requires { vec_capacity busy.old.channels ≡ length circuits.old.items }
     ensures fits { (c : LayerSettings) (f : ℕ → Channel) → FitsCircuits c circuits.old.items f
         → FitsCircuits c circuits.new.items f }
     ensures count { length circuits.new.items ≡ length circuits.old.items }
     ensures left { HaveCountsLeft circuits.old.items → HaveCountsLeft circuits.new.items }
-    ensures still { (p : Places) → WaitAt p circuits.old.items → WaitAt p circuits.new.items }
+    ensures places { vec_capacity busy.new.channels ≡ vec_capacity busy.old.channels }
+    ensures still { IdleBeside busy.old.channels.items circuits.old.items
+        → IdleBeside busy.new.channels.items circuits.new.items }
     ensures room { OnOk result (HasRoomOn channel len circuits.new.items) }
     ensures err { IfErr result (λ e. e ≡ LayerError.NoMemory) }
     ensures enough { HasRoomOn channel len circuits.old.items → IsOk result }
@@ -62,8 +70,12 @@ fn reserve_on(circuits: &mut Vec<Circuit>, channel: u16, len: usize) -> Result<(
     if number > circuits.len() {
         return Ok(());
     }
-    match circuits[number - 1].reserve(len) {
-        Ok(()) => Ok(()),
+    let circuit = &mut circuits[number - 1];
+    match circuit.reserve(len) {
+        Ok(()) => {
+            busy.note(channel, circuit);
+            Ok(())
+        }
         Err(_) => Err(LayerError::NoMemory),
     }
 }
@@ -102,6 +114,6 @@ impl Layer {
         if self.memory.reserve(MOST_PUT).is_err() {
             return Err(LayerError::NoMemory);
         }
-        reserve_on(&mut self.circuits, channel, len)
+        reserve_on(&mut self.circuits, &mut self.busy, channel, len)
     }
 }

@@ -1,5 +1,5 @@
 //! Rounds of pulls of data packets (profile): channels in rising order, one packet each, until a round gives none.
-ghost use Rattle.std.specs.Prelude.{◌≡◌, ◌+◌, ◌<◌, ◌≤◌, length, true, nat_lt};
+ghost use Rattle.std.specs.Prelude.{◌≡◌, ◌+◌, ◌<◌, ◌≤◌, length, vec_capacity, true, nat_lt};
 ghost use Rattle.x25_packet.specs.Spelling.{IsChannel};
 ghost use Rattle.x25_layer.specs.Layer.{LayerSettings};
 ghost use Rattle.x25_layer.specs.code.FitsLayer.{FitsLayer};
@@ -8,11 +8,11 @@ ghost use Rattle.x25_layer.specs.Calls.{PullsAll};
 ghost use Rattle.x25_layer.specs.Rounds.{Putting, rounds};
 ghost use Rattle.x25_layer.specs.code.Pulling.{IsEnough, PullsOne, GoesRound};
 ghost use Rattle.x25_layer.specs.Room.{HaveRoomStill};
-ghost use Rattle.x25_layer.specs.code.Waiting.{WaitAt};
+ghost use Rattle.x25_layer.specs.code.Idle.{IdleBeside};
 
+use crate::busy::Busy;
 use crate::error::LayerError;
 use crate::layer::Layer;
-use crate::places::Places;
 use crate::putting::{MOST_PUT, PacketMemory, put};
 use crate::sending::DATA_HEADER;
 use x25_circuit::{Circuit, what_waits_is_pulled};
@@ -83,45 +83,46 @@ fn round<L: OrderedLink>(
     circuits: &mut Vec<Circuit>,
     link: &mut L,
     memory: &mut PacketMemory,
-    asked: &mut Places,
+    busy: &mut Busy,
 ) -> bool
-    requires few { length circuits.old.items ≤ 16 }
+    requires few { length circuits.old.items ≤ 4095 }
     requires up { L.up link.old ≡ true }
-    requires still { WaitAt asked.old circuits.old.items }
+    requires places { vec_capacity busy.old.channels ≡ length circuits.old.items }
+    requires still { IdleBeside busy.old.channels.items circuits.old.items }
     requires longest { 4099 ≤ L.longest link.old }
     ensures { GoesRound L.OrderedLink circuits.old.items link.old memory.old circuits.new.items link.new memory.new
-        result asked.new }
+        result busy.new }
 {
     if !may_pull(link, memory) {
         return false;
     }
-    go_round(circuits, link, memory, asked)
+    go_round(circuits, link, memory, busy)
 }
 
-// A round of the circuits that are asked: behind it those are in which a message waits, and those between.
+// A round of the circuits that may be busy.
 #[inline(always)]
 fn go_round<L: OrderedLink>(
     circuits: &mut Vec<Circuit>,
     link: &mut L,
     memory: &mut PacketMemory,
-    asked: &mut Places,
+    busy: &mut Busy,
 ) -> bool
-    requires few { length circuits.old.items ≤ 16 }
+    requires few { length circuits.old.items ≤ 4095 }
     requires up { L.up link.old ≡ true }
-    requires still { WaitAt asked.old circuits.old.items }
+    requires places { vec_capacity busy.old.channels ≡ length circuits.old.items }
+    requires still { IdleBeside busy.old.channels.items circuits.old.items }
     requires longest { 4099 ≤ L.longest link.old }
     ensures { GoesRound L.OrderedLink circuits.old.items link.old memory.old circuits.new.items link.new memory.new
-        result asked.new }
+        result busy.new }
 {
     what_waits_is_pulled();
-    let end = asked.end.min(circuits.len());
-    let first = asked.first.min(end);
-    *asked = Places::none();
     let mut is_put = false;
-    for place in first..end {
-        let circuit = &mut circuits[place];
-        is_put |= pull_one(circuit, (place + 1) as u16, link, memory);
-        *asked = asked.with_waiting(place, circuit.waits());
+    let mut channel = 0;
+    while let Some(next) = busy.after(channel) {
+        let circuit = &mut circuits[usize::from(next) - 1];
+        is_put |= pull_one(circuit, next, link, memory);
+        busy.leave_idle(next, circuit);
+        channel = next;
     }
     is_put
 }
@@ -168,6 +169,6 @@ impl Layer {
             → self.new.memory + length (rounds (view_of L.up_in L.waits_in L.after_put x) c s).put
             ≡ self.old.memory + length s.put }
     {
-        while round(&mut self.circuits, link, &mut self.memory, &mut self.asked) {}
+        while round(&mut self.circuits, link, &mut self.memory, &mut self.busy) {}
     }
 }

@@ -161,12 +161,13 @@ fn a_link_that_is_down_refuses_all(rt: HostRuntime) {
 }
 
 // The only channel has a call.
-static NO_SUCH_CHANNEL: [Act; 7] = [
+static NO_SUCH_CHANNEL: [Act; 8] = [
     Act::Call("", "", &[], 0),
     Act::Fill(255),
     Act::Ask(0, [42; 7]),
     Act::Ask(2, [42; 7]),
     Act::Ask(257, [42; 7]),
+    Act::Ask(4097, [42; 7]),
     Act::Call("1", "2", &[], 41),
     Act::Waits(256),
 ];
@@ -233,8 +234,8 @@ fn refusal(alloc: Global, channels: usize) -> Option<LayerError> {
 }
 
 #[test]
-fn a_layer_has_1_to_16_channels(rt: HostRuntime) {
-    for channels in [0, 17] {
+fn a_layer_has_1_to_4095_channels(rt: HostRuntime) {
+    for channels in [0, 4096] {
         assert_eq!(rt;
             refusal(rt.alloc(), channels),
             Some(LayerError::BadConfig),

@@ -1,6 +1,6 @@
 //! What a layer puts over a plain link, and what it says of itself then; `tests/golden` has the packets of whole calls.
 
-use crate::calls::{ask, fill, hear, layer, plain_link, pull, restart, up};
+use crate::calls::{ask, call, fill, hear, layer, plain_link, pull, restart, up};
 use crate::refusals::request;
 use std::alloc::Global;
 use x25_circuit::{Notice, Request};
@@ -223,6 +223,53 @@ static PULLED: [Row; 8] = [
     (Act::Pull, (40, None), NO_PACKETS, CLOSED),
 ];
 
+// Messages wait on the first and on the last of 4,095 channels.
+static FAR_APART: [Row; 9] = [
+    (
+        Act::Take(&[0x10, 0x01, 0x0B, 0x00, 0x00]),
+        OK,
+        NO_PACKETS,
+        CLOSED,
+    ),
+    (
+        Act::Take(&[0x1F, 0xFF, 0x0B, 0x00, 0x00]),
+        OK,
+        NO_PACKETS,
+        CLOSED,
+    ),
+    (Act::Ask(4095, 0), OK, Some(&[(0xFF, 0x0F, 3)]), CLOSED),
+    (Act::Ask(1, 0), OK, Some(&[(1, 0x0F, 3)]), OPEN),
+    (Act::Fill(8), OK, STAY, OPEN),
+    (Act::Send(4095, 300), OK, STAY, (FIRST, true, 1, 8, 0)),
+    (
+        Act::Send(1, 300),
+        OK,
+        Some(&[
+            (0, 0x00, 1),
+            (0, 0x00, 1),
+            (0, 0x00, 1),
+            (0, 0x00, 1),
+            (0, 0x00, 1),
+            (0, 0x00, 1),
+            (0, 0x00, 1),
+            (0, 0x00, 1),
+        ]),
+        TWO_WAIT,
+    ),
+    (
+        Act::Pull,
+        OK,
+        Some(&[
+            (1, 0x10, 131),
+            (0xFF, 0x10, 131),
+            (1, 0x12, 131),
+            (0xFF, 0x12, 131),
+        ]),
+        TWO_WAIT,
+    ),
+    (Act::Down, OK, NO_PACKETS, CLOSED),
+];
+
 // DATA comes on a channel that is free, too, and an RR with the qualifier.
 static TRANSFERS: [Row; 8] = [
     (
@@ -432,62 +479,110 @@ fn odd_table(
     None
 }
 
-// At a DTE with two channels these tables happen in order.
-fn odd_row_of(alloc: Global, tables: &[&[Row]]) -> Option<Option<(usize, usize)>> {
-    let mut layer = layer(alloc, Role::Dte, 2).ok()?;
+// At a DTE with so many channels these tables happen in order.
+fn odd_row_of(alloc: Global, channels: usize, tables: &[&[Row]]) -> Option<Option<(usize, usize)>> {
+    let mut layer = layer(alloc, Role::Dte, channels).ok()?;
     let mut link = plain_link(alloc)?;
     Some(odd_table(alloc, &mut layer, &mut link, tables))
 }
 
 #[test]
 fn link_down_leaves_the_counts(rt: HostRuntime) {
-    assert_eq!(rt; odd_row_of(rt.alloc(), &[&COUNTS_STAND]), Some(None));
+    assert_eq!(rt; odd_row_of(rt.alloc(), 2, &[&COUNTS_STAND]), Some(None));
 }
 
 #[test]
 fn rounds_alternate_channels(rt: HostRuntime) {
     assert_eq!(rt;
-        odd_row_of(rt.alloc(), &[&TWO_OPEN, &ALTERNATING]),
+        odd_row_of(rt.alloc(), 2, &[&TWO_OPEN, &ALTERNATING]),
         Some(None)
     );
+}
+
+#[test]
+fn rounds_go_from_the_first_channel_to_the_last(rt: HostRuntime) {
+    assert_eq!(rt; odd_row_of(rt.alloc(), 4095, &[&FAR_APART]), Some(None));
 }
 
 #[test]
 fn pulls_end_where_eight_packets_wait(rt: HostRuntime) {
     assert_eq!(rt;
-        odd_row_of(rt.alloc(), &[&TWO_OPEN, &UP_TO_EIGHT]),
+        odd_row_of(rt.alloc(), 2, &[&TWO_OPEN, &UP_TO_EIGHT]),
         Some(None)
     );
-    assert_eq!(rt; odd_row_of(rt.alloc(), &[&TWO_OPEN, &PULLED]), Some(None));
+    assert_eq!(rt;
+        odd_row_of(rt.alloc(), 2, &[&TWO_OPEN, &PULLED]),
+        Some(None)
+    );
 }
 
 #[test]
 fn packets_of_data_transfer_are_answered(rt: HostRuntime) {
-    assert_eq!(rt; odd_row_of(rt.alloc(), &[&TRANSFERS]), Some(None));
+    assert_eq!(rt; odd_row_of(rt.alloc(), 2, &[&TRANSFERS]), Some(None));
 }
 
 #[test]
 fn packets_are_read_in_all_forms(rt: HostRuntime) {
-    assert_eq!(rt; odd_row_of(rt.alloc(), &[&IN_ALL_FORMS]), Some(None));
+    assert_eq!(rt; odd_row_of(rt.alloc(), 2, &[&IN_ALL_FORMS]), Some(None));
 }
 
 fn is_new(layer: &Layer) -> bool {
-    let names = (layer.name(1), layer.name(16), layer.name(0), layer.name(17));
+    let names = (
+        layer.name(1),
+        layer.name(4095),
+        layer.name(0),
+        layer.name(4096),
+    );
     let said = (
-        layer.params(16),
-        layer.params(17),
-        layer.octets_joined(17),
+        layer.params(4095),
+        layer.params(4096),
+        layer.octets_joined(4096),
         layer.full(),
     );
-    names == (FIRST, FIRST, None, None) && said == (Some(Params::default()), None, 0, false)
+    names == (FIRST, FIRST, None, None)
+        && said == (Some(Params::default()), None, 0, false)
+        && (layer.channels(), layer.busy_after(0)) == (4095, None)
 }
 
 fn is_made_new(alloc: Global) -> Option<bool> {
-    let layer = layer(alloc, Role::Dte, 16).ok()?;
+    let layer = layer(alloc, Role::Dte, 4095).ok()?;
     Some(is_new(&layer))
 }
 
 #[test]
 fn a_layer_has_the_channels_it_was_made_with(rt: HostRuntime) {
     assert_eq!(rt; is_made_new(rt.alloc()), Some(true));
+}
+
+// The channels that two calls take, and the first on which an answer is awaited then, of all and of those after 4,094.
+type Called = (
+    Result<u16, LayerError>,
+    Result<u16, LayerError>,
+    Option<u16>,
+    Option<u16>,
+);
+
+fn calls_twice(layer: &mut Layer, link: &mut PlainLink) -> Called {
+    let (_, first) = call(layer, link, ("1", "2"), &[]);
+    let (_, second) = call(layer, link, ("1", "2"), &[]);
+    (first, second, layer.busy_after(0), layer.busy_after(4094))
+}
+
+// At an end with 4,095 channels.
+fn called(alloc: Global, role: Role) -> Option<Called> {
+    let mut layer = layer(alloc, role, 4095).ok()?;
+    let mut link = plain_link(alloc)?;
+    Some(calls_twice(&mut layer, &mut link))
+}
+
+#[test]
+fn a_call_takes_the_channel_of_its_end(rt: HostRuntime) {
+    assert_eq!(rt;
+        called(rt.alloc(), Role::Dte),
+        Some((Ok(4095), Ok(4094), Some(4094), Some(4095)))
+    );
+    assert_eq!(rt;
+        called(rt.alloc(), Role::Dce),
+        Some((Ok(1), Ok(2), Some(1), None))
+    );
 }

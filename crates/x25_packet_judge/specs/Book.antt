@@ -11,7 +11,7 @@ use Rattle.x25_packet.specs.Spelling.{longest_user}
 use Rattle.x25_packet.specs.declared.error.PacketError.{PacketError}
 use Rattle.x25_decode.specs.declared.answer.Reading.{Reading}
 use Rattle.x25_packet_judge.specs.Channel as channels
-use Rattle.x25_packet_judge.specs.Channels.{all_alike, all_take, channel_of}
+use Rattle.x25_packet_judge.specs.Channels.{all_alike, all_lost, all_take, channel_of}
 use Rattle.x25_packet_judge.specs.Item.{item_of}
 use Rattle.x25_packet_judge.specs.Layer.{unseen}
 use Rattle.x25_packet_judge.specs.Layers as layers
@@ -53,7 +53,12 @@ fills c d b = record { dte = b.dte; dce = b.dce; restarts = c; channels = all_al
 
 -- packets of an end were missed, of any channels
 abbrev pub forgets : Book → Book
-forgets b = fills (channels.lost b.restarts) channels.any_channel b
+forgets b = record {
+  dte = b.dte;
+  dce = b.dce;
+  restarts = channels.lost b.restarts;
+  channels = all_lost b.channels;
+}
 
 -- ---- a packet
 
@@ -185,7 +190,7 @@ reads from reading octets b = reads_on from reading octets (channel_in octets) b
 
 -- ---- a frame
 
--- an N(R): where it shows that packets of the other end weren't seen, nothing is known of any channel
+-- an N(R): where it shows that packets of the other end weren't seen, no end is known on any channel
 unfoldable pub hears : Role → ℕ → Book → Book
 hears from number b =
     if layers.finds_other number (layers_of from b)

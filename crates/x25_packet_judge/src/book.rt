@@ -224,7 +224,7 @@ impl Book {
         ensures { self.new ≡ definition.forgets self.old }
     {
         self.restarts.lose();
-        self.channels.begin(Channel::any());
+        self.channels.lose();
     }
 
     /// Octets that spell no packet: nothing may be said of any channel where they name none.

@@ -1,10 +1,10 @@
 //! The logical channels, and what is known of both ends of each.
 ghost use Rattle.std.specs.Prelude.{◌≡◌, ◌≤◌, ◌%◌, [], IfOk, List, length, map, slice_set, vec_capacity};
 ghost use Rattle.std.specs.List.{All};
-ghost use Rattle.x25_packet_judge.specs.Channels.{all_alike, all_take, channel_of};
+ghost use Rattle.x25_packet_judge.specs.Channels.{all_alike, all_lost, all_take, channel_of};
 ghost use Rattle.x25_packet_judge.specs.Channel.{any_channel};
 ghost use Rattle.x25_packet_judge.specs.Channel as definition;
-ghost use Rattle.x25_packet_judge.specs.code.Slots.{IsOld, put, shown, slot_takes};
+ghost use Rattle.x25_packet_judge.specs.code.Slots.{IsOld, put, shown, slot_lost, slot_takes};
 ghost use Rattle.x25_packet_judge.specs.declared.channel.Channel as declared;
 
 use crate::channel::{Channel, Finding};
@@ -16,10 +16,10 @@ use x25_possible::Packet;
 /// How many numbers a logical channel may have.
 const CHANNELS: usize = 4_096;
 
-/// A channel, and behind how many beginnings it was seen.
+/// A channel, and the turn at which it was seen.
 #[derive(Drop)]
 pub(crate) struct Slot {
-    pub(crate) begun: u64,
+    pub(crate) turn: u64,
     pub(crate) channel: Channel,
 }
 
@@ -27,7 +27,9 @@ pub(crate) struct Slot {
 #[derive(Drop)]
 pub(crate) struct Channels {
     slots: Vec<Slot>,
-    /// How often all began anew.
+    /// How often all began anew, or packets of all were missed.
+    turn: u64,
+    /// The turn at which all began anew.
     begun: u64,
     /// What each is that wasn't seen since then.
     usual: Channel,
@@ -36,74 +38,113 @@ pub(crate) struct Channels {
 impl Model for Channels {
     ghost Value = { List declared.Channel };
 
-    ghost view = { λ c. map (shown c.begun c.usual) c.slots.items };
+    ghost view = { λ c. map (shown c.begun c.turn c.usual) c.slots.items };
 
     ghost invariant = { λ c. (length c.slots.items ≡ 4096) × (vec_capacity c.slots ≡ 4096)
-        × All (IsOld c.begun) c.slots.items };
+        × All (IsOld c.turn) c.slots.items × (c.begun ≤ c.turn) };
 }
 
 /// Puts as many channels, of which nothing is known.
 fn fill_up(slots: &mut Vec<Slot>)
     requires empty { slots.old.items ≡ [] }
     requires room { 4096 ≤ vec_capacity slots.old }
-    ensures alike { (usual : declared.Channel) → map (shown 1 usual) slots.new.items ≡ all_alike usual }
+    ensures alike { (usual : declared.Channel) → map (shown 1 1 usual) slots.new.items ≡ all_alike usual }
     ensures old { All (IsOld 0) slots.new.items }
     ensures size { length slots.new.items ≡ 4096 }
     ensures room { vec_capacity slots.new ≡ vec_capacity slots.old }
 {
     for _ in 0..CHANNELS {
         slots.push_reserved(Slot {
-            begun: 0,
+            turn: 0,
             channel: Channel::any(),
         });
     }
 }
 
 /// Brings a channel up to date.
-fn find(slot: &mut Slot, begun: u64, usual: &Channel)
-    ensures { slot.new ≡ put begun (shown begun usual.now slot.old) }
+fn find(slot: &mut Slot, begun: u64, turn: u64, usual: &Channel)
+    ensures { slot.new ≡ put turn (shown begun turn usual.now slot.old) }
 {
-    if slot.begun != begun {
+    if slot.turn < begun {
         slot.channel = usual.copy();
-        slot.begun = begun;
+        slot.turn = turn;
+        return;
+    }
+    if slot.turn != turn {
+        slot.channel.lose();
+        slot.turn = turn;
     }
 }
 
 /// A packet of it.
-fn judges(slot: &mut Slot, begun: u64, usual: &Channel, from: Role, packet: Packet) -> Finding
+fn judges(
+    slot: &mut Slot,
+    begun: u64,
+    turn: u64,
+    usual: &Channel,
+    from: Role,
+    packet: Packet,
+) -> Finding
     ensures slot { slot.new
-        ≡ put begun (definition.judges from packet (shown begun usual.now slot.old)).channel }
-    ensures finding { result ≡ (definition.judges from packet (shown begun usual.now slot.old)).finding }
+        ≡ put turn (definition.judges from packet (shown begun turn usual.now slot.old)).channel }
+    ensures finding { result ≡ (definition.judges from packet (shown begun turn usual.now slot.old)).finding }
 {
-    find(slot, begun, usual);
+    find(slot, begun, turn, usual);
     slot.channel.judges(from, packet)
 }
 
 /// A packet of it that isn't read.
-fn misses(slot: &mut Slot, begun: u64, usual: &Channel) -> Finding
-    ensures slot { slot.new ≡ put begun (definition.misses (shown begun usual.now slot.old)).channel }
-    ensures finding { result ≡ (definition.misses (shown begun usual.now slot.old)).finding }
+fn misses(slot: &mut Slot, begun: u64, turn: u64, usual: &Channel) -> Finding
+    ensures slot { slot.new ≡ put turn (definition.misses (shown begun turn usual.now slot.old)).channel }
+    ensures finding { result ≡ (definition.misses (shown begun turn usual.now slot.old)).finding }
 {
-    find(slot, begun, usual);
+    find(slot, begun, turn, usual);
     slot.channel.misses()
 }
 
 /// A packet of all, for one that was seen.
-fn take_one(slot: &mut Slot, begun: u64, from: Role, packet: Packet)
-    ensures { slot.new ≡ slot_takes begun from packet slot.old }
+fn take_one(slot: &mut Slot, begun: u64, turn: u64, usual: &Channel, from: Role, packet: Packet)
+    ensures { slot.new ≡ slot_takes begun turn usual.now from packet slot.old }
 {
-    if slot.begun == begun {
+    if slot.turn >= begun {
+        find(slot, begun, turn, usual);
         slot.channel.takes(from, packet);
     }
 }
 
 /// A packet of all that were seen.
-fn take_each(slots: &mut Vec<Slot>, begun: u64, from: Role, packet: Packet)
-    ensures items { slots.new.items ≡ map (slot_takes begun from packet) slots.old.items }
+fn take_each(
+    slots: &mut Vec<Slot>,
+    begun: u64,
+    turn: u64,
+    usual: &Channel,
+    from: Role,
+    packet: Packet,
+)
+    ensures items { slots.new.items ≡ map (slot_takes begun turn usual.now from packet) slots.old.items }
     ensures room { vec_capacity slots.new ≡ vec_capacity slots.old }
 {
     for slot in slots.iter_mut() {
-        take_one(slot, begun, from, packet);
+        take_one(slot, begun, turn, usual, from, packet);
+    }
+}
+
+/// Packets of one were missed, which is told at once.
+fn lose_one(slot: &mut Slot, begun: u64, turn: u64, usual: &Channel)
+    ensures { slot.new ≡ slot_lost begun turn usual.now slot.old }
+{
+    find(slot, begun, turn, usual);
+    slot.channel.lose();
+    slot.turn = 1;
+}
+
+/// Packets of all were missed, and turns are counted from one again.
+fn lose_each(slots: &mut Vec<Slot>, begun: u64, turn: u64, usual: &Channel)
+    ensures items { slots.new.items ≡ map (slot_lost begun turn usual.now) slots.old.items }
+    ensures room { vec_capacity slots.new ≡ vec_capacity slots.old }
+{
+    for slot in slots.iter_mut() {
+        lose_one(slot, begun, turn, usual);
     }
 }
 
@@ -116,6 +157,7 @@ impl Channels {
         fill_up(&mut slots);
         Ok(Channels {
             slots,
+            turn: 1,
             begun: 1,
             usual: Channel::any(),
         })
@@ -132,6 +174,7 @@ impl Channels {
         judges(
             &mut self.slots[index],
             self.begun,
+            self.turn,
             &self.usual,
             from,
             packet,
@@ -145,15 +188,22 @@ impl Channels {
         ensures finding { result ≡ (definition.misses (channel_of channel self.old)).finding }
     {
         let index = usize::from(channel) % CHANNELS;
-        misses(&mut self.slots[index], self.begun, &self.usual)
+        misses(&mut self.slots[index], self.begun, self.turn, &self.usual)
     }
 
     /// A packet of all channels.
     pub(crate) fn take(&mut self, from: Role, packet: Packet)
         ensures { self.new ≡ all_take from packet self.old }
     {
+        take_each(
+            &mut self.slots,
+            self.begun,
+            self.turn,
+            &self.usual,
+            from,
+            packet,
+        );
         self.usual.takes(from, packet);
-        take_each(&mut self.slots, self.begun, from, packet);
     }
 
     /// All are as this one.
@@ -161,12 +211,33 @@ impl Channels {
         ensures { self.new ≡ all_alike usual }
     {
         self.usual = usual;
-        match self.begun.checked_add(1) {
-            Some(begun) => self.begun = begun,
+        match self.turn.checked_add(1) {
+            Some(turn) => {
+                self.turn = turn;
+                self.begun = turn;
+            }
             None => {
+                self.turn = 1;
                 self.begun = 1;
                 self.slots.clear();
                 fill_up(&mut self.slots);
+            }
+        }
+    }
+
+    /// Packets were missed, of any.
+    pub(crate) fn lose(&mut self)
+        ensures { self.new ≡ all_lost self.old }
+    {
+        match self.turn.checked_add(1) {
+            Some(turn) => {
+                self.turn = turn;
+                self.usual.lose();
+            }
+            None => {
+                lose_each(&mut self.slots, self.begun, self.turn, &self.usual);
+                self.turn = 1;
+                self.begun = 1;
             }
         }
     }

@@ -33,7 +33,7 @@ use x25_station::{
 ///   the one whose layer is that of the station as it is;
 /// - the station reports no error of procedure, in no session.
 ///
-/// Premises: k is 1 to 7, at most 16 channels, and what the user hands down and gives is octets.
+/// Premises: k is 1 to 7, at most 4,095 channels, and what the user hands down and gives is octets.
 pub fn any_peer_keeps_stations_over_sessions()
     ensures step { WithAnyPeer MeetInStep }
     ensures order { WithAnyPeer MetAreInOrder }

@@ -12,9 +12,9 @@ use Rattle.x25_clock.specs.declared.due.Due.TheVariants as due
 use Rattle.x25_clock.specs.declared.times.Times.{Times}
 use Rattle.x25_clock.specs.declared.wait.Wait.{Wait}
 use Rattle.x25_clock.specs.Due.{command_for}
-use Rattle.x25_clock.specs.Clock.{Deadlines, Seen, nothing_awaited, channels_from, deadline, is_past, number_of, time_of, t1_after, running, wait_after, heeded, overdue_of, asked_for, due_on, unless_on, due_of, renewed, renewed_on, after_due}
+use Rattle.x25_clock.specs.Clock.{Deadlines, Seen, most_due, nothing_awaited, channels_from, deadline, is_past, number_of, time_of, t1_after, running, wait_after, heeded, overdue_of, asked_for, due_on, unless_on, due_of, renewed, renewed_on, after_due}
 use Rattle.x25_pipe.specs.Pipe.{Act, asked_act, event_act, event_for, event_in, nothing_act}
-use Rattle.x25_pipe.specs.Timed.{Timed, TimedTurn, new_timed, writes, and_then, seen_at, heeds, act_turn, insist_turn, told_due, due_first, due_turns, most_due, answer_turn, time_said, mark_turn, timed_turn, timed_turns}
+use Rattle.x25_pipe.specs.Timed.{Timed, TimedTurn, new_timed, writes, and_then, seen_at, heeds, act_turn, insist_turn, told_due, due_first, due_turns, answer_turn, time_said, mark_turn, timed_turn, timed_turns}
 use Rattle.x25_pipe.specs.laws.ClockedLaw.{NothingIsDue}
 
 -- ---- how many moments are past
@@ -204,29 +204,24 @@ module _ (times : Times) (now : ℕ) where
 
 -- ---- what holds of the deadlines of a clock, whatever is seen
 
-length_map : {A B : Type 0} (f : A → B) (xs : List A) → length (map f xs) ≡ length xs
-length_map f [] = refl
-length_map f (x ∷ xs) = ap suc (length_map f xs)
-
-record IsClock (d : Deadlines) : Type 0 where
-  none : Unawaited d.waits
-  few : length d.waits ≡ 16
+abbrev IsClock : Deadlines → Type 0
+IsClock d = Unawaited d.waits
 
 module _ (times : Times) (now : ℕ) where
   clock_heeds : (x : Seen) (d : Deadlines) → IsClock d → IsClock (heeded times now x d)
-  clock_heeds x d h = record { none = heeded_none times now x.awaited d.waits h.none; few = length_map (λ (w : Wait). wait_after times now (x.awaited w.channel) w) d.waits ∙ h.few }
+  clock_heeds x d h = heeded_none times now x.awaited d.waits h
 
   clock_tells : (d : Deadlines) → IsClock d → IsClock (after_due times now d)
   clock_tells d h = by (is_past now d.t1) (is_past now d.restart)
     where
       on : (o : Option Wait) (idle : Bool) → IsClock (renewed_on times now o idle d)
-      on None true = record { none = h.none; few = h.few }
+      on None true = h
       on None false = h
-      on (Some x) idle = record { none = all_still times now x.channel d.waits h.none; few = length_map (renewed times now x.channel) d.waits ∙ h.few }
+      on (Some x) idle = all_still times now x.channel d.waits h
 
       by : (t1 restart : Bool) → IsClock (if t1 then record d { t1 = deadline now times.t1 } else if restart then record d { restart = deadline now times.t20 } else renewed_on times now (overdue_of now d.waits) (is_past now d.idle) d)
-      by true restart = record { none = h.none; few = h.few }
-      by false true = record { none = h.none; few = h.few }
+      by true restart = h
+      by false true = h
       by false false = on (overdue_of now d.waits) (is_past now d.idle)
 
   -- where nothing is due nothing is told as due
@@ -253,7 +248,7 @@ module _ (times : Times) (now : ℕ) where
 
       on_channel : (o : Option Wait) → overdue_of now d.waits ≡ o → unless_on o (if is_past now d.idle then Some due.Probe else None) ≡ None → due_of now (renewed_on times now o (is_past now d.idle) d) ≡ None
       on_channel None found same = on_idle (is_past now d.idle) same
-      on_channel (Some x) found same = absurd (overdue_none d.waits x h.none found same)
+      on_channel (Some x) found same = absurd (overdue_none d.waits x h found same)
 
       by_restart : (b : Bool) → (if b then Some due.Relink else unless_on (overdue_of now d.waits) (if is_past now d.idle then Some due.Probe else None)) ≡ None
           → due_of now (if b then record d { restart = deadline now times.t20 } else renewed_on times now (overdue_of now d.waits) (is_past now d.idle) d) ≡ None
@@ -269,14 +264,13 @@ module _ (times : Times) (now : ℕ) where
   most [] = omega arith
   most (w ∷ ws) = let first = one_most (is_past now w.until) in let rest = most ws in omega (arith, first, rest)
 
-  few_past : (d : Deadlines) → IsClock d → count now d ≤ 19
-  few_past d h =
+  few_past : (d : Deadlines) → count now d ≤ most_due d
+  few_past d =
       let t1 = one_most (is_past now d.t1) in
       let idle = one_most (is_past now d.idle) in
       let restart = one_most (is_past now d.restart) in
       let waits = most d.waits in
-      let few = h.few in
-      omega (arith, t1, idle, restart, waits, few)
+      omega (arith, t1, idle, restart, waits)
 
 -- ---- the turns of a line that says the time
 
@@ -312,9 +306,9 @@ module _ (c : Settings) (times : Times) where
       at_now : Timed
       at_now = record w { now = now }
 
-      by : (b : Bool) → IsClock (let t : TimedTurn = if b then act_turn c times w (nothing_act w.station) else due_turns c times most_due at_now in t.next.deadlines)
+      by : (b : Bool) → IsClock (let t : TimedTurn = if b then act_turn c times w (nothing_act w.station) else due_turns c times (most_due w.deadlines) at_now in t.next.deadlines)
       by true = act_clock w (nothing_act w.station) h
-      by false = (all_asked most_due at_now h (few_past times now w.deadlines h)).1
+      by false = (all_asked (most_due w.deadlines) at_now h (few_past times now w.deadlines)).1
 
   line_clock : (line : List ℕ) (w : Timed) → IsClock w.deadlines → IsClock (timed_turn c times line w).next.deadlines
   unfolding timed_turn
@@ -325,8 +319,8 @@ module _ (c : Settings) (times : Times) where
   lines_clock [] w h = h
   lines_clock (line ∷ lines) w h = lines_clock lines (timed_turn c times line w).next (line_clock line w h)
 
-first_clock : IsClock nothing_awaited
-first_clock = record { none = all 16 1; few = refl }
+first_clock : (channels : ℕ) → IsClock (nothing_awaited channels)
+first_clock channels = all channels 1
   where
     all : (n first : ℕ) → Unawaited (channels_from first n)
     all zero first = tt
@@ -337,17 +331,17 @@ unfolding timed_turn
 nothing_is_due c times lines line now said later = by (time_said line) said
   where
     w : Timed
-    w = (timed_turns c times lines new_timed).next
+    w = (timed_turns c times lines (new_timed c)).next
 
     at_now : Timed
     at_now = record w { now = now }
 
     sound : IsClock w.deadlines
-    sound = lines_clock c times lines new_timed first_clock
+    sound = lines_clock c times lines (new_timed c) (first_clock c.channels)
 
-    at_time : (b : Bool) → nat_lt now w.now ≡ b → due_of now (let t : TimedTurn = if b then act_turn c times w (nothing_act w.station) else due_turns c times most_due at_now in t.next.deadlines) ≡ None
+    at_time : (b : Bool) → nat_lt now w.now ≡ b → due_of now (let t : TimedTurn = if b then act_turn c times w (nothing_act w.station) else due_turns c times (most_due w.deadlines) at_now in t.next.deadlines) ≡ None
     at_time true is = absurd (omega (arith, ltb-true now w.now is, later))
-    at_time false is = (all_asked c times most_due at_now sound (few_past times now w.deadlines sound)).0
+    at_time false is = (all_asked c times (most_due w.deadlines) at_now sound (few_past times now w.deadlines)).0
 
     by : (o : Option ℕ) → o ≡ Some now → due_of now (answer_turn c times line w o).next.deadlines ≡ None
     by None is = absurd (none-some now is)

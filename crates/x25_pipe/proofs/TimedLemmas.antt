@@ -125,6 +125,19 @@ pub something_is_due : (c : Settings) (times : Times) (n m : ℕ) (w : Timed) (d
     → due_turns c times n w ≡ and_then (due_turns c times m) (insist_turn c times due (told_due times w))
 something_is_due c times n m w due more is = ap (λ n. due_turns c times n w) more ∙ something_due c times m w due is
 
+-- as much is left as is due at most
+pub all_left : (c : Settings) (times : Times) (old now : Option (List ℕ)) (p : TimedPipe) (w : Timed) (told : List ℕ) (refused : Bool) (n m : ℕ) → n ≡ m → StandsTimed c times old now p w told refused
+    → LeavesTimed c times old now p (due_turns c times n) told refused (due_turns c times m w)
+all_left c times old now p w told refused n m is h = record {
+  at = w;
+  text = told;
+  status = refused;
+  stands = h;
+  next = ap (λ k. (due_turns c times k w).next) is;
+  same = ap (λ k. told ++ (due_turns c times k w).text) is;
+  any = ap (λ k. refused || (due_turns c times k w).is_refused) is;
+}
+
 -- ---- an input, line by line
 
 pub line_is : (c : Settings) (times : Times) (line : List ℕ) (w : Timed) → timed_turn c times line w ≡ and_then (mark_turn c) (answer_turn c times line w (time_said line))
@@ -163,22 +176,22 @@ whole_told c times old now p whole l empty =
 -- ---- a whole input
 
 pub stands_first_timed : (c : Settings) (times : Times) (written : Option (List ℕ)) (p : TimedPipe) → FitsStation c p.pipe.station new_station → p.pipe.end ≡ c.role → p.pipe.output ≡ []
-    → p.pipe.is_refused ≡ false → plain p.clock ≡ nothing_awaited → p.clock.times ≡ times → p.now ≡ 0 → StandsTimed c times written written p new_timed [] false
+    → p.pipe.is_refused ≡ false → plain p.clock ≡ nothing_awaited c.channels → p.clock.times ≡ times → p.now ≡ 0 → StandsTimed c times written written p (new_timed c) [] false
 stands_first_timed c times written p fits role empty status clock is_times now =
     record { pipe = stands_first c written p.pipe fits role empty status; deadlines = clock; timers = is_times; time = now }
 
 module _ (c : Settings) (times : Times) (old now : Option (List ℕ)) (p : TimedPipe) (input : List ℕ) where
   -- the first mark failed
-  pub mark_failed : AppendsPrefix old now (mark_turn c new_timed).text → AppendsPrefix old now (timed_text c times input)
+  pub mark_failed : AppendsPrefix old now (mark_turn c (new_timed c)).text → AppendsPrefix old now (timed_text c times input)
   unfolding timed
-  mark_failed b = begins_before c times old now [] false (timed_turns c times (lines_of input)) (mark_turn c new_timed) b
+  mark_failed b = begins_before c times old now [] false (timed_turns c times (lines_of input)) (mark_turn c (new_timed c)) b
 
   -- the input is still to come
-  leads_input : (q : TimedPipe) → StandsTimedAt c times old now q [] false (mark_turn c new_timed) → AnswersTimed c times q old now (lines_of input) input
+  leads_input : (q : TimedPipe) → StandsTimedAt c times old now q [] false (mark_turn c (new_timed c)) → AnswersTimed c times q old now (lines_of input) input
   unfolding timed
   leads_input q h = record {
-    at = new_timed;
-    text = (mark_turn c new_timed).text;
+    at = new_timed c;
+    text = (mark_turn c (new_timed c)).text;
     status = false;
     stands = h;
     next = refl;
@@ -186,8 +199,8 @@ module _ (c : Settings) (times : Times) (old now : Option (List ℕ)) (p : Timed
     any = refl;
   }
 
-  pub input_begins : (q : TimedPipe) (held first : HeldLine) → held ≡ first → q ≡ p → HoldsLine [] first → StandsTimedAt c times old now p [] false (mark_turn c new_timed)
+  pub input_begins : (q : TimedPipe) (held first : HeldLine) → held ≡ first → q ≡ p → HoldsLine [] first → StandsTimedAt c times old now p [] false (mark_turn c (new_timed c))
       → LinesLead (λ lines. AnswersTimed c times q old now lines input) held input
   input_begins q held first is_held is_pipe empty h =
       between (λ (lines : List (List ℕ)). AnswersTimed c times q old now lines input) held input (subst (HoldsLine []) (sym is_held) empty)
-      (leads_input q (subst (λ u. StandsTimedAt c times old now u [] false (mark_turn c new_timed)) (sym is_pipe) h))
+      (leads_input q (subst (λ u. StandsTimedAt c times old now u [] false (mark_turn c (new_timed c))) (sym is_pipe) h))

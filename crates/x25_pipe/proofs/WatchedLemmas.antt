@@ -1,5 +1,5 @@
 -- What a pipe does with its clock, line by line, as moments of one who has a clock.
-use Rattle.std.proofs.Common.{◌≡◌, ◌≤◌, ◌+◌, ◌-◌, ◌==◌, ℕ, zero, suc, List, [], ◌∷◌, ◌++◌, Bool, true, false, if◌then◌else◌, nat_lt, Option, Some, None, refl, sym, ap, subst, ◌∙◌, arith}
+use Rattle.std.proofs.Common.{◌≡◌, ◌≤◌, ◌+◌, ◌-◌, ◌==◌, ℕ, zero, suc, length, List, [], ◌∷◌, ◌++◌, Bool, true, false, if◌then◌else◌, nat_lt, Option, Some, None, refl, sym, ap, subst, ◌∙◌, arith}
 use Rattle.std.proofs.lemmas.Bool.{ltb-false}
 use Rattle.x25_circuit.specs.Calling.{SaysReady}
 use Rattle.x25_layer.specs.Layer.{Layer}
@@ -21,12 +21,12 @@ use Rattle.x25_station.specs.laws.TimerLaw as timer
 use Rattle.x25_station.specs.laws.TimerLaw.{Event, Asks}
 use Rattle.x25_clock.specs.declared.due.Due.{Due}
 use Rattle.x25_clock.specs.declared.times.Times.{Times}
-use Rattle.x25_clock.specs.Clock.{Deadlines, due_of, after_due}
+use Rattle.x25_clock.specs.Clock.{Deadlines, due_of, after_due, most_due}
 use Rattle.x25_clock.specs.Due.{command_for}
 use Rattle.x25_clock.specs.laws.ClockLaw.{Moment, Happens, IsDue, Watched, seen_of, heeds as heeds_event, watched_by, watched_from}
 use Rattle.x25_clock.specs.laws.WaitLaw as wait
 use Rattle.x25_pipe.specs.Pipe.{Act, act_of, asked_act, event_act, event_for, event_in, nothing_act, pulled_behind, with_pulls}
-use Rattle.x25_pipe.specs.Timed.{Timed, TimedTurn, act_turn, answer_turn, due_first, due_turns, insist_turn, most_due, new_timed, seen_at, time_said, timed_turn, timed_turns, told_due}
+use Rattle.x25_pipe.specs.Timed.{Timed, TimedTurn, act_turn, answer_turn, due_first, due_turns, insist_turn, new_timed, seen_at, time_said, timed_turn, timed_turns, told_due}
 use Rattle.x25_pipe.specs.laws.ClockedLaw.{watched_in, with_pull, EventIsDone, PipeIsWatched}
 
 -- some moments lead from one to the other
@@ -137,17 +137,20 @@ module _ (done : EventIsDone) (stays : StaysSettled) (c : Settings) (times : Tim
       let there : w.now + (now - w.now) ≡ now = omega (arith, low) in
       record { moments = IsDue (now - w.now) ∷ []; is = ap (λ (n : ℕ). let v : Watched = record { station = w.station; deadlines = after_due times n w.deadlines; now = n } in v) there }
 
-  time_reaches : (w : Timed) (now : ℕ) → w.now ≤ now → IsSettled c w.station → Reaches w (due_turns c times most_due (record w { now = now })).next
+  time_reaches : (w : Timed) (now : ℕ) → w.now ≤ now → IsSettled c w.station → Reaches w (due_turns c times (most_due w.deadlines) (record w { now = now })).next
   unfolding due_turns
   time_reaches w now low h =
       let v : Timed = record w { now = now } in
-      on w (told_due times v) (due_turns c times most_due v).next (passes w now low) (first_reaches 18 v (due_of now w.deadlines) (all_reach 18) h)
+      let rest : ℕ = 2 + length w.deadlines.waits in
+      let more : suc rest ≡ most_due w.deadlines = omega arith in
+      subst (λ (n : ℕ). Reaches w (due_turns c times n v).next) more
+      (on w (told_due times v) (due_turns c times (suc rest) v).next (passes w now low) (first_reaches rest v (due_of now w.deadlines) (all_reach rest) h))
 
   answer_reaches : (line : List ℕ) (w : Timed) (o : Option ℕ) → IsSettled c w.station → Reaches w (answer_turn c times line w o).next
   answer_reaches line w None h = asked_reaches w (event_in c.wide c.role line) h
   answer_reaches line w (Some now) h = by (nat_lt now w.now) refl
     where
-      by : (b : Bool) → nat_lt now w.now ≡ b → Reaches w (let t : TimedTurn = if b then act_turn c times w (nothing_act w.station) else due_turns c times most_due (record w { now = now }) in t.next)
+      by : (b : Bool) → nat_lt now w.now ≡ b → Reaches w (let t : TimedTurn = if b then act_turn c times w (nothing_act w.station) else due_turns c times (most_due w.deadlines) (record w { now = now }) in t.next)
       by true is = record { leads = nothing_leads c times w; settled = h }
       by false is = time_reaches w now (ltb-false now w.now is) h
 
@@ -160,4 +163,4 @@ module _ (done : EventIsDone) (stays : StaysSettled) (c : Settings) (times : Tim
 
 pub pipe_is_watched : EventIsDone → NewIsSettled → StaysSettled → PipeIsWatched
 pipe_is_watched done new stays c times lines small =
-    let all = (lines_reach done stays c times small lines new_timed (new c)).leads in (all.moments, all.is)
+    let all = (lines_reach done stays c times small lines (new_timed c) (new c)).leads in (all.moments, all.is)

@@ -12,7 +12,8 @@ use Rattle.x25_circuit.specs.declared.awaits.Awaits.TheVariants.{ResetConfirmati
 use Rattle.x25_clock.specs.declared.due.Due.{Due}
 use Rattle.x25_clock.specs.declared.due.Due.TheVariants as due
 use Rattle.x25_clock.specs.declared.times.Times.{Times}
-use Rattle.x25_clock.specs.Clock.{Deadlines, Seen, after_due, due_of, heeded, next_of, nothing_awaited}
+use Rattle.x25_clock.specs.Clock.{Deadlines, Seen, after_due, due_of, heeded, most_due, next_of}
+use Rattle.x25_clock.specs.Clock.{nothing_awaited}
 use Rattle.x25_clock.specs.Due.{command_for}
 use Rattle.x25_io.specs.HeldLine.{most_line}
 use Rattle.x25_io.specs.Lines.{lines_of}
@@ -31,8 +32,8 @@ pub record Timed : Type 0 where
   pub deadlines : Deadlines
   pub now : ℕ
 
-abbrev pub new_timed : Timed
-new_timed = record { station = new_station; deadlines = nothing_awaited; now = 0 }
+abbrev pub new_timed : Settings → Timed
+new_timed c = record { station = new_station; deadlines = nothing_awaited c.channels; now = 0 }
 
 -- what follows, what is written, and whether something was refused
 pub record TimedTurn : Type 0 where
@@ -131,10 +132,6 @@ unfoldable pub due_turns : Settings → Times → ℕ → Timed → TimedTurn
 due_turns c times zero w = writes w []
 due_turns c times (suc n) w = due_first c times (due_turns c times n) w (due_of w.now w.deadlines)
 
--- T1, an idle link, a restart, and 16 channels
-abbrev pub most_due : ℕ
-most_due = 19
-
 -- ---- a line
 
 -- the number that the figures write, below 2^64 and without leading zeros
@@ -156,7 +153,7 @@ abbrev pub answer_turn : Settings → Times → List ℕ → Timed → Option �
 answer_turn c times line w None = act_turn c times w (asked_act c w.station (event_in c.wide c.role line))
 answer_turn c times line w (Some now) =
     if nat_lt now w.now then act_turn c times w (nothing_act w.station)
-    else due_turns c times most_due (record w { now = now })
+    else due_turns c times (most_due w.deadlines) (record w { now = now })
 
 -- ---- its mark: the next moment at which something is due
 
@@ -183,7 +180,7 @@ timed_turns c times (line ∷ lines) w = and_then (timed_turns c times lines) (t
 -- ---- the whole: the first mark comes before anything is read
 
 unfoldable pub timed : Settings → Times → List ℕ → TimedTurn
-timed c times input = and_then (timed_turns c times (lines_of input)) (mark_turn c new_timed)
+timed c times input = and_then (timed_turns c times (lines_of input)) (mark_turn c (new_timed c))
 
 abbrev pub timed_text : Settings → Times → List ℕ → List ℕ
 timed_text c times input = (timed c times input).text

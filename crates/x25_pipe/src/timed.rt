@@ -12,9 +12,6 @@ use x25_clock::{Clock, Due, Times};
 use x25_io::{Fault, Sink};
 use x25_station::{Cfg, Role};
 
-/// The most that is due at one moment: T1, an idle link, a restart, and 16 channels.
-const MOST_DUE: u8 = 19;
-
 /// A station behind a pipe, its clock, and the time that was said last.
 #[derive(Drop)]
 pub(crate) struct TimedPipe {
@@ -69,14 +66,14 @@ fn time_said_in(line: Option<&[u8]>) -> Option<u64>
 impl TimedPipe {
     ghost use Rattle.std.specs.Prelude.{[], ◌≤◌, ◌<◌, ℕ, Bool, false, List, Option, None, IfErr, IfOk, OnOk};
     ghost use Rattle.std.specs.Prelude.{MatchOption, length};
-    ghost use Rattle.x25_clock.specs.Clock.{nothing_awaited, plain};
+    ghost use Rattle.x25_clock.specs.Clock.{most_due, nothing_awaited, plain};
     ghost use Rattle.x25_io.specs.HeldLine.{most_line};
     ghost use Rattle.x25_io.specs.code.MarksFaults.{MarksFaults};
     ghost use Rattle.x25_station.specs.Config.{Settings, config_refusal, settings_from};
     ghost use Rattle.x25_station.specs.Station.{new_station};
     ghost use Rattle.x25_station.specs.code.FitsStation.{FitsStation};
     ghost use Rattle.x25_pipe.specs.Pipe.{Act, asked_act, event_in, nothing_act};
-    ghost use Rattle.x25_pipe.specs.Timed.{Timed, act_turn, answer_turn, due_turns, insist_turn, mark_turn, most_due};
+    ghost use Rattle.x25_pipe.specs.Timed.{Timed, act_turn, answer_turn, due_turns, insist_turn, mark_turn};
     ghost use Rattle.x25_pipe.specs.Timed.{time_said};
     ghost use Rattle.x25_pipe.specs.code.Stands.{IsActed};
     ghost use Rattle.x25_pipe.specs.code.TimedStands.{StandsTimedAt, TurnsTimed};
@@ -88,12 +85,12 @@ impl TimedPipe {
         ensures role { IfOk result (λ p. p.pipe.end ≡ end) }
         ensures empty { IfOk result (λ p. p.pipe.output ≡ []) }
         ensures is_refused { IfOk result (λ p. p.pipe.is_refused ≡ false) }
-        ensures clock { IfOk result (λ p. plain p.clock ≡ nothing_awaited) }
+        ensures clock { IfOk result (λ p. plain p.clock ≡ nothing_awaited cfg.channels) }
         ensures times { IfOk result (λ p. p.clock.times ≡ times) }
         ensures now { IfOk result (λ p. p.now ≡ 0) }
         ensures memory { IfErr result (λ fault. fault ≡ Fault.NoMemory) }
     {
-        let clock = Clock::new(alloc, times)?;
+        let clock = Clock::new(alloc, times, cfg.channels)?;
         let pipe = Pipe::new(alloc, end, cfg)?;
         Ok(TimedPipe {
             pipe,
@@ -173,10 +170,10 @@ impl TimedPipe {
     fn ask_due<W: Sink>(&mut self, writer: &mut W) -> Result<(), Fault>
         ensures turns { (c : Settings) (times : Times) (old : Option (List ℕ))
             → TurnsTimed c times old (W.contents writer.old) (W.contents writer.new) self.old self.new result
-            (due_turns c times most_due) }
+            (λ w. due_turns c times (most_due w.deadlines) w) }
         ensures faults { MarksFaults W.Sink writer.old writer.new result }
     {
-        let mut left = MOST_DUE;
+        let mut left = self.clock.most_due();
         while left > 0 {
             let Some(due) = self.clock.due(self.now) else {
                 return Ok(());

@@ -5,9 +5,9 @@ use Rattle.std.proofs.Common.{drop_of_length-le}
 use Rattle.std.proofs.Math.Seq.{drop-cons}
 use Rattle.std.proofs.lemmas.Bool.{false_from_ne_true, leb-true, le-leb}
 use Rattle.x25_bits.specs.declared.role.Role.{Role}
-use Rattle.x25_possible.specs.Channel.{at_once, takes}
+use Rattle.x25_possible.specs.Channel.{at_once, found, takes}
 use Rattle.x25_possible.specs.code.Steps.{kept, is_large, spot_at, taken_on, settles_by, settles}
-use Rattle.x25_possible.specs.code.Steps.{all_of, and_then, made, are_at_end}
+use Rattle.x25_possible.specs.code.Steps.{all_of, and_then, found_from, made, are_at_end, settles_found}
 use Rattle.x25_possible.specs.declared.packet.Packet.{Packet}
 use Rattle.x25_possible.specs.declared.phase.Phase.{Phase}
 use Rattle.x25_possible.specs.declared.spots.Spot.{Spot}
@@ -122,6 +122,35 @@ module _ (role : Role) (n : ℕ) (way : List Packet) (d : Packet) (s : Phase) (o
       → takes role s X ≡ Some u → Rest u mid ≡ Here
   settles_on mid u small less e k t =
       sym (ap (λ o. and_then o (taken_on (takes role s X) Rest)) k ∙ ap (λ o. taken_on o Rest mid) t) ∙ settles_kept small less e
+
+-- ---- all in which an end is behind a packet, that was anywhere from there on
+
+module _ (role : Role) (last : Option Packet) (n : ℕ) (way : List Packet) (x : Packet) (out : List Spot) where
+  abbrev First : Option (List Spot)
+  First = settles_found role n (drop n way) (found last x) out
+
+  abbrev Found : Option (List Spot)
+  Found = found_from role last n (drop n way) x out
+
+  full_of : (rest : List Packet) → settles_found role n rest (found last x) out ≡ None → None ≡ found_from role last n rest x out
+  full_of [] e = sym e
+  full_of (y ∷ rest) e = sym (ap (λ o. and_then o (found_from role (Some y) (n + 1) rest x)) e)
+
+  pub found_full : First ≡ None → None ≡ Found
+  found_full e = full_of (drop n way) e
+
+  pub found_end : (mid : List Spot) → length way ≤ n → First ≡ Some mid → Some mid ≡ Found
+  found_end mid far e =
+      sym e ∙ ap (λ w. settles_found role n w (found last x) out) (drop_of_length-le way far)
+      ∙ sym (ap (λ w. found_from role last n w x out) (drop_of_length-le way far))
+
+  pub found_on : (mid : List Spot) (d : Packet) → n < length way → First ≡ Some mid
+      → found_from role (Some (get_or way n d)) (n + 1) (drop (n + 1) way) x mid ≡ Found
+  found_on mid d less e =
+      let front = here way n d less in
+      sym (ap (λ w. found_from role last n w x out) front
+      ∙ ap (λ o. and_then o (found_from role (Some (get_or way n d)) (n + 1) (drop (n + 1) way) x))
+      (sym (ap (λ w. settles_found role n w (found last x) out) front) ∙ e))
 
 -- what was made is what the definition has
 pub made_some : (b : Bool) (new : List Spot) (o : Option (List Spot)) → made b new ≡ o → b ≡ true → o ≡ Some new

@@ -78,7 +78,7 @@ polite_told s begun tape x p r way t all fits stands e polite rude =
     let w =
     leads_sends (channel_rules s.role begun) (channel_choices s.role) begun IsAsGood (channel_favourites s.role begun)
     c.as_good way c.place x v.0 c.leads v.2 in
-    let q = from_map (placed s.way.items) s.spots.items c.place ((fits c.place).1 c.is_in) in
+    let q = from_map (placed s.way.items) s.spots.items c.place ((fits.1 c.place).1 c.is_in) in
     let sent : sends q.0.phase x ≡ Some w.0 =
     ap (λ k. sends k.state x) (sym q.2) ∙ from_one (sends c.place.state x) w.0 w.1 in
     let may : may_send q.0.phase x ≡ true =

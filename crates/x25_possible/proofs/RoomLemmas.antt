@@ -1,21 +1,22 @@
 -- Where there is room a set stays known, and tells whatever room there is.
-use Rattle.std.proofs.Common.{Bool, true, false, ◌≡◌, ◌⊎◌, inl, inr, ℕ, suc, ◌+◌, ◌-◌, ◌<◌, ◌≤◌, ◌==◌, ◌||◌, nat_le, if◌then◌else◌, refl, sym, ap, subst, ◌∙◌}
+use Rattle.std.proofs.Common.{Bool, true, false, ◌≡◌, ◌⊎◌, inl, inr, ℕ, suc, ◌+◌, ◌-◌, ◌<◌, ◌≤◌, ◌==◌, ◌||◌, nat_le, ◌&&◌, not, if◌then◌else◌, refl, sym, ap, subst, ◌∙◌}
 use Rattle.std.proofs.Common.{List, [], ◌∷◌, ◌++◌, map, drop, length, flat_map, Option, Some, None, arith, append-nil, length-drop, drop_of_length-le}
 use Rattle.std.proofs.lemmas.Bool.{both_ways, eqb-true, leb-true, leb-false}
 use Rattle.std.proofs.lemmas.List.{drop_at, length-append}
 use Rattle.std.proofs.lemmas.Option.{none-some, same_Some}
 use Rattle.x25_bits.specs.declared.role.Role.{Role}
-use Rattle.x25_possible.specs.Channel.{at_once, channel_choices, channel_rules, one, sends, takes}
+use Rattle.x25_possible.specs.Channel.{at_once, channel_choices, channel_rules, dropped, found, one, sends, takes}
 use Rattle.x25_possible.specs.laws.Possible.{Item, Own, IsIn, IsUnexplained, Place, after_other, after_own, at, grown, possible, settled}
 use Rattle.x25_possible.specs.laws.Sets.{AreCounted, Fits, HasRoomToSend, HasRoomToShow, IsBroken, IsCounted, IsUntold, OfSome, StaysKnown, placed}
-use Rattle.x25_possible.specs.code.Steps.{all_of, and_then, anew, anew_at, any_as, any_spots, are_answered, are_at_end, begins, begun_to, breaks, broken_to}
-use Rattle.x25_possible.specs.code.Steps.{explained, go_all, goes, goes_by, grow_all, grows, is_blind, is_known, is_large, is_there, kept, known_by}
+use Rattle.x25_possible.specs.code.Steps.{all_of, and_then, anew, anew_at, are_answered, are_at_end, awaits, breaks, broken_to, hidden_by, located, lost, may_find, is_awaiting}
+use Rattle.x25_possible.specs.code.Steps.{explained, finds, found_from, found_to, is_lost, is_some, settles_found, go_all, goes, goes_by, grow_all, grows, is_blind, is_known, is_large, is_there, kept, known_by}
 use Rattle.x25_possible.specs.code.Steps.{latest_from, makes_known, next_of, quietly, rude_from, sends_to, sent, sent_to, settles, settles_by, shown, shown_to}
 use Rattle.x25_possible.specs.code.Steps.{shows_to, spot_at, standing, taken_on, told_by, trimmed, trimmed_to, trims, unexplained, without_room}
 use Rattle.x25_possible.specs.declared.packet.Packet.{Packet}
 use Rattle.x25_possible.specs.declared.phase.Phase.{Phase}
-use Rattle.x25_possible.specs.declared.phase.Phase.TheVariants.{Idle, Free, Clears, Restarts}
-use Rattle.x25_possible.specs.declared.set.Knowledge.TheVariants.{Any, Known}
+use Rattle.x25_possible.specs.declared.phase.Phase.TheVariants.{Idle}
+use Rattle.x25_possible.specs.declared.set.Knowledge.{Knowledge}
+use Rattle.x25_possible.specs.declared.set.Knowledge.TheVariants.{Blind, Lost, Ready, Doubt, Likely, Known}
 use Rattle.x25_possible.specs.declared.set.Set.{Set}
 use Rattle.x25_possible.specs.declared.set.Told.TheVariants.{Broken}
 use Rattle.x25_possible.specs.declared.spots.Spot.{Spot}
@@ -31,19 +32,8 @@ counted_more : (n : ℕ) (s : Phase) (qs : List Spot) → is_large s ≡ false �
 counted_more n s qs small all q (inl e) = subst (λ w. is_large w.phase ≡ false) (sym e) small
 counted_more n s qs small all q (inr h) = all q h
 
-pub record CountedAny : Type 0 where
-  pub idle : AreCounted (spot_at 0 Idle ∷ [])
-  pub any : AreCounted any_spots
-
-pub counted_any : CountedAny
-counted_any = record {
-  idle = counted_more 0 Idle [] refl (λ q h. absurd h);
-  any =
-      counted_more 0 Idle (spot_at 0 Free ∷ spot_at 0 Clears ∷ spot_at 0 Restarts ∷ []) refl
-      (counted_more 0 Free (spot_at 0 Clears ∷ spot_at 0 Restarts ∷ []) refl
-      (counted_more 0 Clears (spot_at 0 Restarts ∷ []) refl
-      (counted_more 0 Restarts [] refl (λ q h. absurd h))));
-}
+pub counted_idle : AreCounted (spot_at 0 Idle ∷ [])
+counted_idle = counted_more 0 Idle [] refl (λ q h. absurd h)
 
 counted_kept : (spot : Spot) (out new : List Spot) → is_large spot.phase ≡ false → AreCounted out → kept spot out ≡ Some new → AreCounted new
 counted_kept spot out new small old h q is = go ((keeps spot out new h q).0 is)
@@ -131,7 +121,7 @@ counted_gone breaks x s new all h =
     (λ q out mid small old e. counted_goes breaks s.role s.way.items x q out mid old e) s.spots.items [] new all none_counted h
 
 counted_trimmed : (s : Set) → AreCounted s.spots.items → AreCounted (trimmed s).spots.items
-counted_trimmed s all = go (are_at_end (length s.way.items) s.spots.items)
+counted_trimmed s all = go (is_awaiting s && are_at_end (length s.way.items) s.spots.items)
   where
     made : (o : Option (List Spot)) → anew s.spots.items [] ≡ o → AreCounted (trimmed_to o s).spots.items
     made None e = all
@@ -143,38 +133,37 @@ counted_trimmed s all = go (are_at_end (length s.way.items) s.spots.items)
     go true = made (anew s.spots.items []) refl
     go false = all
 
+counted_hidden : (k was : Knowledge) (s : Set) → AreCounted s.spots.items → AreCounted (hidden_by was k s).spots.items
+counted_hidden k Blind s all = all
+counted_hidden k Lost s all = none_counted
+counted_hidden k Ready s all = none_counted
+counted_hidden k Doubt s all = none_counted
+counted_hidden k Likely s all = none_counted
+counted_hidden k Known s all = none_counted
+
+counted_lost : (s : Set) → AreCounted s.spots.items → AreCounted (lost s).spots.items
+counted_lost s all = counted_hidden Lost s.knowledge s all
+
 counted_breaks : (x : Packet) (s : Set) → AreCounted s.spots.items → AreCounted (breaks x s).spots.items
 counted_breaks x s all = made (go_all true s.role s.way.items x s.spots.items []) refl
   where
     go : (b : Bool) (new : List Spot) → AreCounted new
-        → AreCounted (if b then any_as s.role Any else standing s.role s.way.items new s.knowledge).spots.items
-    go true new h = counted_any.any
+        → AreCounted (if b then lost s else standing s.role s.way.items new s.knowledge).spots.items
+    go true new h = counted_lost s all
     go false new h = h
 
     made : (o : Option (List Spot)) → go_all true s.role s.way.items x s.spots.items [] ≡ o → AreCounted (broken_to o s).spots.items
-    made None e = counted_any.any
+    made None e = counted_lost s all
     made (Some new) e = go (length new == 0) new (counted_gone true x s new all e)
-
-counted_begins : (x : Packet) (s : Set) → AreCounted s.spots.items → AreCounted (begins x s).spots.items
-counted_begins x s all = made (go_all false s.role s.way.items x s.spots.items []) refl
-  where
-    go : (b : Bool) (new : List Spot) → AreCounted new
-        → AreCounted (if b then s else standing s.role s.way.items new s.knowledge).spots.items
-    go true new h = all
-    go false new h = h
-
-    made : (o : Option (List Spot)) → go_all false s.role s.way.items x s.spots.items [] ≡ o → AreCounted (begun_to o s).spots.items
-    made None e = all
-    made (Some new) e = go (length new == 0) new (counted_gone false x s new all e)
 
 counted_sent : (x : Packet) (s : Set) → AreCounted s.spots.items → AreCounted (sent x s).set.spots.items
 counted_sent x s all = made (go_all false s.role s.way.items x s.spots.items []) refl
   where
     broken : (k : Bool) → AreCounted (if k
         then record { set = breaks x s; told = Broken (latest_from true Idle 0 s.spots.items) }
-        else quietly (begins x (any_as s.role s.knowledge))).set.spots.items
+        else quietly (lost s)).set.spots.items
     broken true = counted_breaks x s all
-    broken false = counted_begins x (any_as s.role s.knowledge) counted_any.any
+    broken false = counted_lost s all
 
     followed : (k : Bool) (new : List Spot) → AreCounted new → AreCounted (if k
         then record { set = standing s.role s.way.items new Known; told = told_by (rude_from x None s.spots.items) }
@@ -187,14 +176,49 @@ counted_sent x s all = made (go_all false s.role s.way.items x s.spots.items [])
     go false new h = followed (is_known s) new h
 
     made : (o : Option (List Spot)) → go_all false s.role s.way.items x s.spots.items [] ≡ o → AreCounted (sent_to x o s).set.spots.items
-    made None e = counted_any.any
+    made None e = none_counted
     made (Some new) e = go (length new == 0) new (counted_gone false x s new all e)
+
+counted_settles_found : (role : Role) (n : ℕ) (rest : List Packet) (o : Option Phase) (out new : List Spot) → AreCounted out
+    → settles_found role n rest o out ≡ Some new → AreCounted new
+counted_settles_found role n rest None out new old h = counted_same out new old h
+counted_settles_found role n rest (Some u) out new old h = counted_settles role n rest u out new old h
+
+counted_then : (o : Option (List Spot)) (f : List Spot → Option (List Spot)) (new : List Spot)
+    → ((mid : List Spot) → o ≡ Some mid → f mid ≡ Some new → AreCounted new) → and_then o f ≡ Some new → AreCounted new
+counted_then None f new next h = absurd (none-some new h)
+counted_then (Some mid) f new next h = next mid refl h
+
+counted_found : (role : Role) (last : Option Packet) (n : ℕ) (rest : List Packet) (x : Packet) (out new : List Spot) → AreCounted out
+    → found_from role last n rest x out ≡ Some new → AreCounted new
+counted_found role last n [] x out new old h = counted_settles_found role n [] (found last x) out new old h
+counted_found role last n (y ∷ rest) x out new old h =
+    counted_then (settles_found role n (y ∷ rest) (found last x) out) (found_from role (Some y) (n + 1) rest x) new
+    (λ mid e g. counted_found role (Some y) (n + 1) rest x mid new
+    (counted_settles_found role n (y ∷ rest) (found last x) out mid old e) g) h
+
+counted_finds : (x : Packet) (s : Set) → AreCounted s.spots.items → AreCounted (finds x s).spots.items
+counted_finds x s all = go (is_lost s && may_find s.knowledge x)
+  where
+    listed : (b : Bool) (new : List Spot) → AreCounted new
+        → AreCounted (if b then s else located x new s).spots.items
+    listed true new h = all
+    listed false new h =
+        counted_trimmed (standing s.role s.way.items new (if makes_known s.knowledge x new then Known else Likely)) h
+
+    made : (o : Option (List Spot)) → found_from s.role None 0 s.way.items x [] ≡ o → AreCounted (found_to x o s).spots.items
+    made None e = all
+    made (Some new) e = listed (length new == 0) new (counted_found s.role None 0 s.way.items x [] new none_counted e)
+
+    go : (b : Bool) → AreCounted (if b then found_to x (found_from s.role None 0 s.way.items x []) s else s).spots.items
+    go true = made (found_from s.role None 0 s.way.items x []) refl
+    go false = all
 
 pub counted_sends : (s : Set) (x : Packet) → AreCounted s.spots.items → AreCounted (sends_to x s).set.spots.items
 counted_sends s x all = go (is_blind s)
   where
-    go : (b : Bool) → AreCounted (if b then quietly s else trims (sent x s)).set.spots.items
-    go true = all
+    go : (b : Bool) → AreCounted (if b then quietly (finds x s) else trims (sent x s)).set.spots.items
+    go true = counted_finds x s all
     go false = counted_trimmed (sent x s).set (counted_sent x s all)
 
 counted_shown : (x : Packet) (s : Set) → AreCounted s.spots.items → AreCounted (shown x s).spots.items
@@ -202,7 +226,7 @@ counted_shown x s all = go (length s.way.items == 16)
   where
     made : (o : Option (List Spot)) → grow_all s.role (length s.way.items) (s.way.items ++ x ∷ []) s.spots.items [] ≡ o
         → AreCounted (shown_to x o s).spots.items
-    made None e = counted_any.any
+    made None e = none_counted
     made (Some new) e =
         counted_all (grows s.role (length s.way.items) (s.way.items ++ x ∷ []))
         (λ q out mid small old k. counted_grows s.role (length s.way.items) (s.way.items ++ x ∷ []) q out mid small old k)
@@ -210,14 +234,24 @@ counted_shown x s all = go (length s.way.items == 16)
 
     go : (b : Bool) → AreCounted (if b then without_room s
         else shown_to x (grow_all s.role (length s.way.items) (s.way.items ++ x ∷ []) s.spots.items []) s).spots.items
-    go true = counted_any.any
+    go true = none_counted
     go false = made (grow_all s.role (length s.way.items) (s.way.items ++ x ∷ []) s.spots.items []) refl
+
+counted_awaits : (x : Packet) (s : Set) → AreCounted s.spots.items → AreCounted (awaits x s).spots.items
+counted_awaits x s all = go (not (is_lost s) || is_some (dropped x Idle)) (length s.way.items == 16)
+  where
+    go : (a b : Bool) → AreCounted (if a then s
+        else if b then without_room s
+        else standing s.role (s.way.items ++ x ∷ []) s.spots.items s.knowledge).spots.items
+    go true b = all
+    go false true = none_counted
+    go false false = all
 
 pub counted_shows : (s : Set) (x : Packet) → AreCounted s.spots.items → AreCounted (shows_to x s).spots.items
 counted_shows s x all = go (is_blind s)
   where
-    go : (b : Bool) → AreCounted (if b then s else trimmed (shown x s)).spots.items
-    go true = all
+    go : (b : Bool) → AreCounted (if b then awaits x s else trimmed (shown x s)).spots.items
+    go true = counted_awaits x s all
     go false = counted_trimmed (shown x s) (counted_shown x s all)
 
 -- ---- a rule is told whatever room there is
@@ -260,7 +294,7 @@ guilty_told s begun tape x is all fits none =
     no_place p h =
         let q = from_all (after_own (channel_choices s.role) x) (map (placed s.way.items) s.spots.items) p h in
         subst (λ ps. IsIn p ps) nothing
-        (in_all (after_own (channel_choices s.role) x) (possible (channel_choices s.role) begun tape) q.0 p ((fits q.0).0 q.1) q.2)
+        (in_all (after_own (channel_choices s.role) x) (possible (channel_choices s.role) begun tape) q.0 p ((fits.1 q.0).0 q.1) q.2)
 
 -- ---- so much is made, where there is room for it
 
@@ -395,7 +429,7 @@ untold_known x s new is = go (length new == 0)
   where
     broken : (k : Bool) → k ≡ true → IsUntold (if k
         then record { set = breaks x s; told = Broken (latest_from true Idle 0 s.spots.items) }
-        else quietly (begins x (any_as s.role s.knowledge))).told → ⊥
+        else quietly (lost s)).told → ⊥
     broken true e h = h
     broken false e h = both_ways false refl e
 
@@ -430,8 +464,8 @@ sends_known : (s : Set) (x : Packet) → is_known s ≡ true → AreCounted s.sp
     → IsUntold (sends_to x s).told → is_known (sends_to x s).set ≡ true
 sends_known s x is all room = go (is_blind s) refl
   where
-    go : (b : Bool) → is_blind s ≡ b → IsUntold (if b then quietly s else trims (sent x s)).told
-        → is_known (if b then quietly s else trims (sent x s)).set ≡ true
+    go : (b : Bool) → is_blind s ≡ b → IsUntold (if b then quietly (finds x s) else trims (sent x s)).told
+        → is_known (if b then quietly (finds x s) else trims (sent x s)).set ≡ true
     go true e h = absurd (blind_known s.knowledge e is)
     go false e h = trimmed_known (sent x s).set ∙ sent_known s x is all room h
 
@@ -499,8 +533,8 @@ shown_known s x is room = by_length (length s.way.items == 16) refl
 shows_known : (s : Set) (x : Packet) → is_known s ≡ true → HasRoomToShow x s → is_known (shows_to x s) ≡ true
 shows_known s x is room = go (is_blind s) refl
   where
-    go : (b : Bool) → is_blind s ≡ b → is_known (if b then s else trimmed (shown x s)) ≡ true
-    go true e = is
+    go : (b : Bool) → is_blind s ≡ b → is_known (if b then awaits x s else trimmed (shown x s)) ≡ true
+    go true e = absurd (blind_known s.knowledge e is)
     go false e = trimmed_known (shown x s) ∙ shown_known s x is room
 
 pub stays_known : StaysKnown

@@ -1,5 +1,5 @@
 -- A set of states, packet by packet, and what is told of its end.
-use Rattle.std.proofs.Common.{Bool, true, false, ◌≡◌, ◌⊎◌, inl, inr, ℕ, suc, ◌==◌, ◌||◌, if◌then◌else◌, refl, sym, ap, subst, ◌∙◌}
+use Rattle.std.proofs.Common.{Bool, true, false, ◌≡◌, ◌⊎◌, inl, inr, ℕ, suc, ◌==◌, ◌&&◌, ◌||◌, if◌then◌else◌, refl, sym, ap, subst, ◌∙◌}
 use Rattle.std.proofs.Common.{List, [], ◌∷◌, ◌++◌, map, length, flat_map, Option, Some, None, arith}
 use Rattle.std.proofs.lemmas.Bool.{both_ways, eqb-true}
 use Rattle.std.proofs.lemmas.Option.{none-some}
@@ -7,15 +7,15 @@ use Rattle.x25_bits.specs.declared.role.Role.{Role}
 use Rattle.x25_possible.specs.Channel.{channel_choices, channel_rules, is_polite}
 use Rattle.x25_possible.specs.laws.Possible.{Place, Item, Own, Other, IsIn, IsUnexplained, possible, after_own, after_other, TellsExactly}
 use Rattle.x25_possible.specs.laws.Sets.{placed, AreSame, Fits, IsBroken, IsRude, IsUntold, SendsExactly, ShowsExactly}
-use Rattle.x25_possible.specs.code.Steps.{anew, any_as, any_phases, any_spots, are_answered, are_at_end, begins, begun_to, breaks, explained, go_all}
-use Rattle.x25_possible.specs.code.Steps.{grow_all, is_blind, is_known, known_by, blind_by, latest_from, makes_known, may_send, quietly, rude_from}
-use Rattle.x25_possible.specs.code.Steps.{sends_to, sent, sent_to, shown, shown_to, standing, Stepped, told_by, trimmed, trimmed_to}
+use Rattle.x25_possible.specs.code.Steps.{anew, are_answered, are_at_end, awaits, breaks, explained, finds, go_all}
+use Rattle.x25_possible.specs.code.Steps.{grow_all, is_blind, is_known, known_by, blind_by, latest_from, lost, makes_known, may_send, quietly, rude_from}
+use Rattle.x25_possible.specs.code.Steps.{sends_to, sent, sent_to, hidden_by, is_awaiting, shown, shown_to, shows_to, standing, Stepped, told_by, trimmed, trimmed_to}
 use Rattle.x25_possible.specs.code.Steps.{trims, unexplained, without_room}
 use Rattle.x25_possible.specs.declared.packet.Packet.{Packet}
 use Rattle.x25_possible.specs.declared.phase.Phase.{Phase}
 use Rattle.x25_possible.specs.declared.phase.Phase.TheVariants.{Idle}
 use Rattle.x25_possible.specs.declared.set.Knowledge.{Knowledge}
-use Rattle.x25_possible.specs.declared.set.Knowledge.TheVariants.{Blind, Any, Ready, Doubt, Known}
+use Rattle.x25_possible.specs.declared.set.Knowledge.TheVariants.{Blind, Lost, Ready, Doubt, Likely, Known}
 use Rattle.x25_possible.specs.declared.set.Set.{Set}
 use Rattle.x25_possible.specs.declared.set.Told.{Told}
 use Rattle.x25_possible.specs.declared.set.Told.TheVariants.{Nothing, Broken}
@@ -29,6 +29,10 @@ use Rattle.x25_possible.proofs.StepLemmas.{Adds, all_go, all_grow, trims_to}
 
 abbrev Places : Role → List Phase → List (Item Packet) → List (Place Phase Packet)
 Places role states tape = possible (channel_choices role) states tape
+
+-- the places of a set, whether its states are listed or not
+abbrev Lists : List Phase → List (Item Packet) → Set → Type 0
+Lists states tape s = AreSame (map (placed s.way.items) s.spots.items) (Places s.role states tape)
 
 -- they come to the same ones
 same_all : {X Y : Type 0} (g : X → List Y) (xs ys : List X) → AreSame xs ys → AreSame (flat_map g xs) (flat_map g ys)
@@ -74,10 +78,11 @@ known role way qs = standing role way qs Known
 
 of_known : (k : Knowledge) → known_by k ≡ true → k ≡ Known
 of_known Known h = refl
-of_known Any h = absurd (both_ways false refl h)
+of_known Likely h = absurd (both_ways false refl h)
 of_known Ready h = absurd (both_ways false refl h)
 of_known Doubt h = absurd (both_ways false refl h)
 of_known Blind h = absurd (both_ways false refl h)
+of_known Lost h = absurd (both_ways false refl h)
 
 pub is_so : (s : Set) → is_known s ≡ true → s ≡ known s.role s.way.items s.spots.items
 is_so s h = ap (λ k. standing s.role s.way.items s.spots.items k) (of_known s.knowledge h)
@@ -85,21 +90,22 @@ is_so s h = ap (λ k. standing s.role s.way.items s.spots.items k) (of_known s.k
 -- ---- where all have come to the end of the way
 
 trimmed_fits : (role : Role) (way : List Packet) (qs : List Spot) (k : Knowledge) (states : List Phase) (tape : List (Item Packet))
-    → AreSame (map (placed way) qs) (Places role states tape) → Fits states tape (trimmed (standing role way qs k))
-trimmed_fits role way qs k states tape same = go (are_at_end (length way) qs) refl
+    → AreSame (map (placed way) qs) (Places role states tape) → Lists states tape (trimmed (standing role way qs k))
+trimmed_fits role way qs k states tape same = go (is_awaiting (standing role way qs k)) (are_at_end (length way) qs) refl
   where
     made : (o : Option (List Spot)) → are_at_end (length way) qs ≡ true → anew qs [] ≡ o
-        → Fits states tape (trimmed_to o (standing role way qs k))
+        → Lists states tape (trimmed_to o (standing role way qs k))
     made None far e = same
     made (Some new) far e = all_added (placed []) new (map (placed way) qs) (Places role states tape) same (trims_to way qs new far e)
 
-    go : (b : Bool) → are_at_end (length way) qs ≡ b
-        → Fits states tape (if b then trimmed_to (anew qs []) (standing role way qs k) else standing role way qs k)
-    go true far = made (anew qs []) far refl
-    go false far = same
+    go : (a b : Bool) → are_at_end (length way) qs ≡ b
+        → Lists states tape (if a && b then trimmed_to (anew qs []) (standing role way qs k) else standing role way qs k)
+    go true true far = made (anew qs []) far refl
+    go true false far = same
+    go false b far = same
 
 trimmed_as : (s : Set) → (trimmed s).knowledge ≡ s.knowledge
-trimmed_as s = go (are_at_end (length s.way.items) s.spots.items)
+trimmed_as s = go (is_awaiting s && are_at_end (length s.way.items) s.spots.items)
   where
     made : (o : Option (List Spot)) → (trimmed_to o s).knowledge ≡ s.knowledge
     made None = refl
@@ -115,54 +121,38 @@ trimmed_known s = ap known_by (trimmed_as s)
 trimmed_blind : (s : Set) → is_blind (trimmed s) ≡ is_blind s
 trimmed_blind s = ap blind_by (trimmed_as s)
 
--- ---- where nothing is known it begins with the packet, or behind it
+-- one that has lost its states has none listed
+hidden_blind : (k was : Knowledge) (s : Set) → blind_by k ≡ true → is_blind s ≡ blind_by was → blind_by (hidden_by was k s).knowledge ≡ true
+hidden_blind k Blind s dark e = e
+hidden_blind k Lost s dark e = dark
+hidden_blind k Ready s dark e = dark
+hidden_blind k Doubt s dark e = dark
+hidden_blind k Likely s dark e = dark
+hidden_blind k Known s dark e = dark
 
-begins_as : (x : Packet) (s : Set) → (begins x s).knowledge ≡ s.knowledge
-begins_as x s = made (go_all false s.role s.way.items x s.spots.items [])
+lost_blind : (s : Set) → is_blind (trimmed (lost s)) ≡ true
+lost_blind s = trimmed_blind (lost s) ∙ hidden_blind Lost s.knowledge s refl refl
+
+-- the end stays the same one
+role_trimmed : (s : Set) → (trimmed s).role ≡ s.role
+role_trimmed s = go (is_awaiting s && are_at_end (length s.way.items) s.spots.items)
   where
-    go : (b : Bool) (new : List Spot) → (if b then s else standing s.role s.way.items new s.knowledge).knowledge ≡ s.knowledge
-    go true new = refl
-    go false new = refl
-
-    made : (o : Option (List Spot)) → (begun_to o s).knowledge ≡ s.knowledge
+    made : (o : Option (List Spot)) → (trimmed_to o s).role ≡ s.role
     made None = refl
-    made (Some new) = go (length new == 0) new
+    made (Some new) = refl
 
-any_places : (role : Role) → AreSame (map (placed []) any_spots) (Places role any_phases [])
-any_places role q = (λ h. h, λ h. h)
-
-begins_fits : (role : Role) (k : Knowledge) (x : Packet)
-    → Fits any_phases (Own x ∷ []) (trimmed (begins x (any_as role k))) ⊎ Fits any_phases [] (trimmed (begins x (any_as role k)))
-begins_fits role k x = made (go_all false role [] x any_spots []) refl
-  where
-    still : Fits any_phases [] (trimmed (any_as role k))
-    still = trimmed_fits role [] any_spots k any_phases [] (any_places role)
-
-    go : (b : Bool) (new : List Spot) → go_all false role [] x any_spots [] ≡ Some new
-        → Fits any_phases (Own x ∷ []) (trimmed (if b then any_as role k else standing role [] new k))
-        ⊎ Fits any_phases [] (trimmed (if b then any_as role k else standing role [] new k))
-    go true new e = inr still
-    go false new e =
-        inl (trimmed_fits role [] new k any_phases (Own x ∷ [])
-        (all_added (placed []) new (flat_map (after_own (channel_choices role) x) (map (placed []) any_spots))
-        (Places role any_phases (Own x ∷ []))
-        (same_all (after_own (channel_choices role) x) (map (placed []) any_spots) (Places role any_phases []) (any_places role))
-        (all_go role [] x any_spots [] new e)))
-
-    made : (o : Option (List Spot)) → go_all false role [] x any_spots [] ≡ o
-        → Fits any_phases (Own x ∷ []) (trimmed (begun_to o (any_as role k)))
-        ⊎ Fits any_phases [] (trimmed (begun_to o (any_as role k)))
-    made None e = inr still
-    made (Some new) e = go (length new == 0) new e
+    go : (b : Bool) → (if b then trimmed_to (anew s.spots.items []) s else s).role ≡ s.role
+    go true = made (anew s.spots.items [])
+    go false = refl
 
 -- ---- as the end sends a packet
 
 record IsRight (s : Set) (states : List Phase) (tape : List (Item Packet)) (x : Packet) (r : Stepped) : Type 0 where
   told : IsBroken r.told → IsUnexplained (channel_rules s.role states) (Own x ∷ tape)
   untold : IsUntold r.told → is_known r.set ≡ true → IsUnexplained (channel_rules s.role states) (Own x ∷ tape) → ⊥
-  fits : IsUntold r.told → is_known r.set ≡ true → Fits states (Own x ∷ tape) r.set
-  anew : IsUntold r.told → is_blind r.set ≡ false
-      → Fits states (Own x ∷ tape) r.set ⊎ Fits any_phases (Own x ∷ []) r.set ⊎ Fits any_phases [] r.set
+  fits : IsUntold r.told → is_blind r.set ≡ false → Lists states (Own x ∷ tape) r.set
+  stays : (IsUnexplained (channel_rules s.role states) (Own x ∷ tape) → ⊥) → (is_blind r.set ≡ false) ⊎ (r.set.knowledge ≡ Blind)
+  role : (IsUnexplained (channel_rules s.role states) (Own x ∷ tape) → ⊥) → r.set.role ≡ s.role
 
 not_told : (o : Option Phase) → IsBroken (told_by o) → ⊥
 not_told None h = h
@@ -170,12 +160,17 @@ not_told (Some s) h = h
 
 pub blind_known : (k : Knowledge) → blind_by k ≡ true → known_by k ≡ true → ⊥
 blind_known Blind e h = both_ways false refl h
-blind_known Any e h = both_ways false refl h
+blind_known Lost e h = both_ways false refl h
 blind_known Ready e h = both_ways false refl h
 blind_known Doubt e h = both_ways false refl h
+blind_known Likely e h = both_ways false refl h
 blind_known Known e h = both_ways false refl e
 
-module _ (s : Set) (states : List Phase) (tape : List (Item Packet)) (x : Packet) (fits : Fits states tape s) where
+still_lit : (b : Bool) (k : Knowledge) → blind_by k ≡ false → blind_by (if b then Known else k) ≡ false
+still_lit true k lit = refl
+still_lit false k lit = lit
+
+module _ (s : Set) (states : List Phase) (tape : List (Item Packet)) (x : Packet) (lit : is_blind s ≡ false) (fits : Lists states tape s) where
   places : (new : List Spot) → go_all false s.role s.way.items x s.spots.items [] ≡ Some new
       → AreSame (map (placed s.way.items) new) (Places s.role states (Own x ∷ tape))
   places new e =
@@ -187,24 +182,21 @@ module _ (s : Set) (states : List Phase) (tape : List (Item Packet)) (x : Packet
   unexplained_right : (k : Bool) → is_known s ≡ k → AreSame [] (Places s.role states (Own x ∷ tape))
       → IsRight s states tape x (trims (if k
       then record { set = breaks x s; told = Broken (latest_from true Idle 0 s.spots.items) }
-      else quietly (begins x (any_as s.role s.knowledge))))
+      else quietly (lost s)))
   unexplained_right true e same = record {
     told = λ h. no_place s.role states (Own x ∷ tape) same;
     untold = λ h. absurd h;
     fits = λ h. absurd h;
-    anew = λ h. absurd h;
+    stays = λ some. absurd (some (no_place s.role states (Own x ∷ tape) same));
+    role = λ some. absurd (some (no_place s.role states (Own x ∷ tape) same));
   }
   unexplained_right false e same = record {
     told = λ h. absurd h;
-    untold = λ h is none. both_ways (is_known s) e (as_before is);
-    fits = λ h is. absurd (both_ways (is_known s) e (as_before is));
-    anew = λ h is. inr (begins_fits s.role s.knowledge x);
+    untold = λ h is none. blind_known (trimmed (lost s)).knowledge (lost_blind s) is;
+    fits = λ h is. absurd (both_ways true (sym (lost_blind s) ∙ is) refl);
+    stays = λ some. absurd (some (no_place s.role states (Own x ∷ tape) same));
+    role = λ some. absurd (some (no_place s.role states (Own x ∷ tape) same));
   }
-    where
-      as_before : is_known (trimmed (begins x (any_as s.role s.knowledge))) ≡ true → is_known s ≡ true
-      as_before is =
-          sym (ap known_by (begins_as x (any_as s.role s.knowledge)))
-          ∙ sym (trimmed_known (begins x (any_as s.role s.knowledge))) ∙ is
 
   explained_right : (k : Bool) (new : List Spot) → (length new == 0) ≡ false
       → AreSame (map (placed s.way.items) new) (Places s.role states (Own x ∷ tape))
@@ -215,14 +207,16 @@ module _ (s : Set) (states : List Phase) (tape : List (Item Packet)) (x : Packet
     told = λ h. absurd (not_told (rude_from x None s.spots.items) h);
     untold = λ h is none. some_place s.role states (Own x ∷ tape) (placed s.way.items) new same some none;
     fits = λ h is. trimmed_fits s.role s.way.items new Known states (Own x ∷ tape) same;
-    anew = λ h is. inl (trimmed_fits s.role s.way.items new Known states (Own x ∷ tape) same);
+    stays = λ h. inl (trimmed_blind (standing s.role s.way.items new Known));
+    role = λ h. role_trimmed (standing s.role s.way.items new Known);
   }
   explained_right false new some same = record {
     told = λ h. absurd h;
     untold = λ h is none. some_place s.role states (Own x ∷ tape) (placed s.way.items) new same some none;
     fits = λ h is. trimmed_fits s.role s.way.items new (if makes_known s.knowledge x new then Known else s.knowledge) states (Own x ∷ tape) same;
-    anew = λ h is.
-        inl (trimmed_fits s.role s.way.items new (if makes_known s.knowledge x new then Known else s.knowledge) states (Own x ∷ tape) same);
+    stays = λ h. inl (trimmed_blind (standing s.role s.way.items new (if makes_known s.knowledge x new then Known else s.knowledge))
+        ∙ still_lit (makes_known s.knowledge x new) s.knowledge lit);
+    role = λ h. role_trimmed (standing s.role s.way.items new (if makes_known s.knowledge x new then Known else s.knowledge));
   }
 
   sent_right : (o : Option (List Spot)) → go_all false s.role s.way.items x s.spots.items [] ≡ o
@@ -230,8 +224,9 @@ module _ (s : Set) (states : List Phase) (tape : List (Item Packet)) (x : Packet
   sent_right None e = record {
     told = λ h. absurd h;
     untold = λ h is none. both_ways false refl (sym (trimmed_known (without_room s)) ∙ is);
-    fits = λ h is. absurd (both_ways false refl (sym (trimmed_known (without_room s)) ∙ is));
-    anew = λ h is. absurd (both_ways true (sym (trimmed_blind (without_room s)) ∙ is) refl);
+    fits = λ h is. absurd (both_ways true (sym (trimmed_blind (without_room s)) ∙ is) refl);
+    stays = λ h. inr (trimmed_as (without_room s));
+    role = λ h. role_trimmed (without_room s);
   }
   sent_right (Some new) e = go (length new == 0) refl
     where
@@ -245,13 +240,8 @@ module _ (s : Set) (states : List Phase) (tape : List (Item Packet)) (x : Packet
   sends_right : IsRight s states tape x (sends_to x s)
   sends_right = go (is_blind s) refl
     where
-      go : (b : Bool) → is_blind s ≡ b → IsRight s states tape x (if b then quietly s else trims (sent x s))
-      go true e = record {
-        told = λ h. absurd h;
-        untold = λ h is none. blind_known s.knowledge e is;
-        fits = λ h is. absurd (blind_known s.knowledge e is);
-        anew = λ h is. absurd (both_ways (is_blind s) is e);
-      }
+      go : (b : Bool) → is_blind s ≡ b → IsRight s states tape x (if b then quietly (finds x s) else trims (sent x s))
+      go true e = absurd (both_ways (is_blind s) lit e)
       go false e = sent_right (go_all false s.role s.way.items x s.spots.items []) refl
 
 -- ---- manners
@@ -286,7 +276,7 @@ rude_left x s new b k e f =
     subst (λ w. IsRudeIn x s.spots.items (if w then unexplained x s else explained x new s).told) (sym e) (by_left b)
   where
     broken : (k : Bool) → IsRudeIn x s.spots.items
-        (if k then record { set = breaks x s; told = Broken (latest_from true Idle 0 s.spots.items) } else quietly (begins x (any_as s.role s.knowledge))).told
+        (if k then record { set = breaks x s; told = Broken (latest_from true Idle 0 s.spots.items) } else quietly (lost s)).told
     broken true = λ h. absurd h
     broken false = λ h. absurd h
 
@@ -308,7 +298,7 @@ rude_sent x s (Some new) = rude_left x s new (length new == 0) (is_known s) refl
 rude_sends : (s : Set) (x : Packet) → IsRudeIn x s.spots.items (sends_to x s).told
 rude_sends s x = go (is_blind s)
   where
-    go : (b : Bool) → IsRudeIn x s.spots.items (if b then quietly s else trims (sent x s)).told
+    go : (b : Bool) → IsRudeIn x s.spots.items (if b then quietly (finds x s) else trims (sent x s)).told
     go true = λ h. absurd h
     go false = rude_sent x s (go_all false s.role s.way.items x s.spots.items [])
 
@@ -321,7 +311,7 @@ unknown_sent x s (Some new) e = go (length new == 0)
     go : (b : Bool) → (if b then unexplained x s else explained x new s).told ≡ Nothing
     go true =
         ap (λ k. (if k then record { set = breaks x s; told = Broken (latest_from true Idle 0 s.spots.items) }
-        else quietly (begins x (any_as s.role s.knowledge))).told) e
+        else quietly (lost s)).told) e
     go false =
         ap (λ k. (if k
         then record { set = standing s.role s.way.items new Known; told = told_by (rude_from x None s.spots.items) }
@@ -330,7 +320,7 @@ unknown_sent x s (Some new) e = go (length new == 0)
 unknown_sends : (s : Set) (x : Packet) → is_known s ≡ false → (sends_to x s).told ≡ Nothing
 unknown_sends s x e = go (is_blind s)
   where
-    go : (b : Bool) → (if b then quietly s else trims (sent x s)).told ≡ Nothing
+    go : (b : Bool) → (if b then quietly (finds x s) else trims (sent x s)).told ≡ Nothing
     go true = refl
     go false = unknown_sent x s (go_all false s.role s.way.items x s.spots.items []) e
 
@@ -338,19 +328,28 @@ unknown_sends s x e = go (is_blind s)
 
 pub sends_exactly : SendsExactly
 sends_exactly = record {
-  told = λ s states tape x fits h. (sends_right s states tape x fits).told h;
-  untold = λ s states tape x fits h is. (sends_right s states tape x fits).untold h is;
-  fits = λ s states tape x fits h is. (sends_right s states tape x fits).fits h is;
-  anew = λ s states tape x fits h is. (sends_right s states tape x fits).anew h is;
+  told = λ s states tape x fits h. (sends_right s states tape x fits.0 fits.1).told h;
+  untold = λ s states tape x fits h is. (sends_right s states tape x fits.0 fits.1).untold h is;
+  fits = λ s states tape x fits h is. (is, (sends_right s states tape x fits.0 fits.1).fits h is);
   rude = λ s x q h is may. rude_sends s x h q is may;
   unknown = unknown_sends;
 }
 
+-- it lists states then, or there is no room
+pub sends_stay : (s : Set) (states : List Phase) (tape : List (Item Packet)) (x : Packet) → Fits states tape s
+    → (IsUnexplained (channel_rules s.role states) (Own x ∷ tape) → ⊥)
+    → (is_blind (sends_to x s).set ≡ false) ⊎ ((sends_to x s).set.knowledge ≡ Blind)
+sends_stay s states tape x fits some = (sends_right s states tape x fits.0 fits.1).stays some
+
+pub sends_role : (s : Set) (states : List Phase) (tape : List (Item Packet)) (x : Packet) → Fits states tape s
+    → (IsUnexplained (channel_rules s.role states) (Own x ∷ tape) → ⊥) → (sends_to x s).set.role ≡ s.role
+sends_role s states tape x fits some = (sends_right s states tape x fits.0 fits.1).role some
+
 -- ---- as the other end sends one
 
-shown_fits : (s : Set) (states : List Phase) (tape : List (Item Packet)) (x : Packet) → Fits states tape s
+shown_fits : (s : Set) (states : List Phase) (tape : List (Item Packet)) (x : Packet) → Lists states tape s
     → (o : Option (List Spot)) → grow_all s.role (length s.way.items) (s.way.items ++ x ∷ []) s.spots.items [] ≡ o
-    → is_blind (trimmed (shown_to x o s)) ≡ false → Fits states (Other x ∷ tape) (trimmed (shown_to x o s))
+    → is_blind (trimmed (shown_to x o s)) ≡ false → Lists states (Other x ∷ tape) (trimmed (shown_to x o s))
 shown_fits s states tape x fits None e is = absurd (both_ways true (sym (trimmed_blind (without_room s)) ∙ is) refl)
 shown_fits s states tape x fits (Some new) e is =
     trimmed_fits s.role (s.way.items ++ x ∷ []) new (if is_known s || are_answered s.role x s.spots.items then Known else s.knowledge)
@@ -362,18 +361,58 @@ shown_fits s states tape x fits (Some new) e is =
     (all_grow s.role s.way.items x s.spots.items [] new e))
 
 pub shows_exactly : ShowsExactly
-shows_exactly s states tape x fits = by_blind (is_blind s) refl
+shows_exactly s states tape x fits = λ is. (is, by_blind (is_blind s) refl is)
   where
     go : (b : Bool)
         → is_blind (trimmed (if b then without_room s
         else shown_to x (grow_all s.role (length s.way.items) (s.way.items ++ x ∷ []) s.spots.items []) s)) ≡ false
-        → Fits states (Other x ∷ tape) (trimmed (if b then without_room s
+        → Lists states (Other x ∷ tape) (trimmed (if b then without_room s
         else shown_to x (grow_all s.role (length s.way.items) (s.way.items ++ x ∷ []) s.spots.items []) s))
     go true is = absurd (both_ways true (sym (trimmed_blind (without_room s)) ∙ is) refl)
     go false is =
-        shown_fits s states tape x fits (grow_all s.role (length s.way.items) (s.way.items ++ x ∷ []) s.spots.items []) refl is
+        shown_fits s states tape x fits.1 (grow_all s.role (length s.way.items) (s.way.items ++ x ∷ []) s.spots.items []) refl is
 
-    by_blind : (b : Bool) → is_blind s ≡ b → is_blind (if b then s else trimmed (shown x s)) ≡ false
-        → Fits states (Other x ∷ tape) (if b then s else trimmed (shown x s))
-    by_blind true e is = absurd (both_ways (is_blind s) is e)
+    by_blind : (b : Bool) → is_blind s ≡ b → is_blind (if b then awaits x s else trimmed (shown x s)) ≡ false
+        → Lists states (Other x ∷ tape) (if b then awaits x s else trimmed (shown x s))
+    by_blind true e is = absurd (both_ways (is_blind s) fits.0 e)
     by_blind false e is = go (length s.way.items == 16) is
+
+shown_stays : (s : Set) (x : Packet) (o : Option (List Spot)) → is_blind s ≡ false
+    → (is_blind (trimmed (shown_to x o s)) ≡ false) ⊎ ((trimmed (shown_to x o s)).knowledge ≡ Blind)
+shown_stays s x None lit = inr (trimmed_as (without_room s))
+shown_stays s x (Some new) lit =
+    inl (trimmed_blind (shown_to x (Some new) s) ∙ still_lit (is_known s || are_answered s.role x s.spots.items) s.knowledge lit)
+
+pub shows_stay : (s : Set) (x : Packet) → is_blind s ≡ false → (is_blind (shows_to x s) ≡ false) ⊎ ((shows_to x s).knowledge ≡ Blind)
+shows_stay s x lit = by_blind (is_blind s) refl
+  where
+    by_length : (b : Bool)
+        → (is_blind (trimmed (if b then without_room s
+        else shown_to x (grow_all s.role (length s.way.items) (s.way.items ++ x ∷ []) s.spots.items []) s)) ≡ false)
+        ⊎ ((trimmed (if b then without_room s
+        else shown_to x (grow_all s.role (length s.way.items) (s.way.items ++ x ∷ []) s.spots.items []) s)).knowledge ≡ Blind)
+    by_length true = inr (trimmed_as (without_room s))
+    by_length false = shown_stays s x (grow_all s.role (length s.way.items) (s.way.items ++ x ∷ []) s.spots.items []) lit
+
+    by_blind : (b : Bool) → is_blind s ≡ b
+        → (is_blind (if b then awaits x s else trimmed (shown x s)) ≡ false)
+        ⊎ ((if b then awaits x s else trimmed (shown x s)).knowledge ≡ Blind)
+    by_blind true e = absurd (both_ways (is_blind s) lit e)
+    by_blind false e = by_length (length s.way.items == 16)
+
+shown_role : (s : Set) (x : Packet) (o : Option (List Spot)) → (shown_to x o s).role ≡ s.role
+shown_role s x None = refl
+shown_role s x (Some new) = refl
+
+pub shows_role : (s : Set) (x : Packet) → is_blind s ≡ false → (shows_to x s).role ≡ s.role
+shows_role s x lit = by_blind (is_blind s) refl
+  where
+    by_length : (b : Bool)
+        → (if b then without_room s
+        else shown_to x (grow_all s.role (length s.way.items) (s.way.items ++ x ∷ []) s.spots.items []) s).role ≡ s.role
+    by_length true = refl
+    by_length false = shown_role s x (grow_all s.role (length s.way.items) (s.way.items ++ x ∷ []) s.spots.items [])
+
+    by_blind : (b : Bool) → is_blind s ≡ b → (if b then awaits x s else trimmed (shown x s)).role ≡ s.role
+    by_blind true e = absurd (both_ways (is_blind s) lit e)
+    by_blind false e = role_trimmed (shown x s) ∙ by_length (length s.way.items == 16)

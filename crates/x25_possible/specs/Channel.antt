@@ -408,3 +408,13 @@ talks_on k x = None
 abbrev pub goes_on : Phase → Packet → Option Phase
 goes_on (Talks k) x = talks_on k x
 goes_on s x = None
+
+-- where an end that may have been in any state is behind a packet that it sends, by the last one that it took
+abbrev pub found : Option Packet → Packet → Option Phase
+found last (Call terms) = Some (Calls terms)
+found last Clear = Some Clears
+found last Restart = Some Restarts
+found (Some (Call terms)) (Accept said) = Some (fresh (called_limits terms said))
+found (Some Clear) ClearConf = Some Idle
+found (Some Restart) RestartConf = Some Idle
+found last x = None

@@ -496,7 +496,7 @@ pub(crate) fn takes(role: Role, phase: Phase, packet: Packet) -> Option<Phase>
     }
 }
 
-fn dropped(packet: Packet, phase: Phase) -> Option<Phase>
+pub(crate) fn dropped(packet: Packet, phase: Phase) -> Option<Phase>
     ensures { result ≡ definition.dropped packet phase }
 {
     match packet {
@@ -621,6 +621,31 @@ pub(crate) fn goes_on(phase: Phase, packet: Packet) -> Option<Phase>
 {
     match phase {
         Phase::Talks(talk) => talks_on(talk, packet),
+        _ => None,
+    }
+}
+
+/// Where an end that may have been in any state is behind a packet that it sends, by the last one that it took; None
+/// where that says nothing.
+pub(crate) fn found(last: Option<Packet>, packet: Packet) -> Option<Phase>
+    ensures { result ≡ definition.found last packet }
+{
+    match packet {
+        Packet::Call(terms) => Some(Phase::Calls(terms)),
+        Packet::Clear => Some(Phase::Clears),
+        Packet::Restart => Some(Phase::Restarts),
+        Packet::Accept(said) => match last {
+            Some(Packet::Call(terms)) => Some(fresh(called_limits(terms, said))),
+            _ => None,
+        },
+        Packet::ClearConf => match last {
+            Some(Packet::Clear) => Some(Phase::Idle),
+            _ => None,
+        },
+        Packet::RestartConf => match last {
+            Some(Packet::Restart) => Some(Phase::Idle),
+            _ => None,
+        },
         _ => None,
     }
 }

@@ -5,7 +5,7 @@ ghost use Rattle.x25_possible.specs.laws.Possible.{Choices, TellsExactly, patien
 ghost use Rattle.x25_possible.specs.Channel.{channel_choices, channel_rules};
 ghost use Rattle.x25_possible.specs.rows.Rows.{RowsAreKnown, RowsAreTold, RowsAreUntold};
 ghost use Rattle.x25_possible.specs.laws.Sets.{GuiltyAreTold, InnocentsStayUntold, SendsExactly, ShowsExactly};
-ghost use Rattle.x25_possible.specs.laws.Sets.{PoliteStayUntold, StaysKnown};
+ghost use Rattle.x25_possible.specs.laws.Sets.{FoundStayUntold, PoliteStayUntold, StaysKnown};
 ghost use Rattle.x25_possible.specs.declared.phase.Phase.{Phase};
 
 /// Whatever an end may be, send and make of what comes, each a finite choice: behind a tape nothing is possible exactly
@@ -41,6 +41,11 @@ pub fn sets_stay_known()
 /// No rule is told of an end that keeps the rules, from a restart on.
 pub fn innocents_stay_untold()
     ensures { InnocentsStayUntold }
+{}
+
+/// Nor is one of an end that was in a state that a set lists, with nothing on the way.
+pub fn found_stay_untold()
+    ensures { FoundStayUntold }
 {}
 
 /// From a restart on, the first packet that breaks a rule is told, where the set is known then.

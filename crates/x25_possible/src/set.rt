@@ -2,23 +2,28 @@
 ghost use Rattle.std.specs.Prelude.{◌≡◌};
 ghost use Rattle.x25_possible.specs.code.Steps as definition;
 
+use crate::channel::dropped;
 use crate::packet::Packet;
 use crate::phase::Phase;
 use crate::spots::{
-    Spot, Spots, anew, are_answered, are_at_end, are_bound, gone, grown, is_one_idle, latest, rude,
+    Spot, Spots, anew, are_answered, are_at_end, are_bound, found_all, gone, grown, is_one_idle,
+    latest, rude,
 };
 use arrayvec::ArrayVec;
 use x25_bits::Role;
 
-/// What is known of an end: nothing, and nothing before it begins anew; nothing yet; or the states in which it may be.
+/// What is known of an end: nothing any more; nothing, and it may be anywhere on the way; or the states in which it may
+/// be.
 #[derive(Clone, Copy)]
 pub enum Knowledge {
     Blind,
-    Any,
-    /// Nothing is known, but nothing of before comes.
+    Lost,
+    /// It may be anywhere, and nothing of before comes.
     Ready,
-    /// Nothing is known behind a packet that wasn't read.
+    /// It may be anywhere, behind a packet that wasn't read.
     Doubt,
+    /// Its states, but for what wasn't seen and may come yet.
+    Likely,
     Known,
 }
 
@@ -39,46 +44,30 @@ pub struct Set {
     pub knowledge: Knowledge,
 }
 
-/// A set to begin with, where nothing is known: no call, or one of which nothing is, or a request that waits.
-fn any_spots() -> Spots
-    ensures { result.items ≡ definition.any_spots }
-{
-    let mut spots = Spots::new();
-    spots.push(Spot {
-        phase: Phase::Idle,
-        at: 0,
-    });
-    spots.push(Spot {
-        phase: Phase::Free,
-        at: 0,
-    });
-    spots.push(Spot {
-        phase: Phase::Clears,
-        at: 0,
-    });
-    spots.push(Spot {
-        phase: Phase::Restarts,
-        at: 0,
-    });
-    spots
-}
-
 /// Whether a packet that the end sends makes it known, with such states behind it.
 fn makes_known(knowledge: Knowledge, packet: Packet, spots: &[Spot]) -> bool
     ensures { result ≡ definition.makes_known knowledge packet spots.now }
 {
-    let is_doubt = matches!(knowledge, Knowledge::Doubt);
     match packet {
-        Packet::RestartConf | Packet::ClearConf => true,
-        Packet::Accept(_) => !is_doubt,
+        Packet::RestartConf | Packet::ClearConf | Packet::Accept(_) => true,
         Packet::Restart => matches!(knowledge, Knowledge::Ready) || is_one_idle(spots),
         Packet::Clear => is_one_idle(spots),
         Packet::Data { .. }
         | Packet::Rr(_)
         | Packet::Rnr(_)
         | Packet::Interrupt
-        | Packet::InterruptConf => !is_doubt && are_bound(spots),
+        | Packet::InterruptConf => are_bound(spots),
         Packet::Call(_) | Packet::Reset | Packet::ResetConf | Packet::Elsewhere => false,
+    }
+}
+
+/// Whether a packet may say where the end is: behind one that wasn't read no call is known.
+fn may_find(knowledge: Knowledge, packet: Packet) -> bool
+    ensures { result ≡ definition.may_find knowledge packet }
+{
+    match packet {
+        Packet::Accept(_) => !matches!(knowledge, Knowledge::Doubt),
+        _ => true,
     }
 }
 
@@ -109,51 +98,54 @@ impl Set {
         }
     }
 
-    /// Nothing is known, up to the answer to a RESTART, a CLEAR or a CALL.
-    pub fn any(role: Role) -> Set
-        ensures { result ≡ definition.any role }
+    fn anywhere(role: Role, knowledge: Knowledge) -> Set
+        ensures { result ≡ definition.anywhere role knowledge }
     {
         Set {
             role,
             way: ArrayVec::new(),
-            spots: any_spots(),
-            knowledge: Knowledge::Any,
+            spots: Spots::new(),
+            knowledge,
         }
+    }
+
+    /// Nothing is known, up to the answer to a RESTART, a CLEAR or a CALL.
+    pub fn any(role: Role) -> Set
+        ensures { result ≡ definition.any role }
+    {
+        Set::anywhere(role, Knowledge::Lost)
     }
 
     /// The link is set up: nothing is known, but nothing of before comes.
     pub fn ready(role: Role) -> Set
         ensures { result ≡ definition.ready role }
     {
-        Set {
-            role,
-            way: ArrayVec::new(),
-            spots: any_spots(),
-            knowledge: Knowledge::Ready,
-        }
+        Set::anywhere(role, Knowledge::Ready)
     }
 
-    /// Packets of both ends weren't seen: nothing is known. Where something that was seen before may come yet, nothing
-    /// is told any more.
+    /// Nothing is known but what is on the way.
+    fn hide(&mut self, knowledge: Knowledge)
+        ensures { self.new ≡ definition.hidden knowledge self.old }
+    {
+        if matches!(self.knowledge, Knowledge::Blind) {
+            return;
+        }
+        self.spots.clear();
+        self.knowledge = knowledge;
+    }
+
+    /// Packets of both ends weren't seen: nothing is known. What was seen before may come yet.
     pub fn lose(&mut self)
         ensures { self.new ≡ definition.lost self.old }
     {
-        if self.is_blind() {
-            return;
-        }
-        if self.way.is_empty() {
-            self.forget();
-        } else {
-            self.give_up();
-        }
+        self.hide(Knowledge::Lost);
     }
 
     /// Nothing is known behind a packet that wasn't read.
     pub fn doubt(&mut self)
         ensures { self.new ≡ definition.doubted self.old }
     {
-        self.forget();
-        self.knowledge = Knowledge::Doubt;
+        self.hide(Knowledge::Doubt);
     }
 
     /// The same.
@@ -178,26 +170,35 @@ impl Set {
         matches!(self.knowledge, Knowledge::Known)
     }
 
+    /// No states are listed.
     fn is_blind(&self) -> bool
         ensures { result ≡ definition.is_blind self.now }
     {
-        matches!(self.knowledge, Knowledge::Blind)
+        !matches!(self.knowledge, Knowledge::Likely | Knowledge::Known)
     }
 
-    /// Nothing is known.
-    fn forget(&mut self)
-        ensures { self.new ≡ definition.any self.old.role }
+    /// States are listed, and something is on the way.
+    fn is_awaiting(&self) -> bool
+        ensures { result ≡ definition.is_awaiting self.now }
     {
-        self.way = ArrayVec::new();
-        self.spots = any_spots();
-        self.knowledge = Knowledge::Any;
+        !self.is_blind() && !self.way.is_empty()
+    }
+
+    fn is_lost(&self) -> bool
+        ensures { result ≡ definition.is_lost self.now }
+    {
+        matches!(
+            self.knowledge,
+            Knowledge::Lost | Knowledge::Ready | Knowledge::Doubt
+        )
     }
 
     /// No room: nothing is told any more.
     fn give_up(&mut self)
         ensures { self.new ≡ definition.without_room self.old }
     {
-        self.forget();
+        self.way.clear();
+        self.spots.clear();
         self.knowledge = Knowledge::Blind;
     }
 
@@ -211,12 +212,12 @@ impl Set {
     fn trim(&mut self)
         ensures { self.new ≡ definition.trimmed self.old }
     {
-        if are_at_end(&self.spots, self.way.len()) {
+        if self.is_awaiting() && are_at_end(&self.spots, self.way.len()) {
             match anew(&self.spots) {
                 None => {}
                 Some(spots) => {
                     self.spots = spots;
-                    self.way = ArrayVec::new();
+                    self.way.clear();
                 }
             }
         }
@@ -227,22 +228,10 @@ impl Set {
         ensures { self.new ≡ definition.breaks packet self.old }
     {
         match gone(true, self.role, &self.spots, &self.way, packet) {
-            None => self.forget(),
+            None => self.lose(),
             Some(spots) => if spots.is_empty() {
-                self.forget()
+                self.lose()
             } else {
-                self.take(spots)
-            },
-        }
-    }
-
-    /// It begins with this packet, where it may.
-    fn begins(&mut self, packet: Packet)
-        ensures { self.new ≡ definition.begins packet self.old }
-    {
-        match gone(false, self.role, &self.spots, &self.way, packet) {
-            None => {}
-            Some(spots) => if !spots.is_empty() {
                 self.take(spots)
             },
         }
@@ -257,10 +246,7 @@ impl Set {
             self.breaks(packet);
             Told::Broken(phase)
         } else {
-            let knowledge = self.knowledge;
-            self.forget();
-            self.knowledge = knowledge;
-            self.begins(packet);
+            self.lose();
             Told::Nothing
         }
     }
@@ -280,6 +266,34 @@ impl Set {
             self.knowledge = Knowledge::Known;
         }
         Told::Nothing
+    }
+
+    /// The end may be anywhere on the way, and a packet says where it is behind it.
+    fn locates(&mut self, packet: Packet, spots: Spots)
+        ensures { self.new ≡ definition.located packet spots.items self.old }
+    {
+        self.knowledge = if makes_known(self.knowledge, packet, spots.as_slice()) {
+            Knowledge::Known
+        } else {
+            Knowledge::Likely
+        };
+        self.take(spots);
+        self.trim();
+    }
+
+    /// A packet of an end that may be anywhere on the way.
+    fn finds(&mut self, packet: Packet)
+        ensures { self.new ≡ definition.finds packet self.old }
+    {
+        if !self.is_lost() || !may_find(self.knowledge, packet) {
+            return;
+        }
+        match found_all(self.role, &self.way, packet) {
+            None => {}
+            Some(spots) => if !spots.is_empty() {
+                self.locates(packet, spots);
+            },
+        }
     }
 
     /// As `sends`, with what came left on the way.
@@ -306,11 +320,26 @@ impl Set {
         ensures told { result ≡ (definition.sends_to packet self.old).told }
     {
         if self.is_blind() {
+            self.finds(packet);
             return Told::Nothing;
         }
         let told = self.goes(packet);
         self.trim();
         told
+    }
+
+    /// What comes to an end that may be anywhere is kept on the way, where it may say in which state that is.
+    fn awaits(&mut self, packet: Packet)
+        ensures { self.new ≡ definition.awaits packet self.old }
+    {
+        if !self.is_lost() || dropped(packet, Phase::Idle).is_some() {
+            return;
+        }
+        if self.way.is_full() {
+            self.give_up();
+            return;
+        }
+        self.way.push(packet);
     }
 
     /// As `shows`, with what came left on the way.
@@ -340,6 +369,7 @@ impl Set {
         ensures { self.new ≡ definition.shows_to packet self.old }
     {
         if self.is_blind() {
+            self.awaits(packet);
             return;
         }
         self.grows(packet);

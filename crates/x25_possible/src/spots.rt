@@ -3,7 +3,7 @@ ghost use Rattle.std.specs.Prelude.{◌≡◌, None, [], drop, true};
 ghost use Rattle.x25_possible.specs.code.Steps as definition;
 ghost use Rattle.x25_possible.specs.declared.phase.Phase.TheVariants.{Idle};
 
-use crate::channel::{at_once, goes_on, is_large, is_polite, sends, takes};
+use crate::channel::{at_once, found, goes_on, is_large, is_polite, sends, takes};
 use crate::packet::Packet;
 use crate::phase::{Limits, Phase};
 use arrayvec::ArrayVec;
@@ -154,6 +154,45 @@ fn grow_all(role: Role, spots: &[Spot], last: usize, way: &[Packet], out: &mut S
     true
 }
 
+/// Adds all to which it comes from there on, where it is known. False: no room.
+fn settle_found(
+    role: Role,
+    phase: Option<Phase>,
+    at: usize,
+    way: &[Packet],
+    out: &mut Spots,
+) -> bool
+    ensures { definition.made result out.new.items
+        ≡ definition.settles_found role at (drop at way.now) phase out.old.items }
+{
+    match phase {
+        None => true,
+        Some(phase) => settle(role, phase, at, way, out),
+    }
+}
+
+/// Adds all in which an end is behind a packet that was anywhere from there on, by the last that it took. False: no
+/// room.
+fn find(
+    role: Role,
+    last: Option<Packet>,
+    at: usize,
+    way: &[Packet],
+    packet: Packet,
+    out: &mut Spots,
+) -> bool
+    ensures { definition.made result out.new.items
+        ≡ definition.found_from role last at (drop at way.now) packet out.old.items }
+{
+    if !settle_found(role, found(last, packet), at, way, out) {
+        return false;
+    }
+    if at >= way.len() {
+        return true;
+    }
+    find(role, Some(way[at]), at + 1, way, packet, out)
+}
+
 fn is_past(spots: &[Spot], end: usize) -> bool
     ensures { result ≡ definition.are_at_end end spots.now }
 {
@@ -232,6 +271,18 @@ pub(crate) fn anew(spots: &Spots) -> Option<Spots>
 {
     let mut out = Spots::new();
     if anew_all(spots.as_slice(), &mut out) {
+        Some(out)
+    } else {
+        None
+    }
+}
+
+/// Where an end is behind a packet that may have been anywhere on the way.
+pub(crate) fn found_all(role: Role, way: &ArrayVec<Packet, 16>, packet: Packet) -> Option<Spots>
+    ensures { definition.listed result ≡ definition.found_from role None 0 way.now.items packet [] }
+{
+    let mut out = Spots::new();
+    if find(role, None, 0, way.as_slice(), packet, &mut out) {
         Some(out)
     } else {
         None
@@ -323,13 +374,14 @@ pub(crate) fn are_bound(spots: &[Spot]) -> bool
     true
 }
 
-/// Whether a state waits for such a packet; of a DCE that called, the DTE may have called before.
+/// Whether such a packet answers a state's request, and crosses none; of a DCE that called, the DTE may have called
+/// before.
 fn is_answered(role: Role, packet: Packet, phase: Phase) -> bool
     ensures { result ≡ definition.is_answered role packet phase }
 {
     match phase {
-        Phase::Restarts => matches!(packet, Packet::Restart | Packet::RestartConf),
-        Phase::Clears => matches!(packet, Packet::Clear | Packet::ClearConf),
+        Phase::Restarts => matches!(packet, Packet::RestartConf),
+        Phase::Clears => matches!(packet, Packet::ClearConf),
         Phase::Calls(_) => matches!(packet, Packet::Accept(_)) && matches!(role, Role::Dte),
         _ => false,
     }

@@ -104,14 +104,15 @@ fn tells_of_an_end(rt: HostRuntime) {
 }
 
 /// Tapes from where nothing is known.
-static UNKNOWN: [(&[u8], &[u8]); 7] = [
+static UNKNOWN: [(&[u8], &[u8]); 8] = [
     (b">0>M>S>J>U>A", b"......"),
     (b">L<M>0", b".!"),
     (b"<L>0>M>0", b"..!"),
     (b">C<A>1", b".!"),
-    (b"<C>0>A>1", b"..."),
+    (b"<C>0>A>1", b"..!"),
     (b"<T>T>0", b".!"),
-    (b">T<T>M", b".!"),
+    (b">T<T>M", b".."),
+    (b">L<C<L>M", b".."),
 ];
 
 #[test]
@@ -124,6 +125,10 @@ fn finds_an_end(rt: HostRuntime) {
 /// Whether a set is known behind a tape.
 fn is_found(begun: &Set, tape: &[u8]) -> bool {
     let mut set = begun.copy();
+    is_found_by(&mut set, tape)
+}
+
+fn is_found_by(set: &mut Set, tape: &[u8]) -> bool {
     let mut is_own = false;
     for &letter in tape {
         match letter {
@@ -140,10 +145,11 @@ fn is_found(begun: &Set, tape: &[u8]) -> bool {
 }
 
 /// Behind which tapes the DTE is known that wasn't.
-static FOUND: [(&[u8], bool); 7] = [
+static FOUND: [(&[u8], bool); 8] = [
     (b"", false),
     (b">L", false),
     (b">L<M", true),
+    (b">L<L", false),
     (b">0>L<0<M", true),
     (b"<L>M", true),
     (b">M", false),
@@ -160,6 +166,33 @@ fn knows_an_end(rt: HostRuntime) {
     assert!(rt; is_told(&Set::ready(Role::Dte), b">0>T>0", b"..!"));
 }
 
+/// What was on the way where packets weren't seen comes yet: from there on, what is told of the DTE, and whether it is
+/// known.
+static LOST: [(&[u8], &[u8], &[u8], bool); 10] = [
+    (b"", b"", b"", false),
+    (b"", b">T<U", b".", true),
+    (b"<T", b">T<T>U", b"..", true),
+    (b"<L", b">0>1", b"..", false),
+    (b"<L", b">M>C", b"..", true),
+    (b"<L", b">L<C<L>M>M", b"..!", false),
+    (b"<T", b">M>E>U>U", b"...!", false),
+    (b"<C", b">A>0>2", b"..!", true),
+    (b">C<A<R", b">0>S>0>2", b"....", false),
+    (b"<L", b"<C<C<C<C<C<C<C<C<C<C<C<C<C<C<C<C>M", b".", false),
+];
+
+#[test]
+fn keeps_the_way(rt: HostRuntime) {
+    for &(before, tape, told, is_known) in &LOST {
+        let mut set = Set::new(Role::Dte);
+        is_found_by(&mut set, before);
+        set.lose();
+        set.lose();
+        assert!(rt; is_told(&set, tape, told), "{before:?} {tape:?}");
+        assert_eq!(rt; is_found(&set, tape), is_known, "{before:?} {tape:?}");
+    }
+}
+
 // A packet that wasn't read: no call is known behind it, but a CLEAR that is answered is.
 #[test]
 fn doubts_an_end(rt: HostRuntime) {
@@ -168,21 +201,6 @@ fn doubts_an_end(rt: HostRuntime) {
     assert!(rt; !is_found(&set, b""));
     assert!(rt; !is_found(&set, b"<C>A>0"));
     assert!(rt; is_found(&set, b"<L>M"));
-}
-
-// Packets of both ends weren't seen: it is found again, but where a RESTART of before may come yet.
-#[test]
-fn loses_an_end(rt: HostRuntime) {
-    let mut set = Set::new(Role::Dte);
-    set.lose();
-    assert!(rt; !is_found(&set, b""));
-    assert!(rt; is_found(&set, b">T<U"));
-    set.shows(Packet::Restart);
-    set.lose();
-    assert!(rt; !is_found(&set, b">T<U"));
-    assert!(rt; is_told(&set, b">T<T>U", b".."));
-    set.lose();
-    assert!(rt; !is_found(&set, b">T<U"));
 }
 
 // More wait than there is room for.

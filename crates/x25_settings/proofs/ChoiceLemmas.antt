@@ -9,6 +9,7 @@ use Rattle.x25_settings.specs.declared.options.Chosen.{Chosen}
 use Rattle.x25_settings.specs.declared.options.Flag.{Flag}
 use Rattle.x25_settings.specs.declared.options.Flag.TheVariants.{Clock, Down, Events, Long, Loose, Manners, SaySizes, Tap, Strict, Wide}
 use Rattle.x25_settings.specs.declared.options.Kind.{Kind}
+use Rattle.x25_settings.specs.declared.options.Kind.TheVariants.{Decode, Sim, Station, Judge, Frame}
 use Rattle.x25_settings.specs.declared.options.Numbered.{Numbered}
 use Rattle.x25_settings.specs.declared.options.Numbered.TheVariants.{Window, Tries, Channels, T1, T3, T20, T21, T22, T23}
 use Rattle.x25_settings.specs.Options.Choosing.{number_in, flags, flag_in, numbers, numbered_in, put_flag, put_fresh, put_read, put_text, put_number, chosen_in}
@@ -62,20 +63,28 @@ is_numbered T21 = refl
 is_numbered T22 = refl
 is_numbered T23 = refl
 
-few : (x : Numbered) → most_of x < 4294967296
-few Window = omega arith
-few Tries = omega arith
-few Channels = omega arith
-few T1 = omega arith
-few T3 = omega arith
-few T20 = omega arith
-few T21 = omega arith
-few T22 = omega arith
-few T23 = omega arith
+few_channels : (kind : Kind) → (1 ≤ most_of kind Channels) × (most_of kind Channels < 4294967296)
+few_channels Decode = (omega arith, omega arith)
+few_channels Sim = (omega arith, omega arith)
+few_channels Station = (omega arith, omega arith)
+few_channels Judge = (omega arith, omega arith)
+few_channels Frame = (omega arith, omega arith)
 
-within : (x : Numbered) (o : Option ℕ) (default : ℕ) → least_of x ≤ default → default ≤ most_of x → IfSome o (IsInRange x) → (least_of x ≤ unwrap_or o default) × (unwrap_or o default ≤ most_of x)
-within x None default low high h = (low, high)
-within x (Some n) default low high h = h
+few : (kind : Kind) (x : Numbered) → most_of kind x < 4294967296
+few kind Window = omega arith
+few kind Tries = omega arith
+few kind Channels = (few_channels kind).1
+few kind T1 = omega arith
+few kind T3 = omega arith
+few kind T20 = omega arith
+few kind T21 = omega arith
+few kind T22 = omega arith
+few kind T23 = omega arith
+
+within : (kind : Kind) (x : Numbered) (o : Option ℕ) (default : ℕ) → least_of x ≤ default → default ≤ most_of kind x → IfSome o (IsInRange kind x)
+    → (least_of x ≤ unwrap_or o default) × (unwrap_or o default ≤ most_of kind x)
+within kind x None default low high h = (low, high)
+within kind x (Some n) default low high h = h
 
 -- ---- one step of reading
 
@@ -146,9 +155,9 @@ module _ (kind : Kind) where
   numbers_found : (c d : Chosen) (word text : List ℕ) → put_number kind c word text ≡ Some d → Numbers c d word text
   numbers_found c d word text e = by_option (numbered_in word) refl e
     where
-      by_before : (x : Numbered) (n : ℕ) (before : Option ℕ) → numbered_in word ≡ Some x → has kind x ≡ true → number_in (least_of x) (most_of x) text ≡ Some n
+      by_before : (x : Numbered) (n : ℕ) (before : Option ℕ) → numbered_in word ≡ Some x → has kind x ≡ true → number_in (least_of x) (most_of kind x) text ≡ Some n
           → chosen_number c x ≡ before → put_fresh c x n (is_some before) ≡ Some d → Numbers c d word text
-      by_before x n None is there reads fresh e = let found = number_found (least_of x) (most_of x) text n reads in record {
+      by_before x n None is there reads fresh e = let found = number_found (least_of x) (most_of kind x) text n reads in record {
         option = x;
         value = n;
         word_is = word_found word_of word numbers x is;
@@ -158,12 +167,12 @@ module _ (kind : Kind) where
       }
       by_before x n (Some m) is there reads fresh e = absurd (cc)
 
-      by_read : (x : Numbered) (read : Option ℕ) → numbered_in word ≡ Some x → has kind x ≡ true → number_in (least_of x) (most_of x) text ≡ read → put_read c x read ≡ Some d → Numbers c d word text
+      by_read : (x : Numbered) (read : Option ℕ) → numbered_in word ≡ Some x → has kind x ≡ true → number_in (least_of x) (most_of kind x) text ≡ read → put_read c x read ≡ Some d → Numbers c d word text
       by_read x None is there reads e = absurd (cc)
       by_read x (Some n) is there reads e = by_before x n (chosen_number c x) is there reads refl e
 
-      by_command : (x : Numbered) (there : Bool) → numbered_in word ≡ Some x → has kind x ≡ there → cond there (put_read c x (number_in (least_of x) (most_of x) text)) None ≡ Some d → Numbers c d word text
-      by_command x true is there e = by_read x (number_in (least_of x) (most_of x) text) is there refl e
+      by_command : (x : Numbered) (there : Bool) → numbered_in word ≡ Some x → has kind x ≡ there → cond there (put_read c x (number_in (least_of x) (most_of kind x) text)) None ≡ Some d → Numbers c d word text
+      by_command x true is there e = by_read x (number_in (least_of x) (most_of kind x) text) is there refl e
       by_command x false is there e = absurd (cc)
 
       by_option : (o : Option Numbered) → numbered_in word ≡ o → put_text kind c text o ≡ Some d → Numbers c d word text
@@ -222,10 +231,10 @@ module _ (kind : Kind) where
 
   puts_number : (c : Chosen) (x : Numbered) (n : ℕ) → IsOpen kind c (number x n) → put_number kind c (word_of x) (decimal n) ≡ Some (with_number c x n)
   puts_number c x n fresh =
-      let small = few x in
+      let small = few kind x in
       ap (put_text kind c (decimal n)) (is_numbered x)
-      ∙ ap (λ b. cond b (put_read c x (number_in (least_of x) (most_of x) (decimal n))) None) fresh.0
-      ∙ ap (put_read c x) (number_read (least_of x) (most_of x) n small fresh.2.0 fresh.2.1)
+      ∙ ap (λ b. cond b (put_read c x (number_in (least_of x) (most_of kind x) (decimal n))) None) fresh.0
+      ∙ ap (put_read c x) (number_read (least_of x) (most_of kind x) n small fresh.2.0 fresh.2.1)
       ∙ ap (λ o. put_fresh c x n (is_some o)) fresh.1
 
   read_again : (choices : List Choice) (c end : Chosen) → Leads kind c choices end → chosen_in kind c (flat_map words_of choices) ≡ Some end
@@ -246,9 +255,9 @@ module _ (kind : Kind) where
   -- ---- the ranges
 
   record IsKept (c : Chosen) : Type 0 where
-    k : IfSome c.k (IsInRange Window)
-    n2 : IfSome c.n2 (IsInRange Tries)
-    channels : IfSome c.channels (IsInRange Channels)
+    k : IfSome c.k (IsInRange kind Window)
+    n2 : IfSome c.n2 (IsInRange kind Tries)
+    channels : IfSome c.channels (IsInRange kind Channels)
 
   flag_keeps : (x : Flag) (c : Chosen) → IsKept c → IsKept (with_flag c x)
   flag_keeps Clock c kept = record { k = kept.k; n2 = kept.n2; channels = kept.channels }
@@ -262,7 +271,7 @@ module _ (kind : Kind) where
   flag_keeps Strict c kept = record { k = kept.k; n2 = kept.n2; channels = kept.channels }
   flag_keeps Wide c kept = record { k = kept.k; n2 = kept.n2; channels = kept.channels }
 
-  number_keeps : (x : Numbered) (n : ℕ) (c : Chosen) → IsInRange x n → IsKept c → IsKept (with_number c x n)
+  number_keeps : (x : Numbered) (n : ℕ) (c : Chosen) → IsInRange kind x n → IsKept c → IsKept (with_number c x n)
   number_keeps Window n c range kept = record { k = range; n2 = kept.n2; channels = kept.channels }
   number_keeps Tries n c range kept = record { k = kept.k; n2 = range; channels = kept.channels }
   number_keeps Channels n c range kept = record { k = kept.k; n2 = kept.n2; channels = range }
@@ -278,10 +287,10 @@ module _ (kind : Kind) where
   keeps (flag x ∷ choices) c end kept h = keeps choices (with_flag c x) end (flag_keeps x c kept) h.1
   keeps (number x n ∷ choices) c end kept h = keeps choices (with_number c x n) end (number_keeps x n c h.0.2 kept) h.1
 
-  pub in_range : (words : List (List ℕ)) (c : Chosen) → Choose kind words c → AreInRange (settled c)
+  pub in_range : (words : List (List ℕ)) (c : Chosen) → Choose kind words c → AreInRange kind (settled c)
   in_range words c h =
       let kept = keeps h.0 nothing c (record { k = tt; n2 = tt; channels = tt }) h.2 in (
-        within Window c.k 7 (omega arith) (omega arith) kept.k,
-        within Tries c.n2 10 (omega arith) (omega arith) kept.n2,
-        within Channels c.channels 1 (omega arith) (omega arith) kept.channels,
+        within kind Window c.k 7 (omega arith) (omega arith) kept.k,
+        within kind Tries c.n2 10 (omega arith) (omega arith) kept.n2,
+        within kind Channels c.channels 1 (omega arith) (few_channels kind).0 kept.channels,
       )

@@ -157,8 +157,8 @@ found_task (word ∷ words) task e = found_behind word words task e
 pub within : (words : List (List ℕ)) (task : Task) → Say words task → AreInRange task
 within words (Decode d) say = tt
 within words Vectors say = tt
-within words (Sim s) say = subst (λ (s : Simulation). options.AreInRange s.station) (sym say.is) (in_range kind.Sim say.rest say.end say.choose)
-within words (Station p) say = subst (λ (p : Place). options.AreInRange p.station) (sym say.is.0) (in_range kind.Station say.rest say.end say.choose)
+within words (Sim s) say = subst (λ (s : Simulation). options.AreInRange kind.Sim s.station) (sym say.is) (in_range kind.Sim say.rest say.end say.choose)
+within words (Station p) say = subst (λ (p : Place). options.AreInRange kind.Station p.station) (sym say.is.0) (in_range kind.Station say.rest say.end say.choose)
 within words (Judge g) say = subst JudgingIsInRange (sym say.is) (in_range kind.Judge say.rest say.end say.choose).0
 within words (Deframe end) say = tt
 within words (Frame loose) say = tt

@@ -86,12 +86,13 @@ least_of Tries = 1
 least_of Channels = 1
 least_of time = 0
 
--- the most that it may be; of a time, in milliseconds, a day
-abbrev pub most_of : Numbered → ℕ
-most_of Window = 7
-most_of Tries = 255
-most_of Channels = 16
-most_of time = 86400000
+-- the most that it may be behind a command; of a time, in milliseconds, a day
+abbrev pub most_of : Kind → Numbered → ℕ
+most_of kind Window = 7
+most_of kind Tries = 255
+most_of Sim Channels = 16
+most_of kind Channels = 4095
+most_of kind time = 86400000
 
 -- an option, with its number where it has one
 pub data Choice : Type 0 where
@@ -173,13 +174,13 @@ abbrev pub with_choice : Chosen → Choice → Chosen
 with_choice c (flag x) = with_flag c x
 with_choice c (number x n) = with_number c x n
 
-abbrev pub IsInRange : Numbered → ℕ → Type 0
-IsInRange x n = (least_of x ≤ n) × (n ≤ most_of x)
+abbrev pub IsInRange : Kind → Numbered → ℕ → Type 0
+IsInRange kind x n = (least_of x ≤ n) × (n ≤ most_of kind x)
 
 -- the command has the option, it wasn't chosen before, and its number is in its range
 abbrev pub IsOpen : Kind → Chosen → Choice → Type 0
 IsOpen kind c (flag x) = (takes kind x ≡ true) × (chosen_flag c x ≡ false)
-IsOpen kind c (number x n) = (has kind x ≡ true) × (chosen_number c x ≡ None) × IsInRange x n
+IsOpen kind c (number x n) = (has kind x ≡ true) × (chosen_number c x ≡ None) × IsInRange kind x n
 
 -- one after another, each once, in any order
 abbrev pub Leads : Kind → Chosen → List Choice → Chosen → Type 0
@@ -235,7 +236,7 @@ end_word Dte = codes "dte"
 end_word Dce = codes "dce"
 
 abbrev pub JudgingIsInRange : Judging → Type 0
-JudgingIsInRange g = IsInRange Window g.k
+JudgingIsInRange g = IsInRange Judge Window g.k
 
-abbrev pub AreInRange : StationOptions → Type 0
-AreInRange s = IsInRange Window s.k × IsInRange Tries s.n2 × IsInRange Channels s.channels
+abbrev pub AreInRange : Kind → StationOptions → Type 0
+AreInRange kind s = IsInRange kind Window s.k × IsInRange kind Tries s.n2 × IsInRange kind Channels s.channels

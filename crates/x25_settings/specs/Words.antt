@@ -34,8 +34,8 @@ Say words (Frame loose) = ChooseBehind (λ rest. codes "frame" ∷ rest) kind.Fr
 abbrev pub AreInRange : Task → Type 0
 AreInRange (Decode d) = Unit {0}
 AreInRange Vectors = Unit {0}
-AreInRange (Sim s) = options.AreInRange s.station
-AreInRange (Station p) = options.AreInRange p.station
+AreInRange (Sim s) = options.AreInRange kind.Sim s.station
+AreInRange (Station p) = options.AreInRange kind.Station p.station
 AreInRange (Judge g) = JudgingIsInRange g
 AreInRange (Deframe end) = Unit {0}
 AreInRange (Frame loose) = Unit {0}

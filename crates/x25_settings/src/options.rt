@@ -7,6 +7,7 @@ ghost use Rattle.x25_settings.specs.Options.Choosing.{put_number, read_decoding,
 ghost use Rattle.x25_settings.specs.Options.Choosing.{read_judging as judging_in};
 ghost use Rattle.x25_settings.specs.Options.Choosing.{read_place as place_in, read_simulation as simulation_in};
 ghost use Rattle.x25_settings.specs.Options.{chosen_number, clock_of, fits_clock as clock_fits, has, has_times};
+ghost use Rattle.x25_settings.specs.declared.options.Kind.TheVariants.{Station};
 ghost use Rattle.x25_settings.specs.Options.{least_of, most_of, nothing, settled, takes, with_number};
 
 use itoa::Buffer;
@@ -36,8 +37,8 @@ pub struct StationOptions {
     pub k: u8,
     /// How often a command of the link that isn't answered is sent again, 1 to 255.
     pub n2: u8,
-    /// The number of channels, 1 to 16.
-    pub channels: u8,
+    /// The number of channels, 1 to 4,095; of `sim` 1 to 16.
+    pub channels: u16,
 }
 
 /// What `sim` is run with.
@@ -144,7 +145,7 @@ const WINDOW: u8 = 7;
 
 const TRIES: u8 = 10;
 
-const CHANNELS: u8 = 1;
+const CHANNELS: u16 = 1;
 
 impl Kind {
     /// Whether the command has an option that is one word.
@@ -199,14 +200,16 @@ impl Numbered {
         }
     }
 
-    /// The most that it may be.
-    pub(crate) fn most(self) -> u32
-        ensures { result ≡ most_of self }
+    /// The most that it may be behind a command.
+    pub(crate) fn most(self, kind: Kind) -> u32
+        ensures exact { result ≡ most_of kind self }
+        ensures within { result ≤ most_of Station self }
     {
         match self {
             Numbered::Window => 7,
             Numbered::Tries => 255,
-            Numbered::Channels => 16,
+            Numbered::Channels if matches!(kind, Kind::Sim) => 16,
+            Numbered::Channels => 4095,
             _ => 86_400_000,
         }
     }
@@ -251,7 +254,7 @@ struct Chosen {
     wide: bool,
     k: Option<u8>,
     n2: Option<u8>,
-    channels: Option<u8>,
+    channels: Option<u16>,
     times: GivenTimes,
 }
 
@@ -408,7 +411,7 @@ impl Chosen {
 
     /// With the number of an option, which is in its range.
     fn numbered(self, option: Numbered, n: u32) -> Chosen
-        requires { n ≤ most_of option }
+        requires { n ≤ most_of Station option }
         ensures { result ≡ with_number self option n }
     {
         let times = self.times;
@@ -422,7 +425,7 @@ impl Chosen {
                 ..self
             },
             Numbered::Channels => Chosen {
-                channels: Some(n as u8),
+                channels: Some(n as u16),
                 ..self
             },
             Numbered::T1 => self.with_times(GivenTimes {
@@ -467,7 +470,7 @@ impl Chosen {
         if !kind.has(option) {
             return None;
         }
-        let n = number(text, option.least(), option.most())?;
+        let n = number(text, option.least(), option.most(kind))?;
         if self.has_number(option) {
             None
         } else {

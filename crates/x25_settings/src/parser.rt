@@ -1,5 +1,5 @@
 //! The parser that says what is wrong with words, and answers what asks for help.
-use crate::options::Numbered;
+use crate::options::{Kind, Numbered};
 use clap::{Arg, ArgAction, Command, value_parser};
 use std::alloc::{AllocError, Global};
 
@@ -8,8 +8,8 @@ use std::alloc::{AllocError, Global};
 enum Word {
     /// An option of one word: its name, and its help.
     Flag(&'static str, &'static str),
-    /// An option with a number, and its help.
-    Number(Numbered, &'static str),
+    /// An option with a number as a command has it, and its help.
+    Number(Kind, Numbered, &'static str),
     /// The word for an end, and its help.
     End(&'static str),
 }
@@ -48,16 +48,28 @@ const WIDE_STATION: Word = Word::Flag(
     "Take packets in all the forms that X.25 lets equipment send",
 );
 
-const WINDOW: Word = Word::Number(Numbered::Window, "The window of the link: 1 to 7");
+const WINDOW: Word = Word::Number(
+    Kind::Station,
+    Numbered::Window,
+    "The window of the link: 1 to 7",
+);
 
 const TRIES: Word = Word::Number(
+    Kind::Station,
     Numbered::Tries,
     "How often an unanswered command of the link is sent again: 1 to 255",
 );
 
-const CHANNELS: Word = Word::Number(
+const FEW_CHANNELS: Word = Word::Number(
+    Kind::Sim,
     Numbered::Channels,
     "The number of logical channels: 1 to 16",
+);
+
+const CHANNELS: Word = Word::Number(
+    Kind::Station,
+    Numbered::Channels,
+    "The number of logical channels: 1 to 4095",
 );
 
 const CLOCK: Word = Word::Flag(
@@ -66,28 +78,33 @@ const CLOCK: Word = Word::Flag(
 );
 
 const T1: Word = Word::Number(
+    Kind::Station,
     Numbered::T1,
     "With a clock, what T1 is, in milliseconds as all of these: 0 (never) to 86400000 [default: 3000]",
 );
 
-const T3: Word = Word::Number(Numbered::T3, "T3 [default: 60000]");
+const T3: Word = Word::Number(Kind::Station, Numbered::T3, "T3 [default: 60000]");
 
 const T20: Word = Word::Number(
+    Kind::Station,
     Numbered::T20,
     "T20, of a DCE T10 [default: 180000, of a DCE 60000]",
 );
 
 const T21: Word = Word::Number(
+    Kind::Station,
     Numbered::T21,
     "T21, of a DCE T11 [default: 200000, of a DCE 180000]",
 );
 
 const T22: Word = Word::Number(
+    Kind::Station,
     Numbered::T22,
     "T22, of a DCE T12 [default: 180000, of a DCE 60000]",
 );
 
 const T23: Word = Word::Number(
+    Kind::Station,
     Numbered::T23,
     "T23, of a DCE T13 [default: 180000, of a DCE 60000]",
 );
@@ -132,7 +149,7 @@ static COMMANDS: [Row; 7] = [
             WIDE_STATION,
             WINDOW,
             TRIES,
-            CHANNELS,
+            FEW_CHANNELS,
         ],
     },
     Row {
@@ -205,8 +222,8 @@ static COMMANDS: [Row; 7] = [
 const ENDS: &[&str] = &["dte", "dce"];
 
 /// An option with a number; one that the end decides else is a time of a clock.
-fn number_option<'a>(alloc: Global, option: Numbered) -> Result<Arg<'a>, AllocError> {
-    let range = i64::from(option.least())..=i64::from(option.most());
+fn number_option<'a>(alloc: Global, kind: Kind, option: Numbered) -> Result<Arg<'a>, AllocError> {
+    let range = i64::from(option.least())..=i64::from(option.most(kind));
     let arg = Arg::new(alloc, option.name())
         .long(option.name())
         .value_parser(value_parser!(u32).range(range));
@@ -226,7 +243,7 @@ impl Word {
                     .action(ArgAction::SetTrue)
                     .help(help),
             ),
-            Word::Number(option, help) => Ok(number_option(alloc, option)?.help(help)),
+            Word::Number(kind, option, help) => Ok(number_option(alloc, kind, option)?.help(help)),
             Word::End(help) => Ok(
                 Arg::new(alloc, "END")
                     .required(true)

@@ -262,7 +262,7 @@ fn takes_plain_words_alone(rt: HostRuntime) {
                 "station",
                 "dte",
                 "--channels",
-                "16",
+                "4095",
                 "--n2",
                 "255",
                 "--k",
@@ -273,7 +273,7 @@ fn takes_plain_words_alone(rt: HostRuntime) {
                 StationOptions {
                     k: 1,
                     n2: 255,
-                    channels: 16,
+                    channels: 4095,
                     ..DEFAULTS
                 },
             ),
@@ -318,7 +318,7 @@ fn takes_plain_words_alone(rt: HostRuntime) {
 
 #[test]
 fn takes_no_other_words(rt: HostRuntime) {
-    let others: [&[&str]; 67] = [
+    let others: [&[&str]; 70] = [
         &[],
         &["dec"],
         &["decode", "decode"],
@@ -345,6 +345,9 @@ fn takes_no_other_words(rt: HostRuntime) {
         &["decode", "--down"],
         &["sim", "--n2", "256"],
         &["sim", "--channels", "17"],
+        &["station", "dte", "--channels", "0"],
+        &["station", "dte", "--channels", "4096"],
+        &["station", "dte", "--channels", "65537"],
         &["sim", "--chan", "2"],
         &["sim", "--tap", "--"],
         &["sim", "script"],
@@ -413,6 +416,10 @@ help     Print this message or the help of the given subcommand(s)\n\nOptions:\n
 const RANGE: &str =
     "error: invalid value '8' for '--k <N>': 8 is not in 1..=7\n\nFor more information, try '--help'.\n";
 
+/// As many channels as a station may have are too many for a simulation.
+const TOO_MANY: &str = "error: invalid value '4095' for '--channels <N>': 4095 is not in 1..=16\n\n\
+For more information, try '--help'.\n";
+
 /// Words that the parser takes.
 const PLAIN: &str =
     "error: each option is one word, and its number the next one, without a sign and leading zeros: `--k 3`\n\n\
@@ -459,12 +466,14 @@ x25 sim --tap < examples/losses.script | grep '^[<>]' | x25 judge\n";
 
 #[test]
 fn says_what_is_wrong(rt: HostRuntime) -> Result<(), Fail> {
-    let rows: [(&[&str], &str); 7] = [
+    let rows: [(&[&str], &str); 9] = [
         (&["quux"], SAYS),
         (&["--help"], HELP),
         (&["decode", "--help"], DECODE),
         (&["sim", "--k", "8"], RANGE),
+        (&["sim", "--channels", "4095"], TOO_MANY),
         (&["sim", "--k=3"], PLAIN),
+        (&["station", "dte", "--channels=4095"], PLAIN),
         (&["sim", "--help"], SIM),
         (&["judge", "--help"], JUDGE),
     ];

@@ -33,7 +33,7 @@ pub fn scripts_are_runs()
 /// so that it has no other premise than those below. For every script transcript and tap are the entries and the frames
 /// that are written.
 ///
-/// Premises: k is 1 to 7, N2 1 to 255, channels 1 to 16.
+/// Premises: k is 1 to 7, N2 1 to 255, channels 1 to 4,095.
 pub fn scripts_keep_order()
     ensures lawful { OfScripts IsLawful }
     ensures named { OfScripts IsNamed }
@@ -51,7 +51,7 @@ pub fn scripts_keep_order()
 /// For every script, with `down` or without, wherever the link is set up anew: what `stations_meet_in_sessions` says of
 /// two stations holds of those to which the script leads.
 ///
-/// Premises: k is 1 to 7, N2 1 to 255, channels 1 to 16.
+/// Premises: k is 1 to 7, N2 1 to 255, channels 1 to 4,095.
 pub fn scripts_meet_in_sessions()
     ensures step { OfAllScripts MeetInStep }
     ensures lawful { OfAllScripts AreLawfulWhereMet }
@@ -69,7 +69,7 @@ pub fn scripts_meet_in_sessions()
 /// A line `heal`, wherever it stands, leads to where the schedule of `World::heal` leads; so behind every script, with
 /// `down` or without, rest shows and it brings about what `healing_brings_all` says.
 ///
-/// Premises: k is 1 to 7, N2 1 to 255, channels 1 to 16.
+/// Premises: k is 1 to 7, N2 1 to 255, channels 1 to 4,095.
 pub fn heal_is_the_schedule()
     ensures schedule { HealIsTheSchedule }
     ensures shows { OfAllScripts HealRestShowsAll }

@@ -34,9 +34,9 @@ Fits long_data (reset_conf h) = Unit {0}
 Fits long_data (restart cause diagnostic) = (cause < 256) × (diagnostic < 256)
 Fits long_data restart_conf = Unit {0}
 
--- of one of 16 channels, where it is of one
+-- of one of 4,095 channels, where it is of one
 abbrev pub IsOn : PlainPacket → Type 0
-IsOn p = HasChannel p → (1 ≤ channel_of p) × (channel_of p ≤ 16)
+IsOn p = HasChannel p → (1 ≤ channel_of p) × (channel_of p ≤ 4095)
 
 pub moved_fits : (long_data : Bool) (h : ℕ) (p : PlainPacket) → Fits long_data p → Fits long_data (moved_to h p)
 moved_fits long_data h (call k called calling facilities user) f = f
@@ -53,7 +53,7 @@ moved_fits long_data h (reset_conf k) f = f
 moved_fits long_data h (restart cause diagnostic) f = f
 moved_fits long_data h restart_conf f = f
 
-pub moved_on : (h : ℕ) (p : PlainPacket) → HasChannel p → 1 ≤ h → h ≤ 16 → IsOn (moved_to h p)
+pub moved_on : (h : ℕ) (p : PlainPacket) → HasChannel p → 1 ≤ h → h ≤ 4095 → IsOn (moved_to h p)
 moved_on h (call k called calling facilities user) has low high there = (low, high)
 moved_on h (accept k facilities) has low high there = (low, high)
 moved_on h (clear k cause diagnostic) has low high there = (low, high)
@@ -70,21 +70,18 @@ moved_on h restart_conf has low high there = absurd has
 
 -- ---- in range
 
-channel_in_range : (h : ℕ) → (1 ≤ h) × (h ≤ 16) → (1 ≤ h) × (h ≤ 4095)
-channel_in_range h on = (on.0, omega (arith, on.1))
-
 in_range : (long_data : Bool) (p : PlainPacket) → Fits long_data p → IsOn p → IsInRange (longest_user long_data) p
-in_range long_data (call h called calling facilities user) f on = (channel_in_range h (on tt), f.0, f.1, f.2, f.3)
-in_range long_data (accept h facilities) f on = (channel_in_range h (on tt), f)
-in_range long_data (clear h cause diagnostic) f on = channel_in_range h (on tt)
-in_range long_data (clear_conf h) f on = channel_in_range h (on tt)
-in_range long_data (user_data h q m ps pr user) f on = (channel_in_range h (on tt), f.0, f.1, f.2)
-in_range long_data (rr h pr) f on = (channel_in_range h (on tt), f)
-in_range long_data (rnr h pr) f on = (channel_in_range h (on tt), f)
-in_range long_data (interrupt h user) f on = (channel_in_range h (on tt), f.0, f.1)
-in_range long_data (interrupt_conf h) f on = channel_in_range h (on tt)
-in_range long_data (reset h cause diagnostic) f on = channel_in_range h (on tt)
-in_range long_data (reset_conf h) f on = channel_in_range h (on tt)
+in_range long_data (call h called calling facilities user) f on = (on tt, f.0, f.1, f.2, f.3)
+in_range long_data (accept h facilities) f on = (on tt, f)
+in_range long_data (clear h cause diagnostic) f on = on tt
+in_range long_data (clear_conf h) f on = on tt
+in_range long_data (user_data h q m ps pr user) f on = (on tt, f.0, f.1, f.2)
+in_range long_data (rr h pr) f on = (on tt, f)
+in_range long_data (rnr h pr) f on = (on tt, f)
+in_range long_data (interrupt h user) f on = (on tt, f.0, f.1)
+in_range long_data (interrupt_conf h) f on = on tt
+in_range long_data (reset h cause diagnostic) f on = on tt
+in_range long_data (reset_conf h) f on = on tt
 in_range long_data (restart cause diagnostic) f on = tt
 in_range long_data restart_conf f on = tt
 
@@ -208,7 +205,7 @@ type_low long_data (reset_conf h) f = omega arith
 type_low long_data (restart cause diagnostic) f = omega arith
 type_low long_data restart_conf f = omega arith
 
-channel_low : (p : PlainPacket) → IsOn p → channel_of p ≤ 16
+channel_low : (p : PlainPacket) → IsOn p → channel_of p ≤ 4095
 channel_low (call h called calling facilities user) on = (on tt).1
 channel_low (accept h facilities) on = (on tt).1
 channel_low (clear h cause diagnostic) on = (on tt).1
@@ -225,7 +222,7 @@ channel_low restart_conf on = omega arith
 
 header_octets : (long_data : Bool) (p : PlainPacket) → Fits long_data p → IsOn p → AreOctets (header_of p)
 header_octets long_data p f on =
-    let h : channel_of p ≤ 16 = channel_low p on in
+    let h : channel_of p ≤ 4095 = channel_low p on in
     let first : format_of p ≤ 9 = format_low p in
     octets_more (16 * format_of p + channel_of p / 256) (channel_of p % 256 ∷ type_of p ∷ []) (let e : 16 * format_of p + channel_of p / 256 < 256 = omega (arith, h, first) in e)
     (octets_more (channel_of p % 256) (type_of p ∷ []) (let e : channel_of p % 256 < 256 = omega (arith, h) in e) (octets_more (type_of p) [] (type_low long_data p f) no_octets))

@@ -45,4 +45,7 @@ few_octets stand v =
     omega (arith, packets, circuits, v.link.station.outgoing.spent.few, v.messages.few)
 
 pub few_in_all : FewStand → law.FewOctetsInAll
-few_in_all stand v = omega (arith, few_octets stand v, v.layer.few)
+few_in_all stand c v s fits =
+    let all = few_octets stand v in
+    let channels = fits.layer.channels in
+    omega (arith, all, channels)

@@ -46,11 +46,11 @@ module _ (long_data : Bool) where
       test true = f
       test false = all k
 
-  on_fits : (h : ℕ) (o : Option PlainPacket) → (1 ≤ h) × (h ≤ 16) → MayGive long_data o → OneFits (packet_on h o)
+  on_fits : (h : ℕ) (o : Option PlainPacket) → (1 ≤ h) × (h ≤ 4095) → MayGive long_data o → OneFits (packet_on h o)
   on_fits h None low may = tt
   on_fits h (Some p) low may = ((moved_fits long_data h p may.1, moved_on h p may.0 low.0 low.1), tt)
 
-  channel_low : (n h : ℕ) → n ≤ 16 → is_channel n h ≡ true → (1 ≤ h) × (h ≤ 16)
+  channel_low : (n h : ℕ) → n ≤ 4095 → is_channel n h ≡ true → (1 ≤ h) × (h ≤ 4095)
   channel_low n h few is =
       let parts = and_parts (nat_le 1 h) (nat_le h n) is in
       let low : 1 ≤ h = leb-true 1 h parts.0 in
@@ -76,7 +76,7 @@ module _ (long_data : Bool) where
   cause_low Dte = omega arith
   cause_low Dce = omega arith
 
-  channel_answers : Agreed → (c : LayerSettings) (restarts : ℕ) (circuits : ℕ → Circuit) (h : ℕ) (p : PlainPacket) → c.channels ≤ 16 → ChannelsFit circuits
+  channel_answers : Agreed → (c : LayerSettings) (restarts : ℕ) (circuits : ℕ → Circuit) (h : ℕ) (p : PlainPacket) → c.channels ≤ 4095 → ChannelsFit circuits
       → LayerFits (if is_channel c.channels h then answers_on restarts circuits h (answers c.circuit (circuits h) p) else drops false restarts circuits)
   channel_answers laws c restarts circuits h p few all = test (is_channel c.channels h) refl
     where
@@ -87,7 +87,7 @@ module _ (long_data : Bool) where
       test true is = record { next = put_fits circuits h (answers c.circuit (circuits h) p).next all a.next; owed = on_fits h (answers c.circuit (circuits h) p).owed (channel_low c.channels h few is) a.owed }
       test false is = record { next = all; owed = tt }
 
-  ready_answers : Agreed → (c : LayerSettings) (restarts : ℕ) (circuits : ℕ → Circuit) (p : PlainPacket) → c.channels ≤ 16 → ChannelsFit circuits → LayerFits (answers_ready c restarts circuits p)
+  ready_answers : Agreed → (c : LayerSettings) (restarts : ℕ) (circuits : ℕ → Circuit) (p : PlainPacket) → c.channels ≤ 4095 → ChannelsFit circuits → LayerFits (answers_ready c restarts circuits p)
   ready_answers laws c restarts circuits (restart cause diagnostic) few all = record { next = begun_fits; owed = ((tt, on_restart_conf), tt) }
   ready_answers laws c restarts circuits restart_conf few all = record { next = begun_fits; owed = (((cause_low c.circuit.role, omega arith), on_restart (cause_at c.circuit.role 1) 17), tt) }
   ready_answers laws c restarts circuits (call h called calling facilities user) few all = channel_answers laws c restarts circuits h (call h called calling facilities user) few all
@@ -120,7 +120,7 @@ module _ (long_data : Bool) where
   restarting_answers restarts circuits (reset h cause diagnostic) all = dropped restarts circuits all
   restarting_answers restarts circuits (reset_conf h) all = dropped restarts circuits all
 
-  layer_fits : Agreed → (c : LayerSettings) (l : Layer) (p : PlainPacket) → c.channels ≤ 16 → ChannelsFit l.circuits → LayerFits (layer_answers c l p)
+  layer_fits : Agreed → (c : LayerSettings) (l : Layer) (p : PlainPacket) → c.channels ≤ 4095 → ChannelsFit l.circuits → LayerFits (layer_answers c l p)
   layer_fits laws c l p few all = by l.restarting
     where
       by : (b : Bool) → LayerFits (answers_in c b l.restarts l.circuits p)
@@ -141,7 +141,7 @@ module _ (long_data : Bool) where
   at_once_fits true b o f = room_fits b o f
   at_once_fits false b o f = f
 
-  outcome_on_fits : (restarts : ℕ) (circuits : ℕ → Circuit) (h : ℕ) (o : Outcome) → (1 ≤ h) × (h ≤ 16) → ChannelsFit circuits → OutcomeFits long_data o → LayerOutcomeFits (outcome_on restarts circuits h o)
+  outcome_on_fits : (restarts : ℕ) (circuits : ℕ → Circuit) (h : ℕ) (o : Outcome) → (1 ≤ h) × (h ≤ 4095) → ChannelsFit circuits → OutcomeFits long_data o → LayerOutcomeFits (outcome_on restarts circuits h o)
   outcome_on_fits restarts circuits h (Done next packet) low all f = (put_fits circuits h next all f.0, on_fits h packet low f.1)
   outcome_on_fits restarts circuits h (Refused e) low all f = tt
 
@@ -174,7 +174,7 @@ module _ (long_data : Bool) where
   free_in Dte circuits n = highest_in circuits n
   free_in Dce circuits n = lowest_in circuits n
 
-  outcome_ready_fits : Agreed → (c : LayerSettings) → c.circuit.long_data ≡ long_data → (full : Bool) (restarts : ℕ) (circuits : ℕ → Circuit) (request : LayerRequest) → c.channels ≤ 16 → ChannelsFit circuits → RequestsOctets request
+  outcome_ready_fits : Agreed → (c : LayerSettings) → c.circuit.long_data ≡ long_data → (full : Bool) (restarts : ℕ) (circuits : ℕ → Circuit) (request : LayerRequest) → c.channels ≤ 4095 → ChannelsFit circuits → RequestsOctets request
       → LayerOutcomeFits (outcome_ready c full restarts circuits request)
   outcome_ready_fits laws c same full restarts circuits (Asks h request) few all octets = test (is_channel c.channels h) refl
     where
@@ -199,7 +199,7 @@ module _ (long_data : Bool) where
       test false = tt
   outcome_ready_fits laws c same full restarts circuits PullsAll few all octets = (all, tt)
 
-  layer_outcome_fits : Agreed → (c : LayerSettings) → c.circuit.long_data ≡ long_data → (full : Bool) (l : Layer) (request : LayerRequest) → c.channels ≤ 16 → ChannelsFit l.circuits → RequestsOctets request
+  layer_outcome_fits : Agreed → (c : LayerSettings) → c.circuit.long_data ≡ long_data → (full : Bool) (l : Layer) (request : LayerRequest) → c.channels ≤ 4095 → ChannelsFit l.circuits → RequestsOctets request
       → LayerOutcomeFits (layer_outcome c full l request)
   layer_outcome_fits laws c same full l request few all octets = by l.restarting
     where
@@ -221,13 +221,13 @@ module _ (long_data : Bool) where
   requested_fits c w request (Accepted next packet) f g = record { near = record { layer = g.0; given = all_fit_append w.near.given (option_to_list packet) f.near.given g.1 }; far = f.far }
   requested_fits c w request (Declined e) f g = f
 
-  handed_up_fits : Agreed → (c : LayerSettings) (w : TwoLayers) (back : List PlainPacket) → c.channels ≤ 16 → WorldFits w → WorldFits (handed_up c w back)
+  handed_up_fits : Agreed → (c : LayerSettings) (w : TwoLayers) (back : List PlainPacket) → c.channels ≤ 4095 → WorldFits w → WorldFits (handed_up c w back)
   handed_up_fits laws c w [] few f = f
   handed_up_fits laws c w (packet ∷ back) few f =
       let a : LayerFits (layer_answers c w.near.layer packet) = layer_fits laws c w.near.layer packet few f.near.layer in
       record { near = record { layer = a.next; given = all_fit_append w.near.given (option_to_list (layer_answers c w.near.layer packet).owed) f.near.given a.owed }; far = f.far }
 
-  pulls_fit : (c : LayerSettings) (w : TwoLayers) (h : ℕ) → c.channels ≤ 16 → WorldFits w → WorldFits (if is_channel c.channels h then pulled_in w (layer_pulled c w.near.layer h) else w)
+  pulls_fit : (c : LayerSettings) (w : TwoLayers) (h : ℕ) → c.channels ≤ 4095 → WorldFits w → WorldFits (if is_channel c.channels h then pulled_in w (layer_pulled c w.near.layer h) else w)
   pulls_fit c w h few f = test (is_channel c.channels h) refl
     where
       p : PulledFits long_data (pulled c.circuit (w.near.layer.circuits h))
@@ -243,7 +243,7 @@ module _ (long_data : Bool) where
       }
       test false is = f
 
-  moves_fit : Agreed → (c : LayerSettings) → c.circuit.long_data ≡ long_data → (w : TwoLayers) (move : Move) → c.channels ≤ 16 → MovesOctets move → WorldFits w → WorldFits (moves c w move)
+  moves_fit : Agreed → (c : LayerSettings) → c.circuit.long_data ≡ long_data → (w : TwoLayers) (move : Move) → c.channels ≤ 4095 → MovesOctets move → WorldFits w → WorldFits (moves c w move)
   moves_fit laws c same w move few octets f = by w.near.is_out move octets
     where
       by : (b : Bool) (m : Move) → MovesOctets m → WorldFits (moves_in c w b m)
@@ -256,14 +256,14 @@ module _ (long_data : Bool) where
   turned_fits : (w : TwoLayers) → WorldFits w → WorldFits (turned w)
   turned_fits w f = record { near = f.far; far = f.near }
 
-  happens_fits : Agreed → (n : ℕ) → n ≤ 16 → (w : TwoLayers) (e : Event) → MovesOctets e.what → WorldFits w → WorldFits (happens long_data n w e)
+  happens_fits : Agreed → (n : ℕ) → n ≤ 4095 → (w : TwoLayers) (e : Event) → MovesOctets e.what → WorldFits w → WorldFits (happens long_data n w e)
   happens_fits laws n few w e octets f = test e.first
     where
       test : (b : Bool) → WorldFits (if b then moves (settings_of Dte long_data n) w e.what else turned (moves (settings_of Dce long_data n) (turned w) e.what))
       test true = moves_fit laws (settings_of Dte long_data n) refl w e.what few octets f
       test false = turned_fits (moves (settings_of Dce long_data n) (turned w) e.what) (moves_fit laws (settings_of Dce long_data n) refl (turned w) e.what few octets (turned_fits w f))
 
-  run_fits : Agreed → (n : ℕ) → n ≤ 16 → (events : List Event) (w : TwoLayers) → BringOctets events → WorldFits w → WorldFits (run long_data n events w)
+  run_fits : Agreed → (n : ℕ) → n ≤ 4095 → (events : List Event) (w : TwoLayers) → BringOctets events → WorldFits w → WorldFits (run long_data n events w)
   run_fits laws n few [] w octets f = f
   run_fits laws n few (e ∷ events) w octets f = run_fits laws n few events (happens long_data n w e) octets.1 (happens_fits laws n few w e octets.0 f)
 
@@ -284,14 +284,14 @@ puts_are_readable reads takes laws long_data n few events octets =
 
 -- ---- a layer beside any peer
 
-happens_near : (long_data : Bool) → Agreed → (r : Role) (channels : ℕ) → channels ≤ 16 → (w v : Joined) → (h : Happens r long_data channels w v) → BringsOctets h → EndFits long_data w.near → EndFits long_data v.near
+happens_near : (long_data : Bool) → Agreed → (r : Role) (channels : ℕ) → channels ≤ 4095 → (w v : Joined) → (h : Happens r long_data channels w v) → BringsOctets h → EndFits long_data w.near → EndFits long_data v.near
 happens_near long_data laws r channels few w v (Ours move stays) octets f =
     (moves_fit long_data laws (settings_of r long_data channels) refl (our_end w) move few octets (record { near = f; far = f })).near
 happens_near long_data laws r channels few w v (Does deed p may is at) octets f = f
 happens_near long_data laws r channels few w v (Hears p rest packets front answers) octets f = f
 happens_near long_data laws r channels few w v (HearsChannel y passed p rest packets live has apart front answers) octets f = f
 
-reached_near : (long_data : Bool) → Agreed → (r : Role) (channels : ℕ) → channels ≤ 16 → (w : Joined) → IsReachedByOctets r long_data channels w → EndFits long_data w.near
+reached_near : (long_data : Bool) → Agreed → (r : Role) (channels : ℕ) → channels ≤ 4095 → (w : Joined) → IsReachedByOctets r long_data channels w → EndFits long_data w.near
 reached_near long_data laws Dte channels few w at_start = started_fits long_data (settings_of Dte long_data channels) (omega arith)
 reached_near long_data laws Dce channels few w at_start = started_fits long_data (settings_of Dce long_data channels) (omega arith)
 reached_near long_data laws r channels few w (goes_on v u h event octets) = happens_near long_data laws r channels few v w event octets (reached_near long_data laws r channels few v h)

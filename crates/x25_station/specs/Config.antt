@@ -32,10 +32,10 @@ settings_from role cfg = record {
   wide = cfg.wide;
 }
 
--- k is 1 to 7, N2 1 to 255, and there are 1 to 16 channels
+-- k is 1 to 7, N2 1 to 255, and there are 1 to 4,095 channels
 abbrev pub config_refusal : Cfg → Option StationError
 config_refusal cfg = if nat_le 1 cfg.k && (nat_le cfg.k 7
-    && (nat_le 1 cfg.n2 && (nat_le 1 cfg.channels && nat_le cfg.channels 16))) then None else Some error.BadConfig
+    && (nat_le 1 cfg.n2 && (nat_le 1 cfg.channels && nat_le cfg.channels 4095))) then None else Some error.BadConfig
 
 -- N1 is 4,099 octets: the longest data packet, with its header of three octets
 abbrev pub longest_packet : ℕ

@@ -5,8 +5,8 @@ pub struct Cfg {
     pub k: u8,
     /// A command of the link that isn't answered is sent so many times more, 1 to 255.
     pub n2: u8,
-    /// The channels 1 to this number are configured, 1 to 16.
-    pub channels: u8,
+    /// The channels 1 to this number are configured, 1 to 4,095.
+    pub channels: u16,
     /// Whether a call may have up to 128 octets of user data, in place of up to 16. It is the same at both ends.
     pub long_data: bool,
     /// Whether a CALL and a CALL ACCEPTED say packet sizes and windows also where the other end takes them without it.

@@ -39,8 +39,8 @@ pub fn steps_are_joined()
     notes_what_changes();
 }
 
-/// What two layers of at most 16 channels put, whatever happens to them: the octets of each packet are octets, fit in
-/// an I frame, and read as that packet, in the one form or in all, where what their users hand down is octets.
+/// What two layers of at most 4,095 channels put, whatever happens to them: the octets of each packet are octets, fit
+/// in an I frame, and read as that packet, in the one form or in all, where what their users hand down is octets.
 pub fn puts_are_readable()
     ensures { PutsAreReadable }
 {

@@ -28,7 +28,7 @@ pub struct Station {
 }
 
 impl Station {
-    ghost use Rattle.std.specs.Prelude.{◌≡◌, ◌==◌, ℕ, ◌+◌, ◌≤◌, Bool, List, length, IfOk};
+    ghost use Rattle.std.specs.Prelude.{◌≡◌, ◌==◌, ℕ, ◌+◌, ◌<◌, ◌≤◌, Bool, List, length, IfOk, IfSome, IfNone};
     ghost use Rattle.x25_station.specs.code.FitsStation.{FitsStation, RefusesWith};
     ghost use Rattle.x25_station.specs.Config.{Settings, layer_settings, settings_from, config_refusal};
     ghost use Rattle.x25_station.specs.Station.{Station as State, new_station};
@@ -49,7 +49,7 @@ impl Station {
         ensures fits { IfOk result (λ v. FitsStation (settings_from role cfg) v new_station) }
         ensures refused { RefusesWith result (config_refusal cfg) }
     {
-        if cfg.channels < 1 || cfg.channels > 16 {
+        if cfg.channels < 1 || cfg.channels > 4095 {
             return Err(StationError::BadConfig);
         }
         let link = match Link::new(alloc, role, cfg.k, N1, cfg.n2) {
@@ -108,6 +108,24 @@ impl Station {
         ensures { (c : Settings) (s : State) → FitsStation c self.now s → result ≡ awaits_ua s.link.phase }
     {
         self.link.awaits_ua()
+    }
+
+    /// How many channels it has.
+    pub fn channels(&self) -> u16
+        ensures { (c : Settings) (s : State) → FitsStation c self.now s → result ≡ c.channels }
+    {
+        self.layer.channels()
+    }
+
+    /// The next channel after one on which something may be under way: on those between no answer is awaited.
+    pub fn busy_after(&self, channel: u16) -> Option<u16>
+        ensures higher { IfSome result (λ next. channel < next) }
+        ensures between { (c : Settings) (s : State) → FitsStation c self.now s → IfSome result (λ next. (h : ℕ)
+            → channel < h → h < next → awaited_at (layer_settings c) s.layer h ≡ Awaits.Nothing) }
+        ensures none { (c : Settings) (s : State) → FitsStation c self.now s → IfNone result ((h : ℕ)
+            → channel < h → awaited_at (layer_settings c) s.layer h ≡ Awaits.Nothing) }
+    {
+        self.layer.busy_after(channel)
     }
 
     /// The answer that this end awaits on a channel; none where it isn't configured, while a restart is under way, and

@@ -6,14 +6,15 @@ use std::alloc::Global;
 use x25_station::{Cfg, Role, StationError};
 
 /// k, N2 and channels, and whether they are in their ranges.
-static ROWS: [(u8, u8, u8, bool); 7] = [
+static ROWS: [(u8, u8, u16, bool); 8] = [
     (0, 1, 1, false),
     (8, 1, 1, false),
     (1, 0, 1, false),
     (1, 1, 0, false),
-    (1, 1, 17, false),
+    (1, 1, 4096, false),
+    (1, 1, u16::MAX, false),
     (1, 1, 1, true),
-    (7, 255, 16, true),
+    (7, 255, 4095, true),
 ];
 
 fn refusal(alloc: Global, cfg: Cfg) -> Option<StationError> {

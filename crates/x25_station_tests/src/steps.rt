@@ -17,7 +17,7 @@ pub const SETTINGS: Cfg = Cfg {
 
 /// What happens at a station.
 #[derive(Clone, Copy)]
-enum Act {
+pub enum Act {
     Nothing,
     Connect,
     /// Timer T1 fires.
@@ -90,7 +90,7 @@ const BAD_CALL: Cmd<'static> = Cmd::Call {
     params: None,
 };
 
-const CALL: Cmd<'static> = Cmd::Call {
+pub const CALL: Cmd<'static> = Cmd::Call {
     called: "1",
     calling: "2",
     user: &[],
@@ -214,7 +214,7 @@ fn happens(station: &mut Station, act: Act, out: &mut Step) -> Result<(), Statio
 }
 
 // The number of the refusal of the last of so many, or 0.
-fn refusal(station: &mut Station, (count, act): (u16, Act), out: &mut Step) -> u8 {
+pub fn refusal(station: &mut Station, (count, act): (u16, Act), out: &mut Step) -> u8 {
     let mut number = 0;
     for _ in 0..count {
         number = match happens(station, act, out) {

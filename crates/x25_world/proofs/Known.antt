@@ -28,14 +28,14 @@ pub second_false : (a b : Bool) → (a || b) ≡ false → b ≡ false
 second_false true b e = true_false e
 second_false false b e = e
 
--- k is 1 to 7, and there are 1 to 16 channels
+-- k is 1 to 7, and there are 1 to 4,095 channels
 pub record IsConfigured (cfg : Cfg) : Type 0 where
   pub low : 1 ≤ cfg.k
   pub high : cfg.k ≤ 7
-  pub channels : cfg.channels ≤ 16
+  pub channels : cfg.channels ≤ 4095
 
 abbrev all_fine : Cfg → Bool
-all_fine cfg = nat_le 1 cfg.k && (nat_le cfg.k 7 && (nat_le 1 cfg.n2 && (nat_le 1 cfg.channels && nat_le cfg.channels 16)))
+all_fine cfg = nat_le 1 cfg.k && (nat_le cfg.k 7 && (nat_le 1 cfg.n2 && (nat_le 1 cfg.channels && nat_le cfg.channels 4095)))
 
 abbrev refused_unless : Bool → Option StationError
 refused_unless b = if b then None else Some error.BadConfig
@@ -50,7 +50,7 @@ is_configured cfg fine = found (all_fine cfg) refl fine
         let q = both_true _ _ p.1 in
         let r = both_true _ _ q.1 in
         let s = both_true _ _ r.1 in
-        record { low = leb-true 1 cfg.k p.0; high = leb-true cfg.k 7 q.0; channels = leb-true cfg.channels 16 s.1 }
+        record { low = leb-true 1 cfg.k p.0; high = leb-true cfg.k 7 q.0; channels = leb-true cfg.channels 4095 s.1 }
 
 pub links_joined : (cfg : Cfg) → IsConfigured cfg → AreJoined (link_of cfg Dte) (link_of cfg Dce)
 links_joined cfg fine = record { near_role = refl; far_role = refl; longest = refl; near_low = fine.low; near_high = fine.high; far_low = fine.low; far_high = fine.high }

@@ -55,7 +55,7 @@ pub struct Healed {
 /// such a moment: a message was lost, and one more is sent once T1 has run out.
 /// - `drains`: the world bounds how many deliveries follow one another, while the layers put nothing.
 ///
-/// Premises: k is 1 to 7, N2 1 to 255, channels 1 to 16, and the users hand down octets.
+/// Premises: k is 1 to 7, N2 1 to 255, channels 1 to 4,095, and the users hand down octets.
 pub fn stations_heal()
     ensures rest { Throughout RestShows }
     ensures heals { Throughout HealsWhereNonePut }
@@ -81,7 +81,7 @@ pub fn stations_heal()
 /// octets come behind the firings, and no count of that station is at its most; and where the rounds leave nothing on
 /// the line.
 ///
-/// Premises: k is 1 to 7, N2 1 to 255, channels 1 to 16, and the users hand down octets.
+/// Premises: k is 1 to 7, N2 1 to 255, channels 1 to 4,095, and the users hand down octets.
 pub fn healing_brings_all()
     ensures shows { Throughout HealingRestShowsAll }
     ensures arrives { Throughout HealingBringsAll }

@@ -75,7 +75,7 @@ pub(crate) fn laws_below()
 /// were given as they were put, and these are in the window.
 /// - `up_once`: from a link just set up, where no `connect` is accepted, each end tells of LinkUp once, in set-up.
 ///
-/// Premises: k is 1 to 7, N2 1 to 255, channels 1 to 16, and the users hand down octets.
+/// Premises: k is 1 to 7, N2 1 to 255, channels 1 to 4,095, and the users hand down octets.
 pub fn two_stations_keep_order()
     ensures set_up { IsSetUp }
     ensures lawful { UntilSecondUp IsLawful }
@@ -124,7 +124,7 @@ pub fn two_stations_keep_order()
 /// as given and the facilities behind the station's own packet sizes and windows. In a session that meets none nothing
 /// is told of it.
 ///
-/// Premises: k is 1 to 7, N2 1 to 255, channels 1 to 16, and the users hand down octets.
+/// Premises: k is 1 to 7, N2 1 to 255, channels 1 to 4,095, and the users hand down octets.
 pub fn stations_meet_in_sessions()
     ensures step { Throughout MeetInStep }
     ensures lawful { Throughout AreLawfulWhereMet }
@@ -145,7 +145,7 @@ pub fn stations_meet_in_sessions()
 /// end too, and either no message of it waits and all of its messages and interrupts arrived, or the user at the other
 /// end isn't ready. A circuit that isn't open keeps none at any time.
 ///
-/// Premises: k is 1 to 7, N2 1 to 255, channels 1 to 16, and the users hand down octets.
+/// Premises: k is 1 to 7, N2 1 to 255, channels 1 to 4,095, and the users hand down octets.
 pub fn messages_wait_for_users()
     ensures closed { Throughout ClosedKeepNone }
     ensures waits { Throughout MessagesWaitForUsers }
@@ -156,8 +156,8 @@ pub fn messages_wait_for_users()
     x25_layer::messages_wait_for_users();
 }
 
-/// What a world holds at most: 24,239,525 octets, twice as many as a station of 16 channels does and the memory for 59
-/// frames, and those of the frames on its line, each of which counts as the longest.
+/// What a world holds at most: 2,875,109 octets and 1,335,276 for each channel, twice as many as a station does and the
+/// memory for 59 frames, and those of the frames on its line, each of which counts as the longest.
 pub fn worlds_hold_few()
     ensures { FewOctets }
 {

@@ -36,12 +36,12 @@ fn errors_have_numbers(rt: HostRuntime) {
 }
 
 /// k, N2 and channels, and whether they are in their ranges.
-static SETTINGS: [(u8, u8, u8, bool); 9] = [
+static SETTINGS: [(u8, u8, u16, bool); 9] = [
     (0, 10, 1, false),
     (8, 10, 1, false),
     (7, 0, 1, false),
     (7, 10, 0, false),
-    (7, 10, 17, false),
+    (7, 10, 4096, false),
     (1, 1, 1, true),
     (7, 255, 16, true),
     (255, 0, 255, false),

@@ -1,5 +1,5 @@
 -- That one who obeys his clock is told the answer (profile): on the channel, that of a restart, or LinkUp or LinkDown.
-use Rattle.std.specs.Prelude.{◌≡◌, ℕ, ◌+◌, ◌^◌, ◌<◌, ◌≤◌, Bool, true, false, List, [], ◌∷◌}
+use Rattle.std.specs.Prelude.{◌≡◌, ℕ, ◌+◌, ◌^◌, ◌<◌, ◌≤◌, Bool, false, List, [], ◌∷◌}
 use Rattle.std.specs.List.{list_any}
 use Rattle.x25_layer.specs.code.FitsLayer.{awaited_at}
 use Rattle.x25_station.specs.Config.{Settings, layer_settings}
@@ -28,5 +28,5 @@ abbrev pub AnswerIsTold : Type 0
 AnswerIsTold = (c : Settings) (times : Times) (h : ℕ) (moments : List Moment) (deeds : List Deed) →
     let w : Watched = watched c times moments in
     let longest : ℕ = longest_wait times w.station.layer.restarting (awaited_at (layer_settings c) w.station.layer h) in
-    c.channels ≤ 16 → AreSet times → w.now + longest < 2 ^ 64 → 2 ≤ rank c w.station h
+    AreSet times → w.now + longest < 2 ^ 64 → 2 ≤ rank c w.station h
     → AreObeyed c times deeds w → IsUntold c times h deeds w → (all_done c times deeds w).now ≤ w.now + longest

@@ -110,5 +110,5 @@ abbrev pub NothingWaits : Type 0
 NothingWaits = (c : Settings) (times : Times) (h : ℕ) (moments : List Moment) (deeds : List Deed) →
     let w : Watched = watched c times moments in
     let longest : ℕ = longest_wait times w.station.layer.restarting (awaited_at (layer_settings c) w.station.layer h) in
-    c.channels ≤ 16 → AreSet times → w.now + longest < 2 ^ 64
+    AreSet times → w.now + longest < 2 ^ 64
     → AreObeyed c times deeds w → AwaitsAll c times h deeds w → (all_done c times deeds w).now ≤ w.now + longest

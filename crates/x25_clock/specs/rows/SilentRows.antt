@@ -34,7 +34,11 @@ times = record { t1 = 0; t3 = 0; t20 = 5; t21 = 3; t22 = 2; t23 = 4 }
 
 -- its link is up and in r1, and it calls at once
 abbrev pub before : Watched
-before = record { station = record { link = fresh; layer = at_rest }; deadlines = nothing_awaited; now = 7 }
+before = record {
+  station = record { link = fresh; layer = at_rest };
+  deadlines = nothing_awaited dte.channels;
+  now = 7;
+}
 
 abbrev pub called : Watched
 called = done dte times (Happens 0 (Asks (Requests (Dials [] [] [] (in_brief default_params))))) before

@@ -1,5 +1,6 @@
 -- A step of a layer over a link, within its rounds of pulls.
-use Rattle.std.specs.Prelude.{◌≡◌, ℕ, ◌+◌, ◌<◌, ◌≤◌, List, length, None, Bool, true, false, if◌then◌else◌, nat_lt}
+use Rattle.std.specs.Prelude.{◌≡◌, ℕ, ◌+◌, ◌<◌, ◌≤◌, List, length, vec_capacity, None, Bool, true, false, if◌then◌else◌}
+use Rattle.std.specs.Prelude.{nat_lt}
 use Rattle.std.specs.Prelude.{option_to_list}
 use Rattle.x25_link.specs.OrderedLink.{Lists}
 use Rattle.x25_link.specs.declared.ordered_link.OrderedLink.{Ghosts}
@@ -10,8 +11,8 @@ use Rattle.x25_circuit.specs.code.FitsCircuit.{FitsCircuit, room_of, clears_of, 
 use Rattle.x25_layer.specs.Layer.{LayerSettings, packet_on}
 use Rattle.x25_layer.specs.Room.{HaveCountsLeft, HaveRoomStill}
 use Rattle.x25_layer.specs.code.FitsLayer.{FitsCircuits}
-use Rattle.x25_layer.specs.code.Waiting.{WaitAt}
-use Rattle.x25_layer.specs.declared.places.Places.{Places}
+use Rattle.x25_layer.specs.code.Idle.{IdleBeside}
+use Rattle.x25_layer.specs.declared.busy.Busy.{Busy}
 use Rattle.x25_layer.specs.Rounds.{Putting, round}
 use Rattle.x25_layer.specs.code.OverLink.{after_all, view_of, Takes}
 
@@ -58,9 +59,9 @@ pub record PullsOne {D : Type 0} (g : Ghosts D) (channel : ℕ) (old : circuit_c
   pub resets : resets_of new ≡ resets_of old
   pub fewer : is_put ≡ true → m₂ < m
 
--- A round of all circuits. Whether a packet was put is told, and where messages wait behind it.
+-- A round of all circuits. Whether a packet was put is told, and which circuits may be busy behind it.
 pub record GoesRound {D : Type 0} (g : Ghosts D) (old : List circuit_code.Circuit) (below : D) (m : ℕ)
-    (new : List circuit_code.Circuit) (below₂ : D) (m₂ : ℕ) (is_put : Bool) (asked : Places) : Type 0 where
+    (new : List circuit_code.Circuit) (below₂ : D) (m₂ : ℕ) (is_put : Bool) (busy : Busy) : Type 0 where
   pub stands : (c : LayerSettings) (x : g.State) (s : Putting) (total : ℕ)
       → Stands (g.fits below) g.lists g.after_put c old m (g.promised below) total x s
       → Stands (g.fits below₂) g.lists g.after_put c new m₂ (g.promised below₂) total x
@@ -73,4 +74,5 @@ pub record GoesRound {D : Type 0} (g : Ghosts D) (old : List circuit_code.Circui
   pub room : HaveRoomStill old new
   pub left : HaveCountsLeft old → HaveCountsLeft new
   pub fewer : is_put ≡ true → m₂ < m
-  pub still : WaitAt asked new
+  pub places : vec_capacity busy.channels ≡ length new
+  pub still : IdleBeside busy.channels.items new

@@ -40,10 +40,10 @@ DueIsDone = (c : Settings) (times : Times) (due : Due) (w : Timed) → c.window 
 -- Behind any lines and one that says a time, no earlier than the last one, nothing is due then.
 abbrev pub NothingIsDue : Type 0
 NothingIsDue = (c : Settings) (times : Times) (lines : List (List ℕ)) (line : List ℕ) (now : ℕ) →
-    let w : Timed = (timed_turns c times lines new_timed).next in
+    let w : Timed = (timed_turns c times lines (new_timed c)).next in
     time_said line ≡ Some now → w.now ≤ now → due_of now (timed_turn c times line w).next.deadlines ≡ None
 
 -- So what any lines lead to is what some moments do, of which x25_clock says that all deadlines are true.
 abbrev pub PipeIsWatched : Type 0
 PipeIsWatched = (c : Settings) (times : Times) (lines : List (List ℕ)) → c.window ≤ 7 →
-    (moments : List Moment) × (watched c times moments ≡ watched_in (timed_turns c times lines new_timed).next)
+    (moments : List Moment) × (watched c times moments ≡ watched_in (timed_turns c times lines (new_timed c)).next)

@@ -1,11 +1,11 @@
 -- What a set of states becomes, packet by packet: over lists, in the order in which the code goes. No list has more
 -- than eight states: None where there is no room, or a number is too large.
 use Rattle.std.specs.Prelude.{ℕ, ◌+◌, ◌==◌, nat_lt, nat_le, Bool, true, false, not, ◌&&◌, ◌||◌, if◌then◌else◌}
-use Rattle.std.specs.Prelude.{List, [], ◌∷◌, ◌++◌, length, drop, map, Option, Some, None}
+use Rattle.std.specs.Prelude.{List, [], ◌∷◌, ◌++◌, length, drop, Option, Some, None}
 use Rattle.arrayvec.specs.ArrayVec.{ArrayVec}
 use Rattle.x25_bits.specs.declared.role.Role.{Role}
 use Rattle.x25_bits.specs.declared.role.Role.TheVariants.{Dte, Dce}
-use Rattle.x25_possible.specs.Channel.{at_once, goes_on, is_polite, sends, takes}
+use Rattle.x25_possible.specs.Channel.{at_once, dropped, found, goes_on, is_polite, sends, takes}
 use Rattle.x25_possible.specs.laws.Possible.{Item, Own, Other}
 use Rattle.x25_possible.specs.declared.packet.Packet.{Packet}
 use Rattle.x25_possible.specs.declared.packet.Packet.TheVariants.{Accept, Clear, ClearConf, Restart, RestartConf, Data}
@@ -15,7 +15,7 @@ use Rattle.x25_possible.specs.declared.phase.Phase.{Phase}
 use Rattle.x25_possible.specs.declared.phase.Phase.TheVariants.{Idle, Calls, Talks, Free, Resets, WasReset}
 use Rattle.x25_possible.specs.declared.phase.Phase.TheVariants.{Clears, WasCleared, Restarts, WasRestarted}
 use Rattle.x25_possible.specs.declared.set.Knowledge.{Knowledge}
-use Rattle.x25_possible.specs.declared.set.Knowledge.TheVariants.{Blind, Any, Ready, Doubt, Known}
+use Rattle.x25_possible.specs.declared.set.Knowledge.TheVariants.{Blind, Lost, Ready, Doubt, Likely, Known}
 use Rattle.x25_possible.specs.declared.set.Set.{Set}
 use Rattle.x25_possible.specs.declared.set.Told.{Told}
 use Rattle.x25_possible.specs.declared.set.Told.TheVariants.{Nothing, Rude, Broken}
@@ -116,6 +116,18 @@ grows role last way q out =
 abbrev pub grow_all : Role → ℕ → List Packet → List Spot → List Spot → Option (List Spot)
 grow_all role last way qs out = all_of (grows role last way) qs out
 
+-- ---- as an end that may be anywhere sends one: by the last that it took
+
+abbrev pub settles_found : Role → ℕ → List Packet → Option Phase → List Spot → Option (List Spot)
+settles_found role n way None out = Some out
+settles_found role n way (Some u) out = settles role n way u out
+
+-- with so much of the way in front of it
+abbrev pub found_from : Role → Option Packet → ℕ → List Packet → Packet → List Spot → Option (List Spot)
+found_from role last n [] x out = settles_found role n [] (found last x) out
+found_from role last n (y ∷ rest) x out =
+    and_then (settles_found role n (y ∷ rest) (found last x) out) (found_from role (Some y) (n + 1) rest x)
+
 -- ---- where nothing is left on the way
 
 abbrev pub are_at_end : ℕ → List Spot → Bool
@@ -179,11 +191,10 @@ abbrev pub is_dte : Role → Bool
 is_dte Dte = true
 is_dte Dce = false
 
--- whether a state waits for such a packet; of a DCE that called, the DTE may have called before
+-- whether such a packet answers a state's request: one that crosses it may follow another one that wasn't seen; of a
+-- DCE that called, the DTE may have called before
 abbrev pub is_answered : Role → Packet → Phase → Bool
-is_answered role Restart Restarts = true
 is_answered role RestartConf Restarts = true
-is_answered role Clear Clears = true
 is_answered role ClearConf Clears = true
 is_answered role (Accept said) (Calls terms) = is_dte role
 is_answered role x s = false
@@ -196,24 +207,25 @@ abbrev pub is_ready : Knowledge → Bool
 is_ready Ready = true
 is_ready k = false
 
-abbrev pub is_doubt : Knowledge → Bool
-is_doubt Doubt = true
-is_doubt k = false
-
 -- A packet that the end sends makes it known: an answer, where the request was seen, or a request that crosses one; one
--- of a call that was seen to begin; and behind a set-up its RESTART. Behind what wasn't read no call is known.
+-- of a call that was seen to begin; and behind a set-up its RESTART.
 abbrev pub makes_known : Knowledge → Packet → List Spot → Bool
 makes_known k RestartConf qs = true
 makes_known k ClearConf qs = true
-makes_known k (Accept said) qs = not (is_doubt k)
+makes_known k (Accept said) qs = true
 makes_known k Restart qs = is_ready k || is_one_idle qs
 makes_known k Clear qs = is_one_idle qs
-makes_known k (Data q m ps pr size) qs = not (is_doubt k) && are_bound qs
-makes_known k (Rr pr) qs = not (is_doubt k) && are_bound qs
-makes_known k (Rnr pr) qs = not (is_doubt k) && are_bound qs
-makes_known k Interrupt qs = not (is_doubt k) && are_bound qs
-makes_known k InterruptConf qs = not (is_doubt k) && are_bound qs
+makes_known k (Data q m ps pr size) qs = are_bound qs
+makes_known k (Rr pr) qs = are_bound qs
+makes_known k (Rnr pr) qs = are_bound qs
+makes_known k Interrupt qs = are_bound qs
+makes_known k InterruptConf qs = are_bound qs
 makes_known k x qs = false
+
+-- behind one that wasn't read no call is known
+abbrev pub may_find : Knowledge → Packet → Bool
+may_find Doubt (Accept said) = false
+may_find k x = true
 
 -- ---- a set
 
@@ -224,12 +236,28 @@ known_by k = false
 abbrev pub is_known : Set → Bool
 is_known s = known_by s.knowledge
 
+-- no states are listed
 abbrev pub blind_by : Knowledge → Bool
-blind_by Blind = true
-blind_by k = false
+blind_by Likely = false
+blind_by Known = false
+blind_by k = true
 
 abbrev pub is_blind : Set → Bool
 is_blind s = blind_by s.knowledge
+
+-- states are listed, and something is on the way
+abbrev pub is_awaiting : Set → Bool
+is_awaiting s = not (is_blind s) && not (length s.way.items == 0)
+
+-- it may be anywhere on the way
+abbrev pub lost_by : Knowledge → Bool
+lost_by Lost = true
+lost_by Ready = true
+lost_by Doubt = true
+lost_by k = false
+
+abbrev pub is_lost : Set → Bool
+is_lost s = lost_by s.knowledge
 
 abbrev pub standing : Role → List Packet → List Spot → Knowledge → Set
 standing role way spots k = record {
@@ -244,40 +272,44 @@ abbrev pub begun : Role → Set
 begun role = standing role [] (spot_at 0 Idle ∷ []) Known
 
 -- nothing is known
-abbrev pub any_phases : List Phase
-any_phases = Idle ∷ Free ∷ Clears ∷ Restarts ∷ []
-
-abbrev pub any_spots : List Spot
-any_spots = map (spot_at 0) any_phases
-
-abbrev pub any_as : Role → Knowledge → Set
-any_as role k = standing role [] any_spots k
+abbrev pub anywhere : Role → Knowledge → Set
+anywhere role k = standing role [] [] k
 
 abbrev pub any : Role → Set
-any role = any_as role Any
+any role = anywhere role Lost
 
 -- behind a set-up of the link: nothing of before comes
 abbrev pub ready : Role → Set
-ready role = any_as role Ready
+ready role = anywhere role Ready
+
+-- where there is no room, for good
+abbrev pub without_room : Set → Set
+without_room s = anywhere s.role Blind
+
+-- nothing is known but what is on the way
+abbrev pub hidden_by : Knowledge → Knowledge → Set → Set
+hidden_by Blind k s = s
+hidden_by was k s = standing s.role s.way.items [] k
+
+abbrev pub hidden : Knowledge → Set → Set
+hidden k s = hidden_by s.knowledge k s
+
+-- packets of both ends weren't seen, and what was seen before may come yet
+abbrev pub lost : Set → Set
+lost s = hidden Lost s
 
 -- behind a packet that wasn't read
 abbrev pub doubted : Set → Set
-doubted s = any_as s.role Doubt
-
--- where there is no room
-abbrev pub without_room : Set → Set
-without_room s = any_as s.role Blind
-
--- packets of both ends weren't seen, and something that was seen before may come yet, or nothing
-abbrev pub lost : Set → Set
-lost s = if is_blind s then s else if length s.way.items == 0 then any s.role else without_room s
+doubted s = hidden Doubt s
 
 abbrev pub trimmed_to : Option (List Spot) → Set → Set
 trimmed_to None s = s
 trimmed_to (Some qs) s = standing s.role [] qs s.knowledge
 
 abbrev pub trimmed : Set → Set
-trimmed s = if are_at_end (length s.way.items) s.spots.items then trimmed_to (anew s.spots.items []) s else s
+trimmed s =
+    if is_awaiting s && are_at_end (length s.way.items) s.spots.items then trimmed_to (anew s.spots.items []) s
+    else s
 
 -- a set, and what is told
 pub record Stepped : Type 0 where
@@ -289,25 +321,16 @@ quietly s = record { set = s; told = Nothing }
 
 -- behind a packet that no state allows: numbers go on from it, or nothing is known
 abbrev pub broken_to : Option (List Spot) → Set → Set
-broken_to None s = any s.role
-broken_to (Some qs) s =
-    if length qs == 0 then any s.role else standing s.role s.way.items qs s.knowledge
+broken_to None s = lost s
+broken_to (Some qs) s = if length qs == 0 then lost s else standing s.role s.way.items qs s.knowledge
 
 abbrev pub breaks : Packet → Set → Set
 breaks x s = broken_to (go_all true s.role s.way.items x s.spots.items []) s
 
--- the same where nothing is known: it begins with the packet
-abbrev pub begun_to : Option (List Spot) → Set → Set
-begun_to None s = s
-begun_to (Some qs) s = if length qs == 0 then s else standing s.role s.way.items qs s.knowledge
-
-abbrev pub begins : Packet → Set → Set
-begins x s = begun_to (go_all false s.role s.way.items x s.spots.items []) s
-
 abbrev pub unexplained : Packet → Set → Stepped
 unexplained x s =
     if is_known s then record { set = breaks x s; told = Broken (latest_from true Idle 0 s.spots.items) }
-    else quietly (begins x (any_as s.role s.knowledge))
+    else quietly (lost s)
 
 abbrev pub told_by : Option Phase → Told
 told_by None = Nothing
@@ -329,9 +352,22 @@ sent x s = sent_to x (go_all false s.role s.way.items x s.spots.items []) s
 abbrev pub trims : Stepped → Stepped
 trims r = record { set = trimmed r.set; told = r.told }
 
+-- an end that may be anywhere, where the packet says in which state it is
+abbrev pub located : Packet → List Spot → Set → Set
+located x qs s =
+    trimmed (standing s.role s.way.items qs (if makes_known s.knowledge x qs then Known else Likely))
+
+abbrev pub found_to : Packet → Option (List Spot) → Set → Set
+found_to x None s = s
+found_to x (Some qs) s = if length qs == 0 then s else located x qs s
+
+abbrev pub finds : Packet → Set → Set
+finds x s =
+    if is_lost s && may_find s.knowledge x then found_to x (found_from s.role None 0 s.way.items x []) s else s
+
 -- the end sends a packet
 abbrev pub sends_to : Packet → Set → Stepped
-sends_to x s = if is_blind s then quietly s else trims (sent x s)
+sends_to x s = if is_blind s then quietly (finds x s) else trims (sent x s)
 
 abbrev pub shown_to : Packet → Option (List Spot) → Set → Set
 shown_to x None s = without_room s
@@ -344,9 +380,16 @@ shown x s =
     if length s.way.items == 16 then without_room s
     else shown_to x (grow_all s.role (length s.way.items) (s.way.items ++ x ∷ []) s.spots.items []) s
 
+-- an end that may be anywhere: what any state drops says nothing of it
+abbrev pub awaits : Packet → Set → Set
+awaits x s =
+    if not (is_lost s) || is_some (dropped x Idle) then s
+    else if length s.way.items == 16 then without_room s
+    else standing s.role (s.way.items ++ x ∷ []) s.spots.items s.knowledge
+
 -- the other end sends a packet
 abbrev pub shows_to : Packet → Set → Set
-shows_to x s = if is_blind s then s else trimmed (shown x s)
+shows_to x s = if is_blind s then awaits x s else trimmed (shown x s)
 
 -- ---- over a tape, latest first
 

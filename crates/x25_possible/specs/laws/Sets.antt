@@ -1,11 +1,11 @@
 -- What a set of states means, and what is told of an end by it.
-use Rattle.std.specs.Prelude.{◌≡◌, ℕ, ◌↔◌, ◌⊎◌, ◌<◌, ◌≤◌, true, false, List, [], ◌∷◌, length, map, drop, Option, Some}
+use Rattle.std.specs.Prelude.{◌≡◌, ℕ, ◌↔◌, ◌<◌, ◌≤◌, true, false, List, [], ◌∷◌, length, map, drop, Option, Some}
 use Rattle.std.specs.Prelude.{None}
 use Rattle.x25_bits.specs.declared.role.Role.{Role}
 use Rattle.x25_possible.specs.Channel.{at_once, channel_choices, channel_rules, is_polite, sends, sends_as, takes}
 use Rattle.x25_possible.specs.laws.Possible.{Item, Own, Other, IsIn, IsUnexplained, Place, Stands, after, at, possible}
-use Rattle.x25_possible.specs.code.Steps.{any_phases, behind, is_blind, is_known, is_large, may_send, sends_to}
-use Rattle.x25_possible.specs.code.Steps.{shows_to}
+use Rattle.x25_possible.specs.code.Steps.{behind, is_blind, is_known, is_large, may_send, played}
+use Rattle.x25_possible.specs.code.Steps.{sends_to, shows_to}
 use Rattle.x25_possible.specs.declared.packet.Packet.{Packet}
 use Rattle.x25_possible.specs.declared.phase.Phase.{Phase}
 use Rattle.x25_possible.specs.declared.phase.Phase.TheVariants.{Idle}
@@ -21,10 +21,12 @@ placed way q = at q.phase (drop q.at way)
 abbrev pub AreSame : {X : Type 0} → List X → List X → Type 0
 AreSame {X} xs ys = (x : X) → IsIn x xs ↔ IsIn x ys
 
--- its places are those that are possible behind the tape, latest first, that begins in one of these states
+-- its states are listed, and its places are those that are possible behind the tape, latest first, that begins in one
+-- of these states
 abbrev pub Fits : List Phase → List (Item Packet) → Set → Type 0
 Fits begun tape s =
-    AreSame (map (placed s.way.items) s.spots.items) (possible (channel_choices s.role) begun tape)
+    (is_blind s ≡ false)
+    × AreSame (map (placed s.way.items) s.spots.items) (possible (channel_choices s.role) begun tape)
 
 abbrev pub IsBroken : Told → Type 0
 IsBroken (Broken phase) = Unit {0}
@@ -39,9 +41,8 @@ IsUntold (Broken phase) = ⊥
 IsUntold told = Unit {0}
 
 -- As the end sends a packet, where the set fits a tape: a rule is told only where no run of an end that keeps the rules
--- explains the tape with it; where none is told, and the set is known then, some run does, and the set fits. Where it
--- stays unknown it may have begun anew, with the packet or behind it. Where manners are told, no state that may send
--- the packet is polite. Where the set wasn't known nothing is told.
+-- explains the tape with it; where none is told, and the set is known then, some run does. It fits then, or nothing is
+-- listed. Where manners are told, no state that may send the packet is polite. Where the set wasn't known nothing is.
 pub record SendsExactly : Type 0 where
   pub told : (s : Set) (begun : List Phase) (tape : List (Item Packet)) (x : Packet) → Fits begun tape s
       → IsBroken (sends_to x s).told → IsUnexplained (channel_rules s.role begun) (Own x ∷ tape)
@@ -49,12 +50,8 @@ pub record SendsExactly : Type 0 where
       → IsUntold (sends_to x s).told → is_known (sends_to x s).set ≡ true
       → IsUnexplained (channel_rules s.role begun) (Own x ∷ tape) → ⊥
   pub fits : (s : Set) (begun : List Phase) (tape : List (Item Packet)) (x : Packet) → Fits begun tape s
-      → IsUntold (sends_to x s).told → is_known (sends_to x s).set ≡ true
-      → Fits begun (Own x ∷ tape) (sends_to x s).set
-  pub anew : (s : Set) (begun : List Phase) (tape : List (Item Packet)) (x : Packet) → Fits begun tape s
       → IsUntold (sends_to x s).told → is_blind (sends_to x s).set ≡ false
-      → Fits begun (Own x ∷ tape) (sends_to x s).set ⊎ Fits any_phases (Own x ∷ []) (sends_to x s).set
-      ⊎ Fits any_phases [] (sends_to x s).set
+      → Fits begun (Own x ∷ tape) (sends_to x s).set
   pub rude : (s : Set) (x : Packet) (q : Spot) → IsRude (sends_to x s).told → IsIn q s.spots.items
       → may_send q.phase x ≡ true → is_polite q.phase x ≡ false
   pub unknown : (s : Set) (x : Packet) → is_known s ≡ false → (sends_to x s).told ≡ Nothing
@@ -108,6 +105,15 @@ abbrev pub InnocentsStayUntold : Type 0
 InnocentsStayUntold =
     (role : Role) (tape : List (Item Packet)) (x : Packet) (s : Phase) (way : List Packet)
     → Stands (channel_rules role (Idle ∷ [])) (Own x ∷ tape) s way → IsUntold (sends_to x (behind role tape)).told
+
+-- Nor is one, wherever states are listed and nothing is on the way, of an end that was in one of these and keeps the
+-- rules from there on: as where a set became known that wasn't.
+abbrev pub FoundStayUntold : Type 0
+FoundStayUntold =
+    (s : Set) (tape : List (Item Packet)) (x : Packet) (p : Phase) (way : List Packet) → is_blind s ≡ false
+    → s.way.items ≡ []
+    → Stands (channel_rules s.role (map (λ (q : Spot). q.phase) s.spots.items)) (Own x ∷ tape) p way
+    → IsUntold (sends_to x (played s tape)).told
 
 -- Where the set is known behind what an end sent by the rules, the first packet that breaks one is told.
 abbrev pub GuiltyAreTold : Type 0

@@ -2,7 +2,7 @@
 use Rattle.std.specs.Prelude.{◌≡◌, Bool, true, false, List, [], ◌∷◌, None}
 use Rattle.x25_possible.specs.laws.Possible.{Item, Own, Other, Place, possible}
 use Rattle.x25_possible.specs.Channel.{channel_choices}
-use Rattle.x25_possible.specs.code.Steps.{any, doubted, is_known, played, ready}
+use Rattle.x25_possible.specs.code.Steps.{any, begun, doubted, is_known, lost, played, ready}
 use Rattle.x25_possible.specs.declared.packet.Said.{Said}
 use Rattle.x25_possible.specs.declared.packet.Packet.{Packet}
 use Rattle.x25_possible.specs.declared.packet.Packet.TheVariants.{Call, Accept, Clear, ClearConf, Reset, ResetConf}
@@ -68,12 +68,23 @@ pub record RowsAreKnown : Type 0 where
   pub restarted : is_known (played (any Dte) (Own RestartConf ∷ Other Restart ∷ [])) ≡ true
   pub cleared : is_known (played (any Dte) (Own ClearConf ∷ Other Clear ∷ [])) ≡ true
   pub accepted : is_known (played (any Dte) (Own (Accept as_proposed) ∷ Other (Call usual) ∷ [])) ≡ true
+  -- and it is in the state of one that has restarted
+  pub restarted_as : played (any Dte) (Own RestartConf ∷ Other Restart ∷ []) ≡ begun Dte
+  pub cleared_as : played (any Dte) (Own ClearConf ∷ Other Clear ∷ []) ≡ begun Dte
   -- so is its own
   pub restart_answered : is_known (played (any Dce) (Other RestartConf ∷ Own Restart ∷ [])) ≡ true
   pub clear_answered : is_known (played (any Dce) (Other ClearConf ∷ Own Clear ∷ [])) ≡ true
+  -- another one crosses it: it may have crossed one before, which wasn't seen
+  pub crossed : is_known (played (any Dte) (Other Clear ∷ Own Clear ∷ [])) ≡ false
   pub call_answered : is_known (played (any Dte) calling) ≡ true
   -- it talks in a call that was seen to begin
   pub in_call : is_known (played (any Dce) (Own (Rr 0) ∷ calling)) ≡ true
+  -- a CLEAR that was on the way where packets weren't seen is answered, or crosses its own, and then another one
+  pub lost_cleared : is_known (played (lost (played (begun Dte) (Other Clear ∷ []))) (Own ClearConf ∷ [])) ≡ true
+  pub lost_crossed :
+      is_known (played (lost (played (begun Dte) (Other Clear ∷ [])))
+      (Own ClearConf ∷ Other Clear ∷ Other (Call usual) ∷ Own Clear ∷ []))
+      ≡ true
   -- its RESTART right behind a set-up of the link
   pub set_up : is_known (played (ready Dte) (Own Restart ∷ [])) ≡ true
   -- a request alone, a call of before, a call behind what wasn't read

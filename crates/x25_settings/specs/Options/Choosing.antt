@@ -58,7 +58,7 @@ put_read c x (Some n) = put_fresh c x n (is_some (chosen_number c x))
 
 abbrev pub put_text : Kind → Chosen → List ℕ → Option Numbered → Option Chosen
 put_text kind c text None = None
-put_text kind c text (Some x) = if has kind x then put_read c x (number_in (least_of x) (most_of x) text) else None
+put_text kind c text (Some x) = if has kind x then put_read c x (number_in (least_of x) (most_of kind x) text) else None
 
 -- an option and its number
 abbrev pub put_number : Kind → Chosen → List ℕ → List ℕ → Option Chosen

@@ -7,6 +7,9 @@ use Rattle.x25_link.specs.code.FitsLink.{ShownLink}
 use Rattle.x25_circuit.specs.declared.circuit.Circuit as circuit_code
 use Rattle.x25_layer.specs.declared.layer.Layer as layer_code
 use Rattle.x25_station.specs.declared.station.Station as code
+use Rattle.x25_station.specs.Config.{Settings}
+use Rattle.x25_station.specs.Station.{Station}
+use Rattle.x25_station.specs.code.FitsStation.{FitsStation}
 use Rattle.x25_station.specs.laws.HoldLaw.{holds}
 
 -- Packets of 4,099 octets: those that were sent and aren't acknowledged, those that wait, and the memory kept of those
@@ -32,6 +35,7 @@ octets_held v = link_octets v.link + (layer_octets v.layer + (128 * 5 + 4096 * v
 abbrev pub FewOctets : Type 0
 FewOctets = (v : code.Station) → octets_held v ≤ 1316516 + 667638 * length v.layer.circuits.items
 
--- with at most 16 channels
+-- with so many channels as its settings say
 abbrev pub FewOctetsInAll : Type 0
-FewOctetsInAll = (v : code.Station) → octets_held v ≤ 11998724
+FewOctetsInAll = (c : Settings) (v : code.Station) (s : Station) → FitsStation c v s
+    → octets_held v ≤ 1316516 + 667638 * c.channels

@@ -47,9 +47,9 @@ abbrev pub BringOctets : List Event → Type 0
 BringOctets [] = Unit {0}
 BringOctets (e ∷ events) = MovesOctets e.what × BringOctets events
 
--- whatever happens to two layers of at most 16 channels
+-- whatever happens to two layers of at most 4,095 channels
 abbrev pub PutsAreReadable : Type 0
-PutsAreReadable = (long_data : Bool) (channels : ℕ) → channels ≤ 16 → (events : List Event) → BringOctets events →
+PutsAreReadable = (long_data : Bool) (channels : ℕ) → channels ≤ 4095 → (events : List Event) → BringOctets events →
     let w : TwoLayers = run long_data channels events (start long_data channels) in AreReadable long_data w.near.given
     × AreReadable long_data w.far.given
 
@@ -68,5 +68,5 @@ pub data IsReachedByOctets (r : Role) (long_data : Bool) (channels : ℕ) : Join
 
 abbrev pub PutsBesidePeersAreReadable : Type 0
 PutsBesidePeersAreReadable =
-    (r : Role) (long_data : Bool) (channels : ℕ) → channels ≤ 16 → (w : Joined)
+    (r : Role) (long_data : Bool) (channels : ℕ) → channels ≤ 4095 → (w : Joined)
     → IsReachedByOctets r long_data channels w → AreReadable long_data w.near.given

@@ -1,7 +1,10 @@
 -- How many octets a world holds at most (profile).
 use Rattle.std.specs.Prelude.{ℕ, List, ◌+◌, ◌*◌, ◌≤◌, length, max}
 use Rattle.std.specs.List.{sum_by}
+use Rattle.x25_station.specs.declared.config.Cfg.{Cfg}
 use Rattle.x25_station.specs.laws.OctetLaw as station
+use Rattle.x25_world.specs.World.{World}
+use Rattle.x25_world.specs.code.FitsWorld.{FitsWorld}
 use Rattle.x25_world.specs.code.ShownWorld.{ShownWorld}
 
 -- A frame on its line counts as the longest, or as its own octets where these are more.
@@ -17,5 +20,7 @@ line_octets v = sum_by frame_octets v.to_dce + sum_by frame_octets v.to_dte
 abbrev pub octets_held : ShownWorld → ℕ
 octets_held v = (station.octets_held v.dte + station.octets_held v.dce) + (4103 * (17 + 17 + 25) + line_octets v)
 
+-- with so many channels as its settings say
 abbrev pub FewOctets : Type 0
-FewOctets = (v : ShownWorld) → octets_held v ≤ 24239525 + line_octets v
+FewOctets = (cfg : Cfg) (v : ShownWorld) (w : World) → FitsWorld cfg v w
+    → octets_held v ≤ 2875109 + 1335276 * cfg.channels + line_octets v

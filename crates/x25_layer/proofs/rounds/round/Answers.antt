@@ -21,5 +21,6 @@ returns-then-not-may_pull g c = record {
   room = search rules;
   left = search rules;
   fewer = search rules;
+  places = search rules;
   still = search rules;
 }

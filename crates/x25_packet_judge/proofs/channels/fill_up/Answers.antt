@@ -11,7 +11,7 @@ pub returns-clause-alike : goal.returns-clause-alike
 unfolding all_alike
 returns-clause-alike c = λ usual.
     let all : c.loop.counter ≡ 4096 = omega arith in
-    ap (map (shown 1 usual)) c.loop.invariant.0 ∙ alike c.loop.counter usual ∙ ap (λ n. replicate n usual) all
+    ap (map (shown 1 1 usual)) c.loop.invariant.0 ∙ alike c.loop.counter usual ∙ ap (λ n. replicate n usual) all
 
 pub returns-clause-old : goal.returns-clause-old
 returns-clause-old c = subst (All (IsOld 0)) (sym c.loop.invariant.0) (All-replicate (IsOld 0) c.loop.counter first_slot (omega arith))

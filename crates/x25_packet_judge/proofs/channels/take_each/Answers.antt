@@ -9,13 +9,13 @@ loop-slot-init c = refl
 
 pub loop-slot-preserved : goal.loop-slot-preserved
 loop-slot-preserved c =
-    let f = slot_takes c.args.begun c.args.from c.args.packet in
+    let f = slot_takes c.args.begun c.args.turn c.args.usual.now c.args.from c.args.packet in
     ap (λ (s : Slot). left_mapped f (c.loop-slot.slot-index + 1) (slice_set c.loop-slot.slot-items c.loop-slot.slot-index s)) c.take_one.ensures
     ∙ changed_more f c.loop-slot.slot-index c.loop-slot.slot-items c.deref_mut-slot-items.result.now _ (omega arith) c.loop-slot.invariant
 
 pub returns-clause-items : goal.returns-clause-items
 returns-clause-items c =
-    let f = slot_takes c.args.begun c.args.from c.args.packet in
+    let f = slot_takes c.args.begun c.args.turn c.args.usual.now c.args.from c.args.packet in
     let value = c.deref_mut-slot-items.ensures.value in
     let same : length c.loop-slot.slot-items ≡ length c.args.slots.now.items = c.loop-slot.auto.slot-items ∙ ap length value in
     let all : length c.loop-slot.slot-items ≤ c.loop-slot.slot-index = omega arith in

@@ -25,7 +25,7 @@ returns-in-Err g c =
     let q = c.in_ok-pipe.pipe in
     stopped g.R.Source g.W.Sink (timed_program k times) c.args.reader.now c.args.writer.now c.mark.new.writer c.in-Err.fault (Err c.in-Err.fault) refl c.in-Err.ensures.faults
     (λ input. mark_failed k times written (g.W.Sink.contents c.mark.new.writer) c.mark.new.self input
-    (c.in-Err.ensures.turns k times written new_timed [] false (stands_first_timed k times written q first.fits first.role first.empty first.is_refused first.clock first.times first.now)))
+    (c.in-Err.ensures.turns k times written (new_timed k) [] false (stands_first_timed k times written q first.fits first.role first.empty first.is_refused first.clock first.times first.now)))
 
 pub returns : goal.returns
 returns g c =
@@ -39,5 +39,5 @@ returns g c =
     (c.take_text.ensures.answers (k, times) written
     (λ input. input_begins k times written (g.W.Sink.contents c.mark.new.writer) c.mark.new.self input c.new-lines.result.taker c.new-lines.result.held c.in_ok-held.held
     c.new-lines.ensures.held c.new-lines.ensures.taker c.in_ok-held.ensures
-    (c.in_default.ensures.turns k times written new_timed [] false (stands_first_timed k times written q first.fits first.role first.empty first.is_refused first.clock first.times first.now))))
+    (c.in_default.ensures.turns k times written (new_timed k) [] false (stands_first_timed k times written q first.fits first.role first.empty first.is_refused first.clock first.times first.now))))
     c.take_text.ensures.marks

@@ -1,12 +1,10 @@
-use Rattle.std.proofs.Common.{◌∙◌, arith}
-use Rattle.x25_clock.proofs.ClockLemmas.{one_channel_more}
+use Rattle.std.proofs.Common.{◌∙◌, ap, List, None}
+use Rattle.x25_clock.specs.declared.wait.Wait.{Wait}
+use Rattle.x25_clock.specs.Clock.{Deadlines, spread}
+use Rattle.x25_clock.proofs.ListedLemmas.{none_listed}
 use Rattle.x25_clock.proofs.clock.Clock.new.Goals as goal
 
-pub loop-place-preserved : goal.loop-place-preserved
-loop-place-preserved c =
-    let pushed = c.push_reserved.ensures in
-    let before = c.loop-place.invariant in (
-      pushed.items ∙ one_channel_more c.loop-place.place c.loop-place.waits.items before.0,
-      (let len = pushed.len in let so_far = before.1 in omega (arith, len, so_far)),
-      (let room = pushed.capacity in let all = before.2 in omega (arith, room, all)),
-    )
+pub returns-clause-plain : goal.returns-clause-plain
+returns-clause-plain c =
+    let only : List Wait → Deadlines = λ ws. record { t1 = None; idle = None; restart = None; waits = ws } in
+    ap only (ap (spread c.args.channels 1) c.in_ok-waits.ensures.items ∙ none_listed c.args.channels 1)

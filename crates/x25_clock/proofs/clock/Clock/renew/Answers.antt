@@ -1,23 +1,18 @@
-use Rattle.std.proofs.Common.{◌≡◌, ◌∙◌, ◌+◌, ◌≤◌, length, map, slice_set, ap, refl, arith}
+use Rattle.std.proofs.Common.{◌∙◌, List, ap, sym, subst}
 use Rattle.x25_clock.specs.declared.wait.Wait.{Wait}
-use Rattle.x25_clock.specs.Clock.{renewed}
-use Rattle.x25_clock.proofs.ListLemmas.{left_mapped, changed_more, written_back}
+use Rattle.x25_clock.specs.Clock.{spread}
+use Rattle.x25_clock.specs.Awaited.{AreListed}
+use Rattle.x25_clock.proofs.ListedLemmas.{listed_renewed, spread_renewed}
 use Rattle.x25_clock.proofs.clock.Clock.renew.Goals as goal
 
-pub loop-wait-init : goal.loop-wait-init
-loop-wait-init c = refl
-
-pub loop-wait-preserved : goal.loop-wait-preserved
-loop-wait-preserved c =
-    let f = renewed c.args.self.now.times c.args.now c.args.channel in
-    ap (λ (w : Wait). left_mapped f (c.loop-wait.wait-index + 1) (slice_set c.loop-wait.wait-items c.loop-wait.wait-index w)) c.renewed.ensures
-    ∙ changed_more f c.loop-wait.wait-index c.loop-wait.wait-items c.deref_mut-wait-items.result.now _ (omega arith) c.loop-wait.invariant
+pub invariant_of-self-clause-listed : goal.invariant_of-self-clause-listed
+invariant_of-self-clause-listed c =
+    let v = c.args.self.now in
+    subst (λ (ws : List Wait). AreListed v.channels 0 ws) (sym c.renew_in.ensures.items)
+    (listed_renewed v.times c.args.now c.args.channel v.channels 0 v.waits.items v.listed)
 
 pub returns-clause-waits : goal.returns-clause-waits
 returns-clause-waits c =
-    let f = renewed c.args.self.now.times c.args.now c.args.channel in
-    let value = c.deref_mut-wait-items.ensures.value in
-    let same : length c.loop-wait.wait-items ≡ length c.args.self.now.waits.items = c.loop-wait.auto.wait-items ∙ ap length value in
-    let all : length c.loop-wait.wait-items ≤ c.loop-wait.wait-index = omega arith in
-    let high : length c.args.self.now.waits.items ≤ c.args.self.now.waits.len = omega arith in
-    written_back f c.loop-wait.wait-index c.args.self.now.waits.len c.loop-wait.wait-items c.args.self.now.waits.items (c.loop-wait.invariant ∙ ap (map f) value) all high same
+    let v = c.args.self.now in
+    ap (spread v.channels 1) c.renew_in.ensures.items
+    ∙ spread_renewed v.times c.args.now c.args.channel v.channels 1 v.waits.items

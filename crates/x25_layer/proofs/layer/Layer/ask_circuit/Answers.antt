@@ -1,14 +1,14 @@
-use Rattle.std.proofs.Common.{ℕ, suc, ◌≡◌, ◌-◌, ◌≤◌, ◌∙◌, Err, min, refl, sym, ap, subst, arith}
+use Rattle.std.proofs.Common.{ℕ, suc, ◌≡◌, ◌-◌, ◌≤◌, ◌∙◌, Err, min, refl, sym, ap, subst, arith, length-set}
 use Rattle.x25_circuit.specs.declared.error.CircuitError.{CircuitError}
 use Rattle.x25_circuit.specs.declared.circuit.Circuit as circuit_code
 use Rattle.x25_circuit.specs.Calling.{outcome}
-use Rattle.x25_circuit.specs.code.FitsCircuit.{FitsCircuit, room_of, waits_of}
+use Rattle.x25_circuit.specs.code.FitsCircuit.{FitsCircuit, room_of}
 use Rattle.x25_circuit.specs.Request.{plain_request}
-use Rattle.x25_layer.specs.code.Waiting.{IsOutside}
+use Rattle.x25_layer.specs.code.Idle.{IsOutside, IsIdle}
 use Rattle.x25_layer.specs.Room.{HasCountsLeft}
 use Rattle.x25_layer.proofs.CallLemmas.{found_at, asks_ok, asks_err, memory_is, err_is, layer_kept}
 use Rattle.x25_layer.proofs.FitLemmas.{all_changed, counts_left}
-use Rattle.x25_layer.proofs.HearLemmas.{read_there}
+use Rattle.x25_layer.proofs.HearLemmas.{read_there, place_of}
 use Rattle.x25_layer.proofs.layer.Layer.ask_circuit.Goals as goal
 
 pub returns-in-Ok-clause-outcome : goal.returns-in-Ok-clause-outcome
@@ -53,6 +53,9 @@ invariant_of-self-clause-circuits_left c = λ is.
 
 pub invariant_of-self-clause-still : goal.invariant_of-self-clause-still
 invariant_of-self-clause-still c =
-    all_changed (λ (k : ℕ) (v : circuit_code.Circuit). IsOutside c.with_place-self.result k → waits_of v ≡ 0) c.args.self.now.circuits.items (c.from-place.result - 1) c.ask.new.self
-    (λ k v at out. c.args.self.now.still k v at (c.with_place-self.ensures.wider k out))
-    (λ out. absurd (c.with_place-self.ensures.has out))
+    all_changed (λ (k : ℕ) (v : circuit_code.Circuit). IsOutside c.insert.new.self.channels.items (suc k) → IsIdle v) c.args.self.now.circuits.items (c.from-place.result - 1) c.ask.new.self
+    (λ k v at out. c.args.self.now.still k v at (c.insert.ensures.others (suc k) out))
+    (λ out. absurd (c.insert.ensures.this (subst (λ (h : ℕ). IsOutside c.insert.new.self.channels.items h) (place_of _ c.args.channel c.from-place.result c.requires c.from-place.ensures) out)))
+
+pub invariant_of-self-clause-places : goal.invariant_of-self-clause-places
+invariant_of-self-clause-places c = c.insert.ensures.places ∙ c.args.self.now.places ∙ sym (length-set c.args.self.now.circuits.items (c.from-place.result - 1) c.ask.new.self)

@@ -1,5 +1,6 @@
-use Rattle.std.proofs.Common.{◌∙◌, refl, arith}
-use Rattle.x25_layer.proofs.PullLemmas.{asked_all}
+use Rattle.std.proofs.Common.{◌∙◌, refl, arith, List, subst, sym}
+use Rattle.x25_circuit.specs.declared.circuit.Circuit as circuit_code
+use Rattle.x25_layer.specs.code.Idle.{IdleBeside}
 use Rattle.x25_layer.proofs.layer.Layer.down.Goals as goal
 
 pub returns-clause-layer : goal.returns-clause-layer
@@ -16,4 +17,7 @@ pub returns-clause-room : goal.returns-clause-room
 returns-clause-room c = λ h len has. record { memory = has.memory; circuits = c.forget_all.ensures.room h len has.circuits }
 
 pub invariant_of-self-clause-still : goal.invariant_of-self-clause-still
-invariant_of-self-clause-still c = asked_all _ _ c.everywhere-self.ensures (let count = c.forget_all.ensures.count in let few = c.args.self.now.few in omega (arith, count, few))
+invariant_of-self-clause-still c = subst (λ (vs : List circuit_code.Circuit). IdleBeside c.note_all.new.self.channels.items vs) c.deref.ensures.value c.note_all.ensures.idle
+
+pub invariant_of-self-clause-places : goal.invariant_of-self-clause-places
+invariant_of-self-clause-places c = c.note_all.ensures.places ∙ c.args.self.now.places ∙ sym c.forget_all.ensures.count

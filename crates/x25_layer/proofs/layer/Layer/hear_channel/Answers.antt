@@ -1,11 +1,11 @@
-use Rattle.std.proofs.Common.{◌≡◌, ◌∙◌, ℕ, suc, ◌-◌, ◌≤◌, length, min, refl, sym, ap, subst, arith}
+use Rattle.std.proofs.Common.{◌≡◌, ◌∙◌, ℕ, suc, ◌-◌, ◌≤◌, length, min, refl, sym, ap, subst, arith, length-set}
 use Rattle.x25_circuit.specs.declared.circuit.Circuit as circuit_code
-use Rattle.x25_circuit.specs.code.FitsCircuit.{FitsCircuit, room_of, waits_of}
+use Rattle.x25_circuit.specs.code.FitsCircuit.{FitsCircuit, room_of}
 use Rattle.x25_layer.specs.Receiving.{plain_read, circuit_hears}
-use Rattle.x25_layer.specs.code.Waiting.{IsOutside}
+use Rattle.x25_layer.specs.code.Idle.{IsOutside, IsIdle}
 use Rattle.x25_layer.specs.Room.{HasCountsLeft}
 use Rattle.x25_layer.proofs.CallLemmas.{found_at, layer_put, layer_kept}
-use Rattle.x25_layer.proofs.FitLemmas.{all_changed, both, if_none, not_true}
+use Rattle.x25_layer.proofs.FitLemmas.{all_changed, rest_changed, both, if_none, not_true}
 use Rattle.x25_layer.proofs.HearLemmas.{read_there, place_of}
 use Rattle.x25_layer.proofs.layer.Layer.hear_channel.Goals as goal
 
@@ -54,11 +54,15 @@ returns-in-Err-clause-room_stays c = λ h len have.
 
 pub invariant_of-self-clause-still : goal.invariant_of-self-clause-still
 invariant_of-self-clause-still c =
-    all_changed (λ (k : ℕ) (v : circuit_code.Circuit). IsOutside c.with_waiting-self.result k → waits_of v ≡ 0) c.args.self.now.circuits.items (c.from-place.result - 1) c.hear_circuit-answer.new.circuit
-    (λ k v at out. c.args.self.now.still k v at (c.with_waiting-self.ensures.wider k out))
-    (λ out. sym c.waits-waits.ensures.held ∙ c.with_waiting-self.ensures.has out)
+    let on = place_of (length c.args.self.now.circuits.items) c.args.channel c.from-place.result c.requires.channel c.from-place.ensures in
+    rest_changed (λ (k : ℕ) (v : circuit_code.Circuit). IsOutside c.note.new.self.channels.items (suc k) → IsIdle v) c.args.self.now.circuits.items (c.from-place.result - 1) c.hear_circuit-answer.new.circuit
+    (λ k v differs at out. c.args.self.now.still k v at (c.note.ensures.others (suc k) (λ same. differs (let e : k ≡ c.from-place.result - 1 = omega (arith, on, same) in e)) out))
+    (λ out. c.note.ensures.this (subst (λ (h : ℕ). IsOutside c.note.new.self.channels.items h) on out))
 
 pub invariant_of-self-clause-circuits_left : goal.invariant_of-self-clause-circuits_left
 invariant_of-self-clause-circuits_left c = λ is.
     let known = both _ _ is in
     all_changed (λ (k : ℕ) (v : circuit_code.Circuit). HasCountsLeft v) c.args.self.now.circuits.items (c.from-place.result - 1) c.hear_circuit-answer.new.circuit (c.args.self.now.circuits_left known.0) (c.is_full-is_full.ensures.left (not_true _ known.1))
+
+pub invariant_of-self-clause-places : goal.invariant_of-self-clause-places
+invariant_of-self-clause-places c = c.note.ensures.places ∙ c.args.self.now.places ∙ sym (length-set c.args.self.now.circuits.items (c.from-place.result - 1) c.hear_circuit-answer.new.circuit)

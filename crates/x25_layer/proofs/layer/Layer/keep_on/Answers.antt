@@ -1,7 +1,7 @@
-use Rattle.std.proofs.Common.{◌≡◌, ℕ, ◌-◌, refl, sym, subst}
+use Rattle.std.proofs.Common.{ℕ, suc, ◌-◌, refl, sym, subst, length-set, ◌∙◌}
 use Rattle.x25_circuit.specs.declared.circuit.Circuit as circuit_code
-use Rattle.x25_circuit.specs.code.FitsCircuit.{FitsCircuit, waits_of}
-use Rattle.x25_layer.specs.code.Waiting.{IsOutside}
+use Rattle.x25_circuit.specs.code.FitsCircuit.{FitsCircuit}
+use Rattle.x25_layer.specs.code.Idle.{IsOutside, IsIdle}
 use Rattle.x25_layer.specs.Room.{HasCountsLeft}
 use Rattle.x25_layer.proofs.CallLemmas.{found_at, layer_kept}
 use Rattle.x25_layer.proofs.FitLemmas.{all_changed}
@@ -18,8 +18,8 @@ pub invariant_of-self-clause-still : goal.invariant_of-self-clause-still
 invariant_of-self-clause-still c =
     let i : ℕ = c.from-place.result - 1 in
     let read = read_there c.args.self.now.circuits.items c.args.channel c.from-place.result c.index_mut.result.now c.requires c.from-place.ensures c.index_mut.ensures.value in
-    all_changed (λ (k : ℕ) (v : circuit_code.Circuit). IsOutside c.args.self.now.asked k → waits_of v ≡ 0) c.args.self.now.circuits.items i c.keep.new.self c.args.self.now.still
-    (λ out. subst (λ (v : circuit_code.Circuit). waits_of v ≡ 0) (sym c.keep.ensures) (c.args.self.now.still i _ read out))
+    all_changed (λ (k : ℕ) (v : circuit_code.Circuit). IsOutside c.args.self.now.busy.channels.items (suc k) → IsIdle v) c.args.self.now.circuits.items i c.keep.new.self c.args.self.now.still
+    (λ out. subst (λ (v : circuit_code.Circuit). IsIdle v) (sym c.keep.ensures) (c.args.self.now.still i _ read out))
 
 pub invariant_of-self-clause-circuits_left : goal.invariant_of-self-clause-circuits_left
 invariant_of-self-clause-circuits_left c = λ is.
@@ -28,3 +28,6 @@ invariant_of-self-clause-circuits_left c = λ is.
     let read = read_there c.args.self.now.circuits.items c.args.channel c.from-place.result c.index_mut.result.now c.requires c.from-place.ensures c.index_mut.ensures.value in
     all_changed (λ (k : ℕ) (v : circuit_code.Circuit). HasCountsLeft v) c.args.self.now.circuits.items i c.keep.new.self left
     (subst (λ (v : circuit_code.Circuit). HasCountsLeft v) (sym c.keep.ensures) (left i _ read))
+
+pub invariant_of-self-clause-places : goal.invariant_of-self-clause-places
+invariant_of-self-clause-places c = c.args.self.now.places ∙ sym (length-set c.args.self.now.circuits.items (c.from-place.result - 1) c.keep.new.self)

@@ -1,5 +1,6 @@
-use Rattle.std.proofs.Common.{◌≡◌, suc, ◌+◌, ◌∙◌, refl, arith}
-use Rattle.x25_layer.proofs.PullLemmas.{asked_all}
+use Rattle.std.proofs.Common.{◌≡◌, suc, ◌+◌, ◌∙◌, refl, arith, List, subst, sym}
+use Rattle.x25_circuit.specs.declared.circuit.Circuit as circuit_code
+use Rattle.x25_layer.specs.code.Idle.{IdleBeside}
 use Rattle.x25_layer.proofs.layer.Layer.restart_is_done.Goals as goal
 
 pub returns-clause-layer : goal.returns-clause-layer
@@ -13,4 +14,7 @@ returns-clause-layer c = λ s l fits. record {
 }
 
 pub invariant_of-self-clause-still : goal.invariant_of-self-clause-still
-invariant_of-self-clause-still c = asked_all _ _ c.everywhere-self.ensures (let count = c.begin_all.ensures.count in let few = c.args.self.now.few in omega (arith, count, few))
+invariant_of-self-clause-still c = subst (λ (vs : List circuit_code.Circuit). IdleBeside c.note_all.new.self.channels.items vs) c.deref.ensures.value c.note_all.ensures.idle
+
+pub invariant_of-self-clause-places : goal.invariant_of-self-clause-places
+invariant_of-self-clause-places c = c.note_all.ensures.places ∙ c.args.self.now.places ∙ sym c.begin_all.ensures.count

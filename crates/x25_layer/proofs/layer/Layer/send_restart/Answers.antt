@@ -1,7 +1,8 @@
-use Rattle.std.proofs.Common.{◌∙◌, refl, sym, subst, arith}
+use Rattle.std.proofs.Common.{◌∙◌, refl, sym, subst, arith, List}
 use Rattle.x25_layer.specs.declared.layer.Layer as code
 use Rattle.x25_layer.specs.Room.{HasRoomOn}
-use Rattle.x25_layer.proofs.PullLemmas.{asked_all}
+use Rattle.x25_circuit.specs.declared.circuit.Circuit as circuit_code
+use Rattle.x25_layer.specs.code.Idle.{IdleBeside}
 use Rattle.x25_layer.proofs.layer.Layer.send_restart.Goals as goal
 
 pub returns-clause-layer : goal.returns-clause-layer
@@ -14,8 +15,11 @@ returns-clause-layer g c = λ s l fits. c.put.ensures.fits s _ (record {
   circuits = c.forget_all.ensures.fits s l.circuits fits.circuits;
 })
 
-pub invariant_of-self-clause-still : goal.invariant_of-self-clause-still
-invariant_of-self-clause-still g c = asked_all _ _ c.everywhere-self.ensures (let count = c.forget_all.ensures.count in let few = c.args.self.now.few in omega (arith, count, few))
-
 pub returns-clause-room : goal.returns-clause-room
 returns-clause-room g c = λ h len have. subst (λ (v : code.Layer). HasRoomOn h len v.circuits.items) (sym c.put.ensures.layer) (c.forget_all.ensures.room h len have)
+
+pub invariant_of-self-clause-still : goal.invariant_of-self-clause-still
+invariant_of-self-clause-still g c = subst (λ (vs : List circuit_code.Circuit). IdleBeside c.note_all.new.self.channels.items vs) c.deref.ensures.value c.note_all.ensures.idle
+
+pub invariant_of-self-clause-places : goal.invariant_of-self-clause-places
+invariant_of-self-clause-places g c = c.note_all.ensures.places ∙ c.args.self.now.places ∙ sym c.forget_all.ensures.count

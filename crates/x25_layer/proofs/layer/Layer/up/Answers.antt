@@ -1,4 +1,4 @@
-use Rattle.std.proofs.Common.{◌≡◌, ◌∙◌, ℕ, refl, sym, subst, arith}
+use Rattle.std.proofs.Common.{◌≡◌, ◌∙◌, ℕ, refl, sym, subst, arith, List}
 use Rattle.x25_packet.specs.Packet.{restart}
 use Rattle.x25_packet.specs.Spelling.{spelling_of}
 use Rattle.x25_layer.specs.Layer.{restart_cause}
@@ -7,7 +7,8 @@ use Rattle.x25_layer.specs.code.OverLink.{view_of, after_all}
 use Rattle.x25_layer.specs.Rounds.{Putting}
 use Rattle.x25_layer.proofs.FitLemmas.{on_err}
 use Rattle.x25_layer.proofs.SettleLemmas.{comes_up_alone}
-use Rattle.x25_layer.proofs.PullLemmas.{asked_all}
+use Rattle.x25_circuit.specs.declared.circuit.Circuit as circuit_code
+use Rattle.x25_layer.specs.code.Idle.{IdleBeside}
 use Rattle.x25_layer.proofs.layer.Layer.up.Goals as goal
 
 pub returns-in_err-reserve_packets-clause-layer_stays : goal.returns-in_err-reserve_packets-clause-layer_stays
@@ -34,4 +35,7 @@ returns-clause-link g c = λ s l x fits link.
     (subst (λ (n : ℕ). g.L.OrderedLink.fits c.put.new.link (g.L.OrderedLink.after_put x (spelling_of (restart n 0)))) cause (c.put.ensures.link x link))
 
 pub invariant_of-self-clause-still : goal.invariant_of-self-clause-still
-invariant_of-self-clause-still g c = asked_all _ _ c.everywhere-self.ensures (let count = c.begin_all.ensures.count in let few = c.args.self.now.few in omega (arith, count, few))
+invariant_of-self-clause-still g c = subst (λ (vs : List circuit_code.Circuit). IdleBeside c.note_all.new.self.channels.items vs) c.deref.ensures.value c.note_all.ensures.idle
+
+pub invariant_of-self-clause-places : goal.invariant_of-self-clause-places
+invariant_of-self-clause-places g c = c.note_all.ensures.places ∙ c.reserve_packets.new.self.places ∙ sym c.begin_all.ensures.count

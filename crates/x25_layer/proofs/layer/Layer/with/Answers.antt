@@ -1,6 +1,10 @@
-use Rattle.std.proofs.Common.{arith}
-use Rattle.x25_layer.proofs.PullLemmas.{asked_all}
+use Rattle.std.proofs.Common.{List, subst, sym, ◌∙◌}
+use Rattle.x25_circuit.specs.declared.circuit.Circuit as circuit_code
+use Rattle.x25_layer.specs.code.Idle.{IdleBeside}
 use Rattle.x25_layer.proofs.layer.Layer.with.Goals as goal
 
 pub invariant_of-result-clause-still : goal.invariant_of-result-clause-still
-invariant_of-result-clause-still c = asked_all c.in_ok-circuits.circuits.items _ c.everywhere.ensures (let count = c.in_ok-circuits.ensures.count in omega (arith, count))
+invariant_of-result-clause-still c = subst (λ (vs : List circuit_code.Circuit). IdleBeside c.note_all.new.self.channels.items vs) c.deref.ensures.value c.note_all.ensures.idle
+
+pub invariant_of-result-clause-places : goal.invariant_of-result-clause-places
+invariant_of-result-clause-places c = c.note_all.ensures.places ∙ c.in_ok-busy.ensures.places ∙ sym c.in_ok-circuits.ensures.count

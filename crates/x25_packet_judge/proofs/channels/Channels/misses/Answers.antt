@@ -14,9 +14,9 @@ returns-clause-channels c =
     let p = c.self.inside in
     let i = c.from-index.result % 4096 in
     let low : i < length p.slots.items = subst (λ n. i < n) (sym c.self.invariant.0) (mod-lt c.from-index.result (omega arith)) in
-    ap (λ (s : Slot). map (shown p.begun p.usual) (slice_set p.slots.items i s)) c.misses.ensures.slot
-    ∙ put_is p.begun i p.usual (definition.misses (shown p.begun p.usual c.index_mut.result.now)).channel p.slots.items
-    ∙ ap (λ (s : Slot). slice_set (map (shown p.begun p.usual) p.slots.items) i (definition.misses (shown p.begun p.usual s)).channel) c.index_mut.ensures.value
-    ∙ ap (λ (d : Channel). slice_set (map (shown p.begun p.usual) p.slots.items) i (definition.misses d).channel) (found p.begun p.usual p.slots.items i _ low)
-    ∙ ap (λ n. slice_set (map (shown p.begun p.usual) p.slots.items) (n % 4096) (definition.misses (channel_of n (map (shown p.begun p.usual) p.slots.items))).channel) c.from-index.ensures
+    ap (λ (s : Slot). map (shown p.begun p.turn p.usual) (slice_set p.slots.items i s)) c.misses.ensures.slot
+    ∙ put_is p.begun p.turn i p.usual (definition.misses (shown p.begun p.turn p.usual c.index_mut.result.now)).channel p.slots.items c.self.invariant.3
+    ∙ ap (λ (s : Slot). slice_set (map (shown p.begun p.turn p.usual) p.slots.items) i (definition.misses (shown p.begun p.turn p.usual s)).channel) c.index_mut.ensures.value
+    ∙ ap (λ (d : Channel). slice_set (map (shown p.begun p.turn p.usual) p.slots.items) i (definition.misses d).channel) (found p.begun p.turn p.usual p.slots.items i _ low)
+    ∙ ap (λ n. slice_set (map (shown p.begun p.turn p.usual) p.slots.items) (n % 4096) (definition.misses (channel_of n (map (shown p.begun p.turn p.usual) p.slots.items))).channel) c.from-index.ensures
     ∙ ap (λ cs. slice_set cs (c.args.channel % 4096) (definition.misses (channel_of c.args.channel cs)).channel) c.self.view_is

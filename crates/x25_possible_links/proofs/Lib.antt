@@ -1,0 +1,9 @@
+mod Lists
+mod Stands
+mod Covers
+mod Sends
+mod Leads
+mod Exactly
+mod LoopLemmas
+mod StepLemmas
+mod SetLemmas

@@ -1,0 +1,403 @@
+-- A set of places tells, as long as there is room.
+use Rattle.std.proofs.Common.{Bool, true, false, ◌≡◌, ◌⊎◌, inl, inr, ℕ, ◌+◌, ◌-◌, ◌<◌, ◌≤◌, ◌==◌, ◌&&◌, not, nat_le, nat_lt}
+use Rattle.std.proofs.Common.{List, [], ◌∷◌, ◌++◌, map, drop, length, refl, sym, ap, subst, ◌∙◌, Option, Some, None, arith}
+use Rattle.std.proofs.Common.{flat_map, if◌then◌else◌, le_trans}
+use Rattle.std.proofs.lemmas.Bool.{and_parts, both_ways, leb-true, ltb-false, eqb-true, not-true}
+use Rattle.std.proofs.lemmas.List.{drop-drop, drop-append-le}
+use Rattle.std.proofs.lemmas.Option.{none-some, same_Some}
+use Rattle.x25_possible.specs.laws.Possible.{IsIn, IsUnexplained, Item, Own, Other, Place, at, Stands, Begins, Sends, Shows, Takes}
+use Rattle.x25_possible_links.specs.laws.Link.{State, At, link_rules}
+use Rattle.x25_possible_links.specs.laws.Places.{settled, settle}
+use Rattle.x25_possible_links.specs.laws.Places as place
+use Rattle.x25_possible_links.specs.laws.Sets.{GuiltyAreTold, InnocentsStayUntold}
+use Rattle.x25_possible_links.specs.code.Steps.{begun_as, blind, broken, grow_all, grows, least, played, sends_to, sent_to, set_as}
+use Rattle.x25_possible_links.specs.code.Steps.{settles, shift_all, shift_at, shifted_to, shown_to, spot_at, Stepped, trimmed, walk_all}
+use Rattle.x25_possible_links.specs.code.Steps.{walks}
+use Rattle.x25_possible_links.specs.declared.frame.Frame.{Frame}
+use Rattle.x25_possible_links.specs.declared.set.LinkSet.{LinkSet}
+use Rattle.x25_possible_links.specs.declared.spots.Spot.{Spot}
+use Rattle.x25_possible_links.specs.declared.stand.Stand.{Stand}
+use Rattle.x25_possible_links.proofs.LoopLemmas.{least_most}
+use Rattle.x25_possible_links.proofs.Stands.{below_self}
+use Rattle.x25_possible_links.proofs.Covers.{Here}
+use Rattle.x25_possible_links.proofs.Leads.{HoldsAt, holds_shown, holds_takes, holds_settled, stays_at}
+use Rattle.x25_possible_links.proofs.Exactly.{HoldsIn, sends_held, settled_stand, walks_stand}
+use Rattle.x25_possible_links.proofs.Lists.{in_map, from_map, in_all, from_all}
+use Rattle.x25_possible_links.proofs.StepLemmas.{Adds, adds_all, adds_kept, adds_settled, adds_walks, placed}
+
+-- its places are such as a run comes to, and there is one for each run
+record Fits (begun : List Stand) (tape : List (Item Frame)) (way : List Frame) (qs : List Spot) : Type 0 where
+  stands : (q : Spot) → IsIn q qs → Stands (link_rules begun) tape (At q.stand) (drop q.at way)
+  holds : (s : State) (end : List Frame) → Stands (link_rules begun) tape s end
+      → (q : Spot) × IsIn q qs × HoldsAt q.stand (drop q.at way) s end
+
+from_added : (way : List Frame) (qs : List Spot) (ps : List (Place Stand Frame)) → Adds way [] qs ps → (q : Spot) → IsIn q qs
+    → IsIn (placed way q) ps
+from_added way qs ps adds q is = go (adds.from q is)
+  where
+    go : IsIn q [] ⊎ IsIn (placed way q) ps → IsIn (placed way q) ps
+    go (inl g) = absurd g
+    go (inr g) = g
+
+holds_by : (way : List Frame) (qs : List Spot) (ps : List (Place Stand Frame)) → Adds way [] qs ps → (p : Place Stand Frame) → IsIn p ps
+    → (s : State) (end : List Frame) → HoldsAt p.state p.way s end → (q : Spot) × IsIn q qs × HoldsAt q.stand (drop q.at way) s end
+holds_by way qs ps adds p is s end h = adds.holds p is s end h
+
+-- ---- as the end sends a frame
+
+abbrev behind_own : Frame → List Frame → Spot → List (Place Stand Frame)
+behind_own x way q = map settle (place.walks x (placed way q))
+
+link_sends : List Stand → State → List Frame → Frame → State → Type 0
+link_sends begun s end x r = (link_rules begun).Sends s end x r
+
+IsSome : List (Item Frame) → Type 0
+IsSome [] = ⊥
+IsSome (x ∷ xs) = Unit {0}
+
+no_item : (x : Frame) (tape : List (Item Frame)) → [] ≡ Own x ∷ tape → ⊥
+unfolding IsSome
+no_item x tape e = subst IsSome (sym e) tt
+
+IsOther : List (Item Frame) → Type 0
+IsOther (Other x ∷ tape) = Unit {0}
+IsOther tape = ⊥
+
+not_own : (x y : Frame) (tape' tape : List (Item Frame)) → Other y ∷ tape' ≡ Own x ∷ tape → ⊥
+unfolding IsOther
+not_own x y tape' tape e = subst IsOther e tt
+
+frame_of : Frame → List (Item Frame) → Frame
+frame_of d [] = d
+frame_of d (Own x ∷ tape) = x
+frame_of d (Other x ∷ tape) = x
+
+rest_of : List (Item Frame) → List (Item Frame)
+rest_of [] = []
+rest_of (x ∷ tape) = tape
+
+own_is : (x y : Frame) (tape tape' : List (Item Frame)) → Own y ∷ tape' ≡ Own x ∷ tape → (y ≡ x) × (tape' ≡ tape)
+unfolding frame_of rest_of
+own_is x y tape tape' e = (ap (frame_of y) e, ap rest_of e)
+
+own_holds : (begun : List Stand) (tape : List (Item Frame)) (way : List Frame) (qs : List Spot) (x : Frame) (s : State) (end : List Frame)
+    (items : List (Item Frame)) → items ≡ Own x ∷ tape → Fits begun tape way qs → Stands (link_rules begun) items s end
+    → HoldsIn (flat_map (behind_own x way) qs) s end
+unfolding link_sends
+own_holds begun tape way qs x _ _ _ e fits (Begins s b) = absurd (no_item x tape e)
+own_holds begun tape way qs x _ _ _ e fits (Shows tape' s end y h) = absurd (not_own x y tape' tape e)
+own_holds begun tape way qs x _ _ _ e fits (Takes tape' s r end y may h) =
+    let g = own_holds begun tape way qs x s (y ∷ end) tape' e fits h in
+    (g.0, g.1, holds_takes g.0.state g.0.way s r y end g.2 may)
+own_holds begun tape way qs x _ _ _ e fits (Sends tape' s r end y may h) =
+    let same = own_is x y tape tape' e in
+    let g = fits.holds s end (subst (λ t. Stands (link_rules begun) t s end) same.1 h) in
+    let m = sends_held g.0.stand (drop g.0.at way) s r end x g.2 (subst (λ z. link_sends begun s end z r) same.0 may) in (
+      settle m.0,
+      in_all (behind_own x way) qs g.0 (settle m.0) g.1 (in_map settle (place.walks x (placed way g.0)) m.0 m.1),
+      holds_settled m.0.way m.0.state r end m.2,
+    )
+
+own_fits : (begun : List Stand) (tape : List (Item Frame)) (way : List Frame) (qs new : List Spot) (x : Frame)
+    → Fits begun tape way qs → walk_all x way qs [] ≡ Some new → Fits begun (Own x ∷ tape) way new
+own_fits begun tape way qs new x fits e = record {
+  stands = λ q is.
+      let g = from_all (behind_own x way) qs (placed way q) (from_added way new (flat_map (behind_own x way) qs) adds q is) in
+      let m = from_map settle (place.walks x (placed way g.0)) (placed way q) g.2 in
+      subst (λ p. Stands (link_rules begun) (Own x ∷ tape) (At p.state) p.way) (sym m.2)
+      (settled_stand begun (Own x ∷ tape) m.0.way m.0.state
+      (walks_stand begun tape x (placed way g.0) m.0 (fits.stands g.0 g.1) m.1));
+  holds = λ s end h.
+      let p = own_holds begun tape way qs x s end (Own x ∷ tape) refl fits h in
+      holds_by way new (flat_map (behind_own x way) qs) adds p.0 p.1 s end p.2;
+}
+  where
+    adds : Adds way [] new (flat_map (behind_own x way) qs)
+    adds = adds_all way (walks x way) (behind_own x way) (λ q out now h. adds_walks x way q out now h) qs [] new e
+
+-- ---- as the other end sends one
+
+abbrev behind_other : Frame → List Frame → Spot → List (Place Stand Frame)
+behind_other x way q = settled q.stand (drop q.at way ++ x ∷ []) ∷ []
+
+grows_adds : (way : List Frame) (x : Frame) (q : Spot) (out new : List Spot) (b : Bool) → nat_le q.at (length way) ≡ b
+    → (if b then settles q.at (drop q.at (way ++ x ∷ [])) q.stand out else None) ≡ Some new
+    → Adds (way ++ x ∷ []) out new (behind_other x way q)
+grows_adds way x q out new false e h = absurd (none-some new h)
+grows_adds way x q out new true e h =
+    subst (λ w. Adds (way ++ x ∷ []) out new (settled q.stand w ∷ []))
+    (drop-append-le q.at way (x ∷ []) (leb-true q.at (length way) e))
+    (adds_settled (way ++ x ∷ []) q.at (drop q.at (way ++ x ∷ [])) q.stand out new refl h)
+
+other_is : (x y : Frame) (tape tape' : List (Item Frame)) → Other y ∷ tape' ≡ Other x ∷ tape → (y ≡ x) × (tape' ≡ tape)
+unfolding frame_of rest_of
+other_is x y tape tape' e = (ap (frame_of y) e, ap rest_of e)
+
+no_other : (x : Frame) (tape : List (Item Frame)) → [] ≡ Other x ∷ tape → ⊥
+unfolding IsSome
+no_other x tape e = subst IsSome (sym e) tt
+
+not_other : (x y : Frame) (tape' tape : List (Item Frame)) → Own y ∷ tape' ≡ Other x ∷ tape → ⊥
+unfolding IsOther
+not_other x y tape' tape e = subst IsOther (sym e) tt
+
+other_holds : (begun : List Stand) (tape : List (Item Frame)) (way : List Frame) (qs : List Spot) (x : Frame) (s : State) (end : List Frame)
+    (items : List (Item Frame)) → items ≡ Other x ∷ tape → Fits begun tape way qs → Stands (link_rules begun) items s end
+    → HoldsIn (flat_map (behind_other x way) qs) s end
+other_holds begun tape way qs x _ _ _ e fits (Begins s b) = absurd (no_other x tape e)
+other_holds begun tape way qs x _ _ _ e fits (Sends tape' s r end y may h) = absurd (not_other x y tape' tape e)
+other_holds begun tape way qs x _ _ _ e fits (Takes tape' s r end y may h) =
+    let g = other_holds begun tape way qs x s (y ∷ end) tape' e fits h in
+    (g.0, g.1, holds_takes g.0.state g.0.way s r y end g.2 may)
+other_holds begun tape way qs x _ _ _ e fits (Shows tape' s end y h) =
+    let same = other_is x y tape tape' e in
+    let g = fits.holds s end (subst (λ t. Stands (link_rules begun) t s end) same.1 h) in (
+      settled g.0.stand (drop g.0.at way ++ x ∷ []),
+      in_all (behind_other x way) qs g.0 (settled g.0.stand (drop g.0.at way ++ x ∷ [])) g.1 (inl refl),
+      holds_settled (drop g.0.at way ++ x ∷ []) g.0.stand s (end ++ y ∷ [])
+          (subst (λ z. HoldsAt g.0.stand (drop g.0.at way ++ x ∷ []) s (end ++ z ∷ [])) (sym same.0)
+          (holds_shown g.0.stand (drop g.0.at way) s end x g.2)),
+    )
+
+other_fits : (begun : List Stand) (tape : List (Item Frame)) (way : List Frame) (qs new : List Spot) (x : Frame)
+    → Fits begun tape way qs → grow_all (length way) (way ++ x ∷ []) qs [] ≡ Some new
+    → Fits begun (Other x ∷ tape) (way ++ x ∷ []) new
+other_fits begun tape way qs new x fits e = record {
+  stands = λ q is.
+      let g = from_all (behind_other x way) qs (placed (way ++ x ∷ []) q)
+      (from_added (way ++ x ∷ []) new (flat_map (behind_other x way) qs) adds q is) in
+      subst (λ p. Stands (link_rules begun) (Other x ∷ tape) (At p.state) p.way) (sym (only g.0 (placed (way ++ x ∷ []) q) g.2))
+      (settled_stand begun (Other x ∷ tape) (drop g.0.at way ++ x ∷ []) g.0.stand
+      (Shows tape (At g.0.stand) (drop g.0.at way) x (fits.stands g.0 g.1)));
+  holds = λ s end h.
+      let p = other_holds begun tape way qs x s end (Other x ∷ tape) refl fits h in
+      holds_by (way ++ x ∷ []) new (flat_map (behind_other x way) qs) adds p.0 p.1 s end p.2;
+}
+  where
+    adds : Adds (way ++ x ∷ []) [] new (flat_map (behind_other x way) qs)
+    adds =
+        adds_all (way ++ x ∷ []) (grows (length way) (way ++ x ∷ [])) (behind_other x way)
+        (λ q out now h. grows_adds way x q out now (nat_le q.at (length way)) refl h) qs [] new e
+
+    only : (q : Spot) (p : Place Stand Frame) → IsIn p (behind_other x way q) → p ≡ settled q.stand (drop q.at way ++ x ∷ [])
+    only q p (inl same) = same
+    only q p (inr h) = absurd h
+
+-- ---- with less on the way
+
+least_is : (qs : List Spot) (n : ℕ) (q : Spot) → IsIn q qs → least qs n ≤ q.at
+least_is [] n q is = absurd is
+least_is (p ∷ qs) n q (inl e) =
+    subst (λ r. least qs (if nat_lt p.at n then p.at else n) ≤ r.at) (sym e)
+    (le_trans (least_most qs (if nat_lt p.at n then p.at else n)) (low (nat_lt p.at n) refl))
+  where
+    low : (b : Bool) → nat_lt p.at n ≡ b → (if b then p.at else n) ≤ p.at
+    low true h = omega arith
+    low false h = ltb-false p.at n h
+least_is (p ∷ qs) n q (inr is) = least_is qs (if nat_lt p.at n then p.at else n) q is
+
+abbrev moved : ℕ → List Frame → Spot → List (Place Stand Frame)
+moved n way q = placed (drop n way) (spot_at (q.at - n) q.stand) ∷ []
+
+moved_is : (n : ℕ) (way : List Frame) (q : Spot) → n ≤ q.at → placed (drop n way) (spot_at (q.at - n) q.stand) ≡ placed way q
+moved_is n way q h = ap (at q.stand) (drop-drop (q.at - n) n way ∙ ap (λ m. drop m way) (far h))
+  where
+    far : n ≤ q.at → n + (q.at - n) ≡ q.at
+    far h = omega (arith, h)
+
+shift_fits : (begun : List Stand) (tape : List (Item Frame)) (way : List Frame) (qs new : List Spot) (n : ℕ)
+    → ((q : Spot) → IsIn q qs → n ≤ q.at) → Fits begun tape way qs → shift_all n qs [] ≡ Some new → Fits begun tape (drop n way) new
+shift_fits begun tape way qs new n below fits e = record {
+  stands = λ q is.
+      let g = from_all (moved n way) qs (placed (drop n way) q) (from_added (drop n way) new (flat_map (moved n way) qs) adds q is) in
+      subst (λ p. Stands (link_rules begun) tape (At p.state) p.way)
+      (sym (only g.0 (placed (drop n way) q) g.2 ∙ moved_is n way g.0 (below g.0 g.1))) (fits.stands g.0 g.1);
+  holds = λ s end h.
+      let g = fits.holds s end h in
+      let p = placed (drop n way) (spot_at (g.0.at - n) g.0.stand) in
+      holds_by (drop n way) new (flat_map (moved n way) qs) adds p (in_all (moved n way) qs g.0 p g.1 (inl refl)) s end
+      (subst (λ r. HoldsAt r.state r.way s end) (sym (moved_is n way g.0 (below g.0 g.1))) g.2);
+}
+  where
+    adds : Adds (drop n way) [] new (flat_map (moved n way) qs)
+    adds =
+        adds_all (drop n way) (shift_at n) (moved n way)
+        (λ q out now h. adds_kept (drop n way) (spot_at (q.at - n) q.stand) out now h) qs [] new e
+
+    only : (q : Spot) (p : Place Stand Frame) → IsIn p (moved n way q) → p ≡ placed (drop n way) (spot_at (q.at - n) q.stand)
+    only q p (inl same) = same
+    only q p (inr h) = absurd h
+
+abbrev FitsSet : List Stand → List (Item Frame) → LinkSet → Type 0
+FitsSet begun tape s = Fits begun tape s.way.items s.spots.items
+
+trim_fits : (begun : List Stand) (tape : List (Item Frame)) (set : LinkSet) (way : List Frame) (qs : List Spot) → Fits begun tape way qs
+    → FitsSet begun tape (trimmed (set_as set way qs))
+trim_fits begun tape set way qs fits = go (least qs (length way) == 0)
+  where
+    shift : (o : Option (List Spot)) → shift_all (least qs (length way)) qs [] ≡ o
+        → FitsSet begun tape (shifted_to (least qs (length way)) o (set_as set way qs))
+    shift None e = fits
+    shift (Some new) e =
+        shift_fits begun tape way qs new (least qs (length way)) (λ q is. least_is qs (length way) q is) fits e
+
+    go : (b : Bool)
+        → FitsSet begun tape (if b then set_as set way qs
+        else shifted_to (least qs (length way)) (shift_all (least qs (length way)) qs []) (set_as set way qs))
+    go true = fits
+    go false = shift (shift_all (least qs (length way)) qs []) refl
+
+-- ---- over a tape
+
+before_own : (begun : List Stand) (items tape : List (Item Frame)) (x : Frame) (s : State) (end : List Frame) → items ≡ Own x ∷ tape
+    → Stands (link_rules begun) items s end → (r : State) × (w : List Frame) × Stands (link_rules begun) tape r w
+before_own begun _ tape x _ _ e (Begins s b) = absurd (no_item x tape e)
+before_own begun _ tape x _ _ e (Shows tape' s end y h) = absurd (not_own x y tape' tape e)
+before_own begun _ tape x _ _ e (Takes tape' s r end y may h) = before_own begun tape' tape x s (y ∷ end) e h
+before_own begun _ tape x _ _ e (Sends tape' s r end y may h) =
+    (s, end, subst (λ t. Stands (link_rules begun) t s end) (own_is x y tape tape' e).1 h)
+
+before_other : (begun : List Stand) (items tape : List (Item Frame)) (x : Frame) (s : State) (end : List Frame) → items ≡ Other x ∷ tape
+    → Stands (link_rules begun) items s end → (r : State) × (w : List Frame) × Stands (link_rules begun) tape r w
+before_other begun _ tape x _ _ e (Begins s b) = absurd (no_other x tape e)
+before_other begun _ tape x _ _ e (Sends tape' s r end y may h) = absurd (not_other x y tape' tape e)
+before_other begun _ tape x _ _ e (Takes tape' s r end y may h) = before_other begun tape' tape x s (y ∷ end) e h
+before_other begun _ tape x _ _ e (Shows tape' s end y h) =
+    (s, end, subst (λ t. Stands (link_rules begun) t s end) (other_is x y tape tape' e).1 h)
+
+none_left : (begun : List Stand) (tape : List (Item Frame)) (way : List Frame) (qs : List Spot) (s : State) (end : List Frame)
+    → Fits begun tape way qs → Stands (link_rules begun) tape s end → (length qs == 0) ≡ true → ⊥
+none_left begun tape way [] s end fits h e = (fits.holds s end h).1
+none_left begun tape way (q ∷ qs) s end fits h e = absurd (some (eqb-true (length (q ∷ qs)) 0 e))
+  where
+    some : length (q ∷ qs) ≡ 0 → ⊥
+    some g = omega (arith, g)
+
+abbrev stepped : Bool → Frame → LinkSet → List Spot → Stepped
+stepped b x set qs =
+    if b then record { set = broken x set; told = true } else record { set = trimmed (set_as set set.way.items qs); told = false }
+
+sent_fits : (begun : List Stand) (tape : List (Item Frame)) (set : LinkSet) (x : Frame) (s : State) (end : List Frame)
+    (o : Option (List Spot)) → walk_all x set.way.items set.spots.items [] ≡ o → (sent_to x o set).set.is_blind ≡ false → FitsSet begun tape set
+    → Stands (link_rules begun) (Own x ∷ tape) s end → FitsSet begun (Own x ∷ tape) (sent_to x o set).set
+sent_fits begun tape set x s end None e some fits h = absurd (both_ways true some refl)
+sent_fits begun tape set x s end (Some qs) e some fits h = go (length qs == 0) refl
+  where
+    now : Fits begun (Own x ∷ tape) set.way.items qs
+    now = own_fits begun tape set.way.items set.spots.items qs x fits e
+
+    go : (b : Bool) → (length qs == 0) ≡ b
+        → FitsSet begun (Own x ∷ tape) (stepped b x set qs).set
+    go true k = absurd (none_left begun (Own x ∷ tape) set.way.items qs s end now h k)
+    go false k = trim_fits begun (Own x ∷ tape) set set.way.items qs now
+
+shown_fits : (begun : List Stand) (tape : List (Item Frame)) (set : LinkSet) (x : Frame) (o : Option (List Spot))
+    → grow_all (length set.way.items) (set.way.items ++ x ∷ []) set.spots.items [] ≡ o
+    → (shown_to set (set.way.items ++ x ∷ []) o).is_blind ≡ false → FitsSet begun tape set
+    → FitsSet begun (Other x ∷ tape) (shown_to set (set.way.items ++ x ∷ []) o)
+shown_fits begun tape set x None e some fits = absurd (both_ways true some refl)
+shown_fits begun tape set x (Some qs) e some fits =
+    trim_fits begun (Other x ∷ tape) set (set.way.items ++ x ∷ []) qs (other_fits begun tape set.way.items set.spots.items qs x fits e)
+
+nothing_holds : (begun : List Stand) (items : List (Item Frame)) (s : State) (end : List Frame) → items ≡ []
+    → Stands (link_rules begun) items s end → (q : Spot) × IsIn q (map (spot_at 0) begun) × HoldsAt q.stand (drop q.at []) s end
+nothing_holds begun _ _ _ e (Begins s b) = (
+  spot_at 0 b.0,
+  in_map (spot_at 0) begun b.0 b.1,
+  subst (λ w. HoldsAt b.0 [] w []) (sym b.2) (stays_at b.0 [] b.0 b.0 [] (below_self b.0) (Here b.0 b.0 [] (below_self b.0))),
+)
+nothing_holds begun _ _ _ e (Shows tape s end y h) = absurd (no_other y tape (sym e))
+nothing_holds begun _ _ _ e (Sends tape s r end y may h) = absurd (no_item y tape (sym e))
+nothing_holds begun _ _ _ e (Takes tape s r end y may h) =
+    let g = nothing_holds begun tape s (y ∷ end) e h in (g.0, g.1, holds_takes g.0.stand (drop g.0.at []) s r y end g.2 may)
+
+abbrev sends_by : Bool → Frame → LinkSet → Stepped
+sends_by b x set =
+    if b then record { set = set; told = false } else sent_to x (walk_all x set.way.items set.spots.items []) set
+
+abbrev shows_by : Bool → Bool → Frame → LinkSet → LinkSet
+shows_by b full x set =
+    if b then set
+    else if full then blind
+    else shown_to set (set.way.items ++ x ∷ []) (grow_all (length set.way.items) (set.way.items ++ x ∷ []) set.spots.items [])
+
+own_step : (begun : List Stand) (tape : List (Item Frame)) (set : LinkSet) (x : Frame) (s : State) (end : List Frame) (b : Bool)
+    → set.is_blind ≡ b → (set.is_blind ≡ false → FitsSet begun tape set) → Stands (link_rules begun) (Own x ∷ tape) s end
+    → (sends_by b x set).set.is_blind ≡ false → FitsSet begun (Own x ∷ tape) (sends_by b x set).set
+own_step begun tape set x s end true e fits h sees = absurd (both_ways set.is_blind sees e)
+own_step begun tape set x s end false e fits h sees =
+    sent_fits begun tape set x s end (walk_all x set.way.items set.spots.items []) refl sees (fits e) h
+
+other_step : (begun : List Stand) (tape : List (Item Frame)) (set : LinkSet) (x : Frame) (b full : Bool) → set.is_blind ≡ b
+    → (set.is_blind ≡ false → FitsSet begun tape set) → (shows_by b full x set).is_blind ≡ false
+    → FitsSet begun (Other x ∷ tape) (shows_by b full x set)
+other_step begun tape set x true full e fits sees = absurd (both_ways set.is_blind sees e)
+other_step begun tape set x false true e fits sees = absurd (both_ways true sees refl)
+other_step begun tape set x false false e fits sees =
+    shown_fits begun tape set x (grow_all (length set.way.items) (set.way.items ++ x ∷ []) set.spots.items []) refl sees (fits e)
+
+played_fits : (begun : List Stand) (tape : List (Item Frame)) (s : State) (end : List Frame) → Stands (link_rules begun) tape s end
+    → (played (begun_as begun) tape).is_blind ≡ false → FitsSet begun tape (played (begun_as begun) tape)
+played_fits begun [] s end h sees = record {
+  stands = λ q is.
+      let g = from_map (spot_at 0) begun q is in
+      subst (λ r. Stands (link_rules begun) [] (At r.stand) (drop r.at [])) (sym g.2) (Begins (At g.0) (g.0, g.1, refl));
+  holds = λ r w k. nothing_holds begun [] r w refl k;
+}
+played_fits begun (Own x ∷ tape) s end h sees =
+    let set = played (begun_as begun) tape in
+    let g = before_own begun (Own x ∷ tape) tape x s end refl h in
+    own_step begun tape set x s end set.is_blind refl (λ k. played_fits begun tape g.0 g.1 g.2 k) h sees
+played_fits begun (Other x ∷ tape) s end h sees =
+    let set = played (begun_as begun) tape in
+    let g = before_other begun (Other x ∷ tape) tape x s end refl h in
+    other_step begun tape set x set.is_blind (length set.way.items == 128) refl (λ k. played_fits begun tape g.0 g.1 g.2 k) sees
+
+-- ---- what is told
+
+untold : (begun : List Stand) (tape : List (Item Frame)) (set : LinkSet) (x : Frame) (s : State) (end : List Frame)
+    (o : Option (List Spot)) → walk_all x set.way.items set.spots.items [] ≡ o → FitsSet begun tape set
+    → Stands (link_rules begun) (Own x ∷ tape) s end → (sent_to x o set).told ≡ false
+untold begun tape set x s end None e fits h = refl
+untold begun tape set x s end (Some qs) e fits h = go (length qs == 0) refl
+  where
+    go : (b : Bool) → (length qs == 0) ≡ b
+        → (stepped b x set qs).told ≡ false
+    go true k =
+        absurd (none_left begun (Own x ∷ tape) set.way.items qs s end
+        (own_fits begun tape set.way.items set.spots.items qs x fits e) h k)
+    go false k = refl
+
+untold_by : (begun : List Stand) (tape : List (Item Frame)) (set : LinkSet) (x : Frame) (s : State) (end : List Frame) (b : Bool)
+    → set.is_blind ≡ b → (set.is_blind ≡ false → FitsSet begun tape set) → Stands (link_rules begun) (Own x ∷ tape) s end
+    → (sends_by b x set).told ≡ false
+untold_by begun tape set x s end true e fits h = refl
+untold_by begun tape set x s end false e fits h =
+    untold begun tape set x s end (walk_all x set.way.items set.spots.items []) refl (fits e) h
+
+pub innocents_stay_untold : InnocentsStayUntold
+innocents_stay_untold begun tape x s end h =
+    let set = played (begun_as begun) tape in
+    let g = before_own begun (Own x ∷ tape) tape x s end refl h in
+    untold_by begun tape set x s end set.is_blind refl (λ k. played_fits begun tape g.0 g.1 g.2 k) h
+
+told : (begun : List Stand) (tape : List (Item Frame)) (set : LinkSet) (x : Frame) (o : Option (List Spot))
+    → walk_all x set.way.items set.spots.items [] ≡ o → (sent_to x o set).set.is_blind ≡ false → FitsSet begun tape set
+    → IsUnexplained (link_rules begun) (Own x ∷ tape) → (sent_to x o set).told ≡ true
+told begun tape set x None e some fits none = absurd (both_ways true some refl)
+told begun tape set x (Some []) e some fits none = refl
+told begun tape set x (Some (q ∷ qs)) e some fits none =
+    let now = own_fits begun tape set.way.items set.spots.items (q ∷ qs) x fits e in
+    absurd (none (At q.stand) (drop q.at set.way.items) (now.stands q (inl refl)))
+
+told_by : (begun : List Stand) (tape : List (Item Frame)) (set : LinkSet) (x : Frame) (b : Bool) → set.is_blind ≡ b
+    → (set.is_blind ≡ false → FitsSet begun tape set) → (sends_by b x set).set.is_blind ≡ false
+    → IsUnexplained (link_rules begun) (Own x ∷ tape) → (sends_by b x set).told ≡ true
+told_by begun tape set x true e fits sees none = absurd (both_ways set.is_blind sees e)
+told_by begun tape set x false e fits sees none =
+    told begun tape set x (walk_all x set.way.items set.spots.items []) refl sees (fits e) none
+
+pub guilty_are_told : GuiltyAreTold
+guilty_are_told begun tape x s end h sees none =
+    let set = played (begun_as begun) tape in
+    told_by begun tape set x set.is_blind refl (λ k. played_fits begun tape s end h k) sees none

@@ -1,0 +1,7 @@
+use Rattle.std.proofs.Common.{◌≡◌, drop}
+use Rattle.x25_possible_links.specs.code.Steps.{all_of, grows}
+use Rattle.x25_possible_links.proofs.spots.grow_all.Given as goal
+
+abbrev pub invariant-loop-spot : goal.invariant-loop-spot
+invariant-loop-spot l =
+    all_of (grows l.last l.way) (drop l.spot-index l.spots) l.out.items ≡ all_of (grows l.last l.way) l.spots l.fn.out.items

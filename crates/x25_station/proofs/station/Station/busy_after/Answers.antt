@@ -1,0 +1,8 @@
+use Rattle.x25_station.specs.Config.{layer_settings}
+use Rattle.x25_station.proofs.station.Station.busy_after.Goals as goal
+
+pub returns-clause-between : goal.returns-clause-between
+returns-clause-between c = λ d s fits. c.busy_after.ensures.between (layer_settings d) s.layer fits.layer
+
+pub returns-clause-none : goal.returns-clause-none
+returns-clause-none c = λ d s fits. c.busy_after.ensures.none (layer_settings d) s.layer fits.layer
