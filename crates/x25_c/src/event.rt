@@ -149,7 +149,7 @@ impl Event {
                 ..Event::on(CLEAR_ASKED, channel)
             },
             Asked::Send { q, user } => Event {
-                q: *q,
+                q: q.q,
                 count: user.len(),
                 ..Event::under(SEND_ASKED, channel, name)
             },
@@ -195,7 +195,7 @@ impl Event {
             },
             Told::ResetDone => Event::on(RESET_DONE, channel),
             Told::Delivered(message) => Event {
-                q: message.q,
+                q: message.q.q,
                 count: message.user.as_slice().len(),
                 ..Event::under(MESSAGE, channel, name)
             },

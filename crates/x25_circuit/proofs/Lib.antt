@@ -4,4 +4,5 @@ pub mod MessageLemmas
 pub mod AskLemmas
 pub mod TalkLemmas
 pub mod PullLemmas
+pub mod AskedLemmas
 pub mod CarryLemmas

@@ -2,6 +2,8 @@
 use Rattle.std.proofs.Common.{◌≡◌, ℕ, zero, suc, ◌+◌, ◌≤◌, ◌<◌, List, [], ◌∷◌, ◌++◌, length, take, drop, Bool, true, false, nat_le, if◌then◌else◌, refl, sym, ap, ◌∙◌, arith, add_assoc, append_assoc, append-nil}
 use Rattle.std.proofs.lemmas.Bool.{le-leb, leb-false}
 use Rattle.std.proofs.lemmas.List.{length-drop}
+use Rattle.x25_packet.specs.declared.marks.Marks.{Marks}
+use Rattle.x25_packet.specs.Marks.{with_q}
 use Rattle.x25_circuit.specs.code.Cutter.{first_cut, first_left}
 use Rattle.x25_circuit.specs.declared.message.Message.{Message}
 use Rattle.x25_circuit.specs.Message.{Piece, More, Last, Partial, joined, joining, cut, cut_from, cut_all, ends_of, wholes}
@@ -14,10 +16,10 @@ by_fits : (b : Bool) (ps rs : List Piece) → wholes ps ≡ 1 → wholes rs ≡ 
 by_fits true ps rs e f = e
 by_fits false ps rs e f = f
 
-pub wholes_cut : (n size : ℕ) (q : Bool) (user : List ℕ) → wholes (cut_from n size q user) ≡ 1
+pub wholes_cut : (n size : ℕ) (q : Marks) (user : List ℕ) → wholes (cut_from n size q user) ≡ 1
 wholes_cut zero size q user = refl
 wholes_cut (suc n) size q user =
-    by_fits (nat_le (length user) size) (Last q user ∷ []) (More q (take size user) ∷ cut_from n size q (drop size user)) refl
+    by_fits (nat_le (length user) size) (Last q user ∷ []) (More (with_q q.q) (take size user) ∷ cut_from n size q (drop size user)) refl
     (let h = wholes_cut n size q (drop size user) in omega (arith, h))
 
 pub wholes_all : (size : ℕ) (ms : List Message) → wholes (cut_all size ms) ≡ length ms
@@ -39,23 +41,23 @@ joining_push j (o ∷ ps) p = joining_push (joined j o) ps p
 length_dropped : (n size : ℕ) (user : List ℕ) → length user ≤ suc n → 1 ≤ size → length (drop size user) ≤ n
 length_dropped n size user short some = let e = length-drop size user in omega (arith, e)
 
-fuel : (n m size : ℕ) (q : Bool) (user : List ℕ) → length user ≤ n → length user ≤ m → 1 ≤ size → cut_from n size q user ≡ cut_from m size q user
+fuel : (n m size : ℕ) (q : Marks) (user : List ℕ) → length user ≤ n → length user ≤ m → 1 ≤ size → cut_from n size q user ≡ cut_from m size q user
 fuel zero zero size q user a b some = refl
 fuel zero (suc m) size q user a b some = rw (le-leb (length user) size (omega (arith, a, some))) refl
 fuel (suc n) zero size q user a b some = rw (le-leb (length user) size (omega (arith, b, some))) refl
 fuel (suc n) (suc m) size q user a b some =
-    ap (λ (rest : List Piece). if nat_le (length user) size then Last q user ∷ [] else More q (take size user) ∷ rest)
+    ap (λ (rest : List Piece). if nat_le (length user) size then Last q user ∷ [] else More (with_q q.q) (take size user) ∷ rest)
     (fuel n m size q (drop size user) (length_dropped n size user a some) (length_dropped m size user b some) some)
 
-cut_short : (n size : ℕ) (q : Bool) (user : List ℕ) → nat_le (length user) size ≡ true → cut_from n size q user ≡ Last q user ∷ []
+cut_short : (n size : ℕ) (q : Marks) (user : List ℕ) → nat_le (length user) size ≡ true → cut_from n size q user ≡ Last q user ∷ []
 cut_short zero size q user e = refl
 cut_short (suc n) size q user e = rw e refl
 
-cut_long : (n size : ℕ) (q : Bool) (user : List ℕ) → length user ≤ n → 1 ≤ size → nat_le (length user) size ≡ false
-    → cut_from n size q user ≡ More q (take size user) ∷ cut size q (drop size user)
+cut_long : (n size : ℕ) (q : Marks) (user : List ℕ) → length user ≤ n → 1 ≤ size → nat_le (length user) size ≡ false
+    → cut_from n size q user ≡ More (with_q q.q) (take size user) ∷ cut size q (drop size user)
 cut_long zero size q user a some e = absurd (let h = leb-false _ _ e in omega (arith, h, a))
 cut_long (suc n) size q user a some e =
-    rw e (ap (λ (rest : List Piece). More q (take size user) ∷ rest)
+    rw e (ap (λ (rest : List Piece). More (with_q q.q) (take size user) ∷ rest)
     (fuel n (length (drop size user)) size q (drop size user) (length_dropped n size user a some) (omega arith) some))
 
 cut_by : (b : Bool) (size : ℕ) (m : Message) (ms : List Message) → 1 ≤ size → nat_le (length m.user) size ≡ b

@@ -1,6 +1,7 @@
 -- The next data packet of a circuit.
 use Rattle.std.proofs.Common.{arith, ◌≡◌, ℕ, ◌+◌, ◌%◌, Bool, true, false, ◌&&◌, nat_lt, List, [], ◌∷◌, length, Option, Some, None, IfSome, IfNone, inl, inr, refl, sym, ap, subst, ◌∙◌}
 use Rattle.x25_packet.specs.Packet.{user_data}
+use Rattle.x25_packet.specs.declared.marks.Marks.{Marks}
 use Rattle.x25_circuit.specs.declared.circuit.Circuit as code
 use Rattle.x25_circuit.specs.declared.state.State.{State}
 use Rattle.x25_circuit.specs.declared.state.State.TheVariants.{Free, Calling, Arriving, Collision, Open, Resetting, Clearing}
@@ -56,7 +57,7 @@ nothing_is : (c : Settings) (x : Circuit) → x.state ≡ Open → IsHeld (outgo
 nothing_is c x is_open (inl e) = ap (λ (s : State). pull_in c x s) is_open ∙ ap (λ (ps : List Piece). pull_open c x x.talk ps) e
 nothing_is c x is_open (inr e) = ap (λ (s : State). pull_in c x s) is_open ∙ held_back c x x.talk.rest e
 
-data_packet_of : (ps pr : ℕ) (q m : Bool) (user : List ℕ) → data_packet ps pr (piece_of q m user) ≡ user_data 1 q m ps pr user
+data_packet_of : (ps pr : ℕ) (q : Marks) (m : Bool) (user : List ℕ) → data_packet ps pr (piece_of q m user) ≡ user_data 1 q m ps pr user
 data_packet_of ps pr q true user = refl
 data_packet_of ps pr q false user = refl
 

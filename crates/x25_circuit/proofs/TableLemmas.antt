@@ -6,6 +6,7 @@ use Rattle.x25_bits.specs.declared.role.Role.TheVariants.{Dte, Dce}
 use Rattle.x25_packet.specs.declared.error.PacketError.{PacketError}
 use Rattle.x25_packet.specs.Error.{diagnostic_of}
 use Rattle.x25_packet.specs.Packet.{PlainPacket, accept, clear_conf}
+use Rattle.x25_packet.specs.declared.marks.Marks.{Marks}
 use Rattle.x25_circuit.specs.declared.state.State.{State}
 use Rattle.x25_circuit.specs.declared.state.State.TheVariants.{Free, Calling, Arriving, Collision, Open, Resetting, Clearing}
 use Rattle.x25_circuit.specs.declared.params.Params.{Params}
@@ -130,7 +131,7 @@ clear_done c x Clearing cause diagnostic f g = absurd (g refl)
 pub ready_at : (x : Circuit) (s : State) (b : Bool) → s ≡ Open → ready_in x s b ≡ ready_open x x.talk b
 ready_at x s b e = ap (λ (r : State). ready_in x r b) e
 
-pub send_at : (c : Settings) (x : Circuit) (s : State) (q : Bool) (user : List ℕ) → s ≡ Open → send_in c x s q user ≡ send_open c x x.talk q user
+pub send_at : (c : Settings) (x : Circuit) (s : State) (q : Marks) (user : List ℕ) → s ≡ Open → send_in c x s q user ≡ send_open c x x.talk q user
 send_at c x s q user e = ap (λ (r : State). send_in c x r q user) e
 
 pub call_at : (c : Settings) (x : Circuit) (s : State) (called calling user : List ℕ) (proposal : Proposal) → s ≡ Free → call_in c x s called calling user proposal ≡ call_in c x Free called calling user proposal
@@ -139,9 +140,9 @@ call_at c x s called calling user proposal e = ap (λ (r : State). call_in c x r
 pub accept_at : (x : Circuit) (s : State) (answer : Option Proposal) → s ≡ Arriving → accept_in x s answer ≡ accept_with x answer
 accept_at x s answer e = ap (λ (r : State). accept_in x r answer) e
 
-pub send_full : (c : Settings) (x : Circuit) (q : Bool) (user : List ℕ) → length user ≤ 65535 → waits x ≡ 8 → send_open c x x.talk q user ≡ Refused error.Full
+pub send_full : (c : Settings) (x : Circuit) (q : Marks) (user : List ℕ) → length user ≤ 65535 → waits x ≡ 8 → send_open c x x.talk q user ≡ Refused error.Full
 send_full c x q user short e = rw (le-leb _ _ short, e) refl
 
-pub send_waits : (c : Settings) (x : Circuit) (q : Bool) (user : List ℕ) → length user ≤ 65535 → waits x < 8
+pub send_waits : (c : Settings) (x : Circuit) (q : Marks) (user : List ℕ) → length user ≤ 65535 → waits x < 8
     → send_open c x x.talk q user ≡ keeps_on x (with_rest (x.talk.rest ++ cut (outgoing x).size q user) x.talk) None
 send_waits c x q user short e = rw (le-leb _ _ short, lt-ltb _ _ e) refl

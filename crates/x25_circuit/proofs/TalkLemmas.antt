@@ -4,10 +4,11 @@ use Rattle.x25_window.specs.code.Modulo.{resolved}
 use Rattle.x25_window.specs.Receiver.{FitsTaken}
 use Rattle.x25_window.specs.declared.receiver.Receiver.{Receiver}
 use Rattle.x25_packet.specs.Facilities.{IsFacilityField}
+use Rattle.x25_packet.specs.declared.marks.Marks.{Marks}
 use Rattle.x25_circuit.specs.declared.circuit.Circuit as code
 use Rattle.x25_circuit.specs.declared.transfer.Transfer.{Transfer}
 use Rattle.x25_circuit.specs.declared.queue.Queue.{Queue}
-use Rattle.x25_circuit.specs.Message.{Piece, piece_of, piece_ground, ground_of, Partial, no_part, joining, wholes, cut_all}
+use Rattle.x25_circuit.specs.Message.{Piece, piece_of, piece_ground, ground_of, Partial, no_part, joining, wholes, cut_all, asked_in}
 use Rattle.x25_circuit.specs.code.PartialMessage.{ShownPartial}
 use Rattle.x25_circuit.specs.Queue.{waiting}
 use Rattle.x25_circuit.specs.Hearing.{data_ground, number_ground}
@@ -35,33 +36,34 @@ pub same_transfer : (c : Settings) (v : code.Circuit) (x : Circuit) (u : Transfe
 same_transfer c v x u fits same = with_transfer c v x u x.talk fits (subst (λ (w : Transfer). FitsTalk (outgoing x).size w x.talk) (sym same) fits.talk)
 
 pub own_fits : (size : ℕ) (v : Transfer) (t : Talk) (b : Bool) → FitsTalk size v t → FitsTalk size (record v { own_ready = b }) (with_own b t)
-own_fits size v t b fits = record { numbers = fits.numbers; taken = fits.taken; rest = fits.rest; part = fits.part; short = fits.short; int_out = fits.int_out; peer_ready = fits.peer_ready; own_ready = refl }
+own_fits size v t b fits = record { numbers = fits.numbers; taken = fits.taken; rest = fits.rest; part = fits.part; short = fits.short; unconfirmed = fits.unconfirmed; int_out = fits.int_out; peer_ready = fits.peer_ready; own_ready = refl }
 
 pub peer_fits : (size : ℕ) (v : Transfer) (t : Talk) (b : Bool) → FitsTalk size v t → FitsTalk size (record v { peer_ready = b }) (with_peer b t)
-peer_fits size v t b fits = record { numbers = fits.numbers; taken = fits.taken; rest = fits.rest; part = fits.part; short = fits.short; int_out = fits.int_out; peer_ready = refl; own_ready = fits.own_ready }
+peer_fits size v t b fits = record { numbers = fits.numbers; taken = fits.taken; rest = fits.rest; part = fits.part; short = fits.short; unconfirmed = fits.unconfirmed; int_out = fits.int_out; peer_ready = refl; own_ready = fits.own_ready }
 
 pub taken_more : (r : Receiver) (b : Bool) (n m : ℕ) → IsTrue b → FitsTaken r (if b then n + 1 else n) → m ≡ n + 1 → FitsTaken r m
 taken_more r true n m h fits e = rw e fits
 taken_more r false n m h fits e = absurd (cc)
 
-pub piece_ground_of : (size : ℕ) (j : Partial) (q m : Bool) (user : List ℕ) → piece_ground size j (piece_of q m user) ≡ ground_of size j (length user) q
+pub piece_ground_of : (size : ℕ) (j : Partial) (q : Marks) (m : Bool) (user : List ℕ) → piece_ground size j (piece_of q m user) ≡ ground_of size j (length user) q.q
 piece_ground_of size j q true user = refl
 piece_ground_of size j q false user = refl
 
-pub queue_fits : (size : ℕ) (v : Transfer) (t : Talk) (queue : Queue) (rest : List Piece) → FitsTalk size v t → rest ≡ cut_all size (waiting queue) → FitsTalk size (record v { queue = queue }) (with_rest rest t)
-queue_fits size v t queue rest fits cut = record { numbers = fits.numbers; taken = fits.taken; rest = cut; part = fits.part; short = fits.short; int_out = fits.int_out; peer_ready = fits.peer_ready; own_ready = fits.own_ready }
+pub queue_fits : (size : ℕ) (v : Transfer) (t : Talk) (queue : Queue) (rest : List Piece) (unconfirmed : ℕ) → FitsTalk size v t → rest ≡ cut_all size (waiting queue)
+    → unconfirmed ≡ asked_in (drop t.acked (t.sent ++ rest)) → FitsTalk size (record v { queue = queue; unconfirmed = unconfirmed }) (with_rest rest t)
+queue_fits size v t queue rest unconfirmed fits cut asked = record { numbers = fits.numbers; taken = fits.taken; rest = cut; part = fits.part; short = fits.short; unconfirmed = asked; int_out = fits.int_out; peer_ready = fits.peer_ready; own_ready = fits.own_ready }
 
 -- memory that is set aside is no part of what is stood for
 pub partial_fits : (size : ℕ) (v : Transfer) (t : Talk) (p : ShownPartial) → FitsTalk size v t → p.part ≡ v.partial.part → FitsTalk size (record v { partial = p }) t
-partial_fits size v t p fits same = record { numbers = fits.numbers; taken = fits.taken; rest = fits.rest; part = same ∙ fits.part; short = subst (λ (j : Partial). length j.user ≤ 65535) (sym same) fits.short; int_out = fits.int_out; peer_ready = fits.peer_ready; own_ready = fits.own_ready }
+partial_fits size v t p fits same = record { numbers = fits.numbers; taken = fits.taken; rest = fits.rest; part = same ∙ fits.part; short = subst (λ (j : Partial). length j.user ≤ 65535) (sym same) fits.short; unconfirmed = fits.unconfirmed; int_out = fits.int_out; peer_ready = fits.peer_ready; own_ready = fits.own_ready }
 
 pub waits_are : (size : ℕ) (v : Transfer) (t : Talk) → FitsTalk size v t → wholes t.rest ≡ length (waiting v.queue)
 waits_are size v t fits = ap wholes fits.rest ∙ wholes_all size (waiting v.queue)
 
 -- ---- the grounds of a data packet
 
-pub same_ground : (size least ps : ℕ) (t : Talk) (q m : Bool) (user : List ℕ) → least ≡ size
-    → (if ps == length t.taken % 8 then ground_of least (joining no_part t.taken) (length user) q else Some 1)
+pub same_ground : (size least ps : ℕ) (t : Talk) (q : Marks) (m : Bool) (user : List ℕ) → least ≡ size
+    → (if ps == length t.taken % 8 then ground_of least (joining no_part t.taken) (length user) q.q else Some 1)
     ≡ (if ps == length t.taken % 8 then piece_ground size (joining no_part t.taken) (piece_of q m user) else Some 1)
 same_ground size least ps t q m user e = rw (e, sym (piece_ground_of size (joining no_part t.taken) q m user)) refl
 

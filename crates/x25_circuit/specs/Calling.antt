@@ -3,6 +3,7 @@
 use Rattle.std.specs.Prelude.{ℕ, ◌+◌, ◌%◌, List, [], ◌∷◌, ◌++◌, length, Option, Some, None, Bool, true, false, nat_lt}
 use Rattle.std.specs.Prelude.{nat_le, ◌&&◌, if◌then◌else◌}
 use Rattle.std.specs.List.{list_all}
+use Rattle.x25_packet.specs.declared.marks.Marks.{Marks}
 use Rattle.x25_packet.specs.Digits.{digits_of_text, is_figure}
 use Rattle.x25_packet.specs.Packet.{PlainPacket, call, accept, clear, user_data, interrupt, reset}
 use Rattle.x25_packet.specs.Spelling.{longest_user}
@@ -30,7 +31,7 @@ pub data Request : Type 0 where
   Calls : (called : List ℕ) → (calling : List ℕ) → (user : List ℕ) → (proposal : Proposal) → Request
   Accepts : (answer : Option Proposal) → Request
   Clears : (cause : ℕ) → (diagnostic : ℕ) → Request
-  Sends : (q : Bool) → (user : List ℕ) → Request
+  Sends : (q : Marks) → (user : List ℕ) → Request
   Interrupts : (user : List ℕ) → Request
   Resets : (cause : ℕ) → (diagnostic : ℕ) → Request
   SaysReady : Request
@@ -98,7 +99,7 @@ clear_in c x state cause diagnostic = clear_with c x cause diagnostic
 -- ---- in p4 with d1
 
 -- a message of at most 65,535 octets waits behind at most seven others
-abbrev pub send_open : Settings → Circuit → Talk → Bool → List ℕ → Outcome
+abbrev pub send_open : Settings → Circuit → Talk → Marks → List ℕ → Outcome
 send_open c x t q user =
     if nat_le (length user) 65535
     then (if nat_lt (waits x) 8
@@ -146,7 +147,7 @@ ready_open x t is_ready =
     })
     (Some (status is_ready (length t.taken)))
 
-abbrev pub send_in : Settings → Circuit → State → Bool → List ℕ → Outcome
+abbrev pub send_in : Settings → Circuit → State → Marks → List ℕ → Outcome
 send_in c x Open q user = send_open c x x.talk q user
 send_in c x state q user = Refused WrongState
 

@@ -1,11 +1,11 @@
 -- The state of one logical channel at one end. ITU-T X.25 (10/96), sections 4.1, 4.3.1 and 4.4.
-use Rattle.std.specs.Prelude.{ℕ, ◌-◌, List, [], Bool, true, false, if◌then◌else◌}
+use Rattle.std.specs.Prelude.{ℕ, ◌-◌, List, [], ◌++◌, drop, Bool, true, false, if◌then◌else◌}
 use Rattle.x25_bits.specs.declared.role.Role.{Role}
 use Rattle.x25_circuit.specs.declared.state.State.{State}
 use Rattle.x25_circuit.specs.declared.state.State.TheVariants.{Free, Open}
 use Rattle.x25_circuit.specs.declared.params.Params.{Params}
 use Rattle.x25_circuit.specs.Params.{Terms, default_params, called_terms, calling_terms}
-use Rattle.x25_circuit.specs.Message.{Piece, wholes}
+use Rattle.x25_circuit.specs.Message.{Piece, wholes, asked_in}
 
 -- which end this is, and whether the user data of a CALL may be long (profile)
 pub record Settings : Type 0 where
@@ -105,6 +105,11 @@ is_open x = is_open_in x.state
 -- how many messages wait: each until its last packet was sent
 abbrev pub waits : Circuit → ℕ
 waits x = wholes x.talk.rest
+
+-- how many messages haven't the confirmation yet that was asked of them: they wait, or their last packet isn't
+-- acknowledged (section 4.4.1.4)
+abbrev pub unconfirmed : Circuit → ℕ
+unconfirmed x = asked_in (drop x.talk.acked (x.talk.sent ++ x.talk.rest))
 
 -- how many messages more may wait, of eight at most (profile)
 abbrev pub message_room : Circuit → ℕ

@@ -2,20 +2,24 @@
 -- 4.3.6.
 use Rattle.std.specs.Prelude.{◌≡◌, ℕ, zero, suc, ◌+◌, List, [], ◌∷◌, ◌++◌, length, take, drop, Option, Some, None, Bool}
 use Rattle.std.specs.Prelude.{true, false, nat_le, if◌then◌else◌}
+use Rattle.x25_bits.specs.Bits.{bit}
+use Rattle.x25_packet.specs.declared.marks.Marks.{Marks}
+use Rattle.x25_packet.specs.Marks.{with_q}
 use Rattle.x25_circuit.specs.declared.message.Message.{Message}
 
--- the user data of a data packet with its marks: the more data mark is 1 or 0, and Q is the qualifier
+-- the user data of a data packet with its marks: the more data mark is 1 or 0, Q is the qualifier, and D asks for
+-- confirmation of delivery
 pub data Piece : Type 0 where
-  More : (q : Bool) → (user : List ℕ) → Piece
-  Last : (q : Bool) → (user : List ℕ) → Piece
+  More : (q : Marks) → (user : List ℕ) → Piece
+  Last : (q : Marks) → (user : List ℕ) → Piece
 
-abbrev pub piece_of : Bool → Bool → List ℕ → Piece
+abbrev pub piece_of : Marks → Bool → List ℕ → Piece
 piece_of q true user = More q user
 piece_of q false user = Last q user
 
 abbrev pub q_of : Piece → Bool
-q_of (More q user) = q
-q_of (Last q user) = q
+q_of (More q user) = q.q
+q_of (Last q user) = q.q
 
 abbrev pub user_of : Piece → List ℕ
 user_of (More q user) = user
@@ -30,7 +34,7 @@ abbrev pub no_part : Partial
 no_part = record { begun = None; user = [] }
 
 abbrev pub joined : Partial → Piece → Partial
-joined j (More q user) = record { begun = Some q; user = j.user ++ user }
+joined j (More q user) = record { begun = Some q.q; user = j.user ++ user }
 joined j (Last q user) = no_part
 
 -- what is begun, and not ended, behind these packets
@@ -79,17 +83,18 @@ abbrev pub AreSound : ℕ → Partial → List Piece → Type 0
 AreSound size j [] = Unit {0}
 AreSound size j (p ∷ ps) = (piece_ground size j p ≡ None) × AreSound size (joined j p) ps
 
--- ---- how a message is cut: all packets but the last are full and have M = 1, and an empty message is one empty packet
+-- ---- how a message is cut: all packets but the last are full, have M = 1, and D = 0, so that a network may join them
+-- (section 4.3.4); an empty message is one empty packet
 
 -- the first number is at least how many are cut off
-abbrev pub cut_from : ℕ → ℕ → Bool → List ℕ → List Piece
+abbrev pub cut_from : ℕ → ℕ → Marks → List ℕ → List Piece
 cut_from zero size q user = Last q user ∷ []
 cut_from (suc n) size q user =
     if nat_le (length user) size
     then Last q user ∷ []
-    else More q (take size user) ∷ cut_from n size q (drop size user)
+    else More (with_q q.q) (take size user) ∷ cut_from n size q (drop size user)
 
-abbrev pub cut : ℕ → Bool → List ℕ → List Piece
+abbrev pub cut : ℕ → Marks → List ℕ → List Piece
 cut size q user = cut_from (length user) size q user
 
 -- the packets of messages, one message after another
@@ -105,3 +110,15 @@ ends_of (Last q user) = 1
 abbrev pub wholes : List Piece → ℕ
 wholes [] = 0
 wholes (p ∷ ps) = ends_of p + wholes ps
+
+-- ---- confirmation of delivery
+
+-- whether a message ends with it of which confirmation was asked
+abbrev pub asks : Piece → Bool
+asks (More q user) = false
+asks (Last q user) = q.d
+
+-- how many such are in these
+abbrev pub asked_in : List Piece → ℕ
+asked_in [] = 0
+asked_in (p ∷ ps) = bit (asks p) + asked_in ps

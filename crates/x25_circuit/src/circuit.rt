@@ -5,7 +5,7 @@ ghost use Rattle.x25_circuit.specs.Message.{no_part, joining};
 ghost use Rattle.x25_circuit.specs.Params.{default_params};
 ghost use Rattle.x25_circuit.specs.Calling.{pulled, pulls_nothing};
 ghost use Rattle.x25_circuit.specs.Circuit.{Settings, begun, entered, forgotten, zeroed, is_free, is_open, waits};
-ghost use Rattle.x25_circuit.specs.Circuit.{message_room, outgoing, incoming};
+ghost use Rattle.x25_circuit.specs.Circuit.{message_room, unconfirmed, outgoing, incoming};
 ghost use Rattle.x25_circuit.specs.Circuit.{Circuit as Channel};
 
 use crate::awaits::Awaits;
@@ -166,6 +166,14 @@ impl Circuit {
             return 0;
         }
         PLACES - self.waits()
+    }
+
+    /// How many messages haven't the confirmation yet that was asked of them: they wait, or their last packet isn't
+    /// acknowledged. They are 15 at most.
+    pub fn unconfirmed(&self) -> usize
+        ensures { (c : Settings) (x : Channel) → FitsCircuit c self.now x → result ≡ unconfirmed x }
+    {
+        usize::from(self.transfer.unconfirmed)
     }
 
     /// How many octets have come of the message of which some packets came, at most 65,535; 0 where there is none.

@@ -4,21 +4,22 @@ use crate::message::Message;
 use std::alloc::Global;
 use std::marker::Model;
 use std::mem;
+use x25_packet::Marks;
 
 /// The most octets of memory that serves another message.
 const MOST_KEPT: usize = 4096;
 
-/// The marks of a data packet: the qualifier, and the more data mark.
+/// What is cut off says beside its user data: its marks, and the more data mark.
 #[derive(Clone, Copy)]
-pub struct Marks {
-    pub q: bool,
+pub struct Cut {
+    pub q: Marks,
     pub m: bool,
 }
 
 /// A message while it is cut into data packets: what is left of it, and the packet cut last, which is lent from it.
 #[derive(Drop)]
 pub struct Cutter {
-    q: bool,
+    q: Marks,
     user: Vec<u8>,
     /// Where the packet cut last begins, and where it ends.
     lent: usize,
@@ -48,7 +49,7 @@ impl Cutter {
         ensures { result.left ≡ [] }
     {
         Cutter {
-            q: false,
+            q: Marks::with_q(false),
             user: Vec::new(alloc),
             lent: 0,
             start: 0,
@@ -84,7 +85,7 @@ impl Cutter {
     }
 
     /// Cuts the next packet off, of at most `size` octets.
-    pub fn cut(&mut self, size: usize) -> Marks
+    pub fn cut(&mut self, size: usize) -> Cut
         requires { 0 < length self.old.left }
         ensures left { self.new.left ≡ first_left size self.old.left }
         ensures short { length self.new.lent ≤ size }
@@ -95,13 +96,17 @@ impl Cutter {
         if left <= size {
             self.start += left;
             self.is_cut = true;
-            Marks {
+            Cut {
                 q: self.q,
                 m: false,
             }
         } else {
             self.start += size;
-            Marks { q: self.q, m: true }
+            // A network may join it with the next one: section 4.3.4.
+            Cut {
+                q: Marks::with_q(self.q.q),
+                m: true,
+            }
         }
     }
 

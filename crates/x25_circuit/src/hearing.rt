@@ -21,7 +21,7 @@ use crate::message::Message;
 use crate::notice::{Notice, Reply};
 use crate::owed::Owed;
 use crate::state::State;
-use x25_packet::{Packet, Seq};
+use x25_packet::{Marks, Packet, Seq};
 
 fn delivered<'a>(message: Option<Message>) -> Option<Notice<'a>>
     ensures { plain_notices result ≡ deliveries (option_to_list message) }
@@ -83,7 +83,7 @@ impl Circuit {
     }
 
     // A data packet that isn't refused, but perhaps for its P(R).
-    fn join<'a>(&mut self, q: bool, m: bool, ps: Seq, pr: Seq, user: &[u8]) -> Reply<'a>
+    fn join<'a>(&mut self, q: Marks, m: bool, ps: Seq, pr: Seq, user: &[u8]) -> Reply<'a>
         requires wanted { ps.number ≡ self.old.transfer.receiver.number }
         requires room { length user.now ≤ room_of self.old }
         requires short { length self.old.transfer.partial.part.user + length user.now ≤ 65535 }
@@ -112,7 +112,7 @@ impl Circuit {
     // DATA.
     fn hear_data<'a>(
         &mut self,
-        q: bool,
+        q: Marks,
         m: bool,
         ps: Seq,
         pr: Seq,
@@ -123,7 +123,7 @@ impl Circuit {
     {
         match self
             .transfer
-            .ground(self.incoming().size, ps, q, user.len())
+            .ground(self.incoming().size, ps, q.q, user.len())
         {
             Some(diagnostic) => Ok(self.refuse(pr, diagnostic)),
             None => {
@@ -140,13 +140,13 @@ impl Circuit {
     {
         match packet {
             Packet::Data {
-                q,
+                marks,
                 m,
                 ps,
                 pr,
                 user,
                 ..
-            } => self.hear_data(*q, *m, *ps, *pr, user),
+            } => self.hear_data(*marks, *m, *ps, *pr, user),
             Packet::Rr { pr, .. } => Ok(self.hear_status(*pr, true)),
             Packet::Rnr { pr, .. } => Ok(self.hear_status(*pr, false)),
             Packet::Interrupt { user, .. } => Ok(Reply::both(

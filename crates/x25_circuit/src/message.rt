@@ -1,10 +1,12 @@
 use crate::octets::Octets;
+use x25_packet::Marks;
 
-/// A message, which a sequence of data packets carries: the qualifier and the user data, 0 to 65,535 octets.
+/// A message, which a sequence of data packets carries: the qualifier, whether confirmation of its
+/// delivery is asked, and the user data, 0 to 65,535 octets.
 ///
-/// ITU-T X.25 (10/96), sections 4.3.5 and 4.3.6; the most octets are of the profile.
+/// ITU-T X.25 (10/96), sections 4.3.3 to 4.3.6; the most octets are of the profile.
 #[derive(Debug, Drop)]
 pub struct Message {
-    pub q: bool,
+    pub q: Marks,
     pub user: Octets,
 }

@@ -8,6 +8,7 @@ use std::alloc::{AllocError, Global};
 use std::marker::Model;
 use std::mem;
 use x25_bits::{Pool, with_octets};
+use x25_packet::Marks;
 
 /// The most octets of user data in a data packet.
 const LONGEST_DATA: usize = 4096;
@@ -144,7 +145,7 @@ impl PartialMessage {
     }
 
     /// Joins a packet, and gives the message that ends with it, if one does.
-    pub fn join(&mut self, q: bool, m: bool, user: &[u8]) -> Option<Message>
+    pub fn join(&mut self, q: Marks, m: bool, user: &[u8]) -> Option<Message>
         requires room { length user.now ≤ self.old.room }
         requires short { length self.old.part.user + length user.now ≤ 65535 }
         ensures part { self.new.part ≡ joined self.old.part (piece_of q m user.now) }
@@ -153,7 +154,7 @@ impl PartialMessage {
     {
         self.append(user);
         if m {
-            self.begun = Some(q);
+            self.begun = Some(q.q);
             return None;
         }
         Some(self.finish(q))
@@ -171,7 +172,7 @@ impl PartialMessage {
     }
 
     // The message of all octets that have come. The memory of a short one stays for the next.
-    fn finish(&mut self, q: bool) -> Message
+    fn finish(&mut self, q: Marks) -> Message
         ensures message { result ≡ record { q = q; user = self.old.part.user } }
         ensures part { self.new.part ≡ no_part }
     {

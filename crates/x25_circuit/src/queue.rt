@@ -1,7 +1,7 @@
 ghost use Rattle.std.specs.Prelude.{◌≡◌, ℕ, ◌+◌, ◌<◌, ◌≤◌, [], ◌∷◌, ◌++◌, length, IfOk, IfSome, IfNone, true, false};
 ghost use Rattle.std.specs.Prelude.{vec_capacity};
 
-use crate::cutter::{Cutter, Marks};
+use crate::cutter::{Cut, Cutter};
 use crate::message::Message;
 use circular_buffer::HeapCircularBuffer;
 use std::alloc::{AllocError, Global};
@@ -77,12 +77,12 @@ impl Queue {
     }
 
     /// Cuts the next packet off, of at most `size` octets, where a message waits.
-    pub fn cut(&mut self, size: usize) -> Option<Marks>
-        ensures some { IfSome result (λ marks. 0 < length (waiting self.old)) }
-        ensures left { IfSome result (λ marks. waiting self.new ≡ first_left size (waiting self.old)) }
-        ensures packet { IfSome result (λ marks. marked marks.q marks.m self.new.cutter.lent
+    pub fn cut(&mut self, size: usize) -> Option<Cut>
+        ensures some { IfSome result (λ cut. 0 < length (waiting self.old)) }
+        ensures left { IfSome result (λ cut. waiting self.new ≡ first_left size (waiting self.old)) }
+        ensures packet { IfSome result (λ cut. marked cut.q cut.m self.new.cutter.lent
             ≡ first_cut size (waiting self.old)) }
-        ensures short { IfSome result (λ marks. length self.new.cutter.lent ≤ size) }
+        ensures short { IfSome result (λ cut. length self.new.cutter.lent ≤ size) }
         ensures none { IfNone result (waiting self.old ≡ []) }
         ensures same { IfNone result (waiting self.new ≡ []) }
     {

@@ -3,6 +3,7 @@ ghost use Rattle.std.specs.Prelude.{◌≡◌, ◌≢◌, ◌≤◌, ◌<◌, Bo
 ghost use Rattle.std.specs.Prelude.{None};
 ghost use Rattle.std.specs.Prelude.{IsErrOf};
 ghost use Rattle.std.specs.Prelude.{length};
+ghost use Rattle.x25_packet.specs.declared.marks.Marks.{Marks};
 ghost use Rattle.x25_packet.specs.Packet.{plain};
 ghost use Rattle.x25_packet.specs.Spelling.{IsInRange};
 ghost use Rattle.x25_circuit.specs.Circuit.{Settings};
@@ -24,7 +25,7 @@ use crate::proposal::Proposal;
 use crate::queue::PLACES;
 use crate::state::State;
 use crate::talking::INTERRUPT_OCTETS;
-use x25_packet::Packet;
+use x25_packet::{Marks, Packet};
 
 /// A call of the user of a circuit. What it says is borrowed.
 #[derive(Clone, Copy, Debug)]
@@ -44,7 +45,7 @@ pub enum Request<'a> {
         diagnostic: u8,
     },
     Send {
-        q: bool,
+        q: Marks,
         user: &'a [u8],
     },
     Interrupt {
@@ -169,9 +170,9 @@ impl Circuit {
     }
 
     pub(crate) fn send_refusal(&self, count: usize) -> Option<CircuitError>
-        ensures refusal { (c : Settings) (x : Channel) (q : Bool) (user : List ℕ) → length user ≡ count
+        ensures refusal { (c : Settings) (x : Channel) (q : Marks) (user : List ℕ) → length user ≡ count
             → FitsCircuit c self.now x → result ≡ refusal_of (send_in c x x.state q user) }
-        ensures refused { (c : Settings) (x : Channel) (q : Bool) (user : List ℕ) → length user ≡ count
+        ensures refused { (c : Settings) (x : Channel) (q : Marks) (user : List ℕ) → length user ≡ count
             → FitsCircuit c self.now x → IfSome result (λ e. send_in c x x.state q user ≡ Refused e) }
         ensures open { IfNone result (self.now.state ≡ State.Open) }
         ensures short { IfNone result (count ≤ 65535) }

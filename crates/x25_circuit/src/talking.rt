@@ -10,7 +10,7 @@ ghost use Rattle.x25_circuit.specs.code.FitsCircuit.{FitsCircuit, Keeps, KeepsCo
 use crate::circuit::Circuit;
 use crate::error::CircuitError;
 use crate::state::State;
-use x25_packet::Packet;
+use x25_packet::{Marks, Packet};
 
 /// The most octets of an interrupt's user data.
 pub(crate) const INTERRUPT_OCTETS: usize = 32;
@@ -21,7 +21,7 @@ impl Circuit {
     /// 30 WrongState outside of p4 with d1, then 32 TooLong, then 31 Full exactly where 8 messages wait, and else 70
     /// alone.
     #[inline(always)]
-    pub(crate) fn send(&mut self, q: bool, user: &[u8]) -> Result<(), CircuitError>
+    pub(crate) fn send(&mut self, q: Marks, user: &[u8]) -> Result<(), CircuitError>
         ensures outcome { (c : Settings) (x : Channel) → FitsCircuit c self.old x
             → Keeps c self.new result (outcome c x (CallSends q user.now)) }
         ensures keeps { KeepsCounts self.old self.new }

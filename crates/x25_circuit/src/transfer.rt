@@ -1,9 +1,11 @@
-ghost use Rattle.std.specs.Prelude.{◌≡◌, ℕ, ◌+◌, ◌%◌, ◌<◌, ◌≤◌, ◌==◌, nat_le, nat_lt, length, ◌∷◌, [], ◌++◌, true};
+ghost use Rattle.std.specs.Prelude.{◌≡◌, ℕ, ◌+◌, ◌%◌, ◌<◌, ◌≤◌, ◌==◌, nat_le, nat_lt, length, drop, List, ◌∷◌, []};
+ghost use Rattle.std.specs.Prelude.{◌++◌, true};
 ghost use Rattle.std.specs.Prelude.{false, IfOk, IfErr, OnOk, OnErr, OnSome, IfSome, IfNone, Bool, option_to_list};
 ghost use Rattle.std.specs.Prelude.{Some, None, if◌then◌else◌, max, vec_capacity};
 ghost use Rattle.x25_window.specs.code.Modulo.{resolved};
 ghost use Rattle.x25_circuit.specs.code.FitsNumbers.{FitsNumbers};
-ghost use Rattle.x25_circuit.specs.Message.{piece_of, no_part, joining, completed, piece_ground, ground_of, cut};
+ghost use Rattle.x25_circuit.specs.Message.{Piece, piece_of, no_part, joining, completed, piece_ground, ground_of, cut};
+ghost use Rattle.x25_circuit.specs.Message.{asks as asks_of, asked_in};
 ghost use Rattle.x25_circuit.specs.Circuit.{Talk, silent};
 ghost use Rattle.x25_circuit.specs.Queue.{waiting};
 ghost use Rattle.x25_circuit.specs.code.Changes.{with_acked, with_taken, with_rest, with_interrupt, with_peer};
@@ -18,6 +20,7 @@ use crate::queue::Queue;
 use crate::terms::Terms;
 use std::alloc::{AllocError, Global};
 use x25_bits::{Seq, with_octets};
+use x25_packet::Marks;
 use x25_window::{Receiver, Sender};
 
 /// The most packets of a window.
@@ -26,7 +29,7 @@ pub const PACKETS: u8 = 7;
 /// What a data packet says beside its user data.
 #[derive(Clone, Copy)]
 pub struct Header {
-    pub q: bool,
+    pub q: Marks,
     pub m: bool,
     pub ps: Seq,
     pub pr: Seq,
@@ -35,27 +38,48 @@ pub struct Header {
 /// The variables of data transfer, p4. ITU-T X.25 (10/96), sections 4.3 and 4.4.
 #[derive(Drop)]
 pub struct Transfer {
-    /// The numbers of the packets sent; their user data isn't kept.
-    pub sender: Sender<()>,
+    /// Of each packet sent whether a message ends with it of which confirmation was asked; its user data isn't kept.
+    pub sender: Sender<bool>,
     pub receiver: Receiver,
     pub queue: Queue,
     pub partial: PartialMessage,
+    /// How many messages haven't the confirmation yet that was asked of them.
+    pub unconfirmed: u8,
     /// This end's interrupt isn't confirmed yet.
     pub interrupt_out: bool,
     pub peer_ready: bool,
     pub own_ready: bool,
 }
 
-// Counts one packet more as sent, and gives the number that it has.
-fn count_sent(sender: &mut Sender<()>) -> Seq
+// Counts one packet more as sent, with whether it asks for confirmation, and gives the number that it has.
+fn count_sent(sender: &mut Sender<bool>, asks: bool) -> Seq
     requires { length sender.old.items < 7 }
-    ensures number { (n m : ℕ) → FitsNumbers sender.old n m → result.number ≡ m % 8 }
-    ensures fits { (n m : ℕ) → FitsNumbers sender.old n m → FitsNumbers sender.new n (m + 1) }
+    ensures number { (n : ℕ) (sent : List Piece) → FitsNumbers sender.old n sent → result.number ≡ length sent % 8 }
+    ensures fits { (n : ℕ) (sent : List Piece) (p : Piece) → FitsNumbers sender.old n sent → asks_of p ≡ asks
+        → FitsNumbers sender.new n (sent ++ p ∷ []) }
 {
     let ps = sender.top();
     // Fewer than seven stand unacknowledged, so this isn't refused.
-    sender.offer(()).ok();
+    sender.offer(asks).ok();
     ps
+}
+
+// So many packets are acknowledged: how many of them ask for confirmation.
+fn acknowledge(sender: &mut Sender<bool>, count: u8) -> u8
+    requires { count ≤ length sender.old.items }
+    ensures fits { (n : ℕ) (sent : List Piece) → FitsNumbers sender.old n sent
+        → FitsNumbers sender.new (n + count) sent }
+    ensures asked { (n : ℕ) (sent : List Piece) → FitsNumbers sender.old n sent
+        → result + asked_in (drop (n + count) sent) ≡ asked_in (drop n sent) }
+    ensures few { result ≤ count }
+{
+    let mut asked = 0;
+    for _ in 0..count {
+        if sender.release() {
+            asked += 1;
+        }
+    }
+    asked
 }
 
 impl Transfer {
@@ -75,6 +99,7 @@ impl Transfer {
             receiver: Receiver::new(),
             queue,
             partial: PartialMessage::new(alloc),
+            unconfirmed: 0,
             interrupt_out: false,
             peer_ready: true,
             own_ready: true,
@@ -90,6 +115,7 @@ impl Transfer {
         self.receiver.clear();
         self.queue.clear();
         self.partial.clear();
+        self.unconfirmed = 0;
         self.interrupt_out = false;
         self.peer_ready = true;
         self.own_ready = true;
@@ -106,7 +132,12 @@ impl Transfer {
         ensures queue { self.new.queue ≡ self.old.queue }
         ensures unchanged { result ≡ false → self.new ≡ self.old }
     {
-        self.sender.ack(pr).is_ok()
+        let Ok(count) = self.sender.acknowledges(pr) else {
+            return false;
+        };
+        let asked = acknowledge(&mut self.sender, count);
+        self.unconfirmed = self.unconfirmed.saturating_sub(asked);
+        true
     }
 
     /// The diagnostic for which a data packet is refused, whatever its P(R), if any: 1, 39 or 83.
@@ -126,7 +157,7 @@ impl Transfer {
 
     /// Takes a data packet that isn't refused, and gives the message that ends with it, if one does.
     #[inline(always)]
-    pub fn take(&mut self, ps: Seq, q: bool, m: bool, user: &[u8]) -> Option<Message>
+    pub fn take(&mut self, ps: Seq, q: Marks, m: bool, user: &[u8]) -> Option<Message>
         requires wanted { ps.number ≡ self.old.receiver.number }
         requires room { length user.now ≤ self.old.partial.room }
         requires short { length self.old.partial.part.user + length user.now ≤ 65535 }
@@ -141,7 +172,7 @@ impl Transfer {
     }
 
     /// Lets a copy of a message wait. Err: no memory; all is as it was then.
-    pub fn push(&mut self, q: bool, user: &[u8]) -> Result<(), AllocError>
+    pub fn push(&mut self, q: Marks, user: &[u8]) -> Result<(), AllocError>
         requires few { length (waiting self.old.queue) < 8 }
         requires short { length user.now ≤ 65535 }
         ensures fits { (size : ℕ) (t : Talk) → FitsTalk size self.old t
@@ -152,6 +183,7 @@ impl Transfer {
         let memory = self.memory(user.len())?;
         let user = Octets::of(with_octets(memory, user));
         self.queue.push(Message { q, user });
+        self.unconfirmed = self.unconfirmed.saturating_add(u8::from(q.d));
         Ok(())
     }
 
@@ -183,13 +215,13 @@ impl Transfer {
         if !self.peer_ready || self.sender.unacked() >= terms.window {
             return None;
         }
-        let Some(marks) = self.queue.cut(terms.size) else {
+        let Some(cut) = self.queue.cut(terms.size) else {
             return None;
         };
-        let ps = count_sent(&mut self.sender);
+        let ps = count_sent(&mut self.sender, !cut.m && cut.q.d);
         Some(Header {
-            q: marks.q,
-            m: marks.m,
+            q: cut.q,
+            m: cut.m,
             ps,
             pr: self.receiver.wanted(),
         })

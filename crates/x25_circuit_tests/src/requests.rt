@@ -3,7 +3,7 @@
 use crate::calls::{ask, circuit, hear};
 use std::alloc::Global;
 use x25_circuit::{Circuit, CircuitError, Params, Proposal, Request, Role};
-use x25_packet::{FacilityField, Packet};
+use x25_packet::{FacilityField, Marks, Packet};
 
 /// What is proposed: one that may be, and one that may not.
 #[derive(Drop)]
@@ -38,7 +38,7 @@ impl Proposals {
             },
             5 => clear(0),
             6 => Request::Send {
-                q: false,
+                q: Marks::with_q(false),
                 user: &[],
             },
             7 => Request::Interrupt { user: b"1" },

@@ -4,7 +4,7 @@ use crate::calls::{ask, circuit, hear, hear_too_few};
 use crate::requests::{Proposals, acceptance};
 use std::alloc::Global;
 use x25_circuit::{Circuit, CircuitError, Notice, Owed, Params, Reply, Role};
-use x25_packet::{Packet, Seq};
+use x25_packet::{Marks, Packet, Seq};
 
 /// What happens to a circuit.
 #[derive(Clone, Copy)]
@@ -211,7 +211,7 @@ fn heard_data(
         circuit,
         &Packet::Data {
             channel: 1,
-            q,
+            marks: Marks::with_q(q),
             m,
             ps: Seq::modulo(ps),
             pr: Seq::modulo(pr),

@@ -94,7 +94,7 @@ still_begun j (Last q₂ user ∷ ps) q is none = absurd (omega (arith, none))
 whole_rest : (j : Partial) (ps : List Piece) → joining j ps ≡ no_part → wholes ps ≡ 0 → ps ≡ []
 whole_rest j [] whole none = refl
 whole_rest j (More q user ∷ ps) whole none =
-    let begun = still_begun (joined j (More q user)) ps q refl (let e : wholes ps ≡ 0 = omega (arith, none) in e) in
+    let begun = still_begun (joined j (More q user)) ps q.q refl (let e : wholes ps ≡ 0 = omega (arith, none) in e) in
     absurd (none-some begun.0 (sym (ap (λ (k : Partial). k.begun) whole) ∙ begun.1))
 whole_rest j (Last q user ∷ ps) whole none = absurd (omega (arith, none))
 

@@ -2,6 +2,7 @@
 use Rattle.std.proofs.Common.{◌≡◌, ℕ, ◌+◌, ◌%◌, ◌≤◌, List, [], ◌∷◌, ◌++◌, length, Option, Some, None, Bool, true, false, nat_lt, nat_le, if◌then◌else◌, refl, sym, ap, subst, ◌∙◌, arith}
 use Rattle.std.proofs.lemmas.List.{length_push, append-nil}
 use Rattle.std.proofs.lemmas.Bool.{cond_both, ltb-true}
+use Rattle.x25_packet.specs.declared.marks.Marks.{Marks}
 use Rattle.x25_circuit.specs.Message.{Piece, no_part, cut, wholes, AreSound}
 use Rattle.x25_circuit.specs.Params.{Terms}
 use Rattle.x25_handshakes.specs.laws.Stretch.{Packet, Data, Rr, Rnr, Int, IntConf, Reset, ResetConf, Stretch, StretchStep, stretch_does, stretch_fails, StretchAct, Send, Pull, Ready, NotReady, Interrupt, sends, pulls, interrupts, stretch_acts, ack_ground, data_ground, by_ground, takes_data, takes_status, stretch_takes}
@@ -65,7 +66,7 @@ does_interrupt size x xs =
     (λ _. does_still size x))
     (λ _. does_still size x)
 
-does_send : (t : Terms) (x : Stretch) (q : Bool) (xs : List ℕ) → Does t.size x (sends t x q xs)
+does_send : (t : Terms) (x : Stretch) (q : Marks) (xs : List ℕ) → Does t.size x (sends t x q xs)
 does_send t x q xs =
     let sent : StretchStep = stretch_does (record x { rest = x.rest ++ cut t.size q xs; down = x.down ++ record { q = q; user = xs } ∷ [] }) [] in
     cond_both (nat_le (length xs) 65535) (if nat_lt (wholes x.rest) 8 then sent else stretch_does x []) (stretch_does x []) (λ s. Does t.size x s)

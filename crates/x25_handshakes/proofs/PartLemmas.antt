@@ -1,6 +1,7 @@
 -- What each step does to the parts of the relation of two stretches.
 use Rattle.std.proofs.Common.{◌≡◌, ℕ, ◌+◌, ◌%◌, ◌≤◌, List, [], ◌∷◌, ◌++◌, length, Option, Some, None, Bool, true, false, refl, sym, ap, subst, ◌∙◌, arith, append_assoc, length-append}
 use Rattle.std.proofs.lemmas.List.{length_push, append-nil}
+use Rattle.x25_packet.specs.declared.marks.Marks.{Marks}
 use Rattle.x25_circuit.specs.declared.message.Message.{Message}
 use Rattle.x25_circuit.specs.Message.{Piece, no_part, joining, completed, carried_from, carried, AreSound, cut}
 use Rattle.x25_window.specs.code.Modulo.{resolved}
@@ -96,7 +97,7 @@ Ints-conf down up u v h = record { count = omega arith; flow = h.flow }
 
 -- messages
 
-pub Text-send : (size : ℕ) (sent rest : List Piece) (down : List Message) (q : Bool) (xs : List ℕ) → 1 ≤ size → length xs ≤ 65535 → Text size sent rest down
+pub Text-send : (size : ℕ) (sent rest : List Piece) (down : List Message) (q : Marks) (xs : List ℕ) → 1 ≤ size → length xs ≤ 65535 → Text size sent rest down
     → Text size sent (rest ++ cut size q xs) (down ++ record { q = q; user = xs } ∷ [])
 Text-send size sent rest down q xs one small h =
     let e : (sent ++ rest) ++ cut size q xs ≡ sent ++ (rest ++ cut size q xs) = append_assoc sent rest (cut size q xs) in

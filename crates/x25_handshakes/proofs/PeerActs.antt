@@ -2,6 +2,7 @@
 use Rattle.std.proofs.Common.{◌≡◌, ℕ, ◌+◌, ◌%◌, ◌<◌, ◌≤◌, List, [], ◌∷◌, ◌++◌, length, Option, Some, None, Bool, true, false, nat_lt, nat_le, if◌then◌else◌, refl, sym, ap, subst, eq-eqb, arith}
 use Rattle.std.proofs.lemmas.List.{length_push, append-nil}
 use Rattle.std.proofs.lemmas.Bool.{le-leb, leb-true, ltb-true, cond_both}
+use Rattle.x25_packet.specs.declared.marks.Marks.{Marks}
 use Rattle.x25_circuit.specs.Message.{Piece, no_part, joining, piece_ground, cut, wholes, AreSound}
 use Rattle.x25_window.specs.code.Modulo.{resolved}
 use Rattle.x25_circuit.specs.Params.{Terms}
@@ -59,7 +60,7 @@ Kept-own_ready t size x u v y ready h = record {
 
 -- acts
 
-Good-sends : (t : Terms) (size : ℕ) (x : Stretch) (u v : List Packet) (y : PeerStretch) (q : Bool) (xs : List ℕ) → 1 ≤ t.size → Kept t size x u v y → Good t size (sends t x q xs) u v y
+Good-sends : (t : Terms) (size : ℕ) (x : Stretch) (u v : List Packet) (y : PeerStretch) (q : Marks) (xs : List ℕ) → 1 ≤ t.size → Kept t size x u v y → Good t size (sends t x q xs) u v y
 Good-sends t size x u v y q xs sound h =
     let sent : Stretch = record x { rest = x.rest ++ cut t.size q xs; down = x.down ++ record { q = q; user = xs } ∷ [] } in
     cond_both (nat_le (length xs) 65535) (if nat_lt (wholes x.rest) 8 then stretch_does sent [] else stretch_does x []) (stretch_does x []) (λ s. Good t size s u v y)

@@ -1,6 +1,7 @@
 -- The worked rows of peers, by computing.
 use Rattle.std.proofs.Common.{◌≡◌, false, true, [], ◌∷◌, None, refl, sym, subst, arith}
 use Rattle.x25_bits.specs.declared.role.Role.TheVariants.{Dte}
+use Rattle.x25_packet.specs.Marks.{with_q}
 use Rattle.x25_circuit.specs.declared.params.Params.{Params}
 use Rattle.x25_circuit.specs.Params.{default_params, calling_terms}
 use Rattle.x25_circuit.specs.laws.ParamsLaws.{NoFieldIsKnown}
@@ -23,10 +24,10 @@ pub late_peer_moves : LatePeerMoves
 late_peer_moves =
     let r1 : IsReached terms 128 handed_down = goes_on start handed_down at_start (Acts (Inside (Send false (5 ∷ [])))) in
     let r2 : IsReached terms 128 pulled = goes_on handed_down pulled r1 (Acts (Inside Pull)) in
-    let r3 : IsReached terms 128 heard = goes_on pulled heard r2 (Hears (Data 0 0 (Last false (5 ∷ []))) [] refl) in
+    let r3 : IsReached terms 128 heard = goes_on pulled heard r2 (Hears (Data 0 0 (Last (with_q false) (5 ∷ []))) [] refl) in
     let r4 : IsReached terms 128 answered =
-    goes_on heard answered r3 (Does (InStretch (Sends (Last false (7 ∷ [])) 0)) (record { rising = omega arith; taken = omega arith }, record { window = omega arith; fits = refl })) in
-    let r5 : IsReached terms 128 taken = goes_on answered taken r4 (Takes (Data 0 0 (Last false (7 ∷ []))) [] refl) in
+    goes_on heard answered r3 (Does (InStretch (Sends (Last (with_q false) (7 ∷ [])) 0)) (record { rising = omega arith; taken = omega arith }, record { window = omega arith; fits = refl })) in
+    let r5 : IsReached terms 128 taken = goes_on answered taken r4 (Takes (Data 0 0 (Last (with_q false) (7 ∷ []))) [] refl) in
     record {
       reached = goes_on taken acknowledged r5 (Does (InStretch (Says true 1)) (record { rising = omega arith; taken = omega arith }));
       up = refl;
@@ -48,7 +49,7 @@ peer_layer_moves no_field =
     let r5 : layers.IsReached Dte w5 = layers.goes_on called w5 r4 (layers.Acts accepts) in
     let r6 : layers.IsReached Dte accepted = layers.goes_on w5 accepted r5 (layers.Hears (On 1 (Accept [])) [] refl) in
     let w7 = layer_does accepted message in
-    let fits = subst (λ (p : Params). piece_ground (calling_terms p).size no_part (Last false (7 ∷ [])) ≡ None) (sym (no_field default_params)) refl in
+    let fits = subst (λ (p : Params). piece_ground (calling_terms p).size no_part (Last (with_q false) (7 ∷ [])) ≡ None) (sym (no_field default_params)) refl in
     let r7 : layers.IsReached Dte w7 =
     layers.goes_on accepted w7 r6 (layers.Does message (record { rising = omega arith; taken = omega arith }, record { window = omega arith; fits = fits })) in
-    record { reached = layers.goes_on w7 came r7 (layers.Takes (On 1 (Data 0 0 (Last false (7 ∷ [])))) [] refl); calls = refl; up = refl }
+    record { reached = layers.goes_on w7 came r7 (layers.Takes (On 1 (Data 0 0 (Last (with_q false) (7 ∷ [])))) [] refl); calls = refl; up = refl }

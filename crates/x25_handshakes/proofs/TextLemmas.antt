@@ -4,6 +4,8 @@ use Rattle.std.proofs.lemmas.Grind.{common_steps}
 use Rattle.std.proofs.lemmas.Bool.{le-leb, cond_both}
 use Rattle.std.proofs.lemmas.Bool.Decides.{nat_tests}
 use Rattle.std.proofs.lemmas.List.{take-append-drop}
+use Rattle.x25_packet.specs.declared.marks.Marks.{Marks}
+use Rattle.x25_packet.specs.Marks.{with_q}
 use Rattle.x25_circuit.specs.Message.{Piece, More, Last, Partial, no_part, joined, joining, completed, carried_from, same_q, may_have_q, ground_of, AreSound, cut_from}
 
 pub joining-append : (j : Partial) (a b : List Piece) → joining j (a ++ b) ≡ joining (joining j a) b
@@ -35,11 +37,11 @@ same_q-refl : (q : Bool) → same_q q q ≡ true
 same_q-refl true = refl
 same_q-refl false = refl
 
-pub AreSound-cut : (n size : ℕ) (q : Bool) (xs : List ℕ) (j : Partial) → 1 ≤ size → length xs ≤ size + n → length j.user + length xs ≤ 65535 → may_have_q j.begun q ≡ true
+pub AreSound-cut : (n size : ℕ) (q : Marks) (xs : List ℕ) (j : Partial) → 1 ≤ size → length xs ≤ size + n → length j.user + length xs ≤ 65535 → may_have_q j.begun q ≡ true
     → AreSound size j (cut_from n size q xs)
 AreSound-cut zero size q xs j one far room same = (ground_none size j (length xs) q (omega arith) room same, tt)
 AreSound-cut (suc n) size q xs j one far room same =
-    cond_both (nat_le (length xs) size) (Last q xs ∷ []) (More q (take size xs) ∷ cut_from n size q (drop size xs)) (λ ps. AreSound size j ps)
+    cond_both (nat_le (length xs) size) (Last q xs ∷ []) (More (with_q q.q) (take size xs) ∷ cut_from n size q (drop size xs)) (λ ps. AreSound size j ps)
     (λ small. (ground_none size j (length xs) q (grind (arith, nat_tests)) room same, tt))
     (λ large.
     let over : size < length xs = grind (arith, nat_tests) in
@@ -47,20 +49,20 @@ AreSound-cut (suc n) size q xs j one far room same =
     let d : length (drop size xs) + size ≡ length xs = grind (arith, common_steps) in
     let a : length (j.user ++ take size xs) ≡ length j.user + length (take size xs) = length-append j.user (take size xs) in (
       ground_none size j (length (take size xs)) q (omega arith) (omega arith) same,
-      AreSound-cut n size q (drop size xs) (record { begun = Some q; user = j.user ++ take size xs }) one (omega arith) (omega arith) (same_q-refl q),
+      AreSound-cut n size q (drop size xs) (record { begun = Some q.q; user = j.user ++ take size xs }) one (omega arith) (omega arith) (same_q-refl q),
     ))
 
-pub joining-cut : (n size : ℕ) (q : Bool) (xs : List ℕ) (j : Partial) → joining j (cut_from n size q xs) ≡ no_part
+pub joining-cut : (n size : ℕ) (q : Marks) (xs : List ℕ) (j : Partial) → joining j (cut_from n size q xs) ≡ no_part
 joining-cut zero size q xs j = refl
 joining-cut (suc n) size q xs j =
-    cond_both (nat_le (length xs) size) (Last q xs ∷ []) (More q (take size xs) ∷ cut_from n size q (drop size xs)) (λ ps. joining j ps ≡ no_part)
+    cond_both (nat_le (length xs) size) (Last q xs ∷ []) (More (with_q q.q) (take size xs) ∷ cut_from n size q (drop size xs)) (λ ps. joining j ps ≡ no_part)
     (λ _. refl)
-    (λ _. joining-cut n size q (drop size xs) (record { begun = Some q; user = j.user ++ take size xs }))
+    (λ _. joining-cut n size q (drop size xs) (record { begun = Some q.q; user = j.user ++ take size xs }))
 
-pub carried-cut : (n size : ℕ) (q : Bool) (xs : List ℕ) (j : Partial) → carried_from j (cut_from n size q xs) ≡ record { q = q; user = j.user ++ xs } ∷ []
+pub carried-cut : (n size : ℕ) (q : Marks) (xs : List ℕ) (j : Partial) → carried_from j (cut_from n size q xs) ≡ record { q = q; user = j.user ++ xs } ∷ []
 carried-cut zero size q xs j = refl
 carried-cut (suc n) size q xs j =
-    cond_both (nat_le (length xs) size) (Last q xs ∷ []) (More q (take size xs) ∷ cut_from n size q (drop size xs)) (λ ps. carried_from j ps ≡ record { q = q; user = j.user ++ xs } ∷ [])
+    cond_both (nat_le (length xs) size) (Last q xs ∷ []) (More (with_q q.q) (take size xs) ∷ cut_from n size q (drop size xs)) (λ ps. carried_from j ps ≡ record { q = q; user = j.user ++ xs } ∷ [])
     (λ _. refl)
-    (λ _. carried-cut n size q (drop size xs) (record { begun = Some q; user = j.user ++ take size xs })
+    (λ _. carried-cut n size q (drop size xs) (record { begun = Some q.q; user = j.user ++ take size xs })
     ∙ ap (λ (l : List ℕ). record { q = q; user = l } ∷ []) (append_assoc j.user (take size xs) (drop size xs) ∙ ap (λ l. j.user ++ l) (take-append-drop size xs)))

@@ -3,6 +3,7 @@ use Rattle.std.proofs.Common.{◌≡◌, ℕ, ◌+◌, ◌%◌, ◌<◌, List, [
 use Rattle.std.proofs.lemmas.List.{length_push, append-nil}
 use Rattle.std.proofs.lemmas.Bool.{cond_both}
 use Rattle.std.proofs.lemmas.Option.{none-some}
+use Rattle.x25_packet.specs.declared.marks.Marks.{Marks}
 use Rattle.x25_circuit.specs.Message.{Piece, cut, wholes}
 use Rattle.x25_circuit.specs.Params.{Terms}
 use Rattle.x25_handshakes.specs.laws.Stretch.{Packet, Data, Rr, Rnr, Int, IntConf, Stretch, StretchStep, stretch_does, stretch_fails, StretchAct, Send, Pull, Ready, NotReady, Interrupt, status, sends, pulls, interrupts, stretch_acts, ack_ground, data_ground, by_ground, takes_data, takes_status, stretch_takes}
@@ -44,7 +45,7 @@ told_status x₂ u y false m taken n before is few same ready = told_number x₂
 
 -- ---- acts
 
-told_sends : (t : Terms) (x : Stretch) (u v : List Packet) (y : Stretch) (q : Bool) (xs : List ℕ) → Told x v y → Told y u x → BothTold (sends t x q xs) u v y
+told_sends : (t : Terms) (x : Stretch) (u v : List Packet) (y : Stretch) (q : Marks) (xs : List ℕ) → Told x v y → Told y u x → BothTold (sends t x q xs) u v y
 told_sends t x u v y q xs told told_back =
     let sent : Stretch = record x { rest = x.rest ++ cut t.size q xs; down = x.down ++ record { q = q; user = xs } ∷ [] } in
     cond_both (nat_le (length xs) 65535) (if nat_lt (wholes x.rest) 8 then stretch_does sent [] else stretch_does x []) (stretch_does x []) (λ s. BothTold s u v y)

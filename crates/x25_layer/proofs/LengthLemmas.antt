@@ -1,4 +1,5 @@
 -- How many octets spell a packet at most.
+use Rattle.x25_packet.specs.declared.marks.Marks.{Marks}
 use Rattle.std.proofs.Common.{◌≡◌, ℕ, ◌+◌, ◌*◌, ◌≤◌, List, [], ◌∷◌, ◌++◌, length, length-append, Bool, Bor, Option, Some, None, refl, sym, ap, subst, ◌∙◌, arith}
 use Rattle.x25_bits.specs.declared.seq.Seq.{Seq}
 use Rattle.x25_packet.specs.declared.facilities.Directions.{Directions}
@@ -49,7 +50,7 @@ call_fits p channel called calling facilities user e is =
     (λ range. (call_short called calling facilities user.now range.1 range.2 range.3, range.4)) is
 
 -- what follows the third octet of a packet other than DATA and CALL
-pub other_short : (p : Packet) → ((channel : ℕ) (q m : Bool) (ps pr : Seq) (user : Bor (List ℕ)) → p ≡ code.Data channel q m ps pr user → ⊥)
+pub other_short : (p : Packet) → ((channel : ℕ) (q : Marks) (m : Bool) (ps pr : Seq) (user : Bor (List ℕ)) → p ≡ code.Data channel q m ps pr user → ⊥)
     → ((channel : ℕ) (called calling : List ℕ) (facilities : List ℕ) (user : Bor (List ℕ)) → p ≡ code.Call channel called calling facilities user → ⊥) → IsInRange 128 (plain p) → length (body_of (plain p)) ≤ 32
 other_short (code.Call channel called calling facilities user) other not_call is = absurd (not_call channel called calling facilities user refl)
 other_short (code.Accept channel facilities) other not_call is = accept_short facilities is.1

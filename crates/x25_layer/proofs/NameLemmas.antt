@@ -3,6 +3,7 @@ use Rattle.std.proofs.Common.{◌≡◌, ℕ, List, [], ◌∷◌, ◌++◌, len
 use Rattle.x25_bits.specs.declared.role.Role.{Role}
 use Rattle.x25_bits.specs.declared.role.Role.TheVariants.{Dte, Dce}
 use Rattle.x25_packet.specs.Packet.{PlainPacket, call, accept, clear, clear_conf, user_data, rr, rnr, interrupt, interrupt_conf, reset, reset_conf, restart, restart_conf}
+use Rattle.x25_packet.specs.declared.marks.Marks.{Marks}
 use Rattle.x25_circuit.specs.declared.message.Message.{Message}
 use Rattle.x25_circuit.specs.declared.error.CircuitError.TheVariants.{Full, TooLong, InterruptOutstanding, BadParameter}
 use Rattle.x25_circuit.specs.declared.state.State.{State}
@@ -204,7 +205,7 @@ module _ (c : Settings) (x : Circuit) where
   interrupts t user =
       keeps_on x (record { sent = t.sent; taken = t.taken; acked = t.acked; rest = t.rest; int_out = true; peer_ready = t.peer_ready; own_ready = t.own_ready }) (Some (interrupt 1 user))
 
-  send_keeps : (s : State) (q : Bool) (user : List ℕ) → KeepsName x (send_in c x s q user)
+  send_keeps : (s : State) (q : Marks) (user : List ℕ) → KeepsName x (send_in c x s q user)
   send_keeps Open q user =
       keeps_if x (nat_le (length user) 65535) (if nat_lt (waits x) 8 then sends x.talk q user else Refused Full) (Refused TooLong)
       (keeps_if x (nat_lt (waits x) 8) (sends x.talk q user) (Refused Full) (λ e. refl) tt) tt

@@ -5,6 +5,7 @@ use Rattle.x25_bits.specs.declared.role.Role.TheVariants.{Dte, Dce}
 use Rattle.x25_packet.specs.Packet.{PlainPacket, call, accept, clear, clear_conf, user_data, rr, rnr, interrupt, interrupt_conf, reset, reset_conf, restart, restart_conf}
 use Rattle.x25_packet.specs.Spelling.{HasChannel}
 use Rattle.x25_packet.specs.Digits.{digits_of_text}
+use Rattle.x25_packet.specs.declared.marks.Marks.{Marks}
 use Rattle.x25_circuit.specs.declared.message.Message.{Message}
 use Rattle.x25_circuit.specs.Message.{Piece, More, Last, piece_of, no_part, joining, completed, wholes}
 use Rattle.x25_circuit.specs.declared.params.Params.{Params}
@@ -230,7 +231,7 @@ given_heeds false role cause u s h = test (cause == 0 || is_of_end role cause)
 abbrev Asked : Settings → Agreed → At Connection → Request → Type 0
 Asked c g n request = Heeds (outcome c (view g n) request) (channel_acts n (act_of request))
 
-asked_send : (c : Settings) (g : Agreed) (e : ℕ) (m i : List CallRequest) (s : ℕ) (x : Stretch) (q : Bool) (user : List ℕ) → Asked c g (in_open g e m i s x) (Sends q user)
+asked_send : (c : Settings) (g : Agreed) (e : ℕ) (m i : List CallRequest) (s : ℕ) (x : Stretch) (q : Marks) (user : List ℕ) → Asked c g (in_open g e m i s x) (Sends q user)
 asked_send c g e m i s x q user =
     if_heeds (nat_le (length user) 65535) _ _ (λ st. channel_step g e m i s st) _ _
     (if_heeds (nat_lt (wholes x.rest) 8) _ _ (λ st. channel_step g e m i s st) _ _ (record { next = record { agreed = g; is = refl; fits = (refl, refl) }; packet = refl; quiet = tt }) tt)

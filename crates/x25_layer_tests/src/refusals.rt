@@ -5,6 +5,7 @@ use std::alloc::Global;
 use x25_circuit::Request;
 use x25_layer::{Layer, LayerError, Role};
 use x25_link::OrderedLink;
+use x25_packet::Marks;
 
 /// What is asked of a channel, by its index up to 6.
 pub fn request(index: usize) -> Request<'static> {
@@ -15,7 +16,7 @@ pub fn request(index: usize) -> Request<'static> {
             diagnostic: 0,
         },
         2 => Request::Send {
-            q: false,
+            q: Marks::with_q(false),
             user: &[],
         },
         3 => Request::Interrupt { user: &[7] },

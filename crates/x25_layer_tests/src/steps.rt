@@ -6,6 +6,7 @@ use std::alloc::Global;
 use x25_circuit::{Notice, Request};
 use x25_layer::{Layer, LayerError, Params, Report, Role, Stretch};
 use x25_link::{OrderedLink, PlainLink};
+use x25_packet::Marks;
 
 /// What happens to a layer, or to its link.
 #[derive(Clone, Copy)]
@@ -406,7 +407,7 @@ fn sends(
         return NO_MEMORY;
     };
     let request = Request::Send {
-        q: false,
+        q: Marks::with_q(false),
         user: user.as_slice(),
     };
     answered(ask(layer, link, channel, request))

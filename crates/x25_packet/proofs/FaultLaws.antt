@@ -14,12 +14,13 @@ use Rattle.x25_packet.specs.Reading.FirstError.BehindError.{no_size, field_missi
 use Rattle.x25_packet.specs.Reading.FirstError.CallError.{no_lengths, digits_missing, wrong_digit, behind_digits}
 use Rattle.x25_packet.specs.Reading.FirstError.AcceptError.{some_lengths, no_field, zero_size, behind_lengths}
 use Rattle.x25_packet.specs.Reading.FirstError.IsFirstError.{no_header, wrong_format, no_packet, in_body}
+use Rattle.x25_packet.specs.Marks.{with_q}
 use Rattle.x25_packet.specs.Packet.{PlainPacket, call, accept, clear, clear_conf, user_data, rr, rnr, interrupt, interrupt_conf, reset, reset_conf, restart, restart_conf}
 use Rattle.x25_packet.specs.Digits.{IsAddress}
 use Rattle.x25_bits.specs.Bits.{bit}
 use Rattle.x25_packet.specs.Spelling.{channel_of, format_of, header_of, type_of, IsChannel, IsInRange}
 use Rattle.x25_packet.specs.Reading.{accept_of, accepted_with, bare, call_of, called_with, caused, channelled, data_of, facilities_and_user, field_after, flow_control_of, has_format, interrupt_of, kind_of, packet_of, reason_of, unchannelled, with_field}
-use Rattle.x25_packet.proofs.PacketLaws.{Field, IsOctets, bit_eq, bit_lt, channel_few, differ, field_found, format_cases, numbered, on_channel, other}
+use Rattle.x25_packet.proofs.PacketLaws.{Field, IsOctets, bit_eq, bit_lt, channel_few, differ, field_found, format_cases, numbered, on_channel, other, without_d}
 use Rattle.x25_packet.proofs.FacilityLaws.{chosen}
 use Rattle.x25_packet.proofs.FacilityFaults.{err_ok, err_same, nothing, nothing_allowed, facilities_fault}
 
@@ -345,7 +346,7 @@ data_of_kind : (most channel : ℕ) (q : Bool) (kind : ℕ) (body : List ℕ) (e
 data_of_kind most channel q kind body e on small even h =
     let mark = bit_eq (kind / 16 % 2) (omega arith) in
     record {
-      v = user_data channel q (nat_eq (kind / 16 % 2) 1) (kind / 2 % 8) (kind / 32) [];
+      v = user_data channel (with_q q) (nat_eq (kind / 16 % 2) 1) (kind / 2 % 8) (kind / 32) [];
       in_range = (on, omega arith, omega arith, omega arith);
       channel_is = refl;
       format_is = refl;
@@ -421,10 +422,10 @@ never_kind most (call channel called calling facilities user) body fits h =
 never_kind most (accept channel facilities) body fits h = accept_known body Unidentified (accept_fault channel body Unidentified (rw (on_channel channel fits.0) at h)) refl
 never_kind most (clear channel cause diagnostic) body fits h = caused_fault (clear channel) body Unidentified (rw (on_channel channel fits) at h)
 never_kind most (clear_conf channel) body fits h = never_bare _ body (rw (on_channel channel fits) at h)
-never_kind most (user_data channel q m ps pr user) body fits h =
+never_kind most (user_data channel marks m ps pr user) body fits h =
     let mark = bit_lt m in
     let even : (2 * ps + 16 * bit m + 32 * pr) % 2 ≡ 0 = omega arith in
-    data_fault channel (nat_eq (1 + 8 * bit q) 9) (2 * ps + 16 * bit m + 32 * pr) body Unidentified (rw (on_channel channel fits.0, even) at h)
+    data_fault channel (nat_eq (1 + 4 * bit marks.d + 8 * bit marks.q) 9) (2 * ps + 16 * bit m + 32 * pr) body Unidentified (rw (on_channel channel fits.0, even) at h)
 never_kind most (rr channel pr) body fits h = never_rr most channel pr body fits.0 fits.1 h
 never_kind most (rnr channel pr) body fits h = never_rnr most channel pr body fits.0 fits.1 h
 never_kind most (interrupt channel user) body fits h = interrupt_fault channel body Unidentified (rw (on_channel channel fits.0) at h)
@@ -454,7 +455,7 @@ headed : (most first second kind : ℕ) (q : Bool) (body : List ℕ) (e : Packet
     → Fault most (first % 16 * 256 + second) q kind body e → IsFirstError most (first ∷ second ∷ kind ∷ body) e
 headed most first second kind q body e small less format f =
     let P : List ℕ → Type 0 = λ o. IsFirstError most (o ++ body) e in
-    subst P (front _ _ _ first second kind (rw (f.format_is, f.channel_is) (omega arith)) (rw f.channel_is (omega arith)) f.type_is) (in_body f.v body e f.in_range f.error)
+    subst P (front _ _ _ first second kind (rw (f.format_is, f.channel_is) (omega arith)) (rw f.channel_is (omega arith)) f.type_is) (in_body f.v body e f.in_range (without_d f.v q f.format_is) f.error)
   where
     front : (a b c x y z : ℕ) → a ≡ x → b ≡ y → c ≡ z → a ∷ b ∷ c ∷ [] ≡ x ∷ y ∷ z ∷ []
     front a b c x y z h k l = cc

@@ -5,11 +5,13 @@ use Rattle.std.proofs.lemmas.Bool.{and_parts, leb-true, le-leb, ltb-false, le-lt
 use Rattle.std.proofs.lemmas.List.{take-append-drop, length-take-le}
 use Rattle.x25_packet.specs.declared.error.PacketError.{PacketError}
 use Rattle.x25_packet.specs.declared.facilities.Facilities.{Facilities}
+use Rattle.x25_packet.specs.declared.marks.Marks.{Marks}
+use Rattle.x25_packet.specs.Marks.{with_q}
 use Rattle.x25_packet.specs.Packet.{PlainPacket, call, accept, clear, clear_conf, user_data, rr, rnr, interrupt, interrupt_conf, reset, reset_conf, restart, restart_conf}
 use Rattle.x25_packet.specs.Digits.{halves_at, hold_digits, packed, IsAddress}
 use Rattle.x25_packet.specs.Facilities.{facilities_of, IsFacilityField}
 use Rattle.x25_bits.specs.Bits.{bit}
-use Rattle.x25_packet.specs.Spelling.{channel_of, format_of, type_of, body_of, spelling_of, addresses, IsChannel, IsInRange, Spells}
+use Rattle.x25_packet.specs.Spelling.{channel_of, format_of, type_of, body_of, spelling_of, addresses, IsChannel, IsInRange, IsWithoutD, Spells}
 use Rattle.x25_packet.specs.Reading.{bare, reason_of, caused, interrupt_of, data_of, with_field, field_after, called_with, facilities_and_user, call_of, accepted_with, accept_of, flow_control_of, unchannelled, channelled, kind_of, has_format, packet_of}
 use Rattle.x25_packet.proofs.FacilityLaws.{chosen, ok_err, ok_same, facilities_found, facilities_again}
 use Rattle.x25_packet.proofs.AddressLaws.{block_when, block_packed, address_at, length-halves_at, length-packed, packed_holds, called_again, calling_again, take_first, drop_first}
@@ -334,10 +336,35 @@ differ h = cc
 abbrev pub IsOctets : List ℕ → Type 0
 IsOctets octets = (i : ℕ) → get_or octets i 0 < 256
 
+pub bit_lt : (b : Bool) → bit b < 2
+bit_lt true = omega arith
+bit_lt false = omega arith
+
+-- in such a format no confirmation is asked
+pub without_d : (v : PlainPacket) (q : Bool) → format_of v ≡ 1 + 8 * bit q → IsWithoutD v
+without_d (user_data channel marks m ps pr user) q e = not_marked marks.d (omega (arith, e, bit_lt marks.q, bit_lt q, bit_lt marks.d))
+  where
+    not_marked : (d : Bool) → bit d ≡ 0 → d ≡ false
+    not_marked false none = refl
+    not_marked true none = absurd (omega (arith, none))
+without_d (call channel called calling facilities user) q e = tt
+without_d (accept channel facilities) q e = tt
+without_d (clear channel cause diagnostic) q e = tt
+without_d (clear_conf channel) q e = tt
+without_d (rr channel pr) q e = tt
+without_d (rnr channel pr) q e = tt
+without_d (interrupt channel user) q e = tt
+without_d (interrupt_conf channel) q e = tt
+without_d (reset channel cause diagnostic) q e = tt
+without_d (reset_conf channel) q e = tt
+without_d (restart cause diagnostic) q e = tt
+without_d restart_conf q e = tt
+
 spelled : (most first second kind : ℕ) (q : Bool) (body : List ℕ) (v : PlainPacket) → first < 256 → second < 256 → first / 16 ≡ 1 + 8 * bit q
     → Kind most (first % 16 * 256 + second) q kind body v → Spells most v (first ∷ second ∷ kind ∷ body)
 spelled most first second kind q body v small less format k = record {
   in_range = k.in_range;
+  without_d = without_d v q k.format_is;
   spelling = front first second kind _ _ _ body _ (rw (k.format_is, k.channel_is) (omega arith)) (rw k.channel_is (omega arith)) (sym k.type_is) (sym k.body_is);
 }
   where
@@ -423,10 +450,6 @@ interrupt_again : (channel : ℕ) (user : List ℕ) → 1 ≤ length user → le
 interrupt_again channel [] some few = absurd (omega arith)
 interrupt_again channel (octet ∷ rest) some few = let room : nat_le (length (octet ∷ rest)) 32 ≡ true = le-leb _ _ few in rw room refl
 
-pub bit_lt : (b : Bool) → bit b < 2
-bit_lt true = omega arith
-bit_lt false = omega arith
-
 bit_back : (b : Bool) → nat_eq (bit b) 1 ≡ b
 bit_back true = refl
 bit_back false = refl
@@ -436,7 +459,7 @@ nine_bit true = refl
 nine_bit false = refl
 
 data_again : (most channel : ℕ) (q m : Bool) (ps pr : ℕ) (user : List ℕ) → IsChannel channel → ps < 8 → pr < 8 → length user ≤ 4096
-    → kind_of most channel (nat_eq (1 + 8 * bit q) 9) (2 * ps + 16 * bit m + 32 * pr) user ≡ Ok (user_data channel q m ps pr user)
+    → kind_of most channel (nat_eq (1 + 8 * bit q) 9) (2 * ps + 16 * bit m + 32 * pr) user ≡ Ok (user_data channel (with_q q) m ps pr user)
 data_again most channel q m ps pr user on h k few =
     let mark = bit_lt m in
     let even : (2 * ps + 16 * bit m + 32 * pr) % 2 ≡ 0 = omega arith in
@@ -445,6 +468,16 @@ data_again most channel q m ps pr user on h k few =
     let received : (2 * ps + 16 * bit m + 32 * pr) / 32 ≡ pr = omega arith in
     let room : nat_le (length user) 4096 ≡ true = le-leb _ _ few in
     rw (on_channel channel on, even, more, sent, received, room, bit_back m, nine_bit q) refl
+
+-- marks without D
+plain_marks : (marks : Marks) → marks.d ≡ false → with_q marks.q ≡ marks
+plain_marks marks e = ap (λ (d : Bool). record { q = marks.q; d = d }) (sym e)
+
+marked_again : (most channel : ℕ) (marks : Marks) (m : Bool) (ps pr : ℕ) (user : List ℕ) → marks.d ≡ false → IsChannel channel → ps < 8 → pr < 8 → length user ≤ 4096
+    → kind_of most channel (nat_eq (1 + 4 * bit marks.d + 8 * bit marks.q) 9) (2 * ps + 16 * bit m + 32 * pr) user ≡ Ok (user_data channel marks m ps pr user)
+marked_again most channel marks m ps pr user none on h k few =
+    let P : Marks → Type 0 = λ x. kind_of most channel (nat_eq (1 + 4 * bit x.d + 8 * bit x.q) 9) (2 * ps + 16 * bit m + 32 * pr) user ≡ Ok (user_data channel x m ps pr user) in
+    subst P (plain_marks marks none) (data_again most channel marks.q m ps pr user on h k few)
 
 -- an RR or RNR
 pub numbered : (low pr : ℕ) → low < 32 → low % 2 ≡ 1 → pr < 8 → ((low + 32 * pr) % 2 ≡ 1) × ((low + 32 * pr) % 32 ≡ low) × ((low + 32 * pr) / 32 ≡ pr)
@@ -491,27 +524,27 @@ rnr_again most channel pr on h =
       n.2,
     ) refl
 
-kind_again : (most : ℕ) (v : PlainPacket) → IsInRange most v → kind_of most (channel_of v) (nat_eq (format_of v) 9) (type_of v) (body_of v) ≡ Ok v
-kind_again most (call channel called calling facilities user) fits = rw (on_channel channel fits.0) (call_again most channel called calling facilities user fits.1 fits.2 fits.3 fits.4)
-kind_again most (accept channel facilities) fits = rw (on_channel channel fits.0) (accept_again channel facilities fits.1)
-kind_again most (clear channel cause diagnostic) fits = rw (on_channel channel fits) refl
-kind_again most (clear_conf channel) fits = rw (on_channel channel fits) refl
-kind_again most (user_data channel q m ps pr user) fits = data_again most channel q m ps pr user fits.0 fits.1 fits.2 fits.3
-kind_again most (rr channel pr) fits = rr_again most channel pr fits.0 fits.1
-kind_again most (rnr channel pr) fits = rnr_again most channel pr fits.0 fits.1
-kind_again most (interrupt channel user) fits = rw (on_channel channel fits.0) (interrupt_again channel user fits.1 fits.2)
-kind_again most (interrupt_conf channel) fits = rw (on_channel channel fits) refl
-kind_again most (reset channel cause diagnostic) fits = rw (on_channel channel fits) refl
-kind_again most (reset_conf channel) fits = rw (on_channel channel fits) refl
-kind_again most (restart cause diagnostic) fits = refl
-kind_again most restart_conf fits = refl
+kind_again : (most : ℕ) (v : PlainPacket) → IsInRange most v → IsWithoutD v → kind_of most (channel_of v) (nat_eq (format_of v) 9) (type_of v) (body_of v) ≡ Ok v
+kind_again most (call channel called calling facilities user) fits plain = rw (on_channel channel fits.0) (call_again most channel called calling facilities user fits.1 fits.2 fits.3 fits.4)
+kind_again most (accept channel facilities) fits plain = rw (on_channel channel fits.0) (accept_again channel facilities fits.1)
+kind_again most (clear channel cause diagnostic) fits plain = rw (on_channel channel fits) refl
+kind_again most (clear_conf channel) fits plain = rw (on_channel channel fits) refl
+kind_again most (user_data channel marks m ps pr user) fits plain = marked_again most channel marks m ps pr user plain fits.0 fits.1 fits.2 fits.3
+kind_again most (rr channel pr) fits plain = rr_again most channel pr fits.0 fits.1
+kind_again most (rnr channel pr) fits plain = rnr_again most channel pr fits.0 fits.1
+kind_again most (interrupt channel user) fits plain = rw (on_channel channel fits.0) (interrupt_again channel user fits.1 fits.2)
+kind_again most (interrupt_conf channel) fits plain = rw (on_channel channel fits) refl
+kind_again most (reset channel cause diagnostic) fits plain = rw (on_channel channel fits) refl
+kind_again most (reset_conf channel) fits plain = rw (on_channel channel fits) refl
+kind_again most (restart cause diagnostic) fits plain = refl
+kind_again most restart_conf fits plain = refl
 
 pub channel_few : (most : ℕ) (v : PlainPacket) → IsInRange most v → channel_of v ≤ 4095
 channel_few most (call channel called calling facilities user) fits = fits.0.1
 channel_few most (accept channel facilities) fits = fits.0.1
 channel_few most (clear channel cause diagnostic) fits = fits.1
 channel_few most (clear_conf channel) fits = fits.1
-channel_few most (user_data channel q m ps pr user) fits = fits.0.1
+channel_few most (user_data channel marks m ps pr user) fits = fits.0.1
 channel_few most (rr channel pr) fits = fits.0.1
 channel_few most (rnr channel pr) fits = fits.0.1
 channel_few most (interrupt channel user) fits = fits.0.1
@@ -522,35 +555,44 @@ channel_few most (restart cause diagnostic) fits = omega arith
 channel_few most restart_conf fits = omega arith
 
 -- the general format identifier is that of the type
-pub format_again : (v : PlainPacket) → (nat_eq (format_of v) 1 || (nat_eq (format_of v) 9 && nat_eq (type_of v % 2) 0)) ≡ true
-format_again (call channel called calling facilities user) = refl
-format_again (accept channel facilities) = refl
-format_again (clear channel cause diagnostic) = refl
-format_again (clear_conf channel) = refl
-format_again (user_data channel true m ps pr user) = let even : (2 * ps + 16 * bit m + 32 * pr) % 2 ≡ 0 = omega arith in rw even refl
-format_again (user_data channel false m ps pr user) = refl
-format_again (rr channel pr) = refl
-format_again (rnr channel pr) = refl
-format_again (interrupt channel user) = refl
-format_again (interrupt_conf channel) = refl
-format_again (reset channel cause diagnostic) = refl
-format_again (reset_conf channel) = refl
-format_again (restart cause diagnostic) = refl
-format_again restart_conf = refl
+data_format : (q m : Bool) (ps pr : ℕ) → (nat_eq (1 + 8 * bit q) 1 || (nat_eq (1 + 8 * bit q) 9 && nat_eq ((2 * ps + 16 * bit m + 32 * pr) % 2) 0)) ≡ true
+data_format true m ps pr = let even : (2 * ps + 16 * bit m + 32 * pr) % 2 ≡ 0 = omega arith in rw even refl
+data_format false m ps pr = refl
 
-read_again : (most : ℕ) (v : PlainPacket) → IsInRange most v → packet_of most (spelling_of v) ≡ Ok v
+marked_format : (marks : Marks) (m : Bool) (ps pr : ℕ) → marks.d ≡ false
+    → (nat_eq (1 + 4 * bit marks.d + 8 * bit marks.q) 1 || (nat_eq (1 + 4 * bit marks.d + 8 * bit marks.q) 9 && nat_eq ((2 * ps + 16 * bit m + 32 * pr) % 2) 0)) ≡ true
+marked_format marks m ps pr none =
+    let P : Marks → Type 0 = λ x. (nat_eq (1 + 4 * bit x.d + 8 * bit x.q) 1 || (nat_eq (1 + 4 * bit x.d + 8 * bit x.q) 9 && nat_eq ((2 * ps + 16 * bit m + 32 * pr) % 2) 0)) ≡ true in
+    subst P (plain_marks marks none) (data_format marks.q m ps pr)
+
+pub format_again : (v : PlainPacket) → IsWithoutD v → (nat_eq (format_of v) 1 || (nat_eq (format_of v) 9 && nat_eq (type_of v % 2) 0)) ≡ true
+format_again (call channel called calling facilities user) plain = refl
+format_again (accept channel facilities) plain = refl
+format_again (clear channel cause diagnostic) plain = refl
+format_again (clear_conf channel) plain = refl
+format_again (user_data channel marks m ps pr user) plain = marked_format marks m ps pr plain
+format_again (rr channel pr) plain = refl
+format_again (rnr channel pr) plain = refl
+format_again (interrupt channel user) plain = refl
+format_again (interrupt_conf channel) plain = refl
+format_again (reset channel cause diagnostic) plain = refl
+format_again (reset_conf channel) plain = refl
+format_again (restart cause diagnostic) plain = refl
+format_again restart_conf plain = refl
+
+read_again : (most : ℕ) (v : PlainPacket) → IsInRange most v → IsWithoutD v → packet_of most (spelling_of v) ≡ Ok v
 unfolding packet_of
-read_again most v fits =
+read_again most v fits plain =
     let few = channel_few most v fits in
     let format : (16 * format_of v + channel_of v / 256) / 16 ≡ format_of v = omega arith in
     let channel : (16 * format_of v + channel_of v / 256) % 16 * 256 + channel_of v % 256 ≡ channel_of v = omega arith in
-    rw (format, format_again v, channel) (kind_again most v fits)
+    rw (format, format_again v plain, channel) (kind_again most v fits plain)
 
 pub only_found : (most : ℕ) (octets : List ℕ) (v : PlainPacket) → Spells most v octets → packet_of most octets ≡ Ok v
-only_found most octets v spells = ap (packet_of most) spells.spelling ∙ read_again most v spells.in_range
+only_found most octets v spells = ap (packet_of most) spells.spelling ∙ read_again most v spells.in_range spells.without_d
 
 -- what is appended reads as the packet
-pub appended_again : (most : ℕ) (v : PlainPacket) (before after : List ℕ) → IsInRange most v → after ≡ before ++ spelling_of v
+pub appended_again : (most : ℕ) (v : PlainPacket) (before after : List ℕ) → IsInRange most v → IsWithoutD v → after ≡ before ++ spelling_of v
     → packet_of most (drop (length before) after) ≡ Ok v
-appended_again most v before after fits e =
-    ap (λ (o : List ℕ). packet_of most (drop (length before) o)) e ∙ ap (packet_of most) (drop_first before (spelling_of v)) ∙ read_again most v fits
+appended_again most v before after fits plain e =
+    ap (λ (o : List ℕ). packet_of most (drop (length before) o)) e ∙ ap (packet_of most) (drop_first before (spelling_of v)) ∙ read_again most v fits plain

@@ -1,3 +1,4 @@
+pub mod Marks
 pub mod Packet
 pub mod Digits
 pub mod Facilities

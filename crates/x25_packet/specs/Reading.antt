@@ -9,6 +9,7 @@ use Rattle.x25_packet.specs.declared.facilities.Facilities.{Facilities}
 use Rattle.x25_packet.specs.declared.packet.Packet.{Packet}
 use Rattle.x25_packet.specs.Packet.{PlainPacket, plain, call, accept, clear, clear_conf, user_data, rr, rnr, interrupt}
 use Rattle.x25_packet.specs.Packet.{interrupt_conf, reset, reset_conf, restart, restart_conf}
+use Rattle.x25_packet.specs.Marks.{with_q}
 use Rattle.x25_packet.specs.Digits.{halves_at, hold_digits}
 use Rattle.x25_packet.specs.Facilities.{facilities_of}
 pub mod FirstError
@@ -38,7 +39,7 @@ interrupt_of channel (octet ∷ rest) =
 -- a DATA: at most 4,096 octets
 abbrev pub data_of : ℕ → Bool → ℕ → List ℕ → Result PlainPacket PacketError
 data_of channel q kind user = if nat_le (length user) 4096
-    then Ok (user_data channel q (kind / 16 % 2 == 1) (kind / 2 % 8) (kind / 32) user)
+    then Ok (user_data channel (with_q q) (kind / 16 % 2 == 1) (kind / 2 % 8) (kind / 32) user)
     else Err TooLong
 
 -- the facility field and what follows it

@@ -1,5 +1,6 @@
 -- The octets that spell a packet. ITU-T X.25 (10/96), sections 5.1 to 5.5.
-use Rattle.std.specs.Prelude.{ℕ, ◌+◌, ◌*◌, ◌/◌, ◌%◌, ◌<◌, ◌≤◌, ◌≡◌, List, [], ◌∷◌, ◌++◌, length, Bool, if◌then◌else◌}
+use Rattle.std.specs.Prelude.{ℕ, ◌+◌, ◌*◌, ◌/◌, ◌%◌, ◌<◌, ◌≤◌, ◌≡◌, List, [], ◌∷◌, ◌++◌, length, Bool, false}
+use Rattle.std.specs.Prelude.{if◌then◌else◌}
 pub use Rattle.x25_bits.specs.Bits.{bit}
 use Rattle.x25_packet.specs.Packet.{PlainPacket, call, accept, clear, clear_conf, user_data, rr, rnr, interrupt}
 use Rattle.x25_packet.specs.Packet.{interrupt_conf, reset, reset_conf, restart, restart_conf}
@@ -12,7 +13,7 @@ channel_of (call channel called calling facilities user) = channel
 channel_of (accept channel facilities) = channel
 channel_of (clear channel cause diagnostic) = channel
 channel_of (clear_conf channel) = channel
-channel_of (user_data channel q m ps pr user) = channel
+channel_of (user_data channel marks m ps pr user) = channel
 channel_of (rr channel pr) = channel
 channel_of (rnr channel pr) = channel
 channel_of (interrupt channel user) = channel
@@ -34,7 +35,7 @@ moved_to to (call channel called calling facilities user) = call to called calli
 moved_to to (accept channel facilities) = accept to facilities
 moved_to to (clear channel cause diagnostic) = clear to cause diagnostic
 moved_to to (clear_conf channel) = clear_conf to
-moved_to to (user_data channel q m ps pr user) = user_data to q m ps pr user
+moved_to to (user_data channel marks m ps pr user) = user_data to marks m ps pr user
 moved_to to (rr channel pr) = rr to pr
 moved_to to (rnr channel pr) = rnr to pr
 moved_to to (interrupt channel user) = interrupt to user
@@ -44,9 +45,9 @@ moved_to to (reset_conf channel) = reset_conf to
 moved_to to v = v
 
 -- Section 5.1.1: the general format identifier, bits 5 to 8 of the first octet. It is 1 for sequence numbers modulo 8;
--- bit 8 is the qualifier of a data packet. Bit 7, delivery confirmation, is 0 (profile).
+-- of a data packet bit 8 is the qualifier, and bit 7 asks for confirmation of its delivery; else both are 0 (profile).
 abbrev pub format_of : PlainPacket → ℕ
-format_of (user_data channel q m ps pr user) = 1 + 8 * bit q
+format_of (user_data channel marks m ps pr user) = 1 + 4 * bit marks.d + 8 * bit marks.q
 format_of _ = 1
 
 -- Table 5-2: the packet type identifier, which is the third octet
@@ -55,7 +56,7 @@ type_of (call channel called calling facilities user) = 11
 type_of (accept channel facilities) = 15
 type_of (clear channel cause diagnostic) = 19
 type_of (clear_conf channel) = 23
-type_of (user_data channel q m ps pr user) = 2 * ps + 16 * bit m + 32 * pr
+type_of (user_data channel marks m ps pr user) = 2 * ps + 16 * bit m + 32 * pr
 type_of (rr channel pr) = 1 + 32 * pr
 type_of (rnr channel pr) = 5 + 32 * pr
 type_of (interrupt channel user) = 35
@@ -84,7 +85,7 @@ abbrev pub body_of : PlainPacket → List ℕ
 body_of (call channel called calling facilities user) = call_body called calling facilities user
 body_of (accept channel facilities) = accept_body facilities
 body_of (clear channel cause diagnostic) = cause ∷ diagnostic ∷ []
-body_of (user_data channel q m ps pr user) = user
+body_of (user_data channel marks m ps pr user) = user
 body_of (interrupt channel user) = user
 body_of (reset channel cause diagnostic) = cause ∷ diagnostic ∷ []
 body_of (restart cause diagnostic) = cause ∷ diagnostic ∷ []
@@ -114,7 +115,7 @@ IsInRange most (call channel called calling facilities user) = IsChannel channel
 IsInRange most (accept channel facilities) = IsChannel channel × IsFacilityField facilities
 IsInRange most (clear channel cause diagnostic) = IsChannel channel
 IsInRange most (clear_conf channel) = IsChannel channel
-IsInRange most (user_data channel q m ps pr user) = IsChannel channel × (ps < 8) × (pr < 8) × (length user ≤ 4096)
+IsInRange most (user_data channel marks m ps pr user) = IsChannel channel × (ps < 8) × (pr < 8) × (length user ≤ 4096)
 IsInRange most (rr channel pr) = IsChannel channel × (pr < 8)
 IsInRange most (rnr channel pr) = IsChannel channel × (pr < 8)
 IsInRange most (interrupt channel user) = IsChannel channel × (1 ≤ length user) × (length user ≤ 32)
@@ -124,7 +125,13 @@ IsInRange most (reset_conf channel) = IsChannel channel
 IsInRange most (restart cause diagnostic) = Unit {0}
 IsInRange most restart_conf = Unit {0}
 
--- the octets spell the packet
+-- no confirmation is asked
+abbrev pub IsWithoutD : PlainPacket → Type 0
+IsWithoutD (user_data channel marks m ps pr user) = marks.d ≡ false
+IsWithoutD _ = Unit {0}
+
+-- the octets spell the packet, which has no D (profile)
 pub record Spells (most : ℕ) (v : PlainPacket) (octets : List ℕ) : Type 0 where
   pub in_range : IsInRange most v
+  pub without_d : IsWithoutD v
   pub spelling : octets ≡ spelling_of v

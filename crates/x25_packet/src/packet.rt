@@ -2,12 +2,13 @@ ghost use Rattle.std.specs.Prelude.{◌≡◌, ℕ};
 
 use crate::digits::Digits;
 use crate::facilities::FacilityField;
+use crate::marks::Marks;
 use x25_bits::Seq;
 
 /// A packet, ITU-T X.25 (10/96), sections 5.2 to 5.5. User data is borrowed.
 ///
-/// `channel` is the logical channel, group and number together: 1 to 4,095. `ps` is P(S), `pr` is P(R), `m` the more
-/// data mark and `q` the qualifier. `Facilities::of` reads the octets of `facilities`.
+/// `channel` is the logical channel, group and number together: 1 to 4,095. `ps` is P(S), `pr` is P(R), and `m` the
+/// more data mark. `Facilities::of` reads the octets of `facilities`.
 #[derive(Debug, Drop)]
 pub enum Packet<'a> {
     Call {
@@ -31,7 +32,7 @@ pub enum Packet<'a> {
     },
     Data {
         channel: u16,
-        q: bool,
+        marks: Marks,
         m: bool,
         ps: Seq,
         pr: Seq,
@@ -107,7 +108,7 @@ impl<'a> Packet<'a> {
             },
             Packet::ClearConf { .. } => Packet::ClearConf { channel },
             Packet::Data {
-                q,
+                marks,
                 m,
                 ps,
                 pr,
@@ -115,7 +116,7 @@ impl<'a> Packet<'a> {
                 ..
             } => Packet::Data {
                 channel,
-                q,
+                marks,
                 m,
                 ps,
                 pr,

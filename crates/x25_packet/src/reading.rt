@@ -9,6 +9,7 @@ ghost use Rattle.x25_packet.specs.Spelling.{Spells, longest_user};
 use crate::call::{accept, call};
 use crate::codes;
 use crate::error::PacketError;
+use crate::marks::Marks;
 use crate::packet::Packet;
 use x25_bits::Seq;
 
@@ -68,7 +69,7 @@ fn data<'a>(channel: u16, q: bool, kind: u8, body: &'a [u8]) -> Result<Packet<'a
     }
     Ok(Packet::Data {
         channel,
-        q,
+        marks: Marks::with_q(q),
         m: kind / 16 % 2 == 1,
         ps: Seq::modulo(kind / 2),
         pr: Seq::modulo(kind / 32),

@@ -6,7 +6,8 @@ ghost use Rattle.x25_packet.specs.Digits.{IsAddress, packed};
 ghost use Rattle.x25_packet.specs.Packet.{plain};
 ghost use Rattle.x25_packet.specs.Reading.{packet_of};
 ghost use Rattle.x25_bits.specs.Bits.{bit};
-ghost use Rattle.x25_packet.specs.Spelling.{IsInRange, accept_body, body_of, call_body, channel_of, format_of};
+ghost use Rattle.x25_packet.specs.Spelling.{IsInRange, IsWithoutD, accept_body, body_of, call_body, channel_of};
+ghost use Rattle.x25_packet.specs.Spelling.{format_of};
 ghost use Rattle.x25_packet.specs.Spelling.{spelling_of, type_of};
 
 use crate::codes;
@@ -35,10 +36,14 @@ fn channel(packet: &Packet) -> u16
 
 fn format(packet: &Packet) -> u8
     ensures value { result ≡ format_of (plain packet.now) }
-    ensures half { result ≤ 9 }
+    ensures half { result ≤ 13 }
 {
     match packet {
-        Packet::Data { q: true, .. } => 9,
+        Packet::Data { marks, .. } => {
+            let confirmation = if marks.d { 4 } else { 0 };
+            let qualifier = if marks.q { 8 } else { 0 };
+            1 + confirmation + qualifier
+        }
         _ => 1,
     }
 }
@@ -243,7 +248,7 @@ pub fn encode(packet: &Packet, octets: &mut Vec<u8>) -> Result<(), NoMemory>
     requires { IsInRange 128 (plain packet.now) }
     ensures ok { OnOk result (octets.new.items ≡ octets.old.items ++ spelling_of (plain packet.now)) }
     // What is appended reads as the packet, wherever a CALL may have that many octets of user data.
-    ensures again { (most : ℕ) → IsInRange most (plain packet.now)
+    ensures again { (most : ℕ) → IsInRange most (plain packet.now) → IsWithoutD (plain packet.now)
         → OnOk result (packet_of most (drop (length octets.old.items) octets.new.items) ≡ Ok (plain packet.now)) }
     ensures err { OnErr result (VecUnchanged octets.old octets.new) }
     ensures room { vec_len octets.old + length (spelling_of (plain packet.now)) ≤ vec_capacity octets.old

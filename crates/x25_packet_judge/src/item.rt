@@ -106,14 +106,14 @@ pub(crate) fn item_of(packet: &Packet) -> Item
         Packet::Clear { .. } => Item::Clear,
         Packet::ClearConf { .. } => Item::ClearConf,
         Packet::Data {
-            q,
+            marks,
             m,
             ps,
             pr,
             user,
             ..
         } => Item::Data {
-            q: *q,
+            q: marks.q,
             m: *m,
             ps: ps.get(),
             pr: pr.get(),

@@ -10,6 +10,7 @@ use Rattle.x25_packet.specs.Packet.{PlainPacket, call, accept, clear, clear_conf
 use Rattle.x25_packet.specs.Reading.{channel_in}
 use Rattle.x25_packet.specs.Spelling.{channel_of}
 use Rattle.x25_link.specs.declared.phase.Phase.TheVariants.{Up}
+use Rattle.x25_packet.specs.declared.marks.Marks.{Marks}
 use Rattle.x25_circuit.specs.declared.awaits.Awaits.{Awaits}
 use Rattle.x25_circuit.specs.declared.awaits.Awaits.TheVariants.{Nothing, Acceptance, ResetConfirmation, ClearConfirmation}
 use Rattle.x25_circuit.specs.declared.params.Params.{Params}
@@ -202,7 +203,7 @@ module _ (c : CircuitSettings) (x : Circuit) (said : List Said) where
   cleared cause diagnostic is in_reset = given Resetting (may_clear_for c.role cause) _ (inr (omega arith, inl (refl, is)))
   cleared cause diagnostic is in_clear = tt
 
-  no_message : (q : Bool) (user : List ℕ) (k : Kind) → OutcomeNext (state_of k) said (send_in c x (state_of k) q user)
+  no_message : (q : Marks) (user : List ℕ) (k : Kind) → OutcomeNext (state_of k) said (send_in c x (state_of k) q user)
   no_message q user in_call = tt
   no_message q user in_collision = tt
   no_message q user in_reset = tt

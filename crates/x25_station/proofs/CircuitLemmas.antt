@@ -10,6 +10,8 @@ use Rattle.x25_bits.specs.declared.role.Role.TheVariants.{Dte, Dce}
 use Rattle.x25_packet.specs.Digits.{is_digit, is_figure, digits_of_text, IsAddress}
 use Rattle.x25_packet.specs.Packet.{PlainPacket, call, accept, clear, clear_conf, user_data, rr, rnr, interrupt, interrupt_conf, reset, reset_conf, restart, restart_conf}
 use Rattle.x25_packet.specs.Spelling.{HasChannel, longest_user}
+use Rattle.x25_packet.specs.declared.marks.Marks.{Marks}
+use Rattle.x25_packet.specs.Marks.{with_q}
 use Rattle.x25_circuit.specs.declared.state.State.{State}
 use Rattle.x25_circuit.specs.declared.state.State.TheVariants.{Free, Calling, Arriving, Collision, Open, Resetting, Clearing}
 use Rattle.x25_circuit.specs.declared.error.CircuitError.TheVariants as error
@@ -54,11 +56,11 @@ module _ (long_data : Bool) where
   cut_append [] b f g = g
   cut_append (p ∷ a) b f g = (f.0, cut_append a b f.1 g)
 
-  cut_from_fits : (size n : ℕ) (q : Bool) (user : List ℕ) → 1 ≤ size → size ≤ 4096 → length user ≤ n → AreOctets user → AreCut (cut_from n size q user)
+  cut_from_fits : (size n : ℕ) (q : Marks) (user : List ℕ) → 1 ≤ size → size ≤ 4096 → length user ≤ n → AreOctets user → AreCut (cut_from n size q user)
   cut_from_fits size zero q user least most short octets = ((omega (arith, short), octets), tt)
   cut_from_fits size (suc n) q user least most short octets = test (λ low. cut_from_fits size n q (drop size user) least most low (All-drop (λ (o : ℕ). o < 256) size user octets)) (nat_le (length user) size) refl
     where
-      test : (length (drop size user) ≤ n → AreCut (cut_from n size q (drop size user))) → (b : Bool) → nat_le (length user) size ≡ b → AreCut (if b then Last q user ∷ [] else More q (take size user) ∷ cut_from n size q (drop size user))
+      test : (length (drop size user) ≤ n → AreCut (cut_from n size q (drop size user))) → (b : Bool) → nat_le (length user) size ≡ b → AreCut (if b then Last q user ∷ [] else More (with_q q.q) (take size user) ∷ cut_from n size q (drop size user))
       test rest true is =
           let high : length user ≤ size = leb-true _ _ is in
           ((omega (arith, high, most), octets), tt)
@@ -332,7 +334,7 @@ module _ (long_data : Bool) where
       test true = both.1
       test false = both.0
 
-  send_in_fits : Agreed → (c : Settings) (x : Circuit) (s : State) (q : Bool) (user : List ℕ) → CircuitFits x → AreOctets user → OutcomeFits (send_in c x s q user)
+  send_in_fits : Agreed → (c : Settings) (x : Circuit) (s : State) (q : Marks) (user : List ℕ) → CircuitFits x → AreOctets user → OutcomeFits (send_in c x s q user)
   send_in_fits laws c x Open q user f octets =
       outcome_if (nat_le (length user) 65535) _ (Refused error.TooLong) (λ _. outcome_if (nat_lt (waits x) 8) _ (Refused error.Full) (λ _. ((cut_append x.talk.rest (cut (outgoing x).size q user) f.0 cut_fits, f.1), tt)) tt) tt
     where

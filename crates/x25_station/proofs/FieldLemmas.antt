@@ -180,7 +180,7 @@ format_low (call h called calling facilities user) = omega arith
 format_low (accept h facilities) = omega arith
 format_low (clear h cause diagnostic) = omega arith
 format_low (clear_conf h) = omega arith
-format_low (user_data h q m ps pr user) = let b : bit q ≤ 1 = bit_low q in omega (arith, b)
+format_low (user_data h q m ps pr user) = let b : bit q.q ≤ 1 = bit_low q.q in let d : bit q.d ≤ 1 = bit_low q.d in omega (arith, b, d)
 format_low (rr h pr) = omega arith
 format_low (rnr h pr) = omega arith
 format_low (interrupt h user) = omega arith

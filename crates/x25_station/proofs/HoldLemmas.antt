@@ -3,6 +3,8 @@ use Rattle.std.proofs.Common.{◌≡◌, ℕ, zero, suc, ◌+◌, ◌<◌, ◌�
 use Rattle.std.specs.List.{slice_get}
 use Rattle.std.proofs.lemmas.Bool.{and_parts, leb-true}
 use Rattle.std.proofs.lemmas.List.{length-append}
+use Rattle.x25_packet.specs.declared.marks.Marks.{Marks}
+use Rattle.x25_packet.specs.Marks.{with_q}
 use Rattle.x25_circuit.specs.declared.circuit.Circuit as circuit_code
 use Rattle.x25_circuit.specs.declared.message.Message.{Message}
 use Rattle.x25_circuit.specs.Message.{Piece, More, Last, cut_from, cut_all, wholes, Partial, no_part, joining}
@@ -21,11 +23,11 @@ wholes_append [] b = omega arith
 wholes_append (p ∷ a) b = let e : wholes (a ++ b) ≡ wholes a + wholes b = wholes_append a b in omega (arith, e)
 
 -- a message ends once
-cut_whole : (n size : ℕ) (q : Bool) (user : List ℕ) → wholes (cut_from n size q user) ≡ 1
+cut_whole : (n size : ℕ) (q : Marks) (user : List ℕ) → wholes (cut_from n size q user) ≡ 1
 cut_whole zero size q user = refl
 cut_whole (suc n) size q user = test (nat_le (length user) size) (cut_whole n size q (drop size user))
   where
-    test : (b : Bool) → wholes (cut_from n size q (drop size user)) ≡ 1 → wholes (if b then Last q user ∷ [] else More q (take size user) ∷ cut_from n size q (drop size user)) ≡ 1
+    test : (b : Bool) → wholes (cut_from n size q (drop size user)) ≡ 1 → wholes (if b then Last q user ∷ [] else More (with_q q.q) (take size user) ∷ cut_from n size q (drop size user)) ≡ 1
     test true rest = refl
     test false rest = omega (arith, rest)
 

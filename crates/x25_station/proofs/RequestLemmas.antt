@@ -1,6 +1,7 @@
 -- A call that puts a packet at once is refused where 256 packets wait.
 use Rattle.std.proofs.Common.{◌≡◌, ℕ, List, ◌++◌, Option, Some, None, Bool, true, false, nat_lt, nat_le, if◌then◌else◌, length, refl, subst}
 use Rattle.x25_packet.specs.Packet.{PlainPacket}
+use Rattle.x25_packet.specs.declared.marks.Marks.{Marks}
 use Rattle.x25_circuit.specs.declared.state.State.{State}
 use Rattle.x25_circuit.specs.declared.state.State.TheVariants.{Free, Calling, Arriving, Collision, Open, Resetting, Clearing}
 use Rattle.x25_circuit.specs.Circuit.{Settings, Talk, Circuit, outgoing, waits}
@@ -31,13 +32,13 @@ by_if : (b : Bool) (u v : Outcome) → GivesNone u → GivesNone v → GivesNone
 by_if true u v p q = p
 by_if false u v p q = q
 
-send_open_none : (c : Settings) (x : Circuit) (q : Bool) (user : List ℕ) → GivesNone (send_open c x x.talk q user)
+send_open_none : (c : Settings) (x : Circuit) (q : Marks) (user : List ℕ) → GivesNone (send_open c x x.talk q user)
 send_open_none c x q user = by_if (nat_le (length user) 65535) _ (Refused circuit.TooLong) (by_if (nat_lt (waits x) 8) (keeps_on x (sending c x q user) None) (Refused circuit.Full) tt tt) tt
   where
     sending : Settings → Circuit → Bool → List ℕ → Talk
     sending c x q user = record { sent = x.talk.sent; taken = x.talk.taken; acked = x.talk.acked; rest = x.talk.rest ++ cut (outgoing x).size q user; int_out = x.talk.int_out; peer_ready = x.talk.peer_ready; own_ready = x.talk.own_ready }
 
-send_none : (c : Settings) (x : Circuit) (q : Bool) (user : List ℕ) → GivesNone (outcome c x (Sends q user))
+send_none : (c : Settings) (x : Circuit) (q : Marks) (user : List ℕ) → GivesNone (outcome c x (Sends q user))
 send_none c x q user = at x.state
   where
     at : (s : State) → GivesNone (send_in c x s q user)

@@ -2,6 +2,7 @@
 use Rattle.std.proofs.Common.{◌≡◌, ◌∙◌, ℕ, ◌-◌, ◌≤◌, ◌==◌, Bool, true, false, not, List, [], length, Option, nat_lt, if◌then◌else◌, refl, sym, ap, arith, le-leb}
 use Rattle.std.proofs.lemmas.Bool.Decides.{nat_tests}
 use Rattle.x25_packet.specs.Packet.{PlainPacket}
+use Rattle.x25_packet.specs.declared.marks.Marks.{Marks}
 use Rattle.x25_circuit.specs.declared.error.CircuitError.TheVariants as circuit_error
 use Rattle.x25_circuit.specs.declared.state.State.{State}
 use Rattle.x25_circuit.specs.declared.state.State.TheVariants.{Free, Calling, Arriving, Collision, Open, Resetting, Clearing}
@@ -35,7 +36,7 @@ on_circuit : (restarts : ℕ) (circuits : ℕ → Circuit) (h : ℕ) (o : Circui
 on_circuit restarts circuits h (Done next packet) = refl
 on_circuit restarts circuits h (CircuitRefuses e) = refl
 
-in_layer : (c : LayerSettings) (is_full restarting : Bool) (restarts : ℕ) (circuits : ℕ → Circuit) (h : ℕ) (q : Bool) (user : List ℕ)
+in_layer : (c : LayerSettings) (is_full restarting : Bool) (restarts : ℕ) (circuits : ℕ → Circuit) (h : ℕ) (q : Marks) (user : List ℕ)
     → declines (outcome_in c is_full restarting restarts circuits (Asks h (Sends q user)))
     ≡ (if restarting then true else if is_channel c.channels h then fails (outcome c.circuit (circuits h) (Sends q user)) else true)
 in_layer c is_full true restarts circuits h q user = refl
@@ -67,7 +68,7 @@ by_circuit w next packet true true short is = is
 by_circuit w next packet true false short is = is
 by_circuit w next packet false has_room short is = absurd (cc)
 
-in_circuit : (c : CircuitSettings) (x : Circuit) (q : Bool) (user : List ℕ) → length user ≤ 65535 → (message_room x == 0) ≡ fails (outcome c x (Sends q user))
+in_circuit : (c : CircuitSettings) (x : Circuit) (q : Marks) (user : List ℕ) → length user ≤ 65535 → (message_room x == 0) ≡ fails (outcome c x (Sends q user))
 in_circuit c x q user short = at x.state
   where
     at : (state : State) → ((if is_open_in state then 8 - waits x else 0) == 0) ≡ fails (send_in c x state q user)
@@ -86,7 +87,7 @@ no_room true true configured n is e = refl
 no_room true false false n is e = refl
 no_room true false true n is e = e
 
-pub room_is_what_is_taken : (c : Settings) (s : Station) (h : ℕ) (q : Bool) (user : List ℕ) → length user ≤ 65535 → (room c s h == 0) ≡ is_refused (requests c s (Asks h (Sends q user)))
+pub room_is_what_is_taken : (c : Settings) (s : Station) (h : ℕ) (q : Marks) (user : List ℕ) → length user ≤ 65535 → (room c s h == 0) ≡ is_refused (requests c s (Asks h (Sends q user)))
 room_is_what_is_taken c s h q user short =
     let lc = layer_settings c in
     let up = is_up s.link.phase in

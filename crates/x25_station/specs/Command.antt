@@ -41,7 +41,8 @@ command_of (code.Call called calling user params) =
 command_of (code.Accept channel params) = Requests (Asks channel (Accepts (answer_in_brief params)))
 command_of (code.Clear channel cause diagnostic) = Requests (Asks channel (Clears cause diagnostic))
 command_of (code.With given call) = RequestsWith (plain_given given) (request_of call)
-command_of (code.Send channel q user) = Requests (Asks channel (Sends q user.now))
+command_of (code.Send channel q d user) =
+    Requests (Asks channel (Sends (record { q = q; d = d }) user.now))
 command_of (code.Interrupt channel user) = Requests (Asks channel (Interrupts user.now))
 command_of (code.Reset channel cause diagnostic) = Requests (Asks channel (Resets cause diagnostic))
 command_of (code.Ready channel) = Requests (Asks channel SaysReady)

@@ -1,10 +1,11 @@
 -- The entries of the transcript of a station (profile): what its user asked, what the link noted, and what the packet
 -- layer told.
-use Rattle.std.specs.Prelude.{ℕ, Bool, true, false, if◌then◌else◌, List, [], ◌∷◌, ◌++◌, Option, Some, None}
+use Rattle.std.specs.Prelude.{ℕ, zero, suc, Bool, true, false, if◌then◌else◌, List, [], ◌∷◌, ◌++◌, Option, Some, None}
 use Rattle.x25_station.specs.Beside.{PlainBeside, nothing, fields, diagnosed}
 use Rattle.x25_circuit.specs.Notice.{PlainNotice, incoming, connected, cleared, clear_done}
 use Rattle.x25_link.specs.declared.phase.Reason.{Reason}
 use Rattle.x25_link.specs.declared.phase.Notes.{Notes}
+use Rattle.x25_handshakes.specs.laws.Names.{Name}
 use Rattle.x25_layer.specs.Layer.{LayerSettings, Layer, LayerNotice, on_channel, restarted, restart_done, layer_fault}
 use Rattle.x25_layer.specs.Calls.{LayerRequest, Asks, Dials, Restarts, PullsAll}
 use Rattle.x25_layer.specs.laws.Transcript.{Entry, Said, Asked, Told, name_of}
@@ -27,6 +28,8 @@ pub data StationEntry : Type 0 where
   came_beside : (channel : ℕ) → (facilities : List ℕ) → (user : List ℕ) → StationEntry
   -- a DIAGNOSTIC of the other end
   was_diagnosed : (diagnostic : ℕ) → StationEntry
+  -- so many messages more of this stretch are confirmed, of those whose confirmation was asked
+  was_confirmed : (channel : ℕ) → (name : Name) → (count : ℕ) → StationEntry
 
 -- ---- what the link notes: that it went down, and then that it went up
 
@@ -74,6 +77,11 @@ entries_beside nothing channel = []
 entries_beside (fields facilities user) None = []
 entries_beside (fields facilities user) (Some h) = came_beside h facilities user ∷ []
 entries_beside (diagnosed diagnostic) channel = was_diagnosed diagnostic ∷ []
+
+-- A packet that confirms brings nothing beside: that it does is told in the place of that.
+abbrev pub entries_behind : Layer → ℕ → ℕ → List StationEntry → List StationEntry
+entries_behind next h zero beside = beside
+entries_behind next h (suc count) beside = was_confirmed h (name_of next h) (suc count) ∷ []
 
 -- ---- what was asked of the layer, and accepted, by the layer before and after it; pulls have no entry
 

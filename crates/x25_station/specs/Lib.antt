@@ -2,6 +2,7 @@ pub mod Error
 pub mod Config
 pub mod Command
 pub mod Beside
+pub mod Confirming
 pub mod Entry
 pub mod Station
 pub mod Giving

@@ -23,9 +23,11 @@ use Rattle.x25_station.specs.declared.error.StationError.TheVariants as error
 use Rattle.x25_station.specs.Config.{Settings, link_settings, layer_settings}
 use Rattle.x25_station.specs.Command.{Command, Requests, RequestsWith, Connects, Disconnects, Probes, Relinks, said_by}
 use Rattle.x25_station.specs.Entry.{StationEntry, connect_asked, disconnect_asked, relink_asked, entries_noted}
-use Rattle.x25_station.specs.Entry.{station_told, station_asked, bringing, entries_beside}
+use Rattle.x25_station.specs.Entry.{station_told, station_asked, bringing, entries_beside, entries_behind}
+use Rattle.x25_station.specs.Confirming.{confirmed}
+use Rattle.x25_layer.specs.Room.{named_by}
 use Rattle.x25_given.specs.Given.{PlainGiven}
-use Rattle.x25_station.specs.Giving.{is_taken, all_given, view_given, not_taken}
+use Rattle.x25_station.specs.Giving.{is_taken, all_given, view_given, may_ask, not_taken}
 use Rattle.x25_station.specs.Station.{Station, all_put, view_of}
 
 -- the station after a step, the frames to send, in order, and the entries of the transcript
@@ -70,10 +72,17 @@ layer_answer c wide l octets = answer_to c l octets (read_in wide (longest_user 
 abbrev pub entries_of_answer : LayerAnswer → List StationEntry
 entries_of_answer a = station_told a.next a.notices
 
--- what it tells of a packet, and what that brought beside
+-- how many messages a packet confirms on the channel that it names, where packets are read in all their forms
+abbrev pub confirmed_by : LayerSettings → Bool → Layer → Layer → ℕ → ℕ
+confirmed_by c false l next h = 0
+confirmed_by c true l next h = confirmed c l next h
+
+-- what it tells of a packet, and what that confirmed or brought beside
 abbrev pub entries_of_packet : LayerSettings → Bool → Layer → List ℕ → List StationEntry
-entries_of_packet c wide l octets = entries_of_answer (layer_answer c wide l octets)
-    ++ entries_beside (beside_in wide octets) (bringing (layer_answer c wide l octets).notices)
+entries_of_packet c wide l octets =
+    let a = layer_answer c wide l octets in
+    entries_of_answer a ++ entries_behind a.next (named_by octets) (confirmed_by c wide l a.next (named_by octets))
+    (entries_beside (beside_in wide octets) (bringing a.notices))
 
 abbrev pub entries_heard : LayerSettings → Bool → Layer → Option (List ℕ) → Option Reason → Bool → List StationEntry
 entries_heard c wide l packet down true = []
@@ -179,8 +188,15 @@ gives c s g request = gives_of c s.link g (is_taken c g request) s request
 abbrev pub gives_said : Settings → Station → PlainGiven → LayerRequest → Outcome
 gives_said c s g request = gives c s g (said_by c.say_sizes s.layer request)
 
+-- what may be asked; confirmation, where packets are read in all their forms
+abbrev pub where_asked : Bool → Outcome → Outcome
+where_asked true outcome = outcome
+where_asked false (Did step) = Refused not_taken
+where_asked false (Refused e) = Refused e
+
 abbrev pub commands : Settings → Station → Command → Outcome
-commands c s (Requests request) = requests c s (said_by c.say_sizes s.layer request)
+commands c s (Requests request) =
+    where_asked (may_ask c.wide request) (requests c s (said_by c.say_sizes s.layer request))
 commands c s (RequestsWith given request) = gives_said c s given request
 commands c s Connects = connects_asked c s
 commands c s Disconnects = disconnects c s

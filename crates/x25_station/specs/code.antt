@@ -5,3 +5,4 @@ pub mod FitsParts
 pub mod FitsStation
 pub mod Clock
 pub mod Pulls
+pub mod Confirming

@@ -32,6 +32,7 @@ use x25_bits::Pool;
 use x25_circuit::{Proposal, Request};
 use x25_layer::{Layer, Params};
 use x25_link::holds_few;
+use x25_packet::Marks;
 
 /// The most octets of a message whose memory serves the entry of another.
 const LONGEST_KEPT: usize = 4096;
@@ -239,7 +240,10 @@ impl Station {
             ),
             Cmd::Send { channel, q, user } => self.ask(
                 *channel,
-                Request::Send { q: *q, user },
+                Request::Send {
+                    q: Marks::with_q(*q),
+                    user,
+                },
                 out,
             ),
             Cmd::Interrupt { channel, user } => self.ask(

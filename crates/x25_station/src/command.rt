@@ -32,10 +32,12 @@ pub enum Cmd<'a> {
         given: Given<'a>,
         call: CallCmd<'a>,
     },
-    /// Sends a message of at most 65,535 octets, with the qualifier `q`.
+    /// Sends a message of at most 65,535 octets, with the qualifier `q`. With `d`, where `Cfg::wide` is set,
+    /// confirmation of its delivery is asked by its last packet.
     Send {
         channel: u16,
         q: bool,
+        d: bool,
         user: &'a [u8],
     },
     /// Sends an interrupt of 1 to 32 octets.

@@ -1,6 +1,7 @@
 use x25_circuit::Message;
 use x25_layer::{Params, Stretch};
 use x25_link::Reason;
+use x25_packet::Marks;
 
 /// An entry of the transcript of a station (profile): what its user asked, what the link noted, or what the packet
 /// layer reported. It owns what it says.
@@ -46,6 +47,12 @@ pub enum Entry {
         facilities: Vec<u8>,
         user: Vec<u8>,
     },
+    /// So many messages more of this stretch are confirmed, of those whose confirmation was asked.
+    Confirmed {
+        channel: u16,
+        name: Stretch,
+        count: u8,
+    },
     /// A DIAGNOSTIC came.
     Diagnosed {
         diagnostic: u8,
@@ -81,9 +88,9 @@ pub enum Asked {
         cause: u8,
         diagnostic: u8,
     },
-    /// That a message be sent: its qualifier, and at most 65,535 octets.
+    /// That a message be sent: its qualifier, whether confirmation of its delivery is asked, and at most 65,535 octets.
     Send {
-        q: bool,
+        q: Marks,
         user: Vec<u8>,
     },
     /// That an interrupt of 1 to 32 octets be sent.

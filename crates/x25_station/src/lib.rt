@@ -5,6 +5,7 @@ mod asking;
 mod beside;
 mod command;
 mod config;
+mod confirming;
 mod entering;
 mod entry;
 mod error;

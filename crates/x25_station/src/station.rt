@@ -35,6 +35,7 @@ impl Station {
     ghost use Rattle.x25_station.specs.Station.Told.{awaits_answers, is_idle, is_at_rest, is_refused, room, stretch};
     ghost use Rattle.x25_station.specs.Step.{requests};
     ghost use Rattle.x25_layer.specs.Calls.{Asks};
+    ghost use Rattle.x25_packet.specs.declared.marks.Marks.{Marks};
     ghost use Rattle.x25_circuit.specs.Calling.{Sends};
     ghost use Rattle.x25_layer.specs.code.FitsLayer.{KeepsOn, plain_stretch, awaited_at};
     ghost use Rattle.x25_layer.specs.Layer.InPart.{joined_at};
@@ -154,7 +155,7 @@ impl Station {
     /// A message of at most 65,535 octets is refused, but for want of memory, exactly where it is 0.
     pub fn room(&self, channel: u16) -> usize
         ensures value { (c : Settings) (s : State) → FitsStation c self.now s → result ≡ room c s channel }
-        ensures takes { (c : Settings) (s : State) (q : Bool) (user : List ℕ) → FitsStation c self.now s
+        ensures takes { (c : Settings) (s : State) (q : Marks) (user : List ℕ) → FitsStation c self.now s
             → length user ≤ 65535 → (result == 0) ≡ is_refused (requests c s (Asks channel (Sends q user))) }
         ensures few { result ≤ 8 }
     {

@@ -4,6 +4,7 @@ use crate::calls::{connect, reuse, station};
 use crate::steps::SETTINGS;
 use std::alloc::Global;
 use x25_layer::Stretch;
+use x25_packet::Marks;
 use x25_station::{Asked, Entry, Role, Said, Station, Step};
 
 /// SABM with P=1 of the DTE.
@@ -48,7 +49,10 @@ fn sent(alloc: Global, channel: u16) -> Option<Entry> {
     Some(Entry::OnChannel {
         channel,
         name: STRETCH,
-        said: Said::Asked(Asked::Send { q: false, user }),
+        said: Said::Asked(Asked::Send {
+            q: Marks::with_q(false),
+            user,
+        }),
     })
 }
 

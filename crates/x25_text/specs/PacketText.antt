@@ -30,6 +30,11 @@ numbers_text ps pr = codes " S=" ++ decimal ps ++ codes " R=" ++ decimal pr
 abbrev pub marks_text : Bool → Bool → List ℕ
 marks_text m q = codes " M=" ++ decimal (bit m) ++ codes " Q=" ++ decimal (bit q)
 
+-- D, where it is set
+abbrev pub confirmation_text : Bool → List ℕ
+confirmation_text true = codes " D=1"
+confirmation_text false = []
+
 abbrev pub packet_text : PlainPacket → List ℕ
 packet_text (call channel called calling facilities user) = codes "CALL ch=" ++ decimal channel
     ++ addresses_text called calling ++ fields_text facilities user
@@ -37,8 +42,8 @@ packet_text (accept channel facilities) = codes "ACCEPT ch=" ++ decimal channel
     ++ (codes " fac=" ++ octets_text facilities)
 packet_text (clear channel cause diagnostic) = codes "CLEAR ch=" ++ decimal channel ++ reason_text cause diagnostic
 packet_text (clear_conf channel) = codes "CLEARCONF ch=" ++ decimal channel
-packet_text (user_data channel q m ps pr user) = codes "DATA ch=" ++ decimal channel ++ numbers_text ps pr
-    ++ marks_text m q ++ (codes " data=" ++ octets_text user)
+packet_text (user_data channel marks m ps pr user) = codes "DATA ch=" ++ decimal channel ++ numbers_text ps pr
+    ++ marks_text m marks.q ++ confirmation_text marks.d ++ (codes " data=" ++ octets_text user)
 packet_text (rr channel pr) = codes "RR ch=" ++ decimal channel ++ (codes " R=" ++ decimal pr)
 packet_text (rnr channel pr) = codes "RNR ch=" ++ decimal channel ++ (codes " R=" ++ decimal pr)
 packet_text (interrupt channel user) = codes "INT ch=" ++ decimal channel ++ (codes " data=" ++ octets_text user)

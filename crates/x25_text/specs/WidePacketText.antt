@@ -12,7 +12,8 @@ use Rattle.x25_wide.specs.Packet.{PlainKind, PlainWide, call, accept, clear, ext
 use Rattle.x25_wide.specs.Packet.{rnr, rej, interrupt, interrupt_conf, reset, reset_conf, restart, restart_conf}
 use Rattle.x25_wide.specs.Packet.{diagnostic, registration, registration_conf}
 use Rattle.x25_wide.specs.Reading.{wide_of}
-use Rattle.x25_text.specs.PacketText.{reason_text, addresses_text, fields_text, numbers_text, marks_text, packet_text}
+use Rattle.x25_text.specs.PacketText.{reason_text, addresses_text, fields_text, numbers_text, marks_text}
+use Rattle.x25_text.specs.PacketText.{confirmation_text, packet_text}
 use Rattle.x25_text.specs.PacketText.{packet_fault_text}
 use Rattle.x25_text.specs.Text.{octets_text}
 
@@ -20,11 +21,6 @@ use Rattle.x25_text.specs.Text.{octets_text}
 abbrev pub format_text : Bool → List ℕ
 format_text true = codes " A=1"
 format_text false = []
-
--- D, where it is set
-abbrev pub confirmation_text : Bool → List ℕ
-confirmation_text true = codes " D=1"
-confirmation_text false = []
 
 abbrev pub wide_fields_text : Option PlainFields → List ℕ
 wide_fields_text None = []

@@ -4,11 +4,12 @@ ghost use Rattle.x25_packet.specs.Packet.{plain};
 ghost use Rattle.x25_packet.specs.Spelling.{IsInRange};
 ghost use Rattle.x25_text.specs.Text.{octets_text};
 ghost use Rattle.x25_text.specs.PacketText.{addresses_text, digits_text, fields_text, information_text, marks_text};
+ghost use Rattle.x25_text.specs.PacketText.{confirmation_text};
 ghost use Rattle.x25_text.specs.PacketText.{numbers_text, packet_fault_text, packet_text, reason_text};
 
 use crate::text::{MOST_OCTETS, ROOM, Text, bit_digit, seq_digit};
 use x25_frame::Seq;
-use x25_packet::{Digits, Packet, PacketError, decode_within, longest_user};
+use x25_packet::{Digits, Marks, Packet, PacketError, decode_within, longest_user};
 
 /// The most characters of a packet or of its error on one line.
 pub const MOST_PACKET_TEXT: usize = 8_260;
@@ -80,17 +81,22 @@ pub(crate) fn push_fields(facilities: &[u8], user: &[u8], text: &mut Text)
 }
 
 /// Appends the numbers and marks of a DATA packet, and the label of its user data.
-fn push_marks(ps: Seq, pr: Seq, m: bool, q: bool, text: &mut Text)
-    requires room { length text.old + 22 ≤ ROOM }
-    ensures text { text.new ≡ text.old ++ (numbers_text ps.number pr.number ++ marks_text m q ++ codes " data=") }
-    ensures size { length text.new ≡ length text.old + 22 }
+fn push_marks(ps: Seq, pr: Seq, m: bool, marks: Marks, text: &mut Text)
+    requires room { length text.old + 26 ≤ ROOM }
+    ensures text { text.new ≡ text.old ++ (numbers_text ps.number pr.number ++ marks_text m marks.q
+        ++ confirmation_text marks.d ++ codes " data=") }
+    ensures size { length text.new ≤ length text.old + 26 }
 {
-    let mut characters = *b" S=_ R=_ M=_ Q=_ data=";
+    let mut characters = *b" S=_ R=_ M=_ Q=_";
     characters[3] = seq_digit(ps);
     characters[7] = seq_digit(pr);
     characters[11] = bit_digit(m);
-    characters[15] = bit_digit(q);
+    characters[15] = bit_digit(marks.q);
     text.push(&characters);
+    if marks.d {
+        text.push(b" D=1");
+    }
+    text.push(b" data=");
 }
 
 /// Appends a packet on one line. A CALL has at most 128 octets of user data.
@@ -130,14 +136,14 @@ pub fn push_packet(packet: &Packet, text: &mut Text)
         Packet::ClearConf { channel } => text.push_number(b"CLEARCONF ch=", *channel),
         Packet::Data {
             channel,
-            q,
+            marks,
             m,
             ps,
             pr,
             user,
         } => {
             text.push_number(b"DATA ch=", *channel);
-            push_marks(*ps, *pr, *m, *q, text);
+            push_marks(*ps, *pr, *m, *marks, text);
             text.push_octets(user);
         }
         Packet::Rr { channel, pr } => {

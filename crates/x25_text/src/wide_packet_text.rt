@@ -5,8 +5,8 @@ ghost use Rattle.x25_wide.specs.Block.{AreAddresses, IsBlock, MayBeBlock, MayBeF
 ghost use Rattle.x25_wide.specs.Block.{plain_block, plain_fields, plain_optional};
 ghost use Rattle.x25_wide.specs.Packet.{plain, plain_kind};
 ghost use Rattle.x25_wide.specs.Packet.Spelling.{IsKind};
-ghost use Rattle.x25_text.specs.PacketText.{marks_text, numbers_text};
-ghost use Rattle.x25_text.specs.WidePacketText.{block_text, confirmation_text, format_text, halves_text, kind_text};
+ghost use Rattle.x25_text.specs.PacketText.{confirmation_text, marks_text, numbers_text};
+ghost use Rattle.x25_text.specs.WidePacketText.{block_text, format_text, halves_text, kind_text};
 ghost use Rattle.x25_text.specs.WidePacketText.{optional_block_text, typed_addresses_text, typed_text};
 ghost use Rattle.x25_text.specs.WidePacketText.{wide_fields_text, wide_information_text, wide_packet_text};
 ghost use Rattle.x25_text.specs.WidePacketText.{wide_reason_text};

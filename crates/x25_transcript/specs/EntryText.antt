@@ -6,6 +6,7 @@ use Rattle.x25_bits.specs.declared.role.Role.TheVariants.{Dte, Dce}
 use Rattle.x25_packet.specs.Spelling.{bit}
 use Rattle.x25_link.specs.declared.phase.Reason.{Reason}
 use Rattle.x25_link.specs.declared.phase.Reason.TheVariants.{Retries, Disc, Dm, FrmrSent, FrmrGot, Reset, Local, Counts}
+use Rattle.x25_packet.specs.declared.marks.Marks.{Marks}
 use Rattle.x25_circuit.specs.declared.message.Message.{Message}
 use Rattle.x25_circuit.specs.declared.params.Params.{Params}
 use Rattle.x25_circuit.specs.Params.{default_params}
@@ -47,8 +48,12 @@ digits_text (digit ∷ digits) = flat_map decimal (digit ∷ digits)
 abbrev pub user_text : List ℕ → List ℕ
 user_text user = codes " data=" ++ octets_text user
 
+-- the qualifier, and whether confirmation is asked
+abbrev pub marks_text : Marks → List ℕ
+marks_text q = codes " q=" ++ decimal (bit q.q) ++ (if q.d then codes " d=1" else [])
+
 abbrev pub message_text : Message → List ℕ
-message_text message = (codes " q=" ++ decimal (bit message.q)) ++ user_text message.user
+message_text message = marks_text message.q ++ user_text message.user
 
 abbrev pub are_same : Params → Params → Bool
 are_same p q = p.size_called == q.size_called && (p.size_calling == q.size_calling
@@ -82,8 +87,7 @@ request_text channel name (Accepts None) = codes "accept" ++ channel_text channe
 request_text channel name (Accepts (Some answer)) = codes "accept" ++ channel_text channel ++ params_text answer.params
 request_text channel name (Clears cause diagnostic) = codes "clear" ++ channel_text channel
     ++ given_text cause diagnostic
-request_text channel name (Sends q user) = codes "send" ++ stretch_text channel name ++ (codes " q=" ++ decimal (bit q))
-    ++ user_text user
+request_text channel name (Sends q user) = codes "send" ++ stretch_text channel name ++ marks_text q ++ user_text user
 request_text channel name (Interrupts user) = codes "int" ++ stretch_text channel name ++ user_text user
 request_text channel name (Resets cause diagnostic) = codes "reset" ++ channel_text channel
     ++ given_text cause diagnostic

@@ -3,7 +3,7 @@ ghost use Rattle.std.specs.Prelude.{◌≡◌, ◌++◌, [], IfOk, OnOk, OnErr, 
 ghost use Rattle.x25_transcript.specs.EntryText.{address_text, channel_text, digits_text, end_text, name_text};
 ghost use Rattle.x25_transcript.specs.EntryText.{given_number, given_text, params_text};
 ghost use Rattle.x25_transcript.specs.EntryText.{down_text, entry_line as line_of, entry_text, notice_text};
-ghost use Rattle.x25_transcript.specs.EntryText.{request_text};
+ghost use Rattle.x25_transcript.specs.EntryText.{marks_text, request_text};
 ghost use Rattle.x25_transcript.specs.EntryText.{said_text, stretch_text, user_text};
 ghost use Rattle.x25_station.specs.code.PlainEntry.{plain_asked, plain_entry, plain_name, plain_said, plain_told};
 ghost use Rattle.x25_packet.specs.Spelling.{bit};
@@ -13,6 +13,7 @@ ghost use Rattle.x25_text.specs.Text.{octets_text};
 use std::alloc::{AllocError, Global};
 use x25_layer::{Params, Stretch};
 use x25_link::Reason;
+use x25_packet::Marks;
 use x25_station::{Asked, Entry, Role, Said, Told};
 use x25_text::Text;
 
@@ -72,15 +73,18 @@ fn push_message(
     word: &[u8],
     channel: u16,
     name: &Stretch,
-    q: bool,
+    q: Marks,
     user: &[u8],
     text: &mut Text,
 ) -> Result<(), AllocError>
     ensures { OnOk result (text.new ≡ text.old ++ (word.now ++ stretch_text channel (plain_name name.now)
-        ++ (codes " q=" ++ decimal (bit q)) ++ user_text user.now)) }
+        ++ marks_text q ++ user_text user.now)) }
 {
     push_under(word, channel, name, text)?;
-    text.try_push_number(b" q=", u64::from(q))?;
+    text.try_push_number(b" q=", u64::from(q.q))?;
+    if q.d {
+        text.try_push(b" d=1")?;
+    }
     push_user(user, text)
 }
 

@@ -1,6 +1,7 @@
 use std::alloc::{AllocError, Global};
 use x25_circuit::{Message, Octets};
 use x25_layer::Stretch;
+use x25_packet::Marks;
 use x25_station::{Asked, Entry, Role, Said, Told};
 use x25_text::Text;
 use x25_transcript::{entry_line, push_entry};
@@ -53,7 +54,7 @@ const LATE: Stretch = Stretch {
 // A message of no octets that came.
 fn delivered(alloc: Global) -> Entry {
     let message = Message {
-        q: true,
+        q: Marks::with_q(true),
         user: Octets::of(Vec::new(alloc)),
     };
     Entry::OnChannel {
@@ -78,7 +79,10 @@ fn sent(alloc: Global, channel: u16, name: Stretch, count: usize) -> Result<Entr
     Ok(Entry::OnChannel {
         channel,
         name,
-        said: Said::Asked(Asked::Send { q: true, user }),
+        said: Said::Asked(Asked::Send {
+            q: Marks::with_q(true),
+            user,
+        }),
     })
 }
 

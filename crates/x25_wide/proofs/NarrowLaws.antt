@@ -4,6 +4,7 @@ use Rattle.std.specs.Prelude.{◌&&◌}
 use Rattle.std.proofs.lemmas.Bool.{and_from, le-leb}
 use Rattle.x25_bits.specs.Bits.{bit}
 use Rattle.x25_packet.proofs.AddressLaws.{called_again, calling_again, length-pairs, packed_holds}
+use Rattle.x25_packet.specs.declared.marks.Marks.{Marks}
 use Rattle.x25_packet.specs.Digits.{IsAddress, halves_of, hold_digits, packed}
 use Rattle.x25_packet.specs.Facilities as strict_field
 use Rattle.x25_packet.specs.Packet as strict
@@ -140,25 +141,29 @@ call_taken most channel called calling field user within on a b f short =
           ∙ rw (called_again called calling a b, calling_again called calling a b) refl;
     }
 
-data_taken : (most channel : ℕ) (q m : Bool) (ps pr : ℕ) (user : List ℕ) → strict_spelling.IsChannel channel → ps < 8 → pr < 8 → length user ≤ 4096
-    → Taken most (strict.user_data channel q m ps pr user)
-data_taken most channel q m ps pr user on h k few = record {
-  wide = headed channel q (user_data m ps pr user);
-  packet = record { channel = on.1; place = on.0; marks = marked q; kind = (h, k, few) };
-  spelling = ap (λ n. n ∷ channel % 256 ∷ (2 * ps + 16 * bit m + 32 * pr) ∷ user) (first q);
+data_taken : (most channel : ℕ) (marks : Marks) (m : Bool) (ps pr : ℕ) (user : List ℕ) → strict_spelling.IsChannel channel → ps < 8 → pr < 8 → length user ≤ 4096
+    → Taken most (strict.user_data channel marks m ps pr user)
+data_taken most channel marks m ps pr user on h k few = record {
+  wide = record { channel = channel; bit_8 = marks.q; d = marks.d; kind = user_data m ps pr user };
+  packet = record { channel = on.1; place = on.0; marks = marked marks.q marks.d; kind = (h, k, few) };
+  spelling = ap (λ n. n ∷ channel % 256 ∷ (2 * ps + 16 * bit m + 32 * pr) ∷ user) (first marks.q marks.d);
   taken = refl;
 }
   where
     even : (2 * ps + 16 * bit m + 32 * pr) % 2 ≡ 0
     even = omega arith
 
-    marked : (q : Bool) → may_have q false (2 * ps + 16 * bit m + 32 * pr) ≡ true
-    marked true = rw even refl
-    marked false = refl
+    marked : (q d : Bool) → may_have q d (2 * ps + 16 * bit m + 32 * pr) ≡ true
+    marked true true = rw even refl
+    marked true false = rw even refl
+    marked false true = rw even refl
+    marked false false = refl
 
-    first : (q : Bool) → 16 * (1 + 8 * bit q) + channel / 256 ≡ 128 * bit q + 64 * bit false + 16 + channel / 256
-    first true = refl
-    first false = refl
+    first : (q d : Bool) → 16 * (1 + 4 * bit d + 8 * bit q) + channel / 256 ≡ 128 * bit q + 64 * bit d + 16 + channel / 256
+    first true true = refl
+    first true false = refl
+    first false true = refl
+    first false false = refl
 
 -- a packet of a channel without Q
 on_channel : (most channel : ℕ) (kind : PlainKind) → strict_spelling.IsChannel channel → HasPlace channel kind → may_have false false (type_of kind) ≡ true → IsKind false most kind
@@ -172,7 +177,7 @@ taken most (strict.clear channel cause reason) few h =
     record { wide = headed channel false (clear cause (Some reason)); packet = on_channel most channel (clear cause (Some reason)) h h.0 refl tt; spelling = refl; taken = refl }
 taken most (strict.clear_conf channel) few h =
     record { wide = headed channel false (clear_conf None); packet = on_channel most channel (clear_conf None) h h.0 refl tt; spelling = refl; taken = refl }
-taken most (strict.user_data channel q m ps pr user) few h = data_taken most channel q m ps pr user h.0 h.1 h.2 h.3
+taken most (strict.user_data channel marks m ps pr user) few h = data_taken most channel marks m ps pr user h.0 h.1 h.2 h.3
 taken most (strict.rr channel pr) few h =
     record { wide = headed channel false (rr pr); packet = on_channel most channel (rr pr) h.0 h.0.0 refl h.1; spelling = refl; taken = refl }
 taken most (strict.rnr channel pr) few h =
@@ -196,3 +201,7 @@ taken most strict.restart_conf few h =
 
 pub alike : (most : ℕ) (v : strict.PlainPacket) (octets : List ℕ) → most ≤ 128 → strict_spelling.Spells most v octets → taken_of (wide_of most octets) ≡ Ok v
 alike most v octets few spells = ap (λ (o : List ℕ). taken_of (wide_of most o)) spells.spelling ∙ taken_as most v (taken most v few spells.in_range)
+
+-- the octets of a packet in its ranges, of data with D too, are taken for it
+pub spelled_taken : (most : ℕ) (v : strict.PlainPacket) → most ≤ 128 → strict_spelling.IsInRange most v → taken_of (wide_of most (strict_spelling.spelling_of v)) ≡ Ok v
+spelled_taken most v few h = taken_as most v (taken most v few h)

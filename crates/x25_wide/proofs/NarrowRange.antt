@@ -119,27 +119,27 @@ abbrev pub InRange : Result strict.PlainPacket PacketError → Type 0
 InRange (Ok v) = strict_spelling.IsInRange 128 v
 InRange (Err e) = Unit {0}
 
-pub in_range : (most channel : ℕ) (q : Bool) (k : PlainKind) (field : List ℕ) → channel ≤ 4095 → HasPlace channel k → IsKind q most k
-    → strict_field.IsFacilityField field → InRange (with_field channel q k field)
-in_range most channel q (call block) field few place h f =
+pub in_range : (most channel : ℕ) (q d : Bool) (k : PlainKind) (field : List ℕ) → channel ≤ 4095 → HasPlace channel k → IsKind q most k
+    → strict_field.IsFacilityField field → InRange (with_field channel q d k field)
+in_range most channel q d (call block) field few place h f =
     ((place, few), called_address q block h.0.addresses, calling_address q block h.0.addresses, f, user_few block.fields h.0.fields)
-in_range most channel q (accept block) field few place h f = ((place, few), f)
-in_range most channel q (clear cause reason) field few place h f = (place, few)
-in_range most channel q (extended_clear cause reason block) field few place h f = (place, few)
-in_range most channel q (clear_conf block) field few place h f = (place, few)
-in_range most channel q (user_data m ps pr user) field few place h f = ((place, few), h.0, h.1, h.2)
-in_range most channel q (rr pr) field few place h f = ((place, few), h)
-in_range most channel q (rnr pr) field few place h f = ((place, few), h)
-in_range most channel q (rej pr) field few place h f = tt
-in_range most channel q (interrupt user) field few place h f = ((place, few), h.0, h.1)
-in_range most channel q interrupt_conf field few place h f = (place, few)
-in_range most channel q (reset cause reason) field few place h f = (place, few)
-in_range most channel q reset_conf field few place h f = (place, few)
-in_range most channel q (restart cause reason) field few place h f = tt
-in_range most channel q restart_conf field few place h f = tt
-in_range most channel q (diagnostic number explanation) field few place h f = tt
-in_range most channel q (registration octets) field few place h f = tt
-in_range most channel q (registration_conf octets) field few place h f = tt
+in_range most channel q d (accept block) field few place h f = ((place, few), f)
+in_range most channel q d (clear cause reason) field few place h f = (place, few)
+in_range most channel q d (extended_clear cause reason block) field few place h f = (place, few)
+in_range most channel q d (clear_conf block) field few place h f = (place, few)
+in_range most channel q d (user_data m ps pr user) field few place h f = ((place, few), h.0, h.1, h.2)
+in_range most channel q d (rr pr) field few place h f = ((place, few), h)
+in_range most channel q d (rnr pr) field few place h f = ((place, few), h)
+in_range most channel q d (rej pr) field few place h f = tt
+in_range most channel q d (interrupt user) field few place h f = ((place, few), h.0, h.1)
+in_range most channel q d interrupt_conf field few place h f = (place, few)
+in_range most channel q d (reset cause reason) field few place h f = (place, few)
+in_range most channel q d reset_conf field few place h f = (place, few)
+in_range most channel q d (restart cause reason) field few place h f = tt
+in_range most channel q d restart_conf field few place h f = tt
+in_range most channel q d (diagnostic number explanation) field few place h f = tt
+in_range most channel q d (registration octets) field few place h f = tt
+in_range most channel q d (registration_conf octets) field few place h f = tt
 
 pub given_in_range : {A : Type 0} (plain : A → strict.PlainPacket) (r : Result A PacketError) (read : Result strict.PlainPacket PacketError) → Gives plain r read → InRange read
     → IfOk r (λ p. strict_spelling.IsInRange 128 (plain p))

@@ -177,28 +177,28 @@ in_read (diagnostic number explanation) = λ h. cc
 in_read (registration octets) = λ h. cc
 in_read (registration_conf octets) = λ h. cc
 
-with_read : (channel : ℕ) (q : Bool) (k : PlainKind) (field : List ℕ) → Reads (with_field channel q k field)
-with_read channel q (call block) field = λ h. cc
-with_read channel q (accept block) field = λ h. cc
-with_read channel q (clear cause reason) field = λ h. cc
-with_read channel q (extended_clear cause reason block) field = λ h. cc
-with_read channel q (clear_conf block) field = λ h. cc
-with_read channel q (user_data m ps pr user) field = λ h. cc
-with_read channel q (rr pr) field = λ h. cc
-with_read channel q (rnr pr) field = λ h. cc
-with_read channel q (rej pr) field = λ h. cc
-with_read channel q (interrupt user) field = λ h. cc
-with_read channel q interrupt_conf field = λ h. cc
-with_read channel q (reset cause reason) field = λ h. cc
-with_read channel q reset_conf field = λ h. cc
-with_read channel q (restart cause reason) field = λ h. cc
-with_read channel q restart_conf field = λ h. cc
-with_read channel q (diagnostic number explanation) field = λ h. cc
-with_read channel q (registration octets) field = λ h. cc
-with_read channel q (registration_conf octets) field = λ h. cc
+with_read : (channel : ℕ) (q d : Bool) (k : PlainKind) (field : List ℕ) → Reads (with_field channel q d k field)
+with_read channel q d (call block) field = λ h. cc
+with_read channel q d (accept block) field = λ h. cc
+with_read channel q d (clear cause reason) field = λ h. cc
+with_read channel q d (extended_clear cause reason block) field = λ h. cc
+with_read channel q d (clear_conf block) field = λ h. cc
+with_read channel q d (user_data m ps pr user) field = λ h. cc
+with_read channel q d (rr pr) field = λ h. cc
+with_read channel q d (rnr pr) field = λ h. cc
+with_read channel q d (rej pr) field = λ h. cc
+with_read channel q d (interrupt user) field = λ h. cc
+with_read channel q d interrupt_conf field = λ h. cc
+with_read channel q d (reset cause reason) field = λ h. cc
+with_read channel q d reset_conf field = λ h. cc
+with_read channel q d (restart cause reason) field = λ h. cc
+with_read channel q d restart_conf field = λ h. cc
+with_read channel q d (diagnostic number explanation) field = λ h. cc
+with_read channel q d (registration octets) field = λ h. cc
+with_read channel q d (registration_conf octets) field = λ h. cc
 
 narrowed_read : (w : PlainWide) (r : Result (List ℕ) PacketError) → Reads r → Reads (narrowed w r)
-narrowed_read w (Ok field) reads = with_read w.channel w.bit_8 w.kind field
+narrowed_read w (Ok field) reads = with_read w.channel w.bit_8 w.d w.kind field
 narrowed_read w (Err e) reads = λ h. reads (cc)
 
 taken_read : (r : Result PlainWide PacketError) → Reads r → Reads (taken_of r)
@@ -256,7 +256,7 @@ error_reads : (most : ℕ) (octets : List ℕ) (e : PacketError) → IsFirstErro
 error_reads most _ _ (no_header octets short) h = cc
 error_reads most _ _ (wrong_format first second kind body format) h = cc
 error_reads most _ _ (no_packet first second kind body format none) h = cc
-error_reads most _ _ (in_body v body e range is) h = body_reads most v body e is h
+error_reads most _ _ (in_body v body e range plain is) h = body_reads most v body e is h
 
 -- ---- both
 

@@ -66,31 +66,32 @@ abbrev pub reason_taken : Option ℕ → ℕ
 reason_taken None = 0
 reason_taken (Some reason) = reason
 
--- D is taken off, and so are types and plans of addresses, and the addresses and user data of an answer; what has no
--- place in a station's table is unidentified, as it is there
-abbrev pub with_field : ℕ → Bool → PlainKind → List ℕ → Result written.PlainPacket PacketError
-with_field channel bit_8 (call block) field =
+-- D is taken off but of DATA, and so are types and plans of addresses, and the addresses and user data of an answer;
+-- what has no place in a station's table is unidentified, as it is there
+abbrev pub with_field : ℕ → Bool → Bool → PlainKind → List ℕ → Result written.PlainPacket PacketError
+with_field channel bit_8 d (call block) field =
     Ok (written.call channel (called_taken bit_8 block) (calling_taken bit_8 block) field (user_taken block.fields))
-with_field channel bit_8 (accept block) field = Ok (written.accept channel field)
-with_field channel bit_8 (clear cause reason) field = Ok (written.clear channel cause (reason_taken reason))
-with_field channel bit_8 (extended_clear cause reason block) field = Ok (written.clear channel cause reason)
-with_field channel bit_8 (clear_conf block) field = Ok (written.clear_conf channel)
-with_field channel bit_8 (user_data m ps pr user) field = Ok (written.user_data channel bit_8 m ps pr user)
-with_field channel bit_8 (rr pr) field = Ok (written.rr channel pr)
-with_field channel bit_8 (rnr pr) field = Ok (written.rnr channel pr)
-with_field channel bit_8 (interrupt user) field = Ok (written.interrupt channel user)
-with_field channel bit_8 interrupt_conf field = Ok (written.interrupt_conf channel)
-with_field channel bit_8 (reset cause reason) field = Ok (written.reset channel cause (reason_taken reason))
-with_field channel bit_8 reset_conf field = Ok (written.reset_conf channel)
-with_field channel bit_8 (restart cause reason) field = Ok (written.restart cause (reason_taken reason))
-with_field channel bit_8 restart_conf field = Ok written.restart_conf
-with_field channel bit_8 (rej pr) field = Err Unidentified
-with_field channel bit_8 (diagnostic number explanation) field = Err Unidentified
-with_field channel bit_8 (registration octets) field = Err Unidentified
-with_field channel bit_8 (registration_conf octets) field = Err Unidentified
+with_field channel bit_8 d (accept block) field = Ok (written.accept channel field)
+with_field channel bit_8 d (clear cause reason) field = Ok (written.clear channel cause (reason_taken reason))
+with_field channel bit_8 d (extended_clear cause reason block) field = Ok (written.clear channel cause reason)
+with_field channel bit_8 d (clear_conf block) field = Ok (written.clear_conf channel)
+with_field channel bit_8 d (user_data m ps pr user) field =
+    Ok (written.user_data channel (record { q = bit_8; d = d }) m ps pr user)
+with_field channel bit_8 d (rr pr) field = Ok (written.rr channel pr)
+with_field channel bit_8 d (rnr pr) field = Ok (written.rnr channel pr)
+with_field channel bit_8 d (interrupt user) field = Ok (written.interrupt channel user)
+with_field channel bit_8 d interrupt_conf field = Ok (written.interrupt_conf channel)
+with_field channel bit_8 d (reset cause reason) field = Ok (written.reset channel cause (reason_taken reason))
+with_field channel bit_8 d reset_conf field = Ok (written.reset_conf channel)
+with_field channel bit_8 d (restart cause reason) field = Ok (written.restart cause (reason_taken reason))
+with_field channel bit_8 d restart_conf field = Ok written.restart_conf
+with_field channel bit_8 d (rej pr) field = Err Unidentified
+with_field channel bit_8 d (diagnostic number explanation) field = Err Unidentified
+with_field channel bit_8 d (registration octets) field = Err Unidentified
+with_field channel bit_8 d (registration_conf octets) field = Err Unidentified
 
 abbrev pub narrowed : PlainWide → Result (List ℕ) PacketError → Result written.PlainPacket PacketError
-narrowed w (Ok field) = with_field w.channel w.bit_8 w.kind field
+narrowed w (Ok field) = with_field w.channel w.bit_8 w.d w.kind field
 narrowed w (Err e) = Err e
 
 abbrev pub narrow_of : PlainWide → Result written.PlainPacket PacketError

@@ -1,7 +1,8 @@
 //! The laws of both readings of packets, each the contract of a function that does nothing.
 ghost use Rattle.x25_wide.specs.laws.NarrowLaw.{ReadsAlike};
 ghost use Rattle.x25_wide.specs.laws.TakingLaw.{TakesAllBehindThree, TakesInRange, TakesItsUserData};
-ghost use Rattle.x25_wide.specs.laws.TakingLaw.{TakesOnItsChannel, TakesWhatIsWritten, TakesWithoutMemory};
+ghost use Rattle.x25_wide.specs.laws.TakingLaw.{TakesOnItsChannel, TakesWhatIsSpelled, TakesWhatIsWritten};
+ghost use Rattle.x25_wide.specs.laws.TakingLaw.{TakesWithoutMemory};
 
 use x25_packet::reading_is_the_grammar;
 
@@ -13,10 +14,11 @@ pub fn reads_alike()
 }
 
 /// What a station reads octets as, whether it reads one form or all: what they are in the form that it writes, where
-/// they are a packet then; on the channel that they name; a data packet's user data is all that lies behind the first
-/// three; and all fields are in their ranges. Want of memory is none of the errors.
+/// they are a packet then; in all forms data with D too; on the channel that they name; a data packet's user data is
+/// all that lies behind the first three; and all fields are in their ranges. Want of memory is none of the errors.
 pub fn taking_keeps_octets()
     ensures written { TakesWhatIsWritten }
+    ensures spelled { TakesWhatIsSpelled }
     ensures channel { TakesOnItsChannel }
     ensures octets { TakesItsUserData }
     ensures user { TakesAllBehindThree }

@@ -12,7 +12,7 @@ ghost use Rattle.x25_wide.specs.Reading.{Gives};
 use crate::block::Fields;
 use crate::facilities::{Own, own_facilities};
 use crate::packet::{Kind, WidePacket};
-use x25_packet::{Directions, Facilities, FacilityField, Packet, PacketError};
+use x25_packet::{Directions, Facilities, FacilityField, Marks, Packet, PacketError};
 
 fn are_within(least: u8, most: u8, values: Option<Directions>) -> bool
     ensures { result ≡ are_within least most values }
@@ -70,7 +70,7 @@ fn user_taken<'a>(fields: &Option<Fields<'a>>) -> &'a [u8]
 
 fn with_field<'a>(packet: &WidePacket<'a>, field: FacilityField) -> Result<Packet<'a>, PacketError>
     requires { HasAddresses packet.now.bit_8 (plain_kind packet.now.kind) }
-    ensures { Gives plain_written result (with_field packet.now.channel packet.now.bit_8
+    ensures { Gives plain_written result (with_field packet.now.channel packet.now.bit_8 packet.now.d
         (plain_kind packet.now.kind) field) }
 {
     let channel = packet.channel;
@@ -103,7 +103,10 @@ fn with_field<'a>(packet: &WidePacket<'a>, field: FacilityField) -> Result<Packe
         Kind::ClearConf { .. } => Ok(Packet::ClearConf { channel }),
         Kind::Data { m, ps, pr, user } => Ok(Packet::Data {
             channel,
-            q: packet.bit_8,
+            marks: Marks {
+                q: packet.bit_8,
+                d: packet.d,
+            },
             m: *m,
             ps: *ps,
             pr: *pr,

@@ -1,5 +1,7 @@
 -- What contracts see of a message while it is cut.
 use Rattle.std.specs.Prelude.{ℕ, Bool, false, nat_le, if◌then◌else◌, List, [], ◌∷◌, length, take, drop}
+use Rattle.x25_packet.specs.declared.marks.Marks.{Marks}
+use Rattle.x25_packet.specs.Marks.{with_q}
 use Rattle.x25_circuit.specs.declared.message.Message.{Message}
 use Rattle.x25_circuit.specs.Message.{Piece, More, Last, piece_of}
 
@@ -10,13 +12,14 @@ pub record ShownCutter : Type 0 where
 
 -- the next packet of these messages, of at most this size
 abbrev pub first_cut : ℕ → List Message → Piece
-first_cut size [] = Last false []
-first_cut size (m ∷ ms) = if nat_le (length m.user) size then Last m.q m.user else More m.q (take size m.user)
+first_cut size [] = Last (with_q false) []
+first_cut size (m ∷ ms) = if nat_le (length m.user) size then Last m.q m.user
+    else More (with_q m.q.q) (take size m.user)
 
 -- what is left of them then
 abbrev pub first_left : ℕ → List Message → List Message
 first_left size [] = []
 first_left size (m ∷ ms) = if nat_le (length m.user) size then ms else record { q = m.q; user = drop size m.user } ∷ ms
 
-abbrev pub marked : Bool → Bool → List ℕ → Piece
+abbrev pub marked : Marks → Bool → List ℕ → Piece
 marked q m user = piece_of q m user

@@ -1,5 +1,6 @@
 -- Which states of the definition a circuit's variables stand for.
-use Rattle.std.specs.Prelude.{◌≡◌, ℕ, ◌+◌, ◌≤◌, ◌%◌, ◌⊎◌, List, [], ◌∷◌, length, nat_lt, nat_le, if◌then◌else◌, ◌&&◌}
+use Rattle.std.specs.Prelude.{◌≡◌, ℕ, ◌+◌, ◌≤◌, ◌%◌, ◌⊎◌, List, [], ◌∷◌, ◌++◌, drop, length, nat_lt, nat_le}
+use Rattle.std.specs.Prelude.{if◌then◌else◌, ◌&&◌}
 use Rattle.std.specs.Prelude.{true, false}
 use Rattle.x25_window.specs.code.Modulo.{resolved}
 use Rattle.x25_window.specs.Receiver.{FitsTaken}
@@ -7,17 +8,18 @@ use Rattle.x25_circuit.specs.declared.transfer.Transfer.{Transfer}
 use Rattle.x25_circuit.specs.declared.transfer.Header.{Header}
 use Rattle.x25_circuit.specs.code.FitsNumbers.{FitsNumbers}
 use Rattle.x25_circuit.specs.code.Changes.{with_sent}
-use Rattle.x25_circuit.specs.Message.{Piece, piece_of, no_part, joining, cut_all}
+use Rattle.x25_circuit.specs.Message.{Piece, piece_of, no_part, joining, cut_all, asked_in}
 use Rattle.x25_circuit.specs.Queue.{waiting}
 use Rattle.x25_circuit.specs.Circuit.{Talk}
 
 -- with the most octets of a packet that is sent; of a message in part at most 65,535 octets have come (profile)
 pub record FitsTalk (size : ℕ) (v : Transfer) (t : Talk) : Type 0 where
-  pub numbers : FitsNumbers v.sender t.acked (length t.sent)
+  pub numbers : FitsNumbers v.sender t.acked t.sent
   pub taken : FitsTaken v.receiver (length t.taken)
   pub rest : t.rest ≡ cut_all size (waiting v.queue)
   pub part : v.partial.part ≡ joining no_part t.taken
   pub short : length v.partial.part.user ≤ 65535
+  pub unconfirmed : v.unconfirmed ≡ asked_in (drop t.acked (t.sent ++ t.rest))
   pub int_out : v.interrupt_out ≡ t.int_out
   pub peer_ready : v.peer_ready ≡ t.peer_ready
   pub own_ready : v.own_ready ≡ t.own_ready

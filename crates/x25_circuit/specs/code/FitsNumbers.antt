@@ -1,12 +1,13 @@
--- What a sender counts.
-use Rattle.std.specs.Prelude.{◌≡◌, ℕ, length}
+-- What a sender counts, and keeps of each packet that isn't acknowledged.
+use Rattle.std.specs.Prelude.{◌≡◌, ℕ, Bool, List, map}
 use Rattle.x25_window.specs.Sender.{Sending}
 use Rattle.x25_window.specs.code.Held.{Held, Fits}
+use Rattle.x25_circuit.specs.Message.{Piece, asks}
 
 -- the sender has room for seven packets, and counts those sent and those acknowledged
-pub record FitsNumbers (h : Held (Unit {0})) (n m : ℕ) : Type 0 where
-  pub state : Sending (Unit {0})
+pub record FitsNumbers (h : Held Bool) (acked : ℕ) (sent : List Piece) : Type 0 where
+  pub state : Sending Bool
   pub fits : Fits h state
   pub window : state.window ≡ 7
-  pub acked : state.acked ≡ n
-  pub sent : length state.given ≡ m
+  pub acked : state.acked ≡ acked
+  pub sent : state.given ≡ map asks sent

@@ -1,5 +1,6 @@
 -- Messages are carried by their packets, whoever cut them. ITU-T X.25 (10/96), sections 4.3.4 to 4.3.6.
 use Rattle.std.specs.Prelude.{◌≡◌, ℕ, ◌≤◌, List, [], ◌∷◌, ◌++◌, length, Bool}
+use Rattle.x25_packet.specs.declared.marks.Marks.{Marks}
 use Rattle.x25_circuit.specs.Message.{Piece, no_part, joining, completed, carried, AreSound, cut}
 
 -- no message has begun and not ended behind these packets
@@ -8,20 +9,20 @@ IsWhole ps = joining no_part ps ≡ no_part
 
 -- the packets of a message carry it alone
 abbrev pub CutCarries : Type 0
-CutCarries = (size : ℕ) (q : Bool) (user : List ℕ) → carried (cut size q user) ≡ record { q = q; user = user } ∷ []
+CutCarries = (size : ℕ) (q : Marks) (user : List ℕ) → carried (cut size q user) ≡ record { q = q; user = user } ∷ []
 
 -- the other end refuses none of them: each is within the size, with one qualifier
 abbrev pub CutIsSound : Type 0
-CutIsSound = (size : ℕ) (q : Bool) (user : List ℕ) → 1 ≤ size → length user ≤ 65535
+CutIsSound = (size : ℕ) (q : Marks) (user : List ℕ) → 1 ≤ size → length user ≤ 65535
     → AreSound size no_part (cut size q user)
 
 -- a message that is sent is carried behind all others, by the packets sent and those that wait
 abbrev pub SendAdds : Type 0
-SendAdds = (size : ℕ) (q : Bool) (user : List ℕ) (sent rest : List Piece) → IsWhole (sent ++ rest)
+SendAdds = (size : ℕ) (q : Marks) (user : List ℕ) (sent rest : List Piece) → IsWhole (sent ++ rest)
     → carried (sent ++ (rest ++ cut size q user)) ≡ carried (sent ++ rest) ++ record { q = q; user = user } ∷ []
 
 abbrev pub SendStaysWhole : Type 0
-SendStaysWhole = (size : ℕ) (q : Bool) (user : List ℕ) (sent rest : List Piece) → IsWhole (sent ++ rest)
+SendStaysWhole = (size : ℕ) (q : Marks) (user : List ℕ) (sent rest : List Piece) → IsWhole (sent ++ rest)
     → IsWhole (sent ++ (rest ++ cut size q user))
 
 -- what a packet that is taken completes is what the packets taken carry more

@@ -2,6 +2,7 @@
 -- calls of the user and the packets taken. ITU-T X.25 (10/96), sections 4.3 and 4.4.
 use Rattle.std.specs.Prelude.{ℕ, ◌+◌, ◌%◌, List, [], ◌∷◌, ◌++◌, length, Option, Some, None, Bool, true, false, nat_lt}
 use Rattle.std.specs.Prelude.{nat_le, if◌then◌else◌, ◌==◌}
+use Rattle.x25_packet.specs.declared.marks.Marks.{Marks}
 use Rattle.x25_circuit.specs.declared.message.Message.{Message}
 use Rattle.x25_circuit.specs.Message.{Piece, no_part, joining, completed, piece_ground, cut, wholes}
 use Rattle.x25_window.specs.code.Modulo.{resolved}
@@ -66,7 +67,7 @@ abbrev pub stretch_fails : Stretch → ℕ → StretchStep
 stretch_fails x n = record { next = x; out = []; error = Some n }
 
 pub data StretchAct : Type 0 where
-  Send : (q : Bool) → (user : List ℕ) → StretchAct
+  Send : (q : Marks) → (user : List ℕ) → StretchAct
   Pull : StretchAct
   Ready : StretchAct
   NotReady : StretchAct
@@ -77,7 +78,7 @@ abbrev pub status : Bool → ℕ → Packet
 status true n = Rr (n % 8)
 status false n = Rnr (n % 8)
 
-abbrev pub sends : Terms → Stretch → Bool → List ℕ → StretchStep
+abbrev pub sends : Terms → Stretch → Marks → List ℕ → StretchStep
 sends t x q xs =
     if nat_le (length xs) 65535
     then (if nat_lt (wholes x.rest) 8

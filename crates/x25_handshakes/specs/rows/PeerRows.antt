@@ -1,6 +1,7 @@
 -- Worked rows: a peer that our own circuit isn't like, and a whole layer beside a peer.
 use Rattle.std.specs.Prelude.{◌≡◌, false, true, List, [], ◌∷◌, ◌++◌, None}
 use Rattle.x25_bits.specs.declared.role.Role.TheVariants.{Dte, Dce}
+use Rattle.x25_packet.specs.Marks.{with_q}
 use Rattle.x25_circuit.specs.Message.{Last}
 use Rattle.x25_circuit.specs.Params.{Terms, default_params}
 use Rattle.x25_circuit.specs.Notice.{CallRequest}
@@ -41,22 +42,22 @@ pulled = near_stepped handed_down [] (transfer_acts terms handed_down.near (Insi
 
 -- the peer takes it, says nothing, and sends one of its own, by which it acknowledges none
 abbrev pub heard : Joined
-heard = peer_stepped pulled [] (transfer_taking 0 pulled.peer.side (Data 0 0 (Last false (5 ∷ []))))
+heard = peer_stepped pulled [] (transfer_taking 0 pulled.peer.side (Data 0 0 (Last (with_q false) (5 ∷ []))))
 
 abbrev pub answered : Joined
-answered = peer_does heard (InStretch (Sends (Last false (7 ∷ [])) 0))
+answered = peer_does heard (InStretch (Sends (Last (with_q false) (7 ∷ [])) 0))
 
 -- the circuit takes it, and only then the peer acknowledges
 abbrev pub taken : Joined
-taken = near_stepped answered [] (transfer_takes 128 answered.near (Data 0 0 (Last false (7 ∷ []))))
+taken = near_stepped answered [] (transfer_takes 128 answered.near (Data 0 0 (Last (with_q false) (7 ∷ []))))
 
 abbrev pub acknowledged : Joined
 acknowledged = peer_does taken (InStretch (Says true 1))
 
 pub record LatePeerMoves : Type 0 where
   pub reached : IsReached terms 128 acknowledged
-  pub up : (state_of acknowledged.near.side).up ≡ record { q = false; user = 7 ∷ [] } ∷ []
-  pub there : (state_of acknowledged.peer.side).taken ≡ Last false (5 ∷ []) ∷ []
+  pub up : (state_of acknowledged.near.side).up ≡ record { q = with_q false; user = 7 ∷ [] } ∷ []
+  pub there : (state_of acknowledged.peer.side).taken ≡ Last (with_q false) (5 ∷ []) ∷ []
   pub before : (state_of taken.peer.side).told ≡ 0
 
 -- ---- a whole layer: our DTE restarts, the peer confirms and calls, our user accepts, and a message comes
@@ -90,13 +91,13 @@ abbrev pub accepted : JoinedLayers
 accepted = peer_hears (layer_does_itself called (OnChannel 1 (Within (AcceptsCall None)))) (On 1 (Accept []))
 
 abbrev pub message : LayerDeed
-message = InChannel 1 (InCall (InTransfer (InStretch (Sends (Last false (7 ∷ [])) 0))))
+message = InChannel 1 (InCall (InTransfer (InStretch (Sends (Last (with_q false) (7 ∷ [])) 0))))
 
 abbrev pub came : JoinedLayers
-came = layer_hears (layer_does accepted message) (On 1 (Data 0 0 (Last false (7 ∷ [])))) []
+came = layer_hears (layer_does accepted message) (On 1 (Data 0 0 (Last (with_q false) (7 ∷ [])))) []
 
 pub record PeerLayerMoves : Type 0 where
   pub reached : LayersAreReached Dte came
   pub calls : (state_of (state_of came.near.side 1).side).indicated ≡ proposal ∷ []
   pub up : (state_of (transfer_of (state_of (state_of came.near.side 1).side).phase).side).up
-      ≡ record { q = false; user = 7 ∷ [] } ∷ []
+      ≡ record { q = with_q false; user = 7 ∷ [] } ∷ []

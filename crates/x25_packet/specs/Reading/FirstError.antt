@@ -10,7 +10,7 @@ use Rattle.x25_packet.specs.declared.facilities.Directions.{Directions}
 use Rattle.x25_packet.specs.Digits.{hold_digits}
 use Rattle.x25_packet.specs.Facilities.{AreAllowed, AreWithin, IsFacilityField, field_of}
 use Rattle.x25_packet.specs.Packet.{PlainPacket, call, accept, clear, user_data, interrupt, reset, restart}
-use Rattle.x25_packet.specs.Spelling.{IsInRange, header_of}
+use Rattle.x25_packet.specs.Spelling.{IsInRange, IsWithoutD, header_of}
 
 -- ---- in a facility field
 
@@ -89,7 +89,7 @@ abbrev pub IsBodyError : ℕ → PlainPacket → List ℕ → PacketError → Ty
 IsBodyError most (call channel called calling facilities user) body e = CallError most body e
 IsBodyError most (accept channel facilities) body e = AcceptError body e
 IsBodyError most (clear channel cause diagnostic) body e = IsLengthError 2 2 body e
-IsBodyError most (user_data channel q m ps pr user) body e = IsLengthError 0 4096 body e
+IsBodyError most (user_data channel marks m ps pr user) body e = IsLengthError 0 4096 body e
 IsBodyError most (interrupt channel user) body e = IsLengthError 1 32 body e
 IsBodyError most (reset channel cause diagnostic) body e = IsLengthError 2 2 body e
 IsBodyError most (restart cause diagnostic) body e = IsLengthError 2 2 body e
@@ -111,5 +111,5 @@ pub data IsFirstError (most : ℕ) : List ℕ → PacketError → Type 0 where
       → IsFirstError most (first ∷ second ∷ kind ∷ body) Unidentified
   -- a packet does, and what follows is no body of its type
   in_body : (v : PlainPacket) (body : List ℕ) (e : PacketError)
-      → IsInRange most v → IsBodyError most v body e
+      → IsInRange most v → IsWithoutD v → IsBodyError most v body e
       → IsFirstError most (header_of v ++ body) e

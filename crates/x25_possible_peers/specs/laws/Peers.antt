@@ -57,8 +57,8 @@ abbrev pub limits : ℕ → Limits
 limits size = record { most = size; window = 0 }
 
 abbrev pub data_of : ℕ → ℕ → Piece → Packet
-data_of ns nr (More q user) = item.Data q true ns nr (length user)
-data_of ns nr (Last q user) = item.Data q false ns nr (length user)
+data_of ns nr (More q user) = item.Data q.q true ns nr (length user)
+data_of ns nr (Last q user) = item.Data q.q false ns nr (length user)
 
 abbrev pub item_of : theirs.Packet → Packet
 item_of (theirs.Data ns nr piece) = data_of ns nr piece

@@ -4,6 +4,7 @@ use Rattle.x25_bits.specs.declared.role.Role.{Role}
 use Rattle.x25_bits.specs.declared.role.Role.TheVariants.{Dte, Dce}
 use Rattle.x25_link.specs.declared.error.LinkError.TheVariants as link_error
 use Rattle.x25_link.specs.declared.phase.Reason.TheVariants.{Local, Disc, Reset, Retries}
+use Rattle.x25_packet.specs.Marks.{with_q}
 use Rattle.x25_circuit.specs.Params.{default_params, in_brief}
 use Rattle.x25_circuit.specs.Calling.{Accepts, Sends}
 use Rattle.x25_given.specs.Given.{PlainGiven}
@@ -56,7 +57,7 @@ called = run two_channels (delivers 3
     ++ asks Dce (Asks 2 (Accepts None)) ∷ delivers 2) (established two_channels)
 
 abbrev pub sends_hi : Event
-sends_hi = asks Dte (Asks 2 (Sends false (codes "hi")))
+sends_hi = asks Dte (Asks 2 (Sends (with_q false) (codes "hi")))
 
 -- the name of the first call's stretch, behind the RESTARTs of set-up
 abbrev pub first_stretch : Name
@@ -65,7 +66,7 @@ first_stretch = record { restarts = 1; clears = 0; resets = 0 }
 -- the message was handed up at the DCE, once, and the DTE is idle in that stretch
 abbrev pub HasArrived : World → Type 0
 HasArrived w =
-    ((messages_in (under 2 first_stretch (handed_at Dce w))).up ≡ record { q = false; user = codes "hi" } ∷ [])
+    ((messages_in (under 2 first_stretch (handed_at Dce w))).up ≡ record { q = with_q false; user = codes "hi" } ∷ [])
     × (is_idle (settings_from Dte two_channels) w.near ≡ true)
     × (stretch (settings_from Dte two_channels) w.near 2 ≡ Some first_stretch)
     × (stretch (settings_from Dce two_channels) w.far 2 ≡ Some first_stretch)
@@ -87,7 +88,8 @@ abbrev pub hi_lost : World
 hi_lost = run two_channels (sends_hi ∷ event Dce (Loses 0) ∷ []) called
 
 abbrev pub sends_more : List Event
-sends_more = asks Dte (Asks 2 (Sends false (codes "ho"))) ∷ delivers 4 ++ event Dte Receives ∷ event Dce Receives ∷ []
+sends_more = asks Dte (Asks 2 (Sends (with_q false) (codes "ho"))) ∷ delivers 4
+    ++ event Dte Receives ∷ event Dce Receives ∷ []
 
 -- it is a moment in which both may heal; no end is busy behind the firings, and both messages have been handed up
 abbrev pub MoreArrives : Type 0
@@ -97,7 +99,7 @@ MoreArrives =
     (firing Dte ∷ firing Dce ∷ []) hi_lost in FreeThroughout two_channels sends_more fired
     × (let u = run two_channels sends_more fired in IsDrained u
     × ((messages_in (under 2 first_stretch (handed_at Dce u))).up
-    ≡ record { q = false; user = codes "hi" } ∷ record { q = false; user = codes "ho" } ∷ [])))
+    ≡ record { q = with_q false; user = codes "hi" } ∷ record { q = with_q false; user = codes "ho" } ∷ [])))
 
 -- ---- something given with a call and its acceptance, at stations that read packets in all their forms
 

@@ -1,10 +1,11 @@
-use Rattle.x25_wide.proofs.TakingLaws.{takes_what_is_written, takes_on_its_channel, takes_its_user_data, takes_all_behind_three, takes_in_range}
+use Rattle.x25_wide.proofs.TakingLaws.{takes_what_is_written, takes_what_is_spelled, takes_on_its_channel, takes_its_user_data, takes_all_behind_three, takes_in_range}
 use Rattle.x25_wide.proofs.WantLaws.{takes_without_memory}
 use Rattle.x25_wide.proofs.law.taking_keeps_octets.Goals as goal
 
 pub returns : goal.returns
 returns c = record {
   written = takes_what_is_written;
+  spelled = takes_what_is_spelled c.reading_is_the_grammar.ensures.spelled;
   channel = takes_on_its_channel c.reading_is_the_grammar.ensures.spelled;
   octets = takes_its_user_data c.reading_is_the_grammar.ensures.spelled;
   user = takes_all_behind_three c.reading_is_the_grammar.ensures.spelled;

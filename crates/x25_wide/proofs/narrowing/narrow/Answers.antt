@@ -6,5 +6,5 @@ use Rattle.x25_wide.proofs.narrowing.narrow.Goals as goal
 
 pub returns-clause-range : goal.returns-clause-range
 returns-clause-range c = λ most is. given_in_range plain_written c.with_field.result _ c.with_field.ensures
-    (in_range most c.args.packet.now.channel c.args.packet.now.bit_8 (plain_kind c.args.packet.now.kind) c.in_ok-field.field is.channel is.place is.kind
+    (in_range most c.args.packet.now.channel c.args.packet.now.bit_8 c.args.packet.now.d (plain_kind c.args.packet.now.kind) c.in_ok-field.field is.channel is.place is.kind
     (field_fits (plain_kind c.args.packet.now.kind) c.in_ok-field.field (sym c.in_ok-field.ensures)))

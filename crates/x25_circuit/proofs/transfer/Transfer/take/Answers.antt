@@ -14,6 +14,7 @@ returns-clause-fits c = λ size t fits.
       rest = fits.rest;
       part = c.join.ensures.part ∙ ap (λ (j : Partial). joined j piece) fits.part ∙ sym (joining_push no_part t.taken piece);
       short = c.join.ensures.short;
+      unconfirmed = fits.unconfirmed;
       int_out = fits.int_out;
       peer_ready = fits.peer_ready;
       own_ready = fits.own_ready;

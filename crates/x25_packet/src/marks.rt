@@ -1,0 +1,19 @@
+/// The marks of a data packet that are its message's: Q, the data qualifier, and D, by which confirmation of delivery
+/// is asked. ITU-T X.25 (10/96), sections 4.3.3 and 4.3.6.
+#[derive(Clone, Copy, Debug, PartialEq, Eq)]
+pub struct Marks {
+    pub q: bool,
+    pub d: bool,
+}
+
+impl Marks {
+    ghost use Rattle.std.specs.Prelude.{◌≡◌};
+    ghost use Rattle.x25_packet.specs.Marks.{with_q};
+
+    /// Without D.
+    pub fn with_q(q: bool) -> Marks
+        ensures { result ≡ with_q q }
+    {
+        Marks { q, d: false }
+    }
+}
