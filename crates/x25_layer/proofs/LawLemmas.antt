@@ -57,13 +57,13 @@ always_lawful p long_data channels es =
     }
 
 -- what stands under the present name of an end
-near_present : {M : Type 0} (kind : Kind M) (lists : Handed → Lists M) (w : TwoLayers) (j : Pair) (g : Histories M) → AreHistories kind lists w g → g.pair ≡ j → (k : ℕ)
+pub near_present : {M : Type 0} (kind : Kind M) (lists : Handed → Lists M) (w : TwoLayers) (j : Pair) (g : Histories M) → AreHistories kind lists w g → g.pair ≡ j → (k : ℕ)
     → g.near k (name_at kind (state_of g.pair.near) k) ≡ held_at kind (state_of g.pair.near) k
     → lists (under k (name_at kind (state_of j.near) k) w.near.entries) ≡ held_at kind (state_of j.near) k
 near_present kind lists w j g histories same k held =
     subst (λ (q : Pair). lists (under k (name_at kind (state_of q.near) k) w.near.entries) ≡ held_at kind (state_of q.near) k) same (histories.near k (name_at kind (state_of g.pair.near) k) ∙ held)
 
-far_present : {M : Type 0} (kind : Kind M) (lists : Handed → Lists M) (w : TwoLayers) (j : Pair) (g : Histories M) → AreHistories kind lists w g → g.pair ≡ j → (k : ℕ)
+pub far_present : {M : Type 0} (kind : Kind M) (lists : Handed → Lists M) (w : TwoLayers) (j : Pair) (g : Histories M) → AreHistories kind lists w g → g.pair ≡ j → (k : ℕ)
     → g.far k (name_at kind (state_of g.pair.far) k) ≡ held_at kind (state_of g.pair.far) k
     → lists (under k (name_at kind (state_of j.far) k) w.far.entries) ≡ held_at kind (state_of j.far) k
 far_present kind lists w j g histories same k held =

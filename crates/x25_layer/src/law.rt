@@ -1,6 +1,7 @@
 ghost use Rattle.std.specs.Prelude.{Bool, ℕ};
 ghost use Rattle.x25_layer.specs.laws.Law.{Always, IsQuietWorld, IsLawfulWorld, ArrivesAll, KeepsOrder};
 ghost use Rattle.x25_layer.specs.laws.NameLaw.{NamesAreCounted, NoClearComesInP1};
+ghost use Rattle.x25_layer.specs.laws.Acknowledged.{AcknowledgedAreHandedUp};
 ghost use Rattle.x25_layer.specs.laws.Apart.{AlwaysApart};
 ghost use Rattle.x25_layer.specs.laws.ApartLaw.{IsOverLinks, RestartsFirst, BeginsAlone, OwnMovesDecide, StaysDown};
 ghost use Rattle.x25_layer.specs.laws.ApartLaw.{EventsRunOn};
@@ -94,6 +95,19 @@ pub fn any_peer_keeps_transcripts()
 {
     x25_circuit::values_are_agreed();
     x25_handshakes::any_peer_keeps_layers();
+}
+
+/// Two layers over links that keep order, whatever their users ask and whenever a link goes down, and of two ends in
+/// order: of a stretch that is open at an end, the messages whose last data packets are acknowledged are the first of
+/// those that the other end handed up under its name.
+pub fn acknowledged_are_handed_up()
+    ensures over { (long_data : Bool) (channels : ℕ) → Always AcknowledgedAreHandedUp long_data channels }
+    ensures apart { (long_data : Bool) (channels : ℕ) → AlwaysApart AcknowledgedAreHandedUp long_data channels }
+{
+    x25_circuit::values_are_agreed();
+    x25_handshakes::keeps_order();
+    x25_handshakes::acknowledged_are_handed_up();
+    apart_layers_keep_order();
 }
 
 /// What a pull leaves. Behind the rounds, where fewer than 8 packets wait in the link, no channel has a packet that may
