@@ -1,6 +1,7 @@
 -- How many messages ask for confirmation, of what was sent and what waits.
 use Rattle.std.proofs.Common.{◌≡◌, ℕ, zero, suc, ◌+◌, ◌≤◌, List, [], ◌∷◌, ◌++◌, length, take, drop, map, slice_get, Some, Bool, true, false, not, ◌&&◌, nat_le, if◌then◌else◌, refl, sym, ap, subst, ◌∙◌, arith}
 use Rattle.std.proofs.lemmas.List.{drop-drop, drop-map}
+use Rattle.std.specs.Int.{from_bool}
 use Rattle.x25_bits.specs.Bits.{bit}
 use Rattle.x25_packet.specs.declared.marks.Marks.{Marks}
 use Rattle.x25_packet.specs.Marks.{with_q}
@@ -30,6 +31,10 @@ asked_cut (suc n) size q user = asked_if (nat_le (length user) size) q user (tak
 pub bit_few : (b : Bool) → bit b ≤ 1
 bit_few true = omega arith
 bit_few false = omega arith
+
+pub byte_is_bit : (b : Bool) → from_bool b ≡ bit b
+byte_is_bit true = refl
+byte_is_bit false = refl
 
 -- no more than messages that end in them
 asked_end : (p : Piece) → bit (asks p) ≤ ends_of p

@@ -1,24 +1,18 @@
 -- What a circuit's variables stand for after a small change.
-use Rattle.std.proofs.Common.{◌≡◌, ℕ, ◌+◌, ◌<◌, ◌≤◌, Bool, true, false, IsTrue, IsErr, OnOk, Result, Ok, Err, if◌then◌else◌, List, [], ◌∷◌, map, ◌++◌, drop, length, refl, sym, ap, subst, ◌∙◌, ◌==◌, ◌%◌, nat_le, slice_get, Option, Some, None, add_assoc, arith}
-use Rattle.std.proofs.lemmas.List.{map-append}
+use Rattle.std.proofs.Common.{◌≡◌, ℕ, ◌+◌, ◌≤◌, Bool, true, false, IsTrue, if◌then◌else◌, List, [], ◌++◌, drop, length, refl, sym, ap, subst, ◌∙◌, ◌==◌, ◌%◌, nat_le, Option, Some, None}
 use Rattle.x25_window.specs.code.Modulo.{resolved}
 use Rattle.x25_window.specs.Receiver.{FitsTaken}
-use Rattle.x25_bits.specs.declared.seq.Seq.{Seq}
-use Rattle.x25_window.specs.declared.window_error.WindowError.{WindowError}
-use Rattle.x25_window.specs.Sender.{Sending, offered, acknowledged}
-use Rattle.x25_window.specs.code.Held.{Held, Fits}
+use Rattle.x25_window.specs.code.Held.{Held}
 use Rattle.x25_window.specs.declared.receiver.Receiver.{Receiver}
 use Rattle.x25_packet.specs.Facilities.{IsFacilityField}
 use Rattle.x25_packet.specs.declared.marks.Marks.{Marks}
 use Rattle.x25_circuit.specs.declared.circuit.Circuit as code
 use Rattle.x25_circuit.specs.declared.transfer.Transfer.{Transfer}
 use Rattle.x25_circuit.specs.declared.queue.Queue.{Queue}
-use Rattle.x25_circuit.specs.Message.{Piece, piece_of, piece_ground, ground_of, Partial, no_part, joining, wholes, cut_all, asks, asked_in}
+use Rattle.x25_circuit.specs.Message.{Piece, piece_of, piece_ground, ground_of, Partial, no_part, joining, wholes, cut_all, asked_in}
 use Rattle.x25_circuit.specs.code.PartialMessage.{ShownPartial}
 use Rattle.x25_circuit.specs.Queue.{waiting}
 use Rattle.x25_circuit.specs.Hearing.{data_ground, number_ground}
-use Rattle.x25_bits.specs.Bits.{bit}
-use Rattle.x25_circuit.proofs.AskedLemmas.{asked_next}
 use Rattle.x25_circuit.proofs.MessageLemmas.{wholes_all}
 use Rattle.x25_circuit.specs.Circuit.{Settings, Talk, Circuit, outgoing}
 use Rattle.x25_circuit.specs.code.Changes.{with_acked, with_rest, with_peer, with_own}
@@ -60,42 +54,6 @@ piece_ground_of size j q false user = refl
 pub queue_fits : (size : ℕ) (v : Transfer) (t : Talk) (queue : Queue) (rest : List Piece) (unconfirmed : ℕ) → FitsTalk size v t → rest ≡ cut_all size (waiting queue)
     → unconfirmed ≡ asked_in (drop t.acked (t.sent ++ rest)) → FitsTalk size (record v { queue = queue; unconfirmed = unconfirmed }) (with_rest rest t)
 queue_fits size v t queue rest unconfirmed fits cut asked = record { numbers = fits.numbers; taken = fits.taken; rest = cut; part = fits.part; short = fits.short; unconfirmed = asked; int_out = fits.int_out; peer_ready = fits.peer_ready; own_ready = fits.own_ready }
-
--- one packet more is sent, which isn't refused while there is room
-pub numbers_sent : (old new : Held Bool) (r : Result Seq WindowError) (n : ℕ) (sent : List Piece) (p : Piece) (b : Bool) → ((w : Sending Bool) → Fits old w → OnOk r (Fits new (offered w b)))
-    → (IsErr r → length old.items ≡ old.window) → length old.items < 7 → FitsNumbers old n sent → asks p ≡ b → FitsNumbers new n (sent ++ p ∷ [])
-numbers_sent old new (Ok ps) n sent p b step full few fits same = record {
-  state = offered fits.state b;
-  fits = step fits.state fits.fits;
-  window = fits.window;
-  acked = fits.acked;
-  sent = ap (λ (bs : List Bool). bs ++ b ∷ []) fits.sent ∙ ap (λ (a : Bool). map asks sent ++ a ∷ []) (sym same) ∙ sym (map-append asks sent (p ∷ []));
-}
-numbers_sent old new (Err e) n sent p b step full few fits same = absurd (let h = full refl in omega (arith, h, few, fits.fits.window, fits.window))
-
--- so many packets more are acknowledged
-pub numbers_acked : (old new : Held Bool) (n count : ℕ) (sent : List Piece) → ((w : Sending Bool) → Fits old w → Fits new (acknowledged w (w.acked + count))) → FitsNumbers old n sent
-    → FitsNumbers new (n + count) sent
-numbers_acked old new n count sent step fits = record {
-  state = acknowledged fits.state (fits.state.acked + count);
-  fits = step fits.state fits.fits;
-  window = fits.window;
-  acked = ap (λ (m : ℕ). m + count) fits.acked;
-  sent = fits.sent;
-}
-
--- one more, which is handed out
-pub numbers_released : (old new : Held Bool) (n count : ℕ) (sent : List Piece) → ((w : Sending Bool) → Fits old w → Fits new (acknowledged w (w.acked + 1))) → FitsNumbers old (n + count) sent
-    → FitsNumbers new (n + (count + 1)) sent
-numbers_released old new n count sent step fits =
-    subst (λ (m : ℕ). FitsNumbers new m sent) (add_assoc n count 1) (numbers_acked old new (n + count) 1 sent step fits)
-
-pub released_asks : (h : Held Bool) (n count : ℕ) (sent : List Piece) (b : Bool) → FitsNumbers h (n + count) sent → slice_get h.items 0 ≡ Some b
-    → bit b + asked_in (drop (n + (count + 1)) sent) ≡ asked_in (drop (n + count) sent)
-released_asks h n count sent b fits first =
-    let kept = fits.fits.items ∙ ap (λ (m : ℕ). drop m fits.state.given) fits.acked ∙ ap (drop (n + count)) fits.sent in
-    subst (λ (m : ℕ). bit b + asked_in (drop m sent) ≡ asked_in (drop (n + count) sent)) (add_assoc n count 1)
-    (asked_next (n + count) sent b (ap (λ (bs : List Bool). slice_get bs 0) (sym kept) ∙ first))
 
 pub acked_fits : (size : ℕ) (v : Transfer) (t : Talk) (sender : Held Bool) (n unconfirmed : ℕ) → FitsTalk size v t → FitsNumbers sender n t.sent
     → unconfirmed ≡ asked_in (drop n (t.sent ++ t.rest)) → FitsTalk size (record v { sender = sender; unconfirmed = unconfirmed }) (with_acked n t)

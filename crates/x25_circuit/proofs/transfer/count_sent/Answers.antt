@@ -1,4 +1,4 @@
-use Rattle.x25_circuit.proofs.TalkLemmas.{numbers_sent}
+use Rattle.x25_circuit.proofs.NumbersLemmas.{numbers_sent}
 use Rattle.x25_circuit.proofs.transfer.count_sent.Goals as goal
 
 pub returns-clause-fits : goal.returns-clause-fits
