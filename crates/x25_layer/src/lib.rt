@@ -11,6 +11,7 @@ mod free_channel;
 mod law;
 mod layer;
 mod putting;
+mod ranges;
 mod receiving;
 mod report;
 mod restarting;
@@ -26,6 +27,7 @@ pub use law::{
     two_layers_keep_order,
 };
 pub use layer::Layer;
+pub use ranges::Ranges;
 pub use report::Report;
 pub use stretch::Stretch;
 pub use x25_bits::Role;
