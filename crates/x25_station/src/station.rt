@@ -49,7 +49,7 @@ impl Station {
         ensures fits { IfOk result (λ v. FitsStation (settings_from role cfg) v new_station) }
         ensures refused { RefusesWith result (config_refusal cfg) }
     {
-        if cfg.channels < 1 || cfg.channels > 4095 {
+        if !cfg.channels.are_valid() {
             return Err(StationError::BadConfig);
         }
         let link = match Link::new(alloc, role, cfg.k, N1, cfg.n2) {
@@ -57,7 +57,7 @@ impl Station {
             Err(LinkError::BadConfig) => return Err(StationError::BadConfig),
             Err(_) => return Err(StationError::NoMemory),
         };
-        let Ok(layer) = Layer::with(alloc, role, cfg.channels as usize, cfg.long_data) else {
+        let Ok(layer) = Layer::with(alloc, role, cfg.channels, cfg.long_data) else {
             return Err(StationError::NoMemory);
         };
         Ok(Station {
@@ -112,7 +112,7 @@ impl Station {
 
     /// How many channels it has.
     pub fn channels(&self) -> u16
-        ensures { (c : Settings) (s : State) → FitsStation c self.now s → result ≡ c.channels }
+        ensures { (c : Settings) (s : State) → FitsStation c self.now s → result ≡ c.channels.count }
     {
         self.layer.channels()
     }

@@ -5,6 +5,7 @@ use Rattle.x25_packet.specs.Packet.{PlainPacket}
 use Rattle.x25_packet.specs.Spelling.{spelling_of, longest_user}
 use Rattle.x25_wide.specs.Taking.{read_in}
 use Rattle.x25_circuit.specs.Calling.{Request, Calls, Clears, Sends, Interrupts, Resets}
+use Rattle.x25_layer.specs.declared.ranges.Ranges.{Ranges}
 use Rattle.x25_layer.specs.Calls.{LayerRequest, Asks, Dials, Restarts, PullsAll}
 use Rattle.x25_layer.specs.laws.TwoLayers.{TwoLayers, Move, Requests, Event, run, start}
 use Rattle.x25_bits.specs.declared.role.Role.{Role}
@@ -49,24 +50,26 @@ BringOctets (e ∷ events) = MovesOctets e.what × BringOctets events
 
 -- whatever happens to two layers of at most 4,095 channels
 abbrev pub PutsAreReadable : Type 0
-PutsAreReadable = (long_data : Bool) (channels : ℕ) → channels ≤ 4095 → (events : List Event) → BringOctets events →
+PutsAreReadable = (long_data : Bool) (channels : Ranges) → channels.count ≤ 4095 → (events : List Event)
+    → BringOctets events →
     let w : TwoLayers = run long_data channels events (start long_data channels) in AreReadable long_data w.near.given
     × AreReadable long_data w.far.given
 
 -- ---- a layer beside any peer
 
-abbrev pub BringsOctets : {r : Role} {long_data : Bool} {channels : ℕ} {w v : Joined} → Happens r long_data channels w v
+abbrev pub BringsOctets : {r : Role} {long_data : Bool} {channels : Ranges} {w v : Joined}
+    → Happens r long_data channels w v
     → Type 0
 BringsOctets (Ours move stays) = MovesOctets move
 BringsOctets other = Unit {0}
 
 -- what is reached where the user hands down octets
-pub data IsReachedByOctets (r : Role) (long_data : Bool) (channels : ℕ) : Joined → Type 0 where
+pub data IsReachedByOctets (r : Role) (long_data : Bool) (channels : Ranges) : Joined → Type 0 where
   at_start : IsReachedByOctets r long_data channels (joined_start r long_data channels)
   goes_on : (w v : Joined) → IsReachedByOctets r long_data channels w → (h : Happens r long_data channels w v)
       → BringsOctets h → IsReachedByOctets r long_data channels v
 
 abbrev pub PutsBesidePeersAreReadable : Type 0
 PutsBesidePeersAreReadable =
-    (r : Role) (long_data : Bool) (channels : ℕ) → channels ≤ 4095 → (w : Joined)
+    (r : Role) (long_data : Bool) (channels : Ranges) → channels.count ≤ 4095 → (w : Joined)
     → IsReachedByOctets r long_data channels w → AreReadable long_data w.near.given
