@@ -39,6 +39,7 @@ impl Station {
     ghost use Rattle.x25_packet.specs.declared.marks.Marks.{Marks};
     ghost use Rattle.x25_circuit.specs.Calling.{Sends};
     ghost use Rattle.x25_layer.specs.code.FitsLayer.{KeepsOn, plain_stretch, awaited_at};
+    ghost use Rattle.x25_layer.specs.Layer.Confirmed.{unconfirmed_at};
     ghost use Rattle.x25_layer.specs.Layer.InPart.{joined_at};
     ghost use Rattle.x25_link.specs.Station.{awaits_ua};
     ghost use Rattle.x25_link.specs.Link.{timer_runs};
@@ -166,6 +167,15 @@ impl Station {
             return 0;
         }
         self.layer.room(channel)
+    }
+
+    /// How many messages of a channel haven't the confirmation yet that was asked of them: they wait, or their last
+    /// packet isn't acknowledged. 0 where the channel isn't configured.
+    pub fn unconfirmed(&self, channel: u16) -> usize
+        ensures { (c : Settings) (s : State) → FitsStation c self.now s
+            → result ≡ unconfirmed_at (layer_settings c) s.layer channel }
+    {
+        self.layer.unconfirmed(channel)
     }
 
     /// How many octets have come of the message of which some packets came on a channel, at most 65,535; 0 where there
