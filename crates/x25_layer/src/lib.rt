@@ -11,6 +11,7 @@ mod free_channel;
 mod law;
 mod layer;
 mod putting;
+mod ranges;
 mod receiving;
 mod report;
 mod restarting;
@@ -25,6 +26,7 @@ pub use law::{
     messages_wait_for_users, names_are_told, two_layers_keep_order,
 };
 pub use layer::Layer;
+pub use ranges::Ranges;
 pub use report::Report;
 pub use stretch::Stretch;
 pub use x25_bits::Role;

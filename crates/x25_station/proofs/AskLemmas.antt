@@ -222,7 +222,7 @@ refused_of U found (Refused e) is = inl (err_is U StationError found e is)
 pub refuses : {manner : Manner} (T U : Type 0) (e : LayerError) (found : StationError) (c : Settings) (l : ShownLink) (y z : layer_code.Layer) (s : Station) (request : LayerRequest) → FitsParts c manner l y s → found ≡ of_layer e
     → (let x : Result T LayerError = Err e in Layers l y z x request) → (let x : Result U StationError = Err found in station.Refuses x (requests c s request))
 refuses T U e found c l y z s request fits is layers =
-    where_refused found (may_ask c.wide request) (requested c s request) (refused_of U found (requested c s request) (refuses_exactly T U e found c l y z s request fits is layers))
+    where_refused U found (may_ask c.wide request) (requested c s request) (refused_of U found (requested c s request) (refuses_exactly T U e found c l y z s request fits is layers))
 
 -- what isn't refused isn't refused exactly
 pub goes_exactly : (o : Outcome) → station.Refuses {T = Unit} (Ok tt) o → station.RefusesExactly {T = Unit} (Ok tt) o

@@ -177,7 +177,7 @@ body_octets wide long_data restart_conf f = no_octets
 
 -- ---- header
 
-format_low : (p : PlainPacket) → format_of p ≤ 9
+format_low : (p : PlainPacket) → format_of p ≤ 13
 format_low (call h called calling facilities user) = omega arith
 format_low (accept h facilities) = omega arith
 format_low (clear h cause diagnostic) = omega arith
@@ -225,7 +225,7 @@ channel_low restart_conf on = omega arith
 header_octets : (wide long_data : Bool) (p : PlainPacket) → Fits wide long_data p → IsOn p → AreOctets (header_of p)
 header_octets wide long_data p f on =
     let h : channel_of p ≤ 4095 = channel_low p on in
-    let first : format_of p ≤ 9 = format_low p in
+    let first : format_of p ≤ 13 = format_low p in
     octets_more (16 * format_of p + channel_of p / 256) (channel_of p % 256 ∷ type_of p ∷ []) (let e : 16 * format_of p + channel_of p / 256 < 256 = omega (arith, h, first) in e)
     (octets_more (channel_of p % 256) (type_of p ∷ []) (let e : channel_of p % 256 < 256 = omega (arith, h) in e) (octets_more (type_of p) [] (type_low wide long_data p f) no_octets))
 

@@ -116,7 +116,7 @@ round_given tells c g s lc (suc n) p up all = pull_given tells c g s lc (suc n) 
 pub rounds_given : PutTells → (k : ℕ) (c : LinkSettings) (g : PlainGiven) (s : LinkStation) (lc : LayerSettings) (p : Putting) → is_up s.phase ≡ true → AreTaken c g p.put (alone s)
     → AreTaken c g (rounds_of k (view_given c g s) lc p).put (alone s)
 rounds_given tells zero c g s lc p up all = all
-rounds_given tells (suc k) c g s lc p up all = rounds_given tells k c g s lc (round (view_given c g s) lc lc.channels p) up (round_given tells c g s lc lc.channels p up all)
+rounds_given tells (suc k) c g s lc p up all = rounds_given tells k c g s lc (round (view_given c g s) lc lc.channels.count p) up (round_given tells c g s lc lc.channels.count p up all)
 
 -- ---- what each such step keeps
 
@@ -153,7 +153,7 @@ given_kept tells c s g request kept = at (is_up s.link.phase) refl (layer_outcom
     at true up (Accepted next put) found =
         let p : Putting = rounds view lc (begin next put) in
         if_taken (is_taken c g request) (with_given c g (alone s.link) p (entries_of_outcome lc s.layer request (Accepted next put))) (record {
-          few = given_few lk g p.put (alone s.link) (rounds_given tells (backlog next.circuits lc.channels) lk g s.link lc (begin next put) up (accepted next put up found)) kept.few;
+          few = given_few lk g p.put (alone s.link) (rounds_given tells (backlog next.circuits lc.channels.count) lk g s.link lc (begin next put) up (accepted next put up found)) kept.few;
           rests = λ is. absurd (true_false (sym (given_up tells lk g p.put (alone s.link) up) ∙ is));
         })
 

@@ -24,6 +24,7 @@ pub mod GivenJoinLemmas
 pub mod GivingLemmas
 pub mod TakeLemmas
 pub mod TookLemmas
+pub mod ConfirmLemmas
 pub mod FollowLemmas
 pub mod HoldLemmas
 pub mod OctetLemmas

@@ -24,10 +24,10 @@ where_holds P false (Did k) refused holds = refused not_taken
 where_holds P false (Refused e) refused holds = holds
 
 -- its error is that of the layer's call, or for want of memory
-pub where_refused : {U : Type 0} (found : StationError) (may : Bool) (o : Outcome) → (let r : Result U StationError = Err found in Refuses r o → Refuses r (where_asked may o))
-where_refused found true o is = is
-where_refused found false (Did k) is = inr is
-where_refused found false (Refused e) is = is
+pub where_refused : (U : Type 0) (found : StationError) (may : Bool) (o : Outcome) → (let r : Result U StationError = Err found in Refuses r o → Refuses r (where_asked may o))
+where_refused U found true o is = is
+where_refused U found false (Did k) is = inr is
+where_refused U found false (Refused e) is = is
 
 -- ---- who reads packets in all their forms may ask for anything
 

@@ -13,7 +13,9 @@ use Rattle.x25_circuit.specs.Circuit.{Circuit, begun}
 use Rattle.x25_circuit.specs.Hearing.{answers, cause_at}
 use Rattle.x25_circuit.specs.Calling.{Outcome, Done, Refused, Calls, outcome, pulled}
 use Rattle.x25_layer.specs.Layer.{LayerSettings, Layer, LayerAnswer, is_channel, put_at, packet_on, restarting_from, answers_on, drops, answers_ready, answers_restarting, answers_in, layer_answers, goes_up, restart_cause}
-use Rattle.x25_layer.specs.Calls.{LayerRequest, Asks, Dials, Restarts, PullsAll, LayerOutcome, Accepted, Declined, highest_free, lowest_free, first_of, free_channel, where_room, if_at_once, puts_at_once, outcome_on, dialled, restarted_for, outcome_ready, outcome_in, layer_outcome, layer_pulled}
+use Rattle.x25_layer.specs.declared.ranges.Ranges.{Ranges}
+use Rattle.x25_layer.specs.Ranges.{may_call}
+use Rattle.x25_layer.specs.Calls.{LayerRequest, Asks, Dials, Restarts, PullsAll, LayerOutcome, Accepted, Declined, highest_free, lowest_free, first_of, first_free, where_callable, free_channel, where_room, if_at_once, puts_at_once, outcome_on, dialled, restarted_for, outcome_ready, outcome_in, layer_outcome, layer_pulled}
 use Rattle.x25_layer.specs.declared.error.LayerError.TheVariants as error
 use Rattle.x25_layer.specs.laws.TwoLayers.{End, TwoLayers, Move, Requests, Pulls, HandsUp, GoesDown, Event, requested, pulled_in, handed_up, moves_in, moves, turned, settings_of, happens, run, started, start}
 use Rattle.x25_layer.specs.laws.PeerJoined.{Joined, our_end, Happens, Ours, Does, Hears, HearsChannel}
@@ -51,11 +53,11 @@ module _ (wide long_data : Bool) where
   on_fits h None low may = tt
   on_fits h (Some p) low may = ((moved_fits wide long_data h p may.1, moved_on h p may.0 low.0 low.1), tt)
 
-  channel_low : (n h : ℕ) → n ≤ 4095 → is_channel n h ≡ true → (1 ≤ h) × (h ≤ 4095)
+  channel_low : (n : Ranges) (h : ℕ) → n.count ≤ 4095 → is_channel n h ≡ true → (1 ≤ h) × (h ≤ 4095)
   channel_low n h few is =
-      let parts = and_parts (nat_le 1 h) (nat_le h n) is in
+      let parts = and_parts (nat_le 1 h) (nat_le h n.count) is in
       let low : 1 ≤ h = leb-true 1 h parts.0 in
-      let high : h ≤ n = leb-true h n parts.1 in
+      let high : h ≤ n.count = leb-true h n.count parts.1 in
       (low, omega (arith, high, few))
 
   -- ---- answers
@@ -77,7 +79,7 @@ module _ (wide long_data : Bool) where
   cause_low Dte = omega arith
   cause_low Dce = omega arith
 
-  channel_answers : Agreed → (c : LayerSettings) (restarts : ℕ) (circuits : ℕ → Circuit) (h : ℕ) (p : PlainPacket) → c.channels ≤ 4095 → ChannelsFit wide circuits
+  channel_answers : Agreed → (c : LayerSettings) (restarts : ℕ) (circuits : ℕ → Circuit) (h : ℕ) (p : PlainPacket) → c.channels.count ≤ 4095 → ChannelsFit wide circuits
       → LayerFits (if is_channel c.channels h then answers_on restarts circuits h (answers c.circuit (circuits h) p) else drops false restarts circuits)
   channel_answers laws c restarts circuits h p few all = test (is_channel c.channels h) refl
     where
@@ -88,7 +90,7 @@ module _ (wide long_data : Bool) where
       test true is = record { next = put_fits circuits h (answers c.circuit (circuits h) p).next all a.next; owed = on_fits h (answers c.circuit (circuits h) p).owed (channel_low c.channels h few is) a.owed }
       test false is = record { next = all; owed = tt }
 
-  ready_answers : Agreed → (c : LayerSettings) (restarts : ℕ) (circuits : ℕ → Circuit) (p : PlainPacket) → c.channels ≤ 4095 → ChannelsFit wide circuits → LayerFits (answers_ready c restarts circuits p)
+  ready_answers : Agreed → (c : LayerSettings) (restarts : ℕ) (circuits : ℕ → Circuit) (p : PlainPacket) → c.channels.count ≤ 4095 → ChannelsFit wide circuits → LayerFits (answers_ready c restarts circuits p)
   ready_answers laws c restarts circuits (restart cause diagnostic) few all = record { next = begun_fits; owed = ((tt, on_restart_conf), tt) }
   ready_answers laws c restarts circuits restart_conf few all = record { next = begun_fits; owed = (((cause_low c.circuit.role, omega arith), on_restart (cause_at c.circuit.role 1) 17), tt) }
   ready_answers laws c restarts circuits (call h called calling facilities user) few all = channel_answers laws c restarts circuits h (call h called calling facilities user) few all
@@ -121,7 +123,7 @@ module _ (wide long_data : Bool) where
   restarting_answers restarts circuits (reset h cause diagnostic) all = dropped restarts circuits all
   restarting_answers restarts circuits (reset_conf h) all = dropped restarts circuits all
 
-  layer_fits : Agreed → (c : LayerSettings) (l : Layer) (p : PlainPacket) → c.channels ≤ 4095 → ChannelsFit wide l.circuits → LayerFits (layer_answers c l p)
+  layer_fits : Agreed → (c : LayerSettings) (l : Layer) (p : PlainPacket) → c.channels.count ≤ 4095 → ChannelsFit wide l.circuits → LayerFits (layer_answers c l p)
   layer_fits laws c l p few all = by l.restarting
     where
       by : (b : Bool) → LayerFits (answers_in c b l.restarts l.circuits p)
@@ -171,11 +173,22 @@ module _ (wide long_data : Bool) where
   lowest_in circuits zero = tt
   lowest_in circuits (suc n) = first_in n (lowest_free circuits n) _ (lowest_in circuits n)
 
-  free_in : (r : Role) (circuits : ℕ → Circuit) (n : ℕ) → InRange n (free_channel r circuits n)
-  free_in Dte circuits n = highest_in circuits n
-  free_in Dce circuits n = lowest_in circuits n
+  first_free_in : (r : Role) (circuits : ℕ → Circuit) (n : ℕ) → InRange n (first_free r circuits n)
+  first_free_in Dte circuits n = highest_in circuits n
+  first_free_in Dce circuits n = lowest_in circuits n
 
-  outcome_ready_fits : Agreed → (c : LayerSettings) → c.circuit.long_data ≡ long_data → (full : Bool) (restarts : ℕ) (circuits : ℕ → Circuit) (request : LayerRequest) → c.channels ≤ 4095 → ChannelsFit wide circuits → RequestsOctets request → may_ask wide request ≡ true
+  free_in : (r : Role) (circuits : ℕ → Circuit) (channels : Ranges) → InRange channels.count (free_channel r circuits channels)
+  free_in r circuits channels = by (first_free r circuits channels.count) (first_free_in r circuits channels.count)
+    where
+      test : (h : ℕ) (b : Bool) → InRange channels.count (Some h) → InRange channels.count (if b then Some h else None)
+      test h true x = x
+      test h false x = tt
+
+      by : (o : Option ℕ) → InRange channels.count o → InRange channels.count (where_callable r channels o)
+      by None x = tt
+      by (Some h) x = test h (may_call r channels h) x
+
+  outcome_ready_fits : Agreed → (c : LayerSettings) → c.circuit.long_data ≡ long_data → (full : Bool) (restarts : ℕ) (circuits : ℕ → Circuit) (request : LayerRequest) → c.channels.count ≤ 4095 → ChannelsFit wide circuits → RequestsOctets request → may_ask wide request ≡ true
       → LayerOutcomeFits (outcome_ready c full restarts circuits request)
   outcome_ready_fits laws c same full restarts circuits (Asks h request) few all octets may = test (is_channel c.channels h) refl
     where
@@ -187,7 +200,7 @@ module _ (wide long_data : Bool) where
       test false is = tt
   outcome_ready_fits laws c same full restarts circuits (Dials called calling user proposal) few all octets may = by (free_channel c.circuit.role circuits c.channels) (free_in c.circuit.role circuits c.channels)
     where
-      by : (o : Option ℕ) → InRange c.channels o → LayerOutcomeFits (dialled c full restarts circuits o called calling user proposal)
+      by : (o : Option ℕ) → InRange c.channels.count o → LayerOutcomeFits (dialled c full restarts circuits o called calling user proposal)
       by None r = tt
       by (Some h) r =
           room_fits full (outcome_on restarts circuits h (outcome c.circuit (circuits h) (Calls called calling user proposal)))
@@ -200,7 +213,7 @@ module _ (wide long_data : Bool) where
       test false = tt
   outcome_ready_fits laws c same full restarts circuits PullsAll few all octets may = (all, tt)
 
-  layer_outcome_fits : Agreed → (c : LayerSettings) → c.circuit.long_data ≡ long_data → (full : Bool) (l : Layer) (request : LayerRequest) → c.channels ≤ 4095 → ChannelsFit wide l.circuits → RequestsOctets request → may_ask wide request ≡ true
+  layer_outcome_fits : Agreed → (c : LayerSettings) → c.circuit.long_data ≡ long_data → (full : Bool) (l : Layer) (request : LayerRequest) → c.channels.count ≤ 4095 → ChannelsFit wide l.circuits → RequestsOctets request → may_ask wide request ≡ true
       → LayerOutcomeFits (layer_outcome c full l request)
   layer_outcome_fits laws c same full l request few all octets may = by l.restarting
     where
@@ -222,13 +235,13 @@ module _ (wide long_data : Bool) where
   requested_fits c w request (Accepted next packet) f g = record { near = record { layer = g.0; given = all_fit_append w.near.given (option_to_list packet) f.near.given g.1 }; far = f.far }
   requested_fits c w request (Declined e) f g = f
 
-  handed_up_fits : Agreed → (c : LayerSettings) (w : TwoLayers) (back : List PlainPacket) → c.channels ≤ 4095 → WorldFits w → WorldFits (handed_up c w back)
+  handed_up_fits : Agreed → (c : LayerSettings) (w : TwoLayers) (back : List PlainPacket) → c.channels.count ≤ 4095 → WorldFits w → WorldFits (handed_up c w back)
   handed_up_fits laws c w [] few f = f
   handed_up_fits laws c w (packet ∷ back) few f =
       let a : LayerFits (layer_answers c w.near.layer packet) = layer_fits laws c w.near.layer packet few f.near.layer in
       record { near = record { layer = a.next; given = all_fit_append w.near.given (option_to_list (layer_answers c w.near.layer packet).owed) f.near.given a.owed }; far = f.far }
 
-  pulls_fit : (c : LayerSettings) (w : TwoLayers) (h : ℕ) → c.channels ≤ 4095 → WorldFits w → WorldFits (if is_channel c.channels h then pulled_in w (layer_pulled c w.near.layer h) else w)
+  pulls_fit : (c : LayerSettings) (w : TwoLayers) (h : ℕ) → c.channels.count ≤ 4095 → WorldFits w → WorldFits (if is_channel c.channels h then pulled_in w (layer_pulled c w.near.layer h) else w)
   pulls_fit c w h few f = test (is_channel c.channels h) refl
     where
       p : PulledFits wide long_data (pulled c.circuit (w.near.layer.circuits h))
@@ -244,7 +257,7 @@ module _ (wide long_data : Bool) where
       }
       test false is = f
 
-  moves_fit : Agreed → (c : LayerSettings) → c.circuit.long_data ≡ long_data → (w : TwoLayers) (move : Move) → c.channels ≤ 4095 → MovesOctets wide move → WorldFits w → WorldFits (moves c w move)
+  moves_fit : Agreed → (c : LayerSettings) → c.circuit.long_data ≡ long_data → (w : TwoLayers) (move : Move) → c.channels.count ≤ 4095 → MovesOctets wide move → WorldFits w → WorldFits (moves c w move)
   moves_fit laws c same w move few octets f = by w.near.is_out move octets
     where
       by : (b : Bool) (m : Move) → MovesOctets wide m → WorldFits (moves_in c w b m)
@@ -257,21 +270,21 @@ module _ (wide long_data : Bool) where
   turned_fits : (w : TwoLayers) → WorldFits w → WorldFits (turned w)
   turned_fits w f = record { near = f.far; far = f.near }
 
-  happens_fits : Agreed → (n : ℕ) → n ≤ 4095 → (w : TwoLayers) (e : Event) → MovesOctets wide e.what → WorldFits w → WorldFits (happens long_data n w e)
+  happens_fits : Agreed → (n : Ranges) → n.count ≤ 4095 → (w : TwoLayers) (e : Event) → MovesOctets wide e.what → WorldFits w → WorldFits (happens long_data n w e)
   happens_fits laws n few w e octets f = test e.first
     where
       test : (b : Bool) → WorldFits (if b then moves (settings_of Dte long_data n) w e.what else turned (moves (settings_of Dce long_data n) (turned w) e.what))
       test true = moves_fit laws (settings_of Dte long_data n) refl w e.what few octets f
       test false = turned_fits (moves (settings_of Dce long_data n) (turned w) e.what) (moves_fit laws (settings_of Dce long_data n) refl (turned w) e.what few octets (turned_fits w f))
 
-  run_fits : Agreed → (n : ℕ) → n ≤ 4095 → (events : List Event) (w : TwoLayers) → BringOctets wide events → WorldFits w → WorldFits (run long_data n events w)
+  run_fits : Agreed → (n : Ranges) → n.count ≤ 4095 → (events : List Event) (w : TwoLayers) → BringOctets wide events → WorldFits w → WorldFits (run long_data n events w)
   run_fits laws n few [] w octets f = f
   run_fits laws n few (e ∷ events) w octets f = run_fits laws n few events (happens long_data n w e) octets.1 (happens_fits laws n few w e octets.0 f)
 
   started_fits : (c : LayerSettings) → restart_cause c.circuit.role < 256 → EndFits (started (goes_up c))
   started_fits c low = record { layer = begun_fits; given = (((low, omega arith), on_restart (restart_cause c.circuit.role) 0), tt) }
 
-  start_fits : (n : ℕ) → WorldFits (start long_data n)
+  start_fits : (n : Ranges) → WorldFits (start long_data n)
   start_fits n = record { near = started_fits (settings_of Dte long_data n) (omega arith); far = started_fits (settings_of Dce long_data n) (omega arith) }
 
   all_readable : ReadsWhatIsSpelled → TakesWhatIsSpelled → (ps : List PlainPacket) → AllFit ps → AreReadable wide long_data ps
@@ -285,14 +298,14 @@ puts_are_readable reads takes laws wide long_data n few events octets =
 
 -- ---- a layer beside any peer
 
-happens_near : (wide long_data : Bool) → Agreed → (r : Role) (channels : ℕ) → channels ≤ 4095 → (w v : Joined) → (h : Happens r long_data channels w v) → BringsOctets wide h → EndFits wide long_data w.near → EndFits wide long_data v.near
+happens_near : (wide long_data : Bool) → Agreed → (r : Role) (channels : Ranges) → channels.count ≤ 4095 → (w v : Joined) → (h : Happens r long_data channels w v) → BringsOctets wide h → EndFits wide long_data w.near → EndFits wide long_data v.near
 happens_near wide long_data laws r channels few w v (Ours move stays) octets f =
     (moves_fit wide long_data laws (settings_of r long_data channels) refl (our_end w) move few octets (record { near = f; far = f })).near
 happens_near wide long_data laws r channels few w v (Does deed p may is at) octets f = f
 happens_near wide long_data laws r channels few w v (Hears p rest packets front answers) octets f = f
 happens_near wide long_data laws r channels few w v (HearsChannel y passed p rest packets live has apart front answers) octets f = f
 
-reached_near : (wide long_data : Bool) → Agreed → (r : Role) (channels : ℕ) → channels ≤ 4095 → (w : Joined) → IsReachedByOctets wide r long_data channels w → EndFits wide long_data w.near
+reached_near : (wide long_data : Bool) → Agreed → (r : Role) (channels : Ranges) → channels.count ≤ 4095 → (w : Joined) → IsReachedByOctets wide r long_data channels w → EndFits wide long_data w.near
 reached_near wide long_data laws Dte channels few w at_start = started_fits wide long_data (settings_of Dte long_data channels) (omega arith)
 reached_near wide long_data laws Dce channels few w at_start = started_fits wide long_data (settings_of Dce long_data channels) (omega arith)
 reached_near wide long_data laws r channels few w (goes_on v u h event octets) = happens_near wide long_data laws r channels few v w event octets (reached_near wide long_data laws r channels few v h)

@@ -39,6 +39,7 @@ impl Station {
     ghost use Rattle.x25_packet.specs.declared.marks.Marks.{Marks};
     ghost use Rattle.x25_circuit.specs.Calling.{Sends};
     ghost use Rattle.x25_layer.specs.code.FitsLayer.{KeepsOn, plain_stretch, awaited_at};
+    ghost use Rattle.x25_layer.specs.Layer.Confirmed.{unconfirmed_at};
     ghost use Rattle.x25_layer.specs.Layer.InPart.{joined_at};
     ghost use Rattle.x25_link.specs.Station.{awaits_ua};
     ghost use Rattle.x25_link.specs.Link.{timer_runs};
@@ -50,7 +51,7 @@ impl Station {
         ensures fits { IfOk result (λ v. FitsStation (settings_from role cfg) v new_station) }
         ensures refused { RefusesWith result (config_refusal cfg) }
     {
-        if cfg.channels < 1 || cfg.channels > 4095 {
+        if !cfg.channels.are_valid() {
             return Err(StationError::BadConfig);
         }
         let link = match Link::new(alloc, role, cfg.k, N1, cfg.n2) {
@@ -58,7 +59,7 @@ impl Station {
             Err(LinkError::BadConfig) => return Err(StationError::BadConfig),
             Err(_) => return Err(StationError::NoMemory),
         };
-        let Ok(layer) = Layer::with(alloc, role, cfg.channels as usize, cfg.long_data) else {
+        let Ok(layer) = Layer::with(alloc, role, cfg.channels, cfg.long_data) else {
             return Err(StationError::NoMemory);
         };
         Ok(Station {
@@ -113,7 +114,7 @@ impl Station {
 
     /// How many channels it has.
     pub fn channels(&self) -> u16
-        ensures { (c : Settings) (s : State) → FitsStation c self.now s → result ≡ c.channels }
+        ensures { (c : Settings) (s : State) → FitsStation c self.now s → result ≡ c.channels.count }
     {
         self.layer.channels()
     }
@@ -166,6 +167,15 @@ impl Station {
             return 0;
         }
         self.layer.room(channel)
+    }
+
+    /// How many messages of a channel haven't the confirmation yet that was asked of them: they wait, or their last
+    /// packet isn't acknowledged. 0 where the channel isn't configured.
+    pub fn unconfirmed(&self, channel: u16) -> usize
+        ensures { (c : Settings) (s : State) → FitsStation c self.now s
+            → result ≡ unconfirmed_at (layer_settings c) s.layer channel }
+    {
+        self.layer.unconfirmed(channel)
     }
 
     /// How many octets have come of the message of which some packets came on a channel, at most 65,535; 0 where there

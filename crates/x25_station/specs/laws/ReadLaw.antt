@@ -6,6 +6,7 @@ use Rattle.x25_packet.specs.Packet.{PlainPacket}
 use Rattle.x25_packet.specs.Spelling.{IsInRange, spelling_of, longest_user}
 use Rattle.x25_wide.specs.Taking.{read_in}
 use Rattle.x25_circuit.specs.Calling.{Request, Calls, Clears, Sends, Interrupts, Resets}
+use Rattle.x25_layer.specs.declared.ranges.Ranges.{Ranges}
 use Rattle.x25_layer.specs.Calls.{LayerRequest, Asks, Dials, Restarts, PullsAll}
 use Rattle.x25_layer.specs.laws.TwoLayers.{TwoLayers, Move, Requests, Event, run, start}
 use Rattle.x25_bits.specs.declared.role.Role.{Role}
@@ -56,24 +57,25 @@ BringOctets wide (e ∷ events) = MovesOctets wide e.what × BringOctets wide ev
 -- whatever happens to two layers of at most 4,095 channels
 abbrev pub PutsAreReadable : Type 0
 PutsAreReadable =
-    (wide long_data : Bool) (channels : ℕ) → channels ≤ 4095 → (events : List Event) → BringOctets wide events →
+    (wide long_data : Bool) (channels : Ranges) → channels.count ≤ 4095 → (events : List Event)
+    → BringOctets wide events →
     let w : TwoLayers = run long_data channels events (start long_data channels) in
     AreReadable wide long_data w.near.given × AreReadable wide long_data w.far.given
 
 -- ---- a layer beside any peer
 
-abbrev pub BringsOctets : {r : Role} {long_data : Bool} {channels : ℕ} {w v : Joined} → Bool
+abbrev pub BringsOctets : {r : Role} {long_data : Bool} {channels : Ranges} {w v : Joined} → Bool
     → Happens r long_data channels w v → Type 0
 BringsOctets wide (Ours move stays) = MovesOctets wide move
 BringsOctets wide other = Unit {0}
 
 -- what is reached where the user hands down octets
-pub data IsReachedByOctets (wide : Bool) (r : Role) (long_data : Bool) (channels : ℕ) : Joined → Type 0 where
+pub data IsReachedByOctets (wide : Bool) (r : Role) (long_data : Bool) (channels : Ranges) : Joined → Type 0 where
   at_start : IsReachedByOctets wide r long_data channels (joined_start r long_data channels)
   goes_on : (w v : Joined) → IsReachedByOctets wide r long_data channels w → (h : Happens r long_data channels w v)
       → BringsOctets wide h → IsReachedByOctets wide r long_data channels v
 
 abbrev pub PutsBesidePeersAreReadable : Type 0
 PutsBesidePeersAreReadable =
-    (wide : Bool) (r : Role) (long_data : Bool) (channels : ℕ) → channels ≤ 4095 → (w : Joined)
+    (wide : Bool) (r : Role) (long_data : Bool) (channels : Ranges) → channels.count ≤ 4095 → (w : Joined)
     → IsReachedByOctets wide r long_data channels w → AreReadable wide long_data w.near.given
