@@ -36,7 +36,7 @@ of_end e f s k history sees present listed acknowledged is =
       first = subst (λ (l : Lists Message). IsPrefix (carried (take o.stretch.acked o.stretch.sent)) l.up) (sym (listed (name_at messages (state_of s) k))) n.first;
     }))
 
-pub always_acknowledged : Premises → nested.AcknowledgedAreHandedUp → (long_data : Bool) (channels : ℕ) → Always AcknowledgedAreHandedUp long_data channels
+pub always_acknowledged : Premises → nested.AcknowledgedAreHandedUp → (long_data : Bool) (channels : Ranges) → Always AcknowledgedAreHandedUp long_data channels
 always_acknowledged p acknowledged long_data channels es =
     let w : TwoLayers = run long_data channels es (start long_data channels) in
     let h : InRun channels w = in_run p long_data channels es in

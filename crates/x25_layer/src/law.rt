@@ -102,8 +102,8 @@ pub fn any_peer_keeps_transcripts()
 /// order: of a stretch that is open at an end, the messages whose last data packets are acknowledged are the first of
 /// those that the other end handed up under its name.
 pub fn acknowledged_are_handed_up()
-    ensures over { (long_data : Bool) (channels : ℕ) → Always AcknowledgedAreHandedUp long_data channels }
-    ensures apart { (long_data : Bool) (channels : ℕ) → AlwaysApart AcknowledgedAreHandedUp long_data channels }
+    ensures over { (long_data : Bool) (channels : Ranges) → Always AcknowledgedAreHandedUp long_data channels }
+    ensures apart { (long_data : Bool) (channels : Ranges) → AlwaysApart AcknowledgedAreHandedUp long_data channels }
 {
     x25_circuit::values_are_agreed();
     x25_handshakes::keeps_order();

@@ -17,7 +17,7 @@ known c = record {
   params = record { said = c.values_are_agreed.ensures.said; field = c.values_are_agreed.ensures.field; allowed = c.values_are_agreed.ensures.allowed; answered = c.values_are_agreed.ensures.answer };
 }
 
-over_links : goal.After-apart_layers_keep_order → (long_data : Bool) (channels : ℕ) → Always AcknowledgedAreHandedUp long_data channels
+over_links : goal.After-apart_layers_keep_order → (long_data : Bool) (channels : Ranges) → Always AcknowledgedAreHandedUp long_data channels
 over_links c = always_acknowledged (known c) c.acknowledged_are_handed_up.ensures.up
 
 pub returns-clause-over : goal.returns-clause-over
