@@ -65,8 +65,8 @@ const RESET_FOR_PS: Answer = (1, None, Some((0x1B, 0)));
 
 const RESET_FOR_PR: Answer = (2, None, Some((0x1B, 0)));
 
-/// The indices of a call, of a clear, of a message, of a reset, of the user's not being ready, and of a message of which
-/// confirmation is asked.
+/// The indices of a call, of a clear, of a message, of a reset, of the user's not being ready, and of a message of
+/// which confirmation is asked.
 const CALLS: usize = 0;
 
 const CLEARS: usize = 5;
