@@ -2,7 +2,7 @@
 ghost use Rattle.std.specs.Prelude.{◌≡◌};
 ghost use Rattle.x25_c.specs.Settings.{cfg_in};
 
-use x25_station::Cfg;
+use x25_station::{Cfg, Ranges};
 
 /// The settings of a station, each as `Cfg` has it.
 #[repr(C)]
@@ -16,7 +16,9 @@ pub struct Settings {
     pub wide: bool,
     /// For settings of later versions, together with `more`.
     pub later: u8,
-    pub more: u64,
+    pub incoming: u16,
+    pub outgoing: u16,
+    pub more: u32,
 }
 
 impl Settings {
@@ -30,7 +32,11 @@ impl Settings {
         Some(Cfg {
             k: self.k,
             n2: self.n2,
-            channels: self.channels,
+            channels: Ranges {
+                count: self.channels,
+                incoming: self.incoming,
+                outgoing: self.outgoing,
+            },
             long_data: self.long_data,
             say_sizes: self.say_sizes,
             wide: self.wide,

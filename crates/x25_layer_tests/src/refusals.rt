@@ -119,7 +119,7 @@ fn odd_act<L: OrderedLink>(
 }
 
 // At a DTE with so many channels these acts happen in order.
-fn odd_act_of(alloc: Global, channels: usize, acts: &[Act]) -> Option<Option<usize>> {
+fn odd_act_of(alloc: Global, channels: u16, acts: &[Act]) -> Option<Option<usize>> {
     let mut layer = layer(alloc, Role::Dte, channels).ok()?;
     let mut link = plain_link(alloc)?;
     Some(odd_act(alloc, &mut layer, &mut *link, acts))
@@ -229,7 +229,7 @@ fn the_circuit_refuses_what_its_state_does_not_allow(rt: HostRuntime) {
     );
 }
 
-fn refusal(alloc: Global, channels: usize) -> Option<LayerError> {
+fn refusal(alloc: Global, channels: u16) -> Option<LayerError> {
     layer(alloc, Role::Dte, channels).err()
 }
 

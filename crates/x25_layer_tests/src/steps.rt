@@ -480,7 +480,7 @@ fn odd_table(
 }
 
 // At a DTE with so many channels these tables happen in order.
-fn odd_row_of(alloc: Global, channels: usize, tables: &[&[Row]]) -> Option<Option<(usize, usize)>> {
+fn odd_row_of(alloc: Global, channels: u16, tables: &[&[Row]]) -> Option<Option<(usize, usize)>> {
     let mut layer = layer(alloc, Role::Dte, channels).ok()?;
     let mut link = plain_link(alloc)?;
     Some(odd_table(alloc, &mut layer, &mut link, tables))

@@ -22,15 +22,17 @@ use Rattle.x25_layer.specs.laws.TwoLayers.{TwoLayers, Move, Requests, HandsUp, r
 use Rattle.x25_layer.specs.laws.RoundLaw.{moves_all, pulls_of, AreChannels, IsRun, CallsRun, HearsRun, ComesUpAlone}
 use Rattle.x25_station.specs.declared.error.StationError.{StationError}
 use Rattle.x25_station.specs.declared.error.StationError.TheVariants as error
+use Rattle.x25_station.specs.Command.{may_ask}
 use Rattle.x25_station.specs.Config.{Settings, link_settings, layer_settings}
 use Rattle.x25_station.specs.Beside.{beside_in}
 use Rattle.x25_station.specs.Entry.{StationEntry, bringing, entries_noted, station_asked, layer_entries, layer_notices}
 use Rattle.x25_station.specs.Station.{view_of}
-use Rattle.x25_station.specs.Step.{Step, Outcome, Did, Refused, with_puts, layer_at, entries_heard, entries_of_packet, entries_of_outcome, layer_answer, confirmed_by, follows, did}
+use Rattle.x25_station.specs.Step.{Step, Outcome, Did, Refused, with_puts, layer_at, entries_heard, entries_of_packet, entries_of_outcome, layer_answer, confirmed_by, follows, did, requests_of}
 use Rattle.x25_station.specs.laws.JoinLaw.{AreAccepted, IsJoined, RequestIsJoined, ReceiveIsJoined, QuietIsJoined, DownIsJoined, ComesUp, UpIsJoined}
 use Rattle.x25_station.proofs.PutLemmas.{accepts, rounds_accepted, begin_accepted}
 use Rattle.x25_station.proofs.EntryLemmas.{told_entries, told_notices, behind_entries, behind_notices, asked_entries, asked_notices}
 use Rattle.x25_station.proofs.RequestLemmas.{has_room}
+use Rattle.x25_station.proofs.MayLemmas.{asked_did}
 
 -- a run of the layer's moves, and the link's acceptance of what it puts
 joined : (c : Settings) (w : TwoLayers) (moved : List Move) (first : TwoLayers) (t : Side) (back : List PlainPacket) (s : Putting) (entries : List StationEntry)
@@ -66,7 +68,8 @@ below n low not = differ (n == 256) refl
     differ b is = omega (arith, low, (λ (e : n ≡ 256). true_false (sym (eq-eqb n 256 e) ∙ not)))
 
 pub request_joined : CallsRun → PutTells → RequestIsJoined
-request_joined runs tells c link w request step up few is = at (is_up link.phase) refl (layer_outcome lc full w.near.layer request) refl is
+request_joined runs tells c link w request step up few is =
+    at (is_up link.phase) refl (layer_outcome lc full w.near.layer request) refl (asked_did (may_ask c.wide request) (requests_of c link w.near.layer view request) step is).1
   where
     lc : LayerSettings
     lc = layer_settings c

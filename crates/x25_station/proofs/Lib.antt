@@ -1,6 +1,7 @@
 pub mod PutLemmas
 pub mod EntryLemmas
 pub mod RequestLemmas
+pub mod MayLemmas
 pub mod JoinLemmas
 pub mod FieldLemmas
 pub mod CircuitLemmas

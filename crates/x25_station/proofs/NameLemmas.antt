@@ -83,10 +83,10 @@ round_kept link c (suc n) s h = one_kept link c (suc n) (round link c n s) h ∙
 
 rounds_of_kept : (n : ℕ) (link : LinkView) (c : LayerSettings) (s : Putting) (h : ℕ) → kept_of (rounds_of n link c s).layer h ≡ kept_of s.layer h
 rounds_of_kept zero link c s h = refl
-rounds_of_kept (suc n) link c s h = rounds_of_kept n link c (round link c c.channels s) h ∙ round_kept link c c.channels s h
+rounds_of_kept (suc n) link c s h = rounds_of_kept n link c (round link c c.channels.count s) h ∙ round_kept link c c.channels.count s h
 
 rounds_kept : (link : LinkView) (c : LayerSettings) (s : Putting) (h : ℕ) → kept_of (rounds link c s).layer h ≡ kept_of s.layer h
-rounds_kept link c s h = rounds_of_kept (backlog s.layer.circuits c.channels) link c s h
+rounds_kept link c s h = rounds_of_kept (backlog s.layer.circuits c.channels.count) link c s h
 
 pub rounds_name : (link : LinkView) (c : LayerSettings) (s : Putting) (h : ℕ) → name_of (rounds link c s).layer h ≡ name_of s.layer h
 rounds_name link c s h = ap (λ (k : Kept). k.name) (rounds_kept link c s h)

@@ -30,14 +30,14 @@ use Rattle.x25_layer.specs.Calls.{LayerRequest, Asks, Restarts, LayerOutcome, Ac
 use Rattle.x25_layer.specs.Room.{named_by}
 use Rattle.x25_layer.specs.Rounds.{LinkView, Putting, begin, rounds, went, Refuses}
 use Rattle.x25_layer.specs.code.FitsLayer.{awaited_at}
-use Rattle.x25_station.specs.Command.{Requests, RequestsWith, Connects, Disconnects, Probes, Relinks, said_by}
+use Rattle.x25_station.specs.Command.{Requests, RequestsWith, Connects, Disconnects, Probes, Relinks, said_by, may_ask}
 use Rattle.x25_station.specs.Config.{Settings, link_settings, layer_settings}
 use Rattle.x25_station.specs.Beside.{beside_in}
 use Rattle.x25_station.specs.Entry.{StationEntry, of_channel, restart_asked, connect_asked, disconnect_asked, relink_asked, link_up, link_down, was_restarted, restart_confirmed, at_fault, came_beside, was_diagnosed, was_confirmed, entries_down, entries_up, station_asked, bringing, entries_beside, entries_behind}
 use Rattle.x25_given.specs.Given.{PlainGiven}
 use Rattle.x25_station.specs.Giving.{view_given, is_taken}
 use Rattle.x25_station.specs.Station.{Station, view_of}
-use Rattle.x25_station.specs.Step.{Step, Outcome, Did, Refused, with_puts, layer_at, layer_answer, confirmed_by, entries_of_answer, follows, led_by, unless, abandons, entries_heard, entries_of_outcome, did, requests, with_given, gave, gives}
+use Rattle.x25_station.specs.Step.{Step, Outcome, Did, Refused, with_puts, layer_at, layer_answer, confirmed_by, entries_of_answer, follows, led_by, unless, abandons, entries_heard, entries_of_outcome, did, requests, with_given, gave, gives, requests_of, where_asked}
 use Rattle.x25_station.specs.Timer.{is_of_link, tells_link}
 use Rattle.x25_station.specs.laws.TimerLaw as timer
 use Rattle.x25_station.specs.laws.EndLaw.{is_answered_on, is_left_on, IsTold, EndIsTold}
@@ -46,6 +46,7 @@ use Rattle.x25_station.proofs.AwaitLemmas.{Kind, in_call, in_collision, in_reset
 use Rattle.x25_station.proofs.KeepLemmas.{LinkLaws}
 use Rattle.x25_station.proofs.PutLemmas.{all_up}
 use Rattle.x25_station.proofs.UnheardLemmas.{all_given_last}
+use Rattle.x25_station.proofs.MayLemmas.{where_holds}
 
 -- ---- a link that is up
 
@@ -140,7 +141,9 @@ module _ (c : Settings) (s : Station) (h : ℕ) where
 
     -- a request of the layer
     request_leads : (request : LayerRequest) → Goes (requests c s request)
-    request_leads request = at (is_up s.link.phase) refl (layer_outcome lc full s.layer request) (asked_moves lc h full s.layer request high_up)
+    request_leads request =
+        where_holds Goes (may_ask c.wide request) (requests_of c s.link s.layer view request) (λ e. tt)
+        (at (is_up s.link.phase) refl (layer_outcome lc full s.layer request) (asked_moves lc h full s.layer request high_up))
       where
         full : Bool
         full = waits s.link.outgoing == 256
@@ -278,11 +281,12 @@ module _ (tells : PutTells) (c : Settings) (s : Station) (request : LayerRequest
   abbrev accepted_step : Step
   accepted_step = with_puts c (alone s.link) put (entries_of_outcome (layer_settings c) s.layer request (Accepted next packet))
 
-  accepted : requests c s request ≡ Did accepted_step
-  accepted =
+  accepted : may_ask c.wide request ≡ true → requests c s request ≡ Did accepted_step
+  accepted may =
       let lc : LayerSettings = layer_settings c in
       let view : LinkView = view_of (link_settings c) s.link in
-      ap (λ (b : Bool). did c (alone s.link) (entries_of_outcome lc s.layer request (layer_outcome lc (waits s.link.outgoing == 256) s.layer request)) (if b then went view lc (layer_outcome lc (waits s.link.outgoing == 256) s.layer request) else Refuses layer_error.NotUp)) up
+      ap (λ (b : Bool). where_asked b (requests_of c s.link s.layer view request)) may
+      ∙ ap (λ (b : Bool). did c (alone s.link) (entries_of_outcome lc s.layer request (layer_outcome lc (waits s.link.outgoing == 256) s.layer request)) (if b then went view lc (layer_outcome lc (waits s.link.outgoing == 256) s.layer request) else Refuses layer_error.NotUp)) up
       ∙ ap (λ (b : Bool). did c (alone s.link) (entries_of_outcome lc s.layer request (layer_outcome lc b s.layer request)) (went view lc (layer_outcome lc b s.layer request))) (not_full (waits s.link.outgoing) low)
       ∙ ap (λ (o : LayerOutcome). did c (alone s.link) (entries_of_outcome lc s.layer request o) (went view lc o)) is
 
@@ -340,7 +344,7 @@ clear_leads_on tells c s h is low =
     ∙ ap (outcome_on l.restarts l.circuits h) (clears_it lc.circuit x old.kind old.awaits) in
     let at_h : (next.circuits h).state ≡ Clearing = ap (λ (b : Bool). let y : Circuit = if b then gone else x in y.state) (eq-eqb h h refl) in (
       accepted_step tells c s request next packet old.phase low found,
-      accepted tells c s request next packet old.phase low found,
+      accepted tells c s request next packet old.phase low found refl,
       accepted_rank tells c s request next packet old.phase low found h false Clearing refl at_h
           ∙ ap (λ (b : Bool). rank_of Up false (awaits_in b Clearing)) old.configured,
     )
@@ -354,6 +358,6 @@ restart_leads_on tells c s up ready low =
     let packet : Option PlainPacket = Some (restart 0 0) in
     let found : layer_outcome lc false l request ≡ Accepted next packet = ap (λ (r : Bool). outcome_in lc false r l.restarts l.circuits request) ready in (
       accepted_step tells c s request next packet up low found,
-      accepted tells c s request next packet up low found,
+      accepted tells c s request next packet up low found refl,
       λ h. accepted_rank tells c s request next packet up low found h true Free refl refl,
     )
