@@ -1,5 +1,5 @@
 -- What is acknowledged to an end the other one has handed up, from what is known of the nested handshakes.
-use Rattle.std.proofs.Common.{◌≡◌, ℕ, Bool, List, ◌++◌, take, Some, true, sym, ap, subst, ◌∙◌}
+use Rattle.std.proofs.Common.{◌≡◌, ℕ, Bool, take, Some, true, sym, ap, subst, ◌∙◌}
 use Rattle.x25_circuit.specs.declared.message.Message.{Message}
 use Rattle.x25_circuit.specs.Circuit.{Talk, is_open}
 use Rattle.x25_circuit.specs.Message.{carried}

@@ -1,10 +1,5 @@
-use Rattle.std.proofs.Common.{◌≡◌, ◌∙◌, ℕ, Bool, true, Option, Some, None, if◌then◌else◌, sym, ap}
-use Rattle.x25_bits.specs.declared.role.Role.{Role}
-use Rattle.x25_layer.specs.declared.ranges.Ranges.{Ranges}
-use Rattle.x25_layer.specs.Ranges.{may_call}
-use Rattle.x25_layer.specs.Layer.{LayerSettings, Layer}
-use Rattle.x25_layer.specs.Calls.{first_free, where_callable, free_channel}
-use Rattle.x25_layer.specs.code.FitsLayer.{FitsLayer}
+use Rattle.std.proofs.Common.{◌∙◌, true, sym, ap}
+use Rattle.x25_layer.specs.Calls.{where_callable}
 use Rattle.x25_layer.proofs.FreeLemmas.{callable_by}
 use Rattle.x25_layer.proofs.layer.Layer.free_channel.Goals as goal
 
