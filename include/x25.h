@@ -52,8 +52,10 @@ typedef struct {
     bool long_data;    /* a call may have up to 128 octets of user data, in place of up to 16; the same at both ends */
     bool say_sizes;    /* each CALL and CALL ACCEPTED says packet sizes and windows, as X.25 over TCP asks for */
     bool wide;         /* packets are read in all the forms that X.25 lets equipment send, and not only as a station writes them */
-    uint8_t later;     /* 0: room for settings of later versions, as is */
-    uint64_t more;     /* this */
+    uint8_t later;     /* 0: room for settings of later versions, as is `more` */
+    uint16_t incoming; /* channels 1 to this number are one-way incoming: a DTE doesn't call on them; the same at both ends */
+    uint16_t outgoing; /* so many of the highest are one-way outgoing: a DCE doesn't call on them; the same at both ends */
+    uint32_t more;
 } x25_settings;
 
 /* The name of a stretch of a channel: the restarts done since link set-up, the clears done since the last of these, and the

@@ -189,7 +189,9 @@ class _Settings(ctypes.Structure):
         ("channels", ctypes.c_uint16),
         *((name, ctypes.c_bool) for name in ("long_data", "say_sizes", "wide")),
         ("later", ctypes.c_uint8),
-        ("more", ctypes.c_uint64),
+        ("incoming", ctypes.c_uint16),
+        ("outgoing", ctypes.c_uint16),
+        ("more", ctypes.c_uint32),
     ]
 
 
@@ -311,7 +313,8 @@ def load(path: str | None = None) -> ctypes.PyDLL:
 class Station:
     """A station, DTE or DCE: window k, n2 tries of a command, 1 to 4,095 channels, whether a call may have 128 octets of user data,
     whether calls and acceptances say packet sizes and windows, as X.25 over TCP asks for, and whether packets are read in all the forms
-    that X.25 lets equipment send."""
+    that X.25 lets equipment send. Of its channels the first `incoming` are one-way incoming, on which a DTE doesn't call, and the last
+    `outgoing` one-way outgoing, on which a DCE doesn't."""
 
     def __init__(
         self,
@@ -323,6 +326,8 @@ class Station:
         say_sizes: bool = False,
         wide: bool = False,
         library: str | None = None,
+        incoming: int = 0,
+        outgoing: int = 0,
     ) -> None:
         # It is held from a call to the end of its answer.
         self._lock = threading.RLock()
@@ -334,8 +339,9 @@ class Station:
         self._receive_all, self._take_all = self._library.x25_receive_all, self._library.x25_take_all
         self._take_first = functools.partial(self._take_all, self._slot, _size(0), self._items_at, _MOST, self._room, _SPACE)
         self._end = end
-        self._check(0 if all(0 <= setting < 256 for setting in (end, k, n2)) and 0 <= channels < 65536 else 14)
-        self._check(self._library.x25_new(self._slot, end, _Settings(k, n2, channels, long_data, say_sizes, wide)))
+        fit = all(0 <= setting < 256 for setting in (end, k, n2)) and all(0 <= count < 65536 for count in (channels, incoming, outgoing))
+        self._check(0 if fit else 14)
+        self._check(self._library.x25_new(self._slot, end, _Settings(k, n2, channels, long_data, say_sizes, wide, 0, incoming, outgoing)))
 
     def __enter__(self) -> Station:
         return self

@@ -27,7 +27,8 @@ pub enum End {
 
 /// The window, 1 to 7; how often a command is sent again, 1 to 255; how many channels there are, 1 to 4,095; whether a call may have
 /// 128 octets of user data in place of 16; whether calls and acceptances say packet sizes and windows, as X.25 over TCP asks for;
-/// and whether packets are read in all the forms that X.25 lets equipment send.
+/// whether packets are read in all the forms that X.25 lets equipment send; and how many of the lowest channels are one-way incoming,
+/// on which a DTE doesn't call, and of the highest one-way outgoing, on which a DCE doesn't.
 #[derive(Clone, Copy, Debug, PartialEq, Eq)]
 pub struct Settings {
     pub k: u8,
@@ -36,6 +37,8 @@ pub struct Settings {
     pub long_data: bool,
     pub say_sizes: bool,
     pub wide: bool,
+    pub incoming: u16,
+    pub outgoing: u16,
 }
 
 impl Default for Settings {
@@ -47,6 +50,8 @@ impl Default for Settings {
             long_data: false,
             say_sizes: false,
             wide: false,
+            incoming: 0,
+            outgoing: 0,
         }
     }
 }

@@ -23,7 +23,9 @@ pub struct Settings {
     say_sizes: bool,
     wide: bool,
     later: u8,
-    more: u64,
+    incoming: u16,
+    outgoing: u16,
+    more: u32,
 }
 
 impl Settings {
@@ -36,6 +38,8 @@ impl Settings {
             say_sizes: settings.say_sizes,
             wide: settings.wide,
             later: 0,
+            incoming: settings.incoming,
+            outgoing: settings.outgoing,
             more: 0,
         }
     }

@@ -36,7 +36,7 @@ abbrev pub settings_in : StationOptions → Cfg
 settings_in s = record {
   k = s.k;
   n2 = s.n2;
-  channels = s.channels;
+  channels = record { count = s.channels; incoming = s.incoming; outgoing = s.outgoing };
   long_data = s.long;
   say_sizes = s.say_sizes;
   wide = s.wide;

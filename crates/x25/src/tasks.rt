@@ -15,7 +15,7 @@ use x25_io::{Fault, Sink, Source};
 use x25_judge::{Strictness, judge_lines};
 use x25_pipe::{Role, Times, station, timed_station};
 use x25_settings::{End, GivenTimes, Place, Simulation, StationOptions, Task};
-use x25_sim::{Cfg, Reporter, Shown, sim};
+use x25_sim::{Cfg, Ranges, Reporter, Shown, sim};
 
 /// The settings of a station, as the words of the command line say them.
 fn settings_of(options: StationOptions) -> Cfg
@@ -24,7 +24,11 @@ fn settings_of(options: StationOptions) -> Cfg
     Cfg {
         k: options.k,
         n2: options.n2,
-        channels: options.channels,
+        channels: Ranges {
+            count: options.channels,
+            incoming: options.incoming,
+            outgoing: options.outgoing,
+        },
         long_data: options.long,
         say_sizes: options.say_sizes,
         wide: options.wide,

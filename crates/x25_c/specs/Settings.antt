@@ -8,7 +8,7 @@ abbrev pub cfg_of : Settings → Cfg
 cfg_of s = record {
   k = s.k;
   n2 = s.n2;
-  channels = s.channels;
+  channels = record { count = s.channels; incoming = s.incoming; outgoing = s.outgoing };
   long_data = s.long_data;
   say_sizes = s.say_sizes;
   wide = s.wide;

@@ -2,7 +2,7 @@
 ghost use Rattle.std.specs.Prelude.{◌≡◌};
 ghost use Rattle.x25_c.specs.Settings.{cfg_in};
 
-use x25_station::Cfg;
+use x25_station::{Cfg, Ranges};
 
 /// The settings of a station, each as `Cfg` has it.
 #[repr(C)]
@@ -14,9 +14,11 @@ pub struct Settings {
     pub long_data: bool,
     pub say_sizes: bool,
     pub wide: bool,
-    /// For settings of later versions, together with `more`.
+    /// For settings of later versions, as is `more`.
     pub later: u8,
-    pub more: u64,
+    pub incoming: u16,
+    pub outgoing: u16,
+    pub more: u32,
 }
 
 impl Settings {
@@ -30,7 +32,11 @@ impl Settings {
         Some(Cfg {
             k: self.k,
             n2: self.n2,
-            channels: self.channels,
+            channels: Ranges {
+                count: self.channels,
+                incoming: self.incoming,
+                outgoing: self.outgoing,
+            },
             long_data: self.long_data,
             say_sizes: self.say_sizes,
             wide: self.wide,

@@ -1,13 +1,16 @@
 -- How many messages ask for confirmation, of what was sent and what waits.
-use Rattle.std.proofs.Common.{◌≡◌, ℕ, zero, suc, ◌+◌, ◌≤◌, List, [], ◌∷◌, ◌++◌, length, take, drop, Bool, true, false, not, ◌&&◌, nat_le, if◌then◌else◌, refl, sym, ap, ◌∙◌, arith}
+use Rattle.std.proofs.Common.{◌≡◌, ℕ, zero, suc, ◌+◌, ◌≤◌, List, [], ◌∷◌, ◌++◌, length, take, drop, map, slice_get, Some, Bool, true, false, nat_le, if◌then◌else◌, refl, sym, ap, subst, ◌∙◌, arith}
+use Rattle.std.proofs.lemmas.List.{drop-drop, drop-map}
+use Rattle.std.specs.Int.{from_bool}
 use Rattle.x25_bits.specs.Bits.{bit}
 use Rattle.x25_packet.specs.declared.marks.Marks.{Marks}
 use Rattle.x25_packet.specs.Marks.{with_q}
 use Rattle.x25_circuit.specs.declared.message.Message.{Message}
-use Rattle.x25_circuit.specs.Message.{Piece, More, Last, piece_of, asks, asked_in, wholes, ends_of, cut_from, cut, cut_all}
+use Rattle.x25_circuit.specs.code.Cutter.{first_cut}
+use Rattle.x25_circuit.specs.Message.{Piece, More, Last, piece_of, asks, asked_in, wholes, ends_of, cut_from}
 
 pub asked_append : (ps rs : List Piece) → asked_in (ps ++ rs) ≡ asked_in ps + asked_in rs
-asked_append [] rs = refl
+asked_append [] rs = omega arith
 asked_append (p ∷ ps) rs = let h = asked_append ps rs in omega (arith, h)
 
 -- behind an acknowledged packet, of those sent
@@ -20,15 +23,19 @@ drop_sent (suc n) (p ∷ sent) rest low = drop_sent n sent rest (omega (arith, l
 asked_if : (b : Bool) (q : Marks) (user part : List ℕ) (rest : List Piece) → asked_in rest ≡ bit q.d
     → asked_in (if b then Last q user ∷ [] else More (with_q q.q) part ∷ rest) ≡ bit q.d
 asked_if true q user part rest h = omega arith
-asked_if false q user part rest h = h
+asked_if false q user part rest h = omega (arith, h)
 
 pub asked_cut : (n size : ℕ) (q : Marks) (user : List ℕ) → asked_in (cut_from n size q user) ≡ bit q.d
 asked_cut zero size q user = omega arith
 asked_cut (suc n) size q user = asked_if (nat_le (length user) size) q user (take size user) (cut_from n size q (drop size user)) (asked_cut n size q (drop size user))
 
-bit_few : (b : Bool) → bit b ≤ 1
+pub bit_few : (b : Bool) → bit b ≤ 1
 bit_few true = omega arith
 bit_few false = omega arith
+
+pub byte_is_bit : (b : Bool) → from_bool b ≡ bit b
+byte_is_bit true = refl
+byte_is_bit false = refl
 
 -- no more than messages that end in them
 asked_end : (p : Piece) → bit (asks p) ≤ ends_of p
@@ -44,10 +51,44 @@ pub asked_short : (ps : List Piece) → asked_in ps ≤ length ps
 asked_short [] = omega arith
 asked_short (p ∷ ps) = let h = bit_few (asks p) in let k = asked_short ps in omega (arith, h, k)
 
--- one packet more is acknowledged
-pub asked_next : (n : ℕ) (sent : List Piece) (p : Piece) (rest : List Piece) → drop n sent ≡ p ∷ rest → asked_in (drop n sent) ≡ bit (asks p) + asked_in rest
-asked_next n sent p rest e = ap asked_in e
+-- ---- packets that are acknowledged
 
-pub asks_of_piece : (q : Marks) (m : Bool) (user : List ℕ) → asks (piece_of q m user) ≡ (not m && q.d)
-asks_of_piece q true user = refl
-asks_of_piece q false user = refl
+first_asks : (ps : List Piece) (b : Bool) → slice_get (map asks ps) 0 ≡ Some b → bit b + asked_in (drop 1 ps) ≡ asked_in ps
+first_asks [] b e = absurd (cc)
+first_asks (p ∷ ps) b e = let same : asks p ≡ b = cc in ap (λ (a : Bool). bit a + asked_in ps) (sym same)
+
+-- one more, of which the sender kept whether it asks
+pub asked_next : (n : ℕ) (sent : List Piece) (b : Bool) → slice_get (drop n (map asks sent)) 0 ≡ Some b → bit b + asked_in (drop (n + 1) sent) ≡ asked_in (drop n sent)
+asked_next n sent b e =
+    subst (λ (ps : List Piece). bit b + asked_in ps ≡ asked_in (drop n sent)) (drop-drop 1 n sent)
+    (first_asks (drop n sent) b (ap (λ (bs : List Bool). slice_get bs 0) (sym (drop-map asks n sent)) ∙ e))
+
+asked_left : (count : ℕ) (ps : List Piece) → asked_in (drop count ps) ≤ asked_in ps
+asked_left zero ps = omega arith
+asked_left (suc n) [] = omega arith
+asked_left (suc n) (p ∷ ps) = let h = asked_left n ps in omega (arith, h)
+
+-- no more ask of those that are left
+pub asked_fewer : (n count : ℕ) (ps : List Piece) → asked_in (drop (n + count) ps) ≤ asked_in (drop n ps)
+asked_fewer n count ps = subst (λ (rs : List Piece). asked_in rs ≤ asked_in (drop n ps)) (drop-drop count n ps) (asked_left count (drop n ps))
+
+-- ---- the packet cut next: where it has D a message ends with it
+
+abbrev d_of : Piece → Bool
+d_of (More q user) = q.d
+d_of (Last q user) = q.d
+
+d_of_piece : (q : Marks) (m : Bool) (user : List ℕ) → d_of (piece_of q m user) ≡ q.d
+d_of_piece q true user = refl
+d_of_piece q false user = refl
+
+asks_by : (b : Bool) (q : Marks) (user part : List ℕ) → asks (if b then Last q user else More (with_q q.q) part) ≡ d_of (if b then Last q user else More (with_q q.q) part)
+asks_by true q user part = refl
+asks_by false q user part = refl
+
+asks_by_d : (size : ℕ) (ms : List Message) → asks (first_cut size ms) ≡ d_of (first_cut size ms)
+asks_by_d size [] = refl
+asks_by_d size (m ∷ ms) = asks_by (nat_le (length m.user) size) m.q m.user (take size m.user)
+
+pub asks_as_marked : (size : ℕ) (ms : List Message) (q : Marks) (m : Bool) (user : List ℕ) → piece_of q m user ≡ first_cut size ms → asks (piece_of q m user) ≡ q.d
+asks_as_marked size ms q m user e = ap asks e ∙ asks_by_d size ms ∙ sym (ap d_of e) ∙ d_of_piece q m user

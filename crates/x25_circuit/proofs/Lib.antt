@@ -5,4 +5,5 @@ pub mod AskLemmas
 pub mod TalkLemmas
 pub mod PullLemmas
 pub mod AskedLemmas
+pub mod NumbersLemmas
 pub mod CarryLemmas

@@ -1,7 +1,8 @@
 -- What a circuit's variables stand for after a small change.
-use Rattle.std.proofs.Common.{◌≡◌, ℕ, ◌+◌, ◌≤◌, Bool, true, false, IsTrue, if◌then◌else◌, List, [], length, refl, sym, ap, subst, ◌∙◌, ◌==◌, ◌%◌, nat_le, Option, Some, None}
+use Rattle.std.proofs.Common.{◌≡◌, ℕ, ◌+◌, ◌≤◌, Bool, true, false, IsTrue, if◌then◌else◌, List, [], ◌++◌, drop, length, refl, sym, ap, subst, ◌∙◌, ◌==◌, ◌%◌, nat_le, Option, Some, None}
 use Rattle.x25_window.specs.code.Modulo.{resolved}
 use Rattle.x25_window.specs.Receiver.{FitsTaken}
+use Rattle.x25_window.specs.code.Held.{Held}
 use Rattle.x25_window.specs.declared.receiver.Receiver.{Receiver}
 use Rattle.x25_packet.specs.Facilities.{IsFacilityField}
 use Rattle.x25_packet.specs.declared.marks.Marks.{Marks}
@@ -14,7 +15,8 @@ use Rattle.x25_circuit.specs.Queue.{waiting}
 use Rattle.x25_circuit.specs.Hearing.{data_ground, number_ground}
 use Rattle.x25_circuit.proofs.MessageLemmas.{wholes_all}
 use Rattle.x25_circuit.specs.Circuit.{Settings, Talk, Circuit, outgoing}
-use Rattle.x25_circuit.specs.code.Changes.{with_rest, with_peer, with_own}
+use Rattle.x25_circuit.specs.code.Changes.{with_acked, with_rest, with_peer, with_own}
+use Rattle.x25_circuit.specs.code.FitsNumbers.{FitsNumbers}
 use Rattle.x25_circuit.specs.code.Fits.{FitsTalk, first_ground}
 use Rattle.x25_circuit.specs.code.FitsCircuit.{FitsCircuit}
 
@@ -52,6 +54,10 @@ piece_ground_of size j q false user = refl
 pub queue_fits : (size : ℕ) (v : Transfer) (t : Talk) (queue : Queue) (rest : List Piece) (unconfirmed : ℕ) → FitsTalk size v t → rest ≡ cut_all size (waiting queue)
     → unconfirmed ≡ asked_in (drop t.acked (t.sent ++ rest)) → FitsTalk size (record v { queue = queue; unconfirmed = unconfirmed }) (with_rest rest t)
 queue_fits size v t queue rest unconfirmed fits cut asked = record { numbers = fits.numbers; taken = fits.taken; rest = cut; part = fits.part; short = fits.short; unconfirmed = asked; int_out = fits.int_out; peer_ready = fits.peer_ready; own_ready = fits.own_ready }
+
+pub acked_fits : (size : ℕ) (v : Transfer) (t : Talk) (sender : Held Bool) (n unconfirmed : ℕ) → FitsTalk size v t → FitsNumbers sender n t.sent
+    → unconfirmed ≡ asked_in (drop n (t.sent ++ t.rest)) → FitsTalk size (record v { sender = sender; unconfirmed = unconfirmed }) (with_acked n t)
+acked_fits size v t sender n unconfirmed fits numbers asked = record { numbers = numbers; taken = fits.taken; rest = fits.rest; part = fits.part; short = fits.short; unconfirmed = asked; int_out = fits.int_out; peer_ready = fits.peer_ready; own_ready = fits.own_ready }
 
 -- memory that is set aside is no part of what is stood for
 pub partial_fits : (size : ℕ) (v : Transfer) (t : Talk) (p : ShownPartial) → FitsTalk size v t → p.part ≡ v.partial.part → FitsTalk size (record v { partial = p }) t

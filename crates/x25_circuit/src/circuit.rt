@@ -169,9 +169,10 @@ impl Circuit {
     }
 
     /// How many messages haven't the confirmation yet that was asked of them: they wait, or their last packet isn't
-    /// acknowledged. They are 15 at most.
+    /// acknowledged. They are 15 at most. ITU-T X.25 (10/96), section 4.4.1.4.
     pub fn unconfirmed(&self) -> usize
-        ensures { (c : Settings) (x : Channel) → FitsCircuit c self.now x → result ≡ unconfirmed x }
+        ensures value { (c : Settings) (x : Channel) → FitsCircuit c self.now x → result ≡ unconfirmed x }
+        ensures few { (c : Settings) (x : Channel) → FitsCircuit c self.now x → result ≤ 15 }
     {
         usize::from(self.transfer.unconfirmed)
     }

@@ -41,3 +41,4 @@ pub use proposal::Proposal;
 pub use pulling::DataPacket;
 pub use request::Request;
 pub use x25_bits::Role;
+pub use x25_packet::Marks;

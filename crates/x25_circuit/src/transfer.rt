@@ -74,10 +74,8 @@ fn acknowledge(sender: &mut Sender<bool>, count: u8) -> u8
     ensures few { result ≤ count }
 {
     let mut asked = 0;
-    for _ in 0..count {
-        if sender.release() {
-            asked += 1;
-        }
+    for _packet in 0..count {
+        asked += u8::from(sender.release());
     }
     asked
 }
@@ -132,6 +130,9 @@ impl Transfer {
         ensures queue { self.new.queue ≡ self.old.queue }
         ensures unchanged { result ≡ false → self.new ≡ self.old }
     {
+        if self.unconfirmed == 0 {
+            return self.sender.ack(pr).is_ok();
+        }
         let Ok(count) = self.sender.acknowledges(pr) else {
             return false;
         };
@@ -218,7 +219,7 @@ impl Transfer {
         let Some(cut) = self.queue.cut(terms.size) else {
             return None;
         };
-        let ps = count_sent(&mut self.sender, !cut.m && cut.q.d);
+        let ps = count_sent(&mut self.sender, cut.q.d);
         Some(Header {
             q: cut.q,
             m: cut.m,

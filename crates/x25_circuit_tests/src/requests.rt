@@ -26,7 +26,7 @@ impl Proposals {
         }
     }
 
-    /// The request of an index up to 15.
+    /// The request of an index up to 16.
     pub fn request(&self, index: usize) -> Request<'_> {
         match index {
             0 => self.call("2", &self.usual),
@@ -49,7 +49,11 @@ impl Proposals {
             12 => clear(129),
             13 => clear(9),
             14 => reset(128),
-            _ => reset(255),
+            15 => reset(255),
+            _ => Request::Send {
+                q: Marks { q: false, d: true },
+                user: &[],
+            },
         }
     }
 
@@ -79,7 +83,7 @@ fn reset<'a>(cause: u8) -> Request<'a> {
 
 /// Of each request of a DTE, in order, the number of its refusal or 0: in p1, of a circuit that called, and in p4 with
 /// d1.
-static REFUSALS: [[u8; 3]; 16] = [
+static REFUSALS: [[u8; 3]; 17] = [
     [0, 30, 30],
     [34, 30, 30],
     [34, 30, 30],
@@ -95,6 +99,7 @@ static REFUSALS: [[u8; 3]; 16] = [
     [30, 0, 0],
     [30, 34, 34],
     [30, 30, 34],
+    [30, 30, 0],
     [30, 30, 0],
 ];
 

@@ -13,9 +13,10 @@ enum Act {
     Ask(usize),
     CallAccepted,
     Clear,
+    ResetConfirmed,
     TooFewOctets,
-    /// DATA comes, with P(S), P(R), M, Q and so many octets.
-    Data(u8, u8, bool, bool, usize),
+    /// DATA comes, with P(S), P(R), M, its marks and so many octets.
+    Data(u8, u8, bool, Marks, usize),
     /// RR comes, with P(R).
     Rr(u8),
     /// RNR comes, with P(R).
@@ -25,28 +26,36 @@ enum Act {
     Zero,
 }
 
-/// What it answers: the number of a refusal or of a fault, else 0; the qualifier of a message that ended, and how many
+/// What it answers: the number of a refusal or of a fault, else 0; the marks of a message that ended, and how many
 /// octets it has; and the third octet of a packet, and how many octets of user data it has.
-type Answer = (u8, Option<(bool, usize)>, Option<(u8, usize)>);
+type Answer = (u8, Option<(Marks, usize)>, Option<(u8, usize)>);
 
 /// What a circuit says: how often it was cleared and reset, whether it is free and is open, how many messages wait, how
-/// many more it takes, and how many octets came of one in part.
-type Says = (u64, u64, bool, bool, usize, usize, usize);
+/// many more it takes, how many aren't confirmed, and how many octets came of one in part.
+type Says = (u64, u64, bool, bool, usize, usize, usize, usize);
 
 type Row = (Act, Answer, Says);
 
-const FREE: Says = (0, 0, true, false, 0, 0, 0);
+const PLAIN: Marks = Marks { q: false, d: false };
 
-const OPEN: Says = (0, 0, false, true, 0, 8, 0);
+const QUALIFIED: Marks = Marks { q: true, d: false };
 
-const HAS_128_OCTETS: Says = (0, 0, false, true, 0, 8, 128);
+const ASKING: Marks = Marks { q: true, d: true };
 
-const ONE_WAITS: Says = (0, 0, false, true, 1, 7, 0);
+const FREE: Says = (0, 0, true, false, 0, 0, 0, 0);
 
-const TWO_WAIT: Says = (0, 0, false, true, 2, 6, 0);
+const OPEN: Says = (0, 0, false, true, 0, 8, 0, 0);
+
+const HAS_128_OCTETS: Says = (0, 0, false, true, 0, 8, 0, 128);
+
+const ONE_WAITS: Says = (0, 0, false, true, 1, 7, 0, 0);
+
+const TWO_WAIT: Says = (0, 0, false, true, 2, 6, 0, 0);
+
+const CLEARED: Says = (1, 0, true, false, 0, 0, 0, 0);
 
 /// In no state of these.
-const BETWEEN: Says = (0, 0, false, false, 0, 0, 0);
+const BETWEEN: Says = (0, 0, false, false, 0, 0, 0, 0);
 
 const CALL: Answer = (0, None, Some((0x0B, 0)));
 
@@ -56,7 +65,8 @@ const RESET_FOR_PS: Answer = (1, None, Some((0x1B, 0)));
 
 const RESET_FOR_PR: Answer = (2, None, Some((0x1B, 0)));
 
-/// The indices of a call, of a clear, of a message, of a reset, and of the user's not being ready.
+/// The indices of a call, of a clear, of a message, of a reset, of the user's not being ready, and of a message of
+/// which confirmation is asked.
 const CALLS: usize = 0;
 
 const CLEARS: usize = 5;
@@ -67,17 +77,19 @@ const RESETS: usize = 9;
 
 const NOT_READY: usize = 11;
 
+const ASKS: usize = 16;
+
 static IN_A_CALL: [Row; 15] = [
     (Act::Ask(CALLS), CALL, BETWEEN),
     (Act::CallAccepted, NOTHING, OPEN),
     (
-        Act::Data(0, 0, true, true, 128),
+        Act::Data(0, 0, true, QUALIFIED, 128),
         (0, None, Some((0x21, 0))),
         HAS_128_OCTETS,
     ),
     (
-        Act::Data(1, 0, false, true, 2),
-        (0, Some((true, 130)), Some((0x41, 0))),
+        Act::Data(1, 0, false, ASKING, 2),
+        (0, Some((ASKING, 130)), Some((0x41, 0))),
         OPEN,
     ),
     (Act::Ask(SENDS), NOTHING, ONE_WAITS),
@@ -88,8 +100,8 @@ static IN_A_CALL: [Row; 15] = [
     (Act::Pull, (0, None, Some((0x40, 0))), ONE_WAITS),
     (Act::Ask(NOT_READY), (0, None, Some((0x45, 0))), ONE_WAITS),
     (
-        Act::Data(2, 1, false, false, 0),
-        (0, Some((false, 0)), Some((0x65, 0))),
+        Act::Data(2, 1, false, PLAIN, 0),
+        (0, Some((PLAIN, 0)), Some((0x65, 0))),
         ONE_WAITS,
     ),
     (Act::Rr(2), RESET_FOR_PR, BETWEEN),
@@ -102,38 +114,75 @@ static REPEATED: [Row; 4] = [
     (Act::Ask(CALLS), CALL, BETWEEN),
     (Act::CallAccepted, NOTHING, OPEN),
     (
-        Act::Data(0, 0, true, true, 128),
+        Act::Data(0, 0, true, QUALIFIED, 128),
         (0, None, Some((0x21, 0))),
         HAS_128_OCTETS,
     ),
-    (Act::Data(0, 0, true, true, 128), RESET_FOR_PS, BETWEEN),
+    (Act::Data(0, 0, true, QUALIFIED, 128), RESET_FOR_PS, BETWEEN),
 ];
 
 static BETWEEN_CALLS: [Row; 8] = [
     (Act::TooFewOctets, (38, None, Some((0x13, 0))), BETWEEN),
-    (Act::Clear, NOTHING, (1, 0, true, false, 0, 0, 0)),
+    (Act::Clear, NOTHING, CLEARED),
     (Act::Zero, NOTHING, FREE),
     (Act::Ask(CLEARS), (30, None, None), FREE),
+    (Act::Clear, (0, None, Some((0x17, 0))), CLEARED),
+    (Act::Ask(CALLS), CALL, (1, 0, false, false, 0, 0, 0, 0)),
+    (Act::CallAccepted, NOTHING, (1, 0, false, true, 0, 8, 0, 0)),
+    (Act::Forget, NOTHING, CLEARED),
+];
+
+// Each packet of the window is acknowledged by itself; then there is a reset, and at last the call is cleared.
+static CONFIRMED: [Row; 17] = [
+    (Act::Ask(CALLS), CALL, BETWEEN),
+    (Act::CallAccepted, NOTHING, OPEN),
+    (Act::Ask(ASKS), NOTHING, (0, 0, false, true, 1, 7, 1, 0)),
+    (Act::Ask(SENDS), NOTHING, (0, 0, false, true, 2, 6, 1, 0)),
+    (Act::Ask(ASKS), NOTHING, (0, 0, false, true, 3, 5, 2, 0)),
     (
-        Act::Clear,
-        (0, None, Some((0x17, 0))),
-        (1, 0, true, false, 0, 0, 0),
+        Act::Pull,
+        (0, None, Some((0x00, 0))),
+        (0, 0, false, true, 2, 6, 2, 0),
     ),
-    (Act::Ask(CALLS), CALL, (1, 0, false, false, 0, 0, 0)),
-    (Act::CallAccepted, NOTHING, (1, 0, false, true, 0, 8, 0)),
-    (Act::Forget, NOTHING, (1, 0, true, false, 0, 0, 0)),
+    (
+        Act::Pull,
+        (0, None, Some((0x02, 0))),
+        (0, 0, false, true, 1, 7, 2, 0),
+    ),
+    (Act::Rr(1), NOTHING, (0, 0, false, true, 1, 7, 1, 0)),
+    (
+        Act::Pull,
+        (0, None, Some((0x04, 0))),
+        (0, 0, false, true, 0, 8, 1, 0),
+    ),
+    (Act::Rr(2), NOTHING, (0, 0, false, true, 0, 8, 1, 0)),
+    (Act::Rr(3), NOTHING, OPEN),
+    (Act::Ask(ASKS), NOTHING, (0, 0, false, true, 1, 7, 1, 0)),
+    (Act::Ask(RESETS), (0, None, Some((0x1B, 0))), BETWEEN),
+    (
+        Act::ResetConfirmed,
+        NOTHING,
+        (0, 1, false, true, 0, 8, 0, 0),
+    ),
+    (Act::Ask(ASKS), NOTHING, (0, 1, false, true, 1, 7, 1, 0)),
+    (
+        Act::Pull,
+        (0, None, Some((0x00, 0))),
+        (0, 1, false, true, 0, 8, 1, 0),
+    ),
+    (Act::Clear, (0, None, Some((0x17, 0))), CLEARED),
 ];
 
 static JOINED: [Row; 4] = [
     (Act::Ask(CALLS), CALL, BETWEEN),
     (Act::CallAccepted, NOTHING, OPEN),
     (
-        Act::Data(0, 0, true, false, 128),
+        Act::Data(0, 0, true, PLAIN, 128),
         (0, None, Some((0x21, 0))),
         HAS_128_OCTETS,
     ),
     (
-        Act::Data(1, 0, true, false, 0),
+        Act::Data(1, 0, true, PLAIN, 0),
         (0, None, Some((0x41, 0))),
         HAS_128_OCTETS,
     ),
@@ -203,7 +252,7 @@ fn heard_data(
     circuit: &mut Circuit,
     alloc: Global,
     (ps, pr): (u8, u8),
-    (m, q): (bool, bool),
+    (m, marks): (bool, Marks),
     count: usize,
 ) -> Result<Answer, CircuitError> {
     let user = vec![in alloc; 0u8; count]?;
@@ -211,7 +260,7 @@ fn heard_data(
         circuit,
         &Packet::Data {
             channel: 1,
-            marks: Marks::with_q(q),
+            marks,
             m,
             ps: Seq::modulo(ps),
             pr: Seq::modulo(pr),
@@ -238,8 +287,15 @@ fn happens(circuit: &mut Circuit, alloc: Global, act: Act) -> Result<Answer, Cir
         Act::Ask(index) => Ok(asked(circuit, index)),
         Act::CallAccepted => heard(circuit, &acceptance()),
         Act::Clear => heard(circuit, &CLEAR),
+        Act::ResetConfirmed => heard(circuit, &Packet::ResetConf { channel: 1 }),
         Act::TooFewOctets => Ok(replied(&hear_too_few(circuit))),
-        Act::Data(ps, pr, m, q, count) => heard_data(circuit, alloc, (ps, pr), (m, q), count),
+        Act::Data(ps, pr, m, marks, count) => heard_data(
+            circuit,
+            alloc,
+            (ps, pr),
+            (m, marks),
+            count,
+        ),
         Act::Rr(pr) => heard(
             circuit,
             &Packet::Rr {
@@ -275,6 +331,7 @@ fn says(circuit: &Circuit) -> Says {
         circuit.is_open(),
         circuit.waits(),
         circuit.room(),
+        circuit.unconfirmed(),
         circuit.octets_joined(),
     )
 }
@@ -298,6 +355,7 @@ fn odd_row_of(alloc: Global, rows: &[Row]) -> Result<Option<usize>, CircuitError
 fn packets_of_data_transfer_are_answered(rt: HostRuntime) {
     assert_eq!(rt; odd_row_of(rt.alloc(), IN_A_CALL.as_slice()), Ok(None));
     assert_eq!(rt; odd_row_of(rt.alloc(), REPEATED.as_slice()), Ok(None));
+    assert_eq!(rt; odd_row_of(rt.alloc(), CONFIRMED.as_slice()), Ok(None));
 }
 
 #[test]

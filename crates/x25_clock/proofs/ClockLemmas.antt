@@ -207,8 +207,8 @@ module _ (c : Settings) (times : Times) where
   off_first : (time : ℕ) → Stands 0 time false None
   off_first time = record { on = λ e. false_true e; off = λ e. refl }
 
-  first_true : AreTrue c times (record { station = new_station; deadlines = nothing_awaited c.channels; now = 0 })
-  first_true = record { t1 = off_first times.t1; idle = off_first times.t3; restart = off_first times.t20; waits = first_waits c.channels 1; channels = refl }
+  first_true : AreTrue c times (record { station = new_station; deadlines = nothing_awaited c.channels.count; now = 0 })
+  first_true = record { t1 = off_first times.t1; idle = off_first times.t3; restart = off_first times.t20; waits = first_waits c.channels.count 1; channels = refl }
 
 pub deadlines_are_true : DeadlinesAreTrue
 deadlines_are_true c times moments = from_here c times moments _ (first_true c times)

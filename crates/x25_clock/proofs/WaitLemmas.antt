@@ -193,10 +193,10 @@ module _ (c : Settings) (times : Times) (h bound : ℕ) (set : AreSet times) (sm
 
   has_it : (w : Watched) → AreTrue c times w → is_channel c.channels h ≡ true → Has h (map channel_in w.deadlines.waits)
   has_it w true_now is =
-      let both = and_parts (nat_le 1 h) (nat_le h c.channels) is in
+      let both = and_parts (nat_le 1 h) (nat_le h c.channels.count) is in
       let low : 1 ≤ h = leb-true 1 h both.0 in
-      let high : h ≤ c.channels = leb-true h c.channels both.1 in
-      subst (Has h) (sym true_now.channels) (has_channel h c.channels 1 low (omega (arith, high)))
+      let high : h ≤ c.channels.count = leb-true h c.channels.count both.1 in
+      subst (Has h) (sym true_now.channels) (has_channel h c.channels.count 1 low (omega (arith, high)))
 
   in_time : (w : Watched) (now : ℕ) → AreTrue c times w → 2 ≤ rank c w.station h → IsNotPast now (next_of w.deadlines) → IsBy w.station.layer.restarting w.deadlines.restart w.deadlines.waits
       → InTime w.station.layer.restarting (awaited w.station) now

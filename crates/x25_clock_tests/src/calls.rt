@@ -3,13 +3,17 @@
 
 use std::alloc::Global;
 use x25_clock::{Clock, Due, Times};
-use x25_station::{Awaits, Cfg, Cmd, Role, Station, StationError, Step};
+use x25_station::{Awaits, Cfg, Cmd, Ranges, Role, Station, StationError, Step};
 
 /// N2 = 1, and two channels.
 const SETTINGS: Cfg = Cfg {
     k: 7,
     n2: 1,
-    channels: 2,
+    channels: Ranges {
+        count: 2,
+        incoming: 0,
+        outgoing: 0,
+    },
     long_data: false,
     say_sizes: false,
     wide: false,
@@ -24,7 +28,7 @@ fn boxed<T: Drop>(alloc: Global, value: T) -> Option<Box<T>> {
 /// A DTE with so many channels.
 pub fn station(alloc: Global, channels: u16) -> Option<Box<Station>> {
     let cfg = Cfg {
-        channels,
+        channels: Ranges::two_way(channels),
         ..SETTINGS
     };
     boxed(alloc, Station::new(alloc, Role::Dte, cfg).ok()?)

@@ -10,7 +10,7 @@ use crate::in_memory::{Flag, Frames, Told};
 use anyhow::Result;
 use std::alloc::Global;
 use std::io::{self, Write};
-use x25_station::{Cfg, Cmd, Role, Station, StationError, Step};
+use x25_station::{Cfg, Cmd, Ranges, Role, Station, StationError, Step};
 
 /// As many frames as a run delivers at most, each way, before it gives up.
 const MOST_DELIVERIES: usize = 1_000;
@@ -18,7 +18,11 @@ const MOST_DELIVERIES: usize = 1_000;
 const SETTINGS: Cfg = Cfg {
     k: 7,
     n2: 10,
-    channels: 1,
+    channels: Ranges {
+        count: 1,
+        incoming: 0,
+        outgoing: 0,
+    },
     long_data: false,
     say_sizes: false,
     wide: false,

@@ -4,7 +4,7 @@ use x25_bit_line::{Role, deframe, frame};
 use x25_decode::{Reading, decode_lines};
 use x25_io::{Fault, Sink, Source};
 use x25_pipe::station;
-use x25_sim::{Cfg, Shown, Silent, sim};
+use x25_sim::{Cfg, Ranges, Shown, Silent, sim};
 
 #[derive(Clone, Copy)]
 pub enum Task {
@@ -65,7 +65,11 @@ const AS_WRITTEN: Reading = Reading {
 const USUAL: Cfg = Cfg {
     k: 7,
     n2: 10,
-    channels: 1,
+    channels: Ranges {
+        count: 1,
+        incoming: 0,
+        outgoing: 0,
+    },
     long_data: false,
     say_sizes: false,
     wide: false,

@@ -11,7 +11,6 @@ use Rattle.x25_packet.specs.Reading.{packet_of}
 use Rattle.x25_packet.specs.Spelling as strict_spelling
 use Rattle.x25_packet.specs.declared.error.PacketError.{PacketError}
 use Rattle.x25_packet.specs.declared.facilities.Directions.{Directions}
-use Rattle.x25_packet.specs.laws.ReadingLaw.{ReadsWhatIsSpelled}
 use Rattle.x25_wide.specs.Facilities.{class_b, none_own, own_in, with_facility, more_of, IsFacilityField}
 use Rattle.x25_wide.specs.declared.facilities.Own.{Own}
 use Rattle.x25_wide.specs.Narrowing.{field_said, narrow_of, narrowed, taken_of}
@@ -20,6 +19,7 @@ use Rattle.x25_wide.specs.Packet.Spelling.{spelling_of, may_have, IsPacket}
 use Rattle.x25_wide.specs.Reading.{wide_of}
 use Rattle.x25_wide.specs.Taking.{taken_in, or_taken}
 use Rattle.x25_wide.specs.laws.NarrowLaw.{ReadsAlike}
+use Rattle.x25_wide.specs.laws.TakingLaw.{TakesWhatIsSpelled}
 use Rattle.x25_wide.proofs.AgainLaws.{only_found}
 use Rattle.x25_wide.proofs.FacilityLemmas.{own_stepped}
 use Rattle.x25_given.specs.Given.{PlainGiven}
@@ -281,25 +281,21 @@ either most v octets alike within small wide = by (packet_of most octets) refl
     by (Ok u) e = sym (alike most u octets within small e) ∙ wide
     by (Err e) same = wide
 
-plainly : (most : ℕ) (v : strict.PlainPacket) → ReadsWhatIsSpelled → strict_spelling.IsInRange most v → All (λ octet. octet < 256) (strict_spelling.spelling_of v) → taken_in most (strict_spelling.spelling_of v) ≡ Ok v
-plainly most v reads range small =
-    ap (λ r. or_taken r (taken_of (wide_of most (strict_spelling.spelling_of v)))) ((reads most v (strict_spelling.spelling_of v) small).1 (record { in_range = range; spelling = refl }))
-
-pub written_is_read : ReadsWhatIsSpelled → ReadsAlike → WrittenIsRead
-written_is_read reads alike b most (strict.call channel called calling field user) within allowed h may small =
+pub written_is_read : TakesWhatIsSpelled → ReadsAlike → WrittenIsRead
+written_is_read spelled alike b most (strict.call channel called calling field user) within allowed h may small =
     either most _ _ alike within small (taken_as most b _ (call_taken most channel b called calling field user within (given_when b allowed) h.0 h.1 h.2 h.3 h.4 may))
-written_is_read reads alike b most (strict.accept channel field) within allowed h may small = either most _ _ alike within small (taken_as most b _ (accept_taken most channel b field (given_when b allowed) h.0 h.1))
-written_is_read reads alike b most (strict.clear channel cause diagnostic) within allowed h may small = either most _ _ alike within small (taken_as most b _ (clear_taken most channel cause diagnostic b (given_when b allowed) h))
-written_is_read reads alike b most (strict.clear_conf channel) within allowed h may small = plainly most _ reads h small
-written_is_read reads alike b most (strict.user_data channel q m ps pr user) within allowed h may small = plainly most _ reads h small
-written_is_read reads alike b most (strict.rr channel pr) within allowed h may small = plainly most _ reads h small
-written_is_read reads alike b most (strict.rnr channel pr) within allowed h may small = plainly most _ reads h small
-written_is_read reads alike b most (strict.interrupt channel user) within allowed h may small = plainly most _ reads h small
-written_is_read reads alike b most (strict.interrupt_conf channel) within allowed h may small = plainly most _ reads h small
-written_is_read reads alike b most (strict.reset channel cause diagnostic) within allowed h may small = plainly most _ reads h small
-written_is_read reads alike b most (strict.reset_conf channel) within allowed h may small = plainly most _ reads h small
-written_is_read reads alike b most (strict.restart cause diagnostic) within allowed h may small = plainly most _ reads h small
-written_is_read reads alike b most strict.restart_conf within allowed h may small = plainly most _ reads h small
+written_is_read spelled alike b most (strict.accept channel field) within allowed h may small = either most _ _ alike within small (taken_as most b _ (accept_taken most channel b field (given_when b allowed) h.0 h.1))
+written_is_read spelled alike b most (strict.clear channel cause diagnostic) within allowed h may small = either most _ _ alike within small (taken_as most b _ (clear_taken most channel cause diagnostic b (given_when b allowed) h))
+written_is_read spelled alike b most (strict.clear_conf channel) within allowed h may small = spelled most _ within small h
+written_is_read spelled alike b most (strict.user_data channel q m ps pr user) within allowed h may small = spelled most _ within small h
+written_is_read spelled alike b most (strict.rr channel pr) within allowed h may small = spelled most _ within small h
+written_is_read spelled alike b most (strict.rnr channel pr) within allowed h may small = spelled most _ within small h
+written_is_read spelled alike b most (strict.interrupt channel user) within allowed h may small = spelled most _ within small h
+written_is_read spelled alike b most (strict.interrupt_conf channel) within allowed h may small = spelled most _ within small h
+written_is_read spelled alike b most (strict.reset channel cause diagnostic) within allowed h may small = spelled most _ within small h
+written_is_read spelled alike b most (strict.reset_conf channel) within allowed h may small = spelled most _ within small h
+written_is_read spelled alike b most (strict.restart cause diagnostic) within allowed h may small = spelled most _ within small h
+written_is_read spelled alike b most strict.restart_conf within allowed h may small = spelled most _ within small h
 
 -- ---- and read in the form in which it was written
 

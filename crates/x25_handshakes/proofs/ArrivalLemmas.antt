@@ -88,7 +88,7 @@ name_opened s k x o =
 -- packets of which none ends a message leave it begun
 still_begun : (j : Partial) (ps : List Piece) (q : Bool) → j.begun ≡ Some q → wholes ps ≡ 0 → (r : Bool) × ((joining j ps).begun ≡ Some r)
 still_begun j [] q is none = (q, is)
-still_begun j (More q₂ user ∷ ps) q is none = still_begun (joined j (More q₂ user)) ps q₂ refl (let e : wholes ps ≡ 0 = omega (arith, none) in e)
+still_begun j (More q₂ user ∷ ps) q is none = still_begun (joined j (More q₂ user)) ps q₂.q refl (let e : wholes ps ≡ 0 = omega (arith, none) in e)
 still_begun j (Last q₂ user ∷ ps) q is none = absurd (omega (arith, none))
 
 whole_rest : (j : Partial) (ps : List Piece) → joining j ps ≡ no_part → wholes ps ≡ 0 → ps ≡ []

@@ -41,9 +41,9 @@ lawful_moves kind handled r (Live x) out back far error LinkDown k history there
 lawful_moves kind handled r (Left x) out back far error what k history there top h =
     lawful_turn kind k x x history (channel_view kind (state_of far) k there) (turn_still kind (MayHandUp (name_at kind x k) (channel_view kind (state_of far) k there)) k x) h
 
-record Holds {M : Type 0} (kind : Kind M) (r : Role) (g : Histories M) : Type 0 where
-  stands : Stands r g.pair
-  histories : (k : ℕ) → IsLawful (channel_view kind (state_of g.pair.near) k (g.near k)) (channel_view kind (state_of g.pair.far) k (g.far k))
+pub record Holds {M : Type 0} (kind : Kind M) (r : Role) (g : Histories M) : Type 0 where
+  pub stands : Stands r g.pair
+  pub histories : (k : ℕ) → IsLawful (channel_view kind (state_of g.pair.near) k (g.near k)) (channel_view kind (state_of g.pair.far) k (g.far k))
 
 holds_turned : {M : Type 0} (kind : Kind M) (r : Role) (g : Histories M) → Holds kind r g → Holds kind (other_role r) (turned_histories g)
 holds_turned kind r g h = record {
@@ -85,5 +85,8 @@ holds_start kind handled = record {
   };
 }
 
+pub always_holds : {M : Type 0} (kind : Kind M) → IsHandled kind → Laws → (es : List Event) → Holds kind Dte (histories_run kind es histories_start)
+always_holds kind handled laws es = holds_run kind handled laws es histories_start (holds_start kind handled)
+
 pub in_order : {M : Type 0} (kind : Kind M) → IsHandled kind → Laws → AreInOrder kind
-in_order kind handled laws es k = (holds_run kind handled laws es histories_start (holds_start kind handled)).histories k
+in_order kind handled laws es k = (always_holds kind handled laws es).histories k

@@ -38,6 +38,7 @@ pub mod PeerCallsRelation
 pub mod PeerCallLemmas
 pub mod PeerChannelLemmas
 pub mod PeerOrder
+pub mod AcknowledgedLemmas
 pub mod PeerRuns
 pub mod PeerLayerLemmas
 pub mod PeerLayerRuns

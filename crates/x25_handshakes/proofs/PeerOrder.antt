@@ -118,7 +118,7 @@ talks_order t b x u v t₂ b₂ y h = stretches_order t b.size x u v y h.related
 
 -- ---- calls
 
-ours : (p : Phase) → in_stage fresh_transfer (stage_of p) ≡ transfer_of p
+pub ours : (p : Phase) → in_stage fresh_transfer (stage_of p) ≡ transfer_of p
 ours (Talking t b at) = refl
 ours other = refl
 

@@ -22,7 +22,7 @@ use Rattle.x25_handshakes.specs.rows.PeerRows.{terms, handed_down, pulled, heard
 
 pub late_peer_moves : LatePeerMoves
 late_peer_moves =
-    let r1 : IsReached terms 128 handed_down = goes_on start handed_down at_start (Acts (Inside (Send false (5 ∷ [])))) in
+    let r1 : IsReached terms 128 handed_down = goes_on start handed_down at_start (Acts (Inside (Send (with_q false) (5 ∷ [])))) in
     let r2 : IsReached terms 128 pulled = goes_on handed_down pulled r1 (Acts (Inside Pull)) in
     let r3 : IsReached terms 128 heard = goes_on pulled heard r2 (Hears (Data 0 0 (Last (with_q false) (5 ∷ []))) [] refl) in
     let r4 : IsReached terms 128 answered =

@@ -37,19 +37,19 @@ same_q-refl : (q : Bool) → same_q q q ≡ true
 same_q-refl true = refl
 same_q-refl false = refl
 
-pub AreSound-cut : (n size : ℕ) (q : Marks) (xs : List ℕ) (j : Partial) → 1 ≤ size → length xs ≤ size + n → length j.user + length xs ≤ 65535 → may_have_q j.begun q ≡ true
+pub AreSound-cut : (n size : ℕ) (q : Marks) (xs : List ℕ) (j : Partial) → 1 ≤ size → length xs ≤ size + n → length j.user + length xs ≤ 65535 → may_have_q j.begun q.q ≡ true
     → AreSound size j (cut_from n size q xs)
-AreSound-cut zero size q xs j one far room same = (ground_none size j (length xs) q (omega arith) room same, tt)
+AreSound-cut zero size q xs j one far room same = (ground_none size j (length xs) q.q (omega arith) room same, tt)
 AreSound-cut (suc n) size q xs j one far room same =
     cond_both (nat_le (length xs) size) (Last q xs ∷ []) (More (with_q q.q) (take size xs) ∷ cut_from n size q (drop size xs)) (λ ps. AreSound size j ps)
-    (λ small. (ground_none size j (length xs) q (grind (arith, nat_tests)) room same, tt))
+    (λ small. (ground_none size j (length xs) q.q (grind (arith, nat_tests)) room same, tt))
     (λ large.
     let over : size < length xs = grind (arith, nat_tests) in
     let t : length (take size xs) ≡ size = grind (arith, common_steps) in
     let d : length (drop size xs) + size ≡ length xs = grind (arith, common_steps) in
     let a : length (j.user ++ take size xs) ≡ length j.user + length (take size xs) = length-append j.user (take size xs) in (
-      ground_none size j (length (take size xs)) q (omega arith) (omega arith) same,
-      AreSound-cut n size q (drop size xs) (record { begun = Some q.q; user = j.user ++ take size xs }) one (omega arith) (omega arith) (same_q-refl q),
+      ground_none size j (length (take size xs)) q.q (omega arith) (omega arith) same,
+      AreSound-cut n size q (drop size xs) (record { begun = Some q.q; user = j.user ++ take size xs }) one (omega arith) (omega arith) (same_q-refl q.q),
     ))
 
 pub joining-cut : (n size : ℕ) (q : Marks) (xs : List ℕ) (j : Partial) → joining j (cut_from n size q xs) ≡ no_part

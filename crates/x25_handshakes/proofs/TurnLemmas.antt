@@ -97,7 +97,7 @@ turn_acted kind handled A k e (Live x) (OnChannel h a) = Remained refl (put_chan
 turn_acted kind handled A k e (Live x) SendsRestart = Remained refl (still kind A (x k))
 turn_acted kind handled A k e (Left x) a = Remained refl (still kind A (x k))
 
-Ends-meet : (r : Role) (x : At Channels) (L K : List LayerPacket) (y : Side (At Channels)) → EndsRelated r (Live x) L K y → (w : List LayerPacket) × LayersRelated r x w K (state_of y)
+pub Ends-meet : (r : Role) (x : At Channels) (L K : List LayerPacket) (y : Side (At Channels)) → EndsRelated r (Live x) L K y → (w : List LayerPacket) × LayersRelated r x w K (state_of y)
 Ends-meet r x L K (Live z) h = (L, h)
 Ends-meet r x L K (Left z) h = (h.0, h.2)
 

@@ -1,4 +1,5 @@
 -- What the laws of this crate say (src/law.rt), and the machines that they are about.
+pub mod Acknowledged
 pub mod Arrivals
 pub mod Calls
 pub mod Channel

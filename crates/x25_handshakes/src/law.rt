@@ -2,6 +2,7 @@ ghost use Rattle.std.specs.Prelude.{◌≡◌, List, None};
 ghost use Rattle.x25_handshakes.specs.laws.Layers.{Event, pair_run, pair_start};
 ghost use Rattle.x25_handshakes.specs.laws.Histories.{messages, interrupts, calls, AreInOrder};
 ghost use Rattle.x25_handshakes.specs.laws.Arrivals.{AllArrives};
+ghost use Rattle.x25_handshakes.specs.laws.Acknowledged.{AcknowledgedAreHandedUp};
 ghost use Rattle.x25_handshakes.specs.laws.Drained.{AllIsKnown};
 ghost use Rattle.x25_handshakes.specs.laws.LayerPeers.{LayersArePeers};
 ghost use Rattle.x25_handshakes.specs.laws.PeerClaims.{WithAnyPeer, FindsNoError, KeepsStretches};
@@ -20,6 +21,14 @@ pub fn keeps_order()
     ensures interrupts { AreInOrder interrupts }
     ensures calls { AreInOrder calls }
     ensures arrived { AllArrives }
+{
+    x25_circuit::values_are_agreed();
+}
+
+/// The same two layers: of a stretch that is open at an end, the messages whose last data packets are acknowledged are
+/// the first of those that the other end handed up in it (ITU-T X.25 (10/96), section 4.4.1.4).
+pub fn acknowledged_are_handed_up()
+    ensures up { AcknowledgedAreHandedUp }
 {
     x25_circuit::values_are_agreed();
 }

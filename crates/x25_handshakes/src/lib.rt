@@ -7,6 +7,6 @@
 mod law;
 
 pub use law::{
-    any_peer_keeps_layers, any_peer_keeps_stretches, drained_ends_know, keeps_order,
-    layers_are_peers, peers_move,
+    acknowledged_are_handed_up, any_peer_keeps_layers, any_peer_keeps_stretches, drained_ends_know,
+    keeps_order, layers_are_peers, peers_move,
 };

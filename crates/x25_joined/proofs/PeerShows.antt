@@ -344,16 +344,16 @@ record InRange (k channels : ℕ) : Type 0 where
   high : k ≤ 7
   few : channels ≤ 4095
 
-in_range : (cfg : Cfg) → config_refusal cfg ≡ None → InRange cfg.k cfg.channels
-in_range cfg fine = by (nat_le 1 cfg.k) (nat_le cfg.k 7) (nat_le 1 cfg.n2) (nat_le 1 cfg.channels) (nat_le cfg.channels 4095) refl refl refl fine
+in_range : (cfg : Cfg) → config_refusal cfg ≡ None → InRange cfg.k cfg.channels.count
+in_range cfg fine = by (nat_le 1 cfg.k) (nat_le cfg.k 7) (nat_le 1 cfg.n2) (nat_le 1 cfg.channels.count) (nat_le cfg.channels.count 4095) _ refl refl refl fine
   where
-    by : (a b d e f : Bool) → nat_le 1 cfg.k ≡ a → nat_le cfg.k 7 ≡ b → nat_le cfg.channels 4095 ≡ f → (if a && (b && (d && (e && f))) then None else Some error.BadConfig) ≡ None → InRange cfg.k cfg.channels
-    by true true true true true low high few is = record { low = leb-true 1 cfg.k low; high = leb-true cfg.k 7 high; few = leb-true cfg.channels 4095 few }
-    by true true true true false low high few is = absurd (cc)
-    by true true true false f low high few is = absurd (cc)
-    by true true false e f low high few is = absurd (cc)
-    by true false d e f low high few is = absurd (cc)
-    by false b d e f low high few is = absurd (cc)
+    by : (a b d e f g : Bool) → nat_le 1 cfg.k ≡ a → nat_le cfg.k 7 ≡ b → nat_le cfg.channels.count 4095 ≡ f → (if a && (b && (d && ((e && f) && g))) then None else Some error.BadConfig) ≡ None → InRange cfg.k cfg.channels.count
+    by true true true true true g low high few is = record { low = leb-true 1 cfg.k low; high = leb-true cfg.k 7 high; few = leb-true cfg.channels.count 4095 few }
+    by true true true true false g low high few is = absurd (cc)
+    by true true true false f g low high few is = absurd (cc)
+    by true true false e f g low high few is = absurd (cc)
+    by true false d e f g low high few is = absurd (cc)
+    by false b d e f g low high few is = absurd (cc)
 
 pub of_program : (Holds : BesideSessions → Type 0) → ReadsOctets → over_sessions.WithAnyPeer Holds → OfProgram Holds
 of_program Holds octets law end cfg fine p reached =

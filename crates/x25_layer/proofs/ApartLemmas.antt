@@ -4,6 +4,7 @@ use Rattle.std.proofs.lemmas.List.{append_cancel_left, drop_at}
 use Rattle.x25_bits.specs.declared.role.Role.TheVariants.{Dte, Dce}
 use Rattle.x25_packet.specs.Packet.{PlainPacket}
 use Rattle.x25_handshakes.specs.laws.Histories.{IsPrefix}
+use Rattle.x25_layer.specs.declared.ranges.Ranges.{Ranges}
 use Rattle.x25_layer.specs.Layer.{LayerSettings, is_channel}
 use Rattle.x25_layer.specs.Calls.{LayerOutcome, Accepted, Declined, layer_outcome, layer_pulled}
 use Rattle.x25_layer.specs.laws.TwoLayers as world
@@ -17,7 +18,7 @@ use Rattle.x25_layer.specs.laws.ApartLaw.{IsOverLinks, AreByThemselves, OwnMoves
 abbrev pub event : Bool → OwnMove → ApartEvent
 event first what = record { first = first; what = what }
 
-one_decides : (long_data : Bool) (channels : ℕ) (first : Bool) (what : OwnMove) (es : List ApartEvent) (ends : Ends) → ((next : Ends) → AreByThemselves long_data channels es next)
+one_decides : (long_data : Bool) (channels : Ranges) (first : Bool) (what : OwnMove) (es : List ApartEvent) (ends : Ends) → ((next : Ends) → AreByThemselves long_data channels es next)
     → AreByThemselves long_data channels (event first what ∷ es) ends
 one_decides long_data channels true what es ends rest =
     let r = rest (record { near = own_moves (settings_of Dte long_data channels) ends.near what; far = ends.far }) in record { near = r.near; far = r.far }
@@ -78,7 +79,7 @@ agrees c w GoesDown false is order next = (refl, refl)
 abbrev both : End → End → Ends
 both near far = record { near = near; far = far }
 
-event_agrees : (long_data : Bool) (channels : ℕ) (w : TwoLayers) (first : Bool) (what : OwnMove) → KeepsOrder w → IsInOrder (ends_of w) (event first what)
+event_agrees : (long_data : Bool) (channels : Ranges) (w : TwoLayers) (first : Bool) (what : OwnMove) → KeepsOrder w → IsInOrder (ends_of w) (event first what)
     → apart_happens long_data channels (ends_of w) (event first what) ≡ ends_of (happens long_data channels w (over_links (event first what)))
 event_agrees long_data channels w true what order next =
     let same = agrees (settings_of Dte long_data channels) w what w.near.is_out refl order next in
@@ -87,7 +88,7 @@ event_agrees long_data channels w false what order next =
     let same = agrees (settings_of Dce long_data channels) (turned w) what w.far.is_out refl (record { near = order.far; far = order.near }) next in
     ap₂ both (sym same.1) same.0
 
-run_agrees : (long_data : Bool) (channels : ℕ) (es : List ApartEvent) (w : TwoLayers) → ((behind : List Event) → KeepsOrder (run long_data channels behind w)) → AreInOrder long_data channels es (ends_of w)
+run_agrees : (long_data : Bool) (channels : Ranges) (es : List ApartEvent) (w : TwoLayers) → ((behind : List Event) → KeepsOrder (run long_data channels behind w)) → AreInOrder long_data channels es (ends_of w)
     → apart_run long_data channels es (ends_of w) ≡ ends_of (run long_data channels (all_over_links es) w)
 run_agrees long_data channels [] w order next = refl
 run_agrees long_data channels (e ∷ es) w order next =
@@ -106,10 +107,10 @@ with_flight w out back = record { near = w.near; far = w.far; out = out; back = 
 ends_are_the_world : (w : TwoLayers) → KeepsOrder w → as_world (ends_of w) ≡ w
 ends_are_the_world w order = ap₂ (with_flight w) (in_flight w.near.given w.far.taken w.out order.near) (in_flight w.far.given w.near.taken w.back order.far)
 
-pub apart_is_over_links : (long_data : Bool) (channels : ℕ) → Always KeepsOrder long_data channels → IsOverLinks long_data channels
+pub apart_is_over_links : (long_data : Bool) (channels : Ranges) → Always KeepsOrder long_data channels → IsOverLinks long_data channels
 apart_is_over_links long_data channels order es next =
     ap as_world (run_agrees long_data channels es (start long_data channels) order next)
     ∙ ends_are_the_world (run long_data channels (all_over_links es) (start long_data channels)) (order (all_over_links es))
 
-pub always_apart : (P : TwoLayers → Type 0) (long_data : Bool) (channels : ℕ) → IsOverLinks long_data channels → Always P long_data channels → AlwaysApart P long_data channels
+pub always_apart : (P : TwoLayers → Type 0) (long_data : Bool) (channels : Ranges) → IsOverLinks long_data channels → Always P long_data channels → AlwaysApart P long_data channels
 always_apart P long_data channels same holds es next = subst P (sym (same es next)) (holds (all_over_links es))

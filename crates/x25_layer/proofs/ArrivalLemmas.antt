@@ -16,7 +16,7 @@ use Rattle.x25_layer.specs.Layer.{Layer}
 use Rattle.x25_layer.specs.laws.Transcript.{under, messages_in, interrupts_in, name_of}
 use Rattle.x25_layer.specs.laws.TwoLayers.{End}
 use Rattle.x25_layer.specs.laws.Law.{HasAllOf, IsIdleTo}
-use Rattle.x25_layer.proofs.Sees.{Agreed, view}
+use Rattle.x25_layer.proofs.Sees.{talk_of, Agreed, view}
 use Rattle.x25_layer.proofs.LayerSees.{ShowsAt}
 use Rattle.x25_layer.proofs.StepLemmas.{name_eq}
 use Rattle.x25_layer.proofs.TwoLayerLemmas.{SeesEnd}
@@ -35,6 +35,7 @@ none_in_flight given taken out acked order all low =
 record OpenCircuit (a : Agreed) (x : At Connection) : Type 0 where
   stretch : Stretch
   opened : open_call x.side ≡ Some stretch
+  talk : (view a x).talk ≡ talk_of stretch
   no_more : waits (view a x) ≡ wholes stretch.rest
   messages_held : held_in (λ y. y.down) (λ y. y.up) (state_of x.side).phase ≡ record { down = stretch.down; up = stretch.up }
   interrupts_held : held_in (λ y. y.int_down) (λ y. y.int_up) (state_of x.side).phase ≡ record { down = stretch.int_down; up = stretch.int_up }
@@ -47,7 +48,7 @@ open_circuit a x is = side x.epoch x.side is
   where
     transfer : (e : ℕ) (c : Connection) (t b : Terms) (s : ℕ) (z : Side Stretch) → let y : At Connection = record { epoch = e; side = Live (record { phase = Talking t b (record { epoch = s; side = z }); made = c.made; indicated = c.indicated }) } in
         is_open (view a y) ≡ true → OpenCircuit a y
-    transfer e c t b s (Live x) opened = record { stretch = x; opened = refl; no_more = refl; messages_held = refl; interrupts_held = refl }
+    transfer e c t b s (Live x) opened = record { stretch = x; opened = refl; talk = refl; no_more = refl; messages_held = refl; interrupts_held = refl }
     transfer e c t b s (Left x) opened = absurd (false_true opened)
 
     phase : (e : ℕ) (c : Connection) (p : Phase) → let y : At Connection = record { epoch = e; side = Live (record { phase = p; made = c.made; indicated = c.indicated }) } in is_open (view a y) ≡ true → OpenCircuit a y
@@ -65,6 +66,7 @@ open_circuit a x is = side x.epoch x.side is
 pub record OpenEnd (e : End) (s : Side (At Channels)) (k : ℕ) : Type 0 where
   pub stretch : Stretch
   pub opened : open_at s k ≡ Some stretch
+  pub talk : (e.layer.circuits k).talk ≡ talk_of stretch
   pub no_more : waits (e.layer.circuits k) ≡ wholes stretch.rest
   pub named : name_of e.layer k ≡ name_at messages (state_of s) k
   pub messages_held : held_at messages (state_of s) k ≡ record { down = stretch.down; up = stretch.up }
@@ -81,6 +83,7 @@ open_end e (Live z) k sees opened = ready z.epoch z.side sees.1.restarts sees.1.
         record {
           stretch = o.stretch;
           opened = o.opened;
+          talk = ap (λ (c : Circuit). c.talk) (each k).is ∙ o.talk;
           no_more = ap waits (each k).is ∙ o.no_more;
           named = name_eq (name_of e.layer k) (name_at messages (record { epoch = epoch; side = Live x }) k) same (ap (λ (c : Circuit). c.clears) (each k).is) (ap (λ (c : Circuit). c.resets) (each k).is);
           messages_held = o.messages_held;

@@ -254,6 +254,6 @@ none_awaited c v l fits k out = by (is_channel c.channels k) refl
     by : (b : Bool) → is_channel c.channels k ≡ b → (if b then awaited_in (l.circuits k).state else Nothing) ≡ Nothing
     by false is = refl
     by true is =
-        let within = configured c.channels k is in
+        let within = configured c.channels.count k is in
         let channels = fits.channels in
         not_any (awaited_in (l.circuits k).state) (idle_on c v.circuits.items v.busy.channels.items l.circuits fits.circuits v.still k within.0 (let high = within.1 in omega (arith, high, channels)) out).1

@@ -13,6 +13,7 @@ use Rattle.x25_circuit.specs.Calling.{Outcome, Done, Refused, Request, Calls, ou
 use Rattle.x25_circuit.specs.code.Replies.{plain_sent}
 use Rattle.x25_circuit.specs.Request.{refusal_of, AnswersRequest}
 use Rattle.x25_circuit.specs.code.FitsCircuit.{FitsCircuit}
+use Rattle.x25_layer.specs.Ranges.{is_number}
 use Rattle.x25_layer.specs.declared.layer.Layer as code
 use Rattle.x25_layer.specs.declared.error.LayerError.{LayerError}
 use Rattle.x25_layer.specs.declared.error.LayerError.TheVariants as error
@@ -29,11 +30,11 @@ use Rattle.x25_layer.proofs.FitLemmas.{read_at}
 use Rattle.x25_layer.proofs.PullLemmas.{fits_put, fits_same}
 use Rattle.x25_layer.proofs.SettleLemmas.{not_same}
 
-pub configured : (n h : ℕ) → is_channel n h ≡ true → (1 ≤ h) × (h ≤ n)
+pub configured : (n h : ℕ) → is_number n h ≡ true → (1 ≤ h) × (h ≤ n)
 configured n h is = (leb-true 1 h (and_parts (nat_le 1 h) (nat_le h n) is).0, leb-true h n (and_parts (nat_le 1 h) (nat_le h n) is).1)
 
 -- the circuit that a look-up for a channel finds
-pub found_at : (c : LayerSettings) (v : code.Layer) (l : Layer) (h place : ℕ) (x : circuit_code.Circuit) → FitsLayer c v l → is_channel (length v.circuits.items) h ≡ true → place ≡ h → x ≡ get_or v.circuits.items (place - 1) x
+pub found_at : (c : LayerSettings) (v : code.Layer) (l : Layer) (h place : ℕ) (x : circuit_code.Circuit) → FitsLayer c v l → is_number (length v.circuits.items) h ≡ true → place ≡ h → x ≡ get_or v.circuits.items (place - 1) x
     → (suc (place - 1) ≡ h) × FitsCircuit c.circuit x (l.circuits h)
 found_at c v l h place x fits is same read =
     let within = configured (length v.circuits.items) h is in
@@ -47,6 +48,7 @@ found_at c v l h place x fits is same read =
 pub record IsLike (v v₂ : code.Layer) : Type 0 where
   pub role : v₂.role ≡ v.role
   pub long_data : v₂.long_data ≡ v.long_data
+  pub ranges : v₂.ranges ≡ v.ranges
   pub restarting : v₂.restarting ≡ v.restarting
   pub restarts : v₂.restarts ≡ v.restarts
 
@@ -55,6 +57,7 @@ pub layer_put : (c : LayerSettings) (v v₂ : code.Layer) (l : Layer) (h : ℕ) 
 layer_put c v v₂ l h i y next fits at like items fit = record {
   role = like.role ∙ fits.role;
   long_data = like.long_data ∙ fits.long_data;
+  ranges = like.ranges ∙ fits.ranges;
   channels = ap (λ (vs : List circuit_code.Circuit). length vs) items ∙ length-set v.circuits.items i y ∙ fits.channels;
   restarting = like.restarting ∙ fits.restarting;
   restarts = like.restarts ∙ fits.restarts;
@@ -67,6 +70,7 @@ pub layer_kept : (c : LayerSettings) (v v₂ : code.Layer) (l : Layer) (h i : �
 layer_kept c v v₂ l h i y fits at like items fit = record {
   role = like.role ∙ fits.role;
   long_data = like.long_data ∙ fits.long_data;
+  ranges = like.ranges ∙ fits.ranges;
   channels = ap (λ (vs : List circuit_code.Circuit). length vs) items ∙ length-set v.circuits.items i y ∙ fits.channels;
   restarting = like.restarting ∙ fits.restarting;
   restarts = like.restarts ∙ fits.restarts;

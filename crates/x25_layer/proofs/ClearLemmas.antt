@@ -9,6 +9,7 @@ use Rattle.x25_handshakes.specs.laws.Stretch.{Stretch, Clear}
 use Rattle.x25_handshakes.specs.laws.Calls.{Phase, Unused, Waiting, Offered, Crossed, Talking, Connection}
 use Rattle.x25_handshakes.specs.laws.Channel.{in_p1, channel_takes, channel_side_takes}
 use Rattle.x25_handshakes.specs.laws.Layers.{LayerPacket, On, Channels, LayerStep, Pair, Takes, pair_moves, pair_run, pair_start, layer_takes, layer_side_takes}
+use Rattle.x25_layer.specs.declared.ranges.Ranges.{Ranges}
 use Rattle.x25_layer.specs.laws.Bare.{bare_layer, bare_layers}
 use Rattle.x25_layer.specs.laws.TwoLayers.{End, TwoLayers, turned, run, start}
 use Rattle.x25_layer.specs.laws.Law.{Always}
@@ -52,7 +53,7 @@ out_takes_none : (e : End) (p : PlainPacket) → e.is_out ≡ true → IsNoClear
 out_takes_none e (clear h cause diagnostic) out = λ up ready. absurd (true≢false (sym out ∙ up))
 out_takes_none e other out = tt
 
-front_is : (r : Role) (channels : ℕ) (w : TwoLayers) (near far : Side (At Channels)) (out back : List LayerPacket) (error : Option ℕ)
+front_is : (r : Role) (channels : Ranges) (w : TwoLayers) (near far : Side (At Channels)) (out back : List LayerPacket) (error : Option ℕ)
     → let j : Pair = record { near = near; far = far; out = out; back = back; error = error } in Sees channels w j → (pair_moves r j near Takes).error ≡ None
     → (K : List PlainPacket) → w.back ≡ K → FrontIsNoClearInP1 w.near K
 front_is r channels w near far out back error sees quiet [] front = tt
@@ -63,7 +64,7 @@ front_is r channels w (Live z) far out back error sees quiet (p ∷ K) front =
     at_end r w.near z p sees.near.1
     (second error s.error (subst (λ (l : List LayerPacket). (pair_moves r (record { near = Live z; far = far; out = out; back = l; error = error }) (Live z) Takes).error ≡ None) (sym same) quiet))
 
-pub never_in_p1 : Premises → (long_data : Bool) (channels : ℕ) → Always NoClearComesInP1 long_data channels
+pub never_in_p1 : Premises → (long_data : Bool) (channels : Ranges) → Always NoClearComesInP1 long_data channels
 never_in_p1 p long_data channels es =
     let w : TwoLayers = run long_data channels es (start long_data channels) in
     let h = in_run p long_data channels es in

@@ -12,6 +12,7 @@ use Rattle.x25_circuit.specs.Notice.{PlainNotice}
 use Rattle.x25_circuit.specs.Hearing.{Answer, answers}
 use Rattle.x25_circuit.specs.Calling.{Outcome, Done, Refused, Calls, outcome, pulled}
 use Rattle.x25_handshakes.specs.laws.Names.{Name}
+use Rattle.x25_layer.specs.declared.ranges.Ranges.{Ranges}
 use Rattle.x25_layer.specs.declared.error.LayerError.{LayerError}
 use Rattle.x25_layer.specs.declared.error.LayerError.TheVariants as error
 use Rattle.x25_layer.specs.Layer.{LayerSettings, Layer, LayerNotice, LayerAnswer, is_channel, notices_on, is_ready, answers_on, drops, restarting_from, answers_ready, answers_restarting, answers_in, layer_answers}
@@ -161,18 +162,18 @@ move_counted c w (Pulls k) false is h front = pulled_counted c w h is k (is_chan
 move_counted c w HandsUp false is h front = handed_counted c w h is w.back front
 move_counted c w GoesDown false is h front = record { near = λ k on. absurd (true≢false on); far = h.far }
 
-event_counted : (long_data : Bool) (channels : ℕ) (w : TwoLayers) (first : Bool) (what : Move) → NamesAreCounted w → NoClearComesInP1 w → NamesAreCounted (happens long_data channels w (record { first = first; what = what }))
+event_counted : (long_data : Bool) (channels : Ranges) (w : TwoLayers) (first : Bool) (what : Move) → NamesAreCounted w → NoClearComesInP1 w → NamesAreCounted (happens long_data channels w (record { first = first; what = what }))
 event_counted long_data channels w true what h front = move_counted (settings_of Dte long_data channels) w what w.near.is_out refl h front.near
 event_counted long_data channels w false what h front =
     let r = move_counted (settings_of Dce long_data channels) (turned w) what w.far.is_out refl (record { near = h.far; far = h.near }) front.far in
     record { near = r.far; far = r.near }
 
-run_more : (long_data : Bool) (channels : ℕ) (es : List Event) (e : Event) (w : TwoLayers) → run long_data channels (es ++ e ∷ []) w ≡ happens long_data channels (run long_data channels es w) e
+run_more : (long_data : Bool) (channels : Ranges) (es : List Event) (e : Event) (w : TwoLayers) → run long_data channels (es ++ e ∷ []) w ≡ happens long_data channels (run long_data channels es w) e
 run_more long_data channels [] e w = refl
 run_more long_data channels (x ∷ es) e w = run_more long_data channels es e (happens long_data channels w x)
 
 -- the names are counted behind these events, where they were behind those before
-run_counted : (long_data : Bool) (channels : ℕ) → Always NoClearComesInP1 long_data channels → (done es : List Event) → NamesAreCounted (run long_data channels done (start long_data channels))
+run_counted : (long_data : Bool) (channels : Ranges) → Always NoClearComesInP1 long_data channels → (done es : List Event) → NamesAreCounted (run long_data channels done (start long_data channels))
     → NamesAreCounted (run long_data channels (done ++ es) (start long_data channels))
 run_counted long_data channels front done [] h = subst (λ (l : List Event). NamesAreCounted (run long_data channels l (start long_data channels))) (sym (append-nil done)) h
 run_counted long_data channels front done (e ∷ es) h =
@@ -181,5 +182,5 @@ run_counted long_data channels front done (e ∷ es) h =
     (subst (λ (w : TwoLayers). NamesAreCounted w) (sym (run_more long_data channels done e (start long_data channels)))
     (event_counted long_data channels (run long_data channels done (start long_data channels)) e.first e.what h (front done))))
 
-pub always_counted : (long_data : Bool) (channels : ℕ) → Always NoClearComesInP1 long_data channels → Always NamesAreCounted long_data channels
+pub always_counted : (long_data : Bool) (channels : Ranges) → Always NoClearComesInP1 long_data channels → Always NamesAreCounted long_data channels
 always_counted long_data channels front es = run_counted long_data channels front [] es (record { near = λ k on. refl; far = λ k on. refl })

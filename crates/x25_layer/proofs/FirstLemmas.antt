@@ -8,6 +8,7 @@ use Rattle.x25_circuit.specs.declared.state.State.TheVariants.{Free}
 use Rattle.x25_circuit.specs.Circuit.{Circuit, is_free_in}
 use Rattle.x25_circuit.specs.Calling.{Pulled, pull_in, pulled, pulls_nothing}
 use Rattle.x25_handshakes.specs.laws.Histories.{IsPrefix}
+use Rattle.x25_layer.specs.declared.ranges.Ranges.{Ranges}
 use Rattle.x25_layer.specs.Layer.{LayerSettings, Layer, LayerNotice, restarted, is_channel, packet_on, answers_in, layer_answers, restart_cause, goes_up}
 use Rattle.x25_layer.specs.Calls.{LayerRequest, LayerOutcome, Accepted, Declined, outcome_in, layer_outcome, layer_pulled}
 use Rattle.x25_layer.specs.laws.Quiet.{AreQuiet, AreNoFaults}
@@ -79,7 +80,7 @@ all_wait : (c : LayerSettings) (own : List OwnMove) (e : End) → WaitsAlone c e
 all_wait c [] e h = h
 all_wait c (what ∷ own) e h = all_wait c own (own_moves c e what) (waits_in c e h what e.is_out refl)
 
-pub restart_is_quiet : (role : Role) (channels : ℕ) → AreQuiet channels (restart (restart_cause role) 0 ∷ [])
+pub restart_is_quiet : (role : Role) (channels : Ranges) → AreQuiet channels (restart (restart_cause role) 0 ∷ [])
 restart_is_quiet Dte channels = ((refl, λ no_channel. absurd no_channel), tt)
 restart_is_quiet Dce channels = ((refl, λ no_channel. absurd no_channel), tt)
 
@@ -149,17 +150,17 @@ first_in c e giver (Takes p) false is h begins next =
     (restart_more e.given (option_to_list (layer_answers c e.layer p).owed) h.0, taken_is_told c e.layer e.taken e.told p giver.given h.1 begins (next is))
 first_in c e giver GoesDown false is h begins next = h
 
-one_first : (long_data : Bool) (channels : ℕ) (first : Bool) (what : OwnMove) (ends : Ends) → IsInOrder ends (event first what) → First ends.near → First ends.far
+one_first : (long_data : Bool) (channels : Ranges) (first : Bool) (what : OwnMove) (ends : Ends) → IsInOrder ends (event first what) → First ends.near → First ends.far
     → let next = apart_happens long_data channels ends (event first what) in First next.near × First next.far
 one_first long_data channels true what ends next near far = (first_in (settings_of Dte long_data channels) ends.near ends.far what ends.near.is_out refl near far.0 next, far)
 one_first long_data channels false what ends next near far = (near, first_in (settings_of Dce long_data channels) ends.far ends.near what ends.far.is_out refl far near.0 next)
 
-run_first : (long_data : Bool) (channels : ℕ) (es : List ApartEvent) (ends : Ends) → AreInOrder long_data channels es ends → First ends.near → First ends.far
+run_first : (long_data : Bool) (channels : Ranges) (es : List ApartEvent) (ends : Ends) → AreInOrder long_data channels es ends → First ends.near → First ends.far
     → RestartsFirst (as_world (apart_run long_data channels es ends))
 run_first long_data channels [] ends next near far = record { near = near.1; far = far.1 }
 run_first long_data channels (e ∷ es) ends next near far =
     let h = one_first long_data channels e.first e.what ends next.0 near far in
     run_first long_data channels es (apart_happens long_data channels ends e) next.1 h.0 h.1
 
-pub restarts_first : (long_data : Bool) (channels : ℕ) → AlwaysApart RestartsFirst long_data channels
+pub restarts_first : (long_data : Bool) (channels : Ranges) → AlwaysApart RestartsFirst long_data channels
 restarts_first long_data channels es next = run_first long_data channels es (apart_start long_data channels) next (tt, refl) (tt, refl)

@@ -9,6 +9,7 @@ use Rattle.x25_circuit.specs.declared.owed.Owed.{Owed}
 use Rattle.x25_circuit.specs.code.Replies.{plain_owed}
 use Rattle.x25_circuit.specs.Circuit.{Circuit, is_open, waits}
 use Rattle.x25_circuit.specs.code.FitsCircuit.{FitsCircuit, clears_of, resets_of}
+use Rattle.x25_layer.specs.Ranges.{is_number}
 use Rattle.x25_layer.specs.code.Counts.{HasCountsLeft, HaveCountsLeft}
 use Rattle.x25_layer.specs.declared.layer.Layer as code
 use Rattle.x25_packet.specs.Packet.{PlainPacket}
@@ -84,9 +85,9 @@ fits_push c vs v f fits fit k w is = by (get_push vs v w k is)
     by (inr p) = subst (λ (x : circuit_code.Circuit). FitsCircuit c.circuit x (f (suc k))) p.1 (subst (λ (n : ℕ). FitsCircuit c.circuit v (f (suc n))) (sym p.0) fit)
 
 -- the name of a configured channel
-pub named : (c : LayerSettings) (v : code.Layer) (l : Layer) (h : ℕ) → FitsLayer c v l → is_channel (length v.circuits.items) h ≡ true → Some (name_of l h) ≡ name_at c l h
+pub named : (c : LayerSettings) (v : code.Layer) (l : Layer) (h : ℕ) → FitsLayer c v l → is_number (length v.circuits.items) h ≡ true → Some (name_of l h) ≡ name_at c l h
 named c v l h fits is =
-    let same : is_channel c.channels h ≡ true = subst (λ (n : ℕ). is_channel n h ≡ true) fits.channels is in
+    let same : is_channel c.channels h ≡ true = subst (λ (n : ℕ). is_number n h ≡ true) fits.channels is in
     sym (ap (λ (b : Bool). if b then Some (name_of l h) else None) same)
 
 -- the name, as a circuit has its counts
@@ -97,19 +98,19 @@ counted l h restarts clears resets e₁ e₂ e₃ =
     ap (λ (a : ℕ). n a clears resets) e₁ ∙ ap (λ (b : ℕ). n l.restarts b resets) e₂ ∙ ap (λ (d : ℕ). n l.restarts (l.circuits h).clears d) e₃
 
 -- packet sizes and windows on a configured channel
-pub agreed : (c : LayerSettings) (v : code.Layer) (l : Layer) (h : ℕ) → FitsLayer c v l → is_channel (length v.circuits.items) h ≡ true → Some (l.circuits h).params ≡ params_at c l h
+pub agreed : (c : LayerSettings) (v : code.Layer) (l : Layer) (h : ℕ) → FitsLayer c v l → is_number (length v.circuits.items) h ≡ true → Some (l.circuits h).params ≡ params_at c l h
 agreed c v l h fits is =
-    let same : is_channel c.channels h ≡ true = subst (λ (n : ℕ). is_channel n h ≡ true) fits.channels is in
+    let same : is_channel c.channels h ≡ true = subst (λ (n : ℕ). is_number n h ≡ true) fits.channels is in
     sym (ap (λ (b : Bool). if b then Some (l.circuits h).params else None) same)
 
-pub opened : (c : LayerSettings) (v : code.Layer) (l : Layer) (h : ℕ) (b : Bool) → FitsLayer c v l → is_channel (length v.circuits.items) h ≡ b → (if b then is_open (l.circuits h) else false) ≡ is_open_at c l h
+pub opened : (c : LayerSettings) (v : code.Layer) (l : Layer) (h : ℕ) (b : Bool) → FitsLayer c v l → is_number (length v.circuits.items) h ≡ b → (if b then is_open (l.circuits h) else false) ≡ is_open_at c l h
 opened c v l h b fits is =
-    let same : is_channel c.channels h ≡ b = subst (λ (n : ℕ). is_channel n h ≡ b) fits.channels is in
+    let same : is_channel c.channels h ≡ b = subst (λ (n : ℕ). is_number n h ≡ b) fits.channels is in
     sym (ap (λ (a : Bool). if a then is_open (l.circuits h) else false) same)
 
-pub awaited : (c : LayerSettings) (v : code.Layer) (l : Layer) (h : ℕ) (b : Bool) → FitsLayer c v l → is_channel (length v.circuits.items) h ≡ b → (if b then awaited_in (l.circuits h).state else Nothing) ≡ awaited_at c l h
+pub awaited : (c : LayerSettings) (v : code.Layer) (l : Layer) (h : ℕ) (b : Bool) → FitsLayer c v l → is_number (length v.circuits.items) h ≡ b → (if b then awaited_in (l.circuits h).state else Nothing) ≡ awaited_at c l h
 awaited c v l h b fits is =
-    let same : is_channel c.channels h ≡ b = subst (λ (n : ℕ). is_channel n h ≡ b) fits.channels is in
+    let same : is_channel c.channels h ≡ b = subst (λ (n : ℕ). is_number n h ≡ b) fits.channels is in
     sym (ap (λ (a : Bool). if a then awaited_in (l.circuits h).state else Nothing) same)
 
 -- The circuits below a place have changed, and the others are as they were.

@@ -5,7 +5,9 @@ use Rattle.x25_circuit.specs.declared.circuit.Circuit as circuit_code
 use Rattle.x25_circuit.specs.Circuit.{Settings, Circuit, is_free}
 use Rattle.x25_circuit.specs.code.FitsCircuit.{FitsCircuit}
 use Rattle.x25_layer.specs.Layer.{LayerSettings}
-use Rattle.x25_layer.specs.Calls.{first_of, lowest_free, highest_free, free_channel}
+use Rattle.x25_layer.specs.declared.ranges.Ranges.{Ranges}
+use Rattle.x25_layer.specs.Ranges.{may_call}
+use Rattle.x25_layer.specs.Calls.{first_of, lowest_free, highest_free, first_free, where_callable}
 use Rattle.x25_layer.specs.code.FitsLayer.{FitsCircuits}
 use Rattle.x25_layer.proofs.FitLemmas.{read_at}
 use Rattle.x25_layer.proofs.SettleLemmas.{split}
@@ -41,5 +43,8 @@ highest_at f (suc m) b low is =
     ap (λ (a : Bool). if a then Some (suc m) else highest_free f m) (ap (λ (k : ℕ). is_free (f (suc k))) (sym back) ∙ is)
     ∙ ap (λ (k : ℕ). if b then Some (suc m) else highest_free f k) (sym back)
 
-pub free_by_role : (r s : Role) (f : ℕ → Circuit) (n m : ℕ) → r ≡ s → n ≡ m → free_channel r f n ≡ free_channel s f m
-free_by_role r s f n m e d = ap (λ (t : Role). free_channel t f n) e ∙ ap (λ (k : ℕ). free_channel s f k) d
+pub free_by_role : (r s : Role) (f : ℕ → Circuit) (n m : ℕ) → r ≡ s → n ≡ m → first_free r f n ≡ first_free s f m
+free_by_role r s f n m e d = ap (λ (t : Role). first_free t f n) e ∙ ap (λ (k : ℕ). first_free s f k) d
+
+pub callable_by : (r s : Role) (n m : Ranges) (h : ℕ) (b : Bool) → r ≡ s → n ≡ m → may_call r n h ≡ b → (if b then Some h else None) ≡ where_callable s m (Some h)
+callable_by r s n m h b e d is = ap (λ (a : Bool). if a then Some h else None) (sym is ∙ ap (λ (t : Role). may_call t n h) e ∙ ap (λ (k : Ranges). may_call s k h) d)

@@ -10,6 +10,7 @@ use Rattle.x25_wide.specs.Reading.{Gives, wide_of}
 use Rattle.x25_wide.specs.Taking.{read_in}
 use Rattle.x25_wide.specs.laws.TakingLaw.{TakesOnItsChannel, TakesItsUserData, TakesWithoutMemory}
 use Rattle.x25_circuit.specs.code.FitsCircuit.{user_octets}
+use Rattle.x25_layer.specs.Ranges.{is_number}
 use Rattle.x25_layer.specs.Layer.{LayerSettings, Layer, LayerAnswer, answers_in, undecoded_in, is_channel, put_at, drops}
 use Rattle.x25_layer.specs.Rounds.{answer_to, undecoded_at}
 use Rattle.x25_layer.specs.Asking.{with_circuit}
@@ -129,12 +130,12 @@ hears_none wide most c l (a ∷ b ∷ d ∷ rest) none = absurd (cc)
 
 -- ---- the circuit of a channel
 
-pub read_there : (vs : List circuit_code.Circuit) (h place : ℕ) (x : circuit_code.Circuit) → is_channel (length vs) h ≡ true → place ≡ h → x ≡ get_or vs (place - 1) x → slice_get vs (place - 1) ≡ Some x
+pub read_there : (vs : List circuit_code.Circuit) (h place : ℕ) (x : circuit_code.Circuit) → is_number (length vs) h ≡ true → place ≡ h → x ≡ get_or vs (place - 1) x → slice_get vs (place - 1) ≡ Some x
 read_there vs h place x is same read =
     let within = configured (length vs) h is in
     read_at vs (place - 1) x (let e : place - 1 < length vs = omega (arith, within, same) in e) read
 
-pub place_of : (n h place : ℕ) → is_channel n h ≡ true → place ≡ h → suc (place - 1) ≡ h
+pub place_of : (n h place : ℕ) → is_number n h ≡ true → place ≡ h → suc (place - 1) ≡ h
 place_of n h place is same = let within = configured n h is in omega (arith, within, same)
 
 pub hears_there : (c : LayerSettings) (l : Layer) (h : ℕ) (read : Result PlainPacket PacketError) → l.restarting ≡ false → is_channel c.channels h ≡ true → hears_on c l l.restarting h read ≡ channel_hears c l h read

@@ -4,6 +4,7 @@ use Rattle.x25_handshakes.specs.laws.Handshake.{state_of}
 use Rattle.x25_handshakes.specs.laws.Layers.{Pair, pair_run, pair_start}
 use Rattle.x25_handshakes.specs.laws.Names.{Name}
 use Rattle.x25_handshakes.specs.laws.Histories.{Lists, Kind, messages, interrupts, calls, name_at, held_at, IsPrefix, IsLawful, channel_view, Histories, histories_run, histories_start}
+use Rattle.x25_layer.specs.declared.ranges.Ranges.{Ranges}
 use Rattle.x25_layer.specs.laws.Bare.{bare_layers}
 use Rattle.x25_layer.specs.laws.Transcript.{Handed, under, calls_in, messages_in, interrupts_in}
 use Rattle.x25_layer.specs.laws.TwoLayers.{TwoLayers, run, start}
@@ -11,10 +12,10 @@ use Rattle.x25_layer.specs.laws.Law.{Always, IsQuietWorld, IsLawfulWorld, Arrive
 use Rattle.x25_layer.proofs.RunLemmas.{Premises, histories_pair, AreHistories, InRun, in_run}
 use Rattle.x25_layer.proofs.ArrivalLemmas.{none_in_flight, AtPresent, has_all}
 
-pub always_in_order : Premises → (long_data : Bool) (channels : ℕ) → Always KeepsOrder long_data channels
+pub always_in_order : Premises → (long_data : Bool) (channels : Ranges) → Always KeepsOrder long_data channels
 always_in_order p long_data channels es = (in_run p long_data channels es).sees.order
 
-pub always_quiet : Premises → (long_data : Bool) (channels : ℕ) → Always (IsQuietWorld channels) long_data channels
+pub always_quiet : Premises → (long_data : Bool) (channels : Ranges) → Always (IsQuietWorld channels) long_data channels
 always_quiet p long_data channels es =
     let h = in_run p long_data channels es in
     record { near = h.sees.near_quiet; far = h.sees.far_quiet }
@@ -33,7 +34,7 @@ far_begins {M} kind lists w g histories law k m =
     subst (λ (l : Lists M). IsPrefix l.up (lists (under k m w.near.entries)).down) (sym (histories.far k m))
     (subst (λ (l : Lists M). IsPrefix (g.far k m).up l.down) (sym (histories.near k m)) ((law k).begins_there m))
 
-pub always_lawful : Premises → (long_data : Bool) (channels : ℕ) → Always IsLawfulWorld long_data channels
+pub always_lawful : Premises → (long_data : Bool) (channels : Ranges) → Always IsLawfulWorld long_data channels
 always_lawful p long_data channels es =
     let w : TwoLayers = run long_data channels es (start long_data channels) in
     let h : InRun channels w = in_run p long_data channels es in
@@ -57,19 +58,19 @@ always_lawful p long_data channels es =
     }
 
 -- what stands under the present name of an end
-near_present : {M : Type 0} (kind : Kind M) (lists : Handed → Lists M) (w : TwoLayers) (j : Pair) (g : Histories M) → AreHistories kind lists w g → g.pair ≡ j → (k : ℕ)
+pub near_present : {M : Type 0} (kind : Kind M) (lists : Handed → Lists M) (w : TwoLayers) (j : Pair) (g : Histories M) → AreHistories kind lists w g → g.pair ≡ j → (k : ℕ)
     → g.near k (name_at kind (state_of g.pair.near) k) ≡ held_at kind (state_of g.pair.near) k
     → lists (under k (name_at kind (state_of j.near) k) w.near.entries) ≡ held_at kind (state_of j.near) k
 near_present kind lists w j g histories same k held =
     subst (λ (q : Pair). lists (under k (name_at kind (state_of q.near) k) w.near.entries) ≡ held_at kind (state_of q.near) k) same (histories.near k (name_at kind (state_of g.pair.near) k) ∙ held)
 
-far_present : {M : Type 0} (kind : Kind M) (lists : Handed → Lists M) (w : TwoLayers) (j : Pair) (g : Histories M) → AreHistories kind lists w g → g.pair ≡ j → (k : ℕ)
+pub far_present : {M : Type 0} (kind : Kind M) (lists : Handed → Lists M) (w : TwoLayers) (j : Pair) (g : Histories M) → AreHistories kind lists w g → g.pair ≡ j → (k : ℕ)
     → g.far k (name_at kind (state_of g.pair.far) k) ≡ held_at kind (state_of g.pair.far) k
     → lists (under k (name_at kind (state_of j.far) k) w.far.entries) ≡ held_at kind (state_of j.far) k
 far_present kind lists w j g histories same k held =
     subst (λ (q : Pair). lists (under k (name_at kind (state_of q.far) k) w.far.entries) ≡ held_at kind (state_of q.far) k) same (histories.far k (name_at kind (state_of g.pair.far) k) ∙ held)
 
-pub always_arrives : Premises → (long_data : Bool) (channels : ℕ) → Always ArrivesAll long_data channels
+pub always_arrives : Premises → (long_data : Bool) (channels : Ranges) → Always ArrivesAll long_data channels
 always_arrives p long_data channels es =
     let w : TwoLayers = run long_data channels es (start long_data channels) in
     let h : InRun channels w = in_run p long_data channels es in

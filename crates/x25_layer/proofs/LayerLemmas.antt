@@ -18,10 +18,12 @@ use Rattle.x25_handshakes.specs.laws.Calls.{Connection}
 use Rattle.x25_handshakes.specs.laws.Channel.{ChannelStep, channel_takes, channel_acts, fresh_channel}
 use Rattle.x25_handshakes.specs.laws.Layers.{LayerPacket, On, Restart, Channels, put, addressed, on_channel, ready, restarting, all_fresh, LayerStep, layer_takes, layer_side_takes, layer_acts, layer_side_acts, OnChannel}
 use Rattle.x25_handshakes.specs.laws.Names.{both, same_name}
+use Rattle.x25_layer.specs.Ranges.{is_number, may_call}
+use Rattle.x25_layer.specs.declared.ranges.Ranges.{Ranges}
 use Rattle.x25_layer.specs.Layer.{LayerSettings, Layer, LayerAnswer, is_channel, put_at, packet_on, notices_on, is_ready, answers_on, drops, answers_ready, answers_restarting, answers_in, layer_answers}
 use Rattle.x25_layer.specs.declared.error.LayerError.TheVariants as layer_error
 use Rattle.x25_layer.specs.Layer as flat
-use Rattle.x25_layer.specs.Calls.{LayerRequest, Asks, Dials, Restarts, PullsAll, LayerOutcome, Accepted, Declined, first_of, lowest_free, highest_free, free_channel, puts_at_once, where_room, if_at_once, outcome_on, dialled, restarted_for, outcome_ready, outcome_in, layer_outcome, LayerPulled, layer_pulled}
+use Rattle.x25_layer.specs.Calls.{LayerRequest, Asks, Dials, Restarts, PullsAll, LayerOutcome, Accepted, Declined, first_of, lowest_free, highest_free, first_free, where_callable, free_channel, puts_at_once, where_room, if_at_once, outcome_on, dialled, restarted_for, outcome_ready, outcome_in, layer_outcome, LayerPulled, layer_pulled}
 use Rattle.x25_handshakes.specs.laws.PeerLayers.{found, layer_found}
 use Rattle.x25_layer.specs.laws.PeerJoined.{IsConfigured}
 use Rattle.x25_layer.specs.laws.Bare.{bare, bare_layer, bare_layers}
@@ -48,7 +50,7 @@ moved_bare h (restart cause diagnostic) has = absurd has
 moved_bare h restart_conf has = absurd has
 moved_bare h other has = refl
 
-moved_quiet : (channels h : ℕ) (p : PlainPacket) → HasChannel p → IsQuiet p → is_channel channels h ≡ true → IsQuietAt channels (moved_to h p)
+moved_quiet : (channels : Ranges) (h : ℕ) (p : PlainPacket) → HasChannel p → IsQuiet p → is_channel channels h ≡ true → IsQuietAt channels (moved_to h p)
 moved_quiet channels h (restart cause diagnostic) has ok is = absurd has
 moved_quiet channels h restart_conf has ok is = absurd has
 moved_quiet channels h (call k called calling facilities user) has ok is = (ok, λ u. is)
@@ -61,7 +63,7 @@ on_bare : (h : ℕ) (o : Option PlainPacket) → IsQuietIf o → bare_layers (op
 on_bare h None q = refl
 on_bare h (Some p) q = ap (λ (x : LayerPacket). x ∷ []) (moved_bare h p q.1)
 
-on_quiet : (channels h : ℕ) (o : Option PlainPacket) → is_channel channels h ≡ true → IsQuietIf o → AreQuiet channels (option_to_list (packet_on h o))
+on_quiet : (channels : Ranges) (h : ℕ) (o : Option PlainPacket) → is_channel channels h ≡ true → IsQuietIf o → AreQuiet channels (option_to_list (packet_on h o))
 on_quiet channels h None is q = tt
 on_quiet channels h (Some p) is q = (moved_quiet channels h p q.1 q.0 is, tt)
 
@@ -78,7 +80,7 @@ sees_put e f x h c s each is = record { restarting = refl; restarts = refl; circ
 
 -- ---- packets handed up
 
-answers_follow : (channels e : ℕ) (f : ℕ → Circuit) (x : Channels) (h : ℕ) (a : Answer) (s : ChannelStep) → is_channel channels h ≡ true → ((k : ℕ) → Shows (f k) (x k)) → Follows a s
+answers_follow : (channels : Ranges) (e : ℕ) (f : ℕ → Circuit) (x : Channels) (h : ℕ) (a : Answer) (s : ChannelStep) → is_channel channels h ≡ true → ((k : ℕ) → Shows (f k) (x k)) → Follows a s
     → Notes (x h) s.next (told_by_all a.notices) → FollowsLayer channels (answers_on e f h a) (ready e x) (on_channel e x h s)
 answers_follow channels e f x h a s is each g notes =
     let sees : SeesLayer (is_ready e (put_at f h a.next)) (ready e (put x h s.next)) = sees_put e f x h a.next s.next each g.next in
@@ -91,7 +93,7 @@ answers_follow channels e f x h a s is each g notes =
           (λ k m. told_under (is_ready e (put_at f h a.next)) h a.notices k m);
     }
 
-if_channel : (channels : ℕ) (b : Bool) (u v : LayerAnswer) (z : At Channels) (s : LayerStep) → b ≡ true → FollowsLayer channels u z s → FollowsLayer channels (if b then u else v) z s
+if_channel : (channels : Ranges) (b : Bool) (u v : LayerAnswer) (z : At Channels) (s : LayerStep) → b ≡ true → FollowsLayer channels u z s → FollowsLayer channels (if b then u else v) z s
 if_channel channels true u v z s is g = g
 if_channel channels false u v z s is g = absurd (true≢false (sym is))
 
@@ -127,7 +129,7 @@ row_ready laws c e f x (interrupt_conf h) each ok q = on_its_channel laws c e f 
 row_ready laws c e f x (reset h cause diagnostic) each ok q = on_its_channel laws c e f x (reset h cause diagnostic) tt each ok q
 row_ready laws c e f x (reset_conf h) each ok q = on_its_channel laws c e f x (reset_conf h) tt each ok q
 
-restarted : (channels e : ℕ) (x : Side Channels) (notices : List flat.LayerNotice) → AreNoFaults notices → entries_told (is_ready (suc e) (λ k. begun)) notices ≡ []
+restarted : (channels : Ranges) (e : ℕ) (x : Side Channels) (notices : List flat.LayerNotice) → AreNoFaults notices → entries_told (is_ready (suc e) (λ k. begun)) notices ≡ []
     → FollowsLayer channels (flat.restarts_to e None notices) (record { epoch = e; side = x }) (record { next = ready (suc e) all_fresh; out = []; error = None })
 restarted channels e x notices clean none = record {
   next = record { restarting = refl; restarts = refl; circuits = λ k. begun_shown };
@@ -137,7 +139,7 @@ restarted channels e x notices clean none = record {
   step = subst (λ (es : List Entry). StepOf (record { epoch = e; side = x }) (ready (suc e) all_fresh) es) (sym none) (restart_step e x);
 }
 
-dropped : (channels e : ℕ) (f : ℕ → Circuit) (x : Channels) → ((k : ℕ) → f k ≡ forgotten (view unagreed (x k)))
+dropped : (channels : Ranges) (e : ℕ) (f : ℕ → Circuit) (x : Channels) → ((k : ℕ) → f k ≡ forgotten (view unagreed (x k)))
     → FollowsLayer channels (drops true e f) (restarting e x) (record { next = restarting e x; out = []; error = None })
 dropped channels e f x each = record {
   next = record { restarting = refl; restarts = refl; circuits = each };
@@ -206,8 +208,8 @@ if_there c l r false good error z s h = tt
 
 -- a free channel is a configured one
 
-pub is_between : (channels h : ℕ) → 1 ≤ h → h ≤ channels → is_channel channels h ≡ true
-is_between channels h low high = rw (le-leb 1 h low) (rw (le-leb h channels high) refl)
+pub is_between : (n h : ℕ) → 1 ≤ h → h ≤ n → is_number n h ≡ true
+is_between n h low high = rw (le-leb 1 h low) (rw (le-leb h n high) refl)
 
 lowest_in : (f : ℕ → Circuit) (n h : ℕ) → lowest_free f n ≡ Some h → (1 ≤ h) × (h ≤ n)
 lowest_in f zero h e = absurd (cc)
@@ -226,9 +228,20 @@ highest_in f (suc n) h e = step (λ is. highest_in f n h is) (is_free (f (suc n)
     step below true is = let same = same_Some (suc n) h is in (omega (arith, same), omega (arith, same))
     step below false is = let r = below is in (omega (arith, r.0), omega (arith, r.1))
 
-free_in : (role : Role) (f : ℕ → Circuit) (n h : ℕ) → free_channel role f n ≡ Some h → is_channel n h ≡ true
-free_in Dte f n h e = let r = highest_in f n h e in is_between n h r.0 r.1
-free_in Dce f n h e = let r = lowest_in f n h e in is_between n h r.0 r.1
+first_in : (role : Role) (f : ℕ → Circuit) (n h : ℕ) → first_free role f n ≡ Some h → is_number n h ≡ true
+first_in Dte f n h e = let r = highest_in f n h e in is_between n h r.0 r.1
+first_in Dce f n h e = let r = lowest_in f n h e in is_between n h r.0 r.1
+
+free_in : (role : Role) (f : ℕ → Circuit) (channels : Ranges) (h : ℕ) → free_channel role f channels ≡ Some h → is_channel channels h ≡ true
+free_in role f channels h e = found (first_free role f channels.count) (λ k is. first_in role f channels.count k is) e
+  where
+    may : (k : ℕ) (b : Bool) → is_number channels.count k ≡ true → (if b then Some k else None) ≡ Some h → is_channel channels h ≡ true
+    may k true is same = subst (λ (n : ℕ). is_channel channels n ≡ true) (same_Some k h same) is
+    may k false is same = absurd (cc)
+
+    found : (o : Option ℕ) → ((k : ℕ) → o ≡ Some k → is_number channels.count k ≡ true) → where_callable role channels o ≡ Some h → is_channel channels h ≡ true
+    found None is same = absurd (cc)
+    found (Some k) is same = may k (may_call role channels k) (is k refl) same
 
 -- the circuit of a configured channel does what is asked
 circuit_asked : ParamsLaws → (c : LayerSettings) (e : ℕ) (f : ℕ → Circuit) (x : Channels) (h : ℕ) (request : Request) → is_channel c.channels h ≡ true → ((k : ℕ) → Shows (f k) (x k))

@@ -22,9 +22,9 @@ one_none link c h s room still = by (layer_pulled c s.layer h).packet refl (subs
         absurd (omega (arith, more, length_push s.put packet))
 
 -- of a round that leaves all as it was, so does each pull
-pulls_none : (link : LinkView) (c : LayerSettings) (n : ℕ) → n ≤ c.channels → (s : Putting) → link.waits s.put < 8 → round link c n s ≡ s → (h : ℕ) → 1 ≤ h → h ≤ n → (layer_pulled c s.layer h).packet ≡ None
+pulls_none : (link : LinkView) (c : LayerSettings) (n : ℕ) → n ≤ c.channels.count → (s : Putting) → link.waits s.put < 8 → round link c n s ≡ s → (h : ℕ) → 1 ≤ h → h ≤ n → (layer_pulled c s.layer h).packet ≡ None
 pulls_none link c zero few s room still h low high = absurd (omega (arith, low, high))
-pulls_none link c (suc n) few s room still h low high = by (round_lessens link c n (let e : n ≤ c.channels = omega (arith, few) in e) s) (λ r. λ lower. pulls_none link c n (let e : n ≤ c.channels = omega (arith, few) in e) s room r h low lower)
+pulls_none link c (suc n) few s room still h low high = by (round_lessens link c n (let e : n ≤ c.channels.count = omega (arith, few) in e) s) (λ r. λ lower. pulls_none link c n (let e : n ≤ c.channels.count = omega (arith, few) in e) s room r h low lower)
   where
     by : Lessens c s (round link c n s) → (round link c n s ≡ s → h ≤ n → (layer_pulled c s.layer h).packet ≡ None) → (layer_pulled c s.layer h).packet ≡ None
     by (inr less) below = absurd (fewer (one_lessens link c (suc n) (let e : 1 ≤ suc n = omega arith in e) few (round link c n s)))
@@ -40,8 +40,8 @@ pulls_none link c (suc n) few s room still h low high = by (round_lessens link c
 
 pub rounds_leave_none : RoundsLeaveNone
 rounds_leave_none link c s room h is =
-    let both = and_parts (nat_le 1 h) (nat_le h c.channels) is in
-    pulls_none link c c.channels (let e : c.channels ≤ c.channels = omega arith in e) (rounds link c s) room (rounds_settle link c s) h (leb-true 1 h both.0) (leb-true h c.channels both.1)
+    let both = and_parts (nat_le 1 h) (nat_le h c.channels.count) is in
+    pulls_none link c c.channels.count (let e : c.channels.count ≤ c.channels.count = omega arith in e) (rounds link c s) room (rounds_settle link c s) h (leb-true 1 h both.0) (leb-true h c.channels.count both.1)
 
 -- ---- a pull of all
 
@@ -49,8 +49,8 @@ rounds_leave_none link c s room h is =
 rounds_lessen : (n : ℕ) (link : LinkView) (c : LayerSettings) (s : Putting) → Lessens c s (rounds_of n link c s)
 rounds_lessen zero link c s = inl refl
 rounds_lessen (suc n) link c s =
-    lessens_then c s (round link c c.channels s) (rounds_of n link c (round link c c.channels s)) (round_lessens link c c.channels (let e : c.channels ≤ c.channels = omega arith in e) s)
-    (rounds_lessen n link c (round link c c.channels s))
+    lessens_then c s (round link c c.channels.count s) (rounds_of n link c (round link c c.channels.count s)) (round_lessens link c c.channels.count (let e : c.channels.count ≤ c.channels.count = omega arith in e) s)
+    (rounds_lessen n link c (round link c c.channels.count s))
 
 -- rounds that leave the layer as it was give nothing
 rounds_still : (link : LinkView) (c : LayerSettings) (s : Putting) → (rounds link c s).layer ≡ s.layer → rounds link c s ≡ s
@@ -58,7 +58,7 @@ rounds_still link c s same = by (rounds_lessen (left c s) link c s)
   where
     by : Lessens c s (rounds link c s) → rounds link c s ≡ s
     by (inl is) = is
-    by (inr less) = let e : left c (rounds link c s) ≡ left c s = ap (λ (l : Layer). backlog l.circuits c.channels) same in absurd (omega (arith, less, e))
+    by (inr less) = let e : left c (rounds link c s) ≡ left c s = ap (λ (l : Layer). backlog l.circuits c.channels.count) same in absurd (omega (arith, less, e))
 
 went_is : (s t : Putting) → Went s ≡ Went t → s ≡ t
 went_is s t e = cc

@@ -24,6 +24,7 @@ pub mod BusyLemmas
 pub mod ClearLemmas
 pub mod NameLemmas
 pub mod CountLemmas
+pub mod AcknowledgedLemmas
 pub mod ApartLemmas
 pub mod FirstLemmas
 pub mod WaitLemmas

@@ -10,6 +10,7 @@ use Rattle.x25_handshakes.specs.laws.PeerLayer.{PeerChannels}
 use Rattle.x25_handshakes.specs.laws.PeerLayers.{JoinedLayers, layer_found}
 use Rattle.x25_handshakes.specs.laws.PeerLayers as nested
 use Rattle.x25_handshakes.specs.laws.PeerClaims.{WithAnyPeerLayer, LayerFindsNoError, KeepsLayers, LayerHasArrived}
+use Rattle.x25_layer.specs.declared.ranges.Ranges.{Ranges}
 use Rattle.x25_layer.specs.Layer.{LayerSettings, Layer, LayerAnswer, is_channel, layer_answers}
 use Rattle.x25_layer.specs.Calls.{LayerRequest, PullsAll, LayerOutcome, Accepted, Declined, layer_outcome, LayerPulled, layer_pulled}
 use Rattle.x25_layer.specs.laws.Bare.{bare, bare_layer, bare_layers}
@@ -33,7 +34,7 @@ pub record PeerPremises : Type 0 where
   pub arrived : WithAnyPeerLayer LayerHasArrived
   pub params : ParamsLaws
 
-record Stands (r : Role) (channels : ℕ) (w : Joined) : Type 0 where
+record Stands (r : Role) (channels : Ranges) (w : Joined) : Type 0 where
   nested_end : At Channels
   error : Option ℕ
   reached : nested.IsReached r (record { near = nested_end; peer = w.peer; out = bare_layers w.out; back = bare_layers w.back; error = error })
@@ -51,12 +52,12 @@ reached_at r z y u u₂ v v₂ e p q h =
     subst (λ (b : List LayerPacket). nested.IsReached r (record { near = z; peer = y; out = u₂; back = b; error = e })) q
     (subst (λ (o : List LayerPacket). nested.IsReached r (record { near = z; peer = y; out = o; back = v; error = e })) p h)
 
-configured_more : (channels : ℕ) (L o : List PlainPacket) → AreConfigured channels L → AreConfigured channels o → AreConfigured channels (L ++ o)
+configured_more : (channels : Ranges) (L o : List PlainPacket) → AreConfigured channels L → AreConfigured channels o → AreConfigured channels (L ++ o)
 configured_more channels [] o p q = q
 configured_more channels (x ∷ L) o p q = (p.0, configured_more channels L o p.1 q)
 
 -- our layer has gone to this, and put these packets
-put_stands : (r : Role) (channels : ℕ) (w : Joined) (l : Layer) (o : List PlainPacket) (es : List Entry) (h : Stands r channels w) (act : LayerAct)
+put_stands : (r : Role) (channels : Ranges) (w : Joined) (l : Layer) (o : List PlainPacket) (es : List Entry) (h : Stands r channels w) (act : LayerAct)
     → SeesLayer l (layer_acts h.nested_end act).next → bare_layers o ≡ (layer_acts h.nested_end act).out → IsQuietEnd channels (puts (our_end w) l o es).near → StepOf h.nested_end (layer_acts h.nested_end act).next es
     → Stands r channels (with_peer w.peer (puts (our_end w) l o es))
 put_stands r channels w l o es h act sees put quiet step =
@@ -75,7 +76,7 @@ put_stands r channels w l o es h act sees put quiet step =
       of_calls = written_on calls calls_in calls_listed h.nested_end s.next w.near.entries es step h.of_calls;
     }
 
-module _ (p : PeerPremises) (r : Role) (long_data : Bool) (channels : ℕ) where
+module _ (p : PeerPremises) (r : Role) (long_data : Bool) (channels : Ranges) where
   abbrev c : LayerSettings
   c = settings_of r long_data channels
 

@@ -1,6 +1,7 @@
 -- The rounds of a step are pulls of configured channels, one after another.
 use Rattle.std.proofs.Common.{◌≡◌, ℕ, zero, suc, ◌≤◌, List, [], ◌∷◌, ◌++◌, Option, Some, None, Bool, true, false, nat_lt, ◌==◌, if◌then◌else◌, option_to_list, refl, sym, ap, subst, ◌∙◌, append_assoc, arith}
 use Rattle.x25_packet.specs.Packet.{PlainPacket}
+use Rattle.x25_layer.specs.declared.ranges.Ranges.{Ranges}
 use Rattle.x25_layer.specs.Layer.{LayerSettings, Layer, LayerAnswer, is_channel, layer_answers}
 use Rattle.x25_layer.specs.Calls.{LayerOutcome, Accepted, Declined, layer_outcome, layer_pulled}
 use Rattle.x25_layer.specs.Rounds.{LinkView, Putting, begin, with_pulled, pull_one, round, rounds_of, rounds, backlog, Answered, Went, Refuses, went, heard, answer_to}
@@ -48,7 +49,7 @@ all_append : (c : LayerSettings) (w : TwoLayers) (a b : List ℕ) → moves_all 
 all_append c w [] b = refl
 all_append c w (h ∷ a) b = all_append c (moves c w (Pulls h)) a b
 
-channels_append : (n : ℕ) (a b : List ℕ) → AreChannels n a → AreChannels n b → AreChannels n (a ++ b)
+channels_append : (n : Ranges) (a b : List ℕ) → AreChannels n a → AreChannels n b → AreChannels n (a ++ b)
 channels_append n [] b p q = q
 channels_append n (h ∷ a) b p q = (p.0, channels_append n a b p.1 q)
 
@@ -118,25 +119,25 @@ pulled_one : (link : LinkView) (c : LayerSettings) (w : TwoLayers) (h : ℕ) (s 
 pulled_one link c w h s same up is =
     subst (λ (l : Layer). Pulled c w (record { layer = l; put = s.put }) (pull_one link c h (record { layer = l; put = s.put }))) same (one_here link c w h s.put up is)
 
-pulled_round : (link : LinkView) (c : LayerSettings) (n : ℕ) → n ≤ c.channels → (w : TwoLayers) (s : Putting) → w.near.layer ≡ s.layer → w.near.is_out ≡ false → Pulled c w s (round link c n s)
+pulled_round : (link : LinkView) (c : LayerSettings) (n : ℕ) → n ≤ c.channels.count → (w : TwoLayers) (s : Putting) → w.near.layer ≡ s.layer → w.near.is_out ≡ false → Pulled c w s (round link c n s)
 pulled_round link c zero low w s same up = pulled_nothing c w s same up
 pulled_round link c (suc n) low w s same up =
-    pulled_then c w s (round link c n s) (round link c (suc n) s) (pulled_round link c n (let e : n ≤ c.channels = omega (arith, low) in e) w s same up)
-    (λ v here there. pulled_one link c v (suc n) (round link c n s) here there (is_between c.channels (suc n) (let e : 1 ≤ suc n = omega arith in e) low))
+    pulled_then c w s (round link c n s) (round link c (suc n) s) (pulled_round link c n (let e : n ≤ c.channels.count = omega (arith, low) in e) w s same up)
+    (λ v here there. pulled_one link c v (suc n) (round link c n s) here there (is_between c.channels.count (suc n) (let e : 1 ≤ suc n = omega arith in e) low))
 
 pulled_rounds : (k : ℕ) (link : LinkView) (c : LayerSettings) (w : TwoLayers) (s : Putting) → w.near.layer ≡ s.layer → w.near.is_out ≡ false → Pulled c w s (rounds_of k link c s)
 pulled_rounds zero link c w s same up = pulled_nothing c w s same up
 pulled_rounds (suc k) link c w s same up =
-    pulled_then c w s (round link c c.channels s) (rounds_of k link c (round link c c.channels s))
-    (pulled_round link c c.channels (let e : c.channels ≤ c.channels = omega arith in e) w s same up)
-    (λ v here there. pulled_rounds k link c v (round link c c.channels s) here there)
+    pulled_then c w s (round link c c.channels.count s) (rounds_of k link c (round link c c.channels.count s))
+    (pulled_round link c c.channels.count (let e : c.channels.count ≤ c.channels.count = omega arith in e) w s same up)
+    (λ v here there. pulled_rounds k link c v (round link c c.channels.count s) here there)
 
 -- a first move, and then the rounds
 run_then : (link : LinkView) (c : LayerSettings) (w : TwoLayers) (move : Move) (first : Putting) (behind : List PlainPacket) → (moves c w move).near.layer ≡ first.layer → (moves c w move).near.is_out ≡ false
     → (moves c w move).near.given ≡ w.near.given ++ first.put → (moves c w move).out ≡ w.out ++ first.put → (moves c w move).back ≡ behind → (moves c w move).far ≡ w.far
     → (pulled : List ℕ) × AreChannels c.channels pulled × IsRun c w (move ∷ pulls_of pulled) (moves c w move) (rounds link c first) behind
 run_then link c w move first behind layer up given out back far =
-    let p : Pulled c (moves c w move) first (rounds link c first) = pulled_rounds (backlog first.layer.circuits c.channels) link c (moves c w move) first layer up in (
+    let p : Pulled c (moves c w move) first (rounds link c first) = pulled_rounds (backlog first.layer.circuits c.channels.count) link c (moves c w move) first layer up in (
       p.channels,
       p.are,
       record {

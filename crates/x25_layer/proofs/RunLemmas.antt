@@ -8,6 +8,7 @@ use Rattle.x25_handshakes.specs.laws.Layers as nested
 use Rattle.x25_handshakes.specs.laws.Names.{Name, IsEarlier}
 use Rattle.x25_handshakes.specs.laws.Histories.{Lists, none, Kind, messages, interrupts, calls, name_at, held_at, Histories, turned_histories, histories_moves, histories_happens, histories_run, histories_start, AreInOrder}
 use Rattle.x25_handshakes.specs.laws.Arrivals.{AllArrives}
+use Rattle.x25_layer.specs.declared.ranges.Ranges.{Ranges}
 use Rattle.x25_layer.specs.laws.Transcript.{Handed, Entry, under, calls_in, messages_in, interrupts_in}
 use Rattle.x25_layer.specs.laws.TwoLayers.{TwoLayers, Move, Event, moves, turned, happens, run, start, settings_of}
 use Rattle.x25_layer.proofs.Sees.{ParamsLaws}
@@ -50,7 +51,7 @@ pub record AreHistories {M : Type 0} (kind : Kind M) (lists : Handed → Lists M
   pub far : (k : ℕ) (m : Name) → lists (under k m w.far.entries) ≡ g.far k m
 
 -- a step of the near end
-near_histories : {M : Type 0} (kind : Kind M) (lists : Handed → Lists M) → IsListed kind lists → (r : Role) (channels : ℕ) (w : TwoLayers) (w₂ : TwoLayers) (j : Pair) (g : Histories M) → g.pair ≡ j
+near_histories : {M : Type 0} (kind : Kind M) (lists : Handed → Lists M) → IsListed kind lists → (r : Role) (channels : Ranges) (w : TwoLayers) (w₂ : TwoLayers) (j : Pair) (g : Histories M) → g.pair ≡ j
     → ((k : ℕ) → g.near k (name_at kind (state_of g.pair.near) k) ≡ held_at kind (state_of g.pair.near) k)
     → ((k : ℕ) (m : Name) → IsEarlier (name_at kind (state_of g.pair.near) k) m → g.near k m ≡ none)
     → AreHistories kind lists w g → (s : Stepped r channels w j w₂) → AreHistories kind lists w₂ (histories_moves kind r g s.move)
@@ -66,7 +67,7 @@ histories_turned : {M : Type 0} (kind : Kind M) (lists : Handed → Lists M) (w 
 histories_turned kind lists w g b = record { near = b.far; far = b.near }
 
 -- a run of two layers, as a run of the nested handshakes
-pub record InRun (channels : ℕ) (w : TwoLayers) : Type 0 where
+pub record InRun (channels : Ranges) (w : TwoLayers) : Type 0 where
   pub events : List nested.Event
   pub sees : Sees channels w (pair_run events pair_start)
   pub messages : AreHistories messages messages_in w (histories_run messages events histories_start)
@@ -76,7 +77,7 @@ pub record InRun (channels : ℕ) (w : TwoLayers) : Type 0 where
 abbrev event : Bool → nested.Move → nested.Event
 event first what = record { first = first; what = what }
 
-near_kept : {M : Type 0} (kind : Kind M) (lists : Handed → Lists M) → IsListed kind lists → AreInOrder kind → (channels : ℕ) (w w₂ : TwoLayers) (es : List nested.Event)
+near_kept : {M : Type 0} (kind : Kind M) (lists : Handed → Lists M) → IsListed kind lists → AreInOrder kind → (channels : Ranges) (w w₂ : TwoLayers) (es : List nested.Event)
     → AreHistories kind lists w (histories_run kind es histories_start) → (s : Stepped Dte channels w (pair_run es pair_start) w₂)
     → AreHistories kind lists w₂ (histories_run kind (es ++ event true s.move ∷ []) histories_start)
 near_kept {M} kind lists listed order channels w w₂ es histories s =
@@ -85,7 +86,7 @@ near_kept {M} kind lists listed order channels w w₂ es histories s =
     (near_histories kind lists listed Dte channels w w₂ (pair_run es pair_start) g (histories_pair kind es histories_start)
     (λ k. (order es k).held) (λ k m. (order es k).later m) histories s)
 
-far_kept : {M : Type 0} (kind : Kind M) (lists : Handed → Lists M) → IsListed kind lists → AreInOrder kind → (channels : ℕ) (w w₂ : TwoLayers) (es : List nested.Event)
+far_kept : {M : Type 0} (kind : Kind M) (lists : Handed → Lists M) → IsListed kind lists → AreInOrder kind → (channels : Ranges) (w w₂ : TwoLayers) (es : List nested.Event)
     → AreHistories kind lists w (histories_run kind es histories_start) → (s : Stepped Dce channels (turned w) (nested.turned (pair_run es pair_start)) w₂)
     → AreHistories kind lists (turned w₂) (histories_run kind (es ++ event false s.move ∷ []) histories_start)
 far_kept {M} kind lists listed order channels w w₂ es histories s =
@@ -95,7 +96,7 @@ far_kept {M} kind lists listed order channels w w₂ es histories s =
     (near_histories kind lists listed Dce channels (turned w) w₂ (nested.turned (pair_run es pair_start)) (turned_histories g) (ap nested.turned (histories_pair kind es histories_start))
     (λ k. (order es k).held_there) (λ k m. (order es k).later_there m) (histories_turned kind lists w g histories) s))
 
-near_happens : Premises → (long_data : Bool) (channels : ℕ) (w : TwoLayers) (what : Move) → InRun channels w → InRun channels (moves (settings_of Dte long_data channels) w what)
+near_happens : Premises → (long_data : Bool) (channels : Ranges) (w : TwoLayers) (what : Move) → InRun channels w → InRun channels (moves (settings_of Dte long_data channels) w what)
 near_happens p long_data channels w what h =
     let j : Pair = pair_run h.events pair_start in
     either (world_moves p.params Dte long_data channels w j.near j.far j.out j.back j.error what h.sees
@@ -113,7 +114,7 @@ near_happens p long_data channels w what h =
           calls = near_kept calls calls_in calls_listed p.calls channels w v h.events h.calls s;
         }
 
-far_happens : Premises → (long_data : Bool) (channels : ℕ) (w : TwoLayers) (what : Move) → InRun channels w → InRun channels (turned (moves (settings_of Dce long_data channels) (turned w) what))
+far_happens : Premises → (long_data : Bool) (channels : Ranges) (w : TwoLayers) (what : Move) → InRun channels w → InRun channels (turned (moves (settings_of Dce long_data channels) (turned w) what))
 far_happens p long_data channels w what h =
     let j : Pair = pair_run h.events pair_start in
     either (world_moves p.params Dce long_data channels (turned w) j.far j.near j.back j.out j.error what (sees_turned channels w j h.sees)
@@ -133,18 +134,18 @@ far_happens p long_data channels w what h =
           calls = far_kept calls calls_in calls_listed p.calls channels w v h.events h.calls s;
         }
 
-if_run : (channels : ℕ) (first : Bool) (u v : TwoLayers) → InRun channels u → InRun channels v → InRun channels (if first then u else v)
+if_run : (channels : Ranges) (first : Bool) (u v : TwoLayers) → InRun channels u → InRun channels v → InRun channels (if first then u else v)
 if_run channels true u v f g = f
 if_run channels false u v f g = g
 
-in_run_on : Premises → (long_data : Bool) (channels : ℕ) (es : List Event) (w : TwoLayers) → InRun channels w → InRun channels (run long_data channels es w)
+in_run_on : Premises → (long_data : Bool) (channels : Ranges) (es : List Event) (w : TwoLayers) → InRun channels w → InRun channels (run long_data channels es w)
 in_run_on p long_data channels [] w h = h
 in_run_on p long_data channels (e ∷ es) w h =
     in_run_on p long_data channels es (happens long_data channels w e)
     (if_run channels e.first (moves (settings_of Dte long_data channels) w e.what) (turned (moves (settings_of Dce long_data channels) (turned w) e.what))
     (near_happens p long_data channels w e.what h) (far_happens p long_data channels w e.what h))
 
-begins : (long_data : Bool) (channels : ℕ) → InRun channels (start long_data channels)
+begins : (long_data : Bool) (channels : Ranges) → InRun channels (start long_data channels)
 begins long_data channels = record {
   events = [];
   sees = record {
@@ -163,5 +164,5 @@ begins long_data channels = record {
   calls = record { near = λ k m. refl; far = λ k m. refl };
 }
 
-pub in_run : Premises → (long_data : Bool) (channels : ℕ) (es : List Event) → InRun channels (run long_data channels es (start long_data channels))
+pub in_run : Premises → (long_data : Bool) (channels : Ranges) (es : List Event) → InRun channels (run long_data channels es (start long_data channels))
 in_run p long_data channels es = in_run_on p long_data channels es (start long_data channels) (begins long_data channels)

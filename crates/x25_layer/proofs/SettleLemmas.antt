@@ -95,12 +95,12 @@ backlog_put f h y (suc n) low high = test (λ small. backlog_put f h y n low sma
 -- ---- a step gives nothing, or leaves fewer to be sent
 
 abbrev pub left : LayerSettings → Putting → ℕ
-left c s = backlog s.layer.circuits c.channels
+left c s = backlog s.layer.circuits c.channels.count
 
 abbrev pub Lessens : LayerSettings → Putting → Putting → Type 0
 Lessens c s s₂ = (s₂ ≡ s) ⊎ (left c s₂ < left c s)
 
-pub one_lessens : (link : LinkView) (c : LayerSettings) (h : ℕ) → 1 ≤ h → h ≤ c.channels → (s : Putting) → Lessens c s (pull_one link c h s)
+pub one_lessens : (link : LinkView) (c : LayerSettings) (h : ℕ) → 1 ≤ h → h ≤ c.channels.count → (s : Putting) → Lessens c s (pull_one link c h s)
 one_lessens link c h low high s = room (nat_lt (link.waits s.put) 8)
   where
     y : Circuit
@@ -110,8 +110,8 @@ one_lessens link c h low high s = room (nat_lt (link.waits s.put) 8)
     given None found = inl refl
     given (Some packet) found =
         let less : suc (length y.talk.rest) ≡ length (s.layer.circuits h).talk.rest = shorter c.circuit (s.layer.circuits h) packet found in
-        let sum = backlog_put s.layer.circuits h y c.channels low high in
-        inr (let e : backlog (put_at s.layer.circuits h y) c.channels < backlog s.layer.circuits c.channels = omega (arith, less, sum) in e)
+        let sum = backlog_put s.layer.circuits h y c.channels.count low high in
+        inr (let e : backlog (put_at s.layer.circuits h y) c.channels.count < backlog s.layer.circuits c.channels.count = omega (arith, less, sum) in e)
 
     room : (b : Bool) → Lessens c s (if b then with_pulled s (layer_pulled c s.layer h) (layer_pulled c s.layer h).packet else s)
     room true = given (pulled c.circuit (s.layer.circuits h)).packet refl
@@ -123,54 +123,54 @@ lessens_then c s s₂ s₃ (inl p) (inr q) = inr (let l = ap (λ (t : Putting). 
 lessens_then c s s₂ s₃ (inr p) (inl q) = inr (let l = ap (λ (t : Putting). left c t) q in omega (arith, p, l))
 lessens_then c s s₂ s₃ (inr p) (inr q) = inr (omega (arith, p, q))
 
-pub round_lessens : (link : LinkView) (c : LayerSettings) (n : ℕ) → n ≤ c.channels → (s : Putting) → Lessens c s (round link c n s)
+pub round_lessens : (link : LinkView) (c : LayerSettings) (n : ℕ) → n ≤ c.channels.count → (s : Putting) → Lessens c s (round link c n s)
 round_lessens link c zero low s = inl refl
 round_lessens link c (suc n) low s =
-    lessens_then c s (round link c n s) (round link c (suc n) s) (round_lessens link c n (let e : n ≤ c.channels = omega (arith, low) in e) s)
+    lessens_then c s (round link c n s) (round link c (suc n) s) (round_lessens link c n (let e : n ≤ c.channels.count = omega (arith, low) in e) s)
     (one_lessens link c (suc n) (let e : 1 ≤ suc n = omega arith in e) low (round link c n s))
 
 -- where a round gives nothing, no more rounds do
-stays : (k : ℕ) (link : LinkView) (c : LayerSettings) (s : Putting) → round link c c.channels s ≡ s → rounds_of k link c s ≡ s
+stays : (k : ℕ) (link : LinkView) (c : LayerSettings) (s : Putting) → round link c c.channels.count s ≡ s → rounds_of k link c s ≡ s
 stays zero link c s is = refl
 stays (suc k) link c s is = ap (λ (t : Putting). rounds_of k link c t) is ∙ stays k link c s is
 
-settled : (k : ℕ) (link : LinkView) (c : LayerSettings) (s : Putting) → left c s ≤ k → round link c c.channels (rounds_of k link c s) ≡ rounds_of k link c s
-settled zero link c s enough = by (round_lessens link c c.channels (let e : c.channels ≤ c.channels = omega arith in e) s)
+settled : (k : ℕ) (link : LinkView) (c : LayerSettings) (s : Putting) → left c s ≤ k → round link c c.channels.count (rounds_of k link c s) ≡ rounds_of k link c s
+settled zero link c s enough = by (round_lessens link c c.channels.count (let e : c.channels.count ≤ c.channels.count = omega arith in e) s)
   where
-    by : Lessens c s (round link c c.channels s) → round link c c.channels s ≡ s
+    by : Lessens c s (round link c c.channels.count s) → round link c c.channels.count s ≡ s
     by (inl is) = is
     by (inr less) = absurd (omega (arith, enough, less))
-settled (suc j) link c s enough = by (round_lessens link c c.channels (let e : c.channels ≤ c.channels = omega arith in e) s) (λ small. settled j link c (round link c c.channels s) small)
+settled (suc j) link c s enough = by (round_lessens link c c.channels.count (let e : c.channels.count ≤ c.channels.count = omega arith in e) s) (λ small. settled j link c (round link c c.channels.count s) small)
   where
-    by : Lessens c s (round link c c.channels s) → (left c (round link c c.channels s) ≤ j → round link c c.channels (rounds_of j link c (round link c c.channels s)) ≡ rounds_of j link c (round link c c.channels s))
-        → round link c c.channels (rounds_of j link c (round link c c.channels s)) ≡ rounds_of j link c (round link c c.channels s)
+    by : Lessens c s (round link c c.channels.count s) → (left c (round link c c.channels.count s) ≤ j → round link c c.channels.count (rounds_of j link c (round link c c.channels.count s)) ≡ rounds_of j link c (round link c c.channels.count s))
+        → round link c c.channels.count (rounds_of j link c (round link c c.channels.count s)) ≡ rounds_of j link c (round link c c.channels.count s)
     by (inl is) again =
-        let end : rounds_of j link c (round link c c.channels s) ≡ s = stays (suc j) link c s is in
-        ap (λ (t : Putting). round link c c.channels t) end ∙ is ∙ sym end
-    by (inr less) again = again (let e : left c (round link c c.channels s) ≤ j = omega (arith, enough, less) in e)
+        let end : rounds_of j link c (round link c c.channels.count s) ≡ s = stays (suc j) link c s is in
+        ap (λ (t : Putting). round link c c.channels.count t) end ∙ is ∙ sym end
+    by (inr less) again = again (let e : left c (round link c c.channels.count s) ≤ j = omega (arith, enough, less) in e)
 
 -- rounds behind one that gives nothing
-stays_on : (n k : ℕ) (link : LinkView) (c : LayerSettings) (s : Putting) → n ≤ k → round link c c.channels (rounds_of n link c s) ≡ rounds_of n link c s → rounds_of k link c s ≡ rounds_of n link c s
+stays_on : (n k : ℕ) (link : LinkView) (c : LayerSettings) (s : Putting) → n ≤ k → round link c c.channels.count (rounds_of n link c s) ≡ rounds_of n link c s → rounds_of k link c s ≡ rounds_of n link c s
 stays_on zero k link c s low is = stays k link c s is
 stays_on (suc n) zero link c s low is = absurd (omega (arith, low))
-stays_on (suc n) (suc k) link c s low is = stays_on n k link c (round link c c.channels s) (let e : n ≤ k = omega (arith, low) in e) is
+stays_on (suc n) (suc k) link c s low is = stays_on n k link c (round link c c.channels.count s) (let e : n ≤ k = omega (arith, low) in e) is
 
 -- more rounds than there are packets to be sent do no more
 more_rounds : (k : ℕ) (link : LinkView) (c : LayerSettings) (s : Putting) → left c s ≤ k → rounds_of k link c s ≡ rounds link c s
 more_rounds k link c s enough = stays_on (left c s) k link c s enough (settled (left c s) link c s (let e : left c s ≤ left c s = omega arith in e))
 
 -- a round leads to where all of them do
-pub rounds_behind : (link : LinkView) (c : LayerSettings) (s : Putting) → rounds link c (round link c c.channels s) ≡ rounds link c s
-rounds_behind link c s = by (round_lessens link c c.channels (let e : c.channels ≤ c.channels = omega arith in e) s)
+pub rounds_behind : (link : LinkView) (c : LayerSettings) (s : Putting) → rounds link c (round link c c.channels.count s) ≡ rounds link c s
+rounds_behind link c s = by (round_lessens link c c.channels.count (let e : c.channels.count ≤ c.channels.count = omega arith in e) s)
   where
-    by : Lessens c s (round link c c.channels s) → rounds link c (round link c c.channels s) ≡ rounds link c s
+    by : Lessens c s (round link c c.channels.count s) → rounds link c (round link c c.channels.count s) ≡ rounds link c s
     by (inl is) = ap (λ (t : Putting). rounds link c t) is
     by (inr less) =
-        sym (more_rounds (left c s) link c (round link c c.channels s) (let e : left c (round link c c.channels s) ≤ left c s = omega (arith, less) in e))
+        sym (more_rounds (left c s) link c (round link c c.channels.count s) (let e : left c (round link c c.channels.count s) ≤ left c s = omega (arith, less) in e))
         ∙ more_rounds (suc (left c s)) link c s (let e : left c s ≤ suc (left c s) = omega arith in e)
 
 -- where a round gives nothing, that is where all of them lead
-pub rounds_at_end : (link : LinkView) (c : LayerSettings) (s : Putting) → round link c c.channels s ≡ s → rounds link c s ≡ s
+pub rounds_at_end : (link : LinkView) (c : LayerSettings) (s : Putting) → round link c c.channels.count s ≡ s → rounds link c s ≡ s
 rounds_at_end link c s is = stays (left c s) link c s is
 
 pub rounds_settle : RoundsSettle
@@ -182,7 +182,7 @@ begun_backlog zero = refl
 begun_backlog (suc n) = let e : backlog (λ k. begun) n ≡ 0 = begun_backlog n in omega (arith, e)
 
 pub comes_up_alone : ComesUpAlone
-comes_up_alone link c = ap (λ (n : ℕ). rounds_of n link c (begin (goes_up c).next (goes_up c).owed)) (begun_backlog c.channels)
+comes_up_alone link c = ap (λ (n : ℕ). rounds_of n link c (begin (goes_up c).next (goes_up c).owed)) (begun_backlog c.channels.count)
 
 -- those that forget have none to send either
 forgotten_backlog : (f : ℕ → Circuit) (n : ℕ) → backlog (λ k. forgotten (f k)) n ≡ 0
@@ -191,7 +191,7 @@ forgotten_backlog f (suc n) = let e : backlog (λ k. forgotten (f k)) n ≡ 0 = 
 
 -- a restart of the user puts RESTART alone
 restart_alone : (link : LinkView) (c : LayerSettings) (restarts : ℕ) (f : ℕ → Circuit) (cause diagnostic : ℕ) → rounds link c (begin (restarting_from restarts f) (Some (restart cause diagnostic))) ≡ begin (restarting_from restarts f) (Some (restart cause diagnostic))
-restart_alone link c restarts f cause diagnostic = ap (λ (n : ℕ). rounds_of n link c (begin (restarting_from restarts f) (Some (restart cause diagnostic)))) (forgotten_backlog f c.channels)
+restart_alone link c restarts f cause diagnostic = ap (λ (n : ℕ). rounds_of n link c (begin (restarting_from restarts f) (Some (restart cause diagnostic)))) (forgotten_backlog f c.channels.count)
 
 restart_in : (link : LinkView) (c : LayerSettings) (l : Layer) (cause diagnostic : ℕ) (restarting full : Bool) → link.is_up ≡ true → l.restarting ≡ restarting → (link.waits [] == 256) ≡ full
     → calls link c l (Restarts cause diagnostic) ≡ went link c (outcome_in c full restarting l.restarts l.circuits (Restarts cause diagnostic))

@@ -8,6 +8,7 @@ use Rattle.x25_handshakes.specs.laws.Layers as nested
 use Rattle.x25_handshakes.specs.laws.Histories.{circuit_at}
 use Rattle.x25_handshakes.specs.laws.Stretch.{Packet, Clear}
 use Rattle.x25_handshakes.specs.laws.PeerLayers.{found, layer_found}
+use Rattle.x25_layer.specs.declared.ranges.Ranges.{Ranges}
 use Rattle.x25_layer.specs.Layer.{LayerSettings, Layer, LayerNotice, LayerAnswer, is_channel, layer_answers, rested}
 use Rattle.x25_layer.specs.Calls.{LayerRequest, PullsAll, LayerOutcome, Accepted, Declined, outcome_in, layer_outcome, LayerPulled, layer_pulled}
 use Rattle.x25_layer.specs.laws.Bare.{bare_layer, bare_layers}
@@ -26,7 +27,7 @@ abbrev pub SeesEnd : End → Side (At Channels) → Type 0
 SeesEnd e (Live z) = (e.is_out ≡ false) × SeesLayer e.layer z
 SeesEnd e (Left z) = (e.is_out ≡ true) × (e.layer ≡ rested e.layer)
 
-pub record Sees (channels : ℕ) (w : TwoLayers) (j : Pair) : Type 0 where
+pub record Sees (channels : Ranges) (w : TwoLayers) (j : Pair) : Type 0 where
   pub near : SeesEnd w.near j.near
   pub far : SeesEnd w.far j.far
   pub out : bare_layers w.out ≡ j.out
@@ -38,7 +39,7 @@ pub record Sees (channels : ℕ) (w : TwoLayers) (j : Pair) : Type 0 where
   pub order : KeepsOrder w
 
 -- an event of the nested handshakes that a step of the near end is, with the entries that it makes
-pub record Stepped (r : Role) (channels : ℕ) (w : TwoLayers) (j : Pair) (w₂ : TwoLayers) : Type 0 where
+pub record Stepped (r : Role) (channels : Ranges) (w : TwoLayers) (j : Pair) (w₂ : TwoLayers) : Type 0 where
   pub move : nested.Move
   pub sees : Sees channels w₂ (pair_moves r j j.near move)
   pub entries : List Entry
@@ -50,7 +51,7 @@ pub bare_more : (L o : List PlainPacket) (u v : List LayerPacket) → bare_layer
 bare_more [] o u v p q = q ∙ ap (λ l. l ++ v) p
 bare_more (x ∷ L) o u v p q = ap (λ l. bare_layer x ∷ l) (bare_more L o (bare_layers L) v refl q) ∙ ap (λ l. l ++ v) p
 
-pub quiet_more : (channels : ℕ) (L o : List PlainPacket) → AreQuiet channels L → AreQuiet channels o → AreQuiet channels (L ++ o)
+pub quiet_more : (channels : Ranges) (L o : List PlainPacket) → AreQuiet channels L → AreQuiet channels o → AreQuiet channels (L ++ o)
 quiet_more channels [] o p q = q
 quiet_more channels (x ∷ L) o p q = (p.0, quiet_more channels L o p.1 q)
 
@@ -66,7 +67,7 @@ second None f q = q
 second (Some n) f q = absurd (some_none n q)
 
 -- the near end has put these packets, and stands as the nested one does
-put_sees : (channels : ℕ) (w : TwoLayers) (j : Pair) (l : Layer) (o : List PlainPacket) (es : List Entry) (s : LayerStep) (error : Option ℕ) → Sees channels w j
+put_sees : (channels : Ranges) (w : TwoLayers) (j : Pair) (l : Layer) (o : List PlainPacket) (es : List Entry) (s : LayerStep) (error : Option ℕ) → Sees channels w j
     → SeesLayer l s.next → bare_layers o ≡ s.out → AreQuiet channels o
     → Sees channels (puts w l o es) (record { near = Live s.next; far = j.far; out = j.out ++ s.out; back = j.back; error = error })
 put_sees channels w j l o es s error sees next owed quiet = record {
@@ -82,7 +83,7 @@ put_sees channels w j l o es s error sees next owed quiet = record {
 }
 
 -- after a packet was handed up
-answered_sees : (channels : ℕ) (w : TwoLayers) (j : Pair) (p : PlainPacket) (K : List PlainPacket) (a : LayerAnswer) (s : LayerStep) (error : Option ℕ) → Sees channels w j → w.back ≡ p ∷ K
+answered_sees : (channels : Ranges) (w : TwoLayers) (j : Pair) (p : PlainPacket) (K : List PlainPacket) (a : LayerAnswer) (s : LayerStep) (error : Option ℕ) → Sees channels w j → w.back ≡ p ∷ K
     → (z : At Channels) → FollowsLayer channels a z s
     → Sees channels (answered w p K a) (record { near = Live s.next; far = j.far; out = j.out ++ s.out; back = bare_layers K; error = error })
 answered_sees channels w j p K a s error sees front z g = record {
@@ -149,7 +150,7 @@ found_none p e none = ap (λ f. layer_found p f) none ∙ at p
     at RestartConf = refl
 
 -- An event at the near end, with the settings of its role.
-pub world_moves : ParamsLaws → (r : Role) (long_data : Bool) (channels : ℕ) (w : TwoLayers) (near far : Side (At Channels)) (out back : List LayerPacket) (error : Option ℕ) (what : Move)
+pub world_moves : ParamsLaws → (r : Role) (long_data : Bool) (channels : Ranges) (w : TwoLayers) (near far : Side (At Channels)) (out back : List LayerPacket) (error : Option ℕ) (what : Move)
     → let j : Pair = record { near = near; far = far; out = out; back = back; error = error } in Sees channels w j → ((m : nested.Move) → (pair_moves r j near m).error ≡ None)
     → (gone : Bool) → gone ≡ w.near.is_out → (moves_in (settings_of r long_data channels) w gone what ≡ w) ⊎ Stepped r channels w j (moves_in (settings_of r long_data channels) w gone what)
 world_moves laws r long_data channels w near far out back error what sees quiet true is = inl refl
@@ -235,7 +236,7 @@ world_moves laws r long_data channels w (Live z) far out back error GoesDown see
   step = quiet_step z z refl (λ k. still (circuit_at z k));
 })
 
-pub sees_turned : (channels : ℕ) (w : TwoLayers) (j : Pair) → Sees channels w j → Sees channels (turned w) (nested.turned j)
+pub sees_turned : (channels : Ranges) (w : TwoLayers) (j : Pair) → Sees channels w j → Sees channels (turned w) (nested.turned j)
 sees_turned channels w j s = record {
   near = s.far;
   far = s.near;

@@ -14,6 +14,7 @@ use Rattle.x25_handshakes.specs.laws.Layers.{Channels, Pair, pair_run, pair_star
 use Rattle.x25_handshakes.specs.laws.Histories.{messages, name_at}
 use Rattle.x25_handshakes.specs.laws.Arrivals.{open_in, open_phase, open_call, open_at}
 use Rattle.x25_handshakes.specs.laws.Drained.{is_up, pulled_at, IsOpenThere, AllIsKnown}
+use Rattle.x25_layer.specs.declared.ranges.Ranges.{Ranges}
 use Rattle.x25_layer.specs.Layer.{LayerSettings, Layer, is_channel}
 use Rattle.x25_layer.specs.Calls.{layer_pulled}
 use Rattle.x25_layer.specs.laws.Bare.{bare_layers}
@@ -56,7 +57,7 @@ closed_end e (Live z) k sees closed = at z.side (sees.1.circuits k)
     at (Left x) shows = ap waits shows
     at (Live x) shows = ap waits shows.is ∙ closed_view shows.agreed (x k) (sym (ap is_open shows.is) ∙ closed)
 
-pub always_closed : Premises → (long_data : Bool) (channels : ℕ) → Always ClosedKeepNone long_data channels
+pub always_closed : Premises → (long_data : Bool) (channels : Ranges) → Always ClosedKeepNone long_data channels
 always_closed p long_data channels es =
     let w : TwoLayers = run long_data channels es (start long_data channels) in
     let h : InRun channels w = in_run p long_data channels es in
@@ -71,7 +72,7 @@ restarting_end e (Live z) sees restarts k = at z.side sees.1.restarting (sees.1.
     at (Left x) same shows = ap is_open shows
     at (Live x) same shows = absurd (true≢false (sym restarts ∙ same))
 
-pub always_shut : Premises → (long_data : Bool) (channels : ℕ) → Always NoneOpenInRestart long_data channels
+pub always_shut : Premises → (long_data : Bool) (channels : Ranges) → Always NoneOpenInRestart long_data channels
 always_shut p long_data channels es =
     let w : TwoLayers = run long_data channels es (start long_data channels) in
     let h : InRun channels w = in_run p long_data channels es in
@@ -161,7 +162,7 @@ all_taken given taken out order none =
     let z : length out ≡ 0 = ap length none in
     omega (arith, l, z)
 
-pub always_waits : Premises → AllIsKnown → (long_data : Bool) (channels : ℕ) → Always (WaitForUsersAlone long_data channels) long_data channels
+pub always_waits : Premises → AllIsKnown → (long_data : Bool) (channels : Ranges) → Always (WaitForUsersAlone long_data channels) long_data channels
 always_waits p known long_data channels es =
     let w : TwoLayers = run long_data channels es (start long_data channels) in
     let h : InRun channels w = in_run p long_data channels es in

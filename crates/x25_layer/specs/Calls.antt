@@ -11,6 +11,8 @@ use Rattle.x25_circuit.specs.Calling.{Outcome, Done, Refused, Request, Calls, Se
 use Rattle.x25_circuit.specs.Request.{is_message}
 use Rattle.x25_layer.specs.declared.error.LayerError.{LayerError}
 use Rattle.x25_layer.specs.declared.error.LayerError.TheVariants as error
+use Rattle.x25_layer.specs.declared.ranges.Ranges.{Ranges}
+use Rattle.x25_layer.specs.Ranges.{may_call}
 use Rattle.x25_layer.specs.Layer.{LayerSettings, Layer, is_channel, put_at, packet_on, is_ready, restarting_from}
 
 -- a call of a circuit on a channel; a new call, which takes a free channel, with the packet sizes and windows that it
@@ -43,9 +45,17 @@ highest_free circuits (suc n) = if is_free (circuits (suc n)) then Some (suc n) 
 
 -- A DTE calls on the highest free channel and a DCE on the lowest (sections 4.1.2 and 4.1.3), so that they seldom
 -- collide.
-abbrev pub free_channel : Role → (ℕ → Circuit) → ℕ → Option ℕ
-free_channel Dte circuits channels = highest_free circuits channels
-free_channel Dce circuits channels = lowest_free circuits channels
+abbrev pub first_free : Role → (ℕ → Circuit) → ℕ → Option ℕ
+first_free Dte circuits n = highest_free circuits n
+first_free Dce circuits n = lowest_free circuits n
+
+abbrev pub where_callable : Role → Ranges → Option ℕ → Option ℕ
+where_callable role channels None = None
+where_callable role channels (Some h) = if may_call role channels h then Some h else None
+
+-- where that one is kept for calls of the other end (Annex A), all that are free are
+abbrev pub free_channel : Role → (ℕ → Circuit) → Ranges → Option ℕ
+free_channel role circuits channels = where_callable role channels (first_free role circuits channels.count)
 
 -- a message puts no packet at once, so a full queue doesn't refuse it
 abbrev pub puts_at_once : Request → Bool

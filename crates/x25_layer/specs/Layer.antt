@@ -9,13 +9,15 @@ use Rattle.x25_packet.specs.Packet.{PlainPacket, restart, restart_conf}
 use Rattle.x25_packet.specs.Spelling.{channel_of, moved_to}
 use Rattle.x25_circuit.specs.Circuit.{Settings, Circuit, begun, forgotten}
 use Rattle.x25_circuit.specs.Notice.{PlainNotice}
+use Rattle.x25_layer.specs.declared.ranges.Ranges.{Ranges}
+pub use Rattle.x25_layer.specs.Ranges.{is_channel}
 use Rattle.x25_circuit.specs.Hearing.{Answer, answers, undecoded, cause_at, by_role}
+pub mod Confirmed
 pub mod InPart
 pub mod MessageRoom
 
--- channels 1 to the first number are configured
 pub record LayerSettings : Type 0 where
-  pub channels : ℕ
+  pub channels : Ranges
   pub circuit : Settings
 
 -- whether this end has sent RESTART and waits (r2 at a DTE, r3 at a DCE), how many restarts were done since link set-up
@@ -36,9 +38,6 @@ pub record LayerAnswer : Type 0 where
   pub next : Layer
   pub owed : Option PlainPacket
   pub notices : List LayerNotice
-
-abbrev pub is_channel : ℕ → ℕ → Bool
-is_channel channels h = nat_le 1 h && nat_le h channels
 
 abbrev pub put_at : (ℕ → Circuit) → ℕ → Circuit → ℕ → Circuit
 put_at circuits h circuit k = if k == h then circuit else circuits k

@@ -2,6 +2,7 @@ pub mod Error
 pub mod Layer
 pub mod Calls
 pub mod Rounds
+pub mod Ranges
 pub mod Room
 pub mod Report
 pub mod Receiving

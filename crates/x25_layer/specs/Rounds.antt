@@ -52,12 +52,12 @@ backlog circuits (suc n) = backlog circuits n + length (circuits (suc n)).talk.r
 
 abbrev pub rounds_of : ℕ → LinkView → LayerSettings → Putting → Putting
 rounds_of zero link c s = s
-rounds_of (suc n) link c s = rounds_of n link c (round link c c.channels s)
+rounds_of (suc n) link c s = rounds_of n link c (round link c c.channels.count s)
 
 -- Rounds until one gives none: each that gives one leaves fewer to be sent, and behind one that gives none the others
 -- give none.
 abbrev pub rounds : LinkView → LayerSettings → Putting → Putting
-rounds link c s = rounds_of (backlog s.layer.circuits c.channels) link c s
+rounds link c s = rounds_of (backlog s.layer.circuits c.channels.count) link c s
 
 -- ---- calls of the user
 

@@ -4,7 +4,8 @@ ghost use Rattle.std.specs.Prelude.{OnErr, IsErrOf};
 ghost use Rattle.x25_circuit.specs.Calling.{outcome};
 ghost use Rattle.x25_circuit.specs.code.Replies.{IsSendable, plain_sent};
 ghost use Rattle.x25_circuit.specs.Request.{plain_request, is_message, MayPut};
-ghost use Rattle.x25_layer.specs.Layer.{LayerSettings, is_channel};
+ghost use Rattle.x25_layer.specs.Layer.{LayerSettings};
+ghost use Rattle.x25_layer.specs.Ranges.{is_number};
 ghost use Rattle.x25_layer.specs.Layer.{Layer as State};
 ghost use Rattle.x25_layer.specs.Calls.{LayerRequest, Asks, puts_at_once, outcome_on};
 ghost use Rattle.x25_layer.specs.Rounds.{Refuses, calls, went};
@@ -54,7 +55,7 @@ impl Layer {
         channel: u16,
         request: Request<'a>,
     ) -> Result<Option<Packet<'a>>, LayerError>
-        requires { is_channel (length self.old.circuits.items) channel ≡ true }
+        requires { is_number (length self.old.circuits.items) channel ≡ true }
         ensures outcome { (c : LayerSettings) (l : State) → FitsLayer c self.old l
             → AsksCircuit c self.new result l channel
             (outcome c.circuit (l.circuits channel) (plain_request request.entry)) }
@@ -86,7 +87,7 @@ impl Layer {
             → IfSome result (λ e. calls (view_of L.up_in L.waits_in L.after_put x) c l
             (Asks channel (plain_request request.now)) ≡ Refuses e) }
         ensures kinds { IfSome result (λ e. e ≢ LayerError.NoMemory) }
-        ensures channel { IfNone result (is_channel (length self.now.circuits.items) channel ≡ true) }
+        ensures channel { IfNone result (is_number (length self.now.circuits.items) channel ≡ true) }
         ensures ready { IfNone result (self.now.restarting ≡ false) }
         ensures up { IfNone result (L.up link.now ≡ true) }
         ensures free { IfNone result (puts_at_once (plain_request request.now) ≡ true → L.waits link.now < 256) }
@@ -105,7 +106,7 @@ impl Layer {
 
     /// Why the circuit of a configured channel would refuse this now, if it would.
     pub(crate) fn circuit_refusal(&self, channel: u16, request: &Request<'_>) -> Option<LayerError>
-        requires { is_channel (length self.now.circuits.items) channel ≡ true }
+        requires { is_number (length self.now.circuits.items) channel ≡ true }
         ensures { (c : LayerSettings) (l : State) → FitsLayer c self.now l
             → result ≡ refusal_on (outcome c.circuit (l.circuits channel) (plain_request request.now)) }
     {
@@ -120,7 +121,7 @@ impl Layer {
 
     // Where memory is missing for a call, a refusal of its circuit goes before 70.
     fn without_memory(&self, channel: u16, request: &Request<'_>) -> LayerError
-        requires { is_channel (length self.now.circuits.items) channel ≡ true }
+        requires { is_number (length self.now.circuits.items) channel ≡ true }
         ensures { (c : LayerSettings) (l : State) → FitsLayer c self.now l
             → result ≡ error_without_memory (outcome c.circuit (l.circuits channel) (plain_request request.now)) }
     {
@@ -138,7 +139,7 @@ impl Layer {
         channel: u16,
         request: Request<'_>,
     ) -> Result<(), LayerError>
-        requires channel { is_channel (length self.old.circuits.items) channel ≡ true }
+        requires channel { is_number (length self.old.circuits.items) channel ≡ true }
         requires ready { self.old.restarting ≡ false }
         requires up { L.up link.old ≡ true }
         requires free { puts_at_once (plain_request request) ≡ true → L.waits link.old < 256 }
@@ -171,7 +172,7 @@ impl Layer {
 
     // Keeps it for a configured channel.
     fn keep_on(&mut self, channel: u16, memory: Vec<u8>)
-        requires { is_channel (length self.old.circuits.items) channel ≡ true }
+        requires { is_number (length self.old.circuits.items) channel ≡ true }
         ensures layer { (c : LayerSettings) (l : State) → FitsLayer c self.old l → FitsLayer c self.new l }
         ensures aside { self.new.memory ≡ self.old.memory }
     {

@@ -1,7 +1,7 @@
 //! The channels in which something is under way, so that no step asks the circuits of the others.
 ghost use Rattle.std.specs.Prelude.{◌≡◌, ℕ, ◌<◌, ◌≤◌, length, slice_index, vec_capacity, true, IfOk, IfErr, IfSome};
 ghost use Rattle.std.specs.Prelude.{◌-◌, IfNone};
-ghost use Rattle.x25_layer.specs.Layer.{is_channel};
+ghost use Rattle.x25_layer.specs.Ranges.{is_number};
 ghost use Rattle.x25_layer.specs.code.Idle.{AreRising, IsOutside, IsIdle, IdleBeside};
 
 use crate::error::LayerError;
@@ -88,7 +88,7 @@ impl Busy {
 
     /// With this channel.
     pub(crate) fn insert(&mut self, channel: u16)
-        requires { is_channel (vec_capacity self.old.channels) channel ≡ true }
+        requires { is_number (vec_capacity self.old.channels) channel ≡ true }
         ensures others { (k : ℕ) → IsOutside self.new.channels.items k → IsOutside self.old.channels.items k }
         ensures this { IsOutside self.new.channels.items channel → ⊥ }
         ensures places { vec_capacity self.new.channels ≡ vec_capacity self.old.channels }
@@ -120,7 +120,7 @@ impl Busy {
     /// With this channel, where its circuit isn't idle.
     #[inline(always)]
     pub(crate) fn note(&mut self, channel: u16, circuit: &Circuit)
-        requires { is_channel (vec_capacity self.old.channels) channel ≡ true }
+        requires { is_number (vec_capacity self.old.channels) channel ≡ true }
         ensures others { (k : ℕ) → (k ≡ channel → ⊥) → IsOutside self.new.channels.items k
             → IsOutside self.old.channels.items k }
         ensures this { IsOutside self.new.channels.items channel → IsIdle circuit.now }

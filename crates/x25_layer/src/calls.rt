@@ -11,7 +11,8 @@
 ghost use Rattle.std.specs.Prelude.{◌≡◌, ◌≢◌, ℕ, ◌<◌, ◌≤◌, List, length, Some, true, false, IfOk, IfErr};
 ghost use Rattle.x25_circuit.specs.Params.{Proposal as Proposed};
 ghost use Rattle.x25_circuit.specs.Request.{plain_request};
-ghost use Rattle.x25_layer.specs.Layer.{LayerSettings, is_channel};
+ghost use Rattle.x25_layer.specs.Layer.{LayerSettings};
+ghost use Rattle.x25_layer.specs.Ranges.{is_number};
 ghost use Rattle.x25_layer.specs.Layer.{Layer as State};
 ghost use Rattle.x25_layer.specs.code.FitsLayer.{FitsLayer};
 ghost use Rattle.x25_layer.specs.Rounds.{Refuses, calls, refusal_of};
@@ -74,7 +75,7 @@ impl Layer {
         ensures kinds { IfErr result (λ e. e ≢ LayerError.NoMemory) }
         ensures value { (c : LayerSettings) (l : State) → FitsLayer c self.now l
             → IfOk result (λ channel. free_channel c.circuit.role l.circuits c.channels ≡ Some channel) }
-        ensures channel { IfOk result (λ channel. is_channel (length self.now.circuits.items) channel ≡ true) }
+        ensures channel { IfOk result (λ channel. is_number (length self.now.circuits.items) channel ≡ true) }
         ensures ready { IfOk result (λ _. self.now.restarting ≡ false) }
         ensures up { IfOk result (λ _. L.up link.now ≡ true) }
         ensures free { IfOk result (λ _. L.waits link.now < 256) }

@@ -3,6 +3,7 @@ ghost use Rattle.std.specs.Prelude.{◌≡◌, ℕ, length, vec_capacity, IfOk, 
 ghost use Rattle.x25_circuit.specs.Circuit.{forgotten};
 ghost use Rattle.x25_circuit.specs.Circuit.{Circuit as Channel};
 ghost use Rattle.x25_layer.specs.Layer.{LayerSettings, at_rest};
+ghost use Rattle.x25_layer.specs.Ranges.{two_way};
 ghost use Rattle.x25_layer.specs.code.FitsLayer.{FitsCircuits};
 ghost use Rattle.x25_layer.specs.Room.{HaveRoomStill};
 
@@ -20,7 +21,7 @@ pub(crate) fn begun_circuits(
 ) -> Result<Vec<Circuit>, LayerError>
     ensures fits { IfOk result (λ v. FitsCircuits
         (record {
-          channels = channels;
+          channels = two_way channels;
           circuit = record {
             role = role;
             long_data = long_data;

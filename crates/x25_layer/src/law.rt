@@ -1,6 +1,8 @@
-ghost use Rattle.std.specs.Prelude.{Bool, ℕ};
+ghost use Rattle.std.specs.Prelude.{Bool};
+ghost use Rattle.x25_layer.specs.declared.ranges.Ranges.{Ranges};
 ghost use Rattle.x25_layer.specs.laws.Law.{Always, IsQuietWorld, IsLawfulWorld, ArrivesAll, KeepsOrder};
 ghost use Rattle.x25_layer.specs.laws.NameLaw.{NamesAreCounted, NoClearComesInP1};
+ghost use Rattle.x25_layer.specs.laws.Acknowledged.{AcknowledgedAreHandedUp};
 ghost use Rattle.x25_layer.specs.laws.Apart.{AlwaysApart};
 ghost use Rattle.x25_layer.specs.laws.ApartLaw.{IsOverLinks, RestartsFirst, BeginsAlone, OwnMovesDecide, StaysDown};
 ghost use Rattle.x25_layer.specs.laws.ApartLaw.{EventsRunOn};
@@ -20,10 +22,10 @@ ghost use Rattle.x25_layer.specs.laws.WaitLaw.{WaitForUsersAlone};
 /// down is
 ///   acknowledged and none of its messages waits.
 pub fn two_layers_keep_order()
-    ensures order { (long_data : Bool) (channels : ℕ) → Always KeepsOrder long_data channels }
-    ensures quiet { (long_data : Bool) (channels : ℕ) → Always (IsQuietWorld channels) long_data channels }
-    ensures lawful { (long_data : Bool) (channels : ℕ) → Always IsLawfulWorld long_data channels }
-    ensures arrives { (long_data : Bool) (channels : ℕ) → Always ArrivesAll long_data channels }
+    ensures order { (long_data : Bool) (channels : Ranges) → Always KeepsOrder long_data channels }
+    ensures quiet { (long_data : Bool) (channels : Ranges) → Always (IsQuietWorld channels) long_data channels }
+    ensures lawful { (long_data : Bool) (channels : Ranges) → Always IsLawfulWorld long_data channels }
+    ensures arrives { (long_data : Bool) (channels : Ranges) → Always ArrivesAll long_data channels }
 {
     x25_circuit::values_are_agreed();
     x25_handshakes::keeps_order();
@@ -32,8 +34,8 @@ pub fn two_layers_keep_order()
 /// The same two layers: where an end's link is up, the name of the stretch on each channel is the restarts, clears and
 /// resets that were reported to its user. No CLEAR comes in p1, which would count and report nothing.
 pub fn names_are_told()
-    ensures names { (long_data : Bool) (channels : ℕ) → Always NamesAreCounted long_data channels }
-    ensures clear { (long_data : Bool) (channels : ℕ) → Always NoClearComesInP1 long_data channels }
+    ensures names { (long_data : Bool) (channels : Ranges) → Always NamesAreCounted long_data channels }
+    ensures clear { (long_data : Bool) (channels : Ranges) → Always NoClearComesInP1 long_data channels }
 {
     x25_circuit::values_are_agreed();
     x25_handshakes::keeps_order();
@@ -43,14 +45,14 @@ pub fn names_are_told()
 /// end gave: every list of such events leads where it leads two layers over links, of which all of the above holds. And
 /// nothing is reported to an end's user before the first packet, which is reported as a restart by the other end.
 pub fn apart_layers_keep_order()
-    ensures runs { (long_data : Bool) (channels : ℕ) → IsOverLinks long_data channels }
-    ensures order { (long_data : Bool) (channels : ℕ) → AlwaysApart KeepsOrder long_data channels }
-    ensures quiet { (long_data : Bool) (channels : ℕ) → AlwaysApart (IsQuietWorld channels) long_data channels }
-    ensures lawful { (long_data : Bool) (channels : ℕ) → AlwaysApart IsLawfulWorld long_data channels }
-    ensures arrives { (long_data : Bool) (channels : ℕ) → AlwaysApart ArrivesAll long_data channels }
-    ensures names { (long_data : Bool) (channels : ℕ) → AlwaysApart NamesAreCounted long_data channels }
-    ensures clear { (long_data : Bool) (channels : ℕ) → AlwaysApart NoClearComesInP1 long_data channels }
-    ensures restarted { (long_data : Bool) (channels : ℕ) → AlwaysApart RestartsFirst long_data channels }
+    ensures runs { (long_data : Bool) (channels : Ranges) → IsOverLinks long_data channels }
+    ensures order { (long_data : Bool) (channels : Ranges) → AlwaysApart KeepsOrder long_data channels }
+    ensures quiet { (long_data : Bool) (channels : Ranges) → AlwaysApart (IsQuietWorld channels) long_data channels }
+    ensures lawful { (long_data : Bool) (channels : Ranges) → AlwaysApart IsLawfulWorld long_data channels }
+    ensures arrives { (long_data : Bool) (channels : Ranges) → AlwaysApart ArrivesAll long_data channels }
+    ensures names { (long_data : Bool) (channels : Ranges) → AlwaysApart NamesAreCounted long_data channels }
+    ensures clear { (long_data : Bool) (channels : Ranges) → AlwaysApart NoClearComesInP1 long_data channels }
+    ensures restarted { (long_data : Bool) (channels : Ranges) → AlwaysApart RestartsFirst long_data channels }
 {
     two_layers_keep_order();
     names_are_told();
@@ -96,6 +98,19 @@ pub fn any_peer_keeps_transcripts()
     x25_handshakes::any_peer_keeps_layers();
 }
 
+/// Two layers over links that keep order, whatever their users ask and whenever a link goes down, and of two ends in
+/// order: of a stretch that is open at an end, the messages whose last data packets are acknowledged are the first of
+/// those that the other end handed up under its name.
+pub fn acknowledged_are_handed_up()
+    ensures over { (long_data : Bool) (channels : Ranges) → Always AcknowledgedAreHandedUp long_data channels }
+    ensures apart { (long_data : Bool) (channels : Ranges) → AlwaysApart AcknowledgedAreHandedUp long_data channels }
+{
+    x25_circuit::values_are_agreed();
+    x25_handshakes::keeps_order();
+    x25_handshakes::acknowledged_are_handed_up();
+    apart_layers_keep_order();
+}
+
 /// What a pull leaves. Behind the rounds, where fewer than 8 packets wait in the link, no channel has a packet that may
 /// be sent; and none has one where a pull of all leaves the layer as it was. A circuit that isn't open keeps no
 /// message, whatever happened, and none is open while a restart is under way. And of two layers over links that keep
@@ -106,11 +121,11 @@ pub fn any_peer_keeps_transcripts()
 pub fn messages_wait_for_users()
     ensures left { RoundsLeaveNone }
     ensures still { StillPullsNone }
-    ensures closed { (long_data : Bool) (channels : ℕ) → AlwaysApart ClosedKeepNone long_data channels }
-    ensures restarting { (long_data : Bool) (channels : ℕ) → AlwaysApart NoneOpenInRestart long_data channels }
-    ensures waits { (long_data : Bool) (channels : ℕ)
+    ensures closed { (long_data : Bool) (channels : Ranges) → AlwaysApart ClosedKeepNone long_data channels }
+    ensures restarting { (long_data : Bool) (channels : Ranges) → AlwaysApart NoneOpenInRestart long_data channels }
+    ensures waits { (long_data : Bool) (channels : Ranges)
         → Always (WaitForUsersAlone long_data channels) long_data channels }
-    ensures apart { (long_data : Bool) (channels : ℕ)
+    ensures apart { (long_data : Bool) (channels : Ranges)
         → AlwaysApart (WaitForUsersAlone long_data channels) long_data channels }
 {
     x25_circuit::values_are_agreed();

@@ -8,13 +8,11 @@ use crate::busy::Busy;
 use crate::circuits::{begun_circuits, forget_all};
 use crate::error::LayerError;
 use crate::putting::PacketMemory;
+use crate::ranges::Ranges;
 use crate::stretch::Stretch;
 use std::alloc::Global;
 use x25_bits::{Promise, Role};
 use x25_circuit::{Awaits, Circuit, Params};
-
-/// The most channels of a layer (profile).
-pub const CHANNELS: usize = 4095;
 
 // 1 where it is so.
 fn one_if(is_so: bool) -> usize
@@ -32,6 +30,7 @@ pub struct Layer {
     pub(crate) role: Role,
     /// Whether the user data of a CALL may be long.
     pub(crate) long_data: bool,
+    pub(crate) ranges: Ranges,
     /// This end's RESTART isn't confirmed yet.
     pub(crate) restarting: bool,
     /// How many restarts were done since link set-up.
@@ -53,7 +52,8 @@ pub struct Layer {
 
 impl Layer {
     ghost use Rattle.x25_circuit.specs.code.FitsCircuit.{FitsCircuit};
-    ghost use Rattle.x25_layer.specs.Layer.{LayerSettings, at_rest, is_channel, rested};
+    ghost use Rattle.x25_layer.specs.Layer.{LayerSettings, at_rest, rested};
+    ghost use Rattle.x25_layer.specs.Ranges.{is_number, are_ranges};
     ghost use Rattle.x25_layer.specs.Layer.{Layer as State};
     ghost use Rattle.x25_layer.specs.Room.{HasRoom};
     ghost use Rattle.x25_layer.specs.code.FitsLayer.{FitsLayer, plain_stretch, name_at, params_at, is_open_at};
@@ -61,33 +61,36 @@ impl Layer {
     ghost use Rattle.x25_layer.specs.code.FitsLayer.{awaited_up_to};
     ghost use Rattle.x25_layer.specs.code.FitsLayer.{waits_up_to, is_full, KeepsOn};
     ghost use Rattle.x25_layer.specs.Layer.InPart.{joined_at};
+    ghost use Rattle.x25_layer.specs.Layer.Confirmed.{unconfirmed_at};
     ghost use Rattle.x25_layer.specs.Layer.MessageRoom.{room_at};
 
-    /// The layer of an end whose link isn't up, with so many channels, 1 to 4,095. With `long_data` a call has at most
-    /// 128 octets of user data (profile), else at most 16. It is the same at both ends.
+    /// The layer of an end whose link isn't up, with these channels. With `long_data` a call has at most 128 octets of
+    /// user data (profile), else at most 16. Both are the same at both ends.
     ///
-    /// 14 BadConfig for another number of channels, and else 70 alone.
+    /// 14 BadConfig where there aren't 1 to 4,095 channels, or more are one-way than there are, and else 70 alone.
     pub fn with(
         alloc: Global,
         role: Role,
-        channels: usize,
+        channels: Ranges,
         long_data: bool,
     ) -> Result<Layer, LayerError>
         ensures fits { IfOk result (λ v. FitsLayer
             (record { channels = channels; circuit = record { role = role; long_data = long_data } }) v at_rest) }
         ensures none_aside { IfOk result (λ v. v.memory ≡ 0) }
-        ensures config { IsErrOf result LayerError.BadConfig ↔ (is_channel 4095 channels ≡ false) }
-        ensures memory { is_channel 4095 channels ≡ true → IfErr result (λ e. e ≡ LayerError.NoMemory) }
+        ensures config { IsErrOf result LayerError.BadConfig ↔ (are_ranges channels ≡ false) }
+        ensures memory { are_ranges channels ≡ true → IfErr result (λ e. e ≡ LayerError.NoMemory) }
     {
-        if channels == 0 || channels > CHANNELS {
+        if !channels.are_valid() {
             return Err(LayerError::BadConfig);
         }
-        let mut busy = Busy::with(alloc, channels)?;
-        let circuits = begun_circuits(alloc, role, channels, long_data)?;
+        let count = usize::from(channels.count);
+        let mut busy = Busy::with(alloc, count)?;
+        let circuits = begun_circuits(alloc, role, count, long_data)?;
         busy.note_all(&circuits);
         Ok(Layer {
             role,
             long_data,
+            ranges: channels,
             restarting: false,
             restarts: 0,
             circuits,
@@ -143,7 +146,7 @@ impl Layer {
 
     /// How many channels there are.
     pub fn channels(&self) -> u16
-        ensures { (c : LayerSettings) (l : State) → FitsLayer c self.now l → result ≡ c.channels }
+        ensures { (c : LayerSettings) (l : State) → FitsLayer c self.now l → result ≡ c.channels.count }
     {
         self.circuits.len() as u16
     }
@@ -162,7 +165,7 @@ impl Layer {
     /// On how many channels an answer is awaited.
     pub fn awaited(&self) -> usize
         ensures { (c : LayerSettings) (l : State) → FitsLayer c self.now l
-            → result ≡ awaited_up_to l.circuits c.channels }
+            → result ≡ awaited_up_to l.circuits c.channels.count }
     {
         let mut awaited = 0;
         let mut channel = 0;
@@ -183,7 +186,7 @@ impl Layer {
     /// How many messages wait in all circuits.
     pub fn waits(&self) -> usize
         ensures { (c : LayerSettings) (l : State) → FitsLayer c self.now l
-            → result ≡ waits_up_to l.circuits c.channels }
+            → result ≡ waits_up_to l.circuits c.channels.count }
     {
         let mut waits = 0;
         let mut channel = 0;
@@ -205,6 +208,17 @@ impl Layer {
         }
         match self.circuit(channel) {
             Some(circuit) => circuit.room(),
+            None => 0,
+        }
+    }
+
+    /// How many messages of a channel haven't the confirmation yet that was asked of them: they wait, or their last
+    /// packet isn't acknowledged. 0 where it isn't configured. ITU-T X.25 (10/96), section 4.4.1.4.
+    pub fn unconfirmed(&self, channel: u16) -> usize
+        ensures { (c : LayerSettings) (l : State) → FitsLayer c self.now l → result ≡ unconfirmed_at c l channel }
+    {
+        match self.circuit(channel) {
+            Some(circuit) => circuit.unconfirmed(),
             None => 0,
         }
     }
@@ -262,8 +276,8 @@ impl Layer {
         ensures fits { (c : LayerSettings) (l : State) → FitsLayer c self.now l
             → IfSome result (λ circuit. FitsCircuit c.circuit circuit.now (l.circuits channel)) }
         ensures is { IfSome result (λ circuit. slice_get self.now.circuits.items (channel - 1) ≡ Some circuit.now) }
-        ensures some { IfSome result (λ circuit. is_channel (length self.now.circuits.items) channel ≡ true) }
-        ensures none { IfNone result (is_channel (length self.now.circuits.items) channel ≡ false) }
+        ensures some { IfSome result (λ circuit. is_number (length self.now.circuits.items) channel ≡ true) }
+        ensures none { IfNone result (is_number (length self.now.circuits.items) channel ≡ false) }
     {
         if channel == 0 {
             return None;

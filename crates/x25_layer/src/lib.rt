@@ -11,6 +11,7 @@ mod free_channel;
 mod law;
 mod layer;
 mod putting;
+mod ranges;
 mod receiving;
 mod report;
 mod restarting;
@@ -21,10 +22,12 @@ mod stretch;
 
 pub use error::LayerError;
 pub use law::{
-    any_peer_keeps_transcripts, apart_layers_keep_order, calls_are_runs, each_end_is_by_itself,
-    messages_wait_for_users, names_are_told, two_layers_keep_order,
+    acknowledged_are_handed_up, any_peer_keeps_transcripts, apart_layers_keep_order,
+    calls_are_runs, each_end_is_by_itself, messages_wait_for_users, names_are_told,
+    two_layers_keep_order,
 };
 pub use layer::Layer;
+pub use ranges::Ranges;
 pub use report::Report;
 pub use stretch::Stretch;
 pub use x25_bits::Role;

@@ -7,7 +7,8 @@ ghost use Rattle.x25_circuit.specs.Circuit.{Settings};
 ghost use Rattle.x25_circuit.specs.Circuit.{Circuit as Channel};
 ghost use Rattle.x25_circuit.specs.code.FitsCircuit.{FitsCircuit, room_of};
 ghost use Rattle.x25_circuit.specs.code.Replies.{Says, IsSendable, notices_of, plain_owed};
-ghost use Rattle.x25_layer.specs.Layer.{LayerSettings, is_channel, notices_on};
+ghost use Rattle.x25_layer.specs.Layer.{LayerSettings, notices_on};
+ghost use Rattle.x25_layer.specs.Ranges.{is_number};
 ghost use Rattle.x25_layer.specs.Layer.{Layer as State};
 ghost use Rattle.x25_layer.specs.code.FitsLayer.{FitsLayer, FitsStill};
 ghost use Rattle.x25_layer.specs.code.OverLink.{view_of, after_all, TakesPacket, Hears, IsLeft};
@@ -79,7 +80,7 @@ impl Layer {
         channel: u16,
         read: &Result<Packet<'a>, PacketError>,
     ) -> Result<Reply<'a>, LayerError>
-        requires channel { is_channel (length self.old.circuits.items) channel ≡ true }
+        requires channel { is_number (length self.old.circuits.items) channel ≡ true }
         requires kind { IsOfChannel (plain_read read.now) }
         requires left { HaveCountsLeft self.old.circuits.items }
         ensures layer { (c : LayerSettings) (l : State) → FitsLayer c self.old l

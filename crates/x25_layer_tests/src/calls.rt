@@ -2,7 +2,7 @@
 
 use std::alloc::Global;
 use x25_circuit::Request;
-use x25_layer::{Layer, LayerError, Params, Proposal, Report, Role};
+use x25_layer::{Layer, LayerError, Params, Proposal, Ranges, Report, Role};
 use x25_link::{Link, OrderedLink, PlainLink};
 
 // A value in a place of its own: a body that holds the box lets go of it by one call, and not of each part of the
@@ -11,9 +11,14 @@ fn boxed<T: Drop>(alloc: Global, value: T) -> Option<Box<T>> {
     Box::new(alloc, value).ok()
 }
 
-/// A layer of so many channels, whose calls have at most 16 octets of user data.
-pub fn layer(alloc: Global, role: Role, channels: usize) -> Result<Box<Layer>, LayerError> {
+/// A layer with these channels, whose calls have at most 16 octets of user data.
+pub fn layer_with(alloc: Global, role: Role, channels: Ranges) -> Result<Box<Layer>, LayerError> {
     boxed(alloc, Layer::with(alloc, role, channels, false)?).ok_or(LayerError::NoMemory)
+}
+
+/// A layer of so many channels, all of them two-way.
+pub fn layer(alloc: Global, role: Role, channels: u16) -> Result<Box<Layer>, LayerError> {
+    layer_with(alloc, role, Ranges::two_way(channels))
 }
 
 pub fn plain_link(alloc: Global) -> Option<Box<PlainLink>> {

@@ -176,7 +176,7 @@ whole_told c times old now p whole l empty =
 -- ---- a whole input
 
 pub stands_first_timed : (c : Settings) (times : Times) (written : Option (List ℕ)) (p : TimedPipe) → FitsStation c p.pipe.station new_station → p.pipe.end ≡ c.role → p.pipe.output ≡ []
-    → p.pipe.is_refused ≡ false → plain p.clock ≡ nothing_awaited c.channels → p.clock.times ≡ times → p.now ≡ 0 → StandsTimed c times written written p (new_timed c) [] false
+    → p.pipe.is_refused ≡ false → plain p.clock ≡ nothing_awaited c.channels.count → p.clock.times ≡ times → p.now ≡ 0 → StandsTimed c times written written p (new_timed c) [] false
 stands_first_timed c times written p fits role empty status clock is_times now =
     record { pipe = stands_first c written p.pipe fits role empty status; deadlines = clock; timers = is_times; time = now }
 

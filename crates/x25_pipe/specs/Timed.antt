@@ -33,7 +33,7 @@ pub record Timed : Type 0 where
   pub now : ℕ
 
 abbrev pub new_timed : Settings → Timed
-new_timed c = record { station = new_station; deadlines = nothing_awaited c.channels; now = 0 }
+new_timed c = record { station = new_station; deadlines = nothing_awaited c.channels.count; now = 0 }
 
 -- what follows, what is written, and whether something was refused
 pub record TimedTurn : Type 0 where

@@ -85,12 +85,12 @@ impl TimedPipe {
         ensures role { IfOk result (λ p. p.pipe.end ≡ end) }
         ensures empty { IfOk result (λ p. p.pipe.output ≡ []) }
         ensures is_refused { IfOk result (λ p. p.pipe.is_refused ≡ false) }
-        ensures clock { IfOk result (λ p. plain p.clock ≡ nothing_awaited cfg.channels) }
+        ensures clock { IfOk result (λ p. plain p.clock ≡ nothing_awaited cfg.channels.count) }
         ensures times { IfOk result (λ p. p.clock.times ≡ times) }
         ensures now { IfOk result (λ p. p.now ≡ 0) }
         ensures memory { IfErr result (λ fault. fault ≡ Fault.NoMemory) }
     {
-        let clock = Clock::new(alloc, times, cfg.channels)?;
+        let clock = Clock::new(alloc, times, cfg.channels.count)?;
         let pipe = Pipe::new(alloc, end, cfg)?;
         Ok(TimedPipe {
             pipe,

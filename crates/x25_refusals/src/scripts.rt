@@ -1,7 +1,7 @@
 //! Scripts of two stations, and stories of two links.
 use Act::{Do, Drain, Heal, Send};
 use x25_layer::Params;
-use x25_station::{CallCmd, Cfg, Cmd, Given};
+use x25_station::{CallCmd, Cfg, Cmd, Given, Ranges};
 use x25_world::Direction::{ToDce, ToDte};
 use x25_world::Event::{Command, Damage, Deliver, Lose, T1};
 use x25_world::Role::{Dce, Dte};
@@ -30,7 +30,11 @@ pub(crate) struct Script {
 const USUAL: Cfg = Cfg {
     k: 7,
     n2: 10,
-    channels: 1,
+    channels: Ranges {
+        count: 1,
+        incoming: 0,
+        outgoing: 0,
+    },
     long_data: false,
     say_sizes: false,
     wide: false,
@@ -39,7 +43,11 @@ const USUAL: Cfg = Cfg {
 const ONE_TRY: Cfg = Cfg {
     k: 7,
     n2: 1,
-    channels: 1,
+    channels: Ranges {
+        count: 1,
+        incoming: 0,
+        outgoing: 0,
+    },
     long_data: false,
     say_sizes: false,
     wide: false,
@@ -48,7 +56,11 @@ const ONE_TRY: Cfg = Cfg {
 const WINDOW_OF_ONE: Cfg = Cfg {
     k: 1,
     n2: 10,
-    channels: 1,
+    channels: Ranges {
+        count: 1,
+        incoming: 0,
+        outgoing: 0,
+    },
     long_data: false,
     say_sizes: false,
     wide: false,
@@ -57,7 +69,11 @@ const WINDOW_OF_ONE: Cfg = Cfg {
 const WIDE: Cfg = Cfg {
     k: 7,
     n2: 10,
-    channels: 1,
+    channels: Ranges {
+        count: 1,
+        incoming: 0,
+        outgoing: 0,
+    },
     long_data: false,
     say_sizes: false,
     wide: true,

@@ -19,4 +19,4 @@ pub use reporter::{Reporter, Silent};
 pub use running::sim;
 pub use stage::Shown;
 pub use x25_io::{Device, Failed, Fault, Sink, Source};
-pub use x25_station::Cfg;
+pub use x25_station::{Cfg, Ranges};

@@ -26,13 +26,15 @@ use Rattle.x25_station.specs.Error.{of_layer}
 use Rattle.x25_station.specs.Config.{Settings, link_settings, layer_settings, manner_of}
 use Rattle.x25_station.specs.Entry.{StationEntry}
 use Rattle.x25_station.specs.Station.{Station, all_put, view_of, waiting_after}
-use Rattle.x25_station.specs.Step.{Outcome, Did, Refused, did, requests, entries_of_outcome}
+use Rattle.x25_station.specs.Command.{may_ask}
+use Rattle.x25_station.specs.Step.{Outcome, Did, Refused, did, requests, requests_of, where_asked, entries_of_outcome}
 use Rattle.x25_station.specs.laws.KeepLaw.{KeptBy}
 use Rattle.x25_station.specs.code.PlainEntry.{plain_entry}
 use Rattle.x25_station.specs.code.FitsParts.{FitsParts}
 use Rattle.x25_station.specs.code.FitsStation as station
 use Rattle.x25_station.specs.Receiving.{kept_of}
 use Rattle.x25_station.proofs.LinkLemmas.{put_by_put, same_view}
+use Rattle.x25_station.proofs.MayLemmas.{where_refused}
 use Rattle.x25_station.proofs.ResultLemmas.{ok_err, err_is}
 
 -- ---- the link after the packets of a step
@@ -150,12 +152,25 @@ abbrev pub Links : {T : Type 0} → ShownLink → ShownLink → layer_code.Layer
 Links l m y result request =
     (d : LayerSettings) (k : Layer) (x : LinkState) → FitsLayer d y k → FitsWhole l x → LinkGives (FitsWhole m) after_put_to x result (calls (over.view_of up_at waits_of after_put_to x) d k request)
 
+-- why the layer would refuse it
+abbrev pub Judges : Option LayerError → ShownLink → layer_code.Layer → LayerRequest → Type 0
+Judges o l y request = (d : LayerSettings) (k : Layer) (x : LinkState) → FitsLayer d y k → FitsWhole l x → o ≡ refusal_of (calls (over.view_of up_at waits_of after_put_to x) d k request)
+
 -- the frames are kept from nothing on
 whole : {manner : Manner} (c : Settings) (l : ShownLink) (y : layer_code.Layer) (s : Station) → FitsParts c manner l y s → FitsWhole l (kept_of (link_settings c) (alone s.link))
 whole c l y s fits = record { link = fits.link; kept = fits.sent }
 
+-- the layer's call, whatever may be asked
+abbrev pub requested : Settings → Station → LayerRequest → Outcome
+requested c s request = requests_of c s.link s.layer (view_of (link_settings c) s.link) request
+
 abbrev pub answered_by : Settings → Station → LayerRequest → Answered
 answered_by c s request = calls (view_of (link_settings c) s.link) (layer_settings c) s.layer request
+
+pub judged_by : {manner : Manner} (o : Option LayerError) (c : Settings) (l : ShownLink) (y : layer_code.Layer) (s : Station) (request : LayerRequest) → FitsParts c manner l y s → Judges o l y request → o ≡ refusal_of (answered_by c s request)
+judged_by o c l y s request fits judges =
+    judges (layer_settings c) s.layer (kept_of (link_settings c) (alone s.link)) fits.layer (whole c l y s fits)
+    ∙ ap (λ (view : LinkView). refusal_of (calls view (layer_settings c) s.layer request)) (same_view (link_settings c) (alone s.link))
 
 pub layer_gives : {manner : Manner} {T : Type 0} (result : Result T LayerError) (c : Settings) (l : ShownLink) (y z : layer_code.Layer) (s : Station) (request : LayerRequest) → FitsParts c manner l y s → Layers l y z result request
     → LayerGives (layer_settings c) z result (answered_by c s request)
@@ -176,22 +191,23 @@ pub record Answers (c : Settings) (manner : Manner) (n : ShownLink) (z : layer_c
 
 -- an accepted call of the layer, from the link l and the layer y to m and z, and then to n, from which the frames are taken
 pub answers : {manner : Manner} {T : Type 0} (u : T) (c : Settings) (l m n : ShownLink) (y z : layer_code.Layer) (r : code_step.Step) (s : Station) (request : LayerRequest) → FitsParts c manner l y s → Layers l y z (Ok u) request → Links l m y (Ok u) request
-    → n.station ≡ m.station → n.frames ≡ [] → r.frames ≡ m.frames → KeptBy (requests c s request) → Answers c manner n z r (requests c s request)
-answers u c l m n y z r s request fits layers links same none made kept =
+    → n.station ≡ m.station → n.frames ≡ [] → r.frames ≡ m.frames → may_ask c.wide request ≡ true → KeptBy (requests c s request) → Answers c manner n z r (requests c s request)
+answers {manner = manner} u c l m n y z r s request fits layers links same none made may kept =
     let a : Answered = answered_by c s request in
     let layer = layer_gives (Ok u) c l y z s request fits layers in
     let link = link_gives (Ok u) c l m y s request fits links in
     let lc : LayerSettings = layer_settings c in
     let entries : List StationEntry = entries_of_outcome lc s.layer request (layer_outcome lc (waiting_after (link_settings c) s.link [] == 256) s.layer request) in
-    record {
-      state = leaves_did u c fits.same s.link m n z entries a layer link same none kept;
+    let o : Outcome = did c (alone s.link) entries a in
+    subst (λ (b : Bool). Answers c manner n z r (where_asked b o)) (sym may) (record {
+      state = leaves_did u c fits.same s.link m n z entries a layer link same none (subst (λ (b : Bool). KeptBy (where_asked b o)) may kept);
       frames = sends_did u c s.link m r entries a link made;
       refused = goes_did u c s.link z entries a layer;
-    }
+    })
 
 -- a call of the layer that is refused, or finds no memory
 pub refuses_exactly : {manner : Manner} (T U : Type 0) (e : LayerError) (found : StationError) (c : Settings) (l : ShownLink) (y z : layer_code.Layer) (s : Station) (request : LayerRequest) → FitsParts c manner l y s → found ≡ of_layer e
-    → (let x : Result T LayerError = Err e in Layers l y z x request) → (let x : Result U StationError = Err found in station.RefusesExactly x (requests c s request))
+    → (let x : Result T LayerError = Err e in Layers l y z x request) → (let x : Result U StationError = Err found in station.RefusesExactly x (requested c s request))
 refuses_exactly T U e found c l y z s request fits is layers =
     let x : Result T LayerError = Err e in
     let lc : LayerSettings = layer_settings c in
@@ -205,7 +221,8 @@ refused_of U found (Refused e) is = inl (err_is U StationError found e is)
 
 pub refuses : {manner : Manner} (T U : Type 0) (e : LayerError) (found : StationError) (c : Settings) (l : ShownLink) (y z : layer_code.Layer) (s : Station) (request : LayerRequest) → FitsParts c manner l y s → found ≡ of_layer e
     → (let x : Result T LayerError = Err e in Layers l y z x request) → (let x : Result U StationError = Err found in station.Refuses x (requests c s request))
-refuses T U e found c l y z s request fits is layers = refused_of U found (requests c s request) (refuses_exactly T U e found c l y z s request fits is layers)
+refuses T U e found c l y z s request fits is layers =
+    where_refused U found (may_ask c.wide request) (requested c s request) (refused_of U found (requested c s request) (refuses_exactly T U e found c l y z s request fits is layers))
 
 -- what isn't refused isn't refused exactly
 pub goes_exactly : (o : Outcome) → station.Refuses {T = Unit} (Ok tt) o → station.RefusesExactly {T = Unit} (Ok tt) o

@@ -11,7 +11,9 @@ use Rattle.x25_circuit.specs.Calling as circuit
 use Rattle.x25_layer.specs.declared.error.LayerError.{LayerError}
 use Rattle.x25_layer.specs.declared.error.LayerError.TheVariants as layer_error
 use Rattle.x25_layer.specs.Layer.{LayerSettings, Layer, is_channel}
-use Rattle.x25_layer.specs.Calls.{LayerRequest, Asks, Dials, Restarts, PullsAll, LayerOutcome, Accepted, Declined, layer_outcome, outcome_in, outcome_on, if_at_once, puts_at_once, first_of, lowest_free, highest_free, free_channel}
+use Rattle.x25_layer.specs.declared.ranges.Ranges.{Ranges}
+use Rattle.x25_layer.specs.Ranges.{may_call}
+use Rattle.x25_layer.specs.Calls.{LayerRequest, Asks, Dials, Restarts, PullsAll, LayerOutcome, Accepted, Declined, layer_outcome, outcome_in, outcome_on, if_at_once, puts_at_once, first_of, lowest_free, highest_free, first_free, where_callable, free_channel}
 use Rattle.x25_layer.specs.Rounds.{LinkView, Putting, begin, rounds, Answered, Went, Refuses, went, calls}
 use Rattle.x25_layer.specs.laws.Transcript.{Asked, name_of}
 use Rattle.x25_layer.specs.laws.TwoLayers.{shown, entry_of_dial}
@@ -135,12 +137,20 @@ lowest_lies f (suc n) h is = first (lowest_free f n) refl is (lowest_lies f n h)
     first (Some k) found same below = lies_further n h (below (found ∙ same))
     first None found same below = test (is_free (f (suc n))) same
 
-pub free_is_channel : (role : Role) (f : ℕ → Circuit) (n h : ℕ) → free_channel role f n ≡ Some h → is_channel n h ≡ true
-free_is_channel role f n h is = both (lies role is)
+pub free_is_channel : (role : Role) (f : ℕ → Circuit) (channels : Ranges) (h : ℕ) → free_channel role f channels ≡ Some h → is_channel channels h ≡ true
+free_is_channel role f channels h is = found (first_free role f channels.count) (λ k same. lies role k same) is
   where
-    lies : (r : Role) → free_channel r f n ≡ Some h → LiesIn n h
-    lies Dte same = highest_lies f n h same
-    lies Dce same = lowest_lies f n h same
+    lies : (r : Role) (k : ℕ) → first_free r f channels.count ≡ Some k → LiesIn channels.count k
+    lies Dte k same = highest_lies f channels.count k same
+    lies Dce k same = lowest_lies f channels.count k same
 
-    both : LiesIn n h → is_channel n h ≡ true
-    both x = ap (λ (b : Bool). b && nat_le h n) (le-leb 1 h x.low) ∙ le-leb h n x.high
+    both : LiesIn channels.count h → is_channel channels h ≡ true
+    both x = ap (λ (b : Bool). b && nat_le h channels.count) (le-leb 1 h x.low) ∙ le-leb h channels.count x.high
+
+    may : (k : ℕ) (b : Bool) → LiesIn channels.count k → (if b then Some k else None) ≡ Some h → is_channel channels h ≡ true
+    may k true x same = both (subst (λ (n : ℕ). LiesIn channels.count n) (same_Some k h same) x)
+    may k false x same = absurd (none-some h same)
+
+    found : (o : Option ℕ) → ((k : ℕ) → o ≡ Some k → LiesIn channels.count k) → where_callable role channels o ≡ Some h → is_channel channels h ≡ true
+    found None at same = absurd (none-some h same)
+    found (Some k) at same = may k (may_call role channels k) (at k refl) same

@@ -514,10 +514,10 @@ round_same link c (suc n) s = same_trans s.layer (round link c n s).layer (pull_
 rounds_of_same : (n : ℕ) (link : LinkView) (c : LayerSettings) (s : Putting) → SameStates s.layer (rounds_of n link c s).layer
 rounds_of_same zero link c s = (refl, λ k. refl)
 rounds_of_same (suc n) link c s =
-    same_trans s.layer (round link c c.channels s).layer (rounds_of n link c (round link c c.channels s)).layer (round_same link c c.channels s) (rounds_of_same n link c (round link c c.channels s))
+    same_trans s.layer (round link c c.channels.count s).layer (rounds_of n link c (round link c c.channels.count s)).layer (round_same link c c.channels.count s) (rounds_of_same n link c (round link c c.channels.count s))
 
 pub rounds_same : (link : LinkView) (c : LayerSettings) (s : Putting) → SameStates s.layer (rounds link c s).layer
-rounds_same link c s = rounds_of_same (backlog s.layer.circuits c.channels) link c s
+rounds_same link c s = rounds_of_same (backlog s.layer.circuits c.channels.count) link c s
 
 pub moves_on : (c : LayerSettings) (h : ℕ) (l m n : Layer) (entries : List StationEntry) → LayerMoves c h l m entries → SameStates m n → LayerMoves c h l n entries
 moves_on c h l m n entries moved same =

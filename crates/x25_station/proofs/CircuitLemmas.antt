@@ -26,19 +26,26 @@ use Rattle.x25_circuit.specs.Notice.{CallRequest, connected}
 use Rattle.x25_circuit.specs.Hearing as table
 use Rattle.x25_circuit.specs.Cause.{may_clear_for, may_reset_for}
 use Rattle.x25_circuit.specs.Calling.{Outcome, Done, Refused, Request, Calls, Accepts, Clears, Sends, Interrupts, Resets, SaysReady, SaysNotReady, does, is_address_text, call_sent, may_call, call_in, accept_with, accept_in, clear_with, clear_in, send_in, interrupt_in, reset_in, ready_in, outcome, Pulled, pulls_nothing, data_packet, pull_open, pull_in, pulled}
+use Rattle.x25_layer.specs.Calls.{Asks}
+use Rattle.x25_station.specs.Command.{may_ask, may_mark}
 use Rattle.x25_station.specs.laws.ReadLaw.{AreOctets, AsksOctets}
 use Rattle.x25_station.proofs.FieldLemmas.{Fits}
 
-abbrev PieceFits : Piece → Type 0
-PieceFits p = (length (user_of p) ≤ 4096) × AreOctets (user_of p)
+abbrev marks_of : Piece → Marks
+marks_of (More q user) = q
+marks_of (Last q user) = q
 
-abbrev pub AreCut : List Piece → Type 0
-AreCut [] = Unit {0}
-AreCut (p ∷ ps) = PieceFits p × AreCut ps
+-- confirmation is asked where packets are read in all their forms
+abbrev PieceFits : Bool → Piece → Type 0
+PieceFits wide p = (length (user_of p) ≤ 4096) × AreOctets (user_of p) × (may_mark wide (marks_of p) ≡ true)
+
+abbrev pub AreCut : Bool → List Piece → Type 0
+AreCut wide [] = Unit {0}
+AreCut wide (p ∷ ps) = PieceFits wide p × AreCut wide ps
 
 -- what waits fits, and packet sizes and windows are such as may be proposed
-abbrev pub CircuitFits : Circuit → Type 0
-CircuitFits x = AreCut x.talk.rest × (may_propose x.params ≡ true)
+abbrev pub CircuitFits : Bool → Circuit → Type 0
+CircuitFits wide x = AreCut wide x.talk.rest × (may_propose x.params ≡ true)
 
 -- what is said of packet sizes and windows stays within bounds
 pub record Agreed : Type 0 where
@@ -47,33 +54,33 @@ pub record Agreed : Type 0 where
   pub answer : AnswerIsAllowed
   pub terms : TermsAreAllowed
 
-module _ (long_data : Bool) where
+module _ (wide long_data : Bool) where
   abbrev pub MayGive : Option PlainPacket → Type 0
   MayGive None = Unit {0}
-  MayGive (Some p) = HasChannel p × Fits long_data p
+  MayGive (Some p) = HasChannel p × Fits wide long_data p
 
-  cut_append : (a b : List Piece) → AreCut a → AreCut b → AreCut (a ++ b)
+  cut_append : (a b : List Piece) → AreCut wide a → AreCut wide b → AreCut wide (a ++ b)
   cut_append [] b f g = g
   cut_append (p ∷ a) b f g = (f.0, cut_append a b f.1 g)
 
-  cut_from_fits : (size n : ℕ) (q : Marks) (user : List ℕ) → 1 ≤ size → size ≤ 4096 → length user ≤ n → AreOctets user → AreCut (cut_from n size q user)
-  cut_from_fits size zero q user least most short octets = ((omega (arith, short), octets), tt)
-  cut_from_fits size (suc n) q user least most short octets = test (λ low. cut_from_fits size n q (drop size user) least most low (All-drop (λ (o : ℕ). o < 256) size user octets)) (nat_le (length user) size) refl
+  cut_from_fits : (size n : ℕ) (q : Marks) (user : List ℕ) → 1 ≤ size → size ≤ 4096 → length user ≤ n → AreOctets user → may_mark wide q ≡ true → AreCut wide (cut_from n size q user)
+  cut_from_fits size zero q user least most short octets may = ((omega (arith, short), octets, may), tt)
+  cut_from_fits size (suc n) q user least most short octets may = test (λ low. cut_from_fits size n q (drop size user) least most low (All-drop (λ (o : ℕ). o < 256) size user octets) may) (nat_le (length user) size) refl
     where
-      test : (length (drop size user) ≤ n → AreCut (cut_from n size q (drop size user))) → (b : Bool) → nat_le (length user) size ≡ b → AreCut (if b then Last q user ∷ [] else More (with_q q.q) (take size user) ∷ cut_from n size q (drop size user))
+      test : (length (drop size user) ≤ n → AreCut wide (cut_from n size q (drop size user))) → (b : Bool) → nat_le (length user) size ≡ b → AreCut wide (if b then Last q user ∷ [] else More (with_q q.q) (take size user) ∷ cut_from n size q (drop size user))
       test rest true is =
           let high : length user ≤ size = leb-true _ _ is in
-          ((omega (arith, high, most), octets), tt)
+          ((omega (arith, high, most), octets, may), tt)
       test rest false is =
           let long : size < length user = leb-false _ _ is in
           let a : length (drop size user) ≡ length user - size = length-drop size user in
           let b : length (take size user) ≤ 4096 = omega (arith, length-take size user, most) in
-          ((b, All-take (λ (o : ℕ). o < 256) size user octets), rest (omega (arith, a, short, long, least)))
+          ((b, All-take (λ (o : ℕ). o < 256) size user octets, refl), rest (omega (arith, a, short, long, least)))
 
   -- ---- what a packet brings
 
   pub record AnswerFits (a : table.Answer) : Type 0 where
-    pub next : CircuitFits a.next
+    pub next : CircuitFits wide a.next
     pub owed : MayGive a.owed
 
   cause_low : (r : Role) (n : ℕ) → n < 256 → table.cause_at r n < 256
@@ -96,20 +103,20 @@ module _ (long_data : Bool) where
   clears_for_fits : (c : Settings) (x : Circuit) (cause diagnostic : ℕ) → cause < 256 → diagnostic < 256 → AnswerFits (table.clears_for c x cause diagnostic)
   clears_for_fits c x cause diagnostic p q = record { next = (tt, refl); owed = (tt, (cause_low c.role cause p, q)) }
 
-  resets_for_fits : (c : Settings) (x : Circuit) (diagnostic : ℕ) → diagnostic < 256 → CircuitFits x → AnswerFits (table.resets_for c x diagnostic)
+  resets_for_fits : (c : Settings) (x : Circuit) (diagnostic : ℕ) → diagnostic < 256 → CircuitFits wide x → AnswerFits (table.resets_for c x diagnostic)
   resets_for_fits c x diagnostic q f = record { next = (tt, f.1); owed = (tt, (cause_low c.role 5 (omega arith), q)) }
 
   unexpected_fits : (c : Settings) (x : Circuit) (s : State) → AnswerFits (table.unexpected c x s)
   unexpected_fits c x s = clears_for_fits c x 19 (table.diagnostic_in c.role s) (omega arith) (diagnostic_low c.role s)
 
-  ignores_fits : (x : Circuit) → CircuitFits x → AnswerFits (table.ignores x)
+  ignores_fits : (x : Circuit) → CircuitFits wide x → AnswerFits (table.ignores x)
   ignores_fits x f = record { next = f; owed = tt }
 
-  collides_fits : (r : Role) (x : Circuit) (request : CallRequest) → CircuitFits x → may_propose request.params ≡ true → AnswerFits (table.collides r x request)
+  collides_fits : (r : Role) (x : Circuit) (request : CallRequest) → CircuitFits wide x → may_propose request.params ≡ true → AnswerFits (table.collides r x request)
   collides_fits Dte x request f may = record { next = (tt, f.1); owed = tt }
   collides_fits Dce x request f may = record { next = (tt, may); owed = tt }
 
-  call_fits : (c : Settings) (x : Circuit) (s : State) (request : CallRequest) → CircuitFits x → may_propose request.params ≡ true → AnswerFits (table.row_call c x s request)
+  call_fits : (c : Settings) (x : Circuit) (s : State) (request : CallRequest) → CircuitFits wide x → may_propose request.params ≡ true → AnswerFits (table.row_call c x s request)
   call_fits c x Free request f may = record { next = (tt, may); owed = tt }
   call_fits c x Calling request f may = collides_fits c.role x request f may
   call_fits c x Clearing request f may = ignores_fits x f
@@ -127,7 +134,7 @@ module _ (long_data : Bool) where
       answer_if (may_answer x.params answered) (table.goes x Open answered true None (connected answered ∷ [])) (table.clears_for c x 3 66) (record { next = (tt, may); owed = tt })
       (clears_for_fits c x 3 66 (omega arith) (omega arith))
 
-  accept_fits : Agreed → (c : Settings) (x : Circuit) (s : State) (facilities : List ℕ) → CircuitFits x → AnswerFits (table.row_accept c x s facilities)
+  accept_fits : Agreed → (c : Settings) (x : Circuit) (s : State) (facilities : List ℕ) → CircuitFits wide x → AnswerFits (table.row_accept c x s facilities)
   accept_fits laws c x Calling facilities f = connects_fits c x (said_in x.params facilities) (laws.said x.params facilities f.1)
   accept_fits laws c x Collision facilities f = connects_fits c x (said_in x.params facilities) (laws.said x.params facilities f.1)
   accept_fits laws c x Clearing facilities f = ignores_fits x f
@@ -154,7 +161,7 @@ module _ (long_data : Bool) where
   clear_conf_fits c x Open = unexpected_fits c x Open
   clear_conf_fits c x Resetting = unexpected_fits c x Resetting
 
-  reset_fits : (c : Settings) (x : Circuit) (s : State) (cause diagnostic : ℕ) → CircuitFits x → AnswerFits (table.row_reset c x s cause diagnostic)
+  reset_fits : (c : Settings) (x : Circuit) (s : State) (cause diagnostic : ℕ) → CircuitFits wide x → AnswerFits (table.row_reset c x s cause diagnostic)
   reset_fits c x Open cause diagnostic f = record { next = (tt, f.1); owed = (tt, tt) }
   reset_fits c x Resetting cause diagnostic f = record { next = (tt, f.1); owed = tt }
   reset_fits c x Clearing cause diagnostic f = ignores_fits x f
@@ -163,7 +170,7 @@ module _ (long_data : Bool) where
   reset_fits c x Arriving cause diagnostic f = unexpected_fits c x Arriving
   reset_fits c x Collision cause diagnostic f = unexpected_fits c x Collision
 
-  reset_conf_fits : (c : Settings) (x : Circuit) (s : State) → CircuitFits x → AnswerFits (table.row_reset_conf c x s)
+  reset_conf_fits : (c : Settings) (x : Circuit) (s : State) → CircuitFits wide x → AnswerFits (table.row_reset_conf c x s)
   reset_conf_fits c x Open f = resets_for_fits c x 27 (omega arith) f
   reset_conf_fits c x Resetting f = record { next = (tt, f.1); owed = tt }
   reset_conf_fits c x Clearing f = ignores_fits x f
@@ -182,7 +189,7 @@ module _ (long_data : Bool) where
   ground_if true u v p q = p
   ground_if false u v p q = q
 
-  unless_fits : (c : Settings) (x : Circuit) (o : Option ℕ) (a : table.Answer) → LowGround o → CircuitFits x → AnswerFits a → AnswerFits (table.unless c x o a)
+  unless_fits : (c : Settings) (x : Circuit) (o : Option ℕ) (a : table.Answer) → LowGround o → CircuitFits wide x → AnswerFits a → AnswerFits (table.unless c x o a)
   unless_fits c x None a low g f = f
   unless_fits c x (Some n) a low g f = resets_for_fits c x n low g
 
@@ -193,7 +200,7 @@ module _ (long_data : Bool) where
   status_gives true n = (tt, mod_low n)
   status_gives false n = (tt, mod_low n)
 
-  confirms_fits : (c : Settings) (x : Circuit) (b : Bool) → CircuitFits x → AnswerFits (table.confirms c x x.talk b)
+  confirms_fits : (c : Settings) (x : Circuit) (b : Bool) → CircuitFits wide x → AnswerFits (table.confirms c x x.talk b)
   confirms_fits c x true f = record { next = f; owed = tt }
   confirms_fits c x false f = resets_for_fits c x 43 (omega arith) f
 
@@ -212,7 +219,7 @@ module _ (long_data : Bool) where
       (ground_if (ps == length t.taken % 8) (piece_ground size (joining no_part t.taken) piece) (Some 1) (ground_low size (joining no_part t.taken) (length (user_of piece)) (q_of piece)) (omega arith))
       (omega arith)
 
-  open_fits : (c : Settings) (x : Circuit) (p : PlainPacket) → CircuitFits x → AnswerFits (table.row_open c x x.talk p)
+  open_fits : (c : Settings) (x : Circuit) (p : PlainPacket) → CircuitFits wide x → AnswerFits (table.row_open c x x.talk p)
   open_fits c x (user_data h q m ps pr user) f =
       unless_fits c x (table.data_ground (incoming x).size x.talk ps pr (piece_of q m user)) (table.takes x x.talk pr (piece_of q m user)) (data_low (incoming x).size x.talk ps pr (piece_of q m user)) f
       (record { next = f; owed = status_gives x.talk.own_ready (length x.talk.taken + 1) })
@@ -229,7 +236,7 @@ module _ (long_data : Bool) where
   open_fits c x (restart cause diagnostic) f = ignores_fits x f
   open_fits c x restart_conf f = ignores_fits x f
 
-  data_fits : (c : Settings) (x : Circuit) (s : State) (p : PlainPacket) → CircuitFits x → AnswerFits (table.row_data c x s p)
+  data_fits : (c : Settings) (x : Circuit) (s : State) (p : PlainPacket) → CircuitFits wide x → AnswerFits (table.row_data c x s p)
   data_fits c x Open p f = open_fits c x p f
   data_fits c x Resetting p f = ignores_fits x f
   data_fits c x Clearing p f = ignores_fits x f
@@ -238,7 +245,7 @@ module _ (long_data : Bool) where
   data_fits c x Arriving p f = unexpected_fits c x Arriving
   data_fits c x Collision p f = unexpected_fits c x Collision
 
-  pub answers_fit : Agreed → (c : Settings) (x : Circuit) (p : PlainPacket) → CircuitFits x → AnswerFits (table.answers c x p)
+  pub answers_fit : Agreed → (c : Settings) (x : Circuit) (p : PlainPacket) → CircuitFits wide x → AnswerFits (table.answers c x p)
   answers_fit laws c x (call h called calling facilities user) f = call_fits c x x.state (table.request_in called calling facilities user) f (laws.said default_params facilities refl)
   answers_fit laws c x (accept h facilities) f = accept_fits laws c x x.state facilities f
   answers_fit laws c x (clear h cause diagnostic) f = clear_fits x x.state cause diagnostic
@@ -256,7 +263,7 @@ module _ (long_data : Bool) where
   -- ---- calls of the user
 
   abbrev pub OutcomeFits : Outcome → Type 0
-  OutcomeFits (Done next packet) = CircuitFits next × MayGive packet
+  OutcomeFits (Done next packet) = CircuitFits wide next × MayGive packet
   OutcomeFits (Refused e) = Unit {0}
 
   outcome_if : (b : Bool) (u v : Outcome) → (b ≡ true → OutcomeFits u) → OutcomeFits v → OutcomeFits (if b then u else v)
@@ -296,7 +303,7 @@ module _ (long_data : Bool) where
   no_field : IsFacilityField []
   no_field = (record { packet_size = None; window_size = None }, record { sizes = tt; windows = tt }, refl)
 
-  accept_with_fits : Agreed → (x : Circuit) (answer : Option Proposal) → CircuitFits x → OutcomeFits (accept_with x answer)
+  accept_with_fits : Agreed → (x : Circuit) (answer : Option Proposal) → CircuitFits wide x → OutcomeFits (accept_with x answer)
   accept_with_fits laws x None f = ((tt, f.1), (tt, no_field))
   accept_with_fits laws x (Some answer) f = outcome_if (may_answer x.params answer.params) (does x Open answer.params false (accept 1 (field_for x.params answer))) (Refused error.BadParameter) fits tt
     where
@@ -305,7 +312,7 @@ module _ (long_data : Bool) where
           let may = laws.answer x.params answer.params f.1 is in
           ((tt, may), (tt, laws.field x.params answer may))
 
-  accept_in_fits : Agreed → (x : Circuit) (s : State) (answer : Option Proposal) → CircuitFits x → OutcomeFits (accept_in x s answer)
+  accept_in_fits : Agreed → (x : Circuit) (s : State) (answer : Option Proposal) → CircuitFits wide x → OutcomeFits (accept_in x s answer)
   accept_in_fits laws x Arriving answer f = accept_with_fits laws x answer f
   accept_in_fits laws x Free answer f = tt
   accept_in_fits laws x Calling answer f = tt
@@ -334,29 +341,29 @@ module _ (long_data : Bool) where
       test true = both.1
       test false = both.0
 
-  send_in_fits : Agreed → (c : Settings) (x : Circuit) (s : State) (q : Marks) (user : List ℕ) → CircuitFits x → AreOctets user → OutcomeFits (send_in c x s q user)
-  send_in_fits laws c x Open q user f octets =
+  send_in_fits : Agreed → (c : Settings) (x : Circuit) (s : State) (q : Marks) (user : List ℕ) → CircuitFits wide x → AreOctets user → may_mark wide q ≡ true → OutcomeFits (send_in c x s q user)
+  send_in_fits laws c x Open q user f octets may =
       outcome_if (nat_le (length user) 65535) _ (Refused error.TooLong) (λ _. outcome_if (nat_lt (waits x) 8) _ (Refused error.Full) (λ _. ((cut_append x.talk.rest (cut (outgoing x).size q user) f.0 cut_fits, f.1), tt)) tt) tt
     where
-      cut_fits : AreCut (cut (outgoing x).size q user)
+      cut_fits : AreCut wide (cut (outgoing x).size q user)
       cut_fits =
           let are = outgoing_is x (laws.terms x.params f.1) in
-          cut_from_fits (outgoing x).size (length user) q user (omega (arith, are.size_least)) are.size_most (omega arith) octets
-  send_in_fits laws c x Free q user f octets = tt
-  send_in_fits laws c x Calling q user f octets = tt
-  send_in_fits laws c x Arriving q user f octets = tt
-  send_in_fits laws c x Collision q user f octets = tt
-  send_in_fits laws c x Resetting q user f octets = tt
-  send_in_fits laws c x Clearing q user f octets = tt
+          cut_from_fits (outgoing x).size (length user) q user (omega (arith, are.size_least)) are.size_most (omega arith) octets may
+  send_in_fits laws c x Free q user f octets may = tt
+  send_in_fits laws c x Calling q user f octets may = tt
+  send_in_fits laws c x Arriving q user f octets may = tt
+  send_in_fits laws c x Collision q user f octets may = tt
+  send_in_fits laws c x Resetting q user f octets may = tt
+  send_in_fits laws c x Clearing q user f octets may = tt
 
   int_if : (b : Bool) (u : Outcome) → OutcomeFits u → OutcomeFits (if b then Refused error.InterruptOutstanding else u)
   int_if true u f = tt
   int_if false u f = f
 
-  interrupt_in_fits : (x : Circuit) (s : State) (user : List ℕ) → CircuitFits x → AreOctets user → OutcomeFits (interrupt_in x s user)
+  interrupt_in_fits : (x : Circuit) (s : State) (user : List ℕ) → CircuitFits wide x → AreOctets user → OutcomeFits (interrupt_in x s user)
   interrupt_in_fits x Open user f octets = outcome_if (nat_le 1 (length user) && nat_le (length user) 32) _ (Refused error.BadParameter) (λ is. int_if x.talk.int_out _ (fits is)) tt
     where
-      fits : (nat_le 1 (length user) && nat_le (length user) 32) ≡ true → CircuitFits x × MayGive (Some (interrupt 1 user))
+      fits : (nat_le 1 (length user) && nat_le (length user) 32) ≡ true → CircuitFits wide x × MayGive (Some (interrupt 1 user))
       fits is =
           let parts = and_parts (nat_le 1 (length user)) (nat_le (length user) 32) is in
           (f, (tt, (leb-true 1 (length user) parts.0, leb-true (length user) 32 parts.1, octets)))
@@ -367,7 +374,7 @@ module _ (long_data : Bool) where
   interrupt_in_fits x Resetting user f octets = tt
   interrupt_in_fits x Clearing user f octets = tt
 
-  reset_in_fits : (c : Settings) (x : Circuit) (s : State) (cause diagnostic : ℕ) → CircuitFits x → (cause < 256) × (diagnostic < 256) → OutcomeFits (reset_in c x s cause diagnostic)
+  reset_in_fits : (c : Settings) (x : Circuit) (s : State) (cause diagnostic : ℕ) → CircuitFits wide x → (cause < 256) × (diagnostic < 256) → OutcomeFits (reset_in c x s cause diagnostic)
   reset_in_fits c x Open cause diagnostic f octets = outcome_if (may_reset_for c.role cause) (does x Resetting x.params x.calls (reset 1 cause diagnostic)) (Refused error.BadParameter) (λ may. ((tt, f.1), (tt, octets))) tt
   reset_in_fits c x Free cause diagnostic f octets = tt
   reset_in_fits c x Calling cause diagnostic f octets = tt
@@ -376,7 +383,7 @@ module _ (long_data : Bool) where
   reset_in_fits c x Resetting cause diagnostic f octets = tt
   reset_in_fits c x Clearing cause diagnostic f octets = tt
 
-  ready_in_fits : (x : Circuit) (s : State) (b : Bool) → CircuitFits x → OutcomeFits (ready_in x s b)
+  ready_in_fits : (x : Circuit) (s : State) (b : Bool) → CircuitFits wide x → OutcomeFits (ready_in x s b)
   ready_in_fits x Open b f = (f, status_gives b (length x.talk.taken))
   ready_in_fits x Free b f = tt
   ready_in_fits x Calling b f = tt
@@ -385,34 +392,34 @@ module _ (long_data : Bool) where
   ready_in_fits x Resetting b f = tt
   ready_in_fits x Clearing b f = tt
 
-  pub outcome_fits : Agreed → (c : Settings) → c.long_data ≡ long_data → (x : Circuit) (request : Request) → CircuitFits x → AsksOctets request → OutcomeFits (outcome c x request)
-  outcome_fits laws c same x (Calls called calling user proposal) f octets = call_in_fits laws c same x x.state called calling user proposal octets
-  outcome_fits laws c same x (Accepts answer) f octets = accept_in_fits laws x x.state answer f
-  outcome_fits laws c same x (Clears cause diagnostic) f octets = clear_in_fits c x x.state cause diagnostic octets
-  outcome_fits laws c same x (Sends q user) f octets = send_in_fits laws c x x.state q user f octets
-  outcome_fits laws c same x (Interrupts user) f octets = interrupt_in_fits x x.state user f octets
-  outcome_fits laws c same x (Resets cause diagnostic) f octets = reset_in_fits c x x.state cause diagnostic f octets
-  outcome_fits laws c same x SaysReady f octets = ready_in_fits x x.state true f
-  outcome_fits laws c same x SaysNotReady f octets = ready_in_fits x x.state false f
+  pub outcome_fits : Agreed → (c : Settings) → c.long_data ≡ long_data → (x : Circuit) (h : ℕ) (request : Request) → CircuitFits wide x → AsksOctets request → may_ask wide (Asks h request) ≡ true → OutcomeFits (outcome c x request)
+  outcome_fits laws c same x h (Calls called calling user proposal) f octets may = call_in_fits laws c same x x.state called calling user proposal octets
+  outcome_fits laws c same x h (Accepts answer) f octets may = accept_in_fits laws x x.state answer f
+  outcome_fits laws c same x h (Clears cause diagnostic) f octets may = clear_in_fits c x x.state cause diagnostic octets
+  outcome_fits laws c same x h (Sends q user) f octets may = send_in_fits laws c x x.state q user f octets may
+  outcome_fits laws c same x h (Interrupts user) f octets may = interrupt_in_fits x x.state user f octets
+  outcome_fits laws c same x h (Resets cause diagnostic) f octets may = reset_in_fits c x x.state cause diagnostic f octets
+  outcome_fits laws c same x h SaysReady f octets may = ready_in_fits x x.state true f
+  outcome_fits laws c same x h SaysNotReady f octets may = ready_in_fits x x.state false f
 
   -- ---- pulls
 
   pub record PulledFits (p : Pulled) : Type 0 where
-    pub next : CircuitFits p.next
+    pub next : CircuitFits wide p.next
     pub packet : MayGive p.packet
 
-  data_gives : (ps pr : ℕ) (piece : Piece) → PieceFits piece → MayGive (Some (data_packet (ps % 8) (pr % 8) piece))
-  data_gives ps pr (More q user) f = (tt, (mod_low ps, mod_low pr, f.0, f.1))
-  data_gives ps pr (Last q user) f = (tt, (mod_low ps, mod_low pr, f.0, f.1))
+  data_gives : (ps pr : ℕ) (piece : Piece) → PieceFits wide piece → MayGive (Some (data_packet (ps % 8) (pr % 8) piece))
+  data_gives ps pr (More q user) f = (tt, (mod_low ps, mod_low pr, f.0, f.1, f.2))
+  data_gives ps pr (Last q user) f = (tt, (mod_low ps, mod_low pr, f.0, f.1, f.2))
 
   pulled_if : (b : Bool) (u v : Pulled) → PulledFits u → PulledFits v → PulledFits (if b then u else v)
   pulled_if true u v p q = p
   pulled_if false u v p q = q
 
-  nothing_fits : (x : Circuit) → CircuitFits x → PulledFits (pulls_nothing x)
+  nothing_fits : (x : Circuit) → CircuitFits wide x → PulledFits (pulls_nothing x)
   nothing_fits x f = record { next = f; packet = tt }
 
-  pull_open_fits : (c : Settings) (x : Circuit) (t : Talk) (rest : List Piece) → CircuitFits x → AreCut rest → PulledFits (pull_open c x t rest)
+  pull_open_fits : (c : Settings) (x : Circuit) (t : Talk) (rest : List Piece) → CircuitFits wide x → AreCut wide rest → PulledFits (pull_open c x t rest)
   pull_open_fits c x t [] f g = nothing_fits x f
   pull_open_fits c x t (piece ∷ rest) f g = pulled_if (t.peer_ready && nat_lt (length t.sent) (t.acked + (outgoing x).window)) sent (pulls_nothing x) (record { next = (g.1, f.1); packet = data_gives (length t.sent) (length t.taken) piece g.0 }) (nothing_fits x f)
     where
@@ -422,7 +429,7 @@ module _ (long_data : Bool) where
         packet = Some (data_packet (length t.sent % 8) (length t.taken % 8) piece);
       }
 
-  pub pulled_fits : (c : Settings) (x : Circuit) → CircuitFits x → PulledFits (pulled c x)
+  pub pulled_fits : (c : Settings) (x : Circuit) → CircuitFits wide x → PulledFits (pulled c x)
   pulled_fits c x f = at x.state
     where
       at : (s : State) → PulledFits (pull_in c x s)

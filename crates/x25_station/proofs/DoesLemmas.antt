@@ -1,13 +1,13 @@
 -- A call does what the definition says of it, by what the calls of its link or of its layer did.
-use Rattle.std.proofs.Common.{◌≡◌, ◌≤◌, [], length, vec_len, Result, Ok, Err, OnErr, IsErrAnd, ◌∙◌, inr, refl, ap, sym, subst, arith}
-use Rattle.x25_link.specs.Station.{LinkStation}
+use Rattle.std.proofs.Common.{◌≡◌, ◌≤◌, List, [], length, vec_len, Bool, true, false, Option, Some, None, Result, Ok, Err, OnErr, IsErrAnd, ◌∙◌, inl, inr, refl, ap, sym, subst, arith}
+use Rattle.x25_link.specs.Station.{LinkStation, Side}
 use Rattle.x25_link.specs.Link.{alone}
 use Rattle.x25_link.specs.code.FitsLink.{ShownLink, LinkState, FitsWhole, after_put_to}
 use Rattle.x25_link.specs.code.Bounds.{WindowIsSmall, FewStand}
 use Rattle.x25_layer.specs.Layer.{LayerSettings, Layer}
 use Rattle.x25_layer.specs.Calls.{LayerRequest}
 use Rattle.x25_layer.specs.declared.error.LayerError.{LayerError}
-use Rattle.x25_layer.specs.Rounds.{Answered, Went, Refuses as LayerRefuses}
+use Rattle.x25_layer.specs.Rounds.{Answered, Went, Refuses as LayerRefuses, refusal_of}
 use Rattle.x25_layer.specs.code.OverLink.{LinkGives}
 use Rattle.x25_layer.specs.code.FitsLayer.{FitsLayer}
 use Rattle.x25_layer.specs.declared.layer.Layer as layer_code
@@ -22,10 +22,13 @@ use Rattle.x25_station.specs.Config.{Settings, link_settings, layer_settings}
 use Rattle.x25_station.specs.Station.{Station, all_put}
 use Rattle.x25_station.specs.Receiving.{kept_of}
 use Rattle.x25_station.specs.code.FitsParts.{FitsParts, AreMeant}
-use Rattle.x25_station.specs.Step.{Outcome, Did, Refused, requests}
+use Rattle.x25_station.specs.Command.{may_ask}
+use Rattle.x25_station.specs.Entry.{StationEntry}
+use Rattle.x25_station.specs.Giving.{not_taken}
+use Rattle.x25_station.specs.Step.{Outcome, Did, Refused, did, requests, where_asked}
 use Rattle.x25_station.specs.laws.KeepLaw.{RequestKeeps}
 use Rattle.x25_station.specs.code.FitsStation.{FitsStation, Does, IsEmpty, Leaves, Sends, Enters, Refuses}
-use Rattle.x25_station.proofs.AskLemmas.{Layers, Links, Answers, answers, answered_by, link_gives, after_puts, refuses, still_fits}
+use Rattle.x25_station.proofs.AskLemmas.{Layers, Links, Judges, Answers, answers, answered_by, judged_by, link_gives, after_puts, refuses, still_fits}
 use Rattle.x25_station.proofs.TakeLemmas.{least_by_meaning, few_made}
 use Rattle.x25_station.proofs.FrameLemmas.{few_put}
 use Rattle.x25_station.proofs.ResultLemmas.{ok_err}
@@ -123,10 +126,11 @@ made_few u l m y request h links small stand = least_by_meaning l y (length m.fr
 -- From the link and the layer of the old station its call led to the link m, from which the frames were taken, and to the layer of the new one.
 pub did_request : {T : Type 0} (u : T) (old new : code.Station) (m : ShownLink) (r : code_step.Step) (request : LayerRequest) → Layers old.link old.layer new.layer (Ok u) request → Links old.link m old.layer (Ok u) request
     → new.link.station ≡ m.station → new.link.frames ≡ [] → r.frames ≡ m.frames → RequestKeeps → WindowIsSmall → FewStand
-    → ((c : Settings) (s : Station) → FitsStation c old s → Enters {T = Unit} r (Ok tt) (requests c s request)) → vec_len r.entries ≤ 3 → old.manner ≡ new.manner → Does old new r (Ok tt) (λ c s. requests c s request)
-did_request u old new m r request layers links same none made keeps small stand entered few manner =
+    → ((c : Settings) (s : Station) → FitsStation c old s → may_ask c.wide request ≡ true) → ((c : Settings) (s : Station) → FitsStation c old s → Enters {T = Unit} r (Ok tt) (requests c s request)) → vec_len r.entries ≤ 3 → old.manner ≡ new.manner
+    → Does old new r (Ok tt) (λ c s. requests c s request)
+did_request u old new m r request layers links same none made keeps small stand may entered few manner =
     let parts : (c : Settings) (s : Station) → FitsStation c old s → Answers c new.manner new.link new.layer r (requests c s request) =
-    λ c s fits. answers u c old.link m new.link old.layer new.layer r s request (subst (λ (b : Manner). FitsParts c b old.link old.layer s) manner fits) layers links same none made (keeps c s request fits.kept) in
+    λ c s fits. answers u c old.link m new.link old.layer new.layer r s request (subst (λ (b : Manner). FitsParts c b old.link old.layer s) manner fits) layers links same none made (may c s fits) (keeps c s request fits.kept) in
     let put = made_few u old.link m old.layer request old.meant links small stand in
     let same : length r.frames ≡ length m.frames = ap length made in
     record {
@@ -139,6 +143,21 @@ did_request u old new m r request layers links same none made keeps small stand 
       few_frames = omega (arith, put, same);
       few_entries = few;
     }
+
+-- what may not be asked, where the layer wouldn't refuse it
+not_asked : (c : Settings) (may : Bool) (t : Side) (entries : List StationEntry) (a : Answered) → may ≡ false → None ≡ refusal_of a → (let r : Result Unit StationError = Err not_taken in Refuses r (where_asked may (did c t entries a)))
+not_asked c may t entries (Went p) is refusal = subst (λ (b : Bool). (let r : Result Unit StationError = Err not_taken in Refuses r (where_asked b (did c t entries (Went p))))) (sym is) (inl refl)
+not_asked c may t entries (LayerRefuses e) is refusal = absurd (none_there refusal)
+  where
+    none_there : None ≡ Some e → ⊥
+    none_there h = cc
+
+pub declines_asked : (old new : code.Station) (out : code_step.Step) (request : LayerRequest) → Judges None old.link old.layer request → ((c : Settings) (s : Station) → FitsStation c old s → may_ask c.wide request ≡ false)
+    → ((c : Settings) (s : Station) → FitsStation c old s → FitsStation c new s) → IsEmpty out
+    → Does old new out (Err not_taken) (λ c s. requests c s request)
+declines_asked old new out request judges not stays empty =
+    declines old new out not_taken (λ c s. requests c s request)
+    (λ c s fits. not_asked c (may_ask c.wide request) (alone s.link) _ (answered_by c s request) (not c s fits) (judged_by None c old.link old.layer s request fits judges)) stays empty
 
 pub declines_request : (T : Type 0) (e : LayerError) (found : StationError) (old new : code.Station) (out : code_step.Step) (request : LayerRequest) → found ≡ of_layer e
     → (let x : Result T LayerError = Err e in Layers old.link old.layer new.layer x request) → ((d : LayerSettings) (k : Layer) → FitsLayer d old.layer k → FitsLayer d new.layer k)

@@ -16,11 +16,13 @@ use Rattle.x25_station.specs.declared.step.Step as code_step
 use Rattle.x25_station.specs.Config.{Settings, link_settings, layer_settings}
 use Rattle.x25_station.specs.Entry.{StationEntry, of_channel, restart_asked}
 use Rattle.x25_station.specs.Station.{Station, view_of, waiting_after}
+use Rattle.x25_station.specs.Command.{may_ask}
 use Rattle.x25_station.specs.Step.{requests, entries_of_outcome}
 use Rattle.x25_station.specs.code.PlainEntry.{plain_entry}
 use Rattle.x25_station.specs.code.FitsParts.{FitsParts}
 use Rattle.x25_station.specs.code.FitsStation.{Enters}
-use Rattle.x25_station.proofs.AskLemmas.{Layers, answered_by, layer_gives, enters_did}
+use Rattle.x25_station.proofs.AskLemmas.{Layers, answered_by, requested, layer_gives, enters_did}
+use Rattle.x25_station.proofs.MayLemmas.{where_holds}
 use Rattle.x25_station.proofs.AskedEntryLemmas.{asked_entry, dialled_entry, restart_entry, pull_entry, asked_channel, free_is_channel}
 
 abbrev entries_by : Settings → Station → LayerRequest → List StationEntry
@@ -36,8 +38,9 @@ pub asked_enters : {T : Type 0} {manner : Manner} (u : T) (c : Settings) (l : Sh
 asked_enters u c l y z s r h request fits layers entered =
     let view : LinkView = view_of (link_settings c) s.link in
     let lc : LayerSettings = layer_settings c in
-    enters_did c s.link r (entries_by c s (Asks h request)) (answered_by c s (Asks h request)) (λ p is.
-    entered p.layer (went_fits u c z _ p (layer_gives (Ok u) c l y z s (Asks h request) fits layers) is) (asked_channel view lc s.layer h request p is) ∙ sym (asked_entry view lc s.layer h request p is))
+    where_holds (Enters {T = Unit} r (Ok tt)) (may_ask c.wide (Asks h request)) (requested c s (Asks h request)) (λ e. tt)
+    (enters_did c s.link r (entries_by c s (Asks h request)) (answered_by c s (Asks h request)) (λ p is.
+    entered p.layer (went_fits u c z _ p (layer_gives (Ok u) c l y z s (Asks h request) fits layers) is) (asked_channel view lc s.layer h request p is) ∙ sym (asked_entry view lc s.layer h request p is)))
 
 pub dialled_enters : {manner : Manner} (c : Settings) (l : ShownLink) (y z : layer_code.Layer) (s : Station) (r : code_step.Step) (h : ℕ) (called calling user : List ℕ) (proposal : Proposal) → FitsParts c manner l y s → Layers l y z (Ok h) (Dials called calling user proposal)
     → free_channel c.role s.layer.circuits c.channels ≡ Some h

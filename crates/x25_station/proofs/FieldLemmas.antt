@@ -1,5 +1,5 @@
 -- A packet whose fields fit is read again from its octets.
-use Rattle.std.proofs.Common.{◌≡◌, ℕ, ◌+◌, ◌*◌, ◌/◌, ◌%◌, ◌<◌, ◌≤◌, List, [], ◌∷◌, ◌++◌, length, Option, Some, None, Bool, true, false, refl, sym, ap, subst, ◌∙◌, arith, length-append}
+use Rattle.std.proofs.Common.{◌≡◌, ℕ, ◌+◌, ◌*◌, ◌/◌, ◌%◌, ◌<◌, ◌≤◌, List, [], ◌∷◌, ◌++◌, length, Option, Some, None, Ok, Bool, true, false, not, ◌||◌, refl, sym, ap, subst, ◌∙◌, arith, length-append}
 use Rattle.std.specs.List.{list_all}
 use Rattle.std.specs.Prelude.{◌&&◌}
 use Rattle.std.proofs.lemmas.Bool.{and_parts, leb-true}
@@ -8,50 +8,52 @@ use Rattle.std.proofs.lemmas.List.Folds.{list_all-append}
 use Rattle.x25_bits.specs.Bits.{bit}
 use Rattle.x25_packet.specs.Digits.{packed, is_digit, IsAddress}
 use Rattle.x25_packet.specs.Packet.{PlainPacket, call, accept, clear, clear_conf, user_data, rr, rnr, interrupt, interrupt_conf, reset, reset_conf, restart, restart_conf}
-use Rattle.x25_packet.specs.Spelling.{channel_of, HasChannel, moved_to, format_of, type_of, call_body, accept_body, body_of, header_of, spelling_of, IsInRange, longest_user}
+use Rattle.x25_packet.specs.Spelling.{channel_of, HasChannel, moved_to, format_of, type_of, call_body, accept_body, body_of, header_of, spelling_of, IsInRange, IsWithoutD, longest_user}
 use Rattle.x25_packet.specs.declared.facilities.Directions.{Directions}
 use Rattle.x25_packet.specs.Facilities.{facility, field_of, AreWithin, IfGiven, IsFacilityField}
 use Rattle.x25_packet.specs.laws.ReadingLaw.{ReadsWhatIsSpelled}
-use Rattle.x25_wide.specs.laws.TakingLaw.{TakesWhatIsWritten}
+use Rattle.x25_wide.specs.Taking.{read_in}
+use Rattle.x25_wide.specs.laws.TakingLaw.{TakesWhatIsSpelled}
+use Rattle.x25_station.specs.Command.{may_mark}
 use Rattle.x25_station.specs.laws.ReadLaw.{AreOctets, IsReadable}
 
 abbrev pub IsOctet : ℕ → Type 0
 IsOctet octet = octet < 256
 
 -- with as much user data of a CALL as it may have
-abbrev pub Fits : Bool → PlainPacket → Type 0
-Fits long_data (call h called calling facilities user) = IsAddress called × IsAddress calling × IsFacilityField facilities × (length user ≤ longest_user long_data) × AreOctets user
-Fits long_data (accept h facilities) = IsFacilityField facilities
-Fits long_data (clear h cause diagnostic) = (cause < 256) × (diagnostic < 256)
-Fits long_data (clear_conf h) = Unit {0}
-Fits long_data (user_data h q m ps pr user) = (ps < 8) × (pr < 8) × (length user ≤ 4096) × AreOctets user
-Fits long_data (rr h pr) = pr < 8
-Fits long_data (rnr h pr) = pr < 8
-Fits long_data (interrupt h user) = (1 ≤ length user) × (length user ≤ 32) × AreOctets user
-Fits long_data (interrupt_conf h) = Unit {0}
-Fits long_data (reset h cause diagnostic) = (cause < 256) × (diagnostic < 256)
-Fits long_data (reset_conf h) = Unit {0}
-Fits long_data (restart cause diagnostic) = (cause < 256) × (diagnostic < 256)
-Fits long_data restart_conf = Unit {0}
+abbrev pub Fits : Bool → Bool → PlainPacket → Type 0
+Fits wide long_data (call h called calling facilities user) = IsAddress called × IsAddress calling × IsFacilityField facilities × (length user ≤ longest_user long_data) × AreOctets user
+Fits wide long_data (accept h facilities) = IsFacilityField facilities
+Fits wide long_data (clear h cause diagnostic) = (cause < 256) × (diagnostic < 256)
+Fits wide long_data (clear_conf h) = Unit {0}
+Fits wide long_data (user_data h q m ps pr user) = (ps < 8) × (pr < 8) × (length user ≤ 4096) × AreOctets user × (may_mark wide q ≡ true)
+Fits wide long_data (rr h pr) = pr < 8
+Fits wide long_data (rnr h pr) = pr < 8
+Fits wide long_data (interrupt h user) = (1 ≤ length user) × (length user ≤ 32) × AreOctets user
+Fits wide long_data (interrupt_conf h) = Unit {0}
+Fits wide long_data (reset h cause diagnostic) = (cause < 256) × (diagnostic < 256)
+Fits wide long_data (reset_conf h) = Unit {0}
+Fits wide long_data (restart cause diagnostic) = (cause < 256) × (diagnostic < 256)
+Fits wide long_data restart_conf = Unit {0}
 
 -- of one of 4,095 channels, where it is of one
 abbrev pub IsOn : PlainPacket → Type 0
 IsOn p = HasChannel p → (1 ≤ channel_of p) × (channel_of p ≤ 4095)
 
-pub moved_fits : (long_data : Bool) (h : ℕ) (p : PlainPacket) → Fits long_data p → Fits long_data (moved_to h p)
-moved_fits long_data h (call k called calling facilities user) f = f
-moved_fits long_data h (accept k facilities) f = f
-moved_fits long_data h (clear k cause diagnostic) f = f
-moved_fits long_data h (clear_conf k) f = f
-moved_fits long_data h (user_data k q m ps pr user) f = f
-moved_fits long_data h (rr k pr) f = f
-moved_fits long_data h (rnr k pr) f = f
-moved_fits long_data h (interrupt k user) f = f
-moved_fits long_data h (interrupt_conf k) f = f
-moved_fits long_data h (reset k cause diagnostic) f = f
-moved_fits long_data h (reset_conf k) f = f
-moved_fits long_data h (restart cause diagnostic) f = f
-moved_fits long_data h restart_conf f = f
+pub moved_fits : (wide long_data : Bool) (h : ℕ) (p : PlainPacket) → Fits wide long_data p → Fits wide long_data (moved_to h p)
+moved_fits wide long_data h (call k called calling facilities user) f = f
+moved_fits wide long_data h (accept k facilities) f = f
+moved_fits wide long_data h (clear k cause diagnostic) f = f
+moved_fits wide long_data h (clear_conf k) f = f
+moved_fits wide long_data h (user_data k q m ps pr user) f = f
+moved_fits wide long_data h (rr k pr) f = f
+moved_fits wide long_data h (rnr k pr) f = f
+moved_fits wide long_data h (interrupt k user) f = f
+moved_fits wide long_data h (interrupt_conf k) f = f
+moved_fits wide long_data h (reset k cause diagnostic) f = f
+moved_fits wide long_data h (reset_conf k) f = f
+moved_fits wide long_data h (restart cause diagnostic) f = f
+moved_fits wide long_data h restart_conf f = f
 
 pub moved_on : (h : ℕ) (p : PlainPacket) → HasChannel p → 1 ≤ h → h ≤ 4095 → IsOn (moved_to h p)
 moved_on h (call k called calling facilities user) has low high there = (low, high)
@@ -70,20 +72,20 @@ moved_on h restart_conf has low high there = absurd has
 
 -- ---- in range
 
-in_range : (long_data : Bool) (p : PlainPacket) → Fits long_data p → IsOn p → IsInRange (longest_user long_data) p
-in_range long_data (call h called calling facilities user) f on = (on tt, f.0, f.1, f.2, f.3)
-in_range long_data (accept h facilities) f on = (on tt, f)
-in_range long_data (clear h cause diagnostic) f on = on tt
-in_range long_data (clear_conf h) f on = on tt
-in_range long_data (user_data h q m ps pr user) f on = (on tt, f.0, f.1, f.2)
-in_range long_data (rr h pr) f on = (on tt, f)
-in_range long_data (rnr h pr) f on = (on tt, f)
-in_range long_data (interrupt h user) f on = (on tt, f.0, f.1)
-in_range long_data (interrupt_conf h) f on = on tt
-in_range long_data (reset h cause diagnostic) f on = on tt
-in_range long_data (reset_conf h) f on = on tt
-in_range long_data (restart cause diagnostic) f on = tt
-in_range long_data restart_conf f on = tt
+in_range : (wide long_data : Bool) (p : PlainPacket) → Fits wide long_data p → IsOn p → IsInRange (longest_user long_data) p
+in_range wide long_data (call h called calling facilities user) f on = (on tt, f.0, f.1, f.2, f.3)
+in_range wide long_data (accept h facilities) f on = (on tt, f)
+in_range wide long_data (clear h cause diagnostic) f on = on tt
+in_range wide long_data (clear_conf h) f on = on tt
+in_range wide long_data (user_data h q m ps pr user) f on = (on tt, f.0, f.1, f.2)
+in_range wide long_data (rr h pr) f on = (on tt, f)
+in_range wide long_data (rnr h pr) f on = (on tt, f)
+in_range wide long_data (interrupt h user) f on = (on tt, f.0, f.1)
+in_range wide long_data (interrupt_conf h) f on = on tt
+in_range wide long_data (reset h cause diagnostic) f on = on tt
+in_range wide long_data (reset_conf h) f on = on tt
+in_range wide long_data (restart cause diagnostic) f on = tt
+in_range wide long_data restart_conf f on = tt
 
 -- ---- octets
 
@@ -158,24 +160,24 @@ accept_octets (octet ∷ facilities) field =
     octets_more 0 (length (octet ∷ facilities) ∷ octet ∷ facilities) (omega arith)
     (octets_more (length (octet ∷ facilities)) (octet ∷ facilities) (omega (arith, few)) (field_octets (octet ∷ facilities) field))
 
-body_octets : (long_data : Bool) (p : PlainPacket) → Fits long_data p → AreOctets (body_of p)
-body_octets long_data (call h called calling facilities user) f = call_octets called calling facilities user f.0 f.1 f.2 f.4
-body_octets long_data (accept h facilities) f = accept_octets facilities f
-body_octets long_data (clear h cause diagnostic) f = two cause diagnostic f.0 f.1
-body_octets long_data (clear_conf h) f = no_octets
-body_octets long_data (user_data h q m ps pr user) f = f.3
-body_octets long_data (rr h pr) f = no_octets
-body_octets long_data (rnr h pr) f = no_octets
-body_octets long_data (interrupt h user) f = f.2
-body_octets long_data (interrupt_conf h) f = no_octets
-body_octets long_data (reset h cause diagnostic) f = two cause diagnostic f.0 f.1
-body_octets long_data (reset_conf h) f = no_octets
-body_octets long_data (restart cause diagnostic) f = two cause diagnostic f.0 f.1
-body_octets long_data restart_conf f = no_octets
+body_octets : (wide long_data : Bool) (p : PlainPacket) → Fits wide long_data p → AreOctets (body_of p)
+body_octets wide long_data (call h called calling facilities user) f = call_octets called calling facilities user f.0 f.1 f.2 f.4
+body_octets wide long_data (accept h facilities) f = accept_octets facilities f
+body_octets wide long_data (clear h cause diagnostic) f = two cause diagnostic f.0 f.1
+body_octets wide long_data (clear_conf h) f = no_octets
+body_octets wide long_data (user_data h q m ps pr user) f = f.3
+body_octets wide long_data (rr h pr) f = no_octets
+body_octets wide long_data (rnr h pr) f = no_octets
+body_octets wide long_data (interrupt h user) f = f.2
+body_octets wide long_data (interrupt_conf h) f = no_octets
+body_octets wide long_data (reset h cause diagnostic) f = two cause diagnostic f.0 f.1
+body_octets wide long_data (reset_conf h) f = no_octets
+body_octets wide long_data (restart cause diagnostic) f = two cause diagnostic f.0 f.1
+body_octets wide long_data restart_conf f = no_octets
 
 -- ---- header
 
-format_low : (p : PlainPacket) → format_of p ≤ 9
+format_low : (p : PlainPacket) → format_of p ≤ 13
 format_low (call h called calling facilities user) = omega arith
 format_low (accept h facilities) = omega arith
 format_low (clear h cause diagnostic) = omega arith
@@ -190,20 +192,20 @@ format_low (reset_conf h) = omega arith
 format_low (restart cause diagnostic) = omega arith
 format_low restart_conf = omega arith
 
-type_low : (long_data : Bool) (p : PlainPacket) → Fits long_data p → type_of p < 256
-type_low long_data (call h called calling facilities user) f = omega arith
-type_low long_data (accept h facilities) f = omega arith
-type_low long_data (clear h cause diagnostic) f = omega arith
-type_low long_data (clear_conf h) f = omega arith
-type_low long_data (user_data h q m ps pr user) f = let b : bit m ≤ 1 = bit_low m in omega (arith, b, f.0, f.1)
-type_low long_data (rr h pr) f = omega (arith, f)
-type_low long_data (rnr h pr) f = omega (arith, f)
-type_low long_data (interrupt h user) f = omega arith
-type_low long_data (interrupt_conf h) f = omega arith
-type_low long_data (reset h cause diagnostic) f = omega arith
-type_low long_data (reset_conf h) f = omega arith
-type_low long_data (restart cause diagnostic) f = omega arith
-type_low long_data restart_conf f = omega arith
+type_low : (wide long_data : Bool) (p : PlainPacket) → Fits wide long_data p → type_of p < 256
+type_low wide long_data (call h called calling facilities user) f = omega arith
+type_low wide long_data (accept h facilities) f = omega arith
+type_low wide long_data (clear h cause diagnostic) f = omega arith
+type_low wide long_data (clear_conf h) f = omega arith
+type_low wide long_data (user_data h q m ps pr user) f = let b : bit m ≤ 1 = bit_low m in omega (arith, b, f.0, f.1)
+type_low wide long_data (rr h pr) f = omega (arith, f)
+type_low wide long_data (rnr h pr) f = omega (arith, f)
+type_low wide long_data (interrupt h user) f = omega arith
+type_low wide long_data (interrupt_conf h) f = omega arith
+type_low wide long_data (reset h cause diagnostic) f = omega arith
+type_low wide long_data (reset_conf h) f = omega arith
+type_low wide long_data (restart cause diagnostic) f = omega arith
+type_low wide long_data restart_conf f = omega arith
 
 channel_low : (p : PlainPacket) → IsOn p → channel_of p ≤ 4095
 channel_low (call h called calling facilities user) on = (on tt).1
@@ -220,12 +222,12 @@ channel_low (reset_conf h) on = (on tt).1
 channel_low (restart cause diagnostic) on = omega arith
 channel_low restart_conf on = omega arith
 
-header_octets : (long_data : Bool) (p : PlainPacket) → Fits long_data p → IsOn p → AreOctets (header_of p)
-header_octets long_data p f on =
+header_octets : (wide long_data : Bool) (p : PlainPacket) → Fits wide long_data p → IsOn p → AreOctets (header_of p)
+header_octets wide long_data p f on =
     let h : channel_of p ≤ 4095 = channel_low p on in
-    let first : format_of p ≤ 9 = format_low p in
+    let first : format_of p ≤ 13 = format_low p in
     octets_more (16 * format_of p + channel_of p / 256) (channel_of p % 256 ∷ type_of p ∷ []) (let e : 16 * format_of p + channel_of p / 256 < 256 = omega (arith, h, first) in e)
-    (octets_more (channel_of p % 256) (type_of p ∷ []) (let e : channel_of p % 256 < 256 = omega (arith, h) in e) (octets_more (type_of p) [] (type_low long_data p f) no_octets))
+    (octets_more (channel_of p % 256) (type_of p ∷ []) (let e : channel_of p % 256 < 256 = omega (arith, h) in e) (octets_more (type_of p) [] (type_low wide long_data p f) no_octets))
 
 -- ---- length
 
@@ -237,8 +239,8 @@ pub user_short : (long_data : Bool) → longest_user long_data ≤ 128
 user_short true = omega arith
 user_short false = omega arith
 
-body_short : (long_data : Bool) (p : PlainPacket) → Fits long_data p → length (body_of p) ≤ 4096
-body_short long_data (call h called calling facilities user) f =
+body_short : (wide long_data : Bool) (p : PlainPacket) → Fits wide long_data p → length (body_of p) ≤ 4096
+body_short wide long_data (call h called calling facilities user) f =
     let a : length (packed (called ++ calling)) ≡ (length (called ++ calling) + 1) / 2 = length_packed (called ++ calling) in
     let b : length (called ++ calling) ≡ length called + length calling = length-append called calling in
     let d : length (packed (called ++ calling) ++ (length facilities ∷ facilities ++ user)) ≡ length (packed (called ++ calling)) + length (length facilities ∷ facilities ++ user) =
@@ -247,29 +249,59 @@ body_short long_data (call h called calling facilities user) f =
     let few : length facilities ≤ 6 = field_short facilities f.2 in
     let short = user_short long_data in
     omega (arith, a, b, d, e, few, f.0.short, f.1.short, f.3, short)
-body_short long_data (accept h facilities) f = accept_short facilities (field_short facilities f)
-body_short long_data (clear h cause diagnostic) f = omega arith
-body_short long_data (clear_conf h) f = omega arith
-body_short long_data (user_data h q m ps pr user) f = f.2
-body_short long_data (rr h pr) f = omega arith
-body_short long_data (rnr h pr) f = omega arith
-body_short long_data (interrupt h user) f = omega (arith, f.1)
-body_short long_data (interrupt_conf h) f = omega arith
-body_short long_data (reset h cause diagnostic) f = omega arith
-body_short long_data (reset_conf h) f = omega arith
-body_short long_data (restart cause diagnostic) f = omega arith
-body_short long_data restart_conf f = omega arith
+body_short wide long_data (accept h facilities) f = accept_short facilities (field_short facilities f)
+body_short wide long_data (clear h cause diagnostic) f = omega arith
+body_short wide long_data (clear_conf h) f = omega arith
+body_short wide long_data (user_data h q m ps pr user) f = f.2
+body_short wide long_data (rr h pr) f = omega arith
+body_short wide long_data (rnr h pr) f = omega arith
+body_short wide long_data (interrupt h user) f = omega (arith, f.1)
+body_short wide long_data (interrupt_conf h) f = omega arith
+body_short wide long_data (reset h cause diagnostic) f = omega arith
+body_short wide long_data (reset_conf h) f = omega arith
+body_short wide long_data (restart cause diagnostic) f = omega arith
+body_short wide long_data restart_conf f = omega arith
 
 -- ---- reading
 
-pub readable : ReadsWhatIsSpelled → TakesWhatIsWritten → (long_data : Bool) (p : PlainPacket) → Fits long_data p → IsOn p → IsReadable long_data p
-readable reads takes long_data p f on =
-    let octets : AreOctets (spelling_of p) = All-append IsOctet (header_of p) (body_of p) (header_octets long_data p f on) (body_octets long_data p f) in
-    let short : length (body_of p) ≤ 4096 = body_short long_data p f in
+without_d : (long_data : Bool) (p : PlainPacket) → Fits false long_data p → IsWithoutD p
+without_d long_data (call h called calling facilities user) f = tt
+without_d long_data (accept h facilities) f = tt
+without_d long_data (clear h cause diagnostic) f = tt
+without_d long_data (clear_conf h) f = tt
+without_d long_data (user_data h q m ps pr user) f = by q.d f.4
+  where
+    by : (d : Bool) → (not d || false) ≡ true → d ≡ false
+    by true may = absurd (cc)
+    by false may = refl
+without_d long_data (rr h pr) f = tt
+without_d long_data (rnr h pr) f = tt
+without_d long_data (interrupt h user) f = tt
+without_d long_data (interrupt_conf h) f = tt
+without_d long_data (reset h cause diagnostic) f = tt
+without_d long_data (reset_conf h) f = tt
+without_d long_data (restart cause diagnostic) f = tt
+without_d long_data restart_conf f = tt
+
+pub readable : ReadsWhatIsSpelled → TakesWhatIsSpelled → (wide long_data : Bool) (p : PlainPacket) → Fits wide long_data p → IsOn p → IsReadable wide long_data p
+readable reads spelled wide long_data p f on =
+    let short : length (body_of p) ≤ 4096 = body_short wide long_data p f in
     record {
-      octets = octets;
+      in_range = in_range wide long_data p f on;
+      octets = octets wide f;
       short = omega (arith, short);
-      reads = λ wide. (
-          takes wide (longest_user long_data) p (spelling_of p)
-          ((reads (longest_user long_data) p (spelling_of p) octets).1 (record { in_range = in_range long_data p f on; spelling = refl })));
+      reads = by wide f;
+      reads_in_all = in_all wide f;
     }
+  where
+    octets : (b : Bool) → Fits b long_data p → AreOctets (spelling_of p)
+    octets b f = All-append IsOctet (header_of p) (body_of p) (header_octets b long_data p f on) (body_octets b long_data p f)
+
+    in_all : (b : Bool) → Fits b long_data p → read_in true (longest_user long_data) (spelling_of p) ≡ Ok p
+    in_all b f = spelled (longest_user long_data) p (user_short long_data) (octets b f) (in_range b long_data p f on)
+
+    by : (b : Bool) → Fits b long_data p → read_in b (longest_user long_data) (spelling_of p) ≡ Ok p
+    by true f = in_all true f
+    by false f =
+        (reads (longest_user long_data) p (spelling_of p) (octets false f)).1
+        (record { in_range = in_range false long_data p f on; without_d = without_d long_data p f; spelling = refl })

@@ -76,7 +76,7 @@ given_joined runs tells c g link w request step up few is = at (is_up link.phase
           r.1,
           record {
             packets = s.put;
-            link = record { accepted = rounds_given tells (backlog next.circuits lc.channels) lk g link lc (begin next put) up_link (owed next put up_link found); link = refl; out = refl };
+            link = record { accepted = rounds_given tells (backlog next.circuits lc.channels.count) lk g link lc (begin next put) up_link (owed next put up_link found); link = refl; out = refl };
             layer = record {
               layer = run.layer;
               given = run.given;

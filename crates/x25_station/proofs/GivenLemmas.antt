@@ -1,9 +1,10 @@
 -- What is given beside a packet the user of the other end is told, where that end reads the packet.
-use Rattle.std.proofs.Common.{ℕ, ◌≡◌, ◌≢◌, ◌∙◌, List, ◌++◌, Some, Result, Ok, Err, true, false, inl, refl, sym, ap, arith}
+use Rattle.std.proofs.Common.{ℕ, ◌≡◌, ◌≢◌, ◌∙◌, List, ◌++◌, Some, Result, Ok, Err, Bool, true, false, inl, refl, sym, ap, arith}
 use Rattle.x25_packet.specs.Packet as packet
 use Rattle.x25_packet.specs.Packet.{PlainPacket}
 use Rattle.x25_packet.specs.Reading.{packet_of}
-use Rattle.x25_packet.specs.Spelling.{IsInRange, spelling_of}
+use Rattle.x25_packet.specs.Spelling.{IsInRange, IsWithoutD, spelling_of}
+use Rattle.x25_packet.specs.declared.marks.Marks.{Marks}
 use Rattle.x25_packet.specs.declared.error.PacketError.{PacketError}
 use Rattle.x25_packet.specs.laws.ReadingLaw.{ReadsWhatIsSpelled}
 use Rattle.x25_wide.specs.Narrowing.{taken_of}
@@ -11,18 +12,49 @@ use Rattle.x25_wide.specs.Packet as wide
 use Rattle.x25_wide.specs.Packet.{PlainWide}
 use Rattle.x25_wide.specs.Reading.{wide_of}
 use Rattle.x25_wide.specs.Taking.{or_taken}
+use Rattle.x25_wide.specs.laws.TakingLaw.{TakesWhatIsSpelled}
 use Rattle.x25_given.specs.Given.{PlainGiven, may_give}
-use Rattle.x25_given.specs.Writing.{bare_block, call_block, fields, form_of, headed, written, written_read}
+use Rattle.x25_given.specs.Writing.{bare_block, call_block, fields, form_of, headed, write, written, written_read}
 use Rattle.x25_given.specs.laws.ReadingLaw.{MayGo, WrittenIsInForm, WrittenIsRead}
 use Rattle.x25_station.specs.Beside.{beside_in, beside_kind, beside_or_none, unless_written}
 use Rattle.x25_station.specs.laws.GivenLaw.{GivenIsTold, GivenIsWritten}
 use Rattle.x25_station.specs.laws.ReadLaw.{AreOctets}
 
-pub given_written : ReadsWhatIsSpelled → GivenIsWritten
-given_written reads g v range octets = ap (written_read g (spelling_of v)) ((reads 128 v (spelling_of v) octets).1 (record { in_range = range; spelling = refl }))
-
 ok_same : (u v : PlainPacket) → (let r : Result PlainPacket PacketError = Ok u in r ≡ Ok v) → u ≡ v
 ok_same u v e = cc
+
+-- a packet without D is read in the form that a station writes
+plainly : ReadsWhatIsSpelled → (g : PlainGiven) (v : PlainPacket) → IsInRange 128 v → IsWithoutD v → AreOctets (spelling_of v) → write g (spelling_of v) ≡ written g v
+plainly reads g v range none octets = ap (written_read g (spelling_of v)) ((reads 128 v (spelling_of v) octets).1 (record { in_range = range; without_d = none; spelling = refl }))
+
+-- data, which D isn't read of in that form, are as they are
+data_written : TakesWhatIsSpelled → (g : PlainGiven) (h : ℕ) (q : Marks) (m : Bool) (ps pr : ℕ) (user : List ℕ) → (let v = packet.user_data h q m ps pr user in IsInRange 128 v → AreOctets (spelling_of v) → write g (spelling_of v) ≡ spelling_of v)
+data_written spelled g h q m ps pr user range octets = by (packet_of 128 o) refl
+  where
+    v : PlainPacket
+    v = packet.user_data h q m ps pr user
+
+    o : List ℕ
+    o = spelling_of v
+
+    by : (r : Result PlainPacket PacketError) → packet_of 128 o ≡ r → written_read g o r ≡ o
+    by (Err e) is = refl
+    by (Ok u) is = ap (written g) (ok_same u v (sym (ap (λ (r : Result PlainPacket PacketError). or_taken r (taken_of (wide_of 128 o))) is) ∙ spelled 128 v (omega arith) octets range))
+
+pub given_written : ReadsWhatIsSpelled → TakesWhatIsSpelled → GivenIsWritten
+given_written reads spelled g (packet.user_data channel q m ps pr user) range octets = data_written spelled g channel q m ps pr user range octets
+given_written reads spelled g (packet.call channel called calling field user) range octets = plainly reads g (packet.call channel called calling field user) range tt octets
+given_written reads spelled g (packet.accept channel field) range octets = plainly reads g (packet.accept channel field) range tt octets
+given_written reads spelled g (packet.clear channel cause diagnostic) range octets = plainly reads g (packet.clear channel cause diagnostic) range tt octets
+given_written reads spelled g (packet.clear_conf channel) range octets = plainly reads g (packet.clear_conf channel) range tt octets
+given_written reads spelled g (packet.rr channel pr) range octets = plainly reads g (packet.rr channel pr) range tt octets
+given_written reads spelled g (packet.rnr channel pr) range octets = plainly reads g (packet.rnr channel pr) range tt octets
+given_written reads spelled g (packet.interrupt channel user) range octets = plainly reads g (packet.interrupt channel user) range tt octets
+given_written reads spelled g (packet.interrupt_conf channel) range octets = plainly reads g (packet.interrupt_conf channel) range tt octets
+given_written reads spelled g (packet.reset channel cause diagnostic) range octets = plainly reads g (packet.reset channel cause diagnostic) range tt octets
+given_written reads spelled g (packet.reset_conf channel) range octets = plainly reads g (packet.reset_conf channel) range tt octets
+given_written reads spelled g (packet.restart cause diagnostic) range octets = plainly reads g (packet.restart cause diagnostic) range tt octets
+given_written reads spelled g packet.restart_conf range octets = plainly reads g packet.restart_conf range tt octets
 
 -- octets that are no packet in the form that a station writes
 told_by : (o : List ℕ) (w : PlainWide) (r : Result PlainPacket PacketError) → packet_of 128 o ≡ r → ((u : PlainPacket) → packet_of 128 o ≡ Ok u → ⊥) → wide_of 128 o ≡ Ok w → unless_written r (beside_or_none (wide_of 128 o)) ≡ beside_kind w.kind

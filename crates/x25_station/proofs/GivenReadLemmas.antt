@@ -13,6 +13,7 @@ use Rattle.x25_packet.specs.Spelling.{IsInRange, addresses, body_of, header_of, 
 use Rattle.x25_packet.specs.laws.ReadingLaw.{ReadsWhatIsSpelled}
 use Rattle.x25_wide.specs.Facilities.{are_facilities, none_own, own_in}
 use Rattle.x25_wide.specs.Taking.{read_in}
+use Rattle.x25_wide.specs.laws.TakingLaw.{TakesWhatIsSpelled}
 use Rattle.x25_given.specs.Given.{PlainGiven, may_give}
 use Rattle.x25_given.specs.Writing.{write, written}
 use Rattle.x25_given.specs.laws.ReadingLaw.{WrittenIsInForm, WrittenIsRead}
@@ -79,7 +80,7 @@ fields_octets field user few of_field of_user = octets_more (length field) (fiel
 fields_short : (field user : List ℕ) → length field ≤ 109 → length user ≤ 128 → length (length field ∷ field ++ user) ≤ 238
 fields_short field user few short = let e : length (field ++ user) ≡ length field + length user = length-append field user in omega (arith, e, few, short)
 
-module _ (reads : ReadsWhatIsSpelled) (read : WrittenIsRead) (long_data : Bool) (g : PlainGiven) (allowed : may_give g ≡ true) (octets : GivesOctets g) where
+module _ (read : WrittenIsRead) (wide long_data : Bool) (g : PlainGiven) (allowed : may_give g ≡ true) (octets : GivesOctets g) where
   -- the station's own facilities, and those that are given
   both_few : (field : List ℕ) → IsFacilityField field → length (field ++ g.facilities) ≤ 109
   both_few field is =
@@ -91,7 +92,7 @@ module _ (reads : ReadsWhatIsSpelled) (read : WrittenIsRead) (long_data : Bool) 
   both_octets : (field : List ℕ) → IsFacilityField field → AreOctets (field ++ g.facilities)
   both_octets field is = All-append IsOctet field g.facilities (field_octets field is) octets.0
 
-  call_read : (h : ℕ) (called calling field user : List ℕ) → (let v = call h called calling field user in IsInRange (longest_user long_data) v → IsReadable long_data v → IsReadInAll long_data (written g v) v)
+  call_read : (h : ℕ) (called calling field user : List ℕ) → (let v = call h called calling field user in IsInRange (longest_user long_data) v → IsReadable wide long_data v → IsReadInAll long_data (written g v) v)
   call_read h called calling field user range r =
       let v = call h called calling field user in
       let most = longest_user long_data in
@@ -133,7 +134,7 @@ module _ (reads : ReadsWhatIsSpelled) (read : WrittenIsRead) (long_data : Bool) 
         reads = read g most v low allowed range tt all;
       }
 
-  clear_read : (h cause diagnostic : ℕ) → (let v = clear h cause diagnostic in IsInRange (longest_user long_data) v → IsReadable long_data v → IsReadInAll long_data (written g v) v)
+  clear_read : (h cause diagnostic : ℕ) → (let v = clear h cause diagnostic in IsInRange (longest_user long_data) v → IsReadable wide long_data v → IsReadInAll long_data (written g v) v)
   clear_read h cause diagnostic range r =
       let v = clear h cause diagnostic in
       let most = longest_user long_data in
@@ -152,10 +153,10 @@ module _ (reads : ReadsWhatIsSpelled) (read : WrittenIsRead) (long_data : Bool) 
       }
 
   -- all others are as they are
-  same_read : (v : PlainPacket) → IsReadable long_data v → IsReadInAll long_data (spelling_of v) v
-  same_read v r = record { octets = r.octets; short = r.short; reads = r.reads true }
+  same_read : (v : PlainPacket) → IsReadable wide long_data v → IsReadInAll long_data (spelling_of v) v
+  same_read v r = record { octets = r.octets; short = r.short; reads = r.reads_in_all }
 
-  by_kind : (v : PlainPacket) → IsInRange (longest_user long_data) v → IsReadable long_data v → IsReadInAll long_data (written g v) v
+  by_kind : (v : PlainPacket) → IsInRange (longest_user long_data) v → IsReadable wide long_data v → IsReadInAll long_data (written g v) v
   by_kind (call h called calling field user) range r = call_read h called calling field user range r
   by_kind (accept h field) range r = accept_read h field range
   by_kind (clear h cause diagnostic) range r = clear_read h cause diagnostic range r
@@ -170,24 +171,22 @@ module _ (reads : ReadsWhatIsSpelled) (read : WrittenIsRead) (long_data : Bool) 
   by_kind (restart cause diagnostic) range r = same_read (restart cause diagnostic) r
   by_kind restart_conf range r = same_read restart_conf r
 
-pub given_read : ReadsWhatIsSpelled → WrittenIsRead → GivenIsRead
-given_read reads read long_data g v allowed octets r =
-    let most = longest_user long_data in
-    let range : IsInRange most v = ((reads most v (spelling_of v) r.octets).0 (r.reads false)).in_range in
-    let same = given_written reads g v (wider most (user_short long_data) v range) r.octets in
-    subst (λ (o : List ℕ). IsReadInAll long_data o v) (sym same) (by_kind reads read long_data g allowed octets v range r)
+pub given_read : ReadsWhatIsSpelled → TakesWhatIsSpelled → WrittenIsRead → GivenIsRead
+given_read reads spelled read wide long_data g v allowed octets r =
+    let range : IsInRange (longest_user long_data) v = r.in_range in
+    let same = given_written reads spelled g v (wider (longest_user long_data) (user_short long_data) v range) r.octets in
+    subst (λ (o : List ℕ). IsReadInAll long_data o v) (sym same) (by_kind read wide long_data g allowed octets v range r)
 
 -- so the user of the other end is told the same of it, and then what was given
-pub given_heard : ReadsWhatIsSpelled → WrittenIsRead → WrittenIsInForm → GivenIsHeard
-given_heard reads read form c l g v wide allowed octets readable other =
+pub given_heard : ReadsWhatIsSpelled → TakesWhatIsSpelled → WrittenIsRead → WrittenIsInForm → GivenIsHeard
+given_heard reads spelled read form c l g v wide allowed octets readable other =
     let lc : LayerSettings = layer_settings c in
     let most = longest_user c.long_data in
     let o = write g (spelling_of v) in
-    let range = ((reads most v (spelling_of v) readable.octets).0 (readable.reads false)).in_range in
-    let within = wider most (user_short c.long_data) v range in
-    let same : o ≡ written g v = given_written reads g v within readable.octets in
-    let r = given_read reads read c.long_data g v allowed octets readable in
+    let within = wider most (user_short c.long_data) v readable.in_range in
+    let same : o ≡ written g v = given_written reads spelled g v within readable.octets in
+    let r = given_read reads spelled read c.wide c.long_data g v allowed octets readable in
     let is : beside_in true o ≡ told g v = subst (λ (x : List ℕ). beside_in true x ≡ told g v) (sym same) (given_told reads read form g v allowed within (subst AreOctets same r.octets) (λ e. other (same ∙ e))) in
     let answer : layer_answer lc c.wide l o ≡ layer_answer lc c.wide l (spelling_of v) =
-    ap (answer_to lc l o) (ap (λ (b : Bool). read_in b most o) wide ∙ r.reads) ∙ sym (ap (answer_to lc l (spelling_of v)) (readable.reads c.wide)) in
+    ap (answer_to lc l o) (ap (λ (b : Bool). read_in b most o) wide ∙ r.reads) ∙ sym (ap (answer_to lc l (spelling_of v)) readable.reads) in
     ap₂ (λ (a : LayerAnswer) (b : PlainBeside). entries_of_answer a ++ entries_beside b (bringing a.notices)) answer (ap (λ (b : Bool). beside_in b o) wide ∙ is)

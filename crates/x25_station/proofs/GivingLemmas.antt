@@ -46,7 +46,7 @@ use Rattle.x25_station.specs.code.PlainEntry.{plain_entry}
 use Rattle.x25_station.specs.code.FitsParts.{FitsParts, AreMeant}
 use Rattle.x25_station.specs.code.FitsStation as station
 use Rattle.x25_station.specs.code.FitsStation.{FitsStation, Does, IsEmpty}
-use Rattle.x25_station.proofs.AskLemmas.{taken_link, IsNamed, calls_named, still_fits}
+use Rattle.x25_station.proofs.AskLemmas.{taken_link, IsNamed, calls_named, still_fits, Judges}
 use Rattle.x25_station.proofs.AskedEntryLemmas.{asked_entry, dialled_entry, asked_channel, free_is_channel}
 use Rattle.x25_station.proofs.DoesLemmas.{declines}
 use Rattle.x25_station.proofs.FrameLemmas.{count_of, put_lower, all_lower, said_few}
@@ -116,7 +116,7 @@ round_given tells c g s lc (suc n) p up all = pull_given tells c g s lc (suc n) 
 pub rounds_given : PutTells → (k : ℕ) (c : LinkSettings) (g : PlainGiven) (s : LinkStation) (lc : LayerSettings) (p : Putting) → is_up s.phase ≡ true → AreTaken c g p.put (alone s)
     → AreTaken c g (rounds_of k (view_given c g s) lc p).put (alone s)
 rounds_given tells zero c g s lc p up all = all
-rounds_given tells (suc k) c g s lc p up all = rounds_given tells k c g s lc (round (view_given c g s) lc lc.channels p) up (round_given tells c g s lc lc.channels p up all)
+rounds_given tells (suc k) c g s lc p up all = rounds_given tells k c g s lc (round (view_given c g s) lc lc.channels.count p) up (round_given tells c g s lc lc.channels.count p up all)
 
 -- ---- what each such step keeps
 
@@ -153,7 +153,7 @@ given_kept tells c s g request kept = at (is_up s.link.phase) refl (layer_outcom
     at true up (Accepted next put) found =
         let p : Putting = rounds view lc (begin next put) in
         if_taken (is_taken c g request) (with_given c g (alone s.link) p (entries_of_outcome lc s.layer request (Accepted next put))) (record {
-          few = given_few lk g p.put (alone s.link) (rounds_given tells (backlog next.circuits lc.channels) lk g s.link lc (begin next put) up (accepted next put up found)) kept.few;
+          few = given_few lk g p.put (alone s.link) (rounds_given tells (backlog next.circuits lc.channels.count) lk g s.link lc (begin next put) up (accepted next put up found)) kept.few;
           rests = λ is. absurd (true_false (sym (given_up tells lk g p.put (alone s.link) up) ∙ is));
         })
 
@@ -371,10 +371,6 @@ judged_same : (c : Settings) (g : PlainGiven) (s : Station) (request : LayerRequ
 judged_same c g s request =
     ap (λ (view : LinkView). refusal_of (calls view (layer_settings c) s.layer request)) (same_view (link_settings c) (alone s.link))
     ∙ refusal_same (view_of (link_settings c) s.link) (view_given (link_settings c) g s.link) (layer_settings c) (layer_outcome (layer_settings c) (waits s.link.outgoing == 256) s.layer request) (is_up s.link.phase)
-
--- why the layer would refuse it
-abbrev pub Judges : Option LayerError → ShownLink → layer_code.Layer → LayerRequest → Type 0
-Judges o l y request = (d : LayerSettings) (k : Layer) (x : LinkState) → FitsLayer d y k → FitsWhole l x → o ≡ refusal_of (calls (over.view_of up_at waits_of after_put_to x) d k request)
 
 judged : (o : Option LayerError) (old : code.Station) (c : Settings) (g : PlainGiven) (s : Station) (request : LayerRequest) → FitsStation c old s → Judges o old.link old.layer request → o ≡ refusal_of (answered_given c g s request)
 judged o old c g s request fits judges =

@@ -66,7 +66,7 @@ zero_true e = cc
 circuit_on : (c : Settings) (v : code.Station) (s : Station) (h : ℕ) → FitsStation c v s → is_channel c.channels h ≡ true → (u : circuit_code.Circuit) × FitsCircuit (layer_settings c).circuit u (s.layer.circuits h)
 circuit_on c v s zero fits is = absurd (zero_true is)
 circuit_on c v s (suc k) fits is =
-    let high : suc k ≤ c.channels = leb-true (suc k) c.channels (and_parts (nat_le 1 (suc k)) (nat_le (suc k) c.channels) is).1 in
+    let high : suc k ≤ c.channels.count = leb-true (suc k) c.channels.count (and_parts (nat_le 1 (suc k)) (nat_le (suc k) c.channels.count) is).1 in
     let n = fits.layer.channels in
     let f = found v.layer.circuits.items k (omega (arith, high, n)) in
     (f.item, fits.layer.circuits k f.item f.is)

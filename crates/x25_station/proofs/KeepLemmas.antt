@@ -21,14 +21,15 @@ use Rattle.x25_layer.specs.Layer.{LayerSettings, Layer, goes_up}
 use Rattle.x25_layer.specs.Calls.{LayerOutcome, Accepted, Declined, layer_outcome}
 use Rattle.x25_layer.specs.Rounds.{LinkView, Putting, begin, rounds, Refuses, went}
 use Rattle.x25_station.specs.Config.{Settings, link_settings, layer_settings}
-use Rattle.x25_station.specs.Command.{Requests, RequestsWith, Connects, Disconnects, Probes, Relinks, said_by}
+use Rattle.x25_station.specs.Command.{Requests, RequestsWith, Connects, Disconnects, Probes, Relinks, said_by, may_ask}
 use Rattle.x25_station.specs.Entry.{StationEntry, connect_asked, disconnect_asked, relink_asked}
 use Rattle.x25_station.specs.Station.{Station, put_on, all_put, view_of}
-use Rattle.x25_station.specs.Step.{Step, with_puts, layer_at, layer_answer, follows, led_by, unless, abandons, entries_of_outcome, did}
+use Rattle.x25_station.specs.Step.{Step, with_puts, layer_at, layer_answer, follows, led_by, unless, abandons, entries_of_outcome, did, requests_of}
 use Rattle.x25_station.specs.laws.JoinLaw.{AreAccepted}
 use Rattle.x25_station.specs.laws.KeepLaw.{IsKept, KeptBy, ConnectKeeps, TimerKeeps, RequestKeeps, GivenKeeps, CommandKeeps, ReceiveKeeps}
 use Rattle.x25_station.proofs.PutLemmas.{all_up, rounds_accepted, begin_accepted}
 use Rattle.x25_station.proofs.RequestLemmas.{has_room}
+use Rattle.x25_station.proofs.MayLemmas.{where_holds}
 
 -- ---- what waits in the link
 
@@ -228,7 +229,8 @@ pub below : (n : ℕ) → n ≤ 256 → (n == 256) ≡ false → n < 256
 below n low differ = omega (arith, low, (λ (e : n ≡ 256). true_false (sym (eq-eqb n 256 e) ∙ differ)))
 
 pub request_kept : PutTells → RequestKeeps
-request_kept tells c s request kept = at (is_up s.link.phase) refl (layer_outcome lc full s.layer request) refl
+request_kept tells c s request kept =
+    where_holds KeptBy (may_ask c.wide request) (requests_of c s.link s.layer view request) (λ e. tt) (at (is_up s.link.phase) refl (layer_outcome lc full s.layer request) refl)
   where
     lc : LayerSettings
     lc = layer_settings c

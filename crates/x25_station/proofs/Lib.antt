@@ -1,6 +1,7 @@
 pub mod PutLemmas
 pub mod EntryLemmas
 pub mod RequestLemmas
+pub mod MayLemmas
 pub mod JoinLemmas
 pub mod FieldLemmas
 pub mod CircuitLemmas
@@ -23,6 +24,7 @@ pub mod GivenJoinLemmas
 pub mod GivingLemmas
 pub mod TakeLemmas
 pub mod TookLemmas
+pub mod ConfirmLemmas
 pub mod FollowLemmas
 pub mod HoldLemmas
 pub mod OctetLemmas

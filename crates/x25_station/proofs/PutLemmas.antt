@@ -67,11 +67,11 @@ round_accepted tells c t lc (suc n) s up all = pull_accepted tells c t lc (suc n
 rounds_of_accepted : PutTells → (k : ℕ) (c : LinkSettings) (t : Side) (lc : LayerSettings) (s : Putting) → is_up t.near.phase ≡ true → AreAccepted c s.put t
     → AreAccepted c (rounds_of k (view_of c t.near) lc s).put t
 rounds_of_accepted tells zero c t lc s up all = all
-rounds_of_accepted tells (suc k) c t lc s up all = rounds_of_accepted tells k c t lc (round (view_of c t.near) lc lc.channels s) up (round_accepted tells c t lc lc.channels s up all)
+rounds_of_accepted tells (suc k) c t lc s up all = rounds_of_accepted tells k c t lc (round (view_of c t.near) lc lc.channels.count s) up (round_accepted tells c t lc lc.channels.count s up all)
 
 pub rounds_accepted : PutTells → (c : LinkSettings) (t : Side) (lc : LayerSettings) (s : Putting) → is_up t.near.phase ≡ true → AreAccepted c s.put t
     → AreAccepted c (rounds (view_of c t.near) lc s).put t
-rounds_accepted tells c t lc s = rounds_of_accepted tells (backlog s.layer.circuits lc.channels) c t lc s
+rounds_accepted tells c t lc s = rounds_of_accepted tells (backlog s.layer.circuits lc.channels.count) c t lc s
 
 -- what is owed, and the rounds behind it
 pub begin_accepted : (c : LinkSettings) (t : Side) (owed : Option PlainPacket) → is_up t.near.phase ≡ true → waits t.near.outgoing < 256 → AreAccepted c (option_to_list owed) t

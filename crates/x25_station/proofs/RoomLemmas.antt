@@ -18,7 +18,8 @@ use Rattle.x25_station.specs.Config.{Settings, link_settings, layer_settings}
 use Rattle.x25_station.specs.Entry.{StationEntry}
 use Rattle.x25_station.specs.Station.{Station, view_of}
 use Rattle.x25_station.specs.Station.Told.{room, is_refused}
-use Rattle.x25_station.specs.Step.{did, requests}
+use Rattle.x25_station.specs.Command.{may_mark}
+use Rattle.x25_station.specs.Step.{did, requests, requests_of, where_asked}
 
 abbrev fails : CircuitOutcome → Bool
 fails (Done next packet) = false
@@ -87,8 +88,8 @@ no_room true true configured n is e = refl
 no_room true false false n is e = refl
 no_room true false true n is e = e
 
-pub room_is_what_is_taken : (c : Settings) (s : Station) (h : ℕ) (q : Marks) (user : List ℕ) → length user ≤ 65535 → (room c s h == 0) ≡ is_refused (requests c s (Asks h (Sends q user)))
-room_is_what_is_taken c s h q user short =
+pub room_is_what_is_taken : (c : Settings) (s : Station) (h : ℕ) (q : Marks) (user : List ℕ) → may_mark c.wide q ≡ true → length user ≤ 65535 → (room c s h == 0) ≡ is_refused (requests c s (Asks h (Sends q user)))
+room_is_what_is_taken c s h q user may short =
     let lc = layer_settings c in
     let up = is_up s.link.phase in
     let view = view_of (link_settings c) s.link in
@@ -96,7 +97,8 @@ room_is_what_is_taken c s h q user short =
     let made = outcome_in lc is_full s.layer.restarting s.layer.restarts s.layer.circuits (Asks h (Sends q user)) in
     no_room up s.layer.restarting (is_channel lc.channels h) (message_room (s.layer.circuits h)) _ (in_circuit lc.circuit (s.layer.circuits h) q user short)
     ∙ sym (
-    at_station c _ _ (if up then went view lc made else Refuses error.NotUp)
+    ap (λ (b : Bool). is_refused (where_asked b (requests_of c s.link s.layer view (Asks h (Sends q user))))) may
+    ∙ at_station c _ _ (if up then went view lc made else Refuses error.NotUp)
     ∙ over_link view lc up made error.NotUp
     ∙ ap (λ (b : Bool). if up then b else true) (in_layer lc is_full s.layer.restarting s.layer.restarts s.layer.circuits h q user)
     )

@@ -3,7 +3,7 @@ use Rattle.std.proofs.Common.{◌≡◌, ℕ, ◌==◌, List, [], Option, Some, 
 use Rattle.std.proofs.lemmas.Option.{same_Some}
 use Rattle.x25_circuit.specs.declared.params.Params.{Params}
 use Rattle.x25_circuit.specs.Params.{Proposal, in_brief}
-use Rattle.x25_circuit.specs.Calling.{Request, outcome}
+use Rattle.x25_circuit.specs.Calling.{Request, Accepts, outcome}
 use Rattle.x25_layer.specs.declared.error.LayerError.TheVariants as layer_error
 use Rattle.x25_layer.specs.Layer.{LayerSettings, is_channel}
 use Rattle.x25_layer.specs.Calls.{Asks, LayerOutcome, Declined, layer_outcome, outcome_in, outcome_on, if_at_once, puts_at_once}
@@ -13,7 +13,7 @@ use Rattle.x25_station.specs.Config.{Settings, link_settings, layer_settings}
 use Rattle.x25_station.specs.Command.{proposal_said}
 use Rattle.x25_station.specs.Entry.{StationEntry}
 use Rattle.x25_station.specs.Station.{Station, view_of}
-use Rattle.x25_station.specs.Step.{Outcome, did, entries_of_outcome, requests}
+use Rattle.x25_station.specs.Step.{Outcome, did, entries_of_outcome, requests, requests_of}
 
 -- ---- what is said
 
@@ -73,12 +73,13 @@ module _ (c : Settings) (s : Station) (h : ℕ) (nowhere : is_channel c.channels
   with_outcome : LayerOutcome → List StationEntry → Outcome
   with_outcome o entries = did c (alone s.link) entries (if view.is_up then went view lc o else Refuses layer_error.NotUp)
 
-  is_refused : (request : Request) → requests c s (Asks h request) ≡ with_outcome (declined s.layer.restarting) []
+  is_refused : (request : Request) → requests_of c s.link s.layer view (Asks h request) ≡ with_outcome (declined s.layer.restarting) []
   unfolding with_outcome view lc full
   is_refused request =
       ap (λ (o : LayerOutcome). with_outcome o (entries_of_outcome lc s.layer (Asks h request) o)) (refused request)
       ∙ ap (with_outcome (declined s.layer.restarting)) (no_entry request s.layer.restarting)
 
-  -- it doesn't matter what is asked
-  pub nowhere_alike : (r q : Request) → requests c s (Asks h r) ≡ requests c s (Asks h q)
-  nowhere_alike r q = is_refused r ∙ sym (is_refused q)
+  -- it doesn't matter what an acceptance says
+  pub nowhere_alike : (a b : Option Proposal) → requests c s (Asks h (Accepts a)) ≡ requests c s (Asks h (Accepts b))
+  unfolding view
+  nowhere_alike a b = is_refused (Accepts a) ∙ sym (is_refused (Accepts b))

@@ -27,7 +27,7 @@ use Rattle.x25_layer.specs.Calls.{PullsAll, outcome_in, layer_outcome}
 use Rattle.x25_layer.specs.Rounds.{LinkView, Answered, Went, Refuses, Putting, begin, rounds, went, calls}
 use Rattle.x25_given.specs.Given.{PlainGiven}
 use Rattle.x25_given.specs.Writing.{write}
-use Rattle.x25_station.specs.Command.{Requests, RequestsWith, Connects, Disconnects, Probes, Relinks, said_by}
+use Rattle.x25_station.specs.Command.{Requests, RequestsWith, Connects, Disconnects, Probes, Relinks, said_by, may_ask}
 use Rattle.x25_station.specs.Config.{Settings, link_settings, layer_settings}
 use Rattle.x25_station.specs.Entry.{StationEntry, connect_asked, disconnect_asked, relink_asked}
 use Rattle.x25_station.specs.Giving.{all_given, view_given, is_taken}
@@ -35,12 +35,13 @@ use Rattle.x25_station.specs.Station as station
 use Rattle.x25_station.specs.Station.{Station, put_on, all_put, view_of}
 use Rattle.x25_station.specs.Pulling.{pulled_of}
 use Rattle.x25_station.specs.Station.Told.{is_at_rest}
-use Rattle.x25_station.specs.Step.{Step, with_puts, layer_at, follows, led_by, unless, abandons, entries_of_outcome, did, gave}
+use Rattle.x25_station.specs.Step.{Step, with_puts, layer_at, follows, led_by, unless, abandons, entries_of_outcome, did, gave, requests_of}
 use Rattle.x25_station.specs.Timer.{runs}
 use Rattle.x25_station.specs.laws.TimerLaw as timer
 use Rattle.x25_station.specs.laws.SettledLaw.{IsSettled, SettledBy, NewIsSettled, StaysSettled, SettledAsks, GoesOn, PullsGoOn}
 use Rattle.x25_station.proofs.AwaitLemmas.{awaits_in, SameStates, rounds_same}
 use Rattle.x25_station.proofs.UnheardLemmas.{Lasts, ended_lasts, put_lasts, all_put_lasts}
+use Rattle.x25_station.proofs.MayLemmas.{where_holds}
 
 -- the laws of the link that are used
 pub record LinkSettles : Type 0 where
@@ -181,7 +182,9 @@ stays_settled laws c s timer.Fires small h =
     let lc : LinkSettings = link_settings c in
     unless_settled laws c s small (timer_refusal s.link) (follows c s.layer (timer_step lc s.link)) (follows_settled laws c s small (timer_step lc s.link) (timer_settled laws lc small s.link (record { said = h.said; sound = h.sound })))
 stays_settled laws c s (timer.Asks (Requests request)) small h =
-    went_settled laws c s small _ (calls (view_of (link_settings c) s.link) (layer_settings c) s.layer (said_by c.say_sizes s.layer request)) (record { said = h.said; sound = h.sound })
+    let said = said_by c.say_sizes s.layer request in
+    let view = view_of (link_settings c) s.link in
+    where_holds (SettledBy c) (may_ask c.wide said) (requests_of c s.link s.layer view said) (λ e. tt) (went_settled laws c s small _ (calls view (layer_settings c) s.layer said) (record { said = h.said; sound = h.sound }))
 stays_settled laws c s (timer.Asks (RequestsWith given request)) small h =
     let said = said_by c.say_sizes s.layer request in
     gave_settled laws c s small given (is_taken c given said) _ (calls (view_given (link_settings c) given s.link) (layer_settings c) s.layer said) (record { said = h.said; sound = h.sound })

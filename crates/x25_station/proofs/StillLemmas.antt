@@ -27,16 +27,17 @@ use Rattle.x25_circuit.specs.Params.{default_params}
 use Rattle.x25_layer.specs.declared.error.LayerError.TheVariants as layer_error
 use Rattle.x25_layer.specs.Layer.{LayerSettings, Layer, LayerAnswer, is_channel, is_ready, put_at, packet_on, restarting_from}
 use Rattle.x25_layer.specs.Calls.{LayerRequest, Asks, Restarts, LayerOutcome, Accepted, Declined, outcome_on, outcome_in, layer_outcome}
+use Rattle.x25_layer.specs.Room.{named_by}
 use Rattle.x25_layer.specs.Rounds.{LinkView, Putting, begin, rounds, went, Refuses}
 use Rattle.x25_layer.specs.code.FitsLayer.{awaited_at}
-use Rattle.x25_station.specs.Command.{Requests, RequestsWith, Connects, Disconnects, Probes, Relinks, said_by}
+use Rattle.x25_station.specs.Command.{Requests, RequestsWith, Connects, Disconnects, Probes, Relinks, said_by, may_ask}
 use Rattle.x25_station.specs.Config.{Settings, link_settings, layer_settings}
 use Rattle.x25_station.specs.Beside.{beside_in}
-use Rattle.x25_station.specs.Entry.{StationEntry, of_channel, restart_asked, connect_asked, disconnect_asked, relink_asked, link_up, link_down, was_restarted, restart_confirmed, at_fault, came_beside, was_diagnosed, entries_down, entries_up, station_asked, bringing, entries_beside}
+use Rattle.x25_station.specs.Entry.{StationEntry, of_channel, restart_asked, connect_asked, disconnect_asked, relink_asked, link_up, link_down, was_restarted, restart_confirmed, at_fault, came_beside, was_diagnosed, was_confirmed, entries_down, entries_up, station_asked, bringing, entries_beside, entries_behind}
 use Rattle.x25_given.specs.Given.{PlainGiven}
 use Rattle.x25_station.specs.Giving.{view_given, is_taken}
 use Rattle.x25_station.specs.Station.{Station, view_of}
-use Rattle.x25_station.specs.Step.{Step, Outcome, Did, Refused, with_puts, layer_at, layer_answer, entries_of_answer, follows, led_by, unless, abandons, entries_heard, entries_of_outcome, did, requests, with_given, gave, gives}
+use Rattle.x25_station.specs.Step.{Step, Outcome, Did, Refused, with_puts, layer_at, layer_answer, confirmed_by, entries_of_answer, follows, led_by, unless, abandons, entries_heard, entries_of_outcome, did, requests, with_given, gave, gives, requests_of, where_asked}
 use Rattle.x25_station.specs.Timer.{is_of_link, tells_link}
 use Rattle.x25_station.specs.laws.TimerLaw as timer
 use Rattle.x25_station.specs.laws.EndLaw.{is_answered_on, is_left_on, IsTold, EndIsTold}
@@ -45,6 +46,7 @@ use Rattle.x25_station.proofs.AwaitLemmas.{Kind, in_call, in_collision, in_reset
 use Rattle.x25_station.proofs.KeepLemmas.{LinkLaws}
 use Rattle.x25_station.proofs.PutLemmas.{all_up}
 use Rattle.x25_station.proofs.UnheardLemmas.{all_given_last}
+use Rattle.x25_station.proofs.MayLemmas.{where_holds}
 
 -- ---- a link that is up
 
@@ -131,14 +133,17 @@ module _ (c : Settings) (s : Station) (h : ℕ) where
         by p None is_d true is_u none = absurd (true≢false none)
         by (Some octets) None is_d false is_u none =
             let a : LayerAnswer = layer_answer lc c.wide s.layer octets in
-            leads_more (with_puts c k.side (layer_at view lc c.wide s.layer (Some octets) None false) []).near (entries_of_answer a) (entries_beside (beside_in c.wide octets) (bringing a.notices))
+            leads_more (with_puts c k.side (layer_at view lc c.wide s.layer (Some octets) None false) []).near (entries_of_answer a)
+            (entries_behind a.next (named_by octets) (confirmed_by lc c.wide s.layer a.next (named_by octets)) (entries_beside (beside_in c.wide octets) (bringing a.notices)))
             (put_leads k.side a.next a.owed (entries_of_answer a) (t.stays (noted None false is_d is_u) ∙ up) (answer_moves lc h s.layer octets (read_in c.wide (longest_user c.long_data) octets) high_up))
         by None None is_d false is_u none =
             leads (with_puts c k.side (layer_at view lc c.wide s.layer None None false) []).near [] up (t.stays (noted None false is_d is_u) ∙ up) (inl (refl, refl))
 
     -- a request of the layer
     request_leads : (request : LayerRequest) → Goes (requests c s request)
-    request_leads request = at (is_up s.link.phase) refl (layer_outcome lc full s.layer request) (asked_moves lc h full s.layer request high_up)
+    request_leads request =
+        where_holds Goes (may_ask c.wide request) (requests_of c s.link s.layer view request) (λ e. tt)
+        (at (is_up s.link.phase) refl (layer_outcome lc full s.layer request) (asked_moves lc h full s.layer request high_up))
       where
         full : Bool
         full = waits s.link.outgoing == 256
@@ -233,6 +238,7 @@ link_answers h awaits (entry ∷ entries) is = by entry is (λ later. link_answe
     by (at_fault diagnostic) told rest = rest told
     by (came_beside channel facilities user) told rest = rest told
     by (was_diagnosed diagnostic) told rest = rest told
+    by (was_confirmed channel name count) told rest = rest told
 
 pub end_is_told : LinkLaws → EndIsTold
 end_is_told laws c s h event high = by (timer.outcome c s event) (goes_on laws c s h event high)
@@ -275,11 +281,12 @@ module _ (tells : PutTells) (c : Settings) (s : Station) (request : LayerRequest
   abbrev accepted_step : Step
   accepted_step = with_puts c (alone s.link) put (entries_of_outcome (layer_settings c) s.layer request (Accepted next packet))
 
-  accepted : requests c s request ≡ Did accepted_step
-  accepted =
+  accepted : may_ask c.wide request ≡ true → requests c s request ≡ Did accepted_step
+  accepted may =
       let lc : LayerSettings = layer_settings c in
       let view : LinkView = view_of (link_settings c) s.link in
-      ap (λ (b : Bool). did c (alone s.link) (entries_of_outcome lc s.layer request (layer_outcome lc (waits s.link.outgoing == 256) s.layer request)) (if b then went view lc (layer_outcome lc (waits s.link.outgoing == 256) s.layer request) else Refuses layer_error.NotUp)) up
+      ap (λ (b : Bool). where_asked b (requests_of c s.link s.layer view request)) may
+      ∙ ap (λ (b : Bool). did c (alone s.link) (entries_of_outcome lc s.layer request (layer_outcome lc (waits s.link.outgoing == 256) s.layer request)) (if b then went view lc (layer_outcome lc (waits s.link.outgoing == 256) s.layer request) else Refuses layer_error.NotUp)) up
       ∙ ap (λ (b : Bool). did c (alone s.link) (entries_of_outcome lc s.layer request (layer_outcome lc b s.layer request)) (went view lc (layer_outcome lc b s.layer request))) (not_full (waits s.link.outgoing) low)
       ∙ ap (λ (o : LayerOutcome). did c (alone s.link) (entries_of_outcome lc s.layer request o) (went view lc o)) is
 
@@ -337,7 +344,7 @@ clear_leads_on tells c s h is low =
     ∙ ap (outcome_on l.restarts l.circuits h) (clears_it lc.circuit x old.kind old.awaits) in
     let at_h : (next.circuits h).state ≡ Clearing = ap (λ (b : Bool). let y : Circuit = if b then gone else x in y.state) (eq-eqb h h refl) in (
       accepted_step tells c s request next packet old.phase low found,
-      accepted tells c s request next packet old.phase low found,
+      accepted tells c s request next packet old.phase low found refl,
       accepted_rank tells c s request next packet old.phase low found h false Clearing refl at_h
           ∙ ap (λ (b : Bool). rank_of Up false (awaits_in b Clearing)) old.configured,
     )
@@ -351,6 +358,6 @@ restart_leads_on tells c s up ready low =
     let packet : Option PlainPacket = Some (restart 0 0) in
     let found : layer_outcome lc false l request ≡ Accepted next packet = ap (λ (r : Bool). outcome_in lc false r l.restarts l.circuits request) ready in (
       accepted_step tells c s request next packet up low found,
-      accepted tells c s request next packet up low found,
+      accepted tells c s request next packet up low found refl,
       λ h. accepted_rank tells c s request next packet up low found h true Free refl refl,
     )

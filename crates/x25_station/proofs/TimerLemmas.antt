@@ -16,13 +16,13 @@ use Rattle.x25_layer.specs.Layer.{Layer}
 use Rattle.x25_layer.specs.Rounds.{Answered, Went, Refuses, calls}
 use Rattle.x25_given.specs.Given.{PlainGiven}
 use Rattle.x25_station.specs.declared.error.StationError.TheVariants as error
-use Rattle.x25_station.specs.Command.{Command, Requests, RequestsWith, Connects, Disconnects, Probes, Relinks, said_by}
+use Rattle.x25_station.specs.Command.{Command, Requests, RequestsWith, Connects, Disconnects, Probes, Relinks, said_by, may_ask}
 use Rattle.x25_station.specs.Config.{Settings, link_settings, layer_settings}
-use Rattle.x25_station.specs.Entry.{StationEntry, of_channel, restart_asked, connect_asked, disconnect_asked, relink_asked, link_up, link_down, was_restarted, restart_confirmed, at_fault, came_beside, was_diagnosed}
+use Rattle.x25_station.specs.Entry.{StationEntry, of_channel, restart_asked, connect_asked, disconnect_asked, relink_asked, link_up, link_down, was_restarted, restart_confirmed, at_fault, came_beside, was_diagnosed, was_confirmed}
 use Rattle.x25_station.specs.Giving as giving
 use Rattle.x25_station.specs.Giving.{view_given}
 use Rattle.x25_station.specs.Station.{Station, view_of}
-use Rattle.x25_station.specs.Step.{Step, Outcome, Did, Refused, layer_at, follows, unless, did, gave, connects, commands, fires}
+use Rattle.x25_station.specs.Step.{Step, Outcome, Did, Refused, layer_at, follows, unless, did, gave, connects, commands, fires, requests_of}
 use Rattle.x25_station.specs.laws.TimerLaw as law
 use Rattle.x25_station.specs.laws.TimerLaw.{Event, Comes, Asks, Fires, Watched, heeds, after, watched_by, watched_from, IsFiring, TellsLink, IsDue}
 use Rattle.x25_station.specs.Timer.{runs, tells_link, is_acknowledged, timer_of, pulled_timer}
@@ -30,6 +30,7 @@ use Rattle.x25_station.specs.Pulling.{pulled}
 use Rattle.x25_station.specs.declared.timer.Timer.{Timer}
 use Rattle.x25_station.specs.declared.timer.Timer.TheVariants.{Begins}
 use Rattle.x25_station.proofs.UnheardLemmas.{ready_lasts, ended_lasts, all_put_lasts, all_given_last}
+use Rattle.x25_station.proofs.MayLemmas.{where_holds}
 
 -- where T1 ran before and nothing began it anew, the deadline stood
 heeded : (ran behind other stands : Bool) → stands ≡ ran → heeds (timer_of behind (not ran || other)) stands ≡ behind
@@ -130,7 +131,10 @@ pub connected_none : (c : Settings) (s : Station) → HearsNone s (connects c s)
 connected_none c s = unless_none s (connect_refusal s.link.phase) _ (followed c s (link.connects (alone s.link)) (omega arith))
 
 pub asked_none : (c : Settings) (s : Station) (command : Command) → HearsNone s (commands c s command)
-asked_none c s (Requests request) = did_none c s _ (calls (view_of (link_settings c) s.link) (layer_settings c) s.layer (said_by c.say_sizes s.layer request))
+asked_none c s (Requests request) =
+    let said = said_by c.say_sizes s.layer request in
+    let view = view_of (link_settings c) s.link in
+    where_holds (HearsNone s) (may_ask c.wide said) (requests_of c s.link s.layer view said) (λ e. tt) (did_none c s _ (calls view (layer_settings c) s.layer said))
 asked_none c s (RequestsWith given request) =
     let said = said_by c.say_sizes s.layer request in
     gave_none c s given (giving.is_taken c given said) _ (calls (view_given (link_settings c) given s.link) (layer_settings c) s.layer said)
@@ -155,6 +159,7 @@ told_link (restart_confirmed ∷ entries) told = told_link entries told
 told_link (at_fault diagnostic ∷ entries) told = told_link entries told
 told_link (came_beside channel facilities user ∷ entries) told = told_link entries told
 told_link (was_diagnosed diagnostic ∷ entries) told = told_link entries told
+told_link (was_confirmed channel name count ∷ entries) told = told_link entries told
 
 fires_due : (event : Event) → IsFiring event → law.is_firing event ≡ true
 fires_due Fires is = refl

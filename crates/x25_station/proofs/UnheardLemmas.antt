@@ -22,17 +22,18 @@ use Rattle.x25_layer.specs.code.FitsLayer.{is_full}
 use Rattle.x25_layer.specs.Rounds.{Answered, Went, Refuses, calls}
 use Rattle.x25_given.specs.Given.{PlainGiven}
 use Rattle.x25_given.specs.Writing.{write}
-use Rattle.x25_station.specs.Command.{Requests, RequestsWith, Connects, Disconnects, Probes, Relinks, said_by}
+use Rattle.x25_station.specs.Command.{Requests, RequestsWith, Connects, Disconnects, Probes, Relinks, said_by, may_ask}
 use Rattle.x25_station.specs.Config.{Settings, link_settings, layer_settings}
 use Rattle.x25_station.specs.Entry.{StationEntry, connect_asked, disconnect_asked, relink_asked, entries_down, entries_up}
 use Rattle.x25_station.specs.Giving.{all_given, view_given, is_taken}
 use Rattle.x25_station.specs.Station as station
 use Rattle.x25_station.specs.Station.{Station, put_on, all_put, view_of}
-use Rattle.x25_station.specs.Step.{Step, with_puts, follows, led_by, unless, abandons, did, receives, with_given, gave}
+use Rattle.x25_station.specs.Step.{Step, with_puts, follows, led_by, unless, abandons, did, receives, with_given, gave, requests_of}
 use Rattle.x25_station.specs.Timer.{tells_link}
 use Rattle.x25_station.specs.laws.TimerLaw as timer
 use Rattle.x25_station.specs.laws.UnheardLaw.{MayAsk, TakesTries, AsksOn, UnheardAsksOn}
 use Rattle.x25_station.proofs.DownLemmas.{downs, follows_down, timer_down, disconnect_down, relink_down}
+use Rattle.x25_station.proofs.MayLemmas.{where_holds}
 
 -- ---- what sending leaves as it is
 
@@ -252,7 +253,9 @@ pub unheard_asks_on : TakeWaits → UnheardAsksOn
 unheard_asks_on waits c s (timer.Comes octets) may is = heard waits c s octets is
 unheard_asks_on waits c s timer.Fires may is = unless_asks c s 1 (timer_refusal s.link) (follows c s.layer (timer_step (link_settings c) s.link)) (fired c s may)
 unheard_asks_on waits c s (timer.Asks (Requests request)) may is =
-    went_asks c s _ (calls (view_of (link_settings c) s.link) (layer_settings c) s.layer (said_by c.say_sizes s.layer request))
+    let said = said_by c.say_sizes s.layer request in
+    let view = view_of (link_settings c) s.link in
+    where_holds (AsksOn c s 0) (may_ask c.wide said) (requests_of c s.link s.layer view said) (λ e. tt) (went_asks c s _ (calls view (layer_settings c) s.layer said))
 unheard_asks_on waits c s (timer.Asks (RequestsWith given request)) may is =
     let said = said_by c.say_sizes s.layer request in
     gave_asks c s given (is_taken c given said) _ (calls (view_given (link_settings c) given s.link) (layer_settings c) s.layer said)

@@ -1,5 +1,6 @@
 -- What the user of a station asks for (profile: the commands).
-use Rattle.std.specs.Prelude.{Bool, true, false, ◌||◌, Option, Some, None, unwrap_or}
+use Rattle.std.specs.Prelude.{Bool, true, false, not, ◌||◌, Option, Some, None, unwrap_or}
+use Rattle.x25_packet.specs.declared.marks.Marks.{Marks}
 use Rattle.x25_circuit.specs.Params.{Proposal, in_brief, in_full, default_params}
 use Rattle.x25_circuit.specs.Circuit.{Circuit}
 use Rattle.x25_circuit.specs.declared.params.Params.{Params}
@@ -53,6 +54,15 @@ command_of code.Connect = Connects
 command_of code.Disconnect = Disconnects
 command_of code.Probe = Probes
 command_of code.Relink = Relinks
+
+-- ---- confirmation is asked by a station that reads packets in all their forms
+
+abbrev pub may_mark : Bool → Marks → Bool
+may_mark wide marks = not marks.d || wide
+
+abbrev pub may_ask : Bool → LayerRequest → Bool
+may_ask wide (Asks h (Sends marks user)) = may_mark wide marks
+may_ask wide request = true
 
 -- ---- with the setting, calls and acceptances say all packet sizes and windows
 

@@ -2,6 +2,8 @@
 use Rattle.std.specs.Prelude.{ℕ, Bool, nat_le, ◌&&◌, if◌then◌else◌, Option, Some, None}
 use Rattle.x25_bits.specs.declared.role.Role.{Role}
 use Rattle.x25_link.specs.Station.{Settings as LinkSettings}
+use Rattle.x25_layer.specs.declared.ranges.Ranges.{Ranges}
+use Rattle.x25_layer.specs.Ranges.{are_ranges}
 use Rattle.x25_layer.specs.Layer.{LayerSettings}
 use Rattle.x25_layer.specs.laws.TwoLayers.{settings_of}
 use Rattle.x25_station.specs.declared.config.Cfg.{Cfg}
@@ -16,7 +18,7 @@ pub record Settings : Type 0 where
   pub role : Role
   pub window : ℕ
   pub retries : ℕ
-  pub channels : ℕ
+  pub channels : Ranges
   pub long_data : Bool
   pub say_sizes : Bool
   pub wide : Bool
@@ -35,7 +37,7 @@ settings_from role cfg = record {
 -- k is 1 to 7, N2 1 to 255, and there are 1 to 4,095 channels
 abbrev pub config_refusal : Cfg → Option StationError
 config_refusal cfg = if nat_le 1 cfg.k && (nat_le cfg.k 7
-    && (nat_le 1 cfg.n2 && (nat_le 1 cfg.channels && nat_le cfg.channels 4095))) then None else Some error.BadConfig
+    && (nat_le 1 cfg.n2 && are_ranges cfg.channels)) then None else Some error.BadConfig
 
 -- N1 is 4,099 octets: the longest data packet, with its header of three octets
 abbrev pub longest_packet : ℕ

@@ -1,6 +1,6 @@
 -- How many messages of a channel are confirmed by a packet: that their delivery was asked for, and is acknowledged.
 -- ITU-T X.25 (10/96), sections 4.3.3 and 4.4.1.4.
-use Rattle.std.specs.Prelude.{ℕ, zero, suc, ◌-◌, ◌&&◌, Bool, if◌then◌else◌}
+use Rattle.std.specs.Prelude.{ℕ, ◌-◌, ◌&&◌, Bool, if◌then◌else◌}
 use Rattle.x25_circuit.specs.Circuit.{unconfirmed}
 use Rattle.x25_handshakes.specs.laws.Names.{same_name}
 use Rattle.x25_layer.specs.Layer.{LayerSettings, Layer}

@@ -1,13 +1,13 @@
 -- What may be given beside the packet of a call, and how it is put: what is put is written with it (sections 5.2.1 to
 -- 5.2.3), and all else is as without (profile).
-use Rattle.std.specs.Prelude.{◌==◌, Bool, true, false, not, ◌&&◌, ◌||◌, List, [], ◌∷◌, length}
+use Rattle.std.specs.Prelude.{◌==◌, Bool, true, false, not, ◌&&◌, List, [], ◌∷◌, length}
 use Rattle.x25_packet.specs.Packet.{PlainPacket}
 use Rattle.x25_packet.specs.Spelling.{spelling_of}
 use Rattle.x25_link.specs.Outgoing.{waits}
 use Rattle.x25_link.specs.Station.{Settings as LinkSettings, LinkStation, Side, is_up}
 use Rattle.x25_link.specs.Link.{alone, put_step}
 use Rattle.x25_circuit.specs.declared.error.CircuitError.TheVariants as circuit_error
-use Rattle.x25_circuit.specs.Calling.{Accepts, Clears, Sends}
+use Rattle.x25_circuit.specs.Calling.{Accepts, Clears}
 use Rattle.x25_layer.specs.declared.error.LayerError.TheVariants as layer_error
 use Rattle.x25_layer.specs.Calls.{LayerRequest, Asks, Dials}
 use Rattle.x25_layer.specs.Rounds.{LinkView}
@@ -24,11 +24,6 @@ suits g (Dials called calling user proposal) = length g.user == 0
 suits g (Asks h (Accepts answer)) = true
 suits g (Asks h (Clears cause diagnostic)) = not g.d
 suits g request = false
-
--- confirmation is asked by a station that reads packets in all their forms
-abbrev pub may_ask : Bool → LayerRequest → Bool
-may_ask wide (Asks h (Sends q user)) = wide || not q.d
-may_ask wide request = true
 
 -- by a station that reads packets in all their forms
 abbrev pub is_taken : Settings → PlainGiven → LayerRequest → Bool

@@ -21,13 +21,14 @@ use Rattle.x25_layer.specs.Rounds.{LinkView, Putting, Answered, Went, Refuses, c
 use Rattle.x25_station.specs.declared.error.StationError.{StationError}
 use Rattle.x25_station.specs.declared.error.StationError.TheVariants as error
 use Rattle.x25_station.specs.Config.{Settings, link_settings, layer_settings}
-use Rattle.x25_station.specs.Command.{Command, Requests, RequestsWith, Connects, Disconnects, Probes, Relinks, said_by}
+use Rattle.x25_station.specs.Command.{Command, Requests, RequestsWith, Connects, Disconnects, Probes, Relinks, may_ask}
+use Rattle.x25_station.specs.Command.{said_by}
 use Rattle.x25_station.specs.Entry.{StationEntry, connect_asked, disconnect_asked, relink_asked, entries_noted}
 use Rattle.x25_station.specs.Entry.{station_told, station_asked, bringing, entries_beside, entries_behind}
 use Rattle.x25_station.specs.Confirming.{confirmed}
 use Rattle.x25_layer.specs.Room.{named_by}
 use Rattle.x25_given.specs.Given.{PlainGiven}
-use Rattle.x25_station.specs.Giving.{is_taken, all_given, view_given, may_ask, not_taken}
+use Rattle.x25_station.specs.Giving.{is_taken, all_given, view_given, not_taken}
 use Rattle.x25_station.specs.Station.{Station, all_put, view_of}
 
 -- the station after a step, the frames to send, in order, and the entries of the transcript
@@ -160,8 +161,15 @@ requests_of c link l view request =
     did c (alone link) (entries_of_outcome (layer_settings c) l request
     (layer_outcome (layer_settings c) (view.waits [] == 256) l request)) (calls view (layer_settings c) l request)
 
+-- refused as the layer's call, and else with 34 where this may not be asked
+abbrev pub where_asked : Bool → Outcome → Outcome
+where_asked true outcome = outcome
+where_asked false (Did step) = Refused not_taken
+where_asked false (Refused e) = Refused e
+
 abbrev pub requests : Settings → Station → LayerRequest → Outcome
-requests c s request = requests_of c s.link s.layer (view_of (link_settings c) s.link) request
+requests c s request =
+    where_asked (may_ask c.wide request) (requests_of c s.link s.layer (view_of (link_settings c) s.link) request)
 
 -- ---- with something given beside the packet
 
@@ -188,15 +196,8 @@ gives c s g request = gives_of c s.link g (is_taken c g request) s request
 abbrev pub gives_said : Settings → Station → PlainGiven → LayerRequest → Outcome
 gives_said c s g request = gives c s g (said_by c.say_sizes s.layer request)
 
--- what may be asked; confirmation, where packets are read in all their forms
-abbrev pub where_asked : Bool → Outcome → Outcome
-where_asked true outcome = outcome
-where_asked false (Did step) = Refused not_taken
-where_asked false (Refused e) = Refused e
-
 abbrev pub commands : Settings → Station → Command → Outcome
-commands c s (Requests request) =
-    where_asked (may_ask c.wide request) (requests c s (said_by c.say_sizes s.layer request))
+commands c s (Requests request) = requests c s (said_by c.say_sizes s.layer request)
 commands c s (RequestsWith given request) = gives_said c s given request
 commands c s Connects = connects_asked c s
 commands c s Disconnects = disconnects c s

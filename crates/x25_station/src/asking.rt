@@ -1,5 +1,6 @@
 //! What the user asks of the packet layer: the layer's call, and its entry.
-ghost use Rattle.std.specs.Prelude.{◌≡◌, ◌-◌, ◌≤◌, [], max, Some, None, true, false, string_bytes, vec_capacity, IfOk};
+ghost use Rattle.std.specs.Prelude.{◌≡◌, ◌-◌, ◌≤◌, ℕ, [], max, Some, None, true, false, string_bytes, vec_capacity};
+ghost use Rattle.std.specs.Prelude.{IfOk};
 ghost use Rattle.x25_circuit.specs.Circuit.{Circuit};
 ghost use Rattle.x25_circuit.specs.Calling.{Calls, Accepts};
 ghost use Rattle.x25_circuit.specs.Request.{plain_request};
@@ -9,7 +10,7 @@ ghost use Rattle.x25_layer.specs.Calls.{Asks, Dials, Restarts, PullsAll};
 ghost use Rattle.x25_layer.specs.code.FitsLayer.{FitsLayer};
 ghost use Rattle.x25_layer.specs.laws.Transcript.{name_of};
 ghost use Rattle.x25_layer.specs.laws.TwoLayers.{shown};
-ghost use Rattle.x25_station.specs.Command.{Requests, answer_in_brief, command_of, proposal_said};
+ghost use Rattle.x25_station.specs.Command.{Requests, answer_in_brief, command_of, may_ask, proposal_said};
 ghost use Rattle.x25_station.specs.Entry.{of_channel};
 ghost use Rattle.x25_station.specs.code.Aside.{HasFewPlaces};
 ghost use Rattle.x25_station.specs.code.Clock.{TellsTimer};
@@ -24,6 +25,7 @@ use crate::command::Cmd;
 use crate::entering::enter;
 use crate::entry::{Asked, Entry, Said};
 use crate::error::StationError;
+use crate::giving::NOT_TAKEN;
 use crate::law::steps_keep_bounds;
 use crate::station::Station;
 use crate::step::Step;
@@ -187,6 +189,17 @@ pub(crate) fn as_shown(layer: &Layer, channel: u16, asked: Asked) -> Asked
     }
 }
 
+// Whether this may be asked: confirmation by a station that reads packets in all their forms.
+#[inline(always)]
+fn may_ask(wide: bool, request: &Request<'_>) -> bool
+    ensures { (h : ℕ) → result ≡ may_ask wide (Asks h (plain_request request.now)) }
+{
+    match request {
+        Request::Send { q, .. } => !q.d || wide,
+        _ => true,
+    }
+}
+
 impl Station {
     /// Does what the user asks.
     ///
@@ -196,7 +209,8 @@ impl Station {
     /// the link isn't up, then with 40 while a restart is under way; one with a channel then with 42 where it isn't
     /// configured and a call with 41 where no channel is free; then, but for a message, with 10 where 256 packets wait;
     /// and then as the circuit refuses it, with 30 to 34, and `Restart` with 34 where the user of this end may not give
-    /// its cause. `With` is refused as without what is given, and then with 34 where `Cfg::wide` isn't set, where that
+    /// its cause. A message of which confirmation is asked is refused as without, and then with 34 where `Cfg::wide`
+    /// isn't set. `With` is refused as without what is given, and then with 34 where `Cfg::wide` isn't set, where that
     /// isn't allowed (`Given::is_allowed`), where user data is given beside a call, and where D is beside a clearing.
     /// Else 70 alone, and 70 may come in place of each of these but those of `Pull`. The station is as before then.
     #[inline(always)]
@@ -238,10 +252,15 @@ impl Station {
                 },
                 out,
             ),
-            Cmd::Send { channel, q, user } => self.ask(
+            Cmd::Send {
+                channel,
+                q,
+                d,
+                user,
+            } => self.ask(
                 *channel,
                 Request::Send {
-                    q: Marks::with_q(*q),
+                    q: Marks { q: *q, d: *d },
                     user,
                 },
                 out,
@@ -431,6 +450,9 @@ impl Station {
         let judged = request;
         if let Some(error) = self.layer.refusal(&self.link, channel, &judged) {
             return Err(StationError::of_layer(error));
+        }
+        if !may_ask(self.manner.wide, &judged) {
+            return Err(NOT_TAKEN);
         }
         out.reserve()?;
         let asked = asked_of(self.alloc, &mut self.messages, &request)?;

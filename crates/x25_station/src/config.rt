@@ -1,3 +1,5 @@
+use x25_layer::Ranges;
+
 /// The settings of a station, beside which end it is.
 #[derive(Clone, Copy, Debug, PartialEq, Eq)]
 pub struct Cfg {
@@ -5,8 +7,8 @@ pub struct Cfg {
     pub k: u8,
     /// A command of the link that isn't answered is sent so many times more, 1 to 255.
     pub n2: u8,
-    /// The channels 1 to this number are configured, 1 to 4,095.
-    pub channels: u16,
+    /// The channels that are configured, and who calls on them. They are the same at both ends.
+    pub channels: Ranges,
     /// Whether a call may have up to 128 octets of user data, in place of up to 16. It is the same at both ends.
     pub long_data: bool,
     /// Whether a CALL and a CALL ACCEPTED say packet sizes and windows also where the other end takes them without it.

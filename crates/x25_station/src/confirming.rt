@@ -1,11 +1,12 @@
 //! Messages that a packet confirms. ITU-T X.25 (10/96), sections 4.3.3 and 4.4.1.4.
-ghost use Rattle.std.specs.Prelude.{◌≡◌, ℕ, None, IfSome};
+ghost use Rattle.std.specs.Prelude.{ℕ};
 ghost use Rattle.x25_layer.specs.Layer.{LayerSettings};
 ghost use Rattle.x25_layer.specs.Layer.{Layer as State};
 ghost use Rattle.x25_layer.specs.code.FitsLayer.{FitsLayer};
 ghost use Rattle.x25_station.specs.Confirming.{confirmed};
-ghost use Rattle.x25_station.specs.code.Confirming.{Stands};
+ghost use Rattle.x25_station.specs.code.Confirming.{Stands, Tells};
 
+use crate::entry::Entry;
 use x25_layer::{Layer, Stretch};
 
 /// The stretch that is open on a channel, and how many of its messages are unconfirmed: one at least.
@@ -16,35 +17,47 @@ pub(crate) struct Unconfirmed {
     count: usize,
 }
 
-impl Unconfirmed {
-    /// What is unconfirmed on a channel, where something is.
-    pub(crate) fn on(layer: &Layer, channel: u16) -> Option<Unconfirmed>
-        ensures some { (c : LayerSettings) (l : State) → FitsLayer c layer.now l
-            → IfSome result (λ before. Stands c l before) }
-        ensures channel { IfSome result (λ before. before.channel ≡ channel) }
-        ensures none { (c : LayerSettings) (l next : State) → FitsLayer c layer.now l
-            → result ≡ None → confirmed c l next channel ≡ 0 }
-    {
-        let count = layer.unconfirmed(channel);
-        if count == 0 || !layer.is_open(channel) {
-            return None;
-        }
-        let name = layer.name(channel)?;
-        Some(Unconfirmed {
-            channel,
-            name,
-            count,
-        })
+/// What is unconfirmed on a channel, where something is.
+pub(crate) fn unconfirmed_on(layer: &Layer, channel: u16) -> Option<Unconfirmed>
+    ensures { (c : LayerSettings) (l : State) → FitsLayer c layer.now l → Stands c l channel result }
+{
+    let count = layer.unconfirmed(channel);
+    if count == 0 || !layer.is_open(channel) {
+        return None;
     }
+    let Some(name) = layer.name(channel) else {
+        return None;
+    };
+    Some(Unconfirmed {
+        channel,
+        name,
+        count,
+    })
+}
 
-    /// How many of these are confirmed in this layer: none where another stretch stands there.
-    pub(crate) fn confirmed(&self, layer: &Layer) -> usize
-        ensures { (c : LayerSettings) (l next : State) → Stands c l self.now → FitsLayer c layer.now next
-            → result ≡ confirmed c l next self.now.channel }
-    {
-        if !layer.is_open(self.channel) || layer.name(self.channel) != Some(self.name) {
-            return 0;
-        }
-        self.count.saturating_sub(layer.unconfirmed(self.channel))
+/// The entry of what of this is confirmed in the layer as it is then: none where another stretch stands there.
+pub(crate) fn confirmed(before: Option<Unconfirmed>, layer: &Layer) -> Option<Entry>
+    ensures { (c : LayerSettings) (h : ℕ) (l next : State) → Stands c l h before → FitsLayer c layer.now next
+        → Tells next h (confirmed c l next h) result }
+{
+    let Some(before) = before else {
+        return None;
+    };
+    let Some(name) = layer.name(before.channel) else {
+        return None;
+    };
+    if name != before.name || !layer.is_open(before.channel) {
+        return None;
     }
+    let count = before
+        .count
+        .saturating_sub(layer.unconfirmed(before.channel));
+    if count == 0 {
+        return None;
+    }
+    Some(Entry::Confirmed {
+        channel: before.channel,
+        name,
+        count,
+    })
 }

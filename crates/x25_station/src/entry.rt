@@ -47,11 +47,11 @@ pub enum Entry {
         facilities: Vec<u8>,
         user: Vec<u8>,
     },
-    /// So many messages more of this stretch are confirmed, of those whose confirmation was asked.
+    /// So many messages more of this stretch are confirmed, of those whose confirmation was asked, in their order.
     Confirmed {
         channel: u16,
         name: Stretch,
-        count: u8,
+        count: usize,
     },
     /// A DIAGNOSTIC came.
     Diagnosed {

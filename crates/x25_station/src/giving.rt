@@ -28,8 +28,8 @@ use x25_given::{Given, Writing, ask_through, call_through};
 use x25_layer::{LayerError, Params};
 use x25_link::{Link, holds_few};
 
-/// What may not be given so.
-const NOT_TAKEN: StationError = StationError::Layer(LayerError::Circuit(
+/// What may not be asked, or given so.
+pub(crate) const NOT_TAKEN: StationError = StationError::Layer(LayerError::Circuit(
     CircuitError::BadParameter,
 ));
 

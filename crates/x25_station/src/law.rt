@@ -69,6 +69,7 @@ pub fn what_is_given_is_told()
     ensures heard { GivenIsHeard }
 {
     reading_is_the_grammar();
+    taking_keeps_octets();
     what_is_written_is_read();
 }
 

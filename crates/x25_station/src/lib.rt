@@ -34,5 +34,5 @@ pub use timer::Timer;
 pub use x25_bits::Role;
 pub use x25_frame::N1;
 pub use x25_given::Given;
-pub use x25_layer::Awaits;
+pub use x25_layer::{Awaits, Ranges};
 pub use x25_link::Frames;

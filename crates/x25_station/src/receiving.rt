@@ -17,9 +17,10 @@ ghost use Rattle.x25_station.specs.Receiving.{kept_of, CanPut, PutsBehind};
 ghost use Rattle.x25_station.specs.Config.{Settings, link_settings, layer_settings};
 ghost use Rattle.x25_station.specs.Station.{Station as State};
 ghost use Rattle.x25_station.specs.Step.{Did, abandons, receives, layer_at, layer_answer, entries_heard};
-ghost use Rattle.x25_station.specs.Step.{entries_of_answer};
+ghost use Rattle.x25_station.specs.Step.{entries_of_answer, entries_of_packet};
 
 use crate::beside::beside_of;
+use crate::confirming::{confirmed, unconfirmed_on};
 use crate::entering::{MOST_TEXTS, TextMemory, bringing, enter_beside, enter_told};
 use crate::entry::Entry;
 use crate::error::StationError;
@@ -38,7 +39,15 @@ use x25_wide::taking_keeps_octets;
 /// header of the packet.
 const HEADERS: usize = 2 + 2 + 3;
 
-// The channel that the packet of an I frame names, and 0 where it names none.
+// The channel that a packet names, and 0 where it names none.
+#[inline(always)]
+fn named(packet: &[u8]) -> u16
+    ensures { result ≡ named_by packet.now }
+{
+    channel(packet).unwrap_or(0)
+}
+
+// The same of the packet of an I frame.
 #[inline(always)]
 fn channel_of(frame: &[u8]) -> u16
     ensures { result ≡ named_by (drop 2 frame.now) }
@@ -46,7 +55,7 @@ fn channel_of(frame: &[u8]) -> u16
     let [_, _, packet @ ..] = frame else {
         return 0;
     };
-    channel(packet).unwrap_or(0)
+    named(packet)
 }
 
 // What the layer does at LinkUp.
@@ -99,6 +108,37 @@ fn hear(
     channel
 }
 
+// The same where packets are read in all their forms: what this one confirms is told, or else what it brought beside.
+fn hear_all(
+    layer: &mut Layer,
+    link: &mut Link,
+    texts: &mut TextMemory,
+    packet: &[u8],
+    entries: &mut Vec<Entry>,
+)
+    requires put { CanPut link.old }
+    requires left { IsNotFull layer.old }
+    requires room { HasRoom (named_by packet.now) (length packet.now - 3) layer.old }
+    requires texts { 5 ≤ texts.old }
+    requires entries { HasPlaces 3 entries.old }
+    ensures puts { PutsBehind layer.old link.old layer.new link.new
+        (λ view c l. (hears view c true l packet.now).step) }
+    ensures entries { (c : Settings) (l : LayerState) (t : Side) → FitsLayer (layer_settings c) layer.old l
+        → FitsWhole link.old (kept_of (link_settings c) t) →
+        map plain_entry entries.new.items ≡ map plain_entry entries.old.items
+        ++ entries_of_packet (layer_settings c) true l packet.now }
+    ensures few { GrowsBy 3 entries.old entries.new }
+    ensures most_memory { layer.new.memory ≤ max layer.old.memory 16 }
+    ensures used { UsesFew 5 texts.old texts.new }
+{
+    let before = unconfirmed_on(layer, named(packet));
+    let bringing = hear(layer, link, texts, true, packet, entries);
+    match confirmed(before, layer) {
+        Some(entry) => entries.push_reserved(entry),
+        None => enter_beside(texts, beside_of(packet), bringing, entries),
+    }
+}
+
 // What the layer does at a step of the link that noted this and handed this up.
 fn follow(
     layer: &mut Layer,
@@ -135,12 +175,14 @@ fn follow(
     if notes.down.is_some() {
         return;
     }
-    if let Some(packet) = packet {
-        let channel = hear(layer, link, texts, wide, packet, entries);
-        if wide {
-            enter_beside(texts, beside_of(packet), channel, entries);
-        }
+    let Some(packet) = packet else {
+        return;
+    };
+    if wide {
+        hear_all(layer, link, texts, packet, entries);
+        return;
     }
+    hear(layer, link, texts, wide, packet, entries);
 }
 
 impl Station {

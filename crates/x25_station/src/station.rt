@@ -28,16 +28,19 @@ pub struct Station {
 }
 
 impl Station {
-    ghost use Rattle.std.specs.Prelude.{◌≡◌, ◌==◌, ℕ, ◌+◌, ◌<◌, ◌≤◌, Bool, List, length, IfOk, IfSome, IfNone};
+    ghost use Rattle.std.specs.Prelude.{◌≡◌, ◌==◌, ℕ, ◌+◌, ◌<◌, ◌≤◌, Bool, true, List, length, IfOk, IfSome};
+    ghost use Rattle.std.specs.Prelude.{IfNone};
     ghost use Rattle.x25_station.specs.code.FitsStation.{FitsStation, RefusesWith};
     ghost use Rattle.x25_station.specs.Config.{Settings, layer_settings, settings_from, config_refusal};
     ghost use Rattle.x25_station.specs.Station.{Station as State, new_station};
     ghost use Rattle.x25_station.specs.Station.Told.{awaits_answers, is_idle, is_at_rest, is_refused, room, stretch};
+    ghost use Rattle.x25_station.specs.Command.{may_mark};
     ghost use Rattle.x25_station.specs.Step.{requests};
     ghost use Rattle.x25_layer.specs.Calls.{Asks};
     ghost use Rattle.x25_packet.specs.declared.marks.Marks.{Marks};
     ghost use Rattle.x25_circuit.specs.Calling.{Sends};
     ghost use Rattle.x25_layer.specs.code.FitsLayer.{KeepsOn, plain_stretch, awaited_at};
+    ghost use Rattle.x25_layer.specs.Layer.Confirmed.{unconfirmed_at};
     ghost use Rattle.x25_layer.specs.Layer.InPart.{joined_at};
     ghost use Rattle.x25_link.specs.Station.{awaits_ua};
     ghost use Rattle.x25_link.specs.Link.{timer_runs};
@@ -49,7 +52,7 @@ impl Station {
         ensures fits { IfOk result (λ v. FitsStation (settings_from role cfg) v new_station) }
         ensures refused { RefusesWith result (config_refusal cfg) }
     {
-        if cfg.channels < 1 || cfg.channels > 4095 {
+        if !cfg.channels.are_valid() {
             return Err(StationError::BadConfig);
         }
         let link = match Link::new(alloc, role, cfg.k, N1, cfg.n2) {
@@ -57,7 +60,7 @@ impl Station {
             Err(LinkError::BadConfig) => return Err(StationError::BadConfig),
             Err(_) => return Err(StationError::NoMemory),
         };
-        let Ok(layer) = Layer::with(alloc, role, cfg.channels as usize, cfg.long_data) else {
+        let Ok(layer) = Layer::with(alloc, role, cfg.channels, cfg.long_data) else {
             return Err(StationError::NoMemory);
         };
         Ok(Station {
@@ -112,7 +115,7 @@ impl Station {
 
     /// How many channels it has.
     pub fn channels(&self) -> u16
-        ensures { (c : Settings) (s : State) → FitsStation c self.now s → result ≡ c.channels }
+        ensures { (c : Settings) (s : State) → FitsStation c self.now s → result ≡ c.channels.count }
     {
         self.layer.channels()
     }
@@ -152,17 +155,28 @@ impl Station {
     }
 
     /// How many messages more a channel takes: 8 less those that wait, where it is open and the link is up, and else 0.
-    /// A message of at most 65,535 octets is refused, but for want of memory, exactly where it is 0.
+    /// A message of at most 65,535 octets whose confirmation isn't asked, or may be, is refused, but for want of memory,
+    /// exactly where it is 0.
     pub fn room(&self, channel: u16) -> usize
         ensures value { (c : Settings) (s : State) → FitsStation c self.now s → result ≡ room c s channel }
         ensures takes { (c : Settings) (s : State) (q : Marks) (user : List ℕ) → FitsStation c self.now s
-            → length user ≤ 65535 → (result == 0) ≡ is_refused (requests c s (Asks channel (Sends q user))) }
+            → may_mark c.wide q ≡ true → length user ≤ 65535
+            → (result == 0) ≡ is_refused (requests c s (Asks channel (Sends q user))) }
         ensures few { result ≤ 8 }
     {
         if !self.link.is_up() {
             return 0;
         }
         self.layer.room(channel)
+    }
+
+    /// How many messages of a channel haven't the confirmation yet that was asked of them: they wait, or their last
+    /// packet isn't acknowledged. 0 where the channel isn't configured.
+    pub fn unconfirmed(&self, channel: u16) -> usize
+        ensures { (c : Settings) (s : State) → FitsStation c self.now s
+            → result ≡ unconfirmed_at (layer_settings c) s.layer channel }
+    {
+        self.layer.unconfirmed(channel)
     }
 
     /// How many octets have come of the message of which some packets came on a channel, at most 65,535; 0 where there

@@ -3,7 +3,7 @@
 use crate::calls::station;
 use crate::steps::{Act, CALL, DCE_RESTARTS, DTE_RESTARTS, RR_1, SABM, SETTINGS, UA, refusal};
 use std::alloc::Global;
-use x25_station::{Cfg, Cmd, Role, Station, StationError, Step};
+use x25_station::{Cfg, Cmd, Ranges, Role, Station, StationError, Step};
 
 /// What happens, the number of a refusal or 0, how many entries that brings, and the octets of the last packet that is
 /// sent.
@@ -85,7 +85,7 @@ fn odd_row(station: &mut Station, out: &mut Step, rows: &[Row]) -> Option<usize>
 
 fn odd_row_of(alloc: Global, role: Role, rows: &[Row]) -> Result<Option<usize>, StationError> {
     let cfg = Cfg {
-        channels: 4095,
+        channels: Ranges::two_way(4095),
         ..SETTINGS
     };
     let mut station = station(alloc, role, cfg)?;

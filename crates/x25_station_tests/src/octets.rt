@@ -5,7 +5,7 @@ use crate::steps::SETTINGS;
 use std::alloc::Global;
 use x25_bits::{Seq, seal};
 use x25_frame::{Frame, decode, encode};
-use x25_station::{Cfg, Cmd, Role, Station, StationError, Step};
+use x25_station::{Cfg, Cmd, Ranges, Role, Station, StationError, Step};
 
 static SABM: [u8; 4] = [0x01, 0x3f, 0xeb, 0xdf];
 
@@ -218,7 +218,7 @@ fn all_octets_are_taken(rt: HostRuntime) {
 // Whether memory is kept on channel 1 and on channel 2, behind a call and a data packet on channel 1.
 fn kept_on_two(alloc: Global) -> Option<(bool, bool)> {
     let cfg = Cfg {
-        channels: 2,
+        channels: Ranges::two_way(2),
         ..SETTINGS
     };
     let mut peer = Peer::new(alloc, cfg).ok()?;

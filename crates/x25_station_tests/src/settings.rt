@@ -3,7 +3,7 @@
 use crate::calls::station;
 use crate::steps::SETTINGS;
 use std::alloc::Global;
-use x25_station::{Cfg, Role, StationError};
+use x25_station::{Cfg, Ranges, Role, StationError};
 
 /// k, N2 and channels, and whether they are in their ranges.
 static ROWS: [(u8, u8, u16, bool); 8] = [
@@ -32,7 +32,7 @@ fn a_setting_out_of_its_range_is_refused(rt: HostRuntime) {
         let cfg = Cfg {
             k,
             n2,
-            channels,
+            channels: Ranges::two_way(channels),
             ..SETTINGS
         };
         assert_eq!(rt; refusal(rt.alloc(), cfg), wanted, "{k} {n2} {channels}");

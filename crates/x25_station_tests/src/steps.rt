@@ -3,13 +3,17 @@
 use crate::calls::{ask, connect, fire, pull, receive, station};
 use std::alloc::Global;
 use x25_layer::Stretch;
-use x25_station::{Cfg, Cmd, Role, Station, StationError, Step, Timer};
+use x25_station::{Cfg, Cmd, Ranges, Role, Station, StationError, Step, Timer};
 
 /// The window 7 and N2 = 1.
 pub const SETTINGS: Cfg = Cfg {
     k: 7,
     n2: 1,
-    channels: 1,
+    channels: Ranges {
+        count: 1,
+        incoming: 0,
+        outgoing: 0,
+    },
     long_data: false,
     say_sizes: false,
     wide: false,

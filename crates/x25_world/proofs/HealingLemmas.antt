@@ -272,12 +272,12 @@ module _ (laws : SessionLaws) (keeps : ConnectKeeps) where
       idle false b is too = is
 
       messages : (end : Role) (channel : ℕ) (name : Name) → is_up (station_at end w).link.phase ≡ true → timer_runs (station_at end w).link.phase (station_at end w).link ≡ false
-          → waits_up_to (station_at end w).layer.circuits cfg.channels ≡ 0 → stretch (settings_from end cfg) (station_at end w) channel ≡ Some name
+          → waits_up_to (station_at end w).layer.circuits cfg.channels.count ≡ 0 → stretch (settings_from end cfg) (station_at end w) channel ≡ Some name
           → stretch (settings_from (other end) cfg) (station_at (other end) w) channel ≡ Some name
           → HasAllOf channel name (handed_in end (last_session end w) w) (handed_in (other end) (last_session (other end) w) w)
       messages end channel name up stopped none here there =
           arrive cfg fine begin is events octets end channel name
-          (idle (link.is_idle (station_at end w).link) (waits_up_to (station_at end w).layer.circuits cfg.channels == 0) (at_rest end up stopped).idle (eq-eqb (waits_up_to (station_at end w).layer.circuits cfg.channels) 0 none)) here there
+          (idle (link.is_idle (station_at end w).link) (waits_up_to (station_at end w).layer.circuits cfg.channels.count == 0) (at_rest end up stopped).idle (eq-eqb (waits_up_to (station_at end w).layer.circuits cfg.channels.count) 0 none)) here there
 
   module _ (law : SessionsHealUnlessBothBusy) (cfg : Cfg) (fine : IsConfigured cfg) (w : World) (h : SessionsJoined both_down cfg Dte w) (may : MayHeal w) (ends : List Role) where
     abbrev c : LinkSettings

@@ -3,6 +3,7 @@ use Rattle.std.proofs.Common.{◌≡◌, ◌≤◌, Bool, true, false, ◌&&◌,
 use Rattle.std.proofs.lemmas.Bool.{leb-true}
 use Rattle.x25_bits.specs.declared.role.Role.TheVariants.{Dte, Dce}
 use Rattle.x25_line.specs.laws.StationClaims.{AreJoined}
+use Rattle.x25_layer.specs.Ranges.{is_number, are_ranges}
 use Rattle.x25_station.specs.declared.config.Cfg.{Cfg}
 use Rattle.x25_station.specs.declared.error.StationError.{StationError}
 use Rattle.x25_station.specs.declared.error.StationError.TheVariants as error
@@ -32,10 +33,10 @@ second_false false b e = e
 pub record IsConfigured (cfg : Cfg) : Type 0 where
   pub low : 1 ≤ cfg.k
   pub high : cfg.k ≤ 7
-  pub channels : cfg.channels ≤ 4095
+  pub channels : cfg.channels.count ≤ 4095
 
 abbrev all_fine : Cfg → Bool
-all_fine cfg = nat_le 1 cfg.k && (nat_le cfg.k 7 && (nat_le 1 cfg.n2 && (nat_le 1 cfg.channels && nat_le cfg.channels 4095)))
+all_fine cfg = nat_le 1 cfg.k && (nat_le cfg.k 7 && (nat_le 1 cfg.n2 && are_ranges cfg.channels))
 
 abbrev refused_unless : Bool → Option StationError
 refused_unless b = if b then None else Some error.BadConfig
@@ -49,8 +50,9 @@ is_configured cfg fine = found (all_fine cfg) refl fine
         let p = both_true _ _ is in
         let q = both_true _ _ p.1 in
         let r = both_true _ _ q.1 in
-        let s = both_true _ _ r.1 in
-        record { low = leb-true 1 cfg.k p.0; high = leb-true cfg.k 7 q.0; channels = leb-true cfg.channels 4095 s.1 }
+        let s = both_true (is_number 4095 cfg.channels.count) _ r.1 in
+        let t = both_true (nat_le 1 cfg.channels.count) _ s.0 in
+        record { low = leb-true 1 cfg.k p.0; high = leb-true cfg.k 7 q.0; channels = leb-true cfg.channels.count 4095 t.1 }
 
 pub links_joined : (cfg : Cfg) → IsConfigured cfg → AreJoined (link_of cfg Dte) (link_of cfg Dce)
 links_joined cfg fine = record { near_role = refl; far_role = refl; longest = refl; near_low = fine.low; near_high = fine.high; far_low = fine.low; far_high = fine.high }

@@ -138,7 +138,7 @@ pub record RestShows (cfg : Cfg) (w : World) : Type 0 where
   pub arrived : EachRestShows (link_of cfg Dte) (link_of cfg Dce) links
   pub messages : (end : Role) (channel : ℕ) (name : Name) → is_up (station_at end w).link.phase ≡ true
       → timer_runs (station_at end w).link.phase (station_at end w).link ≡ false
-      → waits_up_to (station_at end w).layer.circuits cfg.channels ≡ 0
+      → waits_up_to (station_at end w).layer.circuits cfg.channels.count ≡ 0
       → stretch (settings_from end cfg) (station_at end w) channel ≡ Some name
       → stretch (settings_from (other end) cfg) (station_at (other end) w) channel ≡ Some name
       → HasAllOf channel name (handed_in end (last_session end w) w)

@@ -1,13 +1,17 @@
 //! The calls of a world without their claims: a body that makes one of the world's own carries all that it promises.
 
 use std::alloc::Global;
-use x25_station::{Cfg, Step};
+use x25_station::{Cfg, Ranges, Step};
 use x25_world::{Event, World, WorldError};
 
 pub const USUAL: Cfg = Cfg {
     k: 7,
     n2: 10,
-    channels: 1,
+    channels: Ranges {
+        count: 1,
+        incoming: 0,
+        outgoing: 0,
+    },
     long_data: false,
     say_sizes: false,
     wide: false,

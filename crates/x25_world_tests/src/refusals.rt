@@ -2,7 +2,7 @@
 
 use crate::calls::{USUAL, establish, start};
 use std::alloc::Global;
-use x25_station::{Cfg, StationError};
+use x25_station::{Cfg, Ranges, StationError};
 use x25_world::WorldError;
 
 /// Each error, its number, and its message.
@@ -68,7 +68,7 @@ fn settings_are_in_range(rt: HostRuntime) {
         let cfg = Cfg {
             k,
             n2,
-            channels,
+            channels: Ranges::two_way(channels),
             ..USUAL
         };
         assert!(rt; are_judged(rt.alloc(), cfg, is_fine), "{k} {n2} {channels}");

@@ -34,7 +34,8 @@ seen_first c s = record {
 pub record Sets (old new : Held) (times : Times) : Type 0 where
   pub is : new ≡ record old { clock = new.clock }
   pub clock : IsSomeAnd new.clock (λ clock. (clock.times ≡ times) × ((c : Settings) (s : Station) →
-      FitsStation c old.station s → plain clock ≡ heeded times old.time (seen_first c s) (nothing_awaited c.channels)))
+      FitsStation c old.station s
+      → plain clock ≡ heeded times old.time (seen_first c s) (nothing_awaited c.channels.count)))
 
 -- nothing happens, and nothing is answered
 pub record Rests (old new : Held) : Type 0 where

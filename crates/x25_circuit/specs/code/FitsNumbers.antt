@@ -5,9 +5,9 @@ use Rattle.x25_window.specs.code.Held.{Held, Fits}
 use Rattle.x25_circuit.specs.Message.{Piece, asks}
 
 -- the sender has room for seven packets, and counts those sent and those acknowledged
-pub record FitsNumbers (h : Held Bool) (acked : ℕ) (sent : List Piece) : Type 0 where
+pub record FitsNumbers (h : Held Bool) (n : ℕ) (ps : List Piece) : Type 0 where
   pub state : Sending Bool
   pub fits : Fits h state
   pub window : state.window ≡ 7
-  pub acked : state.acked ≡ acked
-  pub sent : state.given ≡ map asks sent
+  pub acked : state.acked ≡ n
+  pub sent : state.given ≡ map asks ps

@@ -69,7 +69,7 @@ watched_from c times (moment ∷ moments) w = watched_from c times moments (watc
 abbrev pub watched : Settings → Times → List Moment → Watched
 watched c times moments =
     watched_from c times moments
-    (record { station = new_station; deadlines = nothing_awaited c.channels; now = 0 })
+    (record { station = new_station; deadlines = nothing_awaited c.channels.count; now = 0 })
 
 -- ---- what holds after each
 
@@ -99,7 +99,7 @@ pub record AreTrue (c : Settings) (times : Times) (w : Watched) : Type 0 where
   pub restart : Stands w.now times.t20 w.station.layer.restarting w.deadlines.restart
   pub waits : AreAwaited times w.now (λ h. awaited_at (layer_settings c) w.station.layer h) w.deadlines.waits
   pub channels : map (λ x. x.channel) w.deadlines.waits
-      ≡ map (λ x. x.channel) (nothing_awaited c.channels).waits
+      ≡ map (λ x. x.channel) (nothing_awaited c.channels.count).waits
 
 abbrev pub DeadlinesAreTrue : Type 0
 DeadlinesAreTrue = (c : Settings) (times : Times) (moments : List Moment) → AreTrue c times (watched c times moments)

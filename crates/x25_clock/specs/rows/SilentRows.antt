@@ -4,6 +4,7 @@ use Rattle.x25_bits.specs.declared.role.Role.TheVariants.{Dte}
 use Rattle.x25_link.specs.declared.phase.Phase.TheVariants.{Waiting}
 use Rattle.x25_link.specs.Station.{fresh}
 use Rattle.x25_circuit.specs.Params.{default_params, in_brief}
+use Rattle.x25_layer.specs.Ranges.{two_way}
 use Rattle.x25_layer.specs.Layer.{at_rest}
 use Rattle.x25_layer.specs.Calls.{Dials}
 use Rattle.x25_layer.specs.code.FitsLayer.{awaited_at}
@@ -22,7 +23,7 @@ dte = record {
   role = Dte;
   window = 7;
   retries = 2;
-  channels = 1;
+  channels = two_way 1;
   long_data = false;
   say_sizes = false;
   wide = false;
@@ -36,7 +37,7 @@ times = record { t1 = 0; t3 = 0; t20 = 5; t21 = 3; t22 = 2; t23 = 4 }
 abbrev pub before : Watched
 before = record {
   station = record { link = fresh; layer = at_rest };
-  deadlines = nothing_awaited dte.channels;
+  deadlines = nothing_awaited dte.channels.count;
   now = 7;
 }
 

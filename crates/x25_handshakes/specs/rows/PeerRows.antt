@@ -35,7 +35,7 @@ peer_does w deed = record w {
 
 -- the user hands down an octet, and it goes
 abbrev pub handed_down : Joined
-handed_down = near_stepped start [] (transfer_acts terms start.near (Inside (Send false (5 ∷ []))))
+handed_down = near_stepped start [] (transfer_acts terms start.near (Inside (Send (with_q false) (5 ∷ []))))
 
 abbrev pub pulled : Joined
 pulled = near_stepped handed_down [] (transfer_acts terms handed_down.near (Inside Pull))

@@ -3,6 +3,7 @@ use Rattle.x25_packet.specs.Marks.{with_q}
 use Rattle.std.specs.Prelude.{◌≡◌, ℕ, true, false, List, [], ◌∷◌, ◌++◌, Some, codes}
 use Rattle.x25_bits.specs.declared.role.Role.TheVariants.{Dte, Dce}
 use Rattle.x25_handshakes.specs.laws.Names.{Name}
+use Rattle.x25_layer.specs.Ranges.{two_way}
 use Rattle.x25_layer.specs.laws.Transcript.{under, messages_in}
 use Rattle.x25_station.specs.declared.config.Cfg.{Cfg}
 use Rattle.x25_station.specs.Config.{settings_from}
@@ -13,7 +14,7 @@ use Rattle.x25_joined.specs.laws.Joined.{IsPossibleAt, ArePossible}
 use Rattle.x25_joined.specs.laws.JoinedClaims.{station_by, handed_by}
 
 abbrev pub usual : Cfg
-usual = record { k = 7; n2 = 10; channels = 1; long_data = false; say_sizes = false; wide = false }
+usual = record { k = 7; n2 = 10; channels = two_way 1; long_data = false; say_sizes = false; wide = false }
 
 abbrev pub dte : Act → Happening
 dte act = record { at = Dte; act = act }

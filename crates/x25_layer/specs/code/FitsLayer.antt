@@ -9,6 +9,7 @@ use Rattle.x25_circuit.specs.declared.params.Params.{Params}
 use Rattle.x25_circuit.specs.Circuit.{Circuit, is_open, waits}
 use Rattle.x25_circuit.specs.code.FitsCircuit.{FitsCircuit, kept_of}
 use Rattle.x25_handshakes.specs.laws.Names.{Name}
+use Rattle.x25_layer.specs.Ranges.{is_number}
 use Rattle.x25_layer.specs.declared.layer.Layer as code
 use Rattle.x25_layer.specs.declared.stretch.Stretch.{Stretch}
 use Rattle.x25_layer.specs.Layer.{LayerSettings, Layer, is_channel}
@@ -22,7 +23,8 @@ FitsCircuits c circuits f = (k : ℕ) (v : circuit_code.Circuit) → slice_get c
 pub record FitsLayer (c : LayerSettings) (v : code.Layer) (l : Layer) : Type 0 where
   pub role : v.role ≡ c.circuit.role
   pub long_data : v.long_data ≡ c.circuit.long_data
-  pub channels : length v.circuits.items ≡ c.channels
+  pub ranges : v.ranges ≡ c.channels
+  pub channels : length v.circuits.items ≡ c.channels.count
   pub restarting : v.restarting ≡ l.restarting
   pub restarts : v.restarts ≡ l.restarts
   pub circuits : FitsCircuits c v.circuits.items l.circuits
@@ -61,9 +63,9 @@ awaited_up_to circuits (suc n) = awaited_up_to circuits n
 
 -- for so many octets of the message in part memory is kept on a channel, and for none where it isn't configured
 pub record KeepsOn (v : code.Layer) (h count : ℕ) : Type 0 where
-  pub on : (u : circuit_code.Circuit) → is_channel (length v.circuits.items) h ≡ true
+  pub on : (u : circuit_code.Circuit) → is_number (length v.circuits.items) h ≡ true
       → slice_get v.circuits.items (h - 1) ≡ Some u → count ≡ kept_of u
-  pub none : is_channel (length v.circuits.items) h ≡ false → count ≡ 0
+  pub none : is_number (length v.circuits.items) h ≡ false → count ≡ 0
 
 -- how many messages wait in the circuits of the channels up to a number
 abbrev pub waits_up_to : (ℕ → Circuit) → ℕ → ℕ
@@ -81,4 +83,4 @@ full_up_to circuits (suc n) = full_up_to circuits n
     || (is_most (circuits (suc n)).clears || is_most (circuits (suc n)).resets)
 
 abbrev pub is_full : LayerSettings → Layer → Bool
-is_full c l = is_most l.restarts || full_up_to l.circuits c.channels
+is_full c l = is_most l.restarts || full_up_to l.circuits c.channels.count

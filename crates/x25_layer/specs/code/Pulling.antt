@@ -31,7 +31,7 @@ pulled_where has_room c x = if has_room then pulled c x else pulls_nothing x
 -- the m are `total`.
 pub record Stands {X : Type 0} (fits : X → Type 0) (lists : X → Lists) (after : X → List ℕ
     → X) (c : LayerSettings) (vs : List circuit_code.Circuit) (m n total : ℕ) (x : X) (s : Putting) : Type 0 where
-  pub channels : length vs ≡ c.channels
+  pub channels : length vs ≡ c.channels.count
   pub circuits : FitsCircuits c vs s.layer.circuits
   pub link : fits (after_all after x s.put)
   pub memory : IsEnough (lists (after_all after x s.put)) m
@@ -65,10 +65,10 @@ pub record GoesRound {D : Type 0} (g : Ghosts D) (old : List circuit_code.Circui
   pub stands : (c : LayerSettings) (x : g.State) (s : Putting) (total : ℕ)
       → Stands (g.fits below) g.lists g.after_put c old m (g.promised below) total x s
       → Stands (g.fits below₂) g.lists g.after_put c new m₂ (g.promised below₂) total x
-      (round (view_of g.up_in g.waits_in g.after_put x) c c.channels s)
+      (round (view_of g.up_in g.waits_in g.after_put x) c c.channels.count s)
   pub none : (c : LayerSettings) (x : g.State) (s : Putting) (total : ℕ)
       → Stands (g.fits below) g.lists g.after_put c old m (g.promised below) total x s → is_put ≡ false
-      → round (view_of g.up_in g.waits_in g.after_put x) c c.channels s ≡ s
+      → round (view_of g.up_in g.waits_in g.after_put x) c c.channels.count s ≡ s
   pub takes : Takes g m below m₂ below₂
   pub count : length new ≡ length old
   pub room : HaveRoomStill old new

@@ -4,6 +4,7 @@ use Rattle.std.specs.Prelude.{◌≡◌, ℕ, List, [], ◌∷◌, ◌++◌, len
 use Rattle.x25_bits.specs.declared.role.Role.TheVariants.{Dte, Dce}
 use Rattle.x25_packet.specs.Packet.{PlainPacket}
 use Rattle.x25_handshakes.specs.laws.Histories.{IsPrefix}
+use Rattle.x25_layer.specs.declared.ranges.Ranges.{Ranges}
 use Rattle.x25_layer.specs.Layer.{LayerSettings}
 use Rattle.x25_layer.specs.Calls.{LayerRequest}
 use Rattle.x25_layer.specs.laws.TwoLayers as world
@@ -56,13 +57,13 @@ pub record ApartEvent : Type 0 where
   pub first : Bool
   pub what : OwnMove
 
-abbrev pub apart_happens : Bool → ℕ → Ends → ApartEvent → Ends
+abbrev pub apart_happens : Bool → Ranges → Ends → ApartEvent → Ends
 apart_happens long_data channels ends e =
     if e.first
     then record { near = own_moves (settings_of Dte long_data channels) ends.near e.what; far = ends.far }
     else record { near = ends.near; far = own_moves (settings_of Dce long_data channels) ends.far e.what }
 
-abbrev pub apart_run : Bool → ℕ → List ApartEvent → Ends → Ends
+abbrev pub apart_run : Bool → Ranges → List ApartEvent → Ends → Ends
 apart_run long_data channels [] ends = ends
 apart_run long_data channels (e ∷ events) ends = apart_run long_data channels events
     (apart_happens long_data channels ends e)
@@ -71,7 +72,7 @@ abbrev pub ends_of : TwoLayers → Ends
 ends_of w = record { near = w.near; far = w.far }
 
 -- both links have come up, and each end has sent its RESTART
-abbrev pub apart_start : Bool → ℕ → Ends
+abbrev pub apart_start : Bool → Ranges → Ends
 apart_start long_data channels = ends_of (start long_data channels)
 
 -- the events of either end
@@ -93,7 +94,7 @@ IsNext taker giver what = Unit {0}
 abbrev pub IsInOrder : Ends → ApartEvent → Type 0
 IsInOrder ends e = IsNext (if e.first then ends.near else ends.far) (if e.first then ends.far else ends.near) e.what
 
-abbrev pub AreInOrder : Bool → ℕ → List ApartEvent → Ends → Type 0
+abbrev pub AreInOrder : Bool → Ranges → List ApartEvent → Ends → Type 0
 AreInOrder long_data channels [] ends = Unit {0}
 AreInOrder long_data channels (e ∷ events) ends = IsInOrder ends e
     × AreInOrder long_data channels events (apart_happens long_data channels ends e)
@@ -118,7 +119,7 @@ as_world ends = record {
 }
 
 -- whatever happened to two ends in order
-abbrev pub AlwaysApart : (TwoLayers → Type 0) → Bool → ℕ → Type 0
+abbrev pub AlwaysApart : (TwoLayers → Type 0) → Bool → Ranges → Type 0
 AlwaysApart P long_data channels =
     (events : List ApartEvent) → AreInOrder long_data channels events (apart_start long_data channels)
     → P (as_world (apart_run long_data channels events (apart_start long_data channels)))

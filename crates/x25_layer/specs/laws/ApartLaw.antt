@@ -3,6 +3,7 @@ use Rattle.std.specs.Prelude.{◌≡◌, ℕ, List, [], ◌∷◌, ◌++◌, Boo
 use Rattle.x25_bits.specs.declared.role.Role.TheVariants.{Dte, Dce}
 use Rattle.x25_packet.specs.Packet.{PlainPacket}
 use Rattle.x25_circuit.specs.Circuit.{is_free}
+use Rattle.x25_layer.specs.declared.ranges.Ranges.{Ranges}
 use Rattle.x25_layer.specs.Layer.{LayerSettings, LayerNotice, restarted, goes_up}
 use Rattle.x25_layer.specs.laws.Law.{IsQuietEnd}
 use Rattle.x25_layer.specs.laws.TwoLayers.{End, TwoLayers, settings_of, run, start, started}
@@ -10,7 +11,7 @@ use Rattle.x25_layer.specs.laws.Apart.{OwnMove, GoesDown, own_moves, own_run, En
 use Rattle.x25_layer.specs.laws.Apart.{near_moves, far_moves, AreInOrder, all_over_links, as_world}
 
 -- events in order lead where the same events lead two layers over links
-abbrev pub IsOverLinks : Bool → ℕ → Type 0
+abbrev pub IsOverLinks : Bool → Ranges → Type 0
 IsOverLinks long_data channels = (events : List ApartEvent)
     → AreInOrder long_data channels events (apart_start long_data channels)
     → as_world (apart_run long_data channels events (apart_start long_data channels))
@@ -49,14 +50,15 @@ BeginsAlone = (c : LayerSettings) (own : List OwnMove) → let e = own_run c own
 -- ---- own moves alone decide
 
 -- these two ends are what each end's own moves led to
-pub record AreByThemselves (long_data : Bool) (channels : ℕ) (events : List ApartEvent) (ends : Ends) : Type 0 where
+pub record AreByThemselves (long_data : Bool) (channels : Ranges) (events : List ApartEvent)
+    (ends : Ends) : Type 0 where
   pub near : (apart_run long_data channels events ends).near
       ≡ own_run (settings_of Dte long_data channels) (near_moves events) ends.near
   pub far : (apart_run long_data channels events ends).far
       ≡ own_run (settings_of Dce long_data channels) (far_moves events) ends.far
 
 abbrev pub OwnMovesDecide : Type 0
-OwnMovesDecide = (long_data : Bool) (channels : ℕ) (events : List ApartEvent) (ends : Ends)
+OwnMovesDecide = (long_data : Bool) (channels : Ranges) (events : List ApartEvent) (ends : Ends)
     → AreByThemselves long_data channels events ends
 
 -- an end whose link went down stays as it was then
@@ -67,7 +69,7 @@ StaysDown = (c : LayerSettings) (e : End) (own : List OwnMove)
 -- ---- events one behind the other
 
 -- events behind others run on from where those led, and are in order where both are
-pub record RunOn (long_data : Bool) (channels : ℕ) (done events : List ApartEvent) (ends : Ends) : Type 0 where
+pub record RunOn (long_data : Bool) (channels : Ranges) (done events : List ApartEvent) (ends : Ends) : Type 0 where
   pub run : apart_run long_data channels (done
       ++ events) ends ≡ apart_run long_data channels events (apart_run long_data channels done ends)
   pub order : AreInOrder long_data channels done ends
@@ -75,5 +77,5 @@ pub record RunOn (long_data : Bool) (channels : ℕ) (done events : List ApartEv
       → AreInOrder long_data channels (done ++ events) ends
 
 abbrev pub EventsRunOn : Type 0
-EventsRunOn = (long_data : Bool) (channels : ℕ) (done events : List ApartEvent) (ends : Ends)
+EventsRunOn = (long_data : Bool) (channels : Ranges) (done events : List ApartEvent) (ends : Ends)
     → RunOn long_data channels done events ends

@@ -3,20 +3,21 @@ use Rattle.std.specs.Prelude.{◌≡◌, Bool, ℕ, ◌≤◌, List, ◌++◌, l
 use Rattle.x25_circuit.specs.Circuit.{is_open, waits}
 use Rattle.x25_handshakes.specs.laws.Names.{Name}
 use Rattle.x25_handshakes.specs.laws.Histories.{IsPrefix}
+use Rattle.x25_layer.specs.declared.ranges.Ranges.{Ranges}
 use Rattle.x25_layer.specs.laws.Quiet.{AreQuiet, AreNoFaults}
 use Rattle.x25_layer.specs.laws.Transcript.{Entry, under, calls_in, messages_in, interrupts_in, name_of}
 use Rattle.x25_layer.specs.laws.TwoLayers.{End, TwoLayers, Event, run, start}
 
 -- whatever happened to two ends
-abbrev pub Always : (TwoLayers → Type 0) → Bool → ℕ → Type 0
+abbrev pub Always : (TwoLayers → Type 0) → Bool → Ranges → Type 0
 Always P long_data channels = (events : List Event) → P (run long_data channels events (start long_data channels))
 
 -- no end told the other or its user of an error of procedure
-pub record IsQuietEnd (channels : ℕ) (e : End) : Type 0 where
+pub record IsQuietEnd (channels : Ranges) (e : End) : Type 0 where
   pub given : AreQuiet channels e.given
   pub told : AreNoFaults e.told
 
-pub record IsQuietWorld (channels : ℕ) (w : TwoLayers) : Type 0 where
+pub record IsQuietWorld (channels : Ranges) (w : TwoLayers) : Type 0 where
   pub near : IsQuietEnd channels w.near
   pub far : IsQuietEnd channels w.far
 

@@ -9,6 +9,7 @@ use Rattle.x25_handshakes.specs.laws.Layers.{On}
 use Rattle.x25_handshakes.specs.laws.PeerLayer.{PeerChannels, peer_fresh, peer_ready, LayerDeed, MayDoLayer, does_layer}
 use Rattle.x25_handshakes.specs.laws.PeerLayer.{layer_packet_of, PeerLayerStep, layer_taking, ready_taking}
 use Rattle.x25_handshakes.specs.laws.PeerLayers.{other_role, AreElsewhere}
+use Rattle.x25_layer.specs.declared.ranges.Ranges.{Ranges}
 use Rattle.x25_layer.specs.Layer.{is_channel, goes_up}
 use Rattle.x25_layer.specs.laws.Bare.{bare, bare_layer, bare_layers}
 use Rattle.x25_layer.specs.laws.TwoLayers.{End, TwoLayers, Move, GoesDown, moves, started}
@@ -22,7 +23,7 @@ pub record Joined : Type 0 where
   pub back : List PlainPacket
 
 -- the link has come up, and our layer has sent its RESTART
-abbrev pub start : Role → Bool → ℕ → Joined
+abbrev pub start : Role → Bool → Ranges → Joined
 start r long_data channels =
     let near = started (goes_up (settings_of r long_data channels)) in
     record { near = near; peer = peer_ready 0 peer_fresh; out = near.given; back = [] }
@@ -35,15 +36,15 @@ abbrev pub with_peer : At PeerChannels → TwoLayers → Joined
 with_peer y v = record { near = v.near; peer = y; out = v.out; back = v.back }
 
 -- a packet is of a channel that our layer has, or of none
-abbrev pub IsConfigured : ℕ → PlainPacket → Type 0
+abbrev pub IsConfigured : Ranges → PlainPacket → Type 0
 IsConfigured channels p = HasChannel p → is_channel channels (channel_of p) ≡ true
 
-abbrev pub AreConfigured : ℕ → List PlainPacket → Type 0
+abbrev pub AreConfigured : Ranges → List PlainPacket → Type 0
 AreConfigured channels [] = Unit {0}
 AreConfigured channels (p ∷ ps) = IsConfigured channels p × AreConfigured channels ps
 
 -- the peer goes on to this, with these packets, as its step has it
-pub record Answers (channels : ℕ) (packets : List PlainPacket) (s : PeerLayerStep) : Type 0 where
+pub record Answers (channels : Ranges) (packets : List PlainPacket) (s : PeerLayerStep) : Type 0 where
   pub are : bare_layers packets ≡ s.out
   pub configured : AreConfigured channels packets
 
@@ -55,7 +56,7 @@ StaysUp GoesDown = ⊥
 StaysUp other = Unit {0}
 
 -- What may happen next. Causes, diagnostics, addresses and user data of what the peer sends are free.
-pub data Happens (r : Role) (long_data : Bool) (channels : ℕ) (w : Joined) : Joined → Type 0 where
+pub data Happens (r : Role) (long_data : Bool) (channels : Ranges) (w : Joined) : Joined → Type 0 where
   -- our layer acts, by the definition that it meets call by call: a call of the user, a pull, a packet handed up
   Ours : (move : Move) → StaysUp move
       → Happens r long_data channels w (with_peer w.peer (moves (settings_of r long_data channels) (our_end w) move))
@@ -80,7 +81,7 @@ pub data Happens (r : Role) (long_data : Bool) (channels : ℕ) (w : Joined) : J
       (ready_taking (other_role r) w.peer.epoch y (On (channel_of p) (bare p))))
 
 -- what is reached, event by event
-pub data IsReached (r : Role) (long_data : Bool) (channels : ℕ) : Joined → Type 0 where
+pub data IsReached (r : Role) (long_data : Bool) (channels : Ranges) : Joined → Type 0 where
   at_start : IsReached r long_data channels (start r long_data channels)
   goes_on : (w v : Joined) → IsReached r long_data channels w → Happens r long_data channels w v
       → IsReached r long_data channels v

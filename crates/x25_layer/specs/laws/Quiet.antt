@@ -5,6 +5,7 @@ use Rattle.x25_packet.specs.Spelling.{channel_of, HasChannel}
 use Rattle.x25_packet.specs.Facilities.{IsFacilityField}
 use Rattle.x25_circuit.specs.Notice.{PlainNotice, fault}
 use Rattle.x25_circuit.specs.Cause.{is_fault_of_clear, is_fault_of_reset, is_fault_of_restart}
+use Rattle.x25_layer.specs.declared.ranges.Ranges.{Ranges}
 use Rattle.x25_layer.specs.Layer.{is_channel, LayerNotice, on_channel, layer_fault}
 
 -- The cause of a CLEAR, RESET or RESTART is none by which a station tells of an error of procedure; the facilities of a
@@ -18,10 +19,10 @@ IsQuiet (restart cause diagnostic) = is_fault_of_restart cause ≡ false
 IsQuiet packet = Unit {0}
 
 -- each of them but RESTART and its confirmation is of a configured channel
-abbrev pub IsQuietAt : ℕ → PlainPacket → Type 0
+abbrev pub IsQuietAt : Ranges → PlainPacket → Type 0
 IsQuietAt channels packet = IsQuiet packet × (HasChannel packet → is_channel channels (channel_of packet) ≡ true)
 
-abbrev pub AreQuiet : ℕ → List PlainPacket → Type 0
+abbrev pub AreQuiet : Ranges → List PlainPacket → Type 0
 AreQuiet channels [] = Unit {0}
 AreQuiet channels (packet ∷ packets) = IsQuietAt channels packet × AreQuiet channels packets
 

@@ -3,6 +3,7 @@ use Rattle.std.specs.Prelude.{◌≡◌, ℕ, Bool, List, [], ◌∷◌, ◌++�
 use Rattle.x25_packet.specs.Packet.{PlainPacket}
 use Rattle.x25_packet.specs.Spelling.{longest_user}
 use Rattle.x25_wide.specs.Taking.{read_in}
+use Rattle.x25_layer.specs.declared.ranges.Ranges.{Ranges}
 use Rattle.x25_layer.specs.Layer.{LayerSettings, is_channel, goes_up}
 use Rattle.x25_layer.specs.Calls.{LayerRequest}
 use Rattle.x25_layer.specs.Rounds.{LinkView, Putting, begin, round, rounds, Went, calls, hears, comes_up}
@@ -17,7 +18,7 @@ abbrev pub pulls_of : List ℕ → List Move
 pulls_of [] = []
 pulls_of (h ∷ channels) = Pulls h ∷ pulls_of channels
 
-abbrev pub AreChannels : ℕ → List ℕ → Type 0
+abbrev pub AreChannels : Ranges → List ℕ → Type 0
 AreChannels n [] = Unit {0}
 AreChannels n (h ∷ channels) = (is_channel n h ≡ true) × AreChannels n channels
 
@@ -53,7 +54,7 @@ HearsRun = (link : LinkView) (c : LayerSettings) (wide : Bool) (w : TwoLayers) (
 -- behind the rounds, one round more gives nothing
 abbrev pub RoundsSettle : Type 0
 RoundsSettle = (link : LinkView) (c : LayerSettings) (s : Putting)
-    → round link c c.channels (rounds link c s) ≡ rounds link c s
+    → round link c c.channels.count (rounds link c s) ≡ rounds link c s
 
 -- at LinkUp RESTART is put, and nothing else
 abbrev pub ComesUpAlone : Type 0

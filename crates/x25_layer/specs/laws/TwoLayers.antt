@@ -9,6 +9,7 @@ use Rattle.x25_packet.specs.Packet.{PlainPacket}
 use Rattle.x25_circuit.specs.Params.{in_brief}
 use Rattle.x25_circuit.specs.Circuit.{Circuit}
 use Rattle.x25_circuit.specs.Calling.{Request, Calls, Accepts}
+use Rattle.x25_layer.specs.declared.ranges.Ranges.{Ranges}
 use Rattle.x25_layer.specs.Layer.{LayerSettings, Layer, LayerNotice, on_channel, LayerAnswer, is_channel, layer_answers}
 use Rattle.x25_layer.specs.Layer.{rested, goes_up}
 use Rattle.x25_layer.specs.Calls.{LayerRequest, Asks, Dials, Restarts, PullsAll, LayerOutcome, Accepted, Declined}
@@ -160,19 +161,19 @@ turned w = record { near = w.far; far = w.near; out = w.back; back = w.out }
 
 -- The settings of an end, by its role. Whether the user data of a CALL may be long, and the channels, are the same at
 -- both ends.
-abbrev pub settings_of : Role → Bool → ℕ → LayerSettings
+abbrev pub settings_of : Role → Bool → Ranges → LayerSettings
 settings_of role long_data channels = record {
   channels = channels;
   circuit = record { role = role; long_data = long_data };
 }
 
 -- the first end is the DTE
-abbrev pub happens : Bool → ℕ → TwoLayers → Event → TwoLayers
+abbrev pub happens : Bool → Ranges → TwoLayers → Event → TwoLayers
 happens long_data channels w e =
     if e.first then moves (settings_of Dte long_data channels) w e.what
     else turned (moves (settings_of Dce long_data channels) (turned w) e.what)
 
-abbrev pub run : Bool → ℕ → List Event → TwoLayers → TwoLayers
+abbrev pub run : Bool → Ranges → List Event → TwoLayers → TwoLayers
 run long_data channels [] w = w
 run long_data channels (e ∷ events) w = run long_data channels events (happens long_data channels w e)
 
@@ -187,7 +188,7 @@ started a = record {
   entries = [];
 }
 
-abbrev pub start : Bool → ℕ → TwoLayers
+abbrev pub start : Bool → Ranges → TwoLayers
 start long_data channels =
     let near = started (goes_up (settings_of Dte long_data channels)) in
     let far = started (goes_up (settings_of Dce long_data channels)) in

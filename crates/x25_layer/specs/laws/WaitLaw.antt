@@ -2,6 +2,7 @@
 use Rattle.std.specs.Prelude.{◌≡◌, ◌<◌, Bool, ℕ, [], None, true, false}
 use Rattle.x25_bits.specs.declared.role.Role.TheVariants.{Dte, Dce}
 use Rattle.x25_circuit.specs.Circuit.{is_open, waits}
+use Rattle.x25_layer.specs.declared.ranges.Ranges.{Ranges}
 use Rattle.x25_layer.specs.Layer.{LayerSettings, Layer, is_channel}
 use Rattle.x25_layer.specs.Calls.{PullsAll, layer_pulled}
 use Rattle.x25_layer.specs.Rounds.{LinkView, Putting, rounds, Went, calls}
@@ -61,7 +62,7 @@ pub data WaitsForUser (k : ℕ) (giver taker : End) : Type 0 where
   NotReady : IsOpenAtBoth k giver taker → (taker.layer.circuits k).talk.own_ready ≡ false → WaitsForUser k giver taker
 
 -- of each end for which a pull gives nothing
-pub record WaitForUsersAlone (long_data : Bool) (channels : ℕ) (w : TwoLayers) : Type 0 where
+pub record WaitForUsersAlone (long_data : Bool) (channels : Ranges) (w : TwoLayers) : Type 0 where
   pub near : IsDrained w → PullsNone (settings_of Dte long_data channels) w.near.layer → (k : ℕ)
       → is_channel channels k ≡ true → WaitsForUser k w.near w.far
   pub far : IsDrained w → PullsNone (settings_of Dce long_data channels) w.far.layer → (k : ℕ)

@@ -44,7 +44,7 @@ in_order_as k own e y layer entries calls stretch = record {
       (subst (λ (l : Layer). name_of l k ≡ peer_name y k → StretchIsInOrder k (name_of l k) e.entries (l.circuits k) (peer_stretch y k)) layer stretch);
 }
 
-module _ (below : Below) (c : Settings) (low : 1 ≤ c.window) (high : c.window ≤ 7) (few : c.channels ≤ 4095) where
+module _ (below : Below) (c : Settings) (low : 1 ≤ c.window) (high : c.window ≤ 7) (few : c.channels.count ≤ 4095) where
   step_on : (w v : BesideSessions) → Stands c w → Happens c w v → Stands c v
   step_on w v h (Asks request step octets is) = asks below c low high few w h request step octets is
   step_on w v h (AsksWith given request step of_given octets is) = asks_with below c low high few w h given request step of_given octets is

@@ -97,7 +97,7 @@ handed_none : (c : Settings) (link : LinkStation) (begun : ℕ) (down up : ℕ �
     → LinkReached (link_settings c) link begun down up peer out back met → LinkReached (link_settings c) link begun down (extended up begun []) peer out back met
 handed_none c link begun down up peer out back met l = by_lists (link_settings c) peer down up down (extended up begun []) (λ n. refl) (λ n. sym (extended_none up begun n)) l
 
-module _ (below : Below) (c : Settings) (low : 1 ≤ c.window) (high : c.window ≤ 7) (few : c.channels ≤ 4095) (w : BesideSessions) (h : Stands c w) where
+module _ (below : Below) (c : Settings) (low : 1 ≤ c.window) (high : c.window ≤ 7) (few : c.channels.count ≤ 4095) (w : BesideSessions) (h : Stands c w) where
   abbrev Link : LinkStation → ℕ → (ℕ → List (List ℕ)) → List Entry → List Entry → List Meeting → Type 0
   Link link begun up out back met = LinkReached (link_settings c) link begun (downs_of h.known) up w.peer out back met
 

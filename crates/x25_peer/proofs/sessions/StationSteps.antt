@@ -49,7 +49,7 @@ noted_silent (Some reason) false = record { entries = refl; told = refl }
 first_given : (c : Settings) → (started (goes_up (layer_settings c))).given ≡ restart (restart_cause c.role) 0 ∷ []
 first_given c = refl
 
-module _ (below : Below) (c : Settings) (few : c.channels ≤ 4095) where
+module _ (below : Below) (c : Settings) (few : c.channels.count ≤ 4095) where
   abbrev lc : LinkSettings
   lc = link_settings c
 

@@ -18,7 +18,8 @@ use Rattle.x25_peer.specs.laws.BesideSessions.{Own, BesideSessions, their_now, t
 -- k is 1 to 7, and there are at most 4,095 channels
 abbrev pub WithAnyPeer : (BesideSessions → Type 0) → Type 0
 WithAnyPeer Holds =
-    (c : Settings) → 1 ≤ c.window → c.window ≤ 7 → c.channels ≤ 4095 → (w : BesideSessions) → IsReached c w → Holds w
+    (c : Settings) → 1 ≤ c.window → c.window ≤ 7 → c.channels.count ≤ 4095 → (w : BesideSessions) → IsReached c w
+    → Holds w
 
 -- sessions meet one to one, and in order at both ends
 abbrev pub MeetInStep : BesideSessions → Type 0

@@ -5,6 +5,7 @@ use Rattle.x25_bits.specs.declared.role.Role.TheVariants.{Dte}
 use Rattle.x25_link.specs.declared.phase.Reason.TheVariants.{Reset}
 use Rattle.x25_line.specs.laws.Sessions.{Entry}
 use Rattle.x25_line.specs.laws.PeerSessions.{In}
+use Rattle.x25_layer.specs.Ranges.{two_way}
 use Rattle.x25_station.specs.Config.{Settings}
 use Rattle.x25_station.specs.Entry.{link_up, link_down}
 use Rattle.x25_peer.specs.laws.BesideSessions.{BesideSessions, IsReached}
@@ -15,7 +16,7 @@ dte = record {
   role = Dte;
   window = 7;
   retries = 10;
-  channels = 1;
+  channels = two_way 1;
   long_data = false;
   say_sizes = false;
   wide = false;

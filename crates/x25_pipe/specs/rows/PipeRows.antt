@@ -2,11 +2,12 @@
 use Rattle.std.specs.Prelude.{◌≡◌, ℕ, false, List, [], codes}
 use Rattle.x25_bits.specs.declared.role.Role.{Role}
 use Rattle.x25_bits.specs.declared.role.Role.TheVariants.{Dte, Dce}
+use Rattle.x25_layer.specs.Ranges.{two_way}
 use Rattle.x25_station.specs.declared.config.Cfg.{Cfg}
 use Rattle.x25_pipe.specs.Pipe.{station_text, station_status}
 
 abbrev pub usual : Cfg
-usual = record { k = 7; n2 = 10; channels = 1; long_data = false; say_sizes = false; wide = false }
+usual = record { k = 7; n2 = 10; channels = two_way 1; long_data = false; say_sizes = false; wide = false }
 
 abbrev pub IsAnswered : Role → List ℕ → List ℕ → ℕ → Type 0
 IsAnswered end input text status = (station_text end usual input ≡ text) × (station_status end usual input ≡ status)

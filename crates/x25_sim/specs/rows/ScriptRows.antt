@@ -1,17 +1,18 @@
 -- Worked scripts of the simulator: what is written for each, and the status.
 use Rattle.std.specs.Prelude.{◌≡◌, ℕ, Bool, true, false, List, [], codes}
+use Rattle.x25_layer.specs.Ranges.{two_way}
 use Rattle.x25_station.specs.declared.config.Cfg.{Cfg}
 use Rattle.x25_sim.specs.Stage.{sim_text, sim_status}
 use Rattle.x25_sim.specs.declared.stage.Shown.{Shown}
 
 abbrev pub usual : Cfg
-usual = record { k = 7; n2 = 10; channels = 1; long_data = false; say_sizes = false; wide = false }
+usual = record { k = 7; n2 = 10; channels = two_way 1; long_data = false; say_sizes = false; wide = false }
 
 abbrev pub narrow : Cfg
-narrow = record { k = 1; n2 = 10; channels = 1; long_data = false; say_sizes = false; wide = false }
+narrow = record { k = 1; n2 = 10; channels = two_way 1; long_data = false; say_sizes = false; wide = false }
 
 abbrev pub once : Cfg
-once = record { k = 7; n2 = 1; channels = 1; long_data = false; say_sizes = false; wide = false }
+once = record { k = 7; n2 = 1; channels = two_way 1; long_data = false; say_sizes = false; wide = false }
 
 abbrev pub Shows : Cfg → Bool → Shown → List ℕ → List ℕ → ℕ → Type 0
 Shows cfg down shown script text status = (sim_text cfg down shown script ≡ text)

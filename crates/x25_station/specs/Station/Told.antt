@@ -13,7 +13,7 @@ use Rattle.x25_station.specs.Step.{Outcome, Did, Refused}
 
 -- the link is up, no packet waits in it, all that was sent is acknowledged, and no message waits in a circuit
 abbrev pub is_idle : Settings → Station → Bool
-is_idle c s = link.is_idle s.link && waits_up_to s.layer.circuits c.channels == 0
+is_idle c s = link.is_idle s.link && waits_up_to s.layer.circuits c.channels.count == 0
 
 -- the link is so, whatever waits in circuits, and timer T1 doesn't run
 abbrev pub is_at_rest : Station → Bool
@@ -21,7 +21,7 @@ is_at_rest s = link.is_idle s.link && not (link.timer_runs s.link.phase s.link)
 
 -- an answer is awaited, of a restart or on a channel
 abbrev pub awaits_answers : Settings → Station → Bool
-awaits_answers c s = s.layer.restarting || nat_lt 0 (awaited_up_to s.layer.circuits c.channels)
+awaits_answers c s = s.layer.restarting || nat_lt 0 (awaited_up_to s.layer.circuits c.channels.count)
 
 -- the name of the stretch that is open on a channel, in p4 with d1
 abbrev pub stretch : Settings → Station → ℕ → Option Name

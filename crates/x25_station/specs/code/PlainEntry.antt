@@ -19,6 +19,7 @@ use Rattle.x25_station.specs.declared.entry.Told.TheVariants as told
 use Rattle.x25_station.specs.Entry.{StationEntry, of_channel, restart_asked, connect_asked, disconnect_asked}
 use Rattle.x25_station.specs.Entry.{relink_asked, link_up}
 use Rattle.x25_station.specs.Entry.{link_down, was_restarted, restart_confirmed, at_fault, came_beside, was_diagnosed}
+use Rattle.x25_station.specs.Entry.{was_confirmed}
 
 abbrev pub plain_name : Stretch → Name
 plain_name s = record { restarts = s.restarts; clears = s.clears; resets = s.resets }
@@ -65,4 +66,5 @@ plain_entry (code.WasRestarted cause diagnostic) = was_restarted cause diagnosti
 plain_entry code.RestartDone = restart_confirmed
 plain_entry (code.Fault diagnostic) = at_fault diagnostic
 plain_entry (code.Beside channel facilities user) = came_beside channel facilities.items user.items
+plain_entry (code.Confirmed channel name count) = was_confirmed channel (plain_name name) count
 plain_entry (code.Diagnosed diagnostic) = was_diagnosed diagnostic

@@ -39,8 +39,8 @@ pub record IsReadInAll (long_data : Bool) (given : List ℕ) (packet : PlainPack
 
 -- the octets of a packet that is read are read as it with what is given too
 abbrev pub GivenIsRead : Type 0
-GivenIsRead = (long_data : Bool) (g : PlainGiven) (v : PlainPacket) → may_give g ≡ true → GivesOctets g
-    → IsReadable long_data v → IsReadInAll long_data (write g (spelling_of v)) v
+GivenIsRead = (wide long_data : Bool) (g : PlainGiven) (v : PlainPacket) → may_give g ≡ true → GivesOctets g
+    → IsReadable wide long_data v → IsReadInAll long_data (write g (spelling_of v)) v
 
 -- the facility field, in which the station's own facilities come first, and user data, but that of a CALL
 abbrev pub told : PlainGiven → PlainPacket → PlainBeside
@@ -58,7 +58,7 @@ GivenIsTold = (g : PlainGiven) (v : PlainPacket) → may_give g ≡ true → IsI
 -- given.
 abbrev pub GivenIsHeard : Type 0
 GivenIsHeard = (c : Settings) (l : Layer) (g : PlainGiven) (v : PlainPacket) → c.wide ≡ true → may_give g ≡ true
-    → GivesOctets g → IsReadable c.long_data v → write g (spelling_of v) ≢ spelling_of v →
+    → GivesOctets g → IsReadable c.wide c.long_data v → write g (spelling_of v) ≢ spelling_of v →
     let answer : LayerAnswer = layer_answer (layer_settings c) c.wide l (spelling_of v) in
     entries_of_packet (layer_settings c) c.wide l (write g (spelling_of v))
     ≡ entries_of_answer answer ++ entries_beside (told g v) (bringing answer.notices)

@@ -38,4 +38,4 @@ FewOctets = (v : code.Station) → octets_held v ≤ 1316516 + 667638 * length v
 -- with so many channels as its settings say
 abbrev pub FewOctetsInAll : Type 0
 FewOctetsInAll = (c : Settings) (v : code.Station) (s : Station) → FitsStation c v s
-    → octets_held v ≤ 1316516 + 667638 * c.channels
+    → octets_held v ≤ 1316516 + 667638 * c.channels.count

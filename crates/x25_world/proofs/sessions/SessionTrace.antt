@@ -5,6 +5,7 @@ use Rattle.std.proofs.lemmas.Bool.{eqb-true, eq-eqb}
 use Rattle.x25_bits.specs.declared.role.Role.{Role}
 use Rattle.x25_bits.specs.declared.role.Role.TheVariants.{Dte, Dce}
 use Rattle.x25_link.specs.Hearing.{other}
+use Rattle.x25_layer.specs.declared.ranges.Ranges.{Ranges}
 use Rattle.x25_layer.specs.Layer.{LayerSettings, goes_up}
 use Rattle.x25_layer.specs.laws.TwoLayers as layer
 use Rattle.x25_layer.specs.laws.TwoLayers.{started}
@@ -234,7 +235,7 @@ next_of_none taker giver (Takes packet) h = absurd h
 next_of_none taker giver what h = tt
 
 -- where neither end takes anything, all is in order
-pub order_of_nothing : (long_data : Bool) (channels : ℕ) (es : List ApartEvent) (ends : Ends) → TakeNothing (near_moves es) → TakeNothing (far_moves es) → AreInOrder long_data channels es ends
+pub order_of_nothing : (long_data : Bool) (channels : Ranges) (es : List ApartEvent) (ends : Ends) → TakeNothing (near_moves es) → TakeNothing (far_moves es) → AreInOrder long_data channels es ends
 order_of_nothing long_data channels [] ends f g = tt
 order_of_nothing long_data channels (e ∷ es) ends f g = by e.first f g (order_of_nothing long_data channels es (apart_happens long_data channels ends e))
   where
@@ -245,7 +246,7 @@ order_of_nothing long_data channels (e ∷ es) ends f g = by e.first f g (order_
     by false f g rest = (next_of_none ends.far ends.near e.what g.0, rest f g.1)
 
 -- so are moves of an end that takes nothing
-pub nothing_goes : (long_data : Bool) (channels : ℕ) (end : Role) (moves : List OwnMove) (ends : Ends) → TakeNothing moves → AreInOrder long_data channels (events_of end moves) ends
+pub nothing_goes : (long_data : Bool) (channels : Ranges) (end : Role) (moves : List OwnMove) (ends : Ends) → TakeNothing moves → AreInOrder long_data channels (events_of end moves) ends
 nothing_goes long_data channels end [] ends h = tt
 nothing_goes long_data channels Dte (what ∷ moves) ends h =
     (next_of_none ends.near ends.far what h.0, nothing_goes long_data channels Dte moves (apart_happens long_data channels ends (event_of Dte what)) h.1)

@@ -14,6 +14,7 @@ use Rattle.x25_link.specs.Station.{Settings as LinkSettings, is_up}
 use Rattle.x25_link.specs.Hearing.{other}
 use Rattle.x25_handshakes.specs.laws.Names.{Name}
 use Rattle.x25_packet.specs.Spelling.{longest_user}
+use Rattle.x25_layer.specs.declared.ranges.Ranges.{Ranges}
 use Rattle.x25_layer.specs.laws.Transcript.{Entry, name_of}
 use Rattle.x25_layer.specs.laws.NameLaw.{first_name, counted}
 use Rattle.x25_layer.specs.laws.Quiet.{IsQuietAt, AreNoFaults}
@@ -154,7 +155,7 @@ ArrivesAll cfg w =
 -- ---- no error of procedure
 
 -- the packet of an I frame is one, and tells of none
-abbrev pub IsQuietRead : ℕ → Result PlainPacket PacketError → Type 0
+abbrev pub IsQuietRead : Ranges → Result PlainPacket PacketError → Type 0
 IsQuietRead channels (Ok packet) = IsQuietAt channels packet
 IsQuietRead channels (Err e) = ⊥
 

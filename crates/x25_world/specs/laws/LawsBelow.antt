@@ -9,6 +9,7 @@ use Rattle.x25_line.specs.laws.SessionClaims.{MetAreInOrder, UnmetHandNothingUp,
 use Rattle.x25_line.specs.laws.SessionClaims.{IdleHasArrived, NoSessionSendsFrmr, AllSessionsSendWhole}
 use Rattle.x25_line.specs.laws.SessionEvents.{EachEventHandsInSession, EachEventMeetsLatest}
 use Rattle.x25_line.specs.laws.SessionNumbers.{StandingGoesAlong}
+use Rattle.x25_layer.specs.declared.ranges.Ranges.{Ranges}
 use Rattle.x25_layer.specs.laws.Law.{KeepsOrder, IsQuietWorld, IsLawfulWorld, ArrivesAll}
 use Rattle.x25_layer.specs.laws.NameLaw.{NamesAreCounted}
 use Rattle.x25_layer.specs.laws.Apart.{AlwaysApart}
@@ -66,13 +67,13 @@ pub record SessionLaws : Type 0 where
   pub whole : line.Throughout AllSessionsSendWhole
   pub machine : StandingGoesAlong
   pub hands : EachEventHandsInSession
-  pub layers_order : (long_data : Bool) (channels : ℕ) → AlwaysApart KeepsOrder long_data channels
-  pub layers_quiet : (long_data : Bool) (channels : ℕ) → AlwaysApart (IsQuietWorld channels) long_data channels
-  pub layers_lawful : (long_data : Bool) (channels : ℕ) → AlwaysApart IsLawfulWorld long_data channels
-  pub layers_arrive : (long_data : Bool) (channels : ℕ) → AlwaysApart ArrivesAll long_data channels
-  pub layers_named : (long_data : Bool) (channels : ℕ) → AlwaysApart NamesAreCounted long_data channels
-  pub layers_restarted : (long_data : Bool) (channels : ℕ) → AlwaysApart RestartsFirst long_data channels
+  pub layers_order : (long_data : Bool) (channels : Ranges) → AlwaysApart KeepsOrder long_data channels
+  pub layers_quiet : (long_data : Bool) (channels : Ranges) → AlwaysApart (IsQuietWorld channels) long_data channels
+  pub layers_lawful : (long_data : Bool) (channels : Ranges) → AlwaysApart IsLawfulWorld long_data channels
+  pub layers_arrive : (long_data : Bool) (channels : Ranges) → AlwaysApart ArrivesAll long_data channels
+  pub layers_named : (long_data : Bool) (channels : Ranges) → AlwaysApart NamesAreCounted long_data channels
+  pub layers_restarted : (long_data : Bool) (channels : Ranges) → AlwaysApart RestartsFirst long_data channels
   pub own : OwnMovesDecide
   pub behind : EventsRunOn
   pub alone : BeginsAlone
-  pub over_links : (long_data : Bool) (channels : ℕ) → IsOverLinks long_data channels
+  pub over_links : (long_data : Bool) (channels : Ranges) → IsOverLinks long_data channels

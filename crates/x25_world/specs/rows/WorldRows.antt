@@ -9,6 +9,7 @@ use Rattle.x25_circuit.specs.Params.{default_params, in_brief}
 use Rattle.x25_circuit.specs.Calling.{Accepts, Sends}
 use Rattle.x25_given.specs.Given.{PlainGiven}
 use Rattle.x25_handshakes.specs.laws.Names.{Name}
+use Rattle.x25_layer.specs.Ranges.{two_way}
 use Rattle.x25_layer.specs.Calls.{LayerRequest, Asks, Dials, Restarts}
 use Rattle.x25_layer.specs.laws.Transcript.{under, messages_in}
 use Rattle.x25_station.specs.declared.config.Cfg.{Cfg}
@@ -26,7 +27,7 @@ use Rattle.x25_world.specs.Healing.{IsDrained, firing, AreReceiptsAndRequests, F
 use Rattle.x25_world.specs.laws.Sessions.{session_at, meets}
 
 abbrev pub two_channels : Cfg
-two_channels = record { k = 7; n2 = 10; channels = 2; long_data = false; say_sizes = false; wide = false }
+two_channels = record { k = 7; n2 = 10; channels = two_way 2; long_data = false; say_sizes = false; wide = false }
 
 abbrev pub event : Role → Act → Event
 event at act = record { at = at; act = act }
@@ -104,7 +105,7 @@ MoreArrives =
 -- ---- something given with a call and its acceptance, at stations that read packets in all their forms
 
 abbrev pub in_all_forms : Cfg
-in_all_forms = record { k = 7; n2 = 10; channels = 2; long_data = false; say_sizes = false; wide = true }
+in_all_forms = record { k = 7; n2 = 10; channels = two_way 2; long_data = false; say_sizes = false; wide = true }
 
 abbrev pub reverse_charging : PlainGiven
 reverse_charging = record { facilities = 1 ∷ 1 ∷ []; user = []; d = false }
@@ -177,7 +178,7 @@ SecondMeetsFirst =
 
 -- where an end sends once more and then leaves
 abbrev pub one_try : Cfg
-one_try = record { k = 7; n2 = 1; channels = 2; long_data = false; say_sizes = false; wide = false }
+one_try = record { k = 7; n2 = 1; channels = two_way 2; long_data = false; say_sizes = false; wide = false }
 
 abbrev pub loses_one : Event
 loses_one = event Dce (Loses 0)

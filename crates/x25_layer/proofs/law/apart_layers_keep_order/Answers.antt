@@ -1,4 +1,5 @@
 use Rattle.std.proofs.Common.{ℕ, Bool}
+use Rattle.x25_layer.specs.declared.ranges.Ranges.{Ranges}
 use Rattle.x25_layer.specs.laws.TwoLayers.{TwoLayers}
 use Rattle.x25_layer.specs.laws.Law.{Always, IsQuietWorld, IsLawfulWorld, ArrivesAll, KeepsOrder}
 use Rattle.x25_layer.specs.laws.NameLaw.{NamesAreCounted, NoClearComesInP1}
@@ -8,11 +9,11 @@ use Rattle.x25_layer.proofs.ApartLemmas.{apart_is_over_links, always_apart}
 use Rattle.x25_layer.proofs.FirstLemmas.{restarts_first}
 use Rattle.x25_layer.proofs.law.apart_layers_keep_order.Goals as goal
 
-over_links : goal.After-names_are_told → (long_data : Bool) (channels : ℕ) → IsOverLinks long_data channels
+over_links : goal.After-names_are_told → (long_data : Bool) (channels : Ranges) → IsOverLinks long_data channels
 over_links c long_data channels = apart_is_over_links long_data channels (c.two_layers_keep_order.ensures.order long_data channels)
 
 -- what always holds of two layers over links
-apart : goal.After-names_are_told → (P : TwoLayers → Type 0) (long_data : Bool) (channels : ℕ) → Always P long_data channels → AlwaysApart P long_data channels
+apart : goal.After-names_are_told → (P : TwoLayers → Type 0) (long_data : Bool) (channels : Ranges) → Always P long_data channels → AlwaysApart P long_data channels
 apart c P long_data channels = always_apart P long_data channels (over_links c long_data channels)
 
 pub returns-clause-runs : goal.returns-clause-runs

@@ -1,4 +1,5 @@
 use Rattle.std.proofs.Common.{ℕ, Bool}
+use Rattle.x25_layer.specs.declared.ranges.Ranges.{Ranges}
 use Rattle.x25_layer.specs.laws.Law.{Always}
 use Rattle.x25_layer.specs.laws.WaitLaw.{ClosedKeepNone, NoneOpenInRestart, WaitForUsersAlone}
 use Rattle.x25_layer.proofs.RunLemmas.{Premises}
@@ -18,7 +19,7 @@ known c = record {
   params = record { said = c.values_are_agreed.ensures.said; field = c.values_are_agreed.ensures.field; allowed = c.values_are_agreed.ensures.allowed; answered = c.values_are_agreed.ensures.answer };
 }
 
-wait : goal.After-apart_layers_keep_order → (long_data : Bool) (channels : ℕ) → Always (WaitForUsersAlone long_data channels) long_data channels
+wait : goal.After-apart_layers_keep_order → (long_data : Bool) (channels : Ranges) → Always (WaitForUsersAlone long_data channels) long_data channels
 wait c = always_waits (known c) c.drained_ends_know.ensures.known
 
 pub returns-clause-left : goal.returns-clause-left

@@ -108,14 +108,14 @@ returns g c = record {
   where
     -- those behind have nothing to pull
     all : (s : LayerSettings) (x : g.L.OrderedLink.State) (t : Putting) (total : ℕ) → Stands (g.L.OrderedLink.fits c.args.link.now) g.L.OrderedLink.lists g.L.OrderedLink.after_put s c.args.circuits.now.items c.args.memory.now (g.L.OrderedLink.promised c.args.link.now) total x t
-        → round (view_of g.L.OrderedLink.up_in g.L.OrderedLink.waits_in g.L.OrderedLink.after_put x) s s.channels t ≡ round (view_of g.L.OrderedLink.up_in g.L.OrderedLink.waits_in g.L.OrderedLink.after_put x) s c.loop-next.channel t
+        → round (view_of g.L.OrderedLink.up_in g.L.OrderedLink.waits_in g.L.OrderedLink.after_put x) s s.channels.count t ≡ round (view_of g.L.OrderedLink.up_in g.L.OrderedLink.waits_in g.L.OrderedLink.after_put x) s c.loop-next.channel t
     all s x t total before =
         let view : LinkView = view_of g.L.OrderedLink.up_in g.L.OrderedLink.waits_in g.L.OrderedLink.after_put x in
         let n : ℕ = c.loop-next.channel in
         let now = c.loop-next.invariant.stands s x t total before in
         let channels = now.channels in
         let high = c.loop-next.invariant.high in
-        let behind : s.channels ≡ (s.channels - n) + n = omega (arith, channels, high) in
+        let behind : s.channels.count ≡ (s.channels.count - n) + n = omega (arith, channels, high) in
         ap (λ (k : ℕ). round view s k t) behind
-        ∙ round_past c.what_waits_is_pulled.ensures view s c.loop-next.circuits.items (s.channels - n) n t (omega (arith, channels, high)) now.circuits
+        ∙ round_past c.what_waits_is_pulled.ensures view s c.loop-next.circuits.items (s.channels.count - n) n t (omega (arith, channels, high)) now.circuits
         (λ k v more less at. (c.loop-next.invariant.still k v at (c.in_default.ensures.none (suc k) (omega (arith, more)))).none)

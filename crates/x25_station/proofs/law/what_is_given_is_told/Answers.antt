@@ -6,4 +6,10 @@ pub returns : goal.returns
 returns c =
     let reads = c.reading_is_the_grammar.ensures.spelled in
     let written = c.what_is_written_is_read.ensures in
-    record { written = given_written reads; read = given_read reads written.read; told = given_told reads written.read written.form; heard = given_heard reads written.read written.form }
+    let spelled = c.taking_keeps_octets.ensures.spelled in
+    record {
+      written = given_written reads spelled;
+      read = given_read reads spelled written.read;
+      told = given_told reads written.read written.form;
+      heard = given_heard reads spelled written.read written.form;
+    }

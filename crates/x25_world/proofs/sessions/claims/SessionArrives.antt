@@ -11,6 +11,7 @@ use Rattle.x25_circuit.specs.declared.state.State.{State}
 use Rattle.x25_circuit.specs.declared.state.State.TheVariants.{Open}
 use Rattle.x25_circuit.specs.Circuit.{is_free_in, is_open_in, is_open, Circuit, waits}
 use Rattle.x25_handshakes.specs.laws.Names.{Name}
+use Rattle.x25_layer.specs.declared.ranges.Ranges.{Ranges}
 use Rattle.x25_layer.specs.Layer.{Layer, rested, is_channel}
 use Rattle.x25_layer.specs.laws.Transcript.{Entry, name_of}
 use Rattle.x25_layer.specs.laws.TwoLayers as layer
@@ -35,7 +36,7 @@ use Rattle.std.proofs.lemmas.Bool.{eqb-true, eq-eqb, leb-true}
 
 -- ---- a stretch that is open
 
-pub record IsStretch (channels : ℕ) (l : Layer) (k : ℕ) (name : Name) : Type 0 where
+pub record IsStretch (channels : Ranges) (l : Layer) (k : ℕ) (name : Name) : Type 0 where
   pub channel : is_channel channels k ≡ true
   pub opened : is_open (l.circuits k) ≡ true
   pub named : name_of l k ≡ name
@@ -46,7 +47,7 @@ name_if b name = if b then Some name else None
 abbrev pub open_if : Bool → Bool → Bool
 open_if b o = if b then o else false
 
-pub stretch_of : (channels : ℕ) (l : Layer) (k : ℕ) (name : Name) → name_if (open_if (is_channel channels k) (is_open (l.circuits k))) (name_of l k) ≡ Some name → IsStretch channels l k name
+pub stretch_of : (channels : Ranges) (l : Layer) (k : ℕ) (name : Name) → name_if (open_if (is_channel channels k) (is_open (l.circuits k))) (name_of l k) ≡ Some name → IsStretch channels l k name
 stretch_of channels l k name is = by (is_channel channels k) (is_open (l.circuits k)) refl refl is
   where
     some_is : (m n : Name) → Some m ≡ Some n → m ≡ n
@@ -76,18 +77,18 @@ none_waits circuits (suc n) k none low high =
 -- ---- an end that is idle
 
 link_idle : (cfg : Cfg) (end : Role) (s : Station) → is_idle (settings_from end cfg) s ≡ true → link.is_idle s.link ≡ true
-link_idle cfg end s idle = (both_true (link.is_idle s.link) (waits_up_to s.layer.circuits cfg.channels == 0) idle).0
+link_idle cfg end s idle = (both_true (link.is_idle s.link) (waits_up_to s.layer.circuits cfg.channels.count == 0) idle).0
 
 -- between an idle end and the other one, where all that its link was handed down arrived, and the same stretch is open at both
 idle_between : (cfg : Cfg) (end : Role) (s t : Station) (giver taker : layer.End) (k : ℕ) (name : Name) → giver.layer ≡ s.layer → taker.layer ≡ t.layer → is_idle (settings_from end cfg) s ≡ true
     → stretch (settings_from end cfg) s k ≡ Some name → stretch (settings_from (other end) cfg) t k ≡ Some name → as_read taker.taken ≡ as_read giver.given → IsIdleTo k giver taker (length giver.given)
 idle_between cfg end s t giver taker k name of_giver of_taker idle here there all =
-    let both = both_true (link.is_idle s.link) (waits_up_to s.layer.circuits cfg.channels == 0) idle in
+    let both = both_true (link.is_idle s.link) (waits_up_to s.layer.circuits cfg.channels.count == 0) idle in
     let opened = stretch_of cfg.channels s.layer k name here in
     let opened_there = stretch_of cfg.channels t.layer k name there in
-    let bounds = both_true (nat_le 1 k) (nat_le k cfg.channels) opened.channel in
+    let bounds = both_true (nat_le 1 k) (nat_le k cfg.channels.count) opened.channel in
     let none : waits (s.layer.circuits k) ≡ 0 =
-    none_waits s.layer.circuits cfg.channels k (eqb-true (waits_up_to s.layer.circuits cfg.channels) 0 both.1) (leb-true 1 k bounds.0) (leb-true k cfg.channels bounds.1) in
+    none_waits s.layer.circuits cfg.channels.count k (eqb-true (waits_up_to s.layer.circuits cfg.channels.count) 0 both.1) (leb-true 1 k bounds.0) (leb-true k cfg.channels.count bounds.1) in
     let count : length taker.taken ≡ length giver.given = as_many taker.taken giver.given all in
     record {
       all_acked = refl;

@@ -13,6 +13,7 @@ use Rattle.x25_line.specs.laws.Sessions.{Meeting}
 use Rattle.x25_line.specs.laws.SessionClaims.{IdleHasArrived}
 use Rattle.x25_circuit.specs.Circuit.{is_open, waits}
 use Rattle.x25_handshakes.specs.laws.Names.{Name}
+use Rattle.x25_layer.specs.declared.ranges.Ranges.{Ranges}
 use Rattle.x25_layer.specs.declared.error.LayerError.TheVariants as error
 use Rattle.x25_layer.specs.Layer.{Layer, is_channel, is_ready}
 use Rattle.x25_layer.specs.Calls.{PullsAll, outcome_in, layer_outcome}
@@ -80,7 +81,7 @@ drained_turned : (w : layer.TwoLayers) → IsDrained (layer.turned w) → IsDrai
 drained_turned w d = record { near_up = d.far_up; far_up = d.near_up; out = d.back; back = d.out }
 
 abbrev pub LayersWait : Type 0
-LayersWait = (long_data : Bool) (channels : ℕ) → AlwaysApart (WaitForUsersAlone long_data channels) long_data channels
+LayersWait = (long_data : Bool) (channels : Ranges) → AlwaysApart (WaitForUsersAlone long_data channels) long_data channels
 
 module _ (laws : SessionLaws) (waits_law : LayersWait) (cfg : Cfg) where
   order_here : (end : Role) (n m : ℕ) (trace : List Done) → PairIsInOrder cfg end trace n m → KeepsOrder (pair_world laws cfg end n m trace)
@@ -192,7 +193,7 @@ module _ (laws : SessionLaws) (waits_law : LayersWait) (still_law : StillPullsNo
 -- ---- a circuit that isn't open
 
 abbrev pub LayersKeepNone : Type 0
-LayersKeepNone = (long_data : Bool) (channels : ℕ) → AlwaysApart wait.ClosedKeepNone long_data channels
+LayersKeepNone = (long_data : Bool) (channels : Ranges) → AlwaysApart wait.ClosedKeepNone long_data channels
 
 module _ (laws : SessionLaws) (closed_law : LayersKeepNone) (cfg : Cfg) (fine : IsConfigured cfg) where
   closed_here : (end : Role) (n m : ℕ) (trace : List Done) → PairIsInOrder cfg end trace n m → KeepsNoneClosed (pair_world laws cfg end n m trace).near
@@ -219,7 +220,7 @@ module _ (laws : SessionLaws) (closed_law : LayersKeepNone) (cfg : Cfg) (fine : 
 -- ---- behind a pull
 
 abbrev pub LayersOpenNone : Type 0
-LayersOpenNone = (long_data : Bool) (channels : ℕ) → AlwaysApart wait.NoneOpenInRestart long_data channels
+LayersOpenNone = (long_data : Bool) (channels : Ranges) → AlwaysApart wait.NoneOpenInRestart long_data channels
 
 -- while a restart is under way no circuit is open
 module _ (laws : SessionLaws) (shut_law : LayersOpenNone) (cfg : Cfg) (fine : IsConfigured cfg) where

@@ -29,5 +29,5 @@ returns c = λ s l fits.
     let channels = fits.channels in
     let high = c.loop-next.invariant.high in
     c.loop-next.invariant.sum s l fits
-    ∙ sym (awaited_past s c.args.self.now.circuits.items c.args.self.now.busy.channels.items l.circuits fits.circuits c.args.self.now.still c.loop-next.channel s.channels (omega (arith, channels, high)) (omega (arith, channels))
+    ∙ sym (awaited_past s c.args.self.now.circuits.items c.args.self.now.busy.channels.items l.circuits fits.circuits c.args.self.now.still c.loop-next.channel s.channels.count (omega (arith, channels, high)) (omega (arith, channels))
     (λ k more less. c.in_default.ensures.none k more))

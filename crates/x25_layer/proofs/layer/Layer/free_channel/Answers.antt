@@ -1,16 +1,14 @@
-use Rattle.std.proofs.Common.{◌∙◌, List, length, sym, ap, subst}
-use Rattle.x25_bits.specs.declared.role.Role.TheVariants.{Dte, Dce}
-use Rattle.x25_circuit.specs.declared.circuit.Circuit as circuit_code
-use Rattle.x25_layer.specs.code.FitsLayer.{FitsCircuits}
-use Rattle.x25_layer.proofs.FreeLemmas.{free_by_role}
+use Rattle.std.proofs.Common.{◌≡◌, ◌∙◌, ℕ, Bool, true, Option, Some, None, if◌then◌else◌, sym, ap}
+use Rattle.x25_bits.specs.declared.role.Role.{Role}
+use Rattle.x25_layer.specs.declared.ranges.Ranges.{Ranges}
+use Rattle.x25_layer.specs.Ranges.{may_call}
+use Rattle.x25_layer.specs.Layer.{LayerSettings, Layer}
+use Rattle.x25_layer.specs.Calls.{first_free, where_callable, free_channel}
+use Rattle.x25_layer.specs.code.FitsLayer.{FitsLayer}
+use Rattle.x25_layer.proofs.FreeLemmas.{callable_by}
 use Rattle.x25_layer.proofs.layer.Layer.free_channel.Goals as goal
 
-pub returns-in-Dte-clause-value : goal.returns-in-Dte-clause-value
-returns-in-Dte-clause-value c = λ s l fits.
-    c.highest_free.ensures.value s l.circuits (subst (λ (vs : List circuit_code.Circuit). FitsCircuits s vs l.circuits) (sym c.deref.ensures.value) fits.circuits)
-    ∙ free_by_role Dte s.circuit.role l.circuits _ s.channels (sym c.in-Dte.is ∙ fits.role) (ap (λ (vs : List circuit_code.Circuit). length vs) c.deref.ensures.value ∙ fits.channels)
-
-pub returns-in-Dce-clause-value : goal.returns-in-Dce-clause-value
-returns-in-Dce-clause-value c = λ s l fits.
-    c.lowest_free.ensures.value s l.circuits (subst (λ (vs : List circuit_code.Circuit). FitsCircuits s vs l.circuits) (sym c.deref-in-Dce.ensures.value) fits.circuits)
-    ∙ free_by_role Dce s.circuit.role l.circuits _ s.channels (sym c.in-Dce.is ∙ fits.role) (ap (λ (vs : List circuit_code.Circuit). length vs) c.deref-in-Dce.ensures.value ∙ fits.channels)
+pub returns-then-may_call-clause-value : goal.returns-then-may_call-clause-value
+returns-then-may_call-clause-value c = λ s l fits.
+    callable_by c.args.self.now.role s.circuit.role c.args.self.now.ranges s.channels c.in-Some.channel true fits.role fits.ranges (sym c.may_call.ensures ∙ c.if-may_call.true)
+    ∙ ap (λ o. where_callable s.circuit.role s.channels o) (c.first_free.ensures.value s l fits)

@@ -12,7 +12,7 @@ returns-else-self-2-clause-value c = λ s l fits.
     let least : (l.restarts == 2 ^ 64 - 1) ≡ false = not_same l.restarts (2 ^ 64 - 1) (λ most. grind (arith, most, restarts, c.if-self-2.false)) in
     c.any_full.ensures.value s l.circuits (subst (λ (vs : List circuit_code.Circuit). FitsCircuits s vs l.circuits) (sym value) fits.circuits)
     ∙ ap (λ (n : ℕ). full_up_to l.circuits n) (ap (λ (vs : List circuit_code.Circuit). length vs) value ∙ fits.channels)
-    ∙ sym (ap (λ (b : Bool). b || full_up_to l.circuits s.channels) least)
+    ∙ sym (ap (λ (b : Bool). b || full_up_to l.circuits s.channels.count) least)
 
 -- ---- where it is known that none is
 
@@ -22,8 +22,8 @@ returns-then-self-clause-value c = λ s l fits.
     let restarts = fits.restarts in
     let channels = fits.channels in
     let least : (l.restarts == 2 ^ 64 - 1) ≡ false = not_same l.restarts (2 ^ 64 - 1) (λ most. omega (arith, most, restarts, here)) in
-    sym (ap (λ (b : Bool). b || full_up_to l.circuits s.channels) least
-    ∙ none_full s c.args.self.now.circuits.items l.circuits s.channels (omega (arith, channels)) fits.circuits (c.args.self.now.circuits_left c.if-self.true))
+    sym (ap (λ (b : Bool). b || full_up_to l.circuits s.channels.count) least
+    ∙ none_full s c.args.self.now.circuits.items l.circuits s.channels.count (omega (arith, channels)) fits.circuits (c.args.self.now.circuits_left c.if-self.true))
 
 pub returns-then-self-clause-left : goal.returns-then-self-clause-left
 returns-then-self-clause-left c = λ is. record { restarts = c.args.self.now.restarts_left c.if-self.true; circuits = c.args.self.now.circuits_left c.if-self.true }

@@ -16,7 +16,7 @@ hear_circuit-answer-requires-clause-left c =
 pub returns-in-Ok-clause-layer : goal.returns-in-Ok-clause-layer
 returns-in-Ok-clause-layer c = λ s l fits.
     let at = found_at s c.args.self.now l c.args.channel c.from-place.result c.index_mut-circuit.result.now fits c.requires.channel c.from-place.ensures c.index_mut-circuit.ensures.value in
-    layer_put s c.args.self.now _ l c.args.channel (c.from-place.result - 1) c.hear_circuit-answer.new.circuit (circuit_hears s.circuit (l.circuits c.args.channel) (plain_read c.args.read.now)).next fits at.0 (record { role = refl; long_data = refl; restarting = refl; restarts = refl }) refl
+    layer_put s c.args.self.now _ l c.args.channel (c.from-place.result - 1) c.hear_circuit-answer.new.circuit (circuit_hears s.circuit (l.circuits c.args.channel) (plain_read c.args.read.now)).next fits at.0 (record { role = refl; long_data = refl; ranges = refl; restarting = refl; restarts = refl }) refl
     (c.in-Ok.ensures.next s.circuit (l.circuits c.args.channel) at.1)
 
 pub returns-in-Ok-clause-says : goal.returns-in-Ok-clause-says
@@ -27,7 +27,7 @@ returns-in-Ok-clause-says c = λ s l fits.
 pub returns-in-Err-clause-layer_stays : goal.returns-in-Err-clause-layer_stays
 returns-in-Err-clause-layer_stays c = λ s l fits.
     let at = found_at s c.args.self.now l c.args.channel c.from-place.result c.index_mut-circuit.result.now fits c.requires.channel c.from-place.ensures c.index_mut-circuit.ensures.value in
-    layer_kept s c.args.self.now _ l c.args.channel (c.from-place.result - 1) c.hear_circuit-answer.new.circuit fits at.0 (record { role = refl; long_data = refl; restarting = refl; restarts = refl }) refl
+    layer_kept s c.args.self.now _ l c.args.channel (c.from-place.result - 1) c.hear_circuit-answer.new.circuit fits at.0 (record { role = refl; long_data = refl; ranges = refl; restarting = refl; restarts = refl }) refl
     (subst (λ (v : circuit_code.Circuit). FitsCircuit s.circuit v (l.circuits c.args.channel)) (sym c.in-Err.ensures.unchanged) at.1)
 
 pub returns-in-Err-clause-enough : goal.returns-in-Err-clause-enough

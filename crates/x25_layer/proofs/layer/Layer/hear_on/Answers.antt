@@ -1,6 +1,7 @@
 use Rattle.std.proofs.Common.{rules, ◌≡◌, ◌∙◌, ℕ, ◌+◌, Option, length, option_to_list, true, false, refl, sym, ap, subst}
 use Rattle.x25_circuit.specs.code.Replies.{plain_owed}
 use Rattle.x25_packet.specs.Packet.{PlainPacket}
+use Rattle.x25_layer.specs.Ranges.{is_number}
 use Rattle.x25_layer.specs.Layer.{Layer, LayerAnswer, is_channel, packet_on}
 use Rattle.x25_layer.specs.code.FitsLayer.{FitsLayer}
 use Rattle.x25_layer.specs.Receiving.{plain_read}
@@ -12,8 +13,8 @@ use Rattle.x25_layer.proofs.layer.Layer.hear_on.Goals as goal
 pub returns-clause-hears : goal.returns-clause-hears
 returns-clause-hears g c = record {
   layer = λ s l fits.
-      let within : is_channel (length c.args.self.now.circuits.items) c.args.channel ≡ true = search rules in
-      let is : is_channel s.channels c.args.channel ≡ true = subst (λ (n : ℕ). is_channel n c.args.channel ≡ true) fits.channels within in
+      let within : is_number (length c.args.self.now.circuits.items) c.args.channel ≡ true = search rules in
+      let is : is_channel s.channels c.args.channel ≡ true = subst (λ (n : ℕ). is_number n c.args.channel ≡ true) fits.channels within in
       let ready : l.restarting ≡ false = sym fits.restarting ∙ c.if-self.false in
       subst (λ (m : Layer). FitsLayer s c.put_owed.new.self m) (next_there s l c.args.channel (plain_read c.args.read.now) ready is)
       (c.put_owed.ensures.fits s _ (c.in_ok-reply.ensures.layer s l fits));
@@ -23,8 +24,8 @@ returns-clause-hears g c = record {
   takes = search rules;
   memory = search rules;
   used = λ s l fits.
-      let within : is_channel (length c.args.self.now.circuits.items) c.args.channel ≡ true = search rules in
-      let is : is_channel s.channels c.args.channel ≡ true = subst (λ (n : ℕ). is_channel n c.args.channel ≡ true) fits.channels within in
+      let within : is_number (length c.args.self.now.circuits.items) c.args.channel ≡ true = search rules in
+      let is : is_channel s.channels c.args.channel ≡ true = subst (λ (n : ℕ). is_number n c.args.channel ≡ true) fits.channels within in
       let ready : l.restarting ≡ false = sym fits.restarting ∙ c.if-self.false in
       ap (λ (a : LayerAnswer). c.put_owed.new.self.memory + length (option_to_list a.owed)) (hears_there s l c.args.channel (plain_read c.args.read.now) ready is)
       ∙ ap (λ (o : Option PlainPacket). c.put_owed.new.self.memory + length (option_to_list (packet_on c.args.channel o))) (sym (c.in_ok-reply.ensures.says s l fits).owed)

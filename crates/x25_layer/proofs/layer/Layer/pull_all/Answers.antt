@@ -15,6 +15,7 @@ loop-preserved g c =
     record {
       role = now.role;
       long_data = now.long_data;
+      ranges = now.ranges;
       restarting = now.restarting;
       restarts = now.restarts;
       room = λ h len have. c.round.ensures.room h len (now.room h len have);
@@ -23,8 +24,8 @@ loop-preserved g c =
           let view : LinkView = view_of g.L.OrderedLink.up_in g.L.OrderedLink.waits_in g.L.OrderedLink.after_put x in
           let found = now.stands s x p total before in
           let t : Putting = found.0 in (
-            round view s s.channels t,
-            keeps_then p t (round view s s.channels t) found.1 (round_keeps view s s.channels t),
+            round view s s.channels.count t,
+            keeps_then p t (round view s s.channels.count t) found.1 (round_keeps view s s.channels.count t),
             c.round.ensures.stands s x t total found.2,
             rounds_behind view s t ∙ found.3,
           );
@@ -69,6 +70,7 @@ returns-clause-layer g c = λ s p x fits link.
     record {
       role = c.loop.invariant.role ∙ fits.role;
       long_data = c.loop.invariant.long_data ∙ fits.long_data;
+      ranges = c.loop.invariant.ranges ∙ fits.ranges;
       channels = e.stands.channels;
       restarting = c.loop.invariant.restarting ∙ fits.restarting ∙ sym e.keeps.restarting ∙ ap (λ (u : Putting). u.layer.restarting) (sym e.end);
       restarts = c.loop.invariant.restarts ∙ fits.restarts ∙ sym e.keeps.restarts ∙ ap (λ (u : Putting). u.layer.restarts) (sym e.end);

@@ -12,6 +12,7 @@ abbrev pub invariant-loop : goal.invariant-loop
 invariant-loop g l = record {
   role : l.self.role ≡ l.initial.self.role;
   long_data : l.self.long_data ≡ l.initial.self.long_data;
+  ranges : l.self.ranges ≡ l.initial.self.ranges;
   restarting : l.self.restarting ≡ l.initial.self.restarting;
   restarts : l.self.restarts ≡ l.initial.self.restarts;
   room : (h len : ℕ) → HasRoomOn h len l.initial.self.circuits.items → HasRoomOn h len l.self.circuits.items;

@@ -6,6 +6,7 @@ pub returns-clause-layer : goal.returns-clause-layer
 returns-clause-layer c = λ s l fits. record {
   role = fits.role;
   long_data = fits.long_data;
+  ranges = fits.ranges;
   channels = c.reserve_on.ensures.count ∙ fits.channels;
   restarting = fits.restarting;
   restarts = fits.restarts;

@@ -9,6 +9,7 @@ pub returns-clause-layer : goal.returns-clause-layer
 returns-clause-layer g c = λ s l fits. c.put.ensures.fits s _ (record {
   role = fits.role;
   long_data = fits.long_data;
+  ranges = fits.ranges;
   channels = c.forget_all.ensures.count ∙ fits.channels;
   restarting = refl;
   restarts = fits.restarts;

@@ -21,6 +21,7 @@ returns-clause-layer g c = λ s l x fits link.
     (c.put.ensures.fits s _ (record {
       role = before.role;
       long_data = before.long_data;
+      ranges = before.ranges;
       channels = c.begin_all.ensures.count ∙ before.channels;
       restarting = refl;
       restarts = refl;

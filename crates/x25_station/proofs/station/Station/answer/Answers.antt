@@ -31,7 +31,7 @@ returns-in_default-params c =
     record {
       asked = λ d s fits.
           let nowhere = not_there _ _ (sym (c.params.ensures (layer_settings d) s.layer fits.layer) ∙ none_of c.params.result c.in_default-params.not-Some) in
-          nowhere_alike d s h nowhere (Accepts (answer_said d.say_sizes (s.layer.circuits h) (answer_in_brief c.args.params))) (Accepts None);
+          nowhere_alike d s h nowhere (answer_said d.say_sizes (s.layer.circuits h) (answer_in_brief c.args.params)) None;
       given = λ d s g fits.
           let nowhere = not_there _ _ (sym (c.params.ensures (layer_settings d) s.layer fits.layer) ∙ none_of c.params.result c.in_default-params.not-Some) in
           given_nowhere d s g h nowhere (answer_said d.say_sizes (s.layer.circuits h) (answer_in_brief c.args.params)) None;

@@ -1,4 +1,5 @@
-use Rattle.std.proofs.Common.{refl, arith, [], ◌∷◌, ◌++◌, ap, ◌∙◌, sym, length, map}
+use Rattle.std.proofs.Common.{◌≡◌, ℕ, Bool, refl, arith, [], ◌∷◌, ◌++◌, ap, ◌∙◌, sym, length, map}
+use Rattle.x25_circuit.specs.Calling.{Request}
 use Rattle.x25_circuit.specs.Request.{plain_request}
 use Rattle.x25_layer.specs.Calls.{Asks}
 use Rattle.x25_layer.specs.laws.Transcript.{Asked, name_of}
@@ -6,14 +7,27 @@ use Rattle.x25_station.specs.declared.entry.Said.TheVariants as said
 use Rattle.x25_station.specs.declared.step.Step as code_step
 use Rattle.x25_station.specs.Entry.{of_channel}
 use Rattle.x25_station.specs.code.PlainEntry.{plain_entry, plain_said}
-use Rattle.x25_station.specs.Config.{layer_settings}
+use Rattle.x25_station.specs.declared.config.Manner.{Manner}
+use Rattle.x25_station.specs.Command.{may_ask}
+use Rattle.x25_station.specs.Config.{Settings, layer_settings, manner_of}
 use Rattle.x25_station.specs.Step.{requests}
 use Rattle.x25_station.proofs.OutcomeLemmas.{leaves_some, still_meant}
 use Rattle.x25_station.proofs.AskLemmas.{answers, still_fits, refuses_early}
-use Rattle.x25_station.proofs.DoesLemmas.{did_request, declines_request, hands_on}
+use Rattle.x25_station.proofs.DoesLemmas.{did_request, declines_asked, declines_request, hands_on}
+use Rattle.x25_station.proofs.GivingLemmas.{none_of}
 use Rattle.x25_station.proofs.TakeLemmas.{takes_longest}
 use Rattle.x25_station.proofs.EnteredLemmas.{asked_enters}
 use Rattle.x25_station.proofs.station.Station.ask.Goals as goal
+
+-- what the code finds is what the definition says
+may : (m : Manner) (c : Settings) (h : ℕ) (request : Request) (found : Bool) → m ≡ manner_of c → found ≡ may_ask m.wide (Asks h request) → {b : Bool} → found ≡ b → may_ask c.wide (Asks h request) ≡ b
+may m c h request found same is known = ap (λ (x : Manner). may_ask x.wide (Asks h request)) (sym same) ∙ sym is ∙ known
+
+pub returns-then-not-may_ask-clause-does : goal.returns-then-not-may_ask-clause-does
+returns-then-not-may_ask-clause-does c =
+    let request = Asks c.args.channel (plain_request c.args.request) in
+    declines_asked c.args.self.now _ _ request (λ d k x fits link. sym (none_of c.refusal.result c.in_default.not-Some) ∙ c.refusal.ensures d k x fits link)
+    (λ c' s fits. may c.args.self.now.manner c' c.args.channel (plain_request c.args.request) c.may_ask.result fits.same (c.may_ask.ensures c.args.channel) c.if-not-may_ask.true) (λ c' s fits. fits) c.requires
 
 pub returns-in-Some-clause-does : goal.returns-in-Some-clause-does
 returns-in-Some-clause-does c = declines_request (Unit {0}) c.in-Some.error _ c.args.self.now _ _ (Asks c.args.channel (plain_request c.args.request)) c.of_layer.ensures
@@ -34,7 +48,7 @@ invariant_of-self-in-Ok c = record {
       let request = Asks c.args.channel (plain_request c.args.request) in
       let a = answers c.in-Ok.field-0 c' _ c.ask.new.link c.swap_frames.new.self _ c.ask.new.self (record { frames = c.swap_frames.new.frames; entries = c.enter.new.entries; timer = c.reserve.new.self.timer }) s request fits
       c.in-Ok.ensures.layer c.in-Ok.ensures.link (ap (λ l. l.station) c.swap_frames.ensures.link) (ap (λ l. l.frames) c.swap_frames.ensures.link ∙ c.reserve.ensures.empty.frames) c.swap_frames.ensures.frames
-      (c.steps_keep_bounds.ensures.request c' s request fits.kept) in
+      (may c.args.self.now.manner c' _ (plain_request c.args.request) _ fits.same (c.may_ask.ensures c.args.channel) c.if-not-may_ask.false) (c.steps_keep_bounds.ensures.request c' s request fits.kept) in
       leaves_some c' _ _ (requests c' s request) a.state a.refused);
   aside =
       let before = c.args.self.now.aside in
@@ -60,6 +74,7 @@ returns-in-Ok-clause-does c =
     let r : code_step.Step = record { frames = c.swap_frames.new.frames; entries = c.enter.new.entries; timer = c.reserve.new.self.timer } in
     did_request c.in-Ok.field-0 c.args.self.now _ c.ask.new.link r request c.in-Ok.ensures.layer c.in-Ok.ensures.link (ap (λ l. l.station) c.swap_frames.ensures.link) (ap (λ l. l.frames) c.swap_frames.ensures.link ∙ c.reserve.ensures.empty.frames) c.swap_frames.ensures.frames
     c.steps_keep_bounds.ensures.request c.holds_few.ensures.window c.holds_few.ensures.stand
+    (λ c' s fits. may c.args.self.now.manner c' _ (plain_request c.args.request) _ fits.same (c.may_ask.ensures c.args.channel) c.if-not-may_ask.false)
     (λ c' s fits.
     let h = c.args.channel in
     asked_enters c.in-Ok.field-0 c' _ _ c.ask.new.self s r h (plain_request c.args.request) fits c.in-Ok.ensures.layer (λ k after configured.

@@ -26,7 +26,7 @@ invariant_of-self-in-Ok c = record {
       let request = Dials c.args.called.now c.args.calling.now c.args.user.now c.args.proposal.now in
       let a = answers c.in-Ok.channel c' _ c.call.new.link c.swap_frames.new.self _ c.call.new.self (record { frames = c.swap_frames.new.frames; entries = c.enter.new.entries; timer = c.reserve.new.self.timer }) s request fits
       c.in-Ok.ensures.does.layer c.in-Ok.ensures.does.link (ap (λ l. l.station) c.swap_frames.ensures.link) (ap (λ l. l.frames) c.swap_frames.ensures.link ∙ c.reserve.ensures.empty.frames) c.swap_frames.ensures.frames
-      (c.steps_keep_bounds.ensures.request c' s request fits.kept) in
+      refl (c.steps_keep_bounds.ensures.request c' s request fits.kept) in
       leaves_some c' _ _ (requests c' s request) a.state a.refused);
   aside =
       let before = c.args.self.now.aside in
@@ -52,6 +52,7 @@ returns-in-Ok-clause-does c =
     let r : code_step.Step = record { frames = c.swap_frames.new.frames; entries = c.enter.new.entries; timer = c.reserve.new.self.timer } in
     did_request c.in-Ok.channel c.args.self.now _ c.call.new.link r request c.in-Ok.ensures.does.layer c.in-Ok.ensures.does.link (ap (λ l. l.station) c.swap_frames.ensures.link) (ap (λ l. l.frames) c.swap_frames.ensures.link ∙ c.reserve.ensures.empty.frames) c.swap_frames.ensures.frames
     c.steps_keep_bounds.ensures.request c.holds_few.ensures.window c.holds_few.ensures.stand
+    (λ c' s fits. refl)
     (λ c' s fits.
     let h = c.in-Ok.channel in
     dialled_enters c' _ _ c.call.new.self s r h c.args.called.now c.args.calling.now c.args.user.now c.args.proposal.now fits c.in-Ok.ensures.does.layer (c.in-Ok.ensures.channel (layer_settings c') s.layer fits.layer) (λ k after configured.

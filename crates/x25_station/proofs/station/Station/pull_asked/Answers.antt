@@ -16,7 +16,7 @@ invariant_of-self c = record {
       let request = PullsAll in
       let a = answers c.in-Ok.field-0 c' _ c.pull.new.link c.swap_frames.new.self _ c.pull.new.self (record { frames = c.swap_frames.new.frames; entries = c.args.out.now.entries; timer = c.args.out.now.timer }) s request fits
       c.in-Ok.ensures.layer c.in-Ok.ensures.link (ap (λ l. l.station) c.swap_frames.ensures.link) (ap (λ l. l.frames) c.swap_frames.ensures.link ∙ c.requires.frames) c.swap_frames.ensures.frames
-      (c.steps_keep_bounds.ensures.request c' s request fits.kept) in
+      refl (c.steps_keep_bounds.ensures.request c' s request fits.kept) in
       leaves_some c' _ _ (requests c' s request) a.state a.refused);
   aside =
       let before = c.args.self.now.aside in
@@ -42,6 +42,7 @@ returns-in-Ok-clause-does c =
     let r : code_step.Step = record { frames = c.swap_frames.new.frames; entries = c.args.out.now.entries; timer = c.args.out.now.timer } in
     did_request c.in-Ok.field-0 c.args.self.now _ c.pull.new.link r request c.in-Ok.ensures.layer c.in-Ok.ensures.link (ap (λ l. l.station) c.swap_frames.ensures.link) (ap (λ l. l.frames) c.swap_frames.ensures.link ∙ c.requires.frames) c.swap_frames.ensures.frames
     c.steps_keep_bounds.ensures.request c.holds_few.ensures.window c.holds_few.ensures.stand
+    (λ c' s fits. refl)
     (λ c' s fits.
     pull_enters c' s r (ap (λ es. map plain_entry es) c.requires.entries))
     (grind (arith, ap length c.requires.entries, c.args.out.now.entries.ok)) refl

@@ -17,7 +17,7 @@ invariant_of-self c = record {
       let request = Restarts c.args.cause c.args.diagnostic in
       let a = answers c.in-Ok.field-0 c' _ c.restart.new.link c.swap_frames.new.self _ c.restart.new.self (record { frames = c.swap_frames.new.frames; entries = c.push_reserved.new.self; timer = c.reserve.new.self.timer }) s request fits
       c.in-Ok.ensures.layer c.in-Ok.ensures.link (ap (λ l. l.station) c.swap_frames.ensures.link) (ap (λ l. l.frames) c.swap_frames.ensures.link ∙ c.reserve.ensures.empty.frames) c.swap_frames.ensures.frames
-      (c.steps_keep_bounds.ensures.request c' s request fits.kept) in
+      refl (c.steps_keep_bounds.ensures.request c' s request fits.kept) in
       leaves_some c' _ _ (requests c' s request) a.state a.refused);
   aside =
       let before = c.args.self.now.aside in
@@ -43,6 +43,7 @@ returns-in-Ok-clause-does c =
     let r : code_step.Step = record { frames = c.swap_frames.new.frames; entries = c.push_reserved.new.self; timer = c.reserve.new.self.timer } in
     did_request c.in-Ok.field-0 c.args.self.now _ c.restart.new.link r request c.in-Ok.ensures.layer c.in-Ok.ensures.link (ap (λ l. l.station) c.swap_frames.ensures.link) (ap (λ l. l.frames) c.swap_frames.ensures.link ∙ c.reserve.ensures.empty.frames) c.swap_frames.ensures.frames
     c.steps_keep_bounds.ensures.request c.holds_few.ensures.window c.holds_few.ensures.stand
+    (λ c' s fits. refl)
     (λ c' s fits.
     restart_enters c' s c.args.cause c.args.diagnostic r (ap (λ es. map plain_entry es) (c.push_reserved.ensures.items ∙ ap (λ es. es ++ RestartAsked c.args.cause c.args.diagnostic ∷ []) c.reserve.ensures.empty.entries)))
     (grind (arith, c.push_reserved.ensures.len, ap length c.reserve.ensures.empty.entries, c.reserve.new.self.entries.ok)) refl

@@ -11,4 +11,4 @@ returns-clause-value c = λ d s fits.
     c.room.ensures.value (layer_settings d) s.layer fits.layer ∙ sym (ap (λ (b : Bool). if b then room_at (layer_settings d) s.layer c.args.channel else 0) up)
 
 pub returns-clause-takes : goal.returns-clause-takes
-returns-clause-takes c = λ d s q user fits short. ap (λ (n : ℕ). n == 0) (returns-clause-value c d s fits) ∙ room_is_what_is_taken d s c.args.channel q user short
+returns-clause-takes c = λ d s q user fits may short. ap (λ (n : ℕ). n == 0) (returns-clause-value c d s fits) ∙ room_is_what_is_taken d s c.args.channel q user may short

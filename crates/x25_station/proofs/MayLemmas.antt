@@ -1,0 +1,52 @@
+-- What holds of a request that may be asked, and of its refusals, holds of each request.
+use Rattle.std.proofs.Common.{◌≡◌, Bool, true, false, Result, Err, inr, refl, subst}
+use Rattle.x25_packet.specs.declared.marks.Marks.{Marks}
+use Rattle.x25_circuit.specs.Calling.{Calls, Accepts, Clears, Sends, Interrupts, Resets, SaysReady, SaysNotReady}
+use Rattle.x25_layer.specs.Calls.{LayerRequest, Asks, Dials, Restarts, PullsAll}
+use Rattle.x25_station.specs.declared.error.StationError.{StationError}
+use Rattle.x25_station.specs.Command.{may_ask, may_mark}
+use Rattle.x25_station.specs.Giving.{not_taken}
+use Rattle.x25_station.specs.Step.{Step, Outcome, Did, Refused, where_asked}
+use Rattle.x25_station.specs.code.FitsStation.{Refuses}
+
+refused_did : (e : StationError) (step : Step) → Refused e ≡ Did step → ⊥
+refused_did e step is = subst (λ (o : Outcome). elim o as (λ _. Type 0) [ Did x ↦ ⊥ | Refused y ↦ Unit {0} ]) is tt
+
+-- what is done was asked for rightly
+pub asked_did : (may : Bool) (o : Outcome) (step : Step) → where_asked may o ≡ Did step → (may ≡ true) × (o ≡ Did step)
+asked_did true o step is = (refl, is)
+asked_did false (Did k) step is = absurd (refused_did not_taken step is)
+asked_did false (Refused e) step is = absurd (refused_did e step is)
+
+pub where_holds : (P : Outcome → Type 0) (may : Bool) (o : Outcome) → ((e : StationError) → P (Refused e)) → P o → P (where_asked may o)
+where_holds P true o refused holds = holds
+where_holds P false (Did k) refused holds = refused not_taken
+where_holds P false (Refused e) refused holds = holds
+
+-- its error is that of the layer's call, or for want of memory
+pub where_refused : (U : Type 0) (found : StationError) (may : Bool) (o : Outcome) → (let r : Result U StationError = Err found in Refuses r o → Refuses r (where_asked may o))
+where_refused U found true o is = is
+where_refused U found false (Did k) is = inr is
+where_refused U found false (Refused e) is = is
+
+-- ---- who reads packets in all their forms may ask for anything
+
+pub mark_wide : (marks : Marks) → may_mark true marks ≡ true
+mark_wide marks = by marks.d
+  where
+    by : (d : Bool) → may_mark true (record { q = marks.q; d = d }) ≡ true
+    by true = refl
+    by false = refl
+
+pub ask_wide : (request : LayerRequest) → may_ask true request ≡ true
+ask_wide (Asks h (Sends marks user)) = mark_wide marks
+ask_wide (Asks h (Calls called calling user proposal)) = refl
+ask_wide (Asks h (Accepts answer)) = refl
+ask_wide (Asks h (Clears cause diagnostic)) = refl
+ask_wide (Asks h (Interrupts user)) = refl
+ask_wide (Asks h (Resets cause diagnostic)) = refl
+ask_wide (Asks h SaysReady) = refl
+ask_wide (Asks h SaysNotReady) = refl
+ask_wide (Dials called calling user proposal) = refl
+ask_wide (Restarts cause diagnostic) = refl
+ask_wide PullsAll = refl
