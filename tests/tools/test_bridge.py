@@ -111,6 +111,7 @@ class Forms(unittest.TestCase):
         self.assert_says("'9' is no number from 1 to 7", "dte", "--stdio", "--k", "9")
         self.assert_says("'0' is no number from 1 to 255", "dte", "--stdio", "--n2", "0")
         self.assert_says("'4096' is no number from 1 to 4095", "dte", "--stdio", "--channels", "4096")
+        self.assert_says("more channels are one-way than there are", "dte", "--stdio", "--channels", "3", "--incoming", "2", "--outgoing", "2")
         self.assert_says("name one line", "dte", "--stdio", "--xot", "there")
         self.assert_says("XOT loses and damages nothing", "dte", "--xot", "there", "--lose", "0.1")
         self.assert_says("in brackets", "dte", "--connect", "::1:7000")
@@ -142,6 +143,7 @@ class Prospects(unittest.TestCase):
         ("no call is up", "dte message", [*UP, CALLED]),
         ("no call is up", "dte message ch=1 ", [*UP, "dte connected ch=12"]),
         ("no call is up", "dte interrupt ch=12", [*UP, "dte connected ch=1"]),
+        ("no call is up", "dte confirmed", [*UP, "dte connected ch=1", "dte cleared ch=1 cause=0 diag=0"]),
         ("no call is up", "dte wasreset", [*UP, "dte accept ch=1", "dte clear ch=1"]),
         ("nothing is being cleared", "dte cleardone", [*UP, "dte accept ch=1", "dte clear ch=1", "dte cleardone ch=1"]),
         ("nothing is being reset", "dte resetdone", [*UP, "dte accept ch=1", "dte reset ch=1", "dte resetdone ch=1"]),
@@ -159,6 +161,7 @@ class Prospects(unittest.TestCase):
         ("dte connected ch=1", [*UP, CALL.replace("=1 at", "=12 at")]),
         ("dte message ch=1 at 1.0.0", [*UP, CALL]),
         ("dte message", [*UP, "dte accept ch=1", "dte reset ch=1"]),
+        ("dte confirmed ch=1", [*UP, "dte accept ch=1"]),
         ("dte cleardone", [*UP, "dte accept ch=1", "dte clear ch=1"]),
         ("dte resetdone ch=1", [*UP, "dte accept ch=1", "dte fault ch=1 diag=27"]),
         ("dte cleardone ch=1", [*UP, CALLED, "dte fault ch=1 diag=27"]),
@@ -732,6 +735,7 @@ class Joined(ToolCase):
         times = ["--t1", "1000", "--t3", "60000"]
         for words, given in (
             (["--k", "3", "--long"], ["--k", "3", "--channels", "1", *times, "--long", "--wide", "--clock"]),
+            (["--channels", "4", "--outgoing", "1"], ["--channels", "4", "--outgoing", "1", *times, "--wide", "--clock"]),
             (["--no-wide", "--t1", "0.0015", "--t3", "0", "--t21", "7"], ["--channels", "1", "--t1", "2", "--t3", "0", "--t21", "7000", "--clock"]),
         ):
             parser = argparse.ArgumentParser()

@@ -34,7 +34,7 @@ class Wire(unittest.TestCase):
         server = socket.create_server(("127.0.0.1", 0))
         self.addCleanup(server.close)
         self.notes = []
-        self.wire = xot_wire.Xot("dte", self.notes.append, server.getsockname(), None, 4, 0)
+        self.wire = xot_wire.Xot("dte", self.notes.append, server.getsockname(), None, range(1, 5), 0)
         self.addCleanup(self.wire.close)
         self.turn()
         self.says("0173")
@@ -76,7 +76,7 @@ class Wire(unittest.TestCase):
         self.assertEqual(self.notes, ["channel 1 is connected to {}:{}".format(*self.line.getsockname())])
         self.notes.clear()
         with contextlib.redirect_stderr(io.StringIO()) as said:
-            self.wire = xot_wire.Xot("dce", self.notes.append, None, ("127.0.0.1", 0), 4, 0)
+            self.wire = xot_wire.Xot("dce", self.notes.append, None, ("127.0.0.1", 0), range(1, 5), 0)
         self.addCleanup(self.wire.close)
         self.turn()
         self.wire.send(bytes.fromhex("0373") + x25lines.fcs(bytes.fromhex("0373")))

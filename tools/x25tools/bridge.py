@@ -94,6 +94,8 @@ MOST_UNSENT = 1 << 20
 # The bridge ends after a time without a frame, this many times T1.
 QUIET_T1S = 5
 MOST_CHANNELS = 4095
+# The words of the station that are numbers and not times.
+NUMBERS = ("k", "n2", "channels", "incoming", "outgoing")
 OTHER = {">": "<", "<": ">"}
 OTHER_END = {"dte": "dce ", "dce": "dte "}
 CALL, UA, DM = 0x0B, 0x63, 0x0F
@@ -472,6 +474,8 @@ def add_station_words(parser: argparse.ArgumentParser) -> None:
     parser.add_argument("--k", type=within(int, 1, 7), metavar="N", help="the window of the link, 1 to 7 (7)")
     parser.add_argument("--n2", type=within(int, 1, 255), metavar="N", help="how often a command is sent again, 1 to 255 (10)")
     parser.add_argument("--channels", type=within(int, 1, MOST_CHANNELS), default=1, metavar="N", help="logical channels, 1 to 4095 (1)")
+    for name, kept in (("incoming", "1 to N, on which a DTE doesn't call"), ("outgoing", "the N highest, on which a DCE doesn't call")):
+        parser.add_argument(f"--{name}", type=within(int, 0, MOST_CHANNELS), metavar="N", help=f"one-way {name} channels: {kept} (0)")
     parser.add_argument("--long", action="store_true", help="a call may have up to 128 octets of user data")
     parser.add_argument("--no-wide", dest="wide", action="store_false", help="read packets only in the form that a station writes")
     parser.add_argument("--t1", type=within(float, 0.001, 86_400), default=1, metavar="SECONDS", help="how long T1 is (1)")
@@ -483,7 +487,7 @@ def add_station_words(parser: argparse.ArgumentParser) -> None:
 
 def station_words(options: argparse.Namespace) -> list[str]:
     """The words that the station gets after its end."""
-    given = {name: getattr(options, name) for name in ("k", "n2", "channels")} | milliseconds(options)
+    given = {name: getattr(options, name) for name in NUMBERS} | milliseconds(options)
     pairs = [(f"--{name}", str(number)) for name, number in given.items() if number is not None]
     flags = {"--long": options.long, "--say-sizes": is_xot(options), "--wide": options.wide, "--clock": True}
     return [word for pair in pairs for word in pair] + [word for word, is_asked in flags.items() if is_asked]
@@ -501,7 +505,7 @@ def station_of(options: argparse.Namespace) -> Station:
         return piped.Station(options.x25, options.end, station_words(options))
     from x25tools import linked
 
-    given = {name: getattr(options, name) for name in ("k", "n2", "channels") if getattr(options, name) is not None}
+    given = {name: getattr(options, name) for name in NUMBERS if getattr(options, name) is not None}
     return linked.Station(options.library, options.end, milliseconds(options), long_data=options.long, say_sizes=is_xot(options), wide=options.wide, **given)
 
 
@@ -543,6 +547,8 @@ def words() -> argparse.Namespace:
         parser.error("the two probabilities come to more than 1")
     if is_xot(options) and options.lose + options.damage > 0:
         parser.error("XOT loses and damages nothing")
+    if (options.incoming or 0) + (options.outgoing or 0) > options.channels:
+        parser.error("more channels are one-way than there are")
     if options.retry and not options.connect:
         parser.error("--retry is for --connect")
     return options
@@ -561,7 +567,14 @@ def joined(options: argparse.Namespace, note: wires.Note) -> wires.Wire:
         return wires.Ethernet(note, options.ethernet)
     if options.stdio:
         return wires.Standard(end, note)
-    return xot_wire.Xot(end, note, options.xot, options.xot_listen, options.channels, t3)
+    return xot_wire.Xot(end, note, options.xot, options.xot_listen, called_on(options), t3)
+
+
+def called_on(options: argparse.Namespace) -> range:
+    """The channels on which the other end calls."""
+    if options.end == "dte":
+        return range(1, options.channels - (options.outgoing or 0) + 1)
+    return range((options.incoming or 0) + 1, options.channels + 1)
 
 
 def quiet(options: argparse.Namespace) -> float:

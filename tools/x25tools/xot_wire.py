@@ -110,9 +110,9 @@ class Circuit:
 
 
 class Xot(wires.Wire):
-    """The circuits of a station: those that it makes, to `target`, and those that come, at `place`; each may be None."""
+    """The circuits of a station: those that it makes, to `target`, and those that come, at `place`, on `channels`; each may be None."""
 
-    def __init__(self, end: str, note: wires.Note, target: tuple[str, int] | None, place: tuple[str, int] | None, channels: int, t3: float) -> None:
+    def __init__(self, end: str, note: wires.Note, target: tuple[str, int] | None, place: tuple[str, int] | None, channels: range, t3: float) -> None:
         self._note, self._channels, self._t3 = note, channels, t3
         self._target = tcp.addresses(*target) if target else []
         self._server = tcp.server(*place) if place else None
@@ -215,7 +215,7 @@ class Xot(wires.Wire):
     def _is_given_a_channel(self, it: Circuit, packet: bytes) -> bool:
         """Finds a channel for a CALL that came; without one it is cleared."""
         self._coming.remove(it)
-        free = next((h for h in range(1, self._channels + 1) if h not in self._circuits and h not in self._gone), None)
+        free = next((h for h in self._channels if h not in self._circuits and h not in self._gone), None)
         if free is None or not self._link.is_up:
             it.send(packet[:2] + bytes([CLEAR, CONGESTION, NO_CHANNEL]))
             self._ending.append(it)

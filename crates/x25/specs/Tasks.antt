@@ -3,7 +3,6 @@ use Rattle.std.specs.Prelude.{◌≡◌, ◌≤◌, ◌⊎◌, ⊤, ℕ, Bool, t
 use Rattle.std.specs.Prelude.{unwrap_or}
 use Rattle.std.specs.Io.KnownBytes.{Appends}
 use Rattle.x25_bits.specs.declared.role.Role.{Role}
-use Rattle.x25_layer.specs.Ranges.{two_way}
 use Rattle.x25_bits.specs.declared.role.Role.TheVariants as role
 use Rattle.x25_bit_line.specs.code.Frames as framing
 use Rattle.x25_bit_line.specs.code.Reads as deframing
@@ -37,7 +36,7 @@ abbrev pub settings_in : StationOptions → Cfg
 settings_in s = record {
   k = s.k;
   n2 = s.n2;
-  channels = two_way s.channels;
+  channels = record { count = s.channels; incoming = s.incoming; outgoing = s.outgoing };
   long_data = s.long;
   say_sizes = s.say_sizes;
   wide = s.wide;

@@ -24,7 +24,11 @@ fn settings_of(options: StationOptions) -> Cfg
     Cfg {
         k: options.k,
         n2: options.n2,
-        channels: Ranges::two_way(options.channels),
+        channels: Ranges {
+            count: options.channels,
+            incoming: options.incoming,
+            outgoing: options.outgoing,
+        },
         long_data: options.long,
         say_sizes: options.say_sizes,
         wide: options.wide,

@@ -14,7 +14,7 @@ pub struct Settings {
     pub long_data: bool,
     pub say_sizes: bool,
     pub wide: bool,
-    /// For settings of later versions, together with `more`.
+    /// For settings of later versions, as is `more`.
     pub later: u8,
     pub incoming: u16,
     pub outgoing: u16,

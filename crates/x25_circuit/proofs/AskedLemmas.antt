@@ -1,12 +1,13 @@
 -- How many messages ask for confirmation, of what was sent and what waits.
-use Rattle.std.proofs.Common.{◌≡◌, ℕ, zero, suc, ◌+◌, ◌≤◌, List, [], ◌∷◌, ◌++◌, length, take, drop, map, slice_get, Some, Bool, true, false, not, ◌&&◌, nat_le, if◌then◌else◌, refl, sym, ap, subst, ◌∙◌, arith}
+use Rattle.std.proofs.Common.{◌≡◌, ℕ, zero, suc, ◌+◌, ◌≤◌, List, [], ◌∷◌, ◌++◌, length, take, drop, map, slice_get, Some, Bool, true, false, nat_le, if◌then◌else◌, refl, sym, ap, subst, ◌∙◌, arith}
 use Rattle.std.proofs.lemmas.List.{drop-drop, drop-map}
 use Rattle.std.specs.Int.{from_bool}
 use Rattle.x25_bits.specs.Bits.{bit}
 use Rattle.x25_packet.specs.declared.marks.Marks.{Marks}
 use Rattle.x25_packet.specs.Marks.{with_q}
 use Rattle.x25_circuit.specs.declared.message.Message.{Message}
-use Rattle.x25_circuit.specs.Message.{Piece, More, Last, piece_of, asks, asked_in, wholes, ends_of, cut_from, cut, cut_all}
+use Rattle.x25_circuit.specs.code.Cutter.{first_cut}
+use Rattle.x25_circuit.specs.Message.{Piece, More, Last, piece_of, asks, asked_in, wholes, ends_of, cut_from}
 
 pub asked_append : (ps rs : List Piece) → asked_in (ps ++ rs) ≡ asked_in ps + asked_in rs
 asked_append [] rs = omega arith
@@ -71,6 +72,23 @@ asked_left (suc n) (p ∷ ps) = let h = asked_left n ps in omega (arith, h)
 pub asked_fewer : (n count : ℕ) (ps : List Piece) → asked_in (drop (n + count) ps) ≤ asked_in (drop n ps)
 asked_fewer n count ps = subst (λ (rs : List Piece). asked_in rs ≤ asked_in (drop n ps)) (drop-drop count n ps) (asked_left count (drop n ps))
 
-pub asks_of_piece : (q : Marks) (m : Bool) (user : List ℕ) → asks (piece_of q m user) ≡ (not m && q.d)
-asks_of_piece q true user = refl
-asks_of_piece q false user = refl
+-- ---- the packet cut next: where it has D a message ends with it
+
+abbrev d_of : Piece → Bool
+d_of (More q user) = q.d
+d_of (Last q user) = q.d
+
+d_of_piece : (q : Marks) (m : Bool) (user : List ℕ) → d_of (piece_of q m user) ≡ q.d
+d_of_piece q true user = refl
+d_of_piece q false user = refl
+
+asks_by : (b : Bool) (q : Marks) (user part : List ℕ) → asks (if b then Last q user else More (with_q q.q) part) ≡ d_of (if b then Last q user else More (with_q q.q) part)
+asks_by true q user part = refl
+asks_by false q user part = refl
+
+asks_by_d : (size : ℕ) (ms : List Message) → asks (first_cut size ms) ≡ d_of (first_cut size ms)
+asks_by_d size [] = refl
+asks_by_d size (m ∷ ms) = asks_by (nat_le (length m.user) size) m.q m.user (take size m.user)
+
+pub asks_as_marked : (size : ℕ) (ms : List Message) (q : Marks) (m : Bool) (user : List ℕ) → piece_of q m user ≡ first_cut size ms → asks (piece_of q m user) ≡ q.d
+asks_as_marked size ms q m user e = ap asks e ∙ asks_by_d size ms ∙ sym (ap d_of e) ∙ d_of_piece q m user

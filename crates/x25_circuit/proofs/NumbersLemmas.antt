@@ -1,5 +1,5 @@
 -- What a sender counts, and keeps of each packet.
-use Rattle.std.proofs.Common.{◌≡◌, ℕ, ◌+◌, ◌-◌, ◌<◌, ◌≤◌, Bool, IsErr, IsTrue, IfOk, OnOk, Result, Ok, Err, is_ok, true, refl, List, [], ◌∷◌, ◌++◌, map, length, drop, slice_get, min, Some, sym, ap, subst, ◌∙◌, add_assoc, arith}
+use Rattle.std.proofs.Common.{◌≡◌, ℕ, ◌+◌, ◌-◌, ◌<◌, ◌≤◌, Bool, IsErr, IfOk, OnOk, Result, Ok, Err, is_ok, true, refl, List, [], ◌∷◌, ◌++◌, map, length, drop, slice_get, min, Some, sym, ap, subst, ◌∙◌, add_assoc, arith}
 use Rattle.std.proofs.lemmas.List.{length-drop, length-map, map-append}
 use Rattle.std.specs.Int.{from_bool}
 use Rattle.x25_bits.specs.Bits.{bit}

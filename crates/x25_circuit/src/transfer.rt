@@ -219,7 +219,7 @@ impl Transfer {
         let Some(cut) = self.queue.cut(terms.size) else {
             return None;
         };
-        let ps = count_sent(&mut self.sender, !cut.m && cut.q.d);
+        let ps = count_sent(&mut self.sender, cut.q.d);
         Some(Header {
             q: cut.q,
             m: cut.m,

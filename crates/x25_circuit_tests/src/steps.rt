@@ -65,8 +65,8 @@ const RESET_FOR_PS: Answer = (1, None, Some((0x1B, 0)));
 
 const RESET_FOR_PR: Answer = (2, None, Some((0x1B, 0)));
 
-/// The indices of a call, of a clear, of a message, of a reset, of the user's not being ready, and of a message of which
-/// confirmation is asked.
+/// The indices of a call, of a clear, of a message, of a reset, of the user's not being ready, and of a message of
+/// which confirmation is asked.
 const CALLS: usize = 0;
 
 const CLEARS: usize = 5;
@@ -126,11 +126,7 @@ static BETWEEN_CALLS: [Row; 8] = [
     (Act::Clear, NOTHING, CLEARED),
     (Act::Zero, NOTHING, FREE),
     (Act::Ask(CLEARS), (30, None, None), FREE),
-    (
-        Act::Clear,
-        (0, None, Some((0x17, 0))),
-        CLEARED,
-    ),
+    (Act::Clear, (0, None, Some((0x17, 0))), CLEARED),
     (Act::Ask(CALLS), CALL, (1, 0, false, false, 0, 0, 0, 0)),
     (Act::CallAccepted, NOTHING, (1, 0, false, true, 0, 8, 0, 0)),
     (Act::Forget, NOTHING, CLEARED),
@@ -143,17 +139,37 @@ static CONFIRMED: [Row; 17] = [
     (Act::Ask(ASKS), NOTHING, (0, 0, false, true, 1, 7, 1, 0)),
     (Act::Ask(SENDS), NOTHING, (0, 0, false, true, 2, 6, 1, 0)),
     (Act::Ask(ASKS), NOTHING, (0, 0, false, true, 3, 5, 2, 0)),
-    (Act::Pull, (0, None, Some((0x00, 0))), (0, 0, false, true, 2, 6, 2, 0)),
-    (Act::Pull, (0, None, Some((0x02, 0))), (0, 0, false, true, 1, 7, 2, 0)),
+    (
+        Act::Pull,
+        (0, None, Some((0x00, 0))),
+        (0, 0, false, true, 2, 6, 2, 0),
+    ),
+    (
+        Act::Pull,
+        (0, None, Some((0x02, 0))),
+        (0, 0, false, true, 1, 7, 2, 0),
+    ),
     (Act::Rr(1), NOTHING, (0, 0, false, true, 1, 7, 1, 0)),
-    (Act::Pull, (0, None, Some((0x04, 0))), (0, 0, false, true, 0, 8, 1, 0)),
+    (
+        Act::Pull,
+        (0, None, Some((0x04, 0))),
+        (0, 0, false, true, 0, 8, 1, 0),
+    ),
     (Act::Rr(2), NOTHING, (0, 0, false, true, 0, 8, 1, 0)),
     (Act::Rr(3), NOTHING, OPEN),
     (Act::Ask(ASKS), NOTHING, (0, 0, false, true, 1, 7, 1, 0)),
     (Act::Ask(RESETS), (0, None, Some((0x1B, 0))), BETWEEN),
-    (Act::ResetConfirmed, NOTHING, (0, 1, false, true, 0, 8, 0, 0)),
+    (
+        Act::ResetConfirmed,
+        NOTHING,
+        (0, 1, false, true, 0, 8, 0, 0),
+    ),
     (Act::Ask(ASKS), NOTHING, (0, 1, false, true, 1, 7, 1, 0)),
-    (Act::Pull, (0, None, Some((0x00, 0))), (0, 1, false, true, 0, 8, 1, 0)),
+    (
+        Act::Pull,
+        (0, None, Some((0x00, 0))),
+        (0, 1, false, true, 0, 8, 1, 0),
+    ),
     (Act::Clear, (0, None, Some((0x17, 0))), CLEARED),
 ];
 
@@ -273,7 +289,13 @@ fn happens(circuit: &mut Circuit, alloc: Global, act: Act) -> Result<Answer, Cir
         Act::Clear => heard(circuit, &CLEAR),
         Act::ResetConfirmed => heard(circuit, &Packet::ResetConf { channel: 1 }),
         Act::TooFewOctets => Ok(replied(&hear_too_few(circuit))),
-        Act::Data(ps, pr, m, marks, count) => heard_data(circuit, alloc, (ps, pr), (m, marks), count),
+        Act::Data(ps, pr, m, marks, count) => heard_data(
+            circuit,
+            alloc,
+            (ps, pr),
+            (m, marks),
+            count,
+        ),
         Act::Rr(pr) => heard(
             circuit,
             &Packet::Rr {

@@ -50,7 +50,7 @@ moved_bare h (restart cause diagnostic) has = absurd has
 moved_bare h restart_conf has = absurd has
 moved_bare h other has = refl
 
-moved_quiet : (channels h : ℕ) (p : PlainPacket) → HasChannel p → IsQuiet p → is_channel channels h ≡ true → IsQuietAt channels (moved_to h p)
+moved_quiet : (channels : Ranges) (h : ℕ) (p : PlainPacket) → HasChannel p → IsQuiet p → is_channel channels h ≡ true → IsQuietAt channels (moved_to h p)
 moved_quiet channels h (restart cause diagnostic) has ok is = absurd has
 moved_quiet channels h restart_conf has ok is = absurd has
 moved_quiet channels h (call k called calling facilities user) has ok is = (ok, λ u. is)
@@ -63,7 +63,7 @@ on_bare : (h : ℕ) (o : Option PlainPacket) → IsQuietIf o → bare_layers (op
 on_bare h None q = refl
 on_bare h (Some p) q = ap (λ (x : LayerPacket). x ∷ []) (moved_bare h p q.1)
 
-on_quiet : (channels h : ℕ) (o : Option PlainPacket) → is_channel channels h ≡ true → IsQuietIf o → AreQuiet channels (option_to_list (packet_on h o))
+on_quiet : (channels : Ranges) (h : ℕ) (o : Option PlainPacket) → is_channel channels h ≡ true → IsQuietIf o → AreQuiet channels (option_to_list (packet_on h o))
 on_quiet channels h None is q = tt
 on_quiet channels h (Some p) is q = (moved_quiet channels h p q.1 q.0 is, tt)
 
@@ -80,7 +80,7 @@ sees_put e f x h c s each is = record { restarting = refl; restarts = refl; circ
 
 -- ---- packets handed up
 
-answers_follow : (channels e : ℕ) (f : ℕ → Circuit) (x : Channels) (h : ℕ) (a : Answer) (s : ChannelStep) → is_channel channels h ≡ true → ((k : ℕ) → Shows (f k) (x k)) → Follows a s
+answers_follow : (channels : Ranges) (e : ℕ) (f : ℕ → Circuit) (x : Channels) (h : ℕ) (a : Answer) (s : ChannelStep) → is_channel channels h ≡ true → ((k : ℕ) → Shows (f k) (x k)) → Follows a s
     → Notes (x h) s.next (told_by_all a.notices) → FollowsLayer channels (answers_on e f h a) (ready e x) (on_channel e x h s)
 answers_follow channels e f x h a s is each g notes =
     let sees : SeesLayer (is_ready e (put_at f h a.next)) (ready e (put x h s.next)) = sees_put e f x h a.next s.next each g.next in
@@ -129,7 +129,7 @@ row_ready laws c e f x (interrupt_conf h) each ok q = on_its_channel laws c e f 
 row_ready laws c e f x (reset h cause diagnostic) each ok q = on_its_channel laws c e f x (reset h cause diagnostic) tt each ok q
 row_ready laws c e f x (reset_conf h) each ok q = on_its_channel laws c e f x (reset_conf h) tt each ok q
 
-restarted : (channels e : ℕ) (x : Side Channels) (notices : List flat.LayerNotice) → AreNoFaults notices → entries_told (is_ready (suc e) (λ k. begun)) notices ≡ []
+restarted : (channels : Ranges) (e : ℕ) (x : Side Channels) (notices : List flat.LayerNotice) → AreNoFaults notices → entries_told (is_ready (suc e) (λ k. begun)) notices ≡ []
     → FollowsLayer channels (flat.restarts_to e None notices) (record { epoch = e; side = x }) (record { next = ready (suc e) all_fresh; out = []; error = None })
 restarted channels e x notices clean none = record {
   next = record { restarting = refl; restarts = refl; circuits = λ k. begun_shown };
@@ -139,7 +139,7 @@ restarted channels e x notices clean none = record {
   step = subst (λ (es : List Entry). StepOf (record { epoch = e; side = x }) (ready (suc e) all_fresh) es) (sym none) (restart_step e x);
 }
 
-dropped : (channels e : ℕ) (f : ℕ → Circuit) (x : Channels) → ((k : ℕ) → f k ≡ forgotten (view unagreed (x k)))
+dropped : (channels : Ranges) (e : ℕ) (f : ℕ → Circuit) (x : Channels) → ((k : ℕ) → f k ≡ forgotten (view unagreed (x k)))
     → FollowsLayer channels (drops true e f) (restarting e x) (record { next = restarting e x; out = []; error = None })
 dropped channels e f x each = record {
   next = record { restarting = refl; restarts = refl; circuits = each };

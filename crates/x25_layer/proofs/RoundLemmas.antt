@@ -1,6 +1,7 @@
 -- The rounds of a step are pulls of configured channels, one after another.
 use Rattle.std.proofs.Common.{◌≡◌, ℕ, zero, suc, ◌≤◌, List, [], ◌∷◌, ◌++◌, Option, Some, None, Bool, true, false, nat_lt, ◌==◌, if◌then◌else◌, option_to_list, refl, sym, ap, subst, ◌∙◌, append_assoc, arith}
 use Rattle.x25_packet.specs.Packet.{PlainPacket}
+use Rattle.x25_layer.specs.declared.ranges.Ranges.{Ranges}
 use Rattle.x25_layer.specs.Layer.{LayerSettings, Layer, LayerAnswer, is_channel, layer_answers}
 use Rattle.x25_layer.specs.Calls.{LayerOutcome, Accepted, Declined, layer_outcome, layer_pulled}
 use Rattle.x25_layer.specs.Rounds.{LinkView, Putting, begin, with_pulled, pull_one, round, rounds_of, rounds, backlog, Answered, Went, Refuses, went, heard, answer_to}
@@ -48,7 +49,7 @@ all_append : (c : LayerSettings) (w : TwoLayers) (a b : List ℕ) → moves_all 
 all_append c w [] b = refl
 all_append c w (h ∷ a) b = all_append c (moves c w (Pulls h)) a b
 
-channels_append : (n : ℕ) (a b : List ℕ) → AreChannels n a → AreChannels n b → AreChannels n (a ++ b)
+channels_append : (n : Ranges) (a b : List ℕ) → AreChannels n a → AreChannels n b → AreChannels n (a ++ b)
 channels_append n [] b p q = q
 channels_append n (h ∷ a) b p q = (p.0, channels_append n a b p.1 q)
 

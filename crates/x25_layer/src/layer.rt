@@ -213,8 +213,7 @@ impl Layer {
     }
 
     /// How many messages of a channel haven't the confirmation yet that was asked of them: they wait, or their last
-    /// packet isn't acknowledged. They are 15 at most, and 0 where it isn't configured. ITU-T X.25 (10/96), section
-    /// 4.4.1.4.
+    /// packet isn't acknowledged. 0 where it isn't configured. ITU-T X.25 (10/96), section 4.4.1.4.
     pub fn unconfirmed(&self, channel: u16) -> usize
         ensures { (c : LayerSettings) (l : State) → FitsLayer c self.now l → result ≡ unconfirmed_at c l channel }
     {

@@ -1,13 +1,13 @@
 //! Which refusal comes, by the state of the link, of the layer and of the channel, and that it is told beforehand.
 
-use crate::calls::{ask, call, fill, layer, link_down, plain_link, restart};
+use crate::calls::{ask, call, fill, layer, layer_with, link_down, plain_link, restart};
 use std::alloc::Global;
 use x25_circuit::Request;
-use x25_layer::{Layer, LayerError, Role};
+use x25_layer::{Layer, LayerError, Ranges, Role};
 use x25_link::OrderedLink;
 use x25_packet::Marks;
 
-/// What is asked of a channel, by its index up to 6.
+/// What is asked of a channel, by its index up to 7.
 pub fn request(index: usize) -> Request<'static> {
     match index {
         0 => Request::Accept { answer: None },
@@ -25,7 +25,11 @@ pub fn request(index: usize) -> Request<'static> {
             diagnostic: 0,
         },
         5 => Request::Ready,
-        _ => Request::NotReady,
+        6 => Request::NotReady,
+        _ => Request::Send {
+            q: Marks { q: false, d: true },
+            user: &[],
+        },
     }
 }
 
@@ -229,17 +233,23 @@ fn the_circuit_refuses_what_its_state_does_not_allow(rt: HostRuntime) {
     );
 }
 
-fn refusal(alloc: Global, channels: u16) -> Option<LayerError> {
-    layer(alloc, Role::Dte, channels).err()
+fn refusal(alloc: Global, count: u16, incoming: u16, outgoing: u16) -> Option<LayerError> {
+    let channels = Ranges {
+        count,
+        incoming,
+        outgoing,
+    };
+    layer_with(alloc, Role::Dte, channels).err()
 }
 
 #[test]
-fn a_layer_has_1_to_4095_channels(rt: HostRuntime) {
-    for channels in [0, 4096] {
+fn a_layer_has_1_to_4095_channels_and_no_more_are_one_way(rt: HostRuntime) {
+    for (count, incoming, outgoing) in [(0, 0, 0), (4096, 0, 0), (3, 4, 0), (3, 2, 2)] {
         assert_eq!(rt;
-            refusal(rt.alloc(), channels),
+            refusal(rt.alloc(), count, incoming, outgoing),
             Some(LayerError::BadConfig),
-            "{channels}"
+            "{count} {incoming} {outgoing}"
         );
     }
+    assert_eq!(rt; refusal(rt.alloc(), 3, 2, 1), None);
 }

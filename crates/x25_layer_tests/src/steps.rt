@@ -1,10 +1,10 @@
 //! What a layer puts over a plain link, and what it says of itself then; `tests/golden` has the packets of whole calls.
 
-use crate::calls::{ask, call, fill, hear, layer, plain_link, pull, restart, up};
+use crate::calls::{ask, call, fill, hear, layer, layer_with, plain_link, pull, restart, up};
 use crate::refusals::request;
 use std::alloc::Global;
 use x25_circuit::{Notice, Request};
-use x25_layer::{Layer, LayerError, Params, Report, Role, Stretch};
+use x25_layer::{Layer, LayerError, Params, Ranges, Report, Role, Stretch};
 use x25_link::{OrderedLink, PlainLink};
 use x25_packet::Marks;
 
@@ -585,4 +585,55 @@ fn a_call_takes_the_channel_of_its_end(rt: HostRuntime) {
         called(rt.alloc(), Role::Dce),
         Some((Ok(1), Ok(2), Some(1), None))
     );
+}
+
+// The answers to four calls.
+type FourCalls = [Result<u16, LayerError>; 4];
+
+// At an end with four channels, 1 and 2 one-way incoming and 4 one-way outgoing.
+fn called_in_ranges(alloc: Global, role: Role) -> Option<FourCalls> {
+    let channels = Ranges {
+        count: 4,
+        incoming: 2,
+        outgoing: 1,
+    };
+    let mut layer = layer_with(alloc, role, channels).ok()?;
+    let mut link = plain_link(alloc)?;
+    let (_, first) = call(&mut layer, &mut *link, ("1", "2"), &[]);
+    let (_, second) = call(&mut layer, &mut *link, ("1", "2"), &[]);
+    let (_, third) = call(&mut layer, &mut *link, ("1", "2"), &[]);
+    let (_, fourth) = call(&mut layer, &mut *link, ("1", "2"), &[]);
+    Some([first, second, third, fourth])
+}
+
+#[test]
+fn a_call_takes_no_channel_that_is_kept_for_the_other_end(rt: HostRuntime) {
+    let none = Err(LayerError::NoFreeChannel);
+    assert_eq!(rt;
+        called_in_ranges(rt.alloc(), Role::Dte),
+        Some([Ok(4), Ok(3), none, none])
+    );
+    assert_eq!(rt;
+        called_in_ranges(rt.alloc(), Role::Dce),
+        Some([Ok(1), Ok(2), Ok(3), none])
+    );
+}
+
+// How many messages are unconfirmed on channel 1 after one asks for it and after its acknowledgement, and on channel 3,
+// which isn't configured.
+fn unconfirmed(alloc: Global) -> Option<(usize, usize, usize)> {
+    let mut layer = layer(alloc, Role::Dte, 2).ok()?;
+    let mut link = plain_link(alloc)?;
+    if odd_row(alloc, &mut layer, &mut link, &TWO_OPEN).is_some() {
+        return None;
+    }
+    ask(&mut layer, &mut *link, 1, request(7)).ok()?;
+    let asked = layer.unconfirmed(1);
+    hear(&mut layer, &mut link, false, &[0x10, 0x01, 0x21]).ok()?;
+    Some((asked, layer.unconfirmed(1), layer.unconfirmed(3)))
+}
+
+#[test]
+fn a_message_is_unconfirmed_until_it_is_acknowledged(rt: HostRuntime) {
+    assert_eq!(rt; unconfirmed(rt.alloc()), Some((1, 0, 0)));
 }

@@ -86,18 +86,18 @@ stretch_sends : (size : ℕ) (y : PeerStretch) (d : Deed) → stretch.MayDo size
     → (t : ℕ) × (talk_sends t (talk_of size y) (item_of (stretch.packet_of y d)) ≡ Some (phase.Talks (talk_of size (stretch.does y d))))
 stretch_sends size y (Sends (More q user) n) may = (
   n,
-  sends_then (may_ack n (talk_of size y) (n % 8) && may_follow (talk_of size y) q (length y.sent % 8) (length user))
+  sends_then (may_ack n (talk_of size y) (n % 8) && may_follow (talk_of size y) q.q (length y.sent % 8) (length user))
       (talked n (talk_of size y) (data_of (length y.sent % 8) (n % 8) (More q user))) (talk_of size (stretch.does y (Sends (More q user) n)))
-      (and_from (may_ack n (talk_of size y) (n % 8)) (may_follow (talk_of size y) q (length y.sent % 8) (length user))
+      (and_from (may_ack n (talk_of size y) (n % 8)) (may_follow (talk_of size y) q.q (length y.sent % 8) (length user))
       (acks size y n may.0) (follows size y (More q user) may.1))
       (ap₂ (λ m b. record (talk_of size y) { sent = m; told = n; begun = b }) (sym (length_push y.sent (More q user)))
       (ap (λ j. j.begun) (sym (joining_push no_part y.sent (More q user))))),
 )
 stretch_sends size y (Sends (Last q user) n) may = (
   n,
-  sends_then (may_ack n (talk_of size y) (n % 8) && may_follow (talk_of size y) q (length y.sent % 8) (length user))
+  sends_then (may_ack n (talk_of size y) (n % 8) && may_follow (talk_of size y) q.q (length y.sent % 8) (length user))
       (talked n (talk_of size y) (data_of (length y.sent % 8) (n % 8) (Last q user))) (talk_of size (stretch.does y (Sends (Last q user) n)))
-      (and_from (may_ack n (talk_of size y) (n % 8)) (may_follow (talk_of size y) q (length y.sent % 8) (length user))
+      (and_from (may_ack n (talk_of size y) (n % 8)) (may_follow (talk_of size y) q.q (length y.sent % 8) (length user))
       (acks size y n may.0) (follows size y (Last q user) may.1))
       (ap₂ (λ m b. record (talk_of size y) { sent = m; told = n; begun = b }) (sym (length_push y.sent (Last q user)))
       (ap (λ j. j.begun) (sym (joining_push no_part y.sent (Last q user))))),

@@ -11,7 +11,7 @@ use Rattle.x25_settings.specs.declared.options.Flag.TheVariants.{Clock, Down, Ev
 use Rattle.x25_settings.specs.declared.options.Kind.{Kind}
 use Rattle.x25_settings.specs.declared.options.Kind.TheVariants.{Decode, Sim, Station, Judge, Frame}
 use Rattle.x25_settings.specs.declared.options.Numbered.{Numbered}
-use Rattle.x25_settings.specs.declared.options.Numbered.TheVariants.{Window, Tries, Channels, T1, T3, T20, T21, T22, T23}
+use Rattle.x25_settings.specs.declared.options.Numbered.TheVariants.{Window, Tries, Channels, Incoming, Outgoing, T1, T3, T20, T21, T22, T23}
 use Rattle.x25_settings.specs.Options.Choosing.{number_in, flags, flag_in, numbers, numbered_in, put_flag, put_fresh, put_read, put_text, put_number, chosen_in}
 use Rattle.x25_settings.specs.Options.{Choice, flag, number, flag_word, word_of, least_of, most_of, words_of, nothing, chosen_flag, with_flag, chosen_number, with_number, takes, has, IsInRange, IsOpen, Leads, settled, Choose, AreInRange}
 use Rattle.x25_settings.proofs.NumberLemmas.{number_found, number_read}
@@ -45,6 +45,8 @@ no_flag : (x : Numbered) → flag_in (word_of x) ≡ None
 no_flag Window = refl
 no_flag Tries = refl
 no_flag Channels = refl
+no_flag Incoming = refl
+no_flag Outgoing = refl
 no_flag T1 = refl
 no_flag T3 = refl
 no_flag T20 = refl
@@ -56,6 +58,8 @@ is_numbered : (x : Numbered) → numbered_in (word_of x) ≡ Some x
 is_numbered Window = refl
 is_numbered Tries = refl
 is_numbered Channels = refl
+is_numbered Incoming = refl
+is_numbered Outgoing = refl
 is_numbered T1 = refl
 is_numbered T3 = refl
 is_numbered T20 = refl
@@ -74,6 +78,8 @@ few : (kind : Kind) (x : Numbered) → most_of kind x < 4294967296
 few kind Window = omega arith
 few kind Tries = omega arith
 few kind Channels = (few_channels kind).1
+few kind Incoming = omega arith
+few kind Outgoing = omega arith
 few kind T1 = omega arith
 few kind T3 = omega arith
 few kind T20 = omega arith
@@ -275,6 +281,8 @@ module _ (kind : Kind) where
   number_keeps Window n c range kept = record { k = range; n2 = kept.n2; channels = kept.channels }
   number_keeps Tries n c range kept = record { k = kept.k; n2 = range; channels = kept.channels }
   number_keeps Channels n c range kept = record { k = kept.k; n2 = kept.n2; channels = range }
+  number_keeps Incoming n c range kept = record { k = kept.k; n2 = kept.n2; channels = kept.channels }
+  number_keeps Outgoing n c range kept = record { k = kept.k; n2 = kept.n2; channels = kept.channels }
   number_keeps T1 n c range kept = record { k = kept.k; n2 = kept.n2; channels = kept.channels }
   number_keeps T3 n c range kept = record { k = kept.k; n2 = kept.n2; channels = kept.channels }
   number_keeps T20 n c range kept = record { k = kept.k; n2 = kept.n2; channels = kept.channels }

@@ -14,7 +14,7 @@ use Rattle.x25_settings.specs.declared.options.Simulation.{Simulation}
 use Rattle.x25_settings.specs.declared.words.Task.{Task}
 use Rattle.x25_settings.specs.declared.words.Task.TheVariants.{Decode, Vectors, Sim, Station, Judge, Deframe, Frame}
 use Rattle.x25_settings.specs.Options.Choosing.{chosen_in, read_decoding, read_framing, read_judging, read_place, read_simulation, place_behind, place_of, end_in, deframe_in, vectors_in, task_behind, task_in}
-use Rattle.x25_settings.specs.Options.{nothing, decoded, fits_clock, judged, placed, simulated, settled, end_word, JudgingIsInRange}
+use Rattle.x25_settings.specs.Options.{nothing, decoded, fits_together, judged, placed, simulated, settled, end_word, JudgingIsInRange}
 use Rattle.x25_settings.specs.Options as options
 use Rattle.x25_settings.specs.Words.{AreInRange, ChooseBehind, Say}
 use Rattle.x25_settings.proofs.ChoiceLemmas.{found, in_range, read, word_found}
@@ -99,7 +99,7 @@ found_station word (next ∷ rest) task is e = by_end (end_in next) refl e
         words_are : word ∷ next ∷ rest ≡ front end rest
         words_are = ap (λ w. w ∷ next ∷ rest) is ∙ ap (λ n. codes "station" ∷ n ∷ rest) (end_found next end reads)
 
-        by_clock : (c : Chosen) (fits : Bool) → chosen_in kind.Station nothing rest ≡ Some c → fits_clock c ≡ fits → option_map (λ p. Station p) (cond fits (Some (placed end c)) None) ≡ Some task
+        by_clock : (c : Chosen) (fits : Bool) → chosen_in kind.Station nothing rest ≡ Some c → fits_together c ≡ fits → option_map (λ p. Station p) (cond fits (Some (placed end c)) None) ≡ Some task
             → Say (word ∷ next ∷ rest) task
         by_clock c true reads fits e =
             given (word ∷ next ∷ rest) (Station (placed end c)) task e (record { rest = rest; end = c; words_are = words_are; choose = found kind.Station rest c reads; is = (refl, fits) })
@@ -107,7 +107,7 @@ found_station word (next ∷ rest) task is e = by_end (end_in next) refl e
 
         by_chosen : (o : Option Chosen) → chosen_in kind.Station nothing rest ≡ o → option_map (λ p. Station p) (option_and_then (place_of end) o) ≡ Some task → Say (word ∷ next ∷ rest) task
         by_chosen None reads e = absurd (cc)
-        by_chosen (Some c) reads e = by_clock c (fits_clock c) reads refl e
+        by_chosen (Some c) reads e = by_clock c (fits_together c) reads refl e
 
 found_judge : (word : List ℕ) (words : List (List ℕ)) (task : Task) → word ≡ codes "judge" → option_map (λ g. Judge g) (read_judging words) ≡ Some task → Say (word ∷ words) task
 found_judge word words task is e =

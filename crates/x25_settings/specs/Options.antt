@@ -1,6 +1,6 @@
 -- The commands that have options, the words behind them, and what plain ones say (profile).
 use Rattle.std.specs.Prelude.{◌≡◌, ◌≤◌, ℕ, Bool, true, false, ◌||◌, not, List, [], ◌∷◌, Option, Some, None, unwrap_or}
-use Rattle.std.specs.Prelude.{is_some, if◌then◌else◌, codes, decimal}
+use Rattle.std.specs.Prelude.{is_some, if◌then◌else◌, codes, decimal, ◌+◌, ◌&&◌, nat_le}
 use Rattle.std.specs.List.{flat_map}
 use Rattle.x25_settings.specs.declared.options.Decoding.{Decoding}
 use Rattle.x25_settings.specs.declared.options.Simulation.{Simulation}
@@ -17,8 +17,8 @@ use Rattle.x25_settings.specs.declared.options.Flag.TheVariants.{SaySizes, Tap, 
 use Rattle.x25_settings.specs.declared.options.Kind.{Kind}
 use Rattle.x25_settings.specs.declared.options.Kind.TheVariants.{Decode, Sim, Station, Judge, Frame}
 use Rattle.x25_settings.specs.declared.options.Numbered.{Numbered}
-use Rattle.x25_settings.specs.declared.options.Numbered.TheVariants.{Window, Tries, Channels, T1, T3, T20, T21}
-use Rattle.x25_settings.specs.declared.options.Numbered.TheVariants.{T22, T23}
+use Rattle.x25_settings.specs.declared.options.Numbered.TheVariants.{Window, Tries, Channels, Incoming, Outgoing, T1}
+use Rattle.x25_settings.specs.declared.options.Numbered.TheVariants.{T3, T20, T21, T22, T23}
 pub mod Choosing
 
 abbrev pub flag_word : Flag → List ℕ
@@ -37,6 +37,8 @@ abbrev pub word_of : Numbered → List ℕ
 word_of Window = codes "--k"
 word_of Tries = codes "--n2"
 word_of Channels = codes "--channels"
+word_of Incoming = codes "--incoming"
+word_of Outgoing = codes "--outgoing"
 word_of T1 = codes "--t1"
 word_of T3 = codes "--t3"
 word_of T20 = codes "--t20"
@@ -79,12 +81,12 @@ has Judge Window = true
 has Judge option = false
 has Frame option = false
 
--- the least that it may be; a time of 0 is for ever
+-- the least that it may be: of channels that are one-way none; a time of 0 is for ever
 abbrev pub least_of : Numbered → ℕ
 least_of Window = 1
 least_of Tries = 1
 least_of Channels = 1
-least_of time = 0
+least_of other = 0
 
 -- the most that it may be behind a command; of a time, in milliseconds, a day
 abbrev pub most_of : Kind → Numbered → ℕ
@@ -92,6 +94,8 @@ most_of kind Window = 7
 most_of kind Tries = 255
 most_of Sim Channels = 16
 most_of kind Channels = 4095
+most_of kind Incoming = 4095
+most_of kind Outgoing = 4095
 most_of kind time = 86400000
 
 -- an option, with its number where it has one
@@ -121,6 +125,8 @@ nothing = record {
   k = None;
   n2 = None;
   channels = None;
+  incoming = None;
+  outgoing = None;
   times = no_times;
 }
 
@@ -128,6 +134,8 @@ abbrev pub chosen_number : Chosen → Numbered → Option ℕ
 chosen_number c Window = c.k
 chosen_number c Tries = c.n2
 chosen_number c Channels = c.channels
+chosen_number c Incoming = c.incoming
+chosen_number c Outgoing = c.outgoing
 chosen_number c T1 = c.times.t1
 chosen_number c T3 = c.times.t3
 chosen_number c T20 = c.times.t20
@@ -163,6 +171,8 @@ abbrev pub with_number : Chosen → Numbered → ℕ → Chosen
 with_number c Window n = record c { k = Some n }
 with_number c Tries n = record c { n2 = Some n }
 with_number c Channels n = record c { channels = Some n }
+with_number c Incoming n = record c { incoming = Some n }
+with_number c Outgoing n = record c { outgoing = Some n }
 with_number c T1 n = record c { times = record c.times { t1 = Some n } }
 with_number c T3 n = record c { times = record c.times { t3 = Some n } }
 with_number c T20 n = record c { times = record c.times { t20 = Some n } }
@@ -196,6 +206,8 @@ settled c = record {
   k = unwrap_or c.k 7;
   n2 = unwrap_or c.n2 10;
   channels = unwrap_or c.channels 1;
+  incoming = unwrap_or c.incoming 0;
+  outgoing = unwrap_or c.outgoing 0;
 }
 
 abbrev pub simulated : Chosen → Simulation
@@ -207,9 +219,12 @@ decoded c = record { long = c.long; loose = c.loose; wide = c.wide }
 abbrev pub has_times : GivenTimes → Bool
 has_times x = is_some x.t1 || (is_some x.t3 || (is_some x.t20 || (is_some x.t21 || (is_some x.t22 || is_some x.t23))))
 
--- times are given with a clock alone
-abbrev pub fits_clock : Chosen → Bool
-fits_clock c = c.clock || not (has_times c.times)
+abbrev pub fit_ranges : StationOptions → Bool
+fit_ranges s = nat_le (s.incoming + s.outgoing) s.channels
+
+-- times are given with a clock alone, and no more channels are one-way than there are
+abbrev pub fits_together : Chosen → Bool
+fits_together c = (c.clock || not (has_times c.times)) && fit_ranges (settled c)
 
 abbrev pub clock_of : Chosen → Option GivenTimes
 clock_of c = if c.clock then Some c.times else None

@@ -5,7 +5,7 @@ use Rattle.x25_settings.specs.declared.options.Kind.{Kind}
 use Rattle.x25_settings.specs.declared.options.Kind.TheVariants as kind
 use Rattle.x25_settings.specs.declared.words.Task.{Task}
 use Rattle.x25_settings.specs.declared.words.Task.TheVariants.{Decode, Vectors, Sim, Station, Judge, Deframe, Frame}
-use Rattle.x25_settings.specs.Options.{Choose, decoded, end_word, fits_clock, judged, placed, simulated}
+use Rattle.x25_settings.specs.Options.{Choose, decoded, end_word, fits_together, judged, placed, simulated}
 use Rattle.x25_settings.specs.Options.{JudgingIsInRange}
 use Rattle.x25_settings.specs.Options as options
 pub mod SettingsError
@@ -25,7 +25,7 @@ Say words (Decode d) = ChooseBehind (λ rest. codes "decode" ∷ rest) kind.Deco
 Say words Vectors = words ≡ codes "vectors" ∷ []
 Say words (Sim s) = ChooseBehind (λ rest. codes "sim" ∷ rest) kind.Sim words (λ c. s ≡ simulated c)
 Say words (Station p) = ChooseBehind (λ rest. codes "station" ∷ end_word p.end ∷ rest) kind.Station words
-    (λ c. (p ≡ placed p.end c) × (fits_clock c ≡ true))
+    (λ c. (p ≡ placed p.end c) × (fits_together c ≡ true))
 Say words (Judge g) = ChooseBehind (λ rest. codes "judge" ∷ rest) kind.Judge words (λ c. g ≡ judged c)
 Say words (Deframe end) = words ≡ codes "deframe" ∷ end_word end ∷ []
 Say words (Frame loose) = ChooseBehind (λ rest. codes "frame" ∷ rest) kind.Frame words (λ c. loose ≡ c.loose)

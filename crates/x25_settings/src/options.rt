@@ -6,7 +6,7 @@ ghost use Rattle.x25_settings.specs.Options.Choosing.{chosen_in, end_in, flag_in
 ghost use Rattle.x25_settings.specs.Options.Choosing.{put_number, read_decoding, read_framing};
 ghost use Rattle.x25_settings.specs.Options.Choosing.{read_judging as judging_in};
 ghost use Rattle.x25_settings.specs.Options.Choosing.{read_place as place_in, read_simulation as simulation_in};
-ghost use Rattle.x25_settings.specs.Options.{chosen_number, clock_of, fits_clock as clock_fits, has, has_times};
+ghost use Rattle.x25_settings.specs.Options.{chosen_number, clock_of, fits_together as together, has, has_times};
 ghost use Rattle.x25_settings.specs.declared.options.Kind.TheVariants.{Station};
 ghost use Rattle.x25_settings.specs.Options.{least_of, most_of, nothing, settled, takes, with_number};
 
@@ -39,6 +39,10 @@ pub struct StationOptions {
     pub n2: u8,
     /// The number of channels, 1 to 4,095; of `sim` 1 to 16.
     pub channels: u16,
+    /// The channels 1 to this number are one-way incoming.
+    pub incoming: u16,
+    /// So many of the highest are one-way outgoing.
+    pub outgoing: u16,
 }
 
 /// What `sim` is run with.
@@ -132,6 +136,8 @@ pub(crate) enum Numbered {
     Window,
     Tries,
     Channels,
+    Incoming,
+    Outgoing,
     T1,
     T3,
     T20,
@@ -181,6 +187,8 @@ impl Numbered {
             Numbered::Window => "k",
             Numbered::Tries => "n2",
             Numbered::Channels => "channels",
+            Numbered::Incoming => "incoming",
+            Numbered::Outgoing => "outgoing",
             Numbered::T1 => "t1",
             Numbered::T3 => "t3",
             Numbered::T20 => "t20",
@@ -209,7 +217,7 @@ impl Numbered {
             Numbered::Window => 7,
             Numbered::Tries => 255,
             Numbered::Channels if matches!(kind, Kind::Sim) => 16,
-            Numbered::Channels => 4095,
+            Numbered::Channels | Numbered::Incoming | Numbered::Outgoing => 4095,
             _ => 86_400_000,
         }
     }
@@ -220,6 +228,7 @@ impl Numbered {
             Numbered::Window => Some("7"),
             Numbered::Tries => Some("10"),
             Numbered::Channels => Some("1"),
+            Numbered::Incoming | Numbered::Outgoing => Some("0"),
             _ => None,
         }
     }
@@ -255,6 +264,8 @@ struct Chosen {
     k: Option<u8>,
     n2: Option<u8>,
     channels: Option<u16>,
+    incoming: Option<u16>,
+    outgoing: Option<u16>,
     times: GivenTimes,
 }
 
@@ -301,6 +312,10 @@ fn numbered_option(word: &str) -> Option<Numbered>
         Some(Numbered::Tries)
     } else if is(word, "--channels") {
         Some(Numbered::Channels)
+    } else if is(word, "--incoming") {
+        Some(Numbered::Incoming)
+    } else if is(word, "--outgoing") {
+        Some(Numbered::Outgoing)
     } else if is(word, "--t1") {
         Some(Numbered::T1)
     } else if is(word, "--t3") {
@@ -400,6 +415,8 @@ impl Chosen {
             Numbered::Window => self.k.is_some(),
             Numbered::Tries => self.n2.is_some(),
             Numbered::Channels => self.channels.is_some(),
+            Numbered::Incoming => self.incoming.is_some(),
+            Numbered::Outgoing => self.outgoing.is_some(),
             Numbered::T1 => self.times.t1.is_some(),
             Numbered::T3 => self.times.t3.is_some(),
             Numbered::T20 => self.times.t20.is_some(),
@@ -426,6 +443,14 @@ impl Chosen {
             },
             Numbered::Channels => Chosen {
                 channels: Some(n as u16),
+                ..self
+            },
+            Numbered::Incoming => Chosen {
+                incoming: Some(n as u16),
+                ..self
+            },
+            Numbered::Outgoing => Chosen {
+                outgoing: Some(n as u16),
                 ..self
             },
             Numbered::T1 => self.with_times(GivenTimes {
@@ -489,14 +514,18 @@ impl Chosen {
             k: self.k.unwrap_or(WINDOW),
             n2: self.n2.unwrap_or(TRIES),
             channels: self.channels.unwrap_or(CHANNELS),
+            incoming: self.incoming.unwrap_or(0),
+            outgoing: self.outgoing.unwrap_or(0),
         }
     }
 
-    /// Whether times are given with a clock alone.
-    fn fits_clock(self) -> bool
-        ensures { result ≡ clock_fits self }
+    /// Whether times are given with a clock alone, and no more channels are one-way than there are.
+    fn fits_together(self) -> bool
+        ensures { result ≡ together self }
     {
-        self.clock || !self.times.are_given()
+        let station = self.with_defaults();
+        let one_way = usize::from(station.incoming) + usize::from(station.outgoing);
+        (self.clock || !self.times.are_given()) && one_way <= usize::from(station.channels)
     }
 
     /// The times of the clock, where there is one.
@@ -537,6 +566,8 @@ fn choose<S: AsStr>(kind: Kind, words: &[S]) -> Option<Chosen>
         k: None,
         n2: None,
         channels: None,
+        incoming: None,
+        outgoing: None,
         times: GivenTimes {
             t1: None,
             t3: None,
@@ -616,7 +647,7 @@ pub(crate) fn read_place<S: AsStr>(words: &[S]) -> Option<Place>
     let (word, behind) = split_word(words)?;
     let end = end_word(word)?;
     let chosen = choose(Kind::Station, behind)?;
-    if !chosen.fits_clock() {
+    if !chosen.fits_together() {
         return None;
     }
     Some(Place {

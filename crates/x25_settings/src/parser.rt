@@ -72,6 +72,18 @@ const CHANNELS: Word = Word::Number(
     "The number of logical channels: 1 to 4095",
 );
 
+const INCOMING: Word = Word::Number(
+    Kind::Station,
+    Numbered::Incoming,
+    "Channels 1 to N are one-way incoming: a DTE doesn't call on them",
+);
+
+const OUTGOING: Word = Word::Number(
+    Kind::Station,
+    Numbered::Outgoing,
+    "The N highest channels are one-way outgoing: a DCE doesn't call on them",
+);
+
 const CLOCK: Word = Word::Flag(
     "clock",
     "Read the time in lines `@ MS`, in milliseconds, and ask for what is due then",
@@ -168,6 +180,8 @@ static COMMANDS: [Row; 7] = [
             WINDOW,
             TRIES,
             CHANNELS,
+            INCOMING,
+            OUTGOING,
             CLOCK,
             T1,
             T3,

@@ -11,6 +11,8 @@ const DEFAULTS: StationOptions = StationOptions {
     k: 7,
     n2: 10,
     channels: 1,
+    incoming: 0,
+    outgoing: 0,
 };
 
 const PLAIN_DECODING: Decoding = Decoding {
@@ -66,7 +68,7 @@ fn timed(end: End, times: GivenTimes) -> Task {
 
 #[test]
 fn takes_plain_words_alone(rt: HostRuntime) {
-    let plain: [(&[&str], Task); 34] = [
+    let plain: [(&[&str], Task); 35] = [
         (&["decode"], Task::Decode(PLAIN_DECODING)),
         (
             &["decode", "--long"],
@@ -278,6 +280,27 @@ fn takes_plain_words_alone(rt: HostRuntime) {
                 },
             ),
         ),
+        (
+            &[
+                "station",
+                "dce",
+                "--outgoing",
+                "3",
+                "--channels",
+                "4",
+                "--incoming",
+                "1",
+            ],
+            place(
+                End::Dce,
+                StationOptions {
+                    channels: 4,
+                    incoming: 1,
+                    outgoing: 3,
+                    ..DEFAULTS
+                },
+            ),
+        ),
         (&["station", "dce", "--clock"], timed(End::Dce, USUAL_TIMES)),
         (
             &["station", "dte", "--t1", "0", "--clock", "--t3", "86400000"],
@@ -348,6 +371,19 @@ fn takes_no_other_words(rt: HostRuntime) {
         &["station", "dte", "--channels", "0"],
         &["station", "dte", "--channels", "4096"],
         &["station", "dte", "--channels", "65537"],
+        &["station", "dte", "--incoming", "2"],
+        &[
+            "station",
+            "dte",
+            "--channels",
+            "4",
+            "--incoming",
+            "3",
+            "--outgoing",
+            "2",
+        ],
+        &["station", "dte", "--outgoing", "4096"],
+        &["sim", "--incoming", "0"],
         &["sim", "--chan", "2"],
         &["sim", "--tap", "--"],
         &["sim", "script"],
@@ -422,7 +458,8 @@ For more information, try '--help'.\n";
 
 /// Words that the parser takes.
 const PLAIN: &str =
-    "error: each option is one word, and its number the next one, without a sign and leading zeros: `--k 3`\n\n\
+    "error: each option is one word, and its number the next one, without a sign and leading zeros: `--k 3`; \
+and no more channels are one-way than there are\n\n\
 Usage: x25 <COMMAND>\n\nFor more information, try '--help'.\n";
 
 /// The help of `decode`.

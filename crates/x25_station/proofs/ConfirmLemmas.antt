@@ -1,14 +1,20 @@
 -- What is confirmed from one layer to another, by what these tell.
-use Rattle.std.proofs.Common.{◌≡◌, ℕ, zero, suc, ◌-◌, ◌<◌, List, [], ◌∷◌, Option, Some, None, Bool, true, false, ◌&&◌, if◌then◌else◌, refl, ap, ap₂, sym, ◌∙◌, arith}
+use Rattle.std.proofs.Common.{◌≡◌, ℕ, zero, suc, ◌-◌, ◌<◌, List, [], ◌∷◌, Option, Some, None, Bool, true, false, ◌&&◌, ◌==◌, not, if◌then◌else◌, refl, ap, sym, ◌∙◌, eq-eqb, arith}
+use Rattle.std.proofs.lemmas.Bool.{eqb-true}
 use Rattle.std.proofs.lemmas.Option.{none-some, same_Some}
 use Rattle.x25_circuit.specs.Circuit.{is_open, unconfirmed}
 use Rattle.x25_handshakes.specs.laws.Names.{Name, same_name}
-use Rattle.x25_handshakes.proofs.NameLemmas.{same_name-refl, same_name-is}
+use Rattle.x25_handshakes.proofs.NameLemmas.{name_eq, same_name-refl, same_name-is}
 use Rattle.x25_layer.specs.Layer.{LayerSettings, Layer, is_channel}
 use Rattle.x25_layer.specs.Layer.Confirmed.{unconfirmed_at}
+use Rattle.x25_layer.specs.Rounds.{LinkView, Putting, rounds}
 use Rattle.x25_layer.specs.code.FitsLayer.{is_open_at, name_at}
 use Rattle.x25_layer.specs.laws.Transcript.{name_of}
+use Rattle.x25_station.specs.declared.confirming.Unconfirmed.{Unconfirmed}
 use Rattle.x25_station.specs.Confirming.{confirmed, goes_on}
+use Rattle.x25_station.specs.code.Confirming.{StandsFor}
+use Rattle.x25_station.specs.code.PlainEntry.{plain_name}
+use Rattle.x25_station.proofs.NameLemmas.{rounds_name, rounds_open, rounds_unconfirmed}
 use Rattle.x25_station.specs.Entry.{StationEntry, entries_behind, was_confirmed}
 
 true_false : true ≡ false → ⊥
@@ -92,3 +98,73 @@ pub told_behind : (next : Layer) (h channel told count : ℕ) (name : Name) (bes
 told_behind next h channel told zero name beside some is at under = absurd (some is)
 told_behind next h channel told (suc n) name beside some is at under =
     sym (ap (λ (k : ℕ). was_confirmed k name told ∷ []) at ∙ ap (λ (m : Name). was_confirmed h m told ∷ []) under ∙ ap (λ (k : ℕ). was_confirmed h (name_of next h) k ∷ []) is)
+
+-- ---- names, as the code compares them
+
+and_both : (a b : Bool) → (a && b) ≡ true → (a ≡ true) × (b ≡ true)
+and_both true b is = (refl, is)
+and_both false b is = absurd (cc)
+
+not_false : (b : Bool) → false ≡ not b → b ≡ true
+not_false true is = refl
+not_false false is = absurd (true_false (sym is))
+
+pub names_agree : (m n : Name) → false ≡ not ((m.restarts == n.restarts) && ((m.clears == n.clears) && (m.resets == n.resets))) → m ≡ n
+names_agree m n is =
+    let a = and_both (m.restarts == n.restarts) _ (not_false _ is) in
+    let b = and_both (m.clears == n.clears) (m.resets == n.resets) a.1 in
+    name_eq m n (eqb-true m.restarts n.restarts a.0) (eqb-true m.clears n.clears b.0) (eqb-true m.resets n.resets b.1)
+
+pub names_differ : (m n : Name) → not ((m.restarts == n.restarts) && ((m.clears == n.clears) && (m.resets == n.resets))) ≡ true → m ≡ n → ⊥
+names_differ m n is same = true_false (sym is ∙ ap (λ (b : Bool). not b) agree)
+  where
+    agree : ((m.restarts == n.restarts) && ((m.clears == n.clears) && (m.resets == n.resets))) ≡ true
+    agree = rw same (and_true (n.restarts == n.restarts) (n.clears == n.clears) (n.resets == n.resets) (eq-eqb n.restarts n.restarts refl) (eq-eqb n.clears n.clears refl) (eq-eqb n.resets n.resets refl))
+
+-- ---- by what a station keeps of the layer before
+
+pub unnamed_behind : (c : LayerSettings) (l next : Layer) (h : ℕ) (before : Unconfirmed) → StandsFor c l h before → None ≡ name_at c next before.channel → confirmed c l next h ≡ 0
+unnamed_behind c l next h before stands none = closed_behind c l next h (unnamed_closed c next h (none ∙ ap (λ (k : ℕ). name_at c next k) stands.channel))
+
+pub ended_behind : (c : LayerSettings) (l next : Layer) (h : ℕ) (before : Unconfirmed) → StandsFor c l h before → is_open_at c next before.channel ≡ false → confirmed c l next h ≡ 0
+ended_behind c l next h before stands is = closed_behind c l next h (sym (ap (λ (k : ℕ). is_open_at c next k) stands.channel) ∙ is)
+
+pub other_behind : (c : LayerSettings) (l next : Layer) (h : ℕ) (before : Unconfirmed) (n : Name) → StandsFor c l h before → Some n ≡ name_at c next before.channel → (n ≡ plain_name before.name → ⊥) → confirmed c l next h ≡ 0
+other_behind c l next h before n stands told differs = by (is_open_at c next h) refl
+  where
+    by : (b : Bool) → is_open_at c next h ≡ b → confirmed c l next h ≡ 0
+    by true is = renamed c l next h (λ same. differs (open_name c next h n is (told ∙ ap (λ (k : ℕ). name_at c next k) stands.channel) ∙ sym same ∙ sym stands.name))
+    by false is = closed_behind c l next h is
+
+-- the same stretch is open
+pub less_behind : (c : LayerSettings) (l next : Layer) (h : ℕ) (before : Unconfirmed) (n : Name) (left : ℕ) → StandsFor c l h before → Some n ≡ name_at c next before.channel → n ≡ plain_name before.name → is_open_at c next before.channel ≡ true
+    → left ≡ unconfirmed_at c next before.channel → before.count - left ≡ confirmed c l next h
+less_behind c l next h before n left stands told same is counted =
+    let opened : is_open_at c next h ≡ true = sym (ap (λ (k : ℕ). is_open_at c next k) stands.channel) ∙ is in
+    let under : n ≡ name_of next h = open_name c next h n opened (told ∙ ap (λ (k : ℕ). name_at c next k) stands.channel) in
+    let fewer : left ≡ unconfirmed (next.circuits h) = open_count c next h left opened (counted ∙ ap (λ (k : ℕ). unconfirmed_at c next k) stands.channel) in
+    ap (λ (m : ℕ). m - left) stands.count ∙ ap (λ (m : ℕ). unconfirmed (l.circuits h) - m) fewer ∙ sym (confirmed_are c l next h (goes c l next h stands.is_open opened (sym stands.name ∙ sym same ∙ under)))
+
+pub name_behind : (c : LayerSettings) (l next : Layer) (h : ℕ) (before : Unconfirmed) (n : Name) → StandsFor c l h before → Some n ≡ name_at c next before.channel → is_open_at c next before.channel ≡ true → n ≡ name_of next h
+name_behind c l next h before n stands told is =
+    open_name c next h n (sym (ap (λ (k : ℕ). is_open_at c next k) stands.channel) ∙ is) (told ∙ ap (λ (k : ℕ). name_at c next k) stands.channel)
+
+-- ---- what waits is pulled behind a packet: that leaves what is confirmed
+
+pub pulled_confirmed : (link : LinkView) (c : LayerSettings) (l : Layer) (s : Putting) (h : ℕ) → confirmed c l (rounds link c s).layer h ≡ confirmed c l s.layer h
+pulled_confirmed link c l s h =
+    ap (λ (b : Bool). if is_open_at c l h && (b && same_name (name_of l h) (name_of (rounds link c s).layer h)) then unconfirmed (l.circuits h) - unconfirmed ((rounds link c s).layer.circuits h) else 0) (rounds_open link c s h)
+    ∙ ap (λ (n : Name). if is_open_at c l h && (is_open_at c s.layer h && same_name (name_of l h) n) then unconfirmed (l.circuits h) - unconfirmed ((rounds link c s).layer.circuits h) else 0) (rounds_name link c s h)
+    ∙ ap (λ (n : ℕ). if goes_on c l s.layer h then unconfirmed (l.circuits h) - n else 0) (rounds_unconfirmed link c s h)
+
+behind_named : (l next : Layer) (h count : ℕ) (beside : List StationEntry) → name_of l h ≡ name_of next h → entries_behind l h count beside ≡ entries_behind next h count beside
+behind_named l next h zero beside same = refl
+behind_named l next h (suc n) beside same = ap (λ (m : Name). was_confirmed h m (suc n) ∷ []) same
+
+pub pulled_behind : (link : LinkView) (c : LayerSettings) (l : Layer) (s : Putting) (h : ℕ) (beside : List StationEntry)
+    → entries_behind (rounds link c s).layer h (confirmed c l (rounds link c s).layer h) beside ≡ entries_behind s.layer h (confirmed c l s.layer h) beside
+pulled_behind link c l s h beside =
+    ap (λ (n : ℕ). entries_behind (rounds link c s).layer h n beside) (pulled_confirmed link c l s h) ∙ behind_named (rounds link c s).layer s.layer h (confirmed c l s.layer h) beside (rounds_name link c s h)
+
+pub nothing_behind : (next : Layer) (h count : ℕ) (beside : List StationEntry) → count ≡ 0 → entries_behind next h count beside ≡ beside
+nothing_behind next h count beside none = ap (λ (n : ℕ). entries_behind next h n beside) none

@@ -1,12 +1,12 @@
 -- The entries of a step have those of the layer's own transcript.
-use Rattle.std.proofs.Common.{◌≡◌, ℕ, List, [], ◌∷◌, ◌++◌, Option, Some, None, refl, ap}
+use Rattle.std.proofs.Common.{◌≡◌, ℕ, zero, suc, List, [], ◌∷◌, ◌++◌, Option, Some, None, refl, ap}
 use Rattle.x25_circuit.specs.Calling.{Calls}
 use Rattle.x25_layer.specs.Layer.{LayerSettings, Layer, LayerNotice, on_channel, restarted, restart_done, layer_fault}
 use Rattle.x25_layer.specs.Calls.{LayerRequest, Asks, Dials, Restarts, PullsAll, free_channel}
 use Rattle.x25_layer.specs.laws.Transcript.{Entry, Told, name_of}
 use Rattle.x25_layer.specs.laws.TwoLayers.{entries_told, entries_asked, entry_of_dial}
 use Rattle.x25_station.specs.Beside.{PlainBeside, nothing, fields, diagnosed}
-use Rattle.x25_station.specs.Entry.{station_told, entries_beside, of_channels, station_asked, layer_entries, layer_notices}
+use Rattle.x25_station.specs.Entry.{StationEntry, station_told, entries_beside, entries_behind, of_channels, station_asked, layer_entries, layer_notices}
 
 beside_entries : (b : PlainBeside) (o : Option ℕ) → layer_entries (entries_beside b o) ≡ []
 beside_entries nothing o = refl
@@ -20,20 +20,28 @@ beside_notices (fields facilities user) None = refl
 beside_notices (fields facilities user) (Some h) = refl
 beside_notices (diagnosed diagnostic) o = refl
 
--- what came beside is no entry of the layer's own
-pub told_entries : (l : Layer) (notices : List LayerNotice) (b : PlainBeside) (o : Option ℕ) → layer_entries (station_told l notices ++ entries_beside b o) ≡ entries_told l notices
-told_entries l [] b o = beside_entries b o
-told_entries l (on_channel h notice ∷ notices) b o = ap (λ (es : List Entry). record { channel = h; name = name_of l h; said = Told notice } ∷ es) (told_entries l notices b o)
-told_entries l (restarted cause diagnostic ∷ notices) b o = told_entries l notices b o
-told_entries l (restart_done ∷ notices) b o = told_entries l notices b o
-told_entries l (layer_fault diagnostic ∷ notices) b o = told_entries l notices b o
+-- what a packet confirms or brings beside is no entry of the layer's own
+pub behind_entries : (l : Layer) (h count : ℕ) (b : PlainBeside) (o : Option ℕ) → layer_entries (entries_behind l h count (entries_beside b o)) ≡ []
+behind_entries l h zero b o = beside_entries b o
+behind_entries l h (suc count) b o = refl
 
-pub told_notices : (l : Layer) (notices : List LayerNotice) (b : PlainBeside) (o : Option ℕ) → layer_notices (station_told l notices ++ entries_beside b o) ≡ notices
-told_notices l [] b o = beside_notices b o
-told_notices l (on_channel h notice ∷ notices) b o = ap (λ (ns : List LayerNotice). on_channel h notice ∷ ns) (told_notices l notices b o)
-told_notices l (restarted cause diagnostic ∷ notices) b o = ap (λ (ns : List LayerNotice). restarted cause diagnostic ∷ ns) (told_notices l notices b o)
-told_notices l (restart_done ∷ notices) b o = ap (λ (ns : List LayerNotice). restart_done ∷ ns) (told_notices l notices b o)
-told_notices l (layer_fault diagnostic ∷ notices) b o = ap (λ (ns : List LayerNotice). layer_fault diagnostic ∷ ns) (told_notices l notices b o)
+pub behind_notices : (l : Layer) (h count : ℕ) (b : PlainBeside) (o : Option ℕ) → layer_notices (entries_behind l h count (entries_beside b o)) ≡ []
+behind_notices l h zero b o = beside_notices b o
+behind_notices l h (suc count) b o = refl
+
+pub told_entries : (l : Layer) (notices : List LayerNotice) (others : List StationEntry) → layer_entries others ≡ [] → layer_entries (station_told l notices ++ others) ≡ entries_told l notices
+told_entries l [] others none = none
+told_entries l (on_channel h notice ∷ notices) others none = ap (λ (es : List Entry). record { channel = h; name = name_of l h; said = Told notice } ∷ es) (told_entries l notices others none)
+told_entries l (restarted cause diagnostic ∷ notices) others none = told_entries l notices others none
+told_entries l (restart_done ∷ notices) others none = told_entries l notices others none
+told_entries l (layer_fault diagnostic ∷ notices) others none = told_entries l notices others none
+
+pub told_notices : (l : Layer) (notices : List LayerNotice) (others : List StationEntry) → layer_notices others ≡ [] → layer_notices (station_told l notices ++ others) ≡ notices
+told_notices l [] others none = none
+told_notices l (on_channel h notice ∷ notices) others none = ap (λ (ns : List LayerNotice). on_channel h notice ∷ ns) (told_notices l notices others none)
+told_notices l (restarted cause diagnostic ∷ notices) others none = ap (λ (ns : List LayerNotice). restarted cause diagnostic ∷ ns) (told_notices l notices others none)
+told_notices l (restart_done ∷ notices) others none = ap (λ (ns : List LayerNotice). restart_done ∷ ns) (told_notices l notices others none)
+told_notices l (layer_fault diagnostic ∷ notices) others none = ap (λ (ns : List LayerNotice). layer_fault diagnostic ∷ ns) (told_notices l notices others none)
 
 pub asked_entries : (c : LayerSettings) (l next : Layer) (request : LayerRequest) → layer_entries (station_asked c l next request) ≡ entries_asked c l next request
 asked_entries c l next (Asks h request) = refl

@@ -1,14 +1,13 @@
 -- What the layer does at a step of the link, by what the step noted and handed up.
 use Rattle.std.proofs.Common.{◌≡◌, ℕ, List, ◌++◌, Option, Some, None, Bool, true, false, refl, ap, sym, subst, ◌∙◌}
-use Rattle.std.proofs.lemmas.List.{append_assoc}
+use Rattle.std.proofs.lemmas.List.{append-nil}
 use Rattle.std.specs.Option.{is_some}
 use Rattle.x25_link.specs.declared.phase.Notes.{Notes}
 use Rattle.x25_link.specs.declared.phase.Reason.{Reason}
 use Rattle.x25_layer.specs.Layer.{LayerSettings, Layer}
 use Rattle.x25_layer.specs.Rounds.{LinkView, Putting, hears, comes_up}
-use Rattle.x25_station.specs.Beside.{PlainBeside, beside_in}
-use Rattle.x25_station.specs.Entry.{StationEntry, bringing, entries_beside, entries_noted}
-use Rattle.x25_station.specs.Step.{rests, layer_at, layer_down, layer_answer, entries_of_answer, entries_heard}
+use Rattle.x25_station.specs.Entry.{StationEntry, entries_noted}
+use Rattle.x25_station.specs.Step.{rests, layer_at, layer_down, layer_answer, entries_of_answer, entries_of_packet, entries_heard}
 
 true_false : true ≡ false → ⊥
 true_false is = cc
@@ -39,17 +38,15 @@ at_quiet P view c wide l o d u off stays none is =
 
 -- ---- the entries of a packet that the link hands up
 
-pub heard_entries : (c : LayerSettings) (wide : Bool) (l : Layer) (o : Option (List ℕ)) (octets : List ℕ) (notes : Notes) (before told after : List StationEntry) (beside : PlainBeside) (channel : Option ℕ)
-    → notes.up ≡ false → notes.down ≡ None → o ≡ Some octets → told ≡ before ++ entries_of_answer (layer_answer c wide l octets)
-    → channel ≡ bringing (layer_answer c wide l octets).notices → beside ≡ beside_in wide octets → after ≡ told ++ entries_beside beside channel
-    → after ≡ before ++ (entries_noted notes ++ entries_heard c wide l o notes.down notes.up)
-heard_entries c wide l o octets notes before told after beside channel off stays handed is_told brings is_beside is =
-    is ∙ ap (λ (es : List StationEntry). es ++ entries_beside beside channel) is_told
-    ∙ append_assoc before (entries_of_answer (layer_answer c wide l octets)) (entries_beside beside channel)
-    ∙ ap (λ (b : PlainBeside). before ++ (entries_of_answer (layer_answer c wide l octets) ++ entries_beside b channel)) is_beside
-    ∙ ap (λ (k : Option ℕ). before ++ (entries_of_answer (layer_answer c wide l octets) ++ entries_beside (beside_in wide octets) k)) brings
-    ∙ sym (ap (λ (p : Option (List ℕ)). before ++ (entries_noted notes ++ entries_heard c wide l p notes.down notes.up)) handed
+pub heard_entries : (c : LayerSettings) (wide : Bool) (l : Layer) (o : Option (List ℕ)) (octets : List ℕ) (notes : Notes) (before after : List StationEntry) → notes.up ≡ false → notes.down ≡ None → o ≡ Some octets
+    → after ≡ before ++ entries_of_packet c wide l octets → after ≡ before ++ (entries_noted notes ++ entries_heard c wide l o notes.down notes.up)
+heard_entries c wide l o octets notes before after off stays handed is =
+    is ∙ sym (ap (λ (p : Option (List ℕ)). before ++ (entries_noted notes ++ entries_heard c wide l p notes.down notes.up)) handed
     ∙ ap (λ (n : Notes). before ++ (entries_noted n ++ entries_heard c wide l (Some octets) n.down n.up)) quiet)
   where
     quiet : notes ≡ record { down = None; up = false }
     quiet = ap (λ (d : Option Reason). record { down = d; up = notes.up }) stays ∙ ap (λ (u : Bool). record { down = None; up = u }) off
+
+-- a station that reads the one form alone is told what the layer tells
+pub strict_entries : (c : LayerSettings) (l : Layer) (octets : List ℕ) → entries_of_packet c false l octets ≡ entries_of_answer (layer_answer c false l octets)
+strict_entries c l octets = append-nil (entries_of_answer (layer_answer c false l octets))

@@ -14,6 +14,7 @@ use Rattle.x25_link.specs.laws.NoteLaw.{IsQuiet, PutTells, TakeTells, TakeHandsU
 use Rattle.x25_layer.specs.declared.error.LayerError.TheVariants as layer_error
 use Rattle.x25_layer.specs.Layer.{LayerSettings, Layer, LayerAnswer, LayerNotice, goes_up, layer_answers}
 use Rattle.x25_layer.specs.Calls.{LayerOutcome, Accepted, Declined, layer_outcome}
+use Rattle.x25_layer.specs.Room.{named_by}
 use Rattle.x25_layer.specs.Rounds.{LinkView, Putting, begin, rounds, Went, Refuses, went, calls, hears, answer_to}
 use Rattle.x25_packet.specs.Spelling.{longest_user}
 use Rattle.x25_layer.specs.laws.Transcript.{Entry}
@@ -26,10 +27,10 @@ use Rattle.x25_station.specs.Config.{Settings, link_settings, layer_settings}
 use Rattle.x25_station.specs.Beside.{beside_in}
 use Rattle.x25_station.specs.Entry.{StationEntry, bringing, entries_noted, station_asked, layer_entries, layer_notices}
 use Rattle.x25_station.specs.Station.{view_of}
-use Rattle.x25_station.specs.Step.{Step, Outcome, Did, Refused, with_puts, layer_at, entries_heard, entries_of_packet, entries_of_outcome, layer_answer, follows, did, requests_of}
+use Rattle.x25_station.specs.Step.{Step, Outcome, Did, Refused, with_puts, layer_at, entries_heard, entries_of_packet, entries_of_outcome, layer_answer, confirmed_by, follows, did, requests_of}
 use Rattle.x25_station.specs.laws.JoinLaw.{AreAccepted, IsJoined, RequestIsJoined, ReceiveIsJoined, QuietIsJoined, DownIsJoined, ComesUp, UpIsJoined}
 use Rattle.x25_station.proofs.PutLemmas.{accepts, rounds_accepted, begin_accepted}
-use Rattle.x25_station.proofs.EntryLemmas.{told_entries, told_notices, asked_entries, asked_notices}
+use Rattle.x25_station.proofs.EntryLemmas.{told_entries, told_notices, behind_entries, behind_notices, asked_entries, asked_notices}
 use Rattle.x25_station.proofs.RequestLemmas.{has_room}
 use Rattle.x25_station.proofs.MayLemmas.{asked_did}
 
@@ -137,8 +138,8 @@ heard_joined runs tells c w k octets packet back up front some quiet up_link low
       r.1,
       joined c w (HandsUp ∷ pulls_of r.0) (moves lc w HandsUp) k.side back (hears view lc c.wide w.near.layer octets).step (entries_of_packet lc c.wide w.near.layer octets) r.2
           (rounds_accepted tells (link_settings c) k.side lc (begin a.next a.owed) up_link (begin_accepted (link_settings c) k.side a.owed up_link low))
-          (ap (λ (x : TwoLayers). x.near.entries) all ∙ ap (λ (es : List Entry). w.near.entries ++ es) (sym (told_entries a.next a.notices (beside_in c.wide octets) (bringing a.notices))))
-          (ap (λ (x : TwoLayers). x.near.told) all ∙ ap (λ (ns : List LayerNotice). w.near.told ++ ns) (sym (told_notices a.next a.notices (beside_in c.wide octets) (bringing a.notices)))),
+          (ap (λ (x : TwoLayers). x.near.entries) all ∙ ap (λ (es : List Entry). w.near.entries ++ es) (sym (told_entries a.next a.notices _ (behind_entries a.next (named_by octets) count (beside_in c.wide octets) (bringing a.notices)))))
+          (ap (λ (x : TwoLayers). x.near.told) all ∙ ap (λ (ns : List LayerNotice). w.near.told ++ ns) (sym (told_notices a.next a.notices _ (behind_notices a.next (named_by octets) count (beside_in c.wide octets) (bringing a.notices))))),
     )
   where
     lc : LayerSettings
@@ -149,6 +150,9 @@ heard_joined runs tells c w k octets packet back up front some quiet up_link low
 
     a : LayerAnswer
     a = layer_answer lc c.wide w.near.layer octets
+
+    count : ℕ
+    count = confirmed_by lc c.wide w.near.layer a.next (named_by octets)
 
     Goal : Step → Type 0
     Goal step = (pulled : List ℕ) × AreChannels c.channels pulled × IsJoined c w (moves_all lc w (HandsUp ∷ pulls_of pulled)) k.side back step

@@ -18,6 +18,7 @@ pub mod EnteredLemmas
 pub mod TellLemmas
 pub mod ShortLemmas
 pub mod FrameLemmas
+pub mod ClosingLemmas
 pub mod GivenLemmas
 pub mod GivenReadLemmas
 pub mod GivenJoinLemmas

@@ -1,16 +1,19 @@
--- Pulls of data packets keep the names of all stretches, and the packet sizes and windows of all calls.
-use Rattle.std.proofs.Common.{◌≡◌, ℕ, zero, suc, List, [], ◌∷◌, ◌++◌, ◌%◌, Option, Some, None, Bool, true, false, ◌&&◌, ◌+◌, nat_lt, length, ◌==◌, if◌then◌else◌, refl, ap, sym, ◌∙◌}
+-- Pulls of data packets keep the names of all stretches, the packet sizes and windows of all calls, and how many messages
+-- are unconfirmed.
+use Rattle.std.proofs.Common.{◌≡◌, ℕ, zero, suc, List, [], ◌∷◌, ◌++◌, ◌%◌, Option, Some, None, Bool, true, false, ◌&&◌, ◌+◌, nat_lt, length, ◌==◌, if◌then◌else◌, drop, refl, ap, sym, ◌∙◌}
 use Rattle.std.proofs.lemmas.Bool.{eqb-true}
+use Rattle.std.proofs.lemmas.List.{append_assoc}
 use Rattle.x25_packet.specs.Packet.{PlainPacket}
 use Rattle.x25_circuit.specs.declared.state.State.{State}
 use Rattle.x25_circuit.specs.declared.state.State.TheVariants.{Free, Calling, Arriving, Collision, Open, Resetting, Clearing}
 use Rattle.x25_circuit.specs.declared.params.Params.{Params}
-use Rattle.x25_circuit.specs.Circuit.{Settings as CircuitSettings, Circuit, Talk, talking, outgoing}
-use Rattle.x25_circuit.specs.Message.{Piece}
+use Rattle.x25_circuit.specs.Circuit.{Settings as CircuitSettings, Circuit, Talk, talking, outgoing, is_open_in, unconfirmed}
+use Rattle.x25_circuit.specs.Message.{Piece, asked_in}
 use Rattle.x25_circuit.specs.Calling.{Pulled, pulled, pull_in, pull_open, pulls_nothing, data_packet}
 use Rattle.x25_handshakes.specs.laws.Names.{Name}
-use Rattle.x25_layer.specs.Layer.{LayerSettings, Layer, put_at}
+use Rattle.x25_layer.specs.Layer.{LayerSettings, Layer, is_channel, put_at}
 use Rattle.x25_layer.specs.Calls.{LayerPulled, layer_pulled}
+use Rattle.x25_layer.specs.code.FitsLayer.{is_open_at}
 use Rattle.x25_layer.specs.laws.Transcript.{name_of}
 use Rattle.x25_layer.specs.Rounds.{LinkView, Putting, with_pulled, pull_one, round, rounds_of, rounds, backlog}
 
@@ -18,16 +21,19 @@ use Rattle.x25_layer.specs.Rounds.{LinkView, Putting, with_pulled, pull_one, rou
 record Kept : Type 0 where
   name : Name
   params : Params
+  state : State
+  unconfirmed : ℕ
 
 abbrev kept_in : ℕ → Circuit → Kept
-kept_in restarts x = record { name = record { restarts = restarts; clears = x.clears; resets = x.resets }; params = x.params }
+kept_in restarts x = record { name = record { restarts = restarts; clears = x.clears; resets = x.resets }; params = x.params; state = x.state; unconfirmed = unconfirmed x }
 
 abbrev kept_of : Layer → ℕ → Kept
 kept_of l h = kept_in l.restarts (l.circuits h)
 
-open_counts : (n : ℕ) (c : CircuitSettings) (x : Circuit) (t : Talk) (rest : List Piece) → kept_in n (pull_open c x t rest).next ≡ kept_in n x
-open_counts n c x t [] = refl
-open_counts n c x t (piece ∷ rest) = test (t.peer_ready && nat_lt (length t.sent) (t.acked + (outgoing x).window))
+-- a packet that waited is one that was sent
+open_counts : (n : ℕ) (c : CircuitSettings) (x : Circuit) (t : Talk) (rest : List Piece) → asked_in (drop t.acked (t.sent ++ rest)) ≡ unconfirmed x → kept_in n (pull_open c x t rest).next ≡ kept_in n x
+open_counts n c x t [] same = refl
+open_counts n c x t (piece ∷ rest) same = test (t.peer_ready && nat_lt (length t.sent) (t.acked + (outgoing x).window))
   where
     moved : Pulled
     moved = record {
@@ -36,7 +42,9 @@ open_counts n c x t (piece ∷ rest) = test (t.peer_ready && nat_lt (length t.se
     }
 
     test : (b : Bool) → (let p : Pulled = if b then moved else pulls_nothing x in kept_in n p.next) ≡ kept_in n x
-    test true = refl
+    test true =
+        ap (λ (u : ℕ). record { name = (kept_in n x).name; params = x.params; state = x.state; unconfirmed = u })
+        (ap (λ (ps : List Piece). asked_in (drop t.acked ps)) (append_assoc t.sent (piece ∷ []) rest) ∙ same)
     test false = refl
 
 state_counts : (n : ℕ) (c : CircuitSettings) (x : Circuit) (state : State) → kept_in n (pull_in c x state).next ≡ kept_in n x
@@ -44,7 +52,7 @@ state_counts n c x Free = refl
 state_counts n c x Calling = refl
 state_counts n c x Arriving = refl
 state_counts n c x Collision = refl
-state_counts n c x Open = open_counts n c x x.talk x.talk.rest
+state_counts n c x Open = open_counts n c x x.talk x.talk.rest refl
 state_counts n c x Resetting = refl
 state_counts n c x Clearing = refl
 
@@ -85,3 +93,9 @@ rounds_name link c s h = ap (λ (k : Kept). k.name) (rounds_kept link c s h)
 
 pub rounds_params : (link : LinkView) (c : LayerSettings) (s : Putting) (h : ℕ) → ((rounds link c s).layer.circuits h).params ≡ (s.layer.circuits h).params
 rounds_params link c s h = ap (λ (k : Kept). k.params) (rounds_kept link c s h)
+
+pub rounds_open : (link : LinkView) (c : LayerSettings) (s : Putting) (h : ℕ) → is_open_at c (rounds link c s).layer h ≡ is_open_at c s.layer h
+rounds_open link c s h = ap (λ (k : Kept). if is_channel c.channels h then is_open_in k.state else false) (rounds_kept link c s h)
+
+pub rounds_unconfirmed : (link : LinkView) (c : LayerSettings) (s : Putting) (h : ℕ) → unconfirmed ((rounds link c s).layer.circuits h) ≡ unconfirmed (s.layer.circuits h)
+rounds_unconfirmed link c s h = ap (λ (k : Kept). k.unconfirmed) (rounds_kept link c s h)

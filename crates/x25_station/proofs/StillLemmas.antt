@@ -27,16 +27,17 @@ use Rattle.x25_circuit.specs.Params.{default_params}
 use Rattle.x25_layer.specs.declared.error.LayerError.TheVariants as layer_error
 use Rattle.x25_layer.specs.Layer.{LayerSettings, Layer, LayerAnswer, is_channel, is_ready, put_at, packet_on, restarting_from}
 use Rattle.x25_layer.specs.Calls.{LayerRequest, Asks, Restarts, LayerOutcome, Accepted, Declined, outcome_on, outcome_in, layer_outcome}
+use Rattle.x25_layer.specs.Room.{named_by}
 use Rattle.x25_layer.specs.Rounds.{LinkView, Putting, begin, rounds, went, Refuses}
 use Rattle.x25_layer.specs.code.FitsLayer.{awaited_at}
 use Rattle.x25_station.specs.Command.{Requests, RequestsWith, Connects, Disconnects, Probes, Relinks, said_by, may_ask}
 use Rattle.x25_station.specs.Config.{Settings, link_settings, layer_settings}
 use Rattle.x25_station.specs.Beside.{beside_in}
-use Rattle.x25_station.specs.Entry.{StationEntry, of_channel, restart_asked, connect_asked, disconnect_asked, relink_asked, link_up, link_down, was_restarted, restart_confirmed, at_fault, came_beside, was_diagnosed, entries_down, entries_up, station_asked, bringing, entries_beside}
+use Rattle.x25_station.specs.Entry.{StationEntry, of_channel, restart_asked, connect_asked, disconnect_asked, relink_asked, link_up, link_down, was_restarted, restart_confirmed, at_fault, came_beside, was_diagnosed, was_confirmed, entries_down, entries_up, station_asked, bringing, entries_beside, entries_behind}
 use Rattle.x25_given.specs.Given.{PlainGiven}
 use Rattle.x25_station.specs.Giving.{view_given, is_taken}
 use Rattle.x25_station.specs.Station.{Station, view_of}
-use Rattle.x25_station.specs.Step.{Step, Outcome, Did, Refused, with_puts, layer_at, layer_answer, entries_of_answer, follows, led_by, unless, abandons, entries_heard, entries_of_outcome, did, requests, with_given, gave, gives, requests_of, where_asked}
+use Rattle.x25_station.specs.Step.{Step, Outcome, Did, Refused, with_puts, layer_at, layer_answer, confirmed_by, entries_of_answer, follows, led_by, unless, abandons, entries_heard, entries_of_outcome, did, requests, with_given, gave, gives, requests_of, where_asked}
 use Rattle.x25_station.specs.Timer.{is_of_link, tells_link}
 use Rattle.x25_station.specs.laws.TimerLaw as timer
 use Rattle.x25_station.specs.laws.EndLaw.{is_answered_on, is_left_on, IsTold, EndIsTold}
@@ -132,7 +133,8 @@ module _ (c : Settings) (s : Station) (h : ℕ) where
         by p None is_d true is_u none = absurd (true≢false none)
         by (Some octets) None is_d false is_u none =
             let a : LayerAnswer = layer_answer lc c.wide s.layer octets in
-            leads_more (with_puts c k.side (layer_at view lc c.wide s.layer (Some octets) None false) []).near (entries_of_answer a) (entries_beside (beside_in c.wide octets) (bringing a.notices))
+            leads_more (with_puts c k.side (layer_at view lc c.wide s.layer (Some octets) None false) []).near (entries_of_answer a)
+            (entries_behind a.next (named_by octets) (confirmed_by lc c.wide s.layer a.next (named_by octets)) (entries_beside (beside_in c.wide octets) (bringing a.notices)))
             (put_leads k.side a.next a.owed (entries_of_answer a) (t.stays (noted None false is_d is_u) ∙ up) (answer_moves lc h s.layer octets (read_in c.wide (longest_user c.long_data) octets) high_up))
         by None None is_d false is_u none =
             leads (with_puts c k.side (layer_at view lc c.wide s.layer None None false) []).near [] up (t.stays (noted None false is_d is_u) ∙ up) (inl (refl, refl))
@@ -236,6 +238,7 @@ link_answers h awaits (entry ∷ entries) is = by entry is (λ later. link_answe
     by (at_fault diagnostic) told rest = rest told
     by (came_beside channel facilities user) told rest = rest told
     by (was_diagnosed diagnostic) told rest = rest told
+    by (was_confirmed channel name count) told rest = rest told
 
 pub end_is_told : LinkLaws → EndIsTold
 end_is_told laws c s h event high = by (timer.outcome c s event) (goes_on laws c s h event high)

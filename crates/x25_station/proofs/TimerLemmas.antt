@@ -18,7 +18,7 @@ use Rattle.x25_given.specs.Given.{PlainGiven}
 use Rattle.x25_station.specs.declared.error.StationError.TheVariants as error
 use Rattle.x25_station.specs.Command.{Command, Requests, RequestsWith, Connects, Disconnects, Probes, Relinks, said_by, may_ask}
 use Rattle.x25_station.specs.Config.{Settings, link_settings, layer_settings}
-use Rattle.x25_station.specs.Entry.{StationEntry, of_channel, restart_asked, connect_asked, disconnect_asked, relink_asked, link_up, link_down, was_restarted, restart_confirmed, at_fault, came_beside, was_diagnosed}
+use Rattle.x25_station.specs.Entry.{StationEntry, of_channel, restart_asked, connect_asked, disconnect_asked, relink_asked, link_up, link_down, was_restarted, restart_confirmed, at_fault, came_beside, was_diagnosed, was_confirmed}
 use Rattle.x25_station.specs.Giving as giving
 use Rattle.x25_station.specs.Giving.{view_given}
 use Rattle.x25_station.specs.Station.{Station, view_of}
@@ -159,6 +159,7 @@ told_link (restart_confirmed ∷ entries) told = told_link entries told
 told_link (at_fault diagnostic ∷ entries) told = told_link entries told
 told_link (came_beside channel facilities user ∷ entries) told = told_link entries told
 told_link (was_diagnosed diagnostic ∷ entries) told = told_link entries told
+told_link (was_confirmed channel name count ∷ entries) told = told_link entries told
 
 fires_due : (event : Event) → IsFiring event → law.is_firing event ≡ true
 fires_due Fires is = refl

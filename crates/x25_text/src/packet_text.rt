@@ -87,16 +87,17 @@ fn push_marks(ps: Seq, pr: Seq, m: bool, marks: Marks, text: &mut Text)
         ++ confirmation_text marks.d ++ codes " data=") }
     ensures size { length text.new ≤ length text.old + 26 }
 {
-    let mut characters = *b" S=_ R=_ M=_ Q=_";
+    let mut characters = *b" S=_ R=_ M=_ Q=_ data=";
     characters[3] = seq_digit(ps);
     characters[7] = seq_digit(pr);
     characters[11] = bit_digit(m);
     characters[15] = bit_digit(marks.q);
-    text.push(&characters);
     if marks.d {
-        text.push(b" D=1");
+        text.push(&characters[..16]);
+        text.push(b" D=1 data=");
+    } else {
+        text.push(&characters);
     }
-    text.push(b" data=");
 }
 
 /// Appends a packet on one line. A CALL has at most 128 octets of user data.

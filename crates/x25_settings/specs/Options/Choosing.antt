@@ -14,14 +14,14 @@ use Rattle.x25_settings.specs.declared.options.Flag.TheVariants.{SaySizes, Tap, 
 use Rattle.x25_settings.specs.declared.options.Kind.{Kind}
 use Rattle.x25_settings.specs.declared.options.Kind.TheVariants as kind
 use Rattle.x25_settings.specs.declared.options.Numbered.{Numbered}
-use Rattle.x25_settings.specs.declared.options.Numbered.TheVariants.{Window, Tries, Channels, T1, T3, T20, T21}
-use Rattle.x25_settings.specs.declared.options.Numbered.TheVariants.{T22, T23}
+use Rattle.x25_settings.specs.declared.options.Numbered.TheVariants.{Window, Tries, Channels, Incoming, Outgoing, T1}
+use Rattle.x25_settings.specs.declared.options.Numbered.TheVariants.{T3, T20, T21, T22, T23}
 use Rattle.x25_settings.specs.declared.options.Judging.{Judging}
 use Rattle.x25_settings.specs.declared.options.Place.{Place}
 use Rattle.x25_settings.specs.declared.options.Simulation.{Simulation}
 use Rattle.x25_settings.specs.declared.words.Task.{Task}
 use Rattle.x25_settings.specs.declared.words.Task.TheVariants.{Decode, Vectors, Sim, Station, Judge, Deframe, Frame}
-use Rattle.x25_settings.specs.Options.{chosen_flag, chosen_number, decoded, end_word, fits_clock, flag_word, has}
+use Rattle.x25_settings.specs.Options.{chosen_flag, chosen_number, decoded, end_word, fits_together, flag_word, has}
 use Rattle.x25_settings.specs.Options.{judged, least_of, most_of, nothing, placed, simulated, takes, with_flag}
 use Rattle.x25_settings.specs.Options.{with_number, word_of}
 
@@ -32,7 +32,7 @@ abbrev pub flag_in : List ℕ → Option Flag
 flag_in word = find (λ x. bytes_eq word (flag_word x)) flags
 
 abbrev pub numbers : List Numbered
-numbers = Window ∷ Tries ∷ Channels ∷ T1 ∷ T3 ∷ T20 ∷ T21 ∷ T22 ∷ T23 ∷ []
+numbers = Window ∷ Tries ∷ Channels ∷ Incoming ∷ Outgoing ∷ T1 ∷ T3 ∷ T20 ∷ T21 ∷ T22 ∷ T23 ∷ []
 
 abbrev pub numbered_in : List ℕ → Option Numbered
 numbered_in word = find (λ x. bytes_eq word (word_of x)) numbers
@@ -88,7 +88,7 @@ abbrev pub end_in : List ℕ → Option End
 end_in word = find (λ x. bytes_eq word (end_word x)) (Dte ∷ Dce ∷ [])
 
 abbrev pub place_of : End → Chosen → Option Place
-place_of end c = if fits_clock c then Some (placed end c) else None
+place_of end c = if fits_together c then Some (placed end c) else None
 
 abbrev pub place_behind : List (List ℕ) → Option End → Option Place
 place_behind words None = None

@@ -1,7 +1,7 @@
 use Rattle.std.proofs.Common.{◌≡◌, ◌∷◌, [], ◌++◌, List, length, drop, refl, sym, ap, ◌∙◌, append_assoc, arith}
 use Rattle.std.proofs.lemmas.List.{length-map}
 use Rattle.x25_circuit.specs.Message.{Piece, piece_of, cut_all, asks, asked_in}
-use Rattle.x25_circuit.proofs.AskedLemmas.{asks_of_piece}
+use Rattle.x25_circuit.proofs.AskedLemmas.{asks_as_marked}
 use Rattle.x25_circuit.specs.Queue.{waiting}
 use Rattle.x25_circuit.specs.code.Cutter.{first_left}
 use Rattle.std.proofs.lemmas.Bool.{lt-ltb, and_from}
@@ -17,13 +17,13 @@ returns-clause-some c = λ t fits.
     let first : t.rest ≡ piece ∷ others = fits.rest ∙ next_piece size old (omega arith) c.in-Some.ensures.some
     ∙ ap (λ (p : Piece). p ∷ cut_all size (first_left size old)) (sym c.in-Some.ensures.packet)
     ∙ ap (λ (ps : List Piece). piece ∷ ps) (ap (cut_all size) (sym c.in-Some.ensures.left)) in
-    let asks_same = asks_of_piece c.in-Some.cut.q c.in-Some.cut.m c.cut.new.self.cutter.lent in
+    let asks_same = asks_as_marked size old c.in-Some.cut.q c.in-Some.cut.m c.cut.new.self.cutter.lent c.in-Some.ensures.packet in
     let unacked = c.unacked.ensures.state fits.numbers.state fits.numbers.fits in
     let numbers = c.count_sent-ps.ensures.fits t.acked t.sent piece fits.numbers asks_same in
     record {
       others = others;
       first = first;
-      allowed = and_from _ _ (sym fits.peer_ready ∙ c.if-not-self.false) (lt-ltb _ _ (omega (arith, unacked, fits.numbers.acked, ap length fits.numbers.sent ∙ length-map asks t.sent, c.if-unacked-terms.false)));
+      allowed = and_from _ _ (sym fits.peer_ready ∙ c.if-not-self.false) (lt-ltb _ _ (omega (arith, unacked, fits.numbers.acked, ap length fits.numbers.sent ∙ length-map t.sent asks, c.if-unacked-terms.false)));
       fits = record {
         numbers = numbers;
         taken = fits.taken;
