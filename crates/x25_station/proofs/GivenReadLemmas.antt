@@ -17,15 +17,18 @@ use Rattle.x25_wide.specs.laws.TakingLaw.{TakesWhatIsSpelled}
 use Rattle.x25_given.specs.Given.{PlainGiven, may_give}
 use Rattle.x25_given.specs.Writing.{write, written}
 use Rattle.x25_given.specs.laws.ReadingLaw.{WrittenIsInForm, WrittenIsRead}
-use Rattle.x25_layer.specs.Layer.{LayerSettings, LayerAnswer}
+use Rattle.x25_layer.specs.Layer.{LayerSettings, LayerAnswer, layer_answers}
+use Rattle.x25_layer.specs.Room.{named_by}
 use Rattle.x25_layer.specs.Rounds.{answer_to}
 use Rattle.x25_station.specs.Beside.{PlainBeside, beside_in}
 use Rattle.x25_station.specs.Config.{layer_settings}
-use Rattle.x25_station.specs.Entry.{bringing, entries_beside}
-use Rattle.x25_station.specs.Step.{layer_answer, entries_of_answer}
+use Rattle.x25_station.specs.Entry.{StationEntry, bringing, entries_beside}
+use Rattle.x25_station.specs.Step.{layer_answer, entries_of_answer, confirmed_by}
 use Rattle.x25_station.specs.laws.GivenLaw.{GivesOctets, GivenIsHeard, GivenIsRead, IsReadInAll, told}
 use Rattle.x25_station.specs.laws.ReadLaw.{AreOctets, IsReadable}
 use Rattle.x25_station.proofs.FieldLemmas.{IsOctet, bit_low, field_octets, field_short, length_packed, octets_more, packed_octets, user_short}
+use Rattle.x25_station.proofs.ClosingLemmas.{given_confirms_none}
+use Rattle.x25_station.proofs.ConfirmLemmas.{nothing_behind}
 use Rattle.x25_station.proofs.GivenLemmas.{given_told, given_written}
 
 -- with more user data of a CALL at most
@@ -189,4 +192,8 @@ given_heard reads spelled read form c l g v wide allowed octets readable other =
     let is : beside_in true o ≡ told g v = subst (λ (x : List ℕ). beside_in true x ≡ told g v) (sym same) (given_told reads read form g v allowed within (subst AreOctets same r.octets) (λ e. other (same ∙ e))) in
     let answer : layer_answer lc c.wide l o ≡ layer_answer lc c.wide l (spelling_of v) =
     ap (answer_to lc l o) (ap (λ (b : Bool). read_in b most o) wide ∙ r.reads) ∙ sym (ap (answer_to lc l (spelling_of v)) readable.reads) in
-    ap₂ (λ (a : LayerAnswer) (b : PlainBeside). entries_of_answer a ++ entries_beside b (bringing a.notices)) answer (ap (λ (b : Bool). beside_in b o) wide ∙ is)
+    let a : LayerAnswer = layer_answer lc c.wide l o in
+    let heard : a ≡ layer_answers lc l v = ap (answer_to lc l o) (ap (λ (b : Bool). read_in b most o) wide ∙ r.reads) in
+    let none : confirmed_by lc c.wide l a.next (named_by o) ≡ 0 = given_confirms_none g v (λ e. other (same ∙ e)) c.wide lc l a.next (named_by o) (ap (λ (n : LayerAnswer). n.next) heard) in
+    ap (λ (es : List StationEntry). entries_of_answer a ++ es) (nothing_behind a.next (named_by o) (confirmed_by lc c.wide l a.next (named_by o)) (entries_beside (beside_in c.wide o) (bringing a.notices)) none)
+    ∙ ap₂ (λ (a : LayerAnswer) (b : PlainBeside). entries_of_answer a ++ entries_beside b (bringing a.notices)) answer (ap (λ (b : Bool). beside_in b o) wide ∙ is)

@@ -18,6 +18,7 @@ pub mod EnteredLemmas
 pub mod TellLemmas
 pub mod ShortLemmas
 pub mod FrameLemmas
+pub mod ClosingLemmas
 pub mod GivenLemmas
 pub mod GivenReadLemmas
 pub mod GivenJoinLemmas
@@ -25,6 +26,7 @@ pub mod GivingLemmas
 pub mod TakeLemmas
 pub mod TookLemmas
 pub mod ConfirmLemmas
+pub mod PassLemmas
 pub mod FollowLemmas
 pub mod HoldLemmas
 pub mod OctetLemmas

@@ -155,8 +155,8 @@ impl Station {
     }
 
     /// How many messages more a channel takes: 8 less those that wait, where it is open and the link is up, and else 0.
-    /// A message of at most 65,535 octets whose confirmation isn't asked, or may be, is refused, but for want of memory,
-    /// exactly where it is 0.
+    /// A message of at most 65,535 octets, of which confirmation isn't asked or may be, is refused exactly where it is
+    /// 0, but for want of memory.
     pub fn room(&self, channel: u16) -> usize
         ensures value { (c : Settings) (s : State) → FitsStation c self.now s → result ≡ room c s channel }
         ensures takes { (c : Settings) (s : State) (q : Marks) (user : List ℕ) → FitsStation c self.now s
