@@ -10,6 +10,7 @@ use Rattle.x25_handshakes.specs.laws.Names.{Name}
 use Rattle.x25_handshakes.specs.laws.Histories.{Lists, messages, name_at, held_at, IsPrefix, Histories, histories_run, histories_start}
 use Rattle.x25_handshakes.specs.laws.Arrivals.{open_at}
 use Rattle.x25_handshakes.specs.laws.Acknowledged as nested
+use Rattle.x25_layer.specs.declared.ranges.Ranges.{Ranges}
 use Rattle.x25_layer.specs.laws.Transcript.{under, messages_in, name_of}
 use Rattle.x25_layer.specs.laws.TwoLayers.{End, TwoLayers, run, start}
 use Rattle.x25_layer.specs.laws.Law.{Always}
