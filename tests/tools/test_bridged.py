@@ -228,6 +228,21 @@ class Two(ToolCase):
         self.assertEqual(self.hears(dce, "dce message"), "dce message ch=2 at 1.1.0 q=0 data=43")
         self.finish(dte, dce)
 
+    def test_one_way_channels(self):
+        """1 and 2 of four are for calls of the DCE and 4 for those of the DTE: an end is refused where only the other's are free."""
+        same = ["--stay", "--channels", "4", "--incoming", "2", "--outgoing", "1"]
+        dce, line = self.listening(*same)
+        dte = self.begin("dte", *line, *same)
+        self.asks(dte, "dte connect", "wait dte restarted", CALL, CALL, "dte call 5 6 -")
+        for channel in (4, 3):
+            self.hears(dce, f"dce incoming ch={channel}")
+        self.hears(dte, "# ! 41, no channel is free: 'dte call 5 6 -'")
+        self.asks(dce, *["dce call 7 8 -"] * 2, "dce call 9 0 -")
+        for channel in (1, 2):
+            self.hears(dte, f"dte incoming ch={channel}")
+        self.hears(dce, "# ! 41, no channel is free: 'dce call 9 0 -'")
+        self.finish(dte, dce)
+
     def test_connect_behind_disconnect(self):
         dte, dce, _ = self.joined()
         for _ in range(3):
