@@ -100,6 +100,7 @@ typedef struct {
     uint16_t kind;            /* X25_EVENT_FRAME .. */
     uint16_t channel;
     bool q;                   /* the qualifier of a message */
+    bool d;                   /* whether confirmation was asked of it */
     uint8_t cause;
     uint8_t diagnostic;
     uint8_t reason;           /* why the link went down: X25_DOWN_RETRIES ..; or which timer passed */
@@ -107,6 +108,7 @@ typedef struct {
     uint32_t timer;           /* X25_TIMER_OFF .. */
     x25_stretch_name stretch; /* in which a message or an interrupt was sent or came, or a call */
     size_t count;             /* how many octets of a frame or of user data there are */
+    size_t confirmed;         /* how many messages more are confirmed */
 } x25_event;
 
 enum {
@@ -147,7 +149,7 @@ enum {
     X25_EVENT_CLEAR_DONE = 14,     /* this end's clearing is confirmed: channel */
     X25_EVENT_RESET = 15,          /* the other end reset: channel, cause, diagnostic */
     X25_EVENT_RESET_DONE = 16,     /* this end's reset is confirmed: channel */
-    X25_EVENT_MESSAGE = 17,        /* a message came: channel, stretch, q, user data */
+    X25_EVENT_MESSAGE = 17,        /* a message came: channel, stretch, q, d, user data */
     X25_EVENT_INTERRUPT = 18,      /* an interrupt came: channel, stretch, user data */
     X25_EVENT_INTERRUPT_DONE = 19, /* this end's interrupt is confirmed: channel */
     X25_EVENT_CONNECT_ASKED = 20,  /* from here on, what this end asked, which is the first event of its answer */
@@ -156,14 +158,16 @@ enum {
     X25_EVENT_CALL_ASKED = 23,     /* channel, stretch, sizes, both addresses, user data */
     X25_EVENT_ACCEPT_ASKED = 24,   /* channel, sizes */
     X25_EVENT_CLEAR_ASKED = 25,    /* channel, as those below have too; cause, diagnostic */
-    X25_EVENT_SEND_ASKED = 26,     /* stretch, q, user data too */
+    X25_EVENT_SEND_ASKED = 26,     /* stretch, q, d, user data too */
     X25_EVENT_INTERRUPT_ASKED = 27,/* stretch, user data too */
     X25_EVENT_RESET_ASKED = 28,    /* cause, diagnostic too */
     X25_EVENT_READY_ASKED = 29,
     X25_EVENT_NOT_READY_ASKED = 30,
     X25_EVENT_RELINK_ASKED = 31,   /* no channel */
-    X25_EVENT_TIMEOUT = 32         /* a timer passed, the first event of the answer: reason is its number, 1, 3, or 20 to 23, of a DCE
+    X25_EVENT_TIMEOUT = 32,        /* a timer passed, the first event of the answer: reason is its number, 1, 3, or 20 to 23, of a DCE
                                       10 to 13; channel, 0 where it is of none */
+    X25_EVENT_CONFIRMED = 33       /* so many messages more are confirmed, of those of x25_send_asking of this stretch, in their order:
+                                      channel, stretch, confirmed */
 };
 
 /* Why the link went down. */
@@ -255,6 +259,9 @@ uint32_t x25_receive_all(x25_station *station, const uint8_t *octets, size_t oct
                          size_t *taken);
 /* Sends a message of at most 65,535 octets on a channel, with or without the qualifier. 9, 40, 42, 30, 32, 31. */
 uint32_t x25_send(x25_station *station, uint16_t channel, bool q, const uint8_t *user, size_t user_count);
+/* The same, and asks that its delivery be confirmed, by D of its last packet: X25_EVENT_CONFIRMED tells that the other end has taken
+   it. After a reset, a clearing or a restart nothing is told of messages before. 34 too, where the station isn't wide. */
+uint32_t x25_send_asking(x25_station *station, uint16_t channel, bool q, const uint8_t *user, size_t user_count);
 /* Does what a text asks, as a line of a script without the name of its end and the line feed: "call 123 4567 41",
    "accept 1", "clear 1", "int 1 2a", "disconnect" .. A cause and a diagnostic are taken of any station: "clear 1 diag=5"; what
    is given by "with 0101 - call 123 4567 41" of one that is wide, and refused by 34 of others. 60, and what the call for it
@@ -308,6 +315,8 @@ bool x25_waits(const x25_station *station);
 bool x25_idle(const x25_station *station);
 /* How many messages more x25_send takes on a channel: 8 less those that wait, and 0 where it is refused. */
 size_t x25_room(const x25_station *station, uint16_t channel);
+/* How many messages of x25_send_asking aren't confirmed yet on a channel, at most 15. */
+size_t x25_unconfirmed(const x25_station *station, uint16_t channel);
 /* What this end awaits on a channel: X25_AWAITS_NOTHING .. */
 uint32_t x25_awaits(const x25_station *station, uint16_t channel);
 /* Whether a restart is under way: this end awaits that it be confirmed. */

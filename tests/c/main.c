@@ -60,6 +60,7 @@ static void try_refusals(void)
     expect("connect of none", x25_connect(station), X25_NO_STATION);
     expect("receive of none", x25_receive(station, room, 4), X25_NO_STATION);
     expect("send of none", x25_send(station, 1, false, room, 4), X25_NO_STATION);
+    expect("send of none with confirmation", x25_send_asking(station, 1, false, room, 4), X25_NO_STATION);
     expect("command of none", x25_command(station, "connect", 7), X25_NO_STATION);
     expect("entry of none", x25_entry(station, 0, text, 4, &count), X25_NO_STATION);
     expect("entry of none, its length", (uint32_t)count, 7);
@@ -87,7 +88,7 @@ static void try_refusals(void)
     expect("timer of none", x25_timer(station), X25_TIMER_OFF);
     expect("none is idle", x25_idle(station), false);
     expect("none waits", x25_waits(station), false);
-    expect("room of none", (uint32_t)x25_room(station, 1), 0);
+    expect("room of none", (uint32_t)(x25_room(station, 1) + x25_unconfirmed(station, 1)), 0);
     expect("stretch of none", x25_stretch(station, 1, &(x25_stretch_name){0}), false);
     expect("a bad end", x25_new(station, 2, one_channel), X25_BAD_SETTING);
     expect("a bad window", x25_new(station, X25_DTE, (x25_settings){.k = 8, .n2 = 10, .channels = 1}), X25_BAD_SETTING);
@@ -449,6 +450,42 @@ static void try_given(bool wide)
     x25_free(&dce.station);
 }
 
+/* A message whose confirmation is asked: D of its packet, what both ends are told, and how many are unconfirmed. */
+static void try_confirmed(bool wide)
+{
+    static const uint8_t packet[] = {0x50, 0x01, 0x00, 0x68, 0x69};
+    static const char told[] = "dte send ch=1 at 1.0.0 q=0 d=1 data=6869\ndte confirmed ch=1 at 1.0.0 count=1\n";
+    x25_settings settings = one_channel;
+    x25_event event;
+    settings.wide = wide;
+    expect("new", x25_new(&dte.station, X25_DTE, settings), 0);
+    expect("new", x25_new(&dce.station, X25_DCE, settings), 0);
+    expect("connect", x25_connect(&dte.station), 0);
+    take(&dte);
+    deliver_all();
+    ask(&dte, "call 1 2 -");
+    deliver_all();
+    ask(&dce, "accept 1");
+    deliver_all();
+    dte.length = 0;
+    uint32_t number = x25_send_asking(&dte.station, 1, false, packet + 3, 2);
+    expect("a message to be confirmed", number, wide ? 0 : X25_BAD_PARAMETER);
+    expect("what is unconfirmed", (uint32_t)x25_unconfirmed(&dte.station, 1), wide);
+    expect("what is unconfirmed on no channel", (uint32_t)x25_unconfirmed(&dte.station, 2), 0);
+    if (wide) {
+        expect("what was asked", x25_take(&dte.station, x25_frames(&dte.station), &event, NULL, 0) && event.kind == X25_EVENT_SEND_ASKED && event.d && !event.q, true);
+        sends(&dte, "a message", packet, sizeof packet);
+        is_told(&dce, "dce message ch=1 at 1.0.0 q=0 d=1 data=6869\n");
+        expect("what is confirmed", dte.length == strlen(told) && memcmp(dte.told, told, dte.length) == 0, true);
+        expect("its event", x25_take(&dte.station, x25_frames(&dte.station), &event, NULL, 0) && event.kind == X25_EVENT_CONFIRMED, true);
+        expect("what it has", event.channel == 1 && event.stretch.restarts == 1 && event.confirmed == 1 && event.count == 0, true);
+        expect("what is unconfirmed", (uint32_t)x25_unconfirmed(&dte.station, 1), 0);
+    }
+    dte.length = dce.length = 0;
+    x25_free(&dte.station);
+    x25_free(&dce.station);
+}
+
 /* By a clock what isn't answered is asked for by itself, and the answer tells the timer: of a call that isn't accepted. */
 static void try_clock(void)
 {
@@ -539,6 +576,8 @@ int main(void)
     try_reasons();
     try_given(false);
     try_given(true);
+    try_confirmed(false);
+    try_confirmed(true);
     try_all();
     try_clock();
     return 0;

@@ -4,7 +4,7 @@
 #include "two.h"
 #include <sys/mman.h>
 
-enum { AREA = 1 << 18, AREAS = 9, SEVERAL = 4, KINDS = 33, ALL = 200000 /* in so many calls each kind comes */ };
+enum { AREA = 1 << 18, AREAS = 9, SEVERAL = 4, KINDS = 34, ALL = 200000 /* in so many calls each kind comes */ };
 
 static uint64_t state;
 static uint8_t *ends[AREAS]; /* of memory behind which none may be touched */
@@ -194,8 +194,9 @@ static uint32_t call(end_t *end, end_t *other)
         return command(station);
     case 3: case 4: case 5: {
         size_t many = x25_room(station, channel);
-        number = x25_send(station, channel, draw(2), octets(0, long_count), long_count);
-        if (many > 8 || (long_count < 65536 && (many == 0) != (number != 0)))
+        bool asks = draw(2);
+        number = (asks ? x25_send_asking : x25_send)(station, channel, draw(2), octets(0, long_count), long_count);
+        if (many > 8 || (!asks && long_count < 65536 && (many == 0) != (number != 0)) || x25_unconfirmed(station, channel) > 15)
             fail("the room of a channel", (uint32_t)many);
         return number;
     }
@@ -299,7 +300,7 @@ static void write_event(end_t *end, size_t i, const x25_event *event, const uint
     static const char *const names[KINDS] = {
         "", "", "", "linkup", "linkdown ", "restarted", "restartdone", "fault", "beside", "diagnostic", "incoming", "connected", "collided",
         "cleared", "cleardone", "wasreset", "resetdone", "message", "interrupt", "intdone", "connect", "disconnect", "restart", "call", "accept",
-        "clear", "send", "int", "reset", "ready", "notready", "relink", "timeout"};
+        "clear", "send", "int", "reset", "ready", "notready", "relink", "timeout", "confirmed"};
     static const char *const reasons[] = {"", "retries", "disc", "dm", "frmr-sent", "frmr-got", "reset", "local", "counts"};
     unsigned kind = event->kind;
     length = 0;
@@ -308,17 +309,17 @@ static void write_event(end_t *end, size_t i, const x25_event *event, const uint
     if (kind == X25_EVENT_LINK_DOWN)
         put(reasons[event->reason], 0);
     if (kind == X25_EVENT_FAULT || kind == X25_EVENT_BESIDE || (kind >= X25_EVENT_INCOMING && kind < X25_EVENT_CONNECT_ASKED)
-        || (kind >= X25_EVENT_CALL_ASKED && kind < X25_EVENT_RELINK_ASKED))
+        || (kind >= X25_EVENT_CALL_ASKED && kind < X25_EVENT_RELINK_ASKED) || kind == X25_EVENT_CONFIRMED)
         put(" ch=%llu", event->channel);
     if (kind == X25_EVENT_INCOMING || kind == X25_EVENT_CALL_ASKED || kind == X25_EVENT_MESSAGE || kind == X25_EVENT_SEND_ASKED
-        || kind == X25_EVENT_INTERRUPT || kind == X25_EVENT_INTERRUPT_ASKED)
+        || kind == X25_EVENT_INTERRUPT || kind == X25_EVENT_INTERRUPT_ASKED || kind == X25_EVENT_CONFIRMED)
         put_stretch(event);
     if (kind == X25_EVENT_INCOMING || kind == X25_EVENT_CALL_ASKED) {
         put_address(" called=", x25_called, &end->station, i);
         put_address(" calling=", x25_calling, &end->station, i);
     }
     if (kind == X25_EVENT_MESSAGE || kind == X25_EVENT_SEND_ASKED)
-        put(" q=%llu", event->q);
+        put(event->d ? " q=%llu d=1" : " q=%llu", event->q);
     if (kind == X25_EVENT_BESIDE) {
         size_t count = x25_facilities(&end->station, i, NULL, 0);
         uint8_t *field = room(3, count);
@@ -338,7 +339,17 @@ static void write_event(end_t *end, size_t i, const x25_event *event, const uint
         put(" diag=%llu", event->diagnostic);
     if (kind == X25_EVENT_FAULT || kind == X25_EVENT_DIAGNOSTIC)
         put(" diag=%llu", event->diagnostic);
+    if (kind == X25_EVENT_CONFIRMED)
+        put(" count=%llu", event->confirmed);
     put("\n", 0);
+}
+
+static bool are_same(const x25_event *a, const x25_event *b)
+{
+    return a->kind == b->kind && a->channel == b->channel && a->q == b->q && a->d == b->d && a->cause == b->cause
+        && a->diagnostic == b->diagnostic && a->reason == b->reason && memcmp(&a->sizes, &b->sizes, sizeof a->sizes) == 0
+        && a->timer == b->timer && memcmp(&a->stretch, &b->stretch, sizeof a->stretch) == 0 && a->count == b->count
+        && a->confirmed == b->confirmed;
 }
 
 /* Takes all items at once, and at times fewer, and compares them with those that are taken one by one, which have so many octets. */
@@ -350,7 +361,7 @@ static void take_all(const x25_station *station, size_t items, size_t octets)
     size_t count = x25_take_all(station, first, events, most, taken, size), at = 0;
     for (size_t i = 0; i < count; i++) {
         uint8_t *user = room(1, events[i].count);
-        if (!x25_take(station, first + i, &event, user, events[i].count) || memcmp(&event, &events[i], sizeof event) || at + event.count > size
+        if (!x25_take(station, first + i, &event, user, events[i].count) || !are_same(&event, &events[i]) || at + event.count > size
             || (event.count && memcmp(user, taken + at, event.count)))
             fail("an item of all", (uint32_t)i);
         at += event.count;

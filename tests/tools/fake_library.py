@@ -55,7 +55,7 @@ class Library:
         time.sleep(0)
         taken = self.items[number(first) : number(first) + number(most)]
         for i, (kind, octets, timer) in enumerate(taken):
-            x25._ITEM.pack_into(items._obj, i * x25._ITEM.size, kind, *[0] * 9, timer, 0, 0, 0, len(octets))
+            x25._ITEM.pack_into(items._obj, i * x25._ITEM.size, kind, *[0] * 10, timer, 0, 0, 0, len(octets), 0)
         octets = b"".join(octets for _, octets, _ in taken)
         ctypes.memmove(room, octets, len(octets))
         time.sleep(0)

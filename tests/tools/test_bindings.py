@@ -168,6 +168,38 @@ class Python(unittest.TestCase):
                 dte.call("1", "2", facilities=charged)
             self.assertEqual(dte.call("1", "2")[1].frames[0][2:8].hex(), "10010b111200")
 
+    def test_confirmation(self):
+        """D of the last packet asks for it, the other end's user sees it, and one acknowledgement may confirm several messages."""
+
+        def told(answer, near, far):
+            events = []
+            while answer.frames:
+                near, far, answer = far, near, far.receive_all(answer.frames)
+                events += answer.events
+            return events
+
+        with x25.Station(x25.DTE, library=LIBRARY, wide=True) as dte, x25.Station(x25.DCE, library=LIBRARY, wide=True) as dce:
+            told(dte.connect(), dte, dce)
+            channel, answer = dte.call("1", "2")
+            told(answer, dte, dce)
+            told(dce.accept(channel), dce, dte)
+            asked, plain = dte.send(channel, b"A" * 129, q=True, confirm=True), dte.send(channel, b"B")
+            self.assertEqual((asked.events[0].d, asked.events[0].q, plain.events[0].d, dte.unconfirmed(channel)), (True, True, False, 1))
+            self.assertEqual([frame[2] >> 4 for frame in asked.frames], [0b1001, 0b1101])
+            answer = x25.Answer(asked.frames + plain.frames, [], plain.timer)
+            events = told(answer, dte, dce)
+            self.assertEqual([(event.kind, event.d, event.confirmed) for event in events],
+                             [(x25.Kind.MESSAGE, True, 0), (x25.Kind.CONFIRMED, False, 1), (x25.Kind.MESSAGE, False, 0)])
+            self.assertEqual(events[1], x25.Event(x25.Kind.CONFIRMED, channel, dte.stretch(channel), confirmed=1))
+            self.assertEqual((dte.unconfirmed(channel), dte.unconfirmed(-1)), (0, 0))
+        with x25.Station(x25.DTE, library=LIBRARY) as dte, x25.Station(x25.DCE, library=LIBRARY) as dce:
+            told(dte.connect(), dte, dce)
+            channel, answer = dte.call("1", "2")
+            told(answer, dte, dce)
+            told(dce.accept(channel), dce, dte)
+            with self.assertRaisesRegex(x25.Refused, "34: "):
+                dte.send(channel, b"A", confirm=True)
+
     def test_a_station_that_was_closed(self):
         with x25.Station(x25.DCE, library=LIBRARY) as station:
             self.assertEqual(station.timer, x25.Timer.OFF)

@@ -17,7 +17,7 @@ COMES_IN = {
     "connected": (("calling",), "no call waits for an answer"),
     "cleardone": (("clearing", "fault"), "nothing is being cleared"),
     "resetdone": (("resetting", "fault"), "nothing is being reset"),
-    **dict.fromkeys(("message", "interrupt", "intdone", "wasreset"), (("calling", *OPEN), "no call is up")),
+    **dict.fromkeys(("message", "interrupt", "intdone", "confirmed", "wasreset"), (("calling", *OPEN), "no call is up")),
 }
 # What comes of the link that this end sets up.
 OF_THE_LINK = ("linkup", "restarted", "incoming")

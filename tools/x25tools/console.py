@@ -24,7 +24,7 @@ from x25tools.users import Outlet, kind
 with contextlib.suppress(ImportError):
     import readline
 
-# The fields of each command, those in brackets from the end on may be left out; and what it does.
+# The fields of each command, of which those in brackets may be left out; and what it does.
 COMMANDS = {
     "connect": ("", "has the link set up"),
     "disconnect": ("", "ends the link"),
@@ -34,7 +34,7 @@ COMMANDS = {
     "accept": ("CHANNEL [S S W W]", "accepts the call that came on a channel"),
     "clear": ("CHANNEL [cause=N] [diag=N]", "refuses a call, or ends it"),
     "with": ("FAC DATA [d] COMMAND", "calls, accepts or clears with facilities, user data and D"),
-    "send": ("CHANNEL Q DATA", "sends a message; Q, the qualifier, is 0 or 1"),
+    "send": ("CHANNEL Q [d] DATA", "sends a message; Q is 0 or 1, and d asks for confirmation"),
     "int": ("CHANNEL DATA", "sends an interrupt, of 1 to 32 octets"),
     "ready": ("CHANNEL", "takes messages again"),
     "notready": ("CHANNEL", "takes no messages for now"),
@@ -49,6 +49,7 @@ NOTES = """DATA and FAC are hexadecimal digits, text in quotes, both, as "ab"0d0
 packet sizes, 8 for 2 to the power of 8, and windows: of the called end's data and of the calling's."""
 TEXT = re.compile(r'"([^"]*)"')
 DATA = re.compile(r"-|(?:[0-9a-fA-F]{2})+")
+OPTIONAL = re.compile(r"\[.*?\]")
 GIVEN = re.compile(r"(?:cause=\d+)?(?:(?:^| )diag=\d+)?")
 OCTETS = re.compile(r"data=((?:[0-9a-f]{2})+)(?: |$)")
 CHANNEL = re.compile(r" ch=(\d+)")
@@ -73,6 +74,7 @@ MEANS = {
     "wasreset": "what was under way is lost",
     "resetdone": "what was under way is lost",
     "intdone": "the interrupt is confirmed",
+    "confirmed": "the other end has taken what was sent with d",
     "collided": "both ends called",
     "fault": "the other end broke a rule",
 }
@@ -118,13 +120,13 @@ def command(words: list[str]) -> list[str]:
         if words[at : at + 1] not in (["call"], ["accept"], ["clear"]):
             raise Unknown(f"it is `with {fields}`, with call, accept or clear as COMMAND")
         return [name, *map(checked, words[1:3]), *words[3:at], *command(words[at:])]
-    least, most = (len(text.split()) for text in (fields.partition("[")[0], fields))
-    if not least < len(words) <= most + 1 or "cause=N" in fields and not GIVEN.fullmatch(" ".join(words[least + 1 :])):
+    least, most = (len(text.split()) for text in (OPTIONAL.sub("", fields), fields))
+    if name == "send" and words[3:-1] not in ([], ["d"]) or not least < len(words) <= most + 1 or "cause=N" in fields and not GIVEN.fullmatch(" ".join(words[least + 1 :])):
         raise Unknown(f"it is `{name} {fields}`" if fields else f"`{name}` stands alone")
     if name == "call" and len(words) == least + 1:
         words.append("-")
     if "DATA" in fields:
-        checked(words[fields.replace("[", "").replace("]", "").split().index("DATA") + 1])
+        checked(words[3 if name == "call" else -1])
     return words
 
 

@@ -52,7 +52,7 @@ class Timer(enum.IntEnum):
 
 
 class Kind(enum.IntEnum):
-    """What an event tells, as `x25.h` has it; from CONNECT_ASKED on, what this end asked."""
+    """What an event tells, as `x25.h` has it; from CONNECT_ASKED to RELINK_ASKED, what this end asked."""
 
     LINK_UP = 3
     LINK_DOWN = 4
@@ -84,6 +84,7 @@ class Kind(enum.IntEnum):
     NOT_READY_ASKED = 30
     RELINK_ASKED = 31
     TIMEOUT = 32
+    CONFIRMED = 33
 
 
 class Down(enum.IntEnum):
@@ -134,12 +135,13 @@ class Sizes(NamedTuple):
 @dataclasses.dataclass(frozen=True, repr=False)
 class Event:
     """What a station tells, and what its kind has of these: `x25.h` lists that. A stretch is the restarts, clears and resets that name it;
-    `timeout` is the number of the timer that passed."""
+    `timeout` is the number of the timer that passed, `confirmed` how many messages more are confirmed."""
 
     kind: Kind
     channel: int = 0
     stretch: tuple[int, int, int] | None = None
     q: bool = False
+    d: bool = False
     cause: int = 0
     diagnostic: int = 0
     reason: Down | None = None
@@ -149,6 +151,7 @@ class Event:
     facilities: bytes = b""
     user: bytes = b""
     timeout: int = 0
+    confirmed: int = 0
 
     def __repr__(self) -> str:
         told = ((field.name, getattr(self, field.name), field.default) for field in dataclasses.fields(self))
@@ -242,6 +245,7 @@ _FUNCTIONS: dict[str, tuple[Any, Any]] = {
     "receive": ([_STATION, *_OCTETS], ctypes.c_uint32),
     "receive_all": (None, ctypes.c_uint32),
     "send": ([_STATION, ctypes.c_uint16, ctypes.c_bool, *_OCTETS], ctypes.c_uint32),
+    "send_asking": ([_STATION, ctypes.c_uint16, ctypes.c_bool, *_OCTETS], ctypes.c_uint32),
     "command": ([_STATION, *_OCTETS], ctypes.c_uint32),
     "standard_times": ([ctypes.c_uint8, ctypes.POINTER(_Times)], ctypes.c_uint32),
     "set_times": ([_STATION, _Times], ctypes.c_uint32),
@@ -260,6 +264,7 @@ _FUNCTIONS: dict[str, tuple[Any, Any]] = {
     "waits": ([_STATION], ctypes.c_bool),
     "idle": ([_STATION], ctypes.c_bool),
     "room": ([_STATION, ctypes.c_uint16], _SIZE),
+    "unconfirmed": ([_STATION, ctypes.c_uint16], _SIZE),
     "awaits": ([_STATION, ctypes.c_uint16], ctypes.c_uint32),
     "is_restarting": ([_STATION], ctypes.c_bool),
     "stretch": ([_STATION, ctypes.c_uint16, ctypes.POINTER(_StretchName)], ctypes.c_bool),
@@ -267,8 +272,8 @@ _FUNCTIONS: dict[str, tuple[Any, Any]] = {
 }
 _FRAME, _TIMER = 1, 2
 _ROOM_SIZE, _ITEMS, _PART = 1 << 18, 64, 128
-# An x25_event: kind, channel, q, cause, diagnostic, reason, sizes, timer, stretch, count; and its kind, timer and count alone.
-_ITEM, _HEAD = struct.Struct("@HH?BBB4BI3QN"), struct.Struct("@H10xI24xN")
+# An x25_event: kind, channel, q, d, cause, diagnostic, reason, sizes, timer, stretch, count, confirmed; and its kind, timer and count alone.
+_ITEM, _HEAD = struct.Struct("@HH??BBB4BI3QNN"), struct.Struct("@H14xI28xN8x")
 _ITEM_SIZE = _ITEM.size
 _size = functools.lru_cache(maxsize=1024)(_SIZE.from_param)
 _MOST, _SPACE = _size(_ITEMS), _size(_ROOM_SIZE)
@@ -276,7 +281,7 @@ _TIMERS, _new = tuple(Timer), tuple.__new__
 _LINK_DOWN, _BESIDE, _TIMEOUT = Kind.LINK_DOWN, Kind.BESIDE, Kind.TIMEOUT
 _WITH_ADDRESSES = {Kind.INCOMING, Kind.CALL_ASKED}
 _WITH_SIZES = {*_WITH_ADDRESSES, Kind.CONNECTED, Kind.ACCEPT_ASKED}
-_WITH_STRETCH = {*_WITH_ADDRESSES, Kind.MESSAGE, Kind.SEND_ASKED, Kind.INTERRUPT, Kind.INTERRUPT_ASKED}
+_WITH_STRETCH = {*_WITH_ADDRESSES, Kind.MESSAGE, Kind.SEND_ASKED, Kind.INTERRUPT, Kind.INTERRUPT_ASKED, Kind.CONFIRMED}
 # Each kind by its number, and which of these it has.
 _KINDS = {kind.value: (kind, kind in _WITH_ADDRESSES, kind in _WITH_SIZES, kind in _WITH_STRETCH) for kind in Kind}
 
@@ -442,9 +447,11 @@ class Station:
         finally:
             self._release()
 
-    def send(self, channel: int, user: bytes, q: bool = False) -> Answer:
-        """Sends a message of at most 65,535 octets, with or without the qualifier."""
-        return self._on(self._library.x25_send, channel, q, user, len(user))
+    def send(self, channel: int, user: bytes, q: bool = False, confirm: bool = False) -> Answer:
+        """Sends a message of at most 65,535 octets, with or without the qualifier. One that is wide may ask that its delivery be confirmed:
+        CONFIRMED tells that the other end has taken it."""
+        send = self._library.x25_send_asking if confirm else self._library.x25_send
+        return self._on(send, channel, q, user, len(user))
 
     def command(self, text: str) -> Answer:
         """Does what a text asks, as a line of a script without the name of its end: `call 123 4567 41`, `accept 1`."""
@@ -507,6 +514,11 @@ class Station:
         """How many messages more `send` takes on a channel: 8 less those that wait, and 0 where it is refused."""
         with self._lock:
             return int(self._library.x25_room(self._slot, channel)) if 0 <= channel < 65536 else 0
+
+    def unconfirmed(self, channel: int) -> int:
+        """How many messages that asked for it aren't confirmed yet on a channel."""
+        with self._lock:
+            return int(self._library.x25_unconfirmed(self._slot, channel)) if 0 <= channel < 65536 else 0
 
     def awaits(self, channel: int) -> Awaits:
         """What this end awaits on a channel."""
@@ -583,17 +595,19 @@ class Station:
         event.__dict__.update(
             kind=kind,
             channel=item[1],
-            stretch=item[11:14] if has_stretch else None,
+            stretch=item[12:15] if has_stretch else None,
             q=item[2],
-            cause=item[3],
-            diagnostic=item[4],
-            reason=Down(item[5]) if kind is _LINK_DOWN else None,
-            sizes=Sizes(*item[6:10]) if has_sizes else None,
+            d=item[3],
+            cause=item[4],
+            diagnostic=item[5],
+            reason=Down(item[6]) if kind is _LINK_DOWN else None,
+            sizes=Sizes(*item[7:11]) if has_sizes else None,
             called=self._part(self._library.x25_called, i).decode() if has_addresses else "",
             calling=self._part(self._library.x25_calling, i).decode() if has_addresses else "",
             facilities=self._part(self._library.x25_facilities, i) if kind is _BESIDE else b"",
             user=user,
-            timeout=item[5] if kind is _TIMEOUT else 0,
+            timeout=item[6] if kind is _TIMEOUT else 0,
+            confirmed=item[16],
         )
         return event
 

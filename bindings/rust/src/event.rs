@@ -162,11 +162,12 @@ pub enum Event {
     ResetDone {
         channel: u16,
     },
-    /// A message came.
+    /// A message came; `d` says whether confirmation was asked of it.
     Message {
         channel: u16,
         stretch: Stretch,
         q: bool,
+        d: bool,
         user: Vec<u8>,
     },
     /// An interrupt came.
@@ -207,6 +208,7 @@ pub enum Event {
         channel: u16,
         stretch: Stretch,
         q: bool,
+        d: bool,
         user: Vec<u8>,
     },
     InterruptAsked {
@@ -231,6 +233,12 @@ pub enum Event {
         timer: u8,
         channel: u16,
     },
+    /// So many messages more of this stretch are confirmed, of those of `send_asking`, in their order.
+    Confirmed {
+        channel: u16,
+        stretch: Stretch,
+        confirmed: usize,
+    },
 }
 
 impl Event {
@@ -245,10 +253,12 @@ impl Event {
         let raw::Event {
             channel,
             q,
+            d,
             cause,
             diagnostic,
             sizes,
             stretch,
+            confirmed,
             ..
         } = item;
         let reason = Down::of(item.reason);
@@ -293,6 +303,7 @@ impl Event {
                 channel,
                 stretch,
                 q,
+                d,
                 user,
             },
             18 => Event::Interrupt {
@@ -322,6 +333,7 @@ impl Event {
                 channel,
                 stretch,
                 q,
+                d,
                 user,
             },
             27 => Event::InterruptAsked {
@@ -337,9 +349,14 @@ impl Event {
             29 => Event::ReadyAsked { channel },
             30 => Event::NotReadyAsked { channel },
             31 => Event::RelinkAsked,
-            _ => Event::Timeout {
+            32 => Event::Timeout {
                 timer: item.reason,
                 channel,
+            },
+            _ => Event::Confirmed {
+                channel,
+                stretch,
+                confirmed,
             },
         }
     }

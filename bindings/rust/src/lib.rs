@@ -382,6 +382,14 @@ impl Station {
         self.answer(number)
     }
 
+    /// Sends as `send` does, and asks that its delivery be confirmed: `Event::Confirmed` tells that the other end has taken it. 34 too,
+    /// where the station isn't wide.
+    pub fn send_asking(&mut self, channel: u16, q: bool, user: &[u8]) -> Result<Answer, Refused> {
+        let (slot, octets) = (self.slot.get(), user.as_ptr());
+        let number = unsafe { raw::x25_send_asking(slot, channel, q, octets, user.len()) };
+        self.answer(number)
+    }
+
     /// Does what a text asks, as a line of a script without the name of its end: `call 123 4567 41`, `accept 1`.
     pub fn command(&mut self, text: &str) -> Result<Answer, Refused> {
         let number = unsafe { raw::x25_command(self.slot.get(), text.as_ptr(), text.len()) };
@@ -437,6 +445,11 @@ impl Station {
     /// How many messages more `send` takes on a channel: 8 less those that wait, and 0 where it is refused.
     pub fn room(&self, channel: u16) -> usize {
         unsafe { raw::x25_room(self.slot.get(), channel) }
+    }
+
+    /// How many messages of `send_asking` aren't confirmed yet on a channel.
+    pub fn unconfirmed(&self, channel: u16) -> usize {
+        unsafe { raw::x25_unconfirmed(self.slot.get(), channel) }
     }
 
     /// What this end awaits on a channel.
@@ -575,17 +588,19 @@ mod tests {
             dte.lines().unwrap(),
             ["dte send ch=1 at 1.0.0 q=1 data=6869\n"]
         );
-        let (q, user) = (true, b"hi".to_vec());
+        let (q, d, user) = (true, false, b"hi".to_vec());
         let message = Event::Message {
             channel,
             stretch,
             q,
+            d,
             user: user.clone(),
         };
         let asked = Event::SendAsked {
             channel,
             stretch,
             q,
+            d,
             user,
         };
         assert_eq!(talk(answer, &mut dte, &mut dce), [asked, message]);
@@ -712,6 +727,44 @@ mod tests {
         assert_eq!(refused, Err(Refused(34)));
         let nothing = Given::default();
         assert!(narrow.call_with("1", "2", b"A", None, nothing).is_ok());
+    }
+
+    #[test]
+    fn a_message_is_confirmed() {
+        let settings = Settings {
+            wide: true,
+            ..Settings::default()
+        };
+        let mut dte = Station::new(End::Dte, settings).unwrap();
+        let mut dce = Station::new(End::Dce, settings).unwrap();
+        let answer = dte.connect().unwrap();
+        talk(answer, &mut dte, &mut dce);
+        let (channel, answer) = dte.call("1", "2", b"", None).unwrap();
+        talk(answer, &mut dte, &mut dce);
+        let answer = dce.accept(channel, None).unwrap();
+        talk(answer, &mut dce, &mut dte);
+        let answer = dte.send_asking(channel, false, b"hi").unwrap();
+        assert_eq!(answer.frames[0][2..7], [0x50, 1, 0, b'h', b'i']);
+        assert_eq!(dte.unconfirmed(channel), 1);
+        let stretch = dte.stretch(channel).unwrap();
+        let (q, d, user) = (false, true, b"hi".to_vec());
+        let message = Event::Message {
+            channel,
+            stretch,
+            q,
+            d,
+            user,
+        };
+        let confirmed = Event::Confirmed {
+            channel,
+            stretch,
+            confirmed: 1,
+        };
+        let told = talk(answer, &mut dte, &mut dce);
+        assert_eq!(told[1..], [message, confirmed]);
+        assert_eq!(dte.unconfirmed(channel), 0);
+        let mut strict = Station::new(End::Dte, Settings::default()).unwrap();
+        assert_eq!(strict.send_asking(1, false, b"hi"), Err(Refused(9)));
     }
 
     #[test]

@@ -73,6 +73,7 @@ pub struct Event {
     pub kind: u16,
     pub channel: u16,
     pub q: bool,
+    pub d: bool,
     pub cause: u8,
     pub diagnostic: u8,
     pub reason: u8,
@@ -80,6 +81,7 @@ pub struct Event {
     pub timer: u32,
     pub stretch: Stretch,
     pub count: usize,
+    pub confirmed: usize,
 }
 
 extern "C" {
@@ -140,6 +142,13 @@ extern "C" {
         taken: *mut usize,
     ) -> u32;
     pub fn x25_send(slot: *mut Slot, channel: u16, q: bool, user: *const u8, count: usize) -> u32;
+    pub fn x25_send_asking(
+        slot: *mut Slot,
+        channel: u16,
+        q: bool,
+        user: *const u8,
+        count: usize,
+    ) -> u32;
     pub fn x25_command(slot: *mut Slot, text: *const u8, count: usize) -> u32;
     pub fn x25_standard_times(end: u8, times: *mut Times) -> u32;
     pub fn x25_set_times(slot: *mut Slot, times: Times) -> u32;
@@ -168,6 +177,7 @@ extern "C" {
     pub fn x25_waits(slot: *const Slot) -> bool;
     pub fn x25_idle(slot: *const Slot) -> bool;
     pub fn x25_room(slot: *const Slot, channel: u16) -> usize;
+    pub fn x25_unconfirmed(slot: *const Slot, channel: u16) -> usize;
     pub fn x25_awaits(slot: *const Slot, channel: u16) -> u32;
     pub fn x25_is_restarting(slot: *const Slot) -> bool;
     pub fn x25_stretch(slot: *const Slot, channel: u16, name: *mut Stretch) -> bool;

@@ -30,7 +30,7 @@ static OF_A_USER: [Form; 15] = [
     },
     Form {
         word: "send",
-        form: "END send CH Q HEX",
+        form: "END send CH Q [d] HEX (d with --wide)",
     },
     Form {
         word: "int",

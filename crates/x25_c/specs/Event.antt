@@ -11,6 +11,7 @@ use Rattle.x25_layer.specs.laws.Transcript.{Said, Asked, Told}
 use Rattle.x25_station.specs.Entry.{StationEntry, of_channel, restart_asked, connect_asked, disconnect_asked}
 use Rattle.x25_station.specs.Entry.{relink_asked, link_up}
 use Rattle.x25_station.specs.Entry.{link_down, was_restarted, restart_confirmed, at_fault, came_beside, was_diagnosed}
+use Rattle.x25_station.specs.Entry.{was_confirmed}
 use Rattle.x25_c.specs.declared.event.Event.{Event}
 use Rattle.x25_c.specs.Sizes.{no_sizes, sizes_told}
 use Rattle.x25_c.specs.StretchName.{no_name, name_told}
@@ -21,6 +22,7 @@ kind_alone kind = record {
   kind = kind;
   channel = 0;
   q = false;
+  d = false;
   cause = 0;
   diagnostic = 0;
   reason = 0;
@@ -28,6 +30,7 @@ kind_alone kind = record {
   timer = 0;
   stretch = no_name;
   count = 0;
+  confirmed = 0;
 }
 
 -- a kind on a channel
@@ -60,7 +63,7 @@ asked_event channel name (Calls called calling user proposal) =
 asked_event channel name (Accepts None) = on 24 channel
 asked_event channel name (Accepts (Some answer)) = record (on 24 channel) { sizes = sizes_told answer.params }
 asked_event channel name (Clears cause diagnostic) = for_reason cause diagnostic (on 25 channel)
-asked_event channel name (Sends q user) = record (under 26 channel name) { q = q.q; count = length user }
+asked_event channel name (Sends q user) = record (under 26 channel name) { q = q.q; d = q.d; count = length user }
 asked_event channel name (Interrupts user) = record (under 27 channel name) { count = length user }
 asked_event channel name (Resets cause diagnostic) = for_reason cause diagnostic (on 28 channel)
 asked_event channel name SaysReady = on 29 channel
@@ -77,7 +80,7 @@ told_event channel name clear_done = on 14 channel
 told_event channel name (was_reset cause diagnostic) = for_reason cause diagnostic (on 15 channel)
 told_event channel name reset_done = on 16 channel
 told_event channel name (delivered message) =
-    record (under 17 channel name) { q = message.q.q; count = length message.user }
+    record (under 17 channel name) { q = message.q.q; d = message.q.d; count = length message.user }
 told_event channel name (interrupted user) = record (under 18 channel name) { count = length user }
 told_event channel name interrupt_done = on 19 channel
 told_event channel name (fault diagnostic) = record (on 7 channel) { diagnostic = diagnostic }
@@ -98,6 +101,7 @@ entry_event (was_restarted cause diagnostic) = for_reason cause diagnostic (kind
 entry_event restart_confirmed = kind_alone 6
 entry_event (at_fault diagnostic) = record (kind_alone 7) { diagnostic = diagnostic }
 entry_event (came_beside channel facilities user) = record (on 8 channel) { count = length user }
+entry_event (was_confirmed channel name count) = record (under 33 channel name) { confirmed = count }
 entry_event (was_diagnosed diagnostic) = record (kind_alone 9) { diagnostic = diagnostic }
 
 -- ---- its octets

@@ -1,8 +1,9 @@
 //! Calls that let something happen to a station, and leave their answer in it.
-ghost use Rattle.std.specs.Prelude.{◌≡◌, ◌≢◌, IfSome, IfNone, unwrap_or};
+ghost use Rattle.std.specs.Prelude.{◌≡◌, ◌≢◌, IfSome, IfNone, true, unwrap_or};
 ghost use Rattle.x25_circuit.specs.Calling.{Accepts, Clears, Interrupts, Resets, SaysNotReady, SaysReady, Sends};
 ghost use Rattle.x25_circuit.specs.Params.{default_params, in_brief};
 ghost use Rattle.x25_layer.specs.Calls.{Asks as OnChannel, Dials, PullsAll, Restarts};
+ghost use Rattle.x25_packet.specs.Marks.{with_q};
 ghost use Rattle.x25_script.specs.Reading.{command_in};
 ghost use Rattle.x25_station.specs.Command.{Connects, Disconnects, Probes, Relinks, Requests, answer_in_brief};
 ghost use Rattle.x25_station.specs.Command.{command_of};
@@ -364,6 +365,25 @@ pub extern "C" fn x25_receive_all(
     received.1
 }
 
+// Sends a message, whose confirmation is asked or isn't, and pulls behind it.
+#[inline(always)]
+fn send(alloc: Global, slot: &mut Slot, channel: u16, q: bool, d: bool, user: &[u8]) -> u32
+    ensures { Answers slot.old.handle.held slot.new.handle.held result
+        (Asks (Requests (OnChannel channel (Sends (record { q = q; d = d }) user.now)))) }
+{
+    let Some(mut held) = slot.take(alloc) else {
+        return NO_STATION;
+    };
+    let answer = held.happen(Happening::Asks(Cmd::Send {
+        channel,
+        q,
+        d,
+        user,
+    }));
+    slot.put(held);
+    number_of(answer)
+}
+
 /// Sends a message on a channel, and pulls behind it.
 ///
 /// 16 where the slot holds no station, else as `Station::command` of `Cmd::Send`. The station is as before then.
@@ -376,14 +396,26 @@ pub extern "C" fn x25_send(
     user: &[u8],
 ) -> u32
     ensures { Answers slot.old.handle.held slot.new.handle.held result
-        (Asks (Requests (OnChannel channel (Sends q user.now)))) }
+        (Asks (Requests (OnChannel channel (Sends (with_q q) user.now)))) }
 {
-    let Some(mut held) = slot.take(alloc) else {
-        return NO_STATION;
-    };
-    let answer = held.happen(Happening::Asks(Cmd::Send { channel, q, user }));
-    slot.put(held);
-    number_of(answer)
+    send(alloc, slot, channel, q, false, user)
+}
+
+/// The same, and asks for confirmation of its delivery, with `wide`.
+///
+/// 16 where the slot holds no station, else as `Station::command` of `Cmd::Send`. The station is as before then.
+#[unsafe(no_mangle)]
+pub extern "C" fn x25_send_asking(
+    alloc: Global,
+    slot: &mut Slot,
+    channel: u16,
+    q: bool,
+    user: &[u8],
+) -> u32
+    ensures { Answers slot.old.handle.held slot.new.handle.held result
+        (Asks (Requests (OnChannel channel (Sends (record { q = q; d = true }) user.now)))) }
+{
+    send(alloc, slot, channel, q, true, user)
 }
 
 /// Does the command that a text spells, as behind the end's name in a line of a script, and pulls behind it. One with a

@@ -75,6 +75,8 @@ const RELINK_ASKED: u16 = 31;
 
 pub(crate) const TIMEOUT: u16 = 32;
 
+const CONFIRMED: u16 = 33;
+
 /// An event: its kind, and what that has; `count` is how many octets of a frame or of user data there are.
 #[repr(C)]
 #[derive(Clone, Copy)]
@@ -82,6 +84,7 @@ pub struct Event {
     pub kind: u16,
     pub channel: u16,
     pub q: bool,
+    pub d: bool,
     pub cause: u8,
     pub diagnostic: u8,
     pub reason: u8,
@@ -89,6 +92,7 @@ pub struct Event {
     pub timer: u32,
     pub stretch: StretchName,
     pub count: usize,
+    pub confirmed: usize,
 }
 
 impl Event {
@@ -100,6 +104,7 @@ impl Event {
             kind,
             channel: 0,
             q: false,
+            d: false,
             cause: 0,
             diagnostic: 0,
             reason: 0,
@@ -107,6 +112,7 @@ impl Event {
             timer: 0,
             stretch: StretchName::none(),
             count: 0,
+            confirmed: 0,
         }
     }
 
@@ -150,6 +156,7 @@ impl Event {
             },
             Asked::Send { q, user } => Event {
                 q: q.q,
+                d: q.d,
                 count: user.len(),
                 ..Event::under(SEND_ASKED, channel, name)
             },
@@ -196,6 +203,7 @@ impl Event {
             Told::ResetDone => Event::on(RESET_DONE, channel),
             Told::Delivered(message) => Event {
                 q: message.q.q,
+                d: message.q.d,
                 count: message.user.as_slice().len(),
                 ..Event::under(MESSAGE, channel, name)
             },
@@ -253,6 +261,14 @@ impl Event {
             Entry::Beside { channel, user, .. } => Event {
                 count: user.len(),
                 ..Event::on(BESIDE, *channel)
+            },
+            Entry::Confirmed {
+                channel,
+                name,
+                count,
+            } => Event {
+                confirmed: *count,
+                ..Event::under(CONFIRMED, *channel, name)
             },
             Entry::Diagnosed { diagnostic } => Event {
                 diagnostic: *diagnostic,

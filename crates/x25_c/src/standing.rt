@@ -1,6 +1,7 @@
 //! Calls that tell how a station stands.
 ghost use Rattle.std.specs.Prelude.{◌≡◌, false, None, IfSome, IfNone};
 ghost use Rattle.x25_clock.specs.Clock.{number_of as number_awaited};
+ghost use Rattle.x25_layer.specs.Layer.Confirmed.{unconfirmed_at};
 ghost use Rattle.x25_layer.specs.code.FitsLayer.{awaited_at};
 ghost use Rattle.x25_station.specs.Config.{Settings as StationSettings, layer_settings};
 ghost use Rattle.x25_station.specs.Station.{Station as State};
@@ -56,6 +57,23 @@ pub extern "C" fn x25_room(alloc: Global, slot: &mut Slot, channel: u16) -> usiz
         return 0;
     };
     let count = held.station.room(channel);
+    slot.put(held);
+    count
+}
+
+/// How many messages of a channel haven't the confirmation yet that was asked of them.
+#[unsafe(no_mangle)]
+pub extern "C" fn x25_unconfirmed(alloc: Global, slot: &mut Slot, channel: u16) -> usize
+    ensures kept { slot.new.handle.held ≡ slot.old.handle.held }
+    ensures unconfirmed { (c : StationSettings) (s : State) →
+        IfSome slot.old.handle.held (λ h. FitsStation c h.station s
+        → result ≡ unconfirmed_at (layer_settings c) s.layer channel) }
+    ensures none { IfNone slot.old.handle.held (result ≡ 0) }
+{
+    let Some(held) = slot.take(alloc) else {
+        return 0;
+    };
+    let count = held.station.unconfirmed(channel);
     slot.put(held);
     count
 }

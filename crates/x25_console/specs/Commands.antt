@@ -23,7 +23,7 @@ command_asked (accept channel params) = Requests (part_asked (accept channel par
 command_asked (clear channel given) = Requests (part_asked (clear channel given))
 command_asked (with_given facilities user d asked) = RequestsWith
     (record { facilities = facilities; user = user; d = d }) (part_asked asked)
-command_asked (send channel q user) = Requests (Asks channel (Sends q user))
+command_asked (send channel q d user) = Requests (Asks channel (Sends (record { q = q; d = d }) user))
 command_asked (interrupt channel user) = Requests (Asks channel (Interrupts user))
 command_asked (reset channel given) = Requests (Asks channel (Resets (unwrap_or given.cause 0)
     (unwrap_or given.diagnostic 0)))
@@ -39,7 +39,7 @@ command_asked relink = Relinks
 -- the user data of a command that gives nothing beside it, none where it has no such field
 abbrev pub part_user : PlainCommand → List ℕ
 part_user (call called calling user params) = user
-part_user (send channel q user) = user
+part_user (send channel q d user) = user
 part_user (interrupt channel user) = user
 part_user asked = []
 

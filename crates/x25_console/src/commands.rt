@@ -229,9 +229,10 @@ pub fn station_command<'a>(command: &Command<'a>, user: &'a [u8]) -> Cmd<'a>
             d,
             call,
         } => given_command(facilities, beside, *d, call, user),
-        Command::Send { channel, q, .. } => Cmd::Send {
+        Command::Send { channel, q, d, .. } => Cmd::Send {
             channel: *channel,
             q: *q,
+            d: *d,
             user,
         },
         Command::Interrupt { channel, .. } => Cmd::Interrupt {

@@ -130,11 +130,13 @@ fn talk(dte: &mut End, dce: &mut End) -> Result<(), Trouble> {
     dte.ask(Cmd::Send {
         channel: 1,
         q: false,
+        d: false,
         user: b"hello",
     })?;
     dce.ask(Cmd::Send {
         channel: 1,
         q: false,
+        d: false,
         user: b"hello yourself",
     })?;
     deliver_all(dte, dce)?;

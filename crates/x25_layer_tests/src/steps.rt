@@ -619,8 +619,8 @@ fn a_call_takes_no_channel_that_is_kept_for_the_other_end(rt: HostRuntime) {
     );
 }
 
-// How many messages are unconfirmed on channel 1 after one asks for it, after its acknowledgement, and on one that isn't
-// configured.
+// How many messages are unconfirmed on channel 1 after one asks for it and after its acknowledgement, and on channel 3,
+// which isn't configured.
 fn unconfirmed(alloc: Global) -> Option<(usize, usize, usize)> {
     let mut layer = layer(alloc, Role::Dte, 2).ok()?;
     let mut link = plain_link(alloc)?;

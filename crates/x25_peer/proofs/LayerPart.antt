@@ -34,20 +34,20 @@ moves_far c f w false (Pulls h) = pulled_far c f w h (is_channel c.channels h)
 moves_far c f w false HandsUp = handed_far c f w w.back
 moves_far c f w false GoesDown = refl
 
-abbrev pub AllStay : List Move → Type 0
-AllStay [] = Unit {0}
-AllStay (m ∷ ms) = StaysUp m × MovesOctets m × AllStay ms
+abbrev pub AllStay : Bool → List Move → Type 0
+AllStay wide [] = Unit {0}
+AllStay wide (m ∷ ms) = StaysUp m × MovesOctets wide m × AllStay wide ms
 
-pub pulls_stay : (pulled : List ℕ) → AllStay (pulls_of pulled)
-pulls_stay [] = tt
-pulls_stay (h ∷ pulled) = (tt, tt, pulls_stay pulled)
+pub pulls_stay : (wide : Bool) (pulled : List ℕ) → AllStay wide (pulls_of pulled)
+pulls_stay wide [] = tt
+pulls_stay wide (h ∷ pulled) = (tt, tt, pulls_stay wide pulled)
 
-pub moves_reached : (r : Role) (long_data : Bool) (n : ℕ) (y : At PeerChannels) (v : TwoLayers) (ms : List Move) → AllStay ms → IsReachedByOctets r long_data n (with_peer y v)
-    → IsReachedByOctets r long_data n (with_peer y (moves_all (settings_of r long_data n) v ms))
-moves_reached r long_data n y v [] stay h = h
-moves_reached r long_data n y v (m ∷ ms) stay h =
+pub moves_reached : (wide : Bool) (r : Role) (long_data : Bool) (n : ℕ) (y : At PeerChannels) (v : TwoLayers) (ms : List Move) → AllStay wide ms → IsReachedByOctets wide r long_data n (with_peer y v)
+    → IsReachedByOctets wide r long_data n (with_peer y (moves_all (settings_of r long_data n) v ms))
+moves_reached wide r long_data n y v [] stay h = h
+moves_reached wide r long_data n y v (m ∷ ms) stay h =
     let c : LayerSettings = settings_of r long_data n in
     let w : Joined = with_peer y v in
-    let one : IsReachedByOctets r long_data n (with_peer y (moves c (our_end w) m)) = goes_on w (with_peer y (moves c (our_end w) m)) h (Ours m stay.0) stay.1 in
-    moves_reached r long_data n y (moves c v m) ms stay.2
-    (subst (λ (x : TwoLayers). IsReachedByOctets r long_data n (with_peer y x)) (moves_far c v.near v v.near.is_out m) one)
+    let one : IsReachedByOctets wide r long_data n (with_peer y (moves c (our_end w) m)) = goes_on w (with_peer y (moves c (our_end w) m)) h (Ours m stay.0) stay.1 in
+    moves_reached wide r long_data n y (moves c v m) ms stay.2
+    (subst (λ (x : TwoLayers). IsReachedByOctets wide r long_data n (with_peer y x)) (moves_far c v.near v v.near.is_out m) one)

@@ -40,9 +40,9 @@ pub notices_append : (xs ys : List StationEntry) → layer_notices (xs ++ ys) �
 notices_append [] ys = refl
 notices_append (x ∷ xs) ys = ap (λ (ns : List LayerNotice). notice_in x ++ ns) (notices_append xs ys) ∙ sym (append_assoc (notice_in x) (layer_notices xs) (layer_notices ys))
 
-pub readable_behind : (b : Bool) (xs ys : List PlainPacket) → AreReadable b (xs ++ ys) → AreReadable b ys
-readable_behind b [] ys h = h
-readable_behind b (x ∷ xs) ys h = readable_behind b xs ys h.1
+pub readable_behind : (wide long_data : Bool) (xs ys : List PlainPacket) → AreReadable wide long_data (xs ++ ys) → AreReadable wide long_data ys
+readable_behind wide long_data [] ys h = h
+readable_behind wide long_data (x ∷ xs) ys h = readable_behind wide long_data xs ys h.1
 
 pub read_append : (c : Settings) (os qs : List (List ℕ)) (ps rs : List PlainPacket) → ReadAs c os ps → ReadAs c qs rs → ReadAs c (os ++ qs) (ps ++ rs)
 read_append c [] qs [] rs h g = g
@@ -50,15 +50,15 @@ read_append c (o ∷ os) qs (p ∷ ps) rs h g = (h.0, read_append c os qs ps rs 
 read_append c os qs ps rs h g = absurd h
 
 -- what packets spell is read as they are
-pub spelled_read : (c : Settings) (ps : List PlainPacket) → AreReadable c.long_data ps → ReadAs c (spelled ps) ps
+pub spelled_read : (c : Settings) (ps : List PlainPacket) → AreReadable c.wide c.long_data ps → ReadAs c (spelled ps) ps
 spelled_read c [] h = tt
-spelled_read c (p ∷ ps) h = (h.0.reads c.wide, spelled_read c ps h.1)
+spelled_read c (p ∷ ps) h = (h.0.reads, spelled_read c ps h.1)
 
-pub given_read : GivenIsRead → (c : Settings) (g : PlainGiven) (ps : List PlainPacket) → c.wide ≡ true → may_give g ≡ true → GivesOctets g → AreReadable c.long_data ps → ReadAs c (spelled_with g ps) ps
+pub given_read : GivenIsRead → (c : Settings) (g : PlainGiven) (ps : List PlainPacket) → c.wide ≡ true → may_give g ≡ true → GivesOctets g → AreReadable c.wide c.long_data ps → ReadAs c (spelled_with g ps) ps
 given_read law c g [] wide may octets h = tt
 given_read law c g (p ∷ ps) wide may octets h =
     let o : List ℕ = write g (packet.spelling_of p) in
-    (ap (λ (b : Bool). read_in b (packet.longest_user c.long_data) o) wide ∙ (law c.long_data g p may octets h.0).reads, spelled_read c ps h.1)
+    (ap (λ (b : Bool). read_in b (packet.longest_user c.long_data) o) wide ∙ (law c.wide c.long_data g p may octets h.0).reads, spelled_read c ps h.1)
 
 -- the octets of the first of these packets, as they are read
 abbrev pub ReadFirst : Settings → List (List ℕ) → List PlainPacket → Type 0

@@ -87,6 +87,7 @@ fn message(end: Role, user: &'static [u8]) -> Event<'static> {
         Cmd::Send {
             channel: 1,
             q: false,
+            d: false,
             user,
         },
     )

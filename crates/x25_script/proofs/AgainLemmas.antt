@@ -10,9 +10,9 @@ use Rattle.x25_circuit.specs.declared.params.Params.{Params}
 use Rattle.x25_script.specs.declared.given.Given.{Given}
 use Rattle.x25_script.specs.ScriptLine.{PlainCommand, call, accept, clear, send, interrupt, reset, ready, not_ready, restart, pull, connect, disconnect, probe, relink, with_given, PlainLine, command, t1, deliver, lose, damage, drain, heal}
 use Rattle.x25_script.specs.Reading.Spelling.{end_text, direction_text, q_text, address_text, IsAddress, IsNumber, Writes, AreParams, params_text, IsSmall, IsGiven, given_text, d_text, SpellsPart, SpellsCommand, Spells}
-use Rattle.x25_script.specs.Reading.{parts_of, number_in, small_number_in, params_in, with_params_of, with_params_in, labelled_in, one_given, given_of, given_in, with_given_of, with_given_in, giving_on, call_in, accept_in, send_in, interrupt_in, on_channel, part_in, d_in, with_in, with_fields, command_in, lose_in, damage_in, drain_in, line_in}
+use Rattle.x25_script.specs.Reading.{parts_of, number_in, small_number_in, params_in, with_params_of, with_params_in, labelled_in, one_given, given_of, given_in, with_given_of, with_given_in, giving_on, call_in, accept_in, octets_in, d_in, send_in, interrupt_in, on_channel, IsNotBehind, part_in, with_in, with_fields, command_in, lose_in, damage_in, drain_in, line_in}
 use Rattle.x25_script.proofs.NumberLemmas.{own, number_again}
-use Rattle.x25_script.proofs.PartLemmas.{with_d, parts_again, whole_again, no_blank, octets_no_blank, digits_no_blank, address_no_blank, end_again, from_again, q_again, address_again, octets_again}
+use Rattle.x25_script.proofs.PartLemmas.{with_d, d_none, parts_again, whole_again, no_blank, octets_no_blank, digits_no_blank, address_no_blank, end_again, from_again, q_again, address_again, octets_again}
 
 -- a step after one that reads
 bind_again : {A B : Type 0} (read : Option A) (f : A → Option B) (x : A) (y : B) → read ≡ Some x → f x ≡ Some y → option_and_then f read ≡ Some y
@@ -138,15 +138,28 @@ accept_again channel params h k =
     bind_again _ _ (decimal channel, params) _ (with_params_again (decimal channel) params (decimal_no_blank channel h) k)
     (bind_again _ _ channel _ (number_read channel h) refl)
 
-send_again : (channel : ℕ) (q : Bool) (user digits : List ℕ) → IsNumber channel → Writes digits user
-    → send_in (decimal channel ++ (32 ∷ (q_text q ++ (32 ∷ digits)))) ≡ Some (send channel q user)
+-- no octets begin with the word for D
+digits_no_d : (user digits : List ℕ) → Writes digits user → IsNotBehind (codes "d ") digits
+digits_no_d user digits w rest e =
+    let none = octets_no_blank digits user w in
+    let one = ap (list_all no_blank) e in
+    absurd (cc)
+
+d_of_digits : (d : Bool) (user digits : List ℕ) → Writes digits user → d_in (d_text d ++ digits) ≡ with_d d digits
+d_of_digits true user digits w = refl
+d_of_digits false user digits w = sym (d_none digits (digits_no_d user digits w))
+
+send_again : (channel : ℕ) (q d : Bool) (user digits : List ℕ) → IsNumber channel → Writes digits user
+    → send_in (decimal channel ++ (32 ∷ (q_text q ++ (32 ∷ (d_text d ++ digits))))) ≡ Some (send channel q d user)
 unfolding send_in
-send_again channel q user digits h w =
-    bind_again _ _ (decimal channel, q_text q ++ (32 ∷ digits)) _ (parts_again (decimal channel) _ (decimal_no_blank channel h))
-    (bind_again _ _ (q_text q, digits) _ (parts_again (q_text q) digits (q_no_blank q))
+send_again channel q d user digits h w =
+    let found = d_of_digits d user digits w in
+    bind_again _ _ (decimal channel, q_text q ++ (32 ∷ (d_text d ++ digits))) _ (parts_again (decimal channel) _ (decimal_no_blank channel h))
+    (bind_again _ _ (q_text q, d_text d ++ digits) _ (parts_again (q_text q) _ (q_no_blank q))
     (bind_again _ _ channel _ (number_read channel h)
     (bind_again _ _ q _ (q_again q)
-    (bind_again _ _ user _ (octets_again digits user w) refl))))
+    (bind_again _ _ user _ (ap (λ (p : Bool × List ℕ). octets_in p.1) found ∙ octets_again digits user w)
+    (ap (λ (p : Bool × List ℕ). Some (send channel q p.0 user)) found)))))
 
 interrupt_again : (channel : ℕ) (user digits : List ℕ) → IsNumber channel → Writes digits user
     → interrupt_in (decimal channel ++ (32 ∷ digits)) ≡ Some (interrupt channel user)
@@ -167,7 +180,7 @@ part_again (call called calling user params) text s = ap part_in s.3.2 ∙ call_
 part_again (accept channel params) text s = ap part_in s.2 ∙ accept_again channel params s.0 s.1
 part_again (clear channel given) text s = ap part_in s.2 ∙ giving_again clear channel given s.0 s.1
 part_again (with_given facilities user d asked) text s = absurd s
-part_again (send channel q user) text s = absurd s
+part_again (send channel q d user) text s = absurd s
 part_again (interrupt channel user) text s = absurd s
 part_again (reset channel given) text s = absurd s
 part_again (ready channel) text s = absurd s
@@ -185,7 +198,7 @@ no_d (call called calling user params) text s = ap d_in s.3.2 ∙ ap (with_d fal
 no_d (accept channel params) text s = ap d_in s.2 ∙ ap (with_d false) (sym s.2)
 no_d (clear channel given) text s = ap d_in s.2 ∙ ap (with_d false) (sym s.2)
 no_d (with_given facilities user d asked) text s = absurd s
-no_d (send channel q user) text s = absurd s
+no_d (send channel q d user) text s = absurd s
 no_d (interrupt channel user) text s = absurd s
 no_d (reset channel given) text s = absurd s
 no_d (ready channel) text s = absurd s
@@ -219,7 +232,7 @@ command_again (call called calling user params) text s = ap command_in s.3.2 ∙
 command_again (accept channel params) text s = ap command_in s.2 ∙ accept_again channel params s.0 s.1
 command_again (clear channel given) text s = ap command_in s.2 ∙ giving_again clear channel given s.0 s.1
 command_again (with_given facilities user d asked) text s = ap command_in s.2.2.2 ∙ with_again facilities user d asked s.0 s.2.0 s.2.2.0 s.1 s.2.1 s.2.2.1
-command_again (send channel q user) text s = ap command_in s.1.2 ∙ send_again channel q user s.1.0 s.0 s.1.1
+command_again (send channel q d user) text s = ap command_in s.1.2 ∙ send_again channel q d user s.1.0 s.0 s.1.1
 command_again (interrupt channel user) text s = ap command_in s.1.2 ∙ interrupt_again channel user s.1.0 s.0 s.1.1
 command_again (reset channel given) text s = ap command_in s.2 ∙ giving_again reset channel given s.0 s.1
 command_again (ready channel) text s = ap command_in s.1 ∙ channel_again ready channel s.0

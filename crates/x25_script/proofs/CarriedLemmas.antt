@@ -20,7 +20,7 @@ part (call called calling user params) text h = written h.3.0 user h.3.1
 part (accept channel params) text h = tt
 part (clear channel given) text h = (small_octet given.cause h.1.0, small_octet given.diagnostic h.1.1)
 part (with_given facilities user d asked) text h = tt
-part (send channel q user) text h = tt
+part (send channel q d user) text h = tt
 part (interrupt channel user) text h = tt
 part (reset channel given) text h = tt
 part (ready channel) text h = tt
@@ -35,7 +35,7 @@ part relink text h = tt
 asked : (v : PlainCommand) (text : List ℕ) → SpellsCommand v text → AsksInOctets v
 asked (call called calling user params) text h = written h.3.0 user h.3.1
 asked (with_given facilities user d a) text h = (written h.0 facilities h.1, written h.2.0 user h.2.1, part a h.2.2.0 h.2.2.1)
-asked (send channel q user) text h = written h.1.0 user h.1.1
+asked (send channel q d user) text h = written h.1.0 user h.1.1
 asked (interrupt channel user) text h = written h.1.0 user h.1.1
 asked (accept channel params) text h = tt
 asked (clear channel given) text h = (small_octet given.cause h.1.0, small_octet given.diagnostic h.1.1)

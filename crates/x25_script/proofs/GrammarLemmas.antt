@@ -192,6 +192,14 @@ accept_found fields v e =
     subst (λ (w : PlainCommand). SpellsPart w (codes "accept " ++ fields)) (same_Some _ _ channel.2)
     (one.0, behind.0, ap (λ t. codes "accept " ++ t) all)
 
+d_joined : (text : List ℕ) → text ≡ d_text (d_in text).0 ++ (d_in text).1
+d_joined text = test (bytes_eq (codes "d ") (take 2 text)) refl
+  where
+    test : (b : Bool) → bytes_eq (codes "d ") (take 2 text) ≡ b
+        → text ≡ d_text (cond b (with_d true (drop 2 text)) (with_d false text)).0 ++ (cond b (with_d true (drop 2 text)) (with_d false text)).1
+    test true is = begun text (codes "d ") is
+    test false is = refl
+
 send_found : (fields : List ℕ) (v : PlainCommand) → send_in fields ≡ Some v → SpellsCommand v (codes "send " ++ fields)
 unfolding send_in
 send_found fields v e =
@@ -199,13 +207,13 @@ send_found fields v e =
     let second = bind_found (parts_of first.0.1) _ v first.2 in
     let channel = bind_found (number_in first.0.0) _ v second.2 in
     let q = bind_found (q_in second.0.0) _ v channel.2 in
-    let user = bind_found (octets_in second.0.1) _ v q.2 in
+    let user = bind_found (octets_in (d_in second.0.1).1) _ v q.2 in
     let one = number_spelled first.0.0 channel.0 channel.1 in
     let two = q_found second.0.0 q.0 q.1 in
-    let rest = fields_two first.0.1 (q_text q.0) second.0.1 second.0 second.1 two refl in
+    let rest = fields_two first.0.1 (q_text q.0) _ second.0 second.1 two (d_joined second.0.1) in
     let all = fields_two fields (decimal channel.0) _ first.0 first.1 one.1 rest in
     subst (λ (w : PlainCommand). SpellsCommand w (codes "send " ++ fields)) (same_Some _ _ user.2)
-    (one.0, (second.0.1, octets_found second.0.1 user.0 user.1, ap (λ t. codes "send " ++ t) all))
+    (one.0, ((d_in second.0.1).1, octets_found (d_in second.0.1).1 user.0 user.1, ap (λ t. codes "send " ++ t) all))
 
 interrupt_found : (fields : List ℕ) (v : PlainCommand) → interrupt_in fields ≡ Some v → SpellsCommand v (codes "int " ++ fields)
 unfolding interrupt_in
@@ -276,7 +284,7 @@ part_alone (call called calling user params) text s = s
 part_alone (accept channel params) text s = s
 part_alone (clear channel given) text s = s
 part_alone (with_given facilities user d asked) text s = absurd s
-part_alone (send channel q user) text s = absurd s
+part_alone (send channel q d user) text s = absurd s
 part_alone (interrupt channel user) text s = absurd s
 part_alone (reset channel given) text s = absurd s
 part_alone (ready channel) text s = absurd s
@@ -287,14 +295,6 @@ part_alone connect text s = absurd s
 part_alone disconnect text s = absurd s
 part_alone probe text s = absurd s
 part_alone relink text s = absurd s
-
-d_joined : (text : List ℕ) → text ≡ d_text (d_in text).0 ++ (d_in text).1
-d_joined text = test (bytes_eq (codes "d ") (take 2 text)) refl
-  where
-    test : (b : Bool) → bytes_eq (codes "d ") (take 2 text) ≡ b
-        → text ≡ d_text (cond b (with_d true (drop 2 text)) (with_d false text)).0 ++ (cond b (with_d true (drop 2 text)) (with_d false text)).1
-    test true is = begun text (codes "d ") is
-    test false is = refl
 
 with_found : (fields : List ℕ) (v : PlainCommand) → with_in fields ≡ Some v → SpellsCommand v (codes "with " ++ fields)
 unfolding with_in

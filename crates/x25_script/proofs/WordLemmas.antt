@@ -65,7 +65,7 @@ no_part text no_call no_accept no_clear = none_or_some (part_in text) (λ v e. g
     go (accept channel params) s = no_accept _ s.2
     go (clear channel given) s = no_clear _ s.2
     go (with_given facilities user d asked) s = s
-    go (send channel q user) s = s
+    go (send channel q d user) s = s
     go (interrupt channel user) s = s
     go (reset channel given) s = s
     go (ready channel) s = s
@@ -108,7 +108,7 @@ bare_alone text no_send no_accept no_call no_int no_reset no_clear no_ready no_n
     spelled (accept channel params) s e = absurd (no_accept _ s.2)
     spelled (clear channel given) s e = absurd (no_clear _ s.2)
     spelled (with_given facilities user d asked) s e = absurd (no_with _ s.2.2.2)
-    spelled (send channel q user) s e = absurd (no_send _ s.1.2)
+    spelled (send channel q d user) s e = absurd (no_send _ s.1.2)
     spelled (interrupt channel user) s e = absurd (no_int _ s.1.2)
     spelled (reset channel given) s e = absurd (no_reset _ s.2)
     spelled (ready channel) s e = absurd (no_ready _ s.1)

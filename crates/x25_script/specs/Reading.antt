@@ -192,14 +192,18 @@ accept_in text = do
   channel ← number_in last.0
   Some (accept channel last.1)
 
+-- whether D is set, where its word stands in front, and what follows
+abbrev pub d_in : List ℕ → Bool × List ℕ
+d_in text = if bytes_eq (codes "d ") (take 2 text) then (true, drop 2 text) else (false, text)
+
 unfoldable pub send_in : List ℕ → Option PlainCommand
 send_in text = do
   first ← parts_of text
   second ← parts_of first.1
   channel ← number_in first.0
   q ← q_in second.0
-  user ← octets_in second.1
-  Some (send channel q user)
+  user ← octets_in (d_in second.1).1
+  Some (send channel q (d_in second.1).0 user)
 
 unfoldable pub interrupt_in : List ℕ → Option PlainCommand
 interrupt_in text = do
@@ -239,10 +243,6 @@ part_in text = do
   parts ← parts_of text
   word ← verb_in parts.0
   part_fields word parts.1
-
--- whether D is set, where its word stands in front, and what follows
-abbrev pub d_in : List ℕ → Bool × List ℕ
-d_in text = if bytes_eq (codes "d ") (take 2 text) then (true, drop 2 text) else (false, text)
 
 -- facilities, user data, and what is asked of a call
 unfoldable pub with_in : List ℕ → Option PlainCommand

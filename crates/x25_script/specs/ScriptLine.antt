@@ -9,15 +9,15 @@ use Rattle.x25_script.specs.declared.script_line.Command.{Command}
 use Rattle.x25_script.specs.declared.script_line.Command.TheVariants as command_code
 
 -- A call has the characters of the called address, those of the calling one, and the user data; the others begin with
--- their channel, before Q and the user data. A call and its acceptance may have packet sizes and windows, and a clear,
--- a reset and a restart a cause and a diagnostic. Before what is asked of a call facilities may stand, user data, and
--- whether D is set.
+-- their channel, before Q, D and the user data. A call and its acceptance may have packet sizes and windows, and a
+-- clear, a reset and a restart a cause and a diagnostic. Before what is asked of a call facilities may stand, user data,
+-- and whether D is set.
 pub data PlainCommand : Type 0 where
   call : List ℕ → List ℕ → List ℕ → Option Params → PlainCommand
   accept : ℕ → Option Params → PlainCommand
   clear : ℕ → Given → PlainCommand
   with_given : List ℕ → List ℕ → Bool → PlainCommand → PlainCommand
-  send : ℕ → Bool → List ℕ → PlainCommand
+  send : ℕ → Bool → Bool → List ℕ → PlainCommand
   interrupt : ℕ → List ℕ → PlainCommand
   reset : ℕ → Given → PlainCommand
   ready : ℕ → PlainCommand
@@ -49,7 +49,7 @@ plain_command (command_code.Call called calling user params) = call called.now c
 plain_command (command_code.Accept params channel) = accept channel params
 plain_command (command_code.Clear channel given) = clear channel given
 plain_command (command_code.With facilities user d asked) = with_given facilities user d (plain_part asked)
-plain_command (command_code.Send channel q user) = send channel q user
+plain_command (command_code.Send channel q d user) = send channel q d user
 plain_command (command_code.Interrupt channel user) = interrupt channel user
 plain_command (command_code.Reset channel given) = reset channel given
 plain_command (command_code.Ready channel) = ready channel
@@ -71,6 +71,7 @@ is_wide (clear channel given) = is_any given
 is_wide (reset channel given) = is_any given
 is_wide (restart given) = is_any given
 is_wide (with_given facilities user d asked) = true
+is_wide (send channel q d user) = d
 is_wide asked = false
 
 -- with the wide form all are taken

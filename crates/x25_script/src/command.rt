@@ -37,16 +37,28 @@ fn accept_part(text: &[u8]) -> Option<CallPart<'_>>
     })
 }
 
+/// Whether D is set, and what follows its word.
+fn split_d(text: &[u8]) -> (bool, &[u8])
+    ensures { (result.0, result.1.now) ≡ d_in text.now }
+{
+    match behind(text, b"d ") {
+        Some(rest) => (true, rest),
+        None => (false, text),
+    }
+}
+
 #[inline(always)]
 #[tactic(auto, unfolding(crate::specs::Reading::send_in))]
 pub(crate) fn send(text: &[u8]) -> Option<Command<'_>>
     ensures { GivesCommand result (send_in text.now) }
 {
     let (channel, rest) = split_blank(text)?;
-    let (mark, user) = split_blank(rest)?;
+    let (mark, rest) = split_blank(rest)?;
+    let (d, user) = split_d(rest);
     Some(Command::Send {
         channel: number(channel)?,
         q: q(mark)?,
+        d,
         user: octets(user)?,
     })
 }
@@ -165,16 +177,6 @@ fn part(text: &[u8]) -> Option<CallPart<'_>>
         return clear(fields);
     }
     None
-}
-
-/// Whether D is set, and what follows its word.
-fn split_d(text: &[u8]) -> (bool, &[u8])
-    ensures { (result.0, result.1.now) ≡ d_in text.now }
-{
-    match behind(text, b"d ") {
-        Some(rest) => (true, rest),
-        None => (false, text),
-    }
 }
 
 #[tactic(auto, unfolding(crate::specs::Reading::with_in))]

@@ -32,9 +32,9 @@ pub enum CallPart<'a> {
 /// user data as octets. `channel` is any number of 16 bits; whether there is such a channel is judged by the call.
 /// `params` are the packet sizes and windows that are proposed, or answered, where the line has them: any numbers of 8
 /// bits; whether a call may propose them, or its acceptance answer them, is judged by the call. `given` are a cause and
-/// a diagnostic, where the line has them; whether the user of this end may give them is judged by the call. `With` has
-/// facilities, user data and whether D is set beside what is asked of a call; whether these may be given is judged by
-/// the call.
+/// a diagnostic, where the line has them; whether the user of this end may give them is judged by the call. `d` of a
+/// message is whether confirmation is asked. `With` has facilities, user data and whether D is set beside what is asked
+/// of a call; whether these may be given is judged by the call.
 #[derive(Debug, Drop)]
 pub enum Command<'a> {
     Call {
@@ -62,6 +62,7 @@ pub enum Command<'a> {
     Send {
         channel: u16,
         q: bool,
+        d: bool,
         user: HexDigits<'a>,
     },
     Interrupt {
@@ -98,6 +99,7 @@ impl Command<'_> {
             Command::Clear { given, .. }
             | Command::Reset { given, .. }
             | Command::Restart { given } => given.is_any(),
+            Command::Send { d, .. } => *d,
             Command::With { .. } => true,
             _ => false,
         }

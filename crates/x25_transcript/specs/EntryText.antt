@@ -19,6 +19,7 @@ use Rattle.x25_layer.specs.laws.Transcript.{Said, Asked, Told}
 use Rattle.x25_station.specs.Entry.{StationEntry, of_channel, restart_asked, connect_asked, disconnect_asked}
 use Rattle.x25_station.specs.Entry.{relink_asked, link_up}
 use Rattle.x25_station.specs.Entry.{link_down, was_restarted, restart_confirmed, at_fault, came_beside, was_diagnosed}
+use Rattle.x25_station.specs.Entry.{was_confirmed}
 use Rattle.x25_text.specs.Text.{octets_text}
 use Rattle.x25_text.specs.PacketText.{reason_text}
 
@@ -143,6 +144,8 @@ entry_text restart_confirmed = codes "restartdone"
 entry_text (at_fault diagnostic) = codes "fault" ++ channel_text 0 ++ (codes " diag=" ++ decimal diagnostic)
 entry_text (came_beside channel facilities user) = codes "beside" ++ channel_text channel
     ++ (codes " fac=" ++ octets_text facilities) ++ user_text user
+entry_text (was_confirmed channel name count) = codes "confirmed" ++ stretch_text channel name
+    ++ (codes " count=" ++ decimal count)
 entry_text (was_diagnosed diagnostic) = codes "diagnostic" ++ (codes " diag=" ++ decimal diagnostic)
 
 abbrev pub end_text : Role → List ℕ

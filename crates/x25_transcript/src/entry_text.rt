@@ -286,6 +286,20 @@ fn push_diagnosed(diagnostic: u8, text: &mut Text) -> Result<(), AllocError>
     text.try_push_number(b" diag=", u64::from(diagnostic))
 }
 
+/// Appends that messages are confirmed.
+fn push_confirmed(
+    channel: u16,
+    name: &Stretch,
+    count: usize,
+    text: &mut Text,
+) -> Result<(), AllocError>
+    ensures { OnOk result (text.new ≡ text.old ++ (codes "confirmed" ++ stretch_text channel (plain_name name.now)
+        ++ (codes " count=" ++ decimal count))) }
+{
+    push_under(b"confirmed", channel, name, text)?;
+    text.try_push_number(b" count=", count as u64)
+}
+
 fn push_entry_text(entry: &Entry, text: &mut Text) -> Result<(), AllocError>
     ensures { OnOk result (text.new ≡ text.old ++ entry_text (plain_entry entry.now)) }
 {
@@ -321,6 +335,11 @@ fn push_entry_text(entry: &Entry, text: &mut Text) -> Result<(), AllocError>
             facilities,
             user,
         } => push_beside(*channel, facilities.as_slice(), user.as_slice(), text),
+        Entry::Confirmed {
+            channel,
+            name,
+            count,
+        } => push_confirmed(*channel, name, *count, text),
         Entry::Diagnosed { diagnostic } => push_diagnosed(*diagnostic, text),
     }
 }

@@ -26,6 +26,8 @@ dte accept 1 0 0 0 0 = DTE: accepts 1, called 0 by 0, calling 0 by 0\n\
 dte clear 4095 = DTE: clears 4095\n\
 dte send 1 0 - = DTE: sends on 1 with Q false none\n\
 dce send 10 1 0aF9 = DCE: sends on 10 with Q true 0af9\n\
+dte send 1 0 d 41 = DTE: sends on 1 with Q false, D 41\n\
+dce send 4095 1 d - = DCE: sends on 4095 with Q true, D none\n\
 dte int 1 00 = DTE: interrupts 1 by 00\n\
 dte int 1 - = DTE: interrupts 1 by none\n\
 dce reset 2 = DCE: resets 2\n\
@@ -87,7 +89,7 @@ fn lines_say_what_they_spell(rt: HostRuntime) {
 }
 
 /// Texts that are no lines; `tests/golden` has others.
-static OTHERS: [&[u8]; 16] = [
+static OTHERS: [&[u8]; 21] = [
     b"",
     b"t1 dte\n",
     b"dte send 1 0 0g",
@@ -104,6 +106,11 @@ static OTHERS: [&[u8]; 16] = [
     b"dte with 0101 - call 1 2 - 7 7 2",
     b"dte with 0101 - send 1 0 00",
     b"dte with - - with - - clear 1",
+    b"dte send 1 0 d",
+    b"dte send 1 0 d ",
+    b"dte send 1 0 D 41",
+    b"dte send 1 0 d d 41",
+    b"dte send 1 d 41",
 ];
 
 fn is_no_line(line: &[u8], mut alloc: Global) -> bool {

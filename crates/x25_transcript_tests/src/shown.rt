@@ -103,9 +103,15 @@ fn command_shown(alloc: Global, command: &Command<'_>) -> Result<String, AllocEr
             let call = part_shown(alloc, call)?;
             format!(in alloc; "with facilities {facilities}, {user}, D {d}: {call}")
         }
-        Command::Send { channel, q, user } => {
+        Command::Send {
+            channel,
+            q,
+            d,
+            user,
+        } => {
             let user = octets_shown(alloc, user)?;
-            format!(in alloc; "sends on {channel} with Q {q} {user}")
+            let confirmed = if *d { ", D" } else { "" };
+            format!(in alloc; "sends on {channel} with Q {q}{confirmed} {user}")
         }
         Command::Interrupt { channel, user } => {
             let user = octets_shown(alloc, user)?;

@@ -32,6 +32,7 @@ use x25_station::{
     CallCmd, Cmd, Given, puts_are_readable, stations_hold_few, steps_are_joined, steps_keep_bounds,
     what_is_given_is_told,
 };
+use x25_wide::taking_keeps_octets;
 
 /// What the laws of the links, the layers and the stations say, which the laws of a world rest on.
 pub(crate) fn laws_below()
@@ -49,6 +50,7 @@ pub(crate) fn laws_below()
     sets_up_by_rows();
     reads_what_is_spelled();
     reading_is_the_grammar();
+    taking_keeps_octets();
 }
 
 /// Two stations joined by a line of octets that keeps order and may lose or visibly damage any frame, from both links

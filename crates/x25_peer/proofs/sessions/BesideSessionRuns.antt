@@ -29,7 +29,7 @@ use Rattle.x25_peer.proofs.sessions.Standing.{Below, Known, Stands}
 use Rattle.x25_peer.proofs.sessions.StationActs.{asks, asks_with, connects, disconnects, probes, relinks, fires, abandons_it, comes}
 use Rattle.x25_peer.proofs.sessions.PeerActs.{loses, damages, loses_there, damages_there, leaves, sends, hears_it, answers, layer_does, layer_hears, layer_hears_channel}
 
-forget : (c : Settings) (w : layer_peer.Joined) → IsReachedByOctets c.role c.long_data c.channels w → layer_peer.IsReached c.role c.long_data c.channels w
+forget : (c : Settings) (w : layer_peer.Joined) → IsReachedByOctets c.wide c.role c.long_data c.channels w → layer_peer.IsReached c.role c.long_data c.channels w
 forget c w reached.at_start = layer_peer.at_start
 forget c w (reached.goes_on u v h e octets) = layer_peer.goes_on u v (forget c u h) e
 

@@ -273,7 +273,7 @@ module _ (below : Below) (c : Settings) (low : 1 ≤ c.window) (high : c.window 
   -- it puts these packets in this session, and has come to this
   layer_goes : (t : Theirs) (ps : List PlainPacket) (all : List (List ℕ)) → w.peer.stand ≡ In → ReadAs c all ps → t.heard ≤ length (now w.peer).taken
       → ((n : ℕ) → CanMeet n b w.met
-      → IsReachedByOctets c.role c.long_data c.channels (record { near = (h.known n).end; peer = t.layer; out = way t (h.known n).end.given; back = drop (length (h.known n).up) (h.puts b) ++ ps }))
+      → IsReachedByOctets c.wide c.role c.long_data c.channels (record { near = (h.known n).end; peer = t.layer; out = way t (h.known n).end.given; back = drop (length (h.known n).up) (h.puts b) ++ ps }))
       → Stands c (layer_went w t all)
   layer_goes t ps all stand reads most pair = record {
     known = h.known;
@@ -295,7 +295,7 @@ module _ (below : Below) (c : Settings) (low : 1 ≤ c.window) (high : c.window 
         let differs : (m ≡ b → ⊥) = λ is. (omega (arith, above, is)) in
         (given_there m differs ∙ (h.anew m above).0, handed_taken all w.peer m ∙ (h.anew m above).1));
     pairs = λ n m can. both_cases (λ (m : ℕ) (t : Theirs) (ps : List PlainPacket). CanMeet n m w.met → PairReached c (h.known n) t ps) b t w.theirs (h.puts b ++ ps) h.puts
-        (λ yes. subst (λ (x : List PlainPacket). IsReachedByOctets c.role c.long_data c.channels (record { near = (h.known n).end; peer = t.layer; out = way t (h.known n).end.given; back = x }))
+        (λ yes. subst (λ (x : List PlainPacket). IsReachedByOctets c.wide c.role c.long_data c.channels (record { near = (h.known n).end; peer = t.layer; out = way t (h.known n).end.given; back = x }))
         (sym (drop-append-le (length (h.known n).up) (h.puts b) ps (up_few below c low high w h n b yes))) (pair n yes))
         (λ m differs yes. h.pairs n m yes) m can;
     kept = h.kept;
@@ -355,6 +355,6 @@ module _ (below : Below) (c : Settings) (low : 1 ≤ c.window) (high : c.window 
       (λ n can. (
       let rest : List PlainPacket = drop (length (now w.peer).taken) (h.known n).end.given in
       let after : List PlainPacket = behind ++ rest in
-      subst (λ (l : List PlainPacket). IsReachedByOctets c.role c.long_data c.channels (layer_peer.peer_stepped (layers n) l packets s)) (sym (append_assoc passed behind rest))
+      subst (λ (l : List PlainPacket). IsReachedByOctets c.wide c.role c.long_data c.channels (layer_peer.peer_stepped (layers n) l packets s)) (sym (append_assoc passed behind rest))
       (reached.goes_on (layers n) (layer_peer.peer_stepped (layers n) (passed ++ after) packets s) (h.pairs n b can)
       (layer_peer.HearsChannel y passed p after packets live has apart (in_front read passed behind p reads waits n can) answered) tt)))

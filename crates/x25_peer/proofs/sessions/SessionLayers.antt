@@ -57,14 +57,14 @@ moves_beside c o b w (m ∷ ms) asked =
     ap (λ (v : TwoLayers). moves_all c v ms) (move_beside c o b w w.near.is_out m asked.0) ∙ moves_beside c o b (moves c w m) ms asked.1
 
 -- beside any peer that it is reached with, the end goes where it goes by itself
-pub asked_reached : (r : Role) (long_data : Bool) (n : ℕ) (y : At PeerChannels) (e : End) (o b : List PlainPacket) (ms : List Move) → AreAsked ms → AllStay ms
-    → IsReachedByOctets r long_data n (record { near = e; peer = y; out = o; back = b })
-    → (let v = moves_all (settings_of r long_data n) (alone_at e) ms in IsReachedByOctets r long_data n (record { near = v.near; peer = y; out = o ++ v.out; back = b }))
-asked_reached r long_data n y e o b ms asked stay h =
+pub asked_reached : (wide : Bool) (r : Role) (long_data : Bool) (n : ℕ) (y : At PeerChannels) (e : End) (o b : List PlainPacket) (ms : List Move) → AreAsked ms → AllStay wide ms
+    → IsReachedByOctets wide r long_data n (record { near = e; peer = y; out = o; back = b })
+    → (let v = moves_all (settings_of r long_data n) (alone_at e) ms in IsReachedByOctets wide r long_data n (record { near = v.near; peer = y; out = o ++ v.out; back = b }))
+asked_reached wide r long_data n y e o b ms asked stay h =
     let c : LayerSettings = settings_of r long_data n in
     let start : TwoLayers = beside o b (alone_at e) in
-    let moved = moves_reached r long_data n y start ms stay (subst (λ (l : List PlainPacket). IsReachedByOctets r long_data n (record { near = e; peer = y; out = l; back = b })) (sym (append-nil o)) h) in
-    subst (λ (v : TwoLayers). IsReachedByOctets r long_data n (record { near = v.near; peer = y; out = v.out; back = v.back })) (moves_beside c o b (alone_at e) ms asked) moved
+    let moved = moves_reached wide r long_data n y start ms stay (subst (λ (l : List PlainPacket). IsReachedByOctets wide r long_data n (record { near = e; peer = y; out = l; back = b })) (sym (append-nil o)) h) in
+    subst (λ (v : TwoLayers). IsReachedByOctets wide r long_data n (record { near = v.near; peer = y; out = v.out; back = v.back })) (moves_beside c o b (alone_at e) ms asked) moved
 
 -- ---- such moves tell the user nothing
 

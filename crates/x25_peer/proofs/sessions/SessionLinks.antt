@@ -130,24 +130,24 @@ module _ (c : LinkSettings) (peer : PeerEnd) where
         is_up = λ n. extended_none h.ups begun n ∙ h.is_up n;
       })
 
-  pub all_puts : (long_data : Bool) (packets : List PlainPacket) (t : Side) (begun : ℕ) (down up : ℕ → List (List ℕ)) (o back : List Entry) (met : List Meeting)
-      → ((p : PlainPacket) → length (packet.spelling_of p) ≤ 4099 → length (packet.spelling_of p) ≤ c.longest) → AreAccepted c packets t → AreReadable long_data packets
+  pub all_puts : (wide long_data : Bool) (packets : List PlainPacket) (t : Side) (begun : ℕ) (down up : ℕ → List (List ℕ)) (o back : List Entry) (met : List Meeting)
+      → ((p : PlainPacket) → length (packet.spelling_of p) ≤ 4099 → length (packet.spelling_of p) ≤ c.longest) → AreAccepted c packets t → AreReadable wide long_data packets
       → LinkReached c t.near begun down up peer (o ++ sent_in begun c.role t.out) back met → ArePut (all_put c packets t) begun down (spelled packets) up o back met
-  all_puts long_data [] t begun down up o back met longest ok readable h = by_lists down up (extended down begun []) up (λ n. sym (extended_none down begun n)) (λ n. refl) h
-  all_puts long_data (p ∷ packets) t begun down up o back met longest ok readable h =
+  all_puts wide long_data [] t begun down up o back met longest ok readable h = by_lists down up (extended down begun []) up (λ n. sym (extended_none down begun n)) (λ n. refl) h
+  all_puts wide long_data (p ∷ packets) t begun down up o back met longest ok readable h =
       let s : List ℕ = packet.spelling_of p in
       by_lists (extended (extended down begun (s ∷ [])) begun (spelled packets)) up (extended down begun (s ∷ spelled packets)) up (λ n. extended_again down begun (s ∷ []) (spelled packets) n) (λ n. refl)
-      (all_puts long_data packets (put_behind c s t) begun (extended down begun (s ∷ [])) up o back met longest ok.1 readable.1 (put_link t begun s down up o back met (longest p readable.0.short) ok.0 h))
+      (all_puts wide long_data packets (put_behind c s t) begun (extended down begun (s ∷ [])) up o back met longest ok.1 readable.1 (put_link t begun s down up o back met (longest p readable.0.short) ok.0 h))
 
   -- the first with something given
-  pub given_puts : (long_data : Bool) (g : PlainGiven) (packets : List PlainPacket) (t : Side) (begun : ℕ) (down up : ℕ → List (List ℕ)) (o back : List Entry) (met : List Meeting)
-      → ((p : PlainPacket) → length (packet.spelling_of p) ≤ 4099 → length (packet.spelling_of p) ≤ c.longest) → ((p : PlainPacket) → IsReadable long_data p → length (write g (packet.spelling_of p)) ≤ c.longest) → AreTaken c g packets t
-      → AreReadable long_data packets → LinkReached c t.near begun down up peer (o ++ sent_in begun c.role t.out) back met → ArePut (all_given c g packets t) begun down (spelled_with g packets) up o back met
-  given_puts long_data g [] t begun down up o back met longest short ok readable h = all_puts long_data [] t begun down up o back met longest tt tt h
-  given_puts long_data g (p ∷ packets) t begun down up o back met longest short ok readable h =
+  pub given_puts : (wide long_data : Bool) (g : PlainGiven) (packets : List PlainPacket) (t : Side) (begun : ℕ) (down up : ℕ → List (List ℕ)) (o back : List Entry) (met : List Meeting)
+      → ((p : PlainPacket) → length (packet.spelling_of p) ≤ 4099 → length (packet.spelling_of p) ≤ c.longest) → ((p : PlainPacket) → IsReadable wide long_data p → length (write g (packet.spelling_of p)) ≤ c.longest) → AreTaken c g packets t
+      → AreReadable wide long_data packets → LinkReached c t.near begun down up peer (o ++ sent_in begun c.role t.out) back met → ArePut (all_given c g packets t) begun down (spelled_with g packets) up o back met
+  given_puts wide long_data g [] t begun down up o back met longest short ok readable h = all_puts wide long_data [] t begun down up o back met longest tt tt h
+  given_puts wide long_data g (p ∷ packets) t begun down up o back met longest short ok readable h =
       let s : List ℕ = write g (packet.spelling_of p) in
       by_lists (extended (extended down begun (s ∷ [])) begun (spelled packets)) up (extended down begun (s ∷ spelled packets)) up (λ n. extended_again down begun (s ∷ []) (spelled packets) n) (λ n. refl)
-      (all_puts long_data packets (put_behind c s t) begun (extended down begun (s ∷ [])) up o back met longest ok.1 readable.1 (put_link t begun s down up o back met (short p readable.0) ok.0 h))
+      (all_puts wide long_data packets (put_behind c s t) begun (extended down begun (s ∷ [])) up o back met longest ok.1 readable.1 (put_link t begun s down up o back met (short p readable.0) ok.0 h))
 
 -- a link that accepts packets stays up
 pub puts_up : PutTells → (c : LinkSettings) (packets : List PlainPacket) (t : Side) → is_up t.near.phase ≡ true → is_up (all_put c packets t).near.phase ≡ true

@@ -120,7 +120,7 @@ way_more t given more few = append_assoc t.passed (drop t.heard given) more ∙ 
 
 -- a session of the station and one of the peer, whose layer put these packets, as they are read
 abbrev pub PairReached : Settings → Known → Theirs → List PlainPacket → Type 0
-PairReached c k t puts = IsReachedByOctets c.role c.long_data c.channels (record { near = k.end; peer = t.layer; out = way t k.end.given; back = drop (length k.up) puts })
+PairReached c k t puts = IsReachedByOctets c.wide c.role c.long_data c.channels (record { near = k.end; peer = t.layer; out = way t k.end.given; back = drop (length k.up) puts })
 
 -- of the peer's sessions
 pub record IsRead (c : Settings) (p : Peer) (t : Theirs) (puts : List PlainPacket) : Type 0 where

@@ -23,7 +23,8 @@ use Rattle.x25_line.specs.laws.SessionClaims.{SomeMet, InStep}
 use Rattle.x25_line.specs.laws.InWindow.{IsPrefix}
 use Rattle.x25_line.specs.laws.PeerSessions.{PeerEnd, PeerSessions, goes_on, Ours, IsTimely, IsDue, both_ends, with_peer}
 use Rattle.x25_layer.specs.Layer.{LayerSettings, Layer}
-use Rattle.x25_layer.specs.Calls.{LayerRequest, layer_outcome}
+use Rattle.x25_circuit.specs.Calling.{Sends}
+use Rattle.x25_layer.specs.Calls.{LayerRequest, Asks, layer_outcome}
 use Rattle.x25_layer.specs.Rounds.{LinkView, Answered, Went, Refuses, went, calls}
 use Rattle.x25_layer.specs.declared.error.LayerError.TheVariants as layer_error
 use Rattle.x25_layer.specs.code.FitsLayer.{is_full}
@@ -32,11 +33,11 @@ use Rattle.x25_layer.specs.laws.RoundLaw.{moves_all, pulls_of}
 use Rattle.x25_station.specs.Config.{Settings, link_settings, layer_settings, longest_packet}
 use Rattle.x25_station.specs.declared.error.StationError.{StationError}
 use Rattle.x25_station.specs.declared.error.StationError.TheVariants as error
-use Rattle.x25_station.specs.Command.{Connects as ConnectsCommand, Disconnects as DisconnectsCommand, Probes as ProbesCommand, Relinks as RelinksCommand}
+use Rattle.x25_station.specs.Command.{may_ask, Connects as ConnectsCommand, Disconnects as DisconnectsCommand, Probes as ProbesCommand, Relinks as RelinksCommand}
 use Rattle.x25_station.specs.Entry.{StationEntry, connect_asked, disconnect_asked, relink_asked}
 use Rattle.x25_station.specs.Giving.{suits, is_taken, view_given, not_taken}
 use Rattle.x25_station.specs.Station.{view_of}
-use Rattle.x25_station.specs.Step.{Step, Outcome, Did, Refused, unless, led_by, did, gave, follows, abandons, receives, requests, gives}
+use Rattle.x25_station.specs.Step.{Step, Outcome, Did, Refused, unless, led_by, did, gave, follows, abandons, receives, requests, gives, where_asked}
 use Rattle.x25_station.specs.laws.GivenLaw.{GivesOctets}
 use Rattle.x25_station.specs.laws.JoinLaw.{station_with, IsJoined, MovesAs}
 use Rattle.x25_station.specs.laws.KeepLaw.{IsKept, KeptBy}
@@ -70,6 +71,18 @@ calls_up view c l request went_on = by view.is_up refl
 did_went : (c : Settings) (t : Side) (es : List StationEntry) (a : Answered) (step : Step) → did c t es a ≡ Did step → IsWent a
 did_went c t es (Went s) step is = tt
 did_went c t es (Refuses e) step is = refused_did (error.Layer e) step is
+
+-- what is done may be asked
+where_did : (may : Bool) (o : Outcome) (step : Step) → where_asked may o ≡ Did step → (may ≡ true) × (o ≡ Did step)
+where_did true o step is = (refl, is)
+where_did false (Did next) step is = refused_did not_taken step is
+where_did false (Refused e) step is = refused_did e step is
+
+-- what something is given beside is no message
+suits_asks : (wide : Bool) (g : PlainGiven) (request : LayerRequest) → suits g request ≡ true → may_ask wide request ≡ true
+suits_asks wide g (Asks h (Sends marks user)) is = absurd (cc)
+suits_asks wide g (Asks h request) is = refl
+suits_asks wide g request is = refl
 
 -- what is given was taken
 gave_went : (c : Settings) (g : PlainGiven) (taken : Bool) (t : Side) (es : List StationEntry) (a : Answered) (step : Step) → gave c g taken t es a ≡ Did step → IsWent a × (taken ≡ true)
@@ -123,8 +136,9 @@ module _ (below : Below) (c : Settings) (low : 1 ≤ c.window) (high : c.window 
     channels : List ℕ
     packets : List PlainPacket
     layer : MovesAs (alone_at known_now.end) (moves_all (layer_settings c) (alone_at known_now.end) (Requests (waits w.near.link.outgoing == 256) request ∷ pulls_of channels)) packets step
-    put : AreReadable c.long_data packets → IsPut below c few w h b packets step [] w.back w.met
+    put : AreReadable c.wide c.long_data packets → IsPut below c few w h b packets step [] w.back w.met
     up : is_up w.near.link.phase ≡ true
+    may : may_ask c.wide request ≡ true
     kept : IsKept step.near
 
   asked_stands : (request : LayerRequest) (step : Step) → RequestsOctets request → IsAsked request step → Stands c (stepped c w w.begun w.back w.met step)
@@ -132,20 +146,20 @@ module _ (below : Below) (c : Settings) (low : 1 ≤ c.window) (high : c.window 
       let e : End = known_now.end in
       let ms : List Move = Requests (waits w.near.link.outgoing == 256) request ∷ pulls_of a.channels in
       let asked : AreAsked ms = (tt, pulls_asked a.channels) in
-      let stay : AllStay ms = (tt, octets, pulls_stay a.channels) in
+      let stay : AllStay c.wide ms = (tt, (octets, a.may), pulls_stay c.wide a.channels) in
       let v : TwoLayers = moves_all (layer_settings c) (alone_at e) ms in
       let ps : List PlainPacket = a.packets in
       let pair : (m : ℕ) → CanMeet b m w.met → PairReached c (record { end = v.near; down = []; up = known_now.up }) (w.theirs m) (h.puts m) =
       (λ m can. (
       let t : Theirs = w.theirs m in
-      let r = asked_reached c.role c.long_data c.channels t.layer e (way t e.given) (drop (length known_now.up) (h.puts m)) ms asked stay (h.pairs b m can) in
+      let r = asked_reached c.wide c.role c.long_data c.channels t.layer e (way t e.given) (drop (length known_now.up) (h.puts m)) ms asked stay (h.pairs b m can) in
       let line : way t e.given ++ v.out ≡ way t v.near.given =
       ap (λ (l : List PlainPacket). way t e.given ++ l) a.layer.out ∙ way_more t e.given ps (heard_few below c low high w h b m can) ∙ ap (way t) (sym a.layer.given) in
-      subst (λ (o : List PlainPacket). IsReachedByOctets c.role c.long_data c.channels (record { near = v.near; peer = t.layer; out = o; back = drop (length known_now.up) (h.puts m) })) line r)) in
+      subst (λ (o : List PlainPacket). IsReachedByOctets c.wide c.role c.long_data c.channels (record { near = v.near; peer = t.layer; out = o; back = drop (length known_now.up) (h.puts m) })) line r)) in
       let some = could_meet_some b w.met (below.step (link_settings c) low high (links_with w.near.link b h.link.downs h.link.ups w.peer w.out w.back w.met) h.link.reached) in
-      let readable : AreReadable c.long_data v.near.given = below.readable c.role c.long_data c.channels few _ (pair some.0 some.1) in
+      let readable : AreReadable c.wide c.long_data v.near.given = below.readable c.wide c.role c.long_data c.channels few _ (pair some.0 some.1) in
       let same_up : known_now.up ++ [] ≡ known_now.up = append-nil known_now.up in
-      goes below c few w h e [] [] ps v step [] w.back w.met a.up a.layer (a.put (readable_behind c.long_data e.given ps (subst (AreReadable c.long_data) a.layer.given readable)))
+      goes below c few w h e [] [] ps v step [] w.back w.met a.up a.layer (a.put (readable_behind c.wide c.long_data e.given ps (subst (AreReadable c.wide c.long_data) a.layer.given readable)))
       (λ nothing. asked_tells (layer_settings c) (alone_at e) ms asked ∙ (h.each b).alone (sym same_up ∙ nothing)) as_it_met
       (λ m can. subst (λ (u : List (List ℕ)). PairReached c (record { end = v.near; down = []; up = u }) (w.theirs m) (h.puts m)) (sym same_up) (pair m can)) a.kept
 
@@ -159,7 +173,8 @@ module _ (below : Below) (c : Settings) (low : 1 ≤ c.window) (high : c.window 
   asks request step octets is =
       let e : End = known_now.end in
       let s : LinkStation = w.near.link in
-      let up : is_up s.phase ≡ true = calls_up (view_of (link_settings c) s) (layer_settings c) w.near.layer request (did_went c (alone s) _ _ step is) in
+      let did_it = where_did (may_ask c.wide request) _ step is in
+      let up : is_up s.phase ≡ true = calls_up (view_of (link_settings c) s) (layer_settings c) w.near.layer request (did_went c (alone s) _ _ step did_it.1) in
       let j = below.request c s (alone_at e) request step (h.each b).out h.kept.few (subst (λ (l : Layer). requests c (station_with s l) request ≡ Did step) (sym (h.now up).layer) is) in
       asked_stands request step octets
       (record {
@@ -168,6 +183,7 @@ module _ (below : Below) (c : Settings) (low : 1 ≤ c.window) (high : c.window 
         layer = j.2.layer;
         put = λ readable. puts below c few w h b j.2.packets readable (alone s) up step [] w.back w.met as_it_is j.2.link;
         up = up;
+        may = did_it.0;
         kept = subst KeptBy is (below.ask c w.near request h.kept);
       })
 
@@ -178,7 +194,8 @@ module _ (below : Below) (c : Settings) (low : 1 ≤ c.window) (high : c.window 
       let gone = gave_went c g (is_taken c g request) (alone s) _ _ step is in
       let up : is_up s.phase ≡ true = calls_up (view_given (link_settings c) g s) (layer_settings c) w.near.layer request gone.0 in
       let wide = and_parts c.wide (may_give g && suits g request) gone.1 in
-      let may : may_give g ≡ true = (and_parts (may_give g) (suits g request) wide.1).0 in
+      let suit = and_parts (may_give g) (suits g request) wide.1 in
+      let may : may_give g ≡ true = suit.0 in
       let j = below.given c g s (alone_at e) request step (h.each b).out h.kept.few (subst (λ (l : Layer). gives c (station_with s l) g request ≡ Did step) (sym (h.now up).layer) is) in
       asked_stands request step octets
       (record {
@@ -187,6 +204,7 @@ module _ (below : Below) (c : Settings) (low : 1 ≤ c.window) (high : c.window 
         layer = j.2.layer;
         put = λ readable. puts_given below c few w h b j.2.packets readable (alone s) up step [] w.back w.met as_it_is g wide.0 may of_given j.2.link;
         up = up;
+        may = suits_asks c.wide g request suit.1;
         kept = subst KeptBy is (below.give c w.near g request h.kept);
       })
 
@@ -381,13 +399,13 @@ module _ (below : Below) (c : Settings) (low : 1 ≤ c.window) (high : c.window 
             let j : IsJoined c two v k.side behind (follows c w.near.layer k) =
             subst (λ (s : Step). IsJoined c two v k.side behind s) (ap (λ (l : Layer). receives c (station_with w.near.link l) e.octets) at ∙ same) j₀.2 in
             let ps : List PlainPacket = j.packets in
-            let moved = moves_reached c.role c.long_data c.channels theirs.layer two ms (tt, tt, pulls_stay j₀.0) (h.pairs b there (could b there partner.1)) in
+            let moved = moves_reached c.wide c.role c.long_data c.channels theirs.layer two ms (tt, tt, pulls_stay c.wide j₀.0) (h.pairs b there (could b there partner.1)) in
             let line : v.out ≡ way theirs v.near.given =
             j.layer.out ∙ way_more theirs ours.given ps (heard_few below c low high w h b there (could b there partner.1)) ∙ ap (way theirs) (sym j.layer.given) in
             let pair : PairReached c (record { end = v.near; down = []; up = up }) theirs (h.puts there) =
-            subst (λ (x : List PlainPacket). IsReachedByOctets c.role c.long_data c.channels (record { near = v.near; peer = theirs.layer; out = way theirs v.near.given; back = x })) j.back
-            (subst (λ (x : List PlainPacket). IsReachedByOctets c.role c.long_data c.channels (record { near = v.near; peer = theirs.layer; out = x; back = v.back })) line moved) in
-            let readable : AreReadable c.long_data ps = readable_behind c.long_data ours.given ps (subst (AreReadable c.long_data) j.layer.given (below.readable c.role c.long_data c.channels few _ pair)) in
+            subst (λ (x : List PlainPacket). IsReachedByOctets c.wide c.role c.long_data c.channels (record { near = v.near; peer = theirs.layer; out = way theirs v.near.given; back = x })) j.back
+            (subst (λ (x : List PlainPacket). IsReachedByOctets c.wide c.role c.long_data c.channels (record { near = v.near; peer = theirs.layer; out = x; back = v.back })) line moved) in
+            let readable : AreReadable c.wide c.long_data ps = readable_behind c.wide c.long_data ours.given ps (subst (AreReadable c.wide c.long_data) j.layer.given (below.readable c.wide c.role c.long_data c.channels few _ pair)) in
             goes below c few w h ours (way theirs ours.given) (drop (length known_now.up) (h.puts there)) ps v (follows c w.near.layer k) (o ∷ []) rest met was_up j.layer
             (puts below c few w h b ps readable k.side still_up (follows c w.near.layer k) (o ∷ []) rest met link j.link) (λ nothing. absurd (never known_now.up nothing)) could
             (λ m can. subst (λ (i : ℕ). PairReached c (record { end = v.near; down = []; up = up }) (w.theirs i) (h.puts i)) (alone_there m can) pair) kept

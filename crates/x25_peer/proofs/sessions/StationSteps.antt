@@ -119,7 +119,7 @@ module _ (below : Below) (c : Settings) (few : c.channels.count ≤ 4095) where
     pub up : is_up step.near.link.phase ≡ true
 
   -- behind the link's own step, to this side
-  module _ (w : BesideSessions) (h : Stands c w) (b : ℕ) (packets : List PlainPacket) (readable : AreReadable c.long_data packets) (t : Side) (up : is_up t.near.phase ≡ true) (step : Step) (lifted : List (List ℕ)) (left : List Entry) (met : List Meeting)
+  module _ (w : BesideSessions) (h : Stands c w) (b : ℕ) (packets : List PlainPacket) (readable : AreReadable c.wide c.long_data packets) (t : Side) (up : is_up t.near.phase ≡ true) (step : Step) (lifted : List (List ℕ)) (left : List Entry) (met : List Meeting)
       (l : LinkReached lc t.near b (downs_of h.known) (extended (ups_of h.known) b lifted) w.peer (w.out ++ sent_in b c.role t.out) left met) where
     abbrev Left : LinkStation → List PlainFrame → List (List ℕ) → Type 0
     Left link out handed = LinkReached lc link b (extended (downs_of h.known) b handed) (extended (ups_of h.known) b lifted) w.peer (w.out ++ sent_in b c.role out) left met
@@ -133,7 +133,7 @@ module _ (below : Below) (c : Settings) (few : c.channels.count ≤ 4095) where
       handed = spelled packets;
       reads = spelled_read c packets readable;
       link = is_left (all_put lc packets t) (spelled packets) p.link p.out
-          (all_puts lc w.peer c.long_data packets t b (downs_of h.known) (extended (ups_of h.known) b lifted) w.out left met (λ p short. short) p.accepted readable l);
+          (all_puts lc w.peer c.wide c.long_data packets t b (downs_of h.known) (extended (ups_of h.known) b lifted) w.out left met (λ p short. short) p.accepted readable l);
       up = ap (λ (s : LinkStation). is_up s.phase) p.link ∙ puts_up below.put_tells lc packets t up;
     }
 
@@ -142,7 +142,7 @@ module _ (below : Below) (c : Settings) (few : c.channels.count ≤ 4095) where
       handed = spelled_with g packets;
       reads = given_read below.given_read c g packets wide may octets readable;
       link = is_left (all_given lc g packets t) (spelled_with g packets) p.link p.out
-          (given_puts lc w.peer c.long_data g packets t b (downs_of h.known) (extended (ups_of h.known) b lifted) w.out left met (λ p short. short) (λ p is. (below.given_read c.long_data g p may octets is).short) p.accepted readable l);
+          (given_puts lc w.peer c.wide c.long_data g packets t b (downs_of h.known) (extended (ups_of h.known) b lifted) w.out left met (λ p short. short) (λ p is. (below.given_read c.wide c.long_data g p may octets is).short) p.accepted readable l);
       up = ap (λ (s : LinkStation). is_up s.phase) p.link ∙ given_up below.put_tells lc g packets t up;
     }
 
@@ -219,7 +219,7 @@ module _ (below : Below) (c : Settings) (few : c.channels.count ≤ 4095) where
         let is = h.each b in
         let own : Own = w.own b in
         let given : old.end.given ≡ ps = ap (λ (e : End). e.given) before.end ∙ first_given c in
-        let readable : AreReadable c.long_data ps = below.readable c.role c.long_data c.channels few (layer_peer.start c.role c.long_data c.channels) at_start in
+        let readable : AreReadable c.wide c.long_data ps = below.readable c.wide c.role c.long_data c.channels few (layer_peer.start c.role c.long_data c.channels) at_start in
         let fresh_up : is_up k.side.near.phase ≡ true = ap (λ (s : LinkStation). is_up s.phase) (tells.fresh_up up) in
         let put = puts w h b ps readable k.side fresh_up whole [] left met (link_at true up) (record { accepted = u.link.accepted; link = u.link.link; out = u.link.out }) in
         let n : Known = record { end = old.end; down = old.down ++ put.handed; up = old.up } in

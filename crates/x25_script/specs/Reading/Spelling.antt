@@ -98,9 +98,9 @@ SpellsCommand (with_given facilities user d asked) text = (field : List ℕ) × 
     × ((digits : List ℕ) × Writes digits user
     × ((rest : List ℕ) × SpellsPart asked rest
     × (text ≡ codes "with " ++ (field ++ (codes " " ++ (digits ++ (codes " " ++ (d_text d ++ rest))))))))
-SpellsCommand (send channel q user) text = IsNumber channel
+SpellsCommand (send channel q d user) text = IsNumber channel
     × ((digits : List ℕ) × Writes digits user
-    × (text ≡ codes "send " ++ (decimal channel ++ (codes " " ++ (q_text q ++ (codes " " ++ digits))))))
+    × (text ≡ codes "send " ++ (decimal channel ++ (codes " " ++ (q_text q ++ (codes " " ++ (d_text d ++ digits)))))))
 SpellsCommand (interrupt channel user) text = IsNumber channel
     × ((digits : List ℕ) × Writes digits user
     × (text ≡ codes "int " ++ (decimal channel ++ (codes " " ++ digits))))

@@ -30,7 +30,7 @@ abbrev pub AsksInOctets : PlainCommand → Type 0
 AsksInOctets (with_given facilities user d asked) = AreOctets facilities × AreOctets user × PartInOctets asked
 AsksInOctets (call called calling user params) = AreOctets user
 AsksInOctets (clear channel given) = AreGivenOctets given
-AsksInOctets (send channel q user) = AreOctets user
+AsksInOctets (send channel q d user) = AreOctets user
 AsksInOctets (interrupt channel user) = AreOctets user
 AsksInOctets (reset channel given) = AreGivenOctets given
 AsksInOctets (restart given) = AreGivenOctets given

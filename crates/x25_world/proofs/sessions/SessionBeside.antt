@@ -4,12 +4,16 @@ use Rattle.std.proofs.Common.{◌≡◌, ℕ, ◌==◌, ◌≤◌, inl, inr, Lis
 use Rattle.std.proofs.lemmas.Bool.{eqb-true}
 use Rattle.std.proofs.lemmas.List.{append_cancel_left}
 use Rattle.x25_packet.specs.Facilities.{IsFacilityField}
-use Rattle.x25_packet.specs.Packet.{PlainPacket, call, accept, clear}
+use Rattle.x25_packet.specs.Packet.{PlainPacket, call, accept, clear, user_data}
+use Rattle.x25_packet.specs.declared.marks.Marks.{Marks}
 use Rattle.x25_packet.specs.Reading.{packet_of}
-use Rattle.x25_packet.specs.Spelling.{IsInRange, channel_of, longest_user, spelling_of}
+use Rattle.x25_packet.specs.Spelling.{IsInRange, IsWithoutD, channel_of, longest_user, spelling_of}
 use Rattle.x25_packet.specs.declared.error.PacketError.{PacketError}
 use Rattle.x25_wide.specs.Reading.{wide_of}
-use Rattle.x25_wide.specs.Taking.{read_in}
+use Rattle.x25_wide.specs.Packet as form
+use Rattle.x25_wide.specs.Packet.{PlainKind, PlainWide}
+use Rattle.x25_wide.specs.Narrowing.{with_field, narrowed, field_in, taken_of}
+use Rattle.x25_wide.specs.Taking.{or_taken, read_in}
 use Rattle.x25_given.specs.Given.{PlainGiven, may_give}
 use Rattle.x25_given.specs.Writing.{write, written}
 use Rattle.x25_circuit.specs.Circuit.{Circuit}
@@ -27,7 +31,7 @@ use Rattle.x25_layer.specs.laws.TwoLayers as layer
 use Rattle.x25_layer.specs.laws.TwoLayers.{pulled_in, moves_in, requested}
 use Rattle.x25_layer.specs.laws.RoundLaw.{moves_all, pulls_of}
 use Rattle.x25_layer.specs.laws.Apart.{alone}
-use Rattle.x25_station.specs.Beside.{PlainBeside, nothing, fields, of_fields, beside_in, beside_or_none, unless_written}
+use Rattle.x25_station.specs.Beside.{PlainBeside, nothing, fields, of_fields, beside_kind, beside_in, beside_or_none, unless_written}
 use Rattle.x25_station.specs.declared.config.Cfg.{Cfg}
 use Rattle.x25_station.specs.Command.{said_by}
 use Rattle.x25_station.specs.Giving.{suits}
@@ -137,21 +141,55 @@ user_short : (long_data : Bool) → longest_user long_data ≤ 128
 user_short true = omega arith
 user_short false = omega arith
 
+-- what is read as a data packet brings nothing
+data_brings : (h : ℕ) (marks : Marks) (m : Bool) (ps pr : ℕ) (user : List ℕ) (w : PlainWide) (field : Result (List ℕ) PacketError) → narrowed w field ≡ Ok (user_data h marks m ps pr user) → beside_kind w.kind ≡ nothing
+data_brings h marks m ps pr user w (Err e) is = absurd (cc)
+data_brings h marks m ps pr user w (Ok field) is = by w.kind is
+  where
+    by : (kind : PlainKind) → with_field w.channel w.bit_8 w.d kind field ≡ Ok (user_data h marks m ps pr user) → beside_kind kind ≡ nothing
+    by (form.call block) is = absurd (cc)
+    by (form.accept block) is = absurd (cc)
+    by (form.extended_clear cause reason block) is = absurd (cc)
+    by (form.clear_conf block) is = absurd (cc)
+    by (form.diagnostic number explanation) is = absurd (cc)
+    by kind is = refl
+
 module _ (laws : Laws) (cfg : Cfg) where
-  in_range : (p : PlainPacket) → IsReadable cfg.long_data p → IsInRange 128 p
-  in_range p r = wider (longest_user cfg.long_data) (user_short cfg.long_data) p ((laws.grammar (longest_user cfg.long_data) p (spelling_of p) r.octets).0 (r.reads false)).in_range
+  in_range : (p : PlainPacket) → IsReadable cfg.wide cfg.long_data p → IsInRange 128 p
+  in_range p r = wider (longest_user cfg.long_data) (user_short cfg.long_data) p r.in_range
 
-  read_plain : (p : PlainPacket) → IsReadable cfg.long_data p → packet_of 128 (spelling_of p) ≡ Ok p
-  read_plain p r = (laws.grammar 128 p (spelling_of p) r.octets).1 (record { in_range = in_range p r; spelling = refl })
+  read_plain : (p : PlainPacket) → IsWithoutD p → IsReadable cfg.wide cfg.long_data p → packet_of 128 (spelling_of p) ≡ Ok p
+  read_plain p without r = (laws.grammar 128 p (spelling_of p) r.octets).1 (record { in_range = in_range p r; without_d = without; spelling = refl })
 
-  plain_beside : (wide : Bool) (p : PlainPacket) → IsReadable cfg.long_data p → beside_in wide (spelling_of p) ≡ nothing
-  plain_beside false p r = refl
-  plain_beside true p r = ap (λ (read : Result PlainPacket PacketError). unless_written read (beside_or_none (wide_of 128 (spelling_of p)))) (read_plain p r)
+  plain_beside : (p : PlainPacket) → IsWithoutD p → IsReadable cfg.wide cfg.long_data p → beside_in true (spelling_of p) ≡ nothing
+  plain_beside p without r = ap (λ (read : Result PlainPacket PacketError). unless_written read (beside_or_none (wide_of 128 (spelling_of p)))) (read_plain p without r)
 
-  plain_brings : (p : PlainPacket) → IsReadable cfg.long_data p → brought_by cfg (spelling_of p) ≡ []
-  plain_brings p r = ap₂ brought_as (r.reads cfg.wide) (plain_beside cfg.wide p r)
+  data_beside : (h : ℕ) (marks : Marks) (m : Bool) (ps pr : ℕ) (user : List ℕ) → IsReadable cfg.wide cfg.long_data (user_data h marks m ps pr user) → beside_in true (spelling_of (user_data h marks m ps pr user)) ≡ nothing
+  data_beside h marks m ps pr user r = by (packet_of 128 o) (wide_of 128 o) (laws.taken 128 p (omega arith) r.octets (in_range p r))
+    where
+      p : PlainPacket
+      p = user_data h marks m ps pr user
 
-  pub spelled_bring : (packets : List PlainPacket) → AreReadable cfg.long_data packets → brought cfg (spelled packets) ≡ []
+      o : List ℕ
+      o = spelling_of p
+
+      by : (read : Result PlainPacket PacketError) (wide : Result PlainWide PacketError) → or_taken read (taken_of wide) ≡ Ok p → unless_written read (beside_or_none wide) ≡ nothing
+      by (Ok u) wide is = refl
+      by (Err e) (Err f) is = refl
+      by (Err e) (Ok w) is = data_brings h marks m ps pr user w (field_in w.kind) is
+
+  spelled_beside : (p : PlainPacket) → IsReadable cfg.wide cfg.long_data p → beside_in true (spelling_of p) ≡ nothing
+  spelled_beside (user_data h marks m ps pr user) r = data_beside h marks m ps pr user r
+  spelled_beside p r = plain_beside p tt r
+
+  none_beside : (wide : Bool) (p : PlainPacket) → IsReadable cfg.wide cfg.long_data p → beside_in wide (spelling_of p) ≡ nothing
+  none_beside false p r = refl
+  none_beside true p r = spelled_beside p r
+
+  plain_brings : (p : PlainPacket) → IsReadable cfg.wide cfg.long_data p → brought_by cfg (spelling_of p) ≡ []
+  plain_brings p r = ap₂ brought_as r.reads (none_beside cfg.wide p r)
+
+  pub spelled_bring : (packets : List PlainPacket) → AreReadable cfg.wide cfg.long_data packets → brought cfg (spelled packets) ≡ []
   spelled_bring [] h = refl
   spelled_bring (p ∷ packets) h = ap₂ (λ (xs ys : List Came). xs ++ ys) (plain_brings p h.0) (spelled_bring packets h.1)
 
@@ -193,8 +231,8 @@ module _ (laws : Laws) (cfg : Cfg) (g : PlainGiven) (channel : Option ℕ) (wide
       some_fields (clear h cause diagnostic) g.facilities g.user (λ k same. record { channel = may ∙ ap (λ (n : ℕ). Some n) (sym same); own = []; of_own = no_field; facilities = refl; user = refl })
   told_brings p may range = tt
 
-  with_brings : (p : PlainPacket) → MayGoOn g channel p → IsReadable cfg.long_data p → AreSomeOf IsGiven (brought_by cfg (write g (spelling_of p))) gave
-  with_brings p may r = by (packet_of 128 o) refl
+  form_brings : (p : PlainPacket) → IsWithoutD p → MayGoOn g channel p → IsReadable cfg.wide cfg.long_data p → AreSomeOf IsGiven (brought_by cfg (write g (spelling_of p))) gave
+  form_brings p without may r = by (packet_of 128 o) refl
     where
       o : List ℕ
       o = write g (spelling_of p)
@@ -203,10 +241,10 @@ module _ (laws : Laws) (cfg : Cfg) (g : PlainGiven) (channel : Option ℕ) (wide
       is_written = laws.given_written g p (in_range laws cfg p r) r.octets
 
       reads : read_by cfg o ≡ Ok p
-      reads = ap (λ (b : Bool). read_in b (longest_user cfg.long_data) o) wide ∙ (laws.given_read cfg.long_data g p allowed octets r).reads
+      reads = ap (λ (b : Bool). read_in b (longest_user cfg.long_data) o) wide ∙ (laws.given_read cfg.wide cfg.long_data g p allowed octets r).reads
 
       of_written : AreOctets (written g p)
-      of_written = subst AreOctets is_written (laws.given_read cfg.long_data g p allowed octets r).octets
+      of_written = subst AreOctets is_written (laws.given_read cfg.wide cfg.long_data g p allowed octets r).octets
 
       err_ok : {A : Type 0} (e : PacketError) → Err e ≡ Ok p → A
       err_ok e is = absurd (cc)
@@ -218,10 +256,17 @@ module _ (laws : Laws) (cfg : Cfg) (g : PlainGiven) (channel : Option ℕ) (wide
       by (Ok u) is = brings nothing (ap (λ (b : Bool). beside_in b o) wide ∙ ap (λ (read : Result PlainPacket PacketError). unless_written read (beside_or_none (wide_of 128 o))) is) tt
       by (Err e) is = brings (told g p)
           (ap (λ (b : Bool). beside_in b o) wide ∙ ap (λ (os : List ℕ). beside_in true os) is_written
-          ∙ laws.given_told g p allowed (in_range laws cfg p r) of_written (λ same. err_ok e (sym is ∙ ap (λ (os : List ℕ). packet_of 128 os) (is_written ∙ same) ∙ read_plain laws cfg p r)))
+          ∙ laws.given_told g p allowed (in_range laws cfg p r) of_written (λ same. err_ok e (sym is ∙ ap (λ (os : List ℕ). packet_of 128 os) (is_written ∙ same) ∙ read_plain laws cfg p without r)))
           (told_brings p may (in_range laws cfg p r))
 
-  pub spelled_with_bring : (packets : List PlainPacket) → FirstMayGo g channel packets → AreReadable cfg.long_data packets → AreSomeOf IsGiven (brought cfg (spelled_with g packets)) gave
+  with_brings : (p : PlainPacket) → MayGoOn g channel p → IsReadable cfg.wide cfg.long_data p → AreSomeOf IsGiven (brought_by cfg (write g (spelling_of p))) gave
+  with_brings (user_data h marks m ps pr user) may r =
+      let p = user_data h marks m ps pr user in
+      subst (λ (l : List Came). AreSomeOf IsGiven l gave)
+      (sym (ap (brought_by cfg) (laws.given_written g p (in_range laws cfg p r) r.octets) ∙ plain_brings laws cfg p r)) tt
+  with_brings p may r = form_brings p tt may r
+
+  pub spelled_with_bring : (packets : List PlainPacket) → FirstMayGo g channel packets → AreReadable cfg.wide cfg.long_data packets → AreSomeOf IsGiven (brought cfg (spelled_with g packets)) gave
   spelled_with_bring [] may h = tt
   spelled_with_bring (p ∷ packets) may h =
       subst (λ (l : List Came). AreSomeOf IsGiven (brought_by cfg (write g (spelling_of p)) ++ l) gave) (sym (spelled_bring laws cfg packets h.1))

@@ -1,5 +1,5 @@
 -- What entries that an end's step adds say of its sessions, and of whom they meet.
-use Rattle.std.proofs.Common.{◌≡◌, ℕ, List, [], ◌∷◌, ◌++◌, inl, Bool, true, false, if◌then◌else◌, Option, Some, None, Result, Ok, refl, sym, ap, ap₂, ◌∙◌, subst, append_assoc, append-nil}
+use Rattle.std.proofs.Common.{◌≡◌, ℕ, zero, suc, List, [], ◌∷◌, ◌++◌, inl, Bool, true, false, if◌then◌else◌, Option, Some, None, Result, Ok, refl, sym, ap, ap₂, ◌∙◌, subst, append_assoc, append-nil}
 use Rattle.x25_bits.specs.declared.role.Role.{Role}
 use Rattle.x25_bits.specs.declared.role.Role.TheVariants.{Dte, Dce}
 use Rattle.x25_link.specs.declared.phase.Notes.{Notes}
@@ -12,6 +12,7 @@ use Rattle.x25_packet.specs.declared.error.PacketError.{PacketError}
 use Rattle.x25_circuit.specs.Hearing.{Answer, answers}
 use Rattle.x25_circuit.specs.Notice.{PlainNotice}
 use Rattle.x25_layer.specs.Layer.{LayerSettings, Layer, LayerAnswer, LayerNotice, on_channel, restarted, restart_done, layer_fault, is_channel, notices_on, answers_on, drops, answers_in, layer_answers}
+use Rattle.x25_layer.specs.Room.{named_by}
 use Rattle.x25_layer.specs.Rounds.{answer_to}
 use Rattle.x25_layer.specs.Calls.{LayerRequest, Asks, Dials, Restarts, PullsAll, LayerOutcome, Accepted, Declined}
 use Rattle.x25_layer.specs.laws.Transcript.{Entry, Said, Asked, Told}
@@ -20,8 +21,8 @@ use Rattle.x25_layer.specs.laws.ApartLaw.{BeginsRestarted}
 use Rattle.x25_station.specs.Beside.{PlainBeside, nothing, fields, diagnosed, beside_in}
 use Rattle.x25_station.specs.declared.config.Cfg.{Cfg}
 use Rattle.x25_station.specs.Config.{Settings, settings_from, layer_settings}
-use Rattle.x25_station.specs.Entry.{StationEntry, of_channel, restart_asked, connect_asked, disconnect_asked, relink_asked, link_up, link_down, was_restarted, restart_confirmed, at_fault, came_beside, was_diagnosed, may_bring, bringing, entries_beside, of_channels, station_told, entries_noted, notice_of, layer_notices}
-use Rattle.x25_station.specs.Step.{entries_of_outcome, layer_answer, entries_of_packet, entries_heard, follows}
+use Rattle.x25_station.specs.Entry.{StationEntry, of_channel, restart_asked, connect_asked, disconnect_asked, relink_asked, link_up, link_down, was_restarted, restart_confirmed, at_fault, came_beside, was_diagnosed, was_confirmed, may_bring, bringing, entries_beside, entries_behind, of_channels, station_told, entries_noted, notice_of, layer_notices}
+use Rattle.x25_station.specs.Step.{entries_of_outcome, layer_answer, confirmed_by, entries_of_packet, entries_heard, follows}
 use Rattle.x25_world.specs.World.{AtEnd, entered}
 use Rattle.x25_world.specs.laws.BesideClaims.{Came, came_in}
 use Rattle.x25_world.specs.laws.Claims.{entry_of_end, entries_at}
@@ -115,6 +116,7 @@ none_met n here there (restart_confirmed ∷ entries) none = something restart_d
 none_met n here there (at_fault diagnostic ∷ entries) none = something (layer_fault diagnostic) (layer_notices entries) none
 none_met n here there (came_beside channel facilities user ∷ entries) none = none_met n here there entries none
 none_met n here there (was_diagnosed diagnostic ∷ entries) none = none_met n here there entries none
+none_met n here there (was_confirmed channel name count ∷ entries) none = none_met n here there entries none
 
 -- ---- entries that aren't the link's
 
@@ -140,6 +142,7 @@ plain_after p restart_confirmed h = refl
 plain_after p (at_fault diagnostic) h = refl
 plain_after p (came_beside channel facilities user) h = refl
 plain_after p (was_diagnosed diagnostic) h = refl
+plain_after p (was_confirmed channel name count) h = refl
 
 pub plain_progress : (p : Progress) (entries : List StationEntry) → ArePlain entries → after_entries p entries ≡ p
 plain_progress p [] h = refl
@@ -176,6 +179,7 @@ restart_met n here there (restart_confirmed ∷ entries) plain is begins = absur
 restart_met n here there (at_fault diagnostic ∷ entries) plain is begins = absurd begins
 restart_met n here there (came_beside channel facilities user ∷ entries) plain is begins = restart_met n here there entries plain.1 is begins
 restart_met n here there (was_diagnosed diagnostic ∷ entries) plain is begins = restart_met n here there entries plain.1 is begins
+restart_met n here there (was_confirmed channel name count ∷ entries) plain is begins = restart_met n here there entries plain.1 is begins
 
 -- in a session that doesn't stand none is met
 pub elsewhere_met : (n : ℕ) (here there : Progress) (entries : List StationEntry) → ArePlain entries → is_in n here ≡ false → met_by n here there entries ≡ None
@@ -196,6 +200,7 @@ elsewhere_met n here there (e ∷ entries) plain out =
     at_one (at_fault diagnostic) h = refl
     at_one (came_beside channel facilities user) h = refl
     at_one (was_diagnosed diagnostic) h = refl
+    at_one (was_confirmed channel name count) h = refl
 
 -- ---- those of a step that notes nothing are such
 
@@ -216,12 +221,16 @@ beside_plain (fields facilities user) None = tt
 beside_plain (fields facilities user) (Some h) = (tt, tt)
 beside_plain (diagnosed diagnostic) o = (tt, tt)
 
-told_plain : (l : Layer) (notices : List LayerNotice) (b : PlainBeside) (o : Option ℕ) → ArePlain (station_told l notices ++ entries_beside b o)
-told_plain l [] b o = beside_plain b o
-told_plain l (on_channel h notice ∷ notices) b o = (tt, told_plain l notices b o)
-told_plain l (restarted cause diagnostic ∷ notices) b o = (tt, told_plain l notices b o)
-told_plain l (restart_done ∷ notices) b o = (tt, told_plain l notices b o)
-told_plain l (layer_fault diagnostic ∷ notices) b o = (tt, told_plain l notices b o)
+behind_plain : (l : Layer) (h count : ℕ) (es : List StationEntry) → ArePlain es → ArePlain (entries_behind l h count es)
+behind_plain l h zero es plain = plain
+behind_plain l h (suc count) es plain = (tt, tt)
+
+told_plain : (l : Layer) (notices : List LayerNotice) (es : List StationEntry) → ArePlain es → ArePlain (station_told l notices ++ es)
+told_plain l [] es plain = plain
+told_plain l (on_channel h notice ∷ notices) es plain = (tt, told_plain l notices es plain)
+told_plain l (restarted cause diagnostic ∷ notices) es plain = (tt, told_plain l notices es plain)
+told_plain l (restart_done ∷ notices) es plain = (tt, told_plain l notices es plain)
+told_plain l (layer_fault diagnostic ∷ notices) es plain = (tt, told_plain l notices es plain)
 
 -- the entries of a packet that is handed up
 pub heard_plain : (c : Settings) (l : Layer) (k : LinkStep) (octets : List ℕ) → k.packet ≡ Some octets → IsQuiet k → ArePlain (follows c l k).entries
@@ -229,8 +238,8 @@ heard_plain c l k octets some quiet =
     subst ArePlain
     (sym (ap (λ (o : Option (List ℕ)). entries_noted k.notes ++ entries_heard (layer_settings c) c.wide l o k.notes.down k.notes.up) some
     ∙ ap (λ (n : Notes). entries_noted n ++ entries_heard (layer_settings c) c.wide l (Some octets) n.down n.up) quiet))
-    (told_plain (layer_answer (layer_settings c) c.wide l octets).next (layer_answer (layer_settings c) c.wide l octets).notices
-    (beside_in c.wide octets) (bringing (layer_answer (layer_settings c) c.wide l octets).notices))
+    (let a = layer_answer (layer_settings c) c.wide l octets in
+    told_plain a.next a.notices _ (behind_plain a.next (named_by octets) (confirmed_by (layer_settings c) c.wide l a.next (named_by octets)) _ (beside_plain (beside_in c.wide octets) (bringing a.notices))))
 
 -- ---- what came beside
 
@@ -286,6 +295,11 @@ brings_told p (fields facilities user) None is = tt
 brings_told p (fields facilities user) (Some h) is = inl (ap (λ (k : ℕ). record { channel = k; facilities = facilities; user = user }) (sym (is h refl)), tt)
 brings_told p (diagnosed diagnostic) o is = tt
 
+-- in the place of it may be told what the packet confirms
+behind_told : (l : Layer) (h count : ℕ) (es : List StationEntry) (brought : List Came) → AreTold (came_in es) brought → AreTold (came_in (entries_behind l h count es)) brought
+behind_told l h zero es brought told = told
+behind_told l h (suc count) es brought told = tt
+
 -- what is told of a packet that is handed up is what its octets bring, or nothing
 pub heard_beside : (cfg : Cfg) (end : Role) (l : Layer) (k : LinkStep) (octets : List ℕ) (p : PlainPacket) → k.packet ≡ Some octets → IsQuiet k → read_by cfg octets ≡ Ok p
     → AreTold (came_in (follows (settings_from end cfg) l k).entries) (brought cfg (octets ∷ []))
@@ -298,6 +312,9 @@ heard_beside cfg end l k octets p some quiet reads =
     let answered : a ≡ layer_answers (layer_settings c) l p = ap (λ (r : Result PlainPacket PacketError). answer_to (layer_settings c) l octets r) reads in
     let all : brought cfg (octets ∷ []) ≡ brought_as (Ok p) (beside_in c.wide octets) =
     append-nil (brought_by cfg octets) ∙ ap (λ (r : Result PlainPacket PacketError). brought_as r (beside_in c.wide octets)) reads in
+    let count : ℕ = confirmed_by (layer_settings c) c.wide l a.next (named_by octets) in
+    let es : List StationEntry = entries_beside (beside_in c.wide octets) (bringing a.notices) in
     subst (λ (xs : List Came). AreTold (came_in (follows c l k).entries) xs) (sym all)
-    (subst (λ (es : List Came). AreTold es (brought_as (Ok p) (beside_in c.wide octets))) (sym (ap came_in entries ∙ told_beside a.next a.notices (entries_beside (beside_in c.wide octets) (bringing a.notices))))
-    (brings_told p (beside_in c.wide octets) (bringing a.notices) (λ h e. answer_on (layer_settings c) l p h (ap (λ (x : LayerAnswer). bringing x.notices) (sym answered) ∙ e))))
+    (subst (λ (es : List Came). AreTold es (brought_as (Ok p) (beside_in c.wide octets))) (sym (ap came_in entries ∙ told_beside a.next a.notices (entries_behind a.next (named_by octets) count es)))
+    (behind_told a.next (named_by octets) count es (brought_as (Ok p) (beside_in c.wide octets))
+    (brings_told p (beside_in c.wide octets) (bringing a.notices) (λ h e. answer_on (layer_settings c) l p h (ap (λ (x : LayerAnswer). bringing x.notices) (sym answered) ∙ e)))))

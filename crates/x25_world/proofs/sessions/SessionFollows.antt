@@ -138,11 +138,11 @@ module _ {since : Beginning} (laws : SessionLaws) (cfg : Cfg) (fine : IsConfigur
   not_begun : own cfg end (suc h.links.near.begun) h.trace ≡ started (goes_up (layer_of cfg end))
   not_begun = ap (λ (l : List OwnMove). own_run (layer_of cfg end) l (started (goes_up (layer_of cfg end)))) (h.near.later (suc h.links.near.begun) (omega arith)).moves
 
-  restart_readable : AreReadable cfg.long_data (restart (restart_cause end) 0 ∷ [])
+  restart_readable : AreReadable cfg.wide cfg.long_data (restart (restart_cause end) 0 ∷ [])
   restart_readable =
       let n = suc h.links.near.begun in
       let m = suc h.links.far.begun in
-      subst (λ (e : layer.End). AreReadable cfg.long_data e.given) not_begun
+      subst (λ (e : layer.End). AreReadable cfg.wide cfg.long_data e.given) not_begun
       (own_readable laws cfg fine end n m h.trace
       (nothing_in_order cfg end h.trace n m (subst TakeNothing (sym (h.near.later n (omega arith)).moves) tt) (subst TakeNothing (sym (h.far.later m (omega arith)).moves) tt)) h.octets)
 

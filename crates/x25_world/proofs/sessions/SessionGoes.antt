@@ -198,7 +198,7 @@ module _ {since : Beginning} (cfg : Cfg) (end : Role) (w : World) (h : SessionsJ
 
   -- the sessions of both ends, where the near end's part is known
   joined_of : (moves : List OwnMove) (at : ℕ) → SessionsReach since cfg end v → v.far ≡ h.links.far → octets_of v.out ≡ octets_of h.links.out ++ map (spelling_of end) step.out → octets_of v.back ≡ back
-      → v.sent ≡ h.links.sent ++ step.out → v.met ≡ met → IsEnd cfg end step.near v.near (h.trace ++ moved end at moves) (told_before ++ step.entries) → BringOctets (moved end at moves)
+      → v.sent ≡ h.links.sent ++ step.out → v.met ≡ met → IsEnd cfg end step.near v.near (h.trace ++ moved end at moves) (told_before ++ step.entries) → BringOctets cfg.wide (moved end at moves)
       → PairsAreInOrder cfg end (h.trace ++ moved end at moves) met → ((n m : ℕ) → HasMet n m h.links.met → HasMet n m met)
       → ((n : ℕ) → Hears (λ (n m : ℕ). HasMet n m met) n (v.near.up n) (meets end n (w.transcript ++ entered end step.entries)))
       → SessionsJoined since cfg end (after_step (settings_from end cfg) w back step)
@@ -213,7 +213,7 @@ module _ {since : Beginning} (cfg : Cfg) (end : Role) (w : World) (h : SessionsJ
     out = out ∙ ap (λ (os : List (List ℕ)). os ++ map (spelling_of end) step.out) h.out;
     back = left;
     tap = subst (λ (fs : List PlainFrame). AreOnTap (w.tap ++ tapped end (map (spelling_of end) step.out)) fs) (sym sent) (on_tap end w.tap h.links.sent step.out h.tap);
-    octets = octets_append h.trace (moved end at moves) h.octets octets;
+    octets = octets_append cfg.wide h.trace (moved end at moves) h.octets octets;
     pairs = subst (PairsAreInOrder cfg end (h.trace ++ moved end at moves)) (sym same_met) pairs;
     near_hears = λ n. subst (λ (ms : List Meeting). Hears (λ (n m : ℕ). HasMet n m ms) n (v.near.up n) (meets end n (w.transcript ++ entered end step.entries))) (sym same_met) (hears n);
     far_hears = λ n. subst (λ (ms : List Meeting). Hears (λ (n m : ℕ). HasMet m n ms) n (v.far.up n) (meets (other end) n (w.transcript ++ entered end step.entries))) (sym same_met)
@@ -337,7 +337,7 @@ module _ {since : Beginning} (cfg : Cfg) (end : Role) (w : World) (h : SessionsJ
     abbrev all_of : ℕ → Option ℕ
     all_of n = meets end n (w.transcript ++ entered end step.entries)
 
-    pub goes_on : SessionsReach since cfg end v → (lifted ≡ [] → TakeNothing moves) → AreNoFaults (layer_notices step.entries) → BringOctets (moved end session moves)
+    pub goes_on : SessionsReach since cfg end v → (lifted ≡ [] → TakeNothing moves) → AreNoFaults (layer_notices step.entries) → BringOctets cfg.wide (moved end session moves)
         → PairsAreInOrder cfg end trace_on met → ((n m : ℕ) → HasMet n m h.links.met → HasMet n m met)
         → ((own cfg end session h.trace).taken ≡ [] → ((lifted ≡ []) × (layer_notices step.entries ≡ [])) ⊎ IsNews session h.links.far.begun met (layer_notices step.entries))
         → Goes since cfg end h.links gave (after_step (settings_from end cfg) w back step)

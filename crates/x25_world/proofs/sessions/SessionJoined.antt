@@ -100,7 +100,7 @@ pub record SessionsJoined (since : Beginning) (cfg : Cfg) (end : Role) (w : Worl
   pub out : octets_of links.out ≡ w.out
   pub back : octets_of links.back ≡ w.back
   pub tap : AreOnTap w.tap links.sent
-  pub octets : BringOctets trace
+  pub octets : BringOctets cfg.wide trace
   pub pairs : PairsAreInOrder cfg end trace links.met
   pub near_hears : (n : ℕ) → Hears (λ (n m : ℕ). HasMet n m links.met) n (links.near.up n) (meets end n w.transcript)
   pub far_hears : (n : ℕ) → Hears (λ (n m : ℕ). HasMet m n links.met) n (links.far.up n) (meets (other end) n w.transcript)

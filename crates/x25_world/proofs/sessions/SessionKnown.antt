@@ -133,34 +133,34 @@ module _ (laws : SessionLaws) (cfg : Cfg) where
 
   -- ---- what is put is read again
 
-  one_octets : (n m : ℕ) (at : Role) (session : ℕ) (what : OwnMove) (es : List ApartEvent) → MovesOctets (as_move what) → BringOctets (all_over_links es) → BringOctets (all_over_links (pair_one n m at session what ++ es))
+  one_octets : (n m : ℕ) (at : Role) (session : ℕ) (what : OwnMove) (es : List ApartEvent) → MovesOctets cfg.wide (as_move what) → BringOctets cfg.wide (all_over_links es) → BringOctets cfg.wide (all_over_links (pair_one n m at session what ++ es))
   one_octets n m Dte session what es f g = by (n == session)
     where
-      by : (b : Bool) → BringOctets (all_over_links ((if b then record { first = true; what = what } ∷ [] else []) ++ es))
+      by : (b : Bool) → BringOctets cfg.wide (all_over_links ((if b then record { first = true; what = what } ∷ [] else []) ++ es))
       by true = (f, g)
       by false = g
   one_octets n m Dce session what es f g = by (m == session)
     where
-      by : (b : Bool) → BringOctets (all_over_links ((if b then record { first = false; what = what } ∷ [] else []) ++ es))
+      by : (b : Bool) → BringOctets cfg.wide (all_over_links ((if b then record { first = false; what = what } ∷ [] else []) ++ es))
       by true = (f, g)
       by false = g
 
-  pair_octets : (n m : ℕ) (trace : List Done) → traced.BringOctets trace → BringOctets (all_over_links (pair_in n m trace))
+  pair_octets : (n m : ℕ) (trace : List Done) → traced.BringOctets cfg.wide trace → BringOctets cfg.wide (all_over_links (pair_in n m trace))
   pair_octets n m [] h = tt
   pair_octets n m (t ∷ trace) h = one_octets n m t.at t.session t.what (pair_in n m trace) h.0 (pair_octets n m trace h.1)
 
-  both_readable : IsConfigured cfg → (n m : ℕ) (trace : List Done) → PairIsInOrder cfg Dte trace n m → traced.BringOctets trace
-      → AreReadable cfg.long_data (pair_world Dte n m trace).near.given × AreReadable cfg.long_data (pair_world Dte n m trace).far.given
+  both_readable : IsConfigured cfg → (n m : ℕ) (trace : List Done) → PairIsInOrder cfg Dte trace n m → traced.BringOctets cfg.wide trace
+      → AreReadable cfg.wide cfg.long_data (pair_world Dte n m trace).near.given × AreReadable cfg.wide cfg.long_data (pair_world Dte n m trace).far.given
   both_readable fine n m trace order octets =
-      subst (λ (x : layer.TwoLayers). AreReadable cfg.long_data x.near.given × AreReadable cfg.long_data x.far.given) (sym (laws.over_links cfg.long_data cfg.channels (pair_in n m trace) order))
-      (laws.stations.readable cfg.long_data cfg.channels fine.channels (all_over_links (pair_in n m trace)) (pair_octets n m trace octets))
+      subst (λ (x : layer.TwoLayers). AreReadable cfg.wide cfg.long_data x.near.given × AreReadable cfg.wide cfg.long_data x.far.given) (sym (laws.over_links cfg.long_data cfg.channels (pair_in n m trace) order))
+      (laws.stations.readable cfg.wide cfg.long_data cfg.channels fine.channels (all_over_links (pair_in n m trace)) (pair_octets n m trace octets))
 
-  readable_here : IsConfigured cfg → (end : Role) (n m : ℕ) (trace : List Done) → PairIsInOrder cfg end trace n m → traced.BringOctets trace → AreReadable cfg.long_data (pair_world end n m trace).near.given
+  readable_here : IsConfigured cfg → (end : Role) (n m : ℕ) (trace : List Done) → PairIsInOrder cfg end trace n m → traced.BringOctets cfg.wide trace → AreReadable cfg.wide cfg.long_data (pair_world end n m trace).near.given
   readable_here fine Dte n m trace order octets = (both_readable fine n m trace order octets).0
   readable_here fine Dce n m trace order octets = (both_readable fine m n trace order octets).1
 
-  pub own_readable : IsConfigured cfg → (end : Role) (n m : ℕ) (trace : List Done) → PairIsInOrder cfg end trace n m → traced.BringOctets trace → AreReadable cfg.long_data (own cfg end n trace).given
-  own_readable fine end n m trace order octets = subst (λ (e : layer.End). AreReadable cfg.long_data e.given) (world_here end n m trace) (readable_here fine end n m trace order octets)
+  pub own_readable : IsConfigured cfg → (end : Role) (n m : ℕ) (trace : List Done) → PairIsInOrder cfg end trace n m → traced.BringOctets cfg.wide trace → AreReadable cfg.wide cfg.long_data (own cfg end n trace).given
+  own_readable fine end n m trace order octets = subst (λ (e : layer.End). AreReadable cfg.wide cfg.long_data e.given) (world_here end n m trace) (readable_here fine end n m trace order octets)
 
 -- ---- each session is one of two in order
 

@@ -175,14 +175,14 @@ AreReadBack cfg [] [] = Unit {0}
 AreReadBack cfg (o ∷ os) (p ∷ ps) = IsReadBack cfg o p × AreReadBack cfg os ps
 AreReadBack cfg os ps = ⊥
 
-pub spelled_back : (cfg : Cfg) (packets : List PlainPacket) → AreReadable cfg.long_data packets → AreReadBack cfg (spelled packets) packets
+pub spelled_back : (cfg : Cfg) (packets : List PlainPacket) → AreReadable cfg.wide cfg.long_data packets → AreReadBack cfg (spelled packets) packets
 spelled_back cfg [] h = tt
-spelled_back cfg (p ∷ packets) h = (record { octets = h.0.octets; short = h.0.short; reads = h.0.reads cfg.wide }, spelled_back cfg packets h.1)
+spelled_back cfg (p ∷ packets) h = (record { octets = h.0.octets; short = h.0.short; reads = h.0.reads }, spelled_back cfg packets h.1)
 
-pub spelled_with_back : GivenIsRead → (cfg : Cfg) (g : PlainGiven) (packets : List PlainPacket) → cfg.wide ≡ true → may_give g ≡ true → GivesOctets g → AreReadable cfg.long_data packets → AreReadBack cfg (spelled_with g packets) packets
+pub spelled_with_back : GivenIsRead → (cfg : Cfg) (g : PlainGiven) (packets : List PlainPacket) → cfg.wide ≡ true → may_give g ≡ true → GivesOctets g → AreReadable cfg.wide cfg.long_data packets → AreReadBack cfg (spelled_with g packets) packets
 spelled_with_back law cfg g [] wide allowed octets h = tt
 spelled_with_back law cfg g (p ∷ packets) wide allowed octets h =
-    let r = law cfg.long_data g p allowed octets h.0 in
+    let r = law cfg.wide cfg.long_data g p allowed octets h.0 in
     let reads : read_by cfg (write g (packet.spelling_of p)) ≡ Ok p = ap (λ (b : Bool). read_in b (packet.longest_user cfg.long_data) (write g (packet.spelling_of p))) wide ∙ r.reads in
     (record { octets = r.octets; short = r.short; reads = reads }, spelled_back cfg packets h.1)
 

@@ -18,9 +18,9 @@ pub pulls_take_nothing : (channels : List ℕ) → TakeNothing (own_pulls channe
 pulls_take_nothing [] = tt
 pulls_take_nothing (h ∷ channels) = (tt, pulls_take_nothing channels)
 
-pub pulls_bring_octets : (end : Role) (session : ℕ) (channels : List ℕ) → BringOctets (moved end session (own_pulls channels))
-pulls_bring_octets end session [] = tt
-pulls_bring_octets end session (h ∷ channels) = (tt, pulls_bring_octets end session channels)
+pub pulls_bring_octets : (wide : Bool) (end : Role) (session : ℕ) (channels : List ℕ) → BringOctets wide (moved end session (own_pulls channels))
+pulls_bring_octets wide end session [] = tt
+pulls_bring_octets wide end session (h ∷ channels) = (tt, pulls_bring_octets wide end session channels)
 
 pull_near : (c : LayerSettings) (w : layer.TwoLayers) (h : ℕ) → (layer.moves c w (layer.Pulls h)).near ≡ own_moves c w.near (Pulls h)
 pull_near c w h = by w.near.is_out (is_channel c.channels h)

@@ -253,12 +253,12 @@ nothing_goes long_data channels Dte (what ∷ moves) ends h =
 nothing_goes long_data channels Dce (what ∷ moves) ends h =
     (next_of_none ends.far ends.near what h.0, nothing_goes long_data channels Dce moves (apart_happens long_data channels ends (event_of Dce what)) h.1)
 
--- ---- what users hand down is octets
+-- ---- what users hand down is octets, and confirmation is asked where packets are read in all their forms
 
-abbrev pub BringOctets : List Done → Type 0
-BringOctets [] = Unit {0}
-BringOctets (t ∷ trace) = MovesOctets (as_move t.what) × BringOctets trace
+abbrev pub BringOctets : Bool → List Done → Type 0
+BringOctets wide [] = Unit {0}
+BringOctets wide (t ∷ trace) = MovesOctets wide (as_move t.what) × BringOctets wide trace
 
-pub octets_append : (xs ys : List Done) → BringOctets xs → BringOctets ys → BringOctets (xs ++ ys)
-octets_append [] ys f g = g
-octets_append (x ∷ xs) ys f g = (f.0, octets_append xs ys f.1 g)
+pub octets_append : (wide : Bool) (xs ys : List Done) → BringOctets wide xs → BringOctets wide ys → BringOctets wide (xs ++ ys)
+octets_append wide [] ys f g = g
+octets_append wide (x ∷ xs) ys f g = (f.0, octets_append wide xs ys f.1 g)

@@ -16,6 +16,7 @@ use Rattle.x25_layer.specs.laws.Apart.{AlwaysApart}
 use Rattle.x25_layer.specs.laws.ApartLaw.{IsOverLinks, RestartsFirst, BeginsAlone, OwnMovesDecide, EventsRunOn}
 use Rattle.x25_station.specs.laws.JoinLaw.{RequestIsJoined, ReceiveIsJoined, QuietIsJoined, DownIsJoined, UpIsJoined}
 use Rattle.x25_packet.specs.laws.ReadingLaw.{ReadsWhatIsSpelled}
+use Rattle.x25_wide.specs.laws.TakingLaw.{TakesWhatIsSpelled}
 use Rattle.x25_station.specs.laws.GivenLaw.{GivenIsJoined, GivenIsRead, GivenIsTold, GivenIsWritten}
 use Rattle.x25_station.specs.laws.KeepLaw.{ConnectKeeps, TimerKeeps, RequestKeeps, GivenKeeps, CommandKeeps}
 use Rattle.x25_station.specs.laws.KeepLaw.{ReceiveKeeps}
@@ -52,6 +53,7 @@ pub record Laws : Type 0 where
   pub take_sets_up : TakeSetsUp
   pub reads : ReadsSpelled
   pub grammar : ReadsWhatIsSpelled
+  pub taken : TakesWhatIsSpelled
 
 -- those of one station, of two links over set-up and re-set-up, and of two layers of which each end is by itself
 pub record SessionLaws : Type 0 where

@@ -41,6 +41,7 @@ returns c =
       take_sets_up = sets_up.sets_up;
       reads = c.reads_what_is_spelled.ensures.reads;
       grammar = c.reading_is_the_grammar.ensures.spelled;
+      taken = c.taking_keeps_octets.ensures.spelled;
     } in
     record {
       stations = stations;

@@ -335,10 +335,10 @@ module _ {since : Beginning} (laws : SessionLaws) (cfg : Cfg) (fine : IsConfigur
           ∙ ap (λ (b : Bool). follows c w.near.layer (if b then abandon_step (link_of cfg end) w.near.link else taken)) none in
           (j.0, subst (λ (s : Step). IsJoined c begin (world_on j.0) taken.side [] s) is j.2)
 
-      joined_readable : (none : abandons (settings_from end cfg) w.near ≡ false) → AreReadable cfg.long_data (joined_on none).1.packets
+      joined_readable : (none : abandons (settings_from end cfg) w.near ≡ false) → AreReadable cfg.wide cfg.long_data (joined_on none).1.packets
       joined_readable none =
           let j = joined_on none in
-          puts_readable laws cfg fine end w h (moves j.0) j.1.packets (ap (λ (e : layer.End). e.given) (sym (near_on j.0)) ∙ j.1.layer.given) (tt, pulls_bring_octets end here j.0) (there, pair_on j.0)
+          puts_readable laws cfg fine end w h (moves j.0) j.1.packets (ap (λ (e : layer.End). e.given) (sym (near_on j.0)) ∙ j.1.layer.given) (tt, pulls_bring_octets cfg.wide end here j.0) (there, pair_on j.0)
 
       handed_puts : abandons (settings_from end cfg) w.near ≡ false → PutsRead cfg end taken.side step
       handed_puts none =
@@ -362,7 +362,7 @@ module _ {since : Beginning} (laws : SessionLaws) (cfg : Cfg) (fine : IsConfigur
           let takes = take_takes (layer_of cfg end) own_here f.packet j.0 (h.near.now up).out in
           let all = own_goes cfg end here h.trace (moves j.0) in
           joins laws cfg fine end w h step after_taken taken.side (world_on j.0) (moves j.0) (f.packet ∷ []) (f.packet ∷ []) (packet_octets ∷ [])
-          (ap (λ (r : Result PlainPacket PacketError). r ∷ []) f.reads) back goes_up_one up up_after (handed_puts none) j.1.layer near takes (heard_plain (settings_from end cfg) w.near.layer taken packet_octets some quiet) kept (tt, pulls_bring_octets end here j.0) (there, pair_on j.0)
+          (ap (λ (r : Result PlainPacket PacketError). r ∷ []) f.reads) back goes_up_one up up_after (handed_puts none) j.1.layer near takes (heard_plain (settings_from end cfg) w.near.layer taken packet_octets some quiet) kept (tt, pulls_bring_octets cfg.wide end here j.0) (there, pair_on j.0)
           (heard_beside cfg end w.near.layer taken packet_octets f.packet some quiet f.reads) gave_none
           (subst (λ (l : List Came). AreSomeOf IsGiven l []) (sym (spelled_bring laws.stations cfg j.1.packets (joined_readable none))) tt)
           (λ o. may_ask end Receives (line.Put o) is_at tt) reach_taken (λ nothing. absurd (not_empty f.packet nothing)) (pairs_on j.0) met_taken.more

@@ -27,7 +27,7 @@ use Rattle.x25_station.specs.Config.{Settings, settings_from, layer_settings, li
 use Rattle.x25_station.specs.Command as command
 use Rattle.x25_station.specs.Entry.{layer_notices, StationEntry}
 use Rattle.x25_station.specs.Giving.{suits, is_taken, view_given, not_taken}
-use Rattle.x25_station.specs.Step.{Step, Outcome, Did, Refused, requests, did, entries_of_outcome, gave, gives}
+use Rattle.x25_station.specs.Step.{Step, Outcome, Did, Refused, requests, did, entries_of_outcome, gave, gives, where_asked}
 use Rattle.x25_station.specs.laws.GivenLaw.{GivesOctets}
 use Rattle.x25_station.specs.laws.JoinLaw.{station_with, MovesAs}
 use Rattle.x25_station.specs.laws.KeepLaw.{IsKept, KeptBy}
@@ -66,9 +66,15 @@ pub said_octets : (says : Bool) (l : Layer) (request : LayerRequest) → Request
 said_octets says l (asked.Asks h (circuit.Calls called calling user proposal)) octets = octets
 said_octets says l request octets = octets
 
-pub readable_behind : (long_data : Bool) (ps qs : List PlainPacket) → AreReadable long_data (ps ++ qs) → AreReadable long_data qs
-readable_behind long_data [] qs h = h
-readable_behind long_data (p ∷ ps) qs h = readable_behind long_data ps qs h.1
+pub readable_behind : (wide long_data : Bool) (ps qs : List PlainPacket) → AreReadable wide long_data (ps ++ qs) → AreReadable wide long_data qs
+readable_behind wide long_data [] qs h = h
+readable_behind wide long_data (p ∷ ps) qs h = readable_behind wide long_data ps qs h.1
+
+-- what something is given beside is no message
+suits_asks : (wide : Bool) (g : PlainGiven) (request : LayerRequest) → suits g request ≡ true → command.may_ask wide request ≡ true
+suits_asks wide g (asked.Asks h (circuit.Sends marks user)) is = absurd (cc)
+suits_asks wide g (asked.Asks h request) is = refl
+suits_asks wide g request is = refl
 
 -- What is seen of a command that is accepted: the link is up, what is given is taken, and the layer accepts it.
 record IsGranted (up taken : Bool) (o : LayerOutcome) (told : List StationEntry) (step : Step) : Type 0 where
@@ -83,16 +89,19 @@ entries_did : (step next : Step) → Did next ≡ Did step → step.entries ≡ 
 entries_did step next is = ap (λ (o : Outcome). (step_in next o).entries) (sym is)
 
 did_granted : (c : Settings) (s : Station) (request : LayerRequest) (step : Step) → requests c s request ≡ Did step
-    → (let o = layer_outcome (layer_settings c) (waits s.link.outgoing == 256) s.layer request in IsGranted (is_up s.link.phase) true o (entries_of_outcome (layer_settings c) s.layer request o) step)
-did_granted c s request step is = by (is_up s.link.phase) (layer_outcome (layer_settings c) (waits s.link.outgoing == 256) s.layer request) is
+    → (let o = layer_outcome (layer_settings c) (waits s.link.outgoing == 256) s.layer request in IsGranted (is_up s.link.phase) (command.may_ask c.wide request) o (entries_of_outcome (layer_settings c) s.layer request o) step)
+did_granted c s request step is = by (is_up s.link.phase) (command.may_ask c.wide request) (layer_outcome (layer_settings c) (waits s.link.outgoing == 256) s.layer request) is
   where
     entries : LayerOutcome → List StationEntry
     entries o = entries_of_outcome (layer_settings c) s.layer request o
 
-    by : (up : Bool) (o : LayerOutcome) → did c (alone s.link) (entries o) (if up then went (view_of (link_settings c) s.link) (layer_settings c) o else Refuses layer_error.NotUp) ≡ Did step → IsGranted up true o (entries o) step
-    by true (Accepted next own) is = record { is_up = refl; is_taken = refl; next = next; own = own; accepted = refl; entries = entries_did step _ is }
-    by true (Declined e) is = refused_did (error.Layer e) step is
-    by false o is = refused_did (error.Layer layer_error.NotUp) step is
+    by : (up may : Bool) (o : LayerOutcome) → where_asked may (did c (alone s.link) (entries o) (if up then went (view_of (link_settings c) s.link) (layer_settings c) o else Refuses layer_error.NotUp)) ≡ Did step → IsGranted up may o (entries o) step
+    by true true (Accepted next own) is = record { is_up = refl; is_taken = refl; next = next; own = own; accepted = refl; entries = entries_did step _ is }
+    by true true (Declined e) is = refused_did (error.Layer e) step is
+    by false true o is = refused_did (error.Layer layer_error.NotUp) step is
+    by true false (Accepted next own) is = refused_did not_taken step is
+    by true false (Declined e) is = refused_did (error.Layer e) step is
+    by false false o is = refused_did (error.Layer layer_error.NotUp) step is
 
 gave_granted : (c : Settings) (s : Station) (g : PlainGiven) (request : LayerRequest) (step : Step) → gives c s g request ≡ Did step
     → (let o = layer_outcome (layer_settings c) (waits s.link.outgoing == 256) s.layer request in IsGranted (is_up s.link.phase) (is_taken c g request) o (entries_of_outcome (layer_settings c) s.layer request o) step)
@@ -153,19 +162,19 @@ module _ {since : Beginning} (laws : SessionLaws) (cfg : Cfg) (fine : IsConfigur
   ]
 
   -- what is put as the layer moves on in the session that stands is read again
-  pub puts_readable : (moves : List OwnMove) (packets : List PlainPacket) → (own_run (layer_of cfg end) moves own_now).given ≡ own_now.given ++ packets → BringOctets (moved end session moves)
-      → (m : ℕ) × PairIsInOrder cfg end (h.trace ++ moved end session moves) session m → AreReadable cfg.long_data packets
+  pub puts_readable : (moves : List OwnMove) (packets : List PlainPacket) → (own_run (layer_of cfg end) moves own_now).given ≡ own_now.given ++ packets → BringOctets cfg.wide (moved end session moves)
+      → (m : ℕ) × PairIsInOrder cfg end (h.trace ++ moved end session moves) session m → AreReadable cfg.wide cfg.long_data packets
   puts_readable moves packets given octets paired =
-      readable_behind cfg.long_data own_now.given packets
-      (subst (AreReadable cfg.long_data) (ap (λ (e : layer.End). e.given) (own_goes cfg end session h.trace moves) ∙ given)
-      (own_readable laws cfg fine end session paired.0 (h.trace ++ moved end session moves) paired.1 (octets_append h.trace (moved end session moves) h.octets octets)))
+      readable_behind cfg.wide cfg.long_data own_now.given packets
+      (subst (AreReadable cfg.wide cfg.long_data) (ap (λ (e : layer.End). e.given) (own_goes cfg end session h.trace moves) ∙ given)
+      (own_readable laws cfg fine end session paired.0 (h.trace ++ moved end session moves) paired.1 (octets_append cfg.wide h.trace (moved end session moves) h.octets octets)))
 
   -- the link's own step is at `v`, with the side `t`; behind it go the octets of the packets that the layer puts
   module _ (step : Step) (v : Sessions) (t : Side) (u : layer.TwoLayers) (moves : List OwnMove) (lifted coming : List PlainPacket) (came : List (List ℕ)) (took : all_read cfg came ≡ as_read lifted) (back : List (List ℕ))
       (g : SessionGoes (link_of cfg end) h.links v session t.near t.out [] came back v.met) (up : is_up w.near.link.phase ≡ true) (up_after : is_up t.near.phase ≡ true)
       (p : PutsRead cfg end t step) (m : MovesAs (apart.alone own_now coming) u p.packets step) (near : u.near ≡ own_run (layer_of cfg end) moves own_now)
       (taken : (own_run (layer_of cfg end) moves own_now).taken ≡ own_now.taken ++ lifted) (plain : ArePlain step.entries) (kept : IsKept step.near)
-      (octets : BringOctets (moved end session moves)) (paired : (m : ℕ) × PairIsInOrder cfg end (h.trace ++ moved end session moves) session m)
+      (octets : BringOctets cfg.wide (moved end session moves)) (paired : (m : ℕ) × PairIsInOrder cfg end (h.trace ++ moved end session moves) session m)
       (tells : AreTold (came_in step.entries) (brought cfg came)) (gave : ℕ → List Gave) (gives : AreSomeOf IsGiven (brought cfg p.handed) (gave session)) where
     abbrev own_then : layer.End
     own_then = own_run (layer_of cfg end) moves own_now
@@ -213,11 +222,12 @@ module _ {since : Beginning} (laws : SessionLaws) (cfg : Cfg) (fine : IsConfigur
     handed : List (List ℕ)
     link : PutsOctets (settings_from end cfg) (alone w.near.link) handed step
     layer : MovesAs (apart.alone own_now []) (moves_all (layer_of cfg end) (apart.alone own_now []) (Requested (waits w.near.link.outgoing == 256) request ∷ pulls_of channels)) packets step
-    back : AreReadable cfg.long_data packets → AreReadBack cfg handed packets
+    back : AreReadable cfg.wide cfg.long_data packets → AreReadBack cfg handed packets
     up : is_up w.near.link.phase ≡ true
+    may : command.may_ask cfg.wide request ≡ true
     plain : ArePlain step.entries
     alone : came_in step.entries ≡ []
-    gives : AreReadable cfg.long_data packets → AreSomeOf IsGiven (brought cfg handed) gave
+    gives : AreReadable cfg.wide cfg.long_data packets → AreSomeOf IsGiven (brought cfg handed) gave
     kept : IsKept step.near
 
   module _ (request : LayerRequest) (octets : RequestsOctets request) (gave : ℕ → List Gave) (step : Step) (a : IsAsked request (gave session) step) where
@@ -239,8 +249,8 @@ module _ {since : Beginning} (laws : SessionLaws) (cfg : Cfg) (fine : IsConfigur
     pair_on : (m : ℕ) × PairIsInOrder cfg end (h.trace ++ moved end session moves) session m
     pair_on = (let pair = session_pair session in (pair.0, pair_goes_quietly laws cfg end h.trace session moves (tt, pulls_take_nothing a.channels) session pair.0 pair.1))
 
-    asked_readable : AreReadable cfg.long_data a.packets
-    asked_readable = puts_readable moves a.packets (ap (λ (e : layer.End). e.given) (sym near_on) ∙ a.layer.given) (octets, pulls_bring_octets end session a.channels) pair_on
+    asked_readable : AreReadable cfg.wide cfg.long_data a.packets
+    asked_readable = puts_readable moves a.packets (ap (λ (e : layer.End). e.given) (sym near_on) ∙ a.layer.given) ((octets, a.may), pulls_bring_octets cfg.wide end session a.channels) pair_on
 
     asked_puts : PutsRead cfg end (alone w.near.link) step
     asked_puts = record { handed = a.handed; packets = a.packets; link = a.link; readable = a.back asked_readable }
@@ -253,7 +263,7 @@ module _ {since : Beginning} (laws : SessionLaws) (cfg : Cfg) (fine : IsConfigur
         let untold : layer_notices step.entries ≡ [] =
         append_cancel_left own_now.told (layer_notices step.entries) [] (sym a.layer.told ∙ ap (λ (e : layer.End). e.told) near_on ∙ leaves.told ∙ sym (append-nil own_now.told)) in
         joins step h.links (alone w.near.link) world_on moves [] [] [] refl w.back (stays_goes (link_of cfg end) h.links w.near.link w.back h.near.link h.back) a.up a.up asked_puts a.layer near_on (leaves.taken ∙ sym (append-nil own_now.taken))
-        a.plain a.kept (octets, pulls_bring_octets end session a.channels) pair_on (subst (λ (l : List Came). AreTold l []) (sym a.alone) tt) gave (a.gives asked_readable)
+        a.plain a.kept ((octets, a.may), pulls_bring_octets cfg.wide end session a.channels) pair_on (subst (λ (l : List Came). AreTold l []) (sym a.alone) tt) gave (a.gives asked_readable)
         may h.reach (λ none. nothing) (pairs_go_quietly laws cfg end h.trace session moves nothing h.links.met h.pairs) (λ n m has. has) (λ none. inl (refl, untold))
 
   -- ---- without anything given
@@ -272,6 +282,7 @@ module _ {since : Beginning} (laws : SessionLaws) (cfg : Cfg) (fine : IsConfigur
         layer = j.2.layer;
         back = spelled_back cfg j.2.packets;
         up = granted.is_up;
+        may = granted.is_taken;
         plain = subst ArePlain (sym granted.entries) (outcome_plain (layer_settings c) w.near.layer request _);
         alone = ap came_in granted.entries ∙ outcome_beside (layer_settings c) w.near.layer request _;
         gives = λ readable. subst (λ (l : List Came). AreSomeOf IsGiven l []) (sym (spelled_bring laws.stations cfg j.2.packets readable)) tt;
@@ -314,6 +325,7 @@ module _ {since : Beginning} (laws : SessionLaws) (cfg : Cfg) (fine : IsConfigur
         layer = j.2.layer;
         back = spelled_with_back laws.stations.given_read cfg g j.2.packets taken.0 may.0 of_given;
         up = granted.is_up;
+        may = suits_asks cfg.wide g request may.1;
         plain = subst ArePlain (sym granted.entries) (outcome_plain (layer_settings c) w.near.layer request _);
         alone = ap came_in granted.entries ∙ outcome_beside (layer_settings c) w.near.layer request _;
         gives = λ readable.
