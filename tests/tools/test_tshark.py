@@ -225,8 +225,8 @@ class Tshark(ToolCase):
 
     @support.needs_program
     def test_what_users_give(self):
-        """With a call, its acceptance and its clearing."""
-        for name, least in (("sim/wide_given_with_calls", 16), ("station/wide_dte_gives_facilities", 10)):
+        """With a call, its acceptance and its clearing, and with messages."""
+        for name, least in (("sim/wide_given_with_calls", 16), ("station/wide_dte_gives_facilities", 10), ("sim/wide_confirmed_by_its_last_packet", 22)):
             case, = golden.cases([name])
             trace = b"".join(line for line in (case.input + case.output).splitlines(True) if line[:1] in (b"<", b">"))
             self.check(trace, support.decode(trace, "--wide"), least)

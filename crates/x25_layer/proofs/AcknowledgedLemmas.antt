@@ -1,5 +1,5 @@
 -- What is acknowledged to an end the other one has handed up, from what is known of the nested handshakes.
-use Rattle.std.proofs.Common.{◌≡◌, ℕ, Bool, List, ◌++◌, take, Some, true, sym, ap, subst, ◌∙◌}
+use Rattle.std.proofs.Common.{◌≡◌, ℕ, Bool, take, Some, true, sym, ap, subst, ◌∙◌}
 use Rattle.x25_circuit.specs.declared.message.Message.{Message}
 use Rattle.x25_circuit.specs.Circuit.{Talk, is_open}
 use Rattle.x25_circuit.specs.Message.{carried}
@@ -10,6 +10,7 @@ use Rattle.x25_handshakes.specs.laws.Names.{Name}
 use Rattle.x25_handshakes.specs.laws.Histories.{Lists, messages, name_at, held_at, IsPrefix, Histories, histories_run, histories_start}
 use Rattle.x25_handshakes.specs.laws.Arrivals.{open_at}
 use Rattle.x25_handshakes.specs.laws.Acknowledged as nested
+use Rattle.x25_layer.specs.declared.ranges.Ranges.{Ranges}
 use Rattle.x25_layer.specs.laws.Transcript.{under, messages_in, name_of}
 use Rattle.x25_layer.specs.laws.TwoLayers.{End, TwoLayers, run, start}
 use Rattle.x25_layer.specs.laws.Law.{Always}

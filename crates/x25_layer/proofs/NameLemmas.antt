@@ -197,7 +197,7 @@ module _ (c : Settings) (x : Circuit) where
   clear_keeps Resetting cause diagnostic = clear_with_keeps cause diagnostic
 
   -- a message more waits; and an interrupt is out
-  abbrev sends : Talk → Bool → List ℕ → Outcome
+  abbrev sends : Talk → Marks → List ℕ → Outcome
   sends t q user =
       keeps_on x (record { sent = t.sent; taken = t.taken; acked = t.acked; rest = t.rest ++ cut (outgoing x).size q user; int_out = t.int_out; peer_ready = t.peer_ready; own_ready = t.own_ready }) None
 

@@ -2,10 +2,9 @@
 
 use crate::calls::{ask, call, fill, layer, layer_with, link_down, plain_link, restart};
 use std::alloc::Global;
-use x25_circuit::Request;
+use x25_circuit::{Marks, Request};
 use x25_layer::{Layer, LayerError, Ranges, Role};
 use x25_link::OrderedLink;
-use x25_packet::Marks;
 
 /// What is asked of a channel, by its index up to 7.
 pub fn request(index: usize) -> Request<'static> {

@@ -3,10 +3,9 @@
 use crate::calls::{ask, call, fill, hear, layer, layer_with, plain_link, pull, restart, up};
 use crate::refusals::request;
 use std::alloc::Global;
-use x25_circuit::{Notice, Request};
+use x25_circuit::{Marks, Notice, Request};
 use x25_layer::{Layer, LayerError, Params, Ranges, Report, Role, Stretch};
 use x25_link::{OrderedLink, PlainLink};
-use x25_packet::Marks;
 
 /// What happens to a layer, or to its link.
 #[derive(Clone, Copy)]

@@ -1,13 +1,14 @@
 -- What is confirmed from one layer to another, by what these tell.
-use Rattle.std.proofs.Common.{◌≡◌, ℕ, zero, suc, ◌-◌, ◌<◌, List, [], ◌∷◌, Option, Some, None, Bool, true, false, ◌&&◌, ◌==◌, not, if◌then◌else◌, refl, ap, sym, ◌∙◌, eq-eqb, arith}
+use Rattle.std.proofs.Common.{◌≡◌, ℕ, zero, suc, ◌-◌, ◌<◌, List, [], ◌∷◌, ◌++◌, Option, Some, None, Bool, true, false, ◌&&◌, ◌==◌, not, if◌then◌else◌, refl, ap, sym, ◌∙◌, eq-eqb, arith}
 use Rattle.std.proofs.lemmas.Bool.{eqb-true}
+use Rattle.std.proofs.lemmas.List.{append_assoc}
 use Rattle.std.proofs.lemmas.Option.{none-some, same_Some}
 use Rattle.x25_circuit.specs.Circuit.{is_open, unconfirmed}
-use Rattle.x25_handshakes.specs.laws.Names.{Name, same_name}
-use Rattle.x25_handshakes.proofs.NameLemmas.{name_eq, same_name-refl, same_name-is}
-use Rattle.x25_layer.specs.Layer.{LayerSettings, Layer, is_channel}
+use Rattle.x25_handshakes.specs.laws.Names.{Name, both, same_name}
+use Rattle.x25_layer.specs.Layer.{LayerSettings, Layer, LayerAnswer, is_channel}
 use Rattle.x25_layer.specs.Layer.Confirmed.{unconfirmed_at}
-use Rattle.x25_layer.specs.Rounds.{LinkView, Putting, rounds}
+use Rattle.x25_layer.specs.Room.{named_by}
+use Rattle.x25_layer.specs.Rounds.{LinkView, Putting, begin, rounds}
 use Rattle.x25_layer.specs.code.FitsLayer.{is_open_at, name_at}
 use Rattle.x25_layer.specs.laws.Transcript.{name_of}
 use Rattle.x25_station.specs.declared.confirming.Unconfirmed.{Unconfirmed}
@@ -15,10 +16,33 @@ use Rattle.x25_station.specs.Confirming.{confirmed, goes_on}
 use Rattle.x25_station.specs.code.Confirming.{StandsFor}
 use Rattle.x25_station.specs.code.PlainEntry.{plain_name}
 use Rattle.x25_station.proofs.NameLemmas.{rounds_name, rounds_open, rounds_unconfirmed}
-use Rattle.x25_station.specs.Entry.{StationEntry, entries_behind, was_confirmed}
+use Rattle.x25_station.specs.Entry.{StationEntry, bringing, entries_beside, entries_behind, was_confirmed}
+use Rattle.x25_station.specs.Beside.{beside_in}
+use Rattle.x25_station.specs.Step.{layer_answer, entries_of_answer, entries_of_packet}
 
 true_false : true ≡ false → ⊥
 true_false is = cc
+
+-- ---- names
+
+name_eq : (m n : Name) → m.restarts ≡ n.restarts → m.clears ≡ n.clears → m.resets ≡ n.resets → m ≡ n
+name_eq m n e₁ e₂ e₃ =
+    ap (λ (k : ℕ). record { restarts = k; clears = m.clears; resets = m.resets }) e₁
+    ∙ ap (λ (k : ℕ). record { restarts = n.restarts; clears = k; resets = m.resets }) e₂
+    ∙ ap (λ (k : ℕ). record { restarts = n.restarts; clears = n.clears; resets = k }) e₃
+
+same_name-refl : (n : Name) → same_name n n ≡ true
+same_name-refl n = rw (eq-eqb n.restarts n.restarts refl) (rw (eq-eqb n.clears n.clears refl) (eq-eqb n.resets n.resets refl))
+
+both_are : (a b : Bool) → both a b ≡ true → (a ≡ true) × (b ≡ true)
+both_are true b is = (refl, is)
+both_are false b is = absurd (true_false (sym is))
+
+pub same_name-is : (m n : Name) → same_name m n ≡ true → m ≡ n
+same_name-is m n is =
+    let a = both_are (m.restarts == n.restarts) (both (m.clears == n.clears) (m.resets == n.resets)) is in
+    let b = both_are (m.clears == n.clears) (m.resets == n.resets) a.1 in
+    name_eq m n (eqb-true m.restarts n.restarts a.0) (eqb-true m.clears n.clears b.0) (eqb-true m.resets n.resets b.1)
 
 -- ---- nothing is confirmed
 
@@ -101,9 +125,9 @@ told_behind next h channel told (suc n) name beside some is at under =
 
 -- ---- names, as the code compares them
 
-and_both : (a b : Bool) → (a && b) ≡ true → (a ≡ true) × (b ≡ true)
+pub and_both : (a b : Bool) → (a && b) ≡ true → (a ≡ true) × (b ≡ true)
 and_both true b is = (refl, is)
-and_both false b is = absurd (cc)
+and_both false b is = absurd (true_false (sym is))
 
 not_false : (b : Bool) → false ≡ not b → b ≡ true
 not_false true is = refl
@@ -168,3 +192,15 @@ pulled_behind link c l s h beside =
 
 pub nothing_behind : (next : Layer) (h count : ℕ) (beside : List StationEntry) → count ≡ 0 → entries_behind next h count beside ≡ beside
 nothing_behind next h count beside none = ap (λ (n : ℕ). entries_behind next h n beside) none
+
+-- what is entered of a packet, and then what it confirms or brings beside
+pub heard_all : (link : LinkView) (c : LayerSettings) (l : Layer) (octets : List ℕ) (before mid after others : List StationEntry) → mid ≡ before ++ entries_of_answer (layer_answer c true l octets) → after ≡ mid ++ others
+    → (let a : LayerAnswer = layer_answer c true l octets in
+    let next : Layer = (rounds link c (begin a.next a.owed)).layer in
+    let h : ℕ = named_by octets in
+    entries_behind next h (confirmed c l next h) (entries_beside (beside_in true octets) (bringing a.notices)) ≡ others)
+    → after ≡ before ++ entries_of_packet c true l octets
+heard_all link c l octets before mid after others told is behind =
+    let a : LayerAnswer = layer_answer c true l octets in
+    is ∙ ap (λ (es : List StationEntry). es ++ others) told ∙ append_assoc before (entries_of_answer a) others
+    ∙ ap (λ (es : List StationEntry). before ++ (entries_of_answer a ++ es)) (sym behind ∙ pulled_behind link c l (begin a.next a.owed) (named_by octets) (entries_beside (beside_in true octets) (bringing a.notices)))

@@ -48,5 +48,6 @@ heard_entries c wide l o octets notes before after off stays handed is =
     quiet = ap (λ (d : Option Reason). record { down = d; up = notes.up }) stays ∙ ap (λ (u : Bool). record { down = None; up = u }) off
 
 -- a station that reads the one form alone is told what the layer tells
-pub strict_entries : (c : LayerSettings) (l : Layer) (octets : List ℕ) → entries_of_packet c false l octets ≡ entries_of_answer (layer_answer c false l octets)
-strict_entries c l octets = append-nil (entries_of_answer (layer_answer c false l octets))
+pub strict_entries : (c : LayerSettings) (wide : Bool) (l : Layer) (octets : List ℕ) → wide ≡ false → entries_of_packet c wide l octets ≡ entries_of_answer (layer_answer c wide l octets)
+strict_entries c true l octets strict = absurd (true_false strict)
+strict_entries c false l octets strict = append-nil (entries_of_answer (layer_answer c false l octets))

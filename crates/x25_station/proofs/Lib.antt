@@ -26,6 +26,7 @@ pub mod GivingLemmas
 pub mod TakeLemmas
 pub mod TookLemmas
 pub mod ConfirmLemmas
+pub mod PassLemmas
 pub mod FollowLemmas
 pub mod HoldLemmas
 pub mod OctetLemmas

@@ -10,3 +10,4 @@ pub mod EndLaw
 pub mod UnheardLaw
 pub mod SettledLaw
 pub mod GivenLaw
+pub mod ConfirmLaw

@@ -16,6 +16,7 @@ ghost use Rattle.x25_station.specs.laws.UnheardLaw.{UnheardAsksOn};
 ghost use Rattle.x25_station.specs.laws.WayOutLaw.{ClearLeadsOn, FiringLeadsOn, NothingLeadsBack, RelinkLeadsOn};
 ghost use Rattle.x25_station.specs.laws.WayOutLaw.{RestartLeadsOn};
 ghost use Rattle.x25_station.specs.laws.EndLaw.{EndIsTold};
+ghost use Rattle.x25_station.specs.laws.ConfirmLaw.{ConfirmedIsAcknowledged, ToldIsConfirmed};
 
 use x25_circuit::values_are_agreed;
 use x25_given::what_is_written_is_read;
@@ -72,6 +73,14 @@ pub fn what_is_given_is_told()
     taking_keeps_octets();
     what_is_written_is_read();
 }
+
+/// What a packet confirms on a channel is what its P(R) acknowledges: so many of the messages whose last packets it
+/// passes asked for confirmation, in the stretch that is open before the packet and behind it. Where a stretch ends
+/// nothing is confirmed. An entry names that stretch, and tells of one message at least.
+pub fn confirmed_is_acknowledged()
+    ensures acknowledged { ConfirmedIsAcknowledged }
+    ensures told { ToldIsConfirmed }
+{}
 
 /// What each step of a station keeps, whatever comes: at most 256 packets wait in the link, and the packet layer is as
 /// LinkDown leaves it where the link isn't up.

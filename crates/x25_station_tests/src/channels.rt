@@ -14,6 +14,7 @@ const CALLED: &[u8] = &[0x1F, 0xFF, 0x0B, 0x11, 0x12, 0x00];
 const SEND: Cmd<'static> = Cmd::Send {
     channel: 4095,
     q: false,
+    d: false,
     user: &[0x68, 0x69],
 };
 

@@ -7,6 +7,8 @@ mod calls;
 #[cfg(test)]
 mod channels;
 #[cfg(test)]
+mod confirmed;
+#[cfg(test)]
 mod errors;
 #[cfg(test)]
 mod given;

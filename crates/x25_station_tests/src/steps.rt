@@ -109,6 +109,7 @@ const ACCEPT: Cmd<'static> = Cmd::Accept {
 const SEND: Cmd<'static> = Cmd::Send {
     channel: 1,
     q: false,
+    d: false,
     user: &[0x68, 0x69],
 };
 

@@ -1,6 +1,6 @@
 -- A layer over a link that keeps order, and any peer that keeps the rules of `PeerLayer` and those below it
 -- (docs/PEER.md), from the link's set-up on, as long as it is up.
-use Rattle.std.specs.Prelude.{◌≡◌, ℕ, List, [], ◌∷◌, ◌++◌, Bool, true}
+use Rattle.std.specs.Prelude.{◌≡◌, List, [], ◌∷◌, ◌++◌, Bool, true}
 use Rattle.x25_bits.specs.declared.role.Role.{Role}
 use Rattle.x25_packet.specs.Packet.{PlainPacket}
 use Rattle.x25_packet.specs.Spelling.{channel_of, HasChannel}

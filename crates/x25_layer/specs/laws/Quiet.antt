@@ -1,5 +1,5 @@
 -- No error of procedure: packets and notices that tell of none.
-use Rattle.std.specs.Prelude.{◌≡◌, ℕ, List, [], ◌∷◌, true, false}
+use Rattle.std.specs.Prelude.{◌≡◌, List, [], ◌∷◌, true, false}
 use Rattle.x25_packet.specs.Packet.{PlainPacket, call, accept, clear, reset, restart}
 use Rattle.x25_packet.specs.Spelling.{channel_of, HasChannel}
 use Rattle.x25_packet.specs.Facilities.{IsFacilityField}

@@ -1,4 +1,4 @@
-use Rattle.std.proofs.Common.{◌≡◌, ◌-◌, ◌<◌, ◌∙◌, ℕ, length, sym, ap, true, false, arith}
+use Rattle.std.proofs.Common.{◌≡◌, ◌-◌, ◌∙◌, ℕ, sym, ap, true, false, arith}
 use Rattle.x25_layer.specs.Calls.{highest_free}
 use Rattle.x25_layer.proofs.FreeLemmas.{freed, highest_at}
 use Rattle.x25_layer.proofs.free_channel.highest_free.Goals as goal

@@ -1,4 +1,5 @@
-use Rattle.std.proofs.Common.{ℕ, Bool}
+use Rattle.std.proofs.Common.{Bool}
+use Rattle.x25_layer.specs.declared.ranges.Ranges.{Ranges}
 use Rattle.x25_layer.specs.laws.Law.{Always}
 use Rattle.x25_layer.specs.laws.Acknowledged.{AcknowledgedAreHandedUp}
 use Rattle.x25_layer.proofs.RunLemmas.{Premises}

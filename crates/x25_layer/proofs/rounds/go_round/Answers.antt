@@ -1,4 +1,4 @@
-use Rattle.std.proofs.Common.{rules, ◌≡◌, ℕ, min, suc, ◌+◌, ◌-◌, ◌<◌, ◌≤◌, ◌∙◌, ◌⊎◌, inl, inr, length, Bool, true, false, Some, set, slice_get, nat_lt, option_to_list, length-set, sym, ap, subst, arith}
+use Rattle.std.proofs.Common.{rules, ◌≡◌, ℕ, min, suc, ◌+◌, ◌-◌, ◌<◌, ◌≤◌, ◌∙◌, ◌⊎◌, inl, inr, length, true, set, nat_lt, option_to_list, length-set, sym, ap, subst, arith}
 use Rattle.x25_circuit.specs.declared.circuit.Circuit as circuit_code
 use Rattle.x25_circuit.specs.code.FitsCircuit.{room_of}
 use Rattle.x25_layer.specs.Layer.{LayerSettings, packet_on}

@@ -1,15 +1,13 @@
-use Rattle.std.proofs.Common.{option_copied, ◌++◌, map, ap, sym, subst, ◌∙◌}
-use Rattle.std.proofs.lemmas.List.{append-nil}
+use Rattle.std.proofs.Common.{Bool, true, option_copied, ◌++◌, map, ap, sym, subst, ◌∙◌}
 use Rattle.x25_link.specs.code.FitsLink.{FitsWhole}
 use Rattle.x25_layer.specs.code.FitsLayer.{FitsLayer}
-use Rattle.x25_layer.specs.Rounds.{Putting}
-use Rattle.x25_station.specs.Beside.{beside_in}
+use Rattle.x25_layer.specs.Rounds.{Putting, hears}
 use Rattle.x25_station.specs.Config.{link_settings, layer_settings}
 use Rattle.x25_station.specs.Receiving.{kept_of}
 use Rattle.x25_station.specs.Station.{all_put, view_of}
-use Rattle.x25_station.specs.Step.{entries_of_answer, layer_answer, layer_down}
+use Rattle.x25_station.specs.Step.{entries_of_answer, entries_of_packet, layer_answer, layer_down}
 use Rattle.x25_station.specs.code.PlainEntry.{plain_entry}
-use Rattle.x25_station.proofs.FollowLemmas.{is_none, at_up, at_down, at_heard, at_quiet, heard_entries}
+use Rattle.x25_station.proofs.FollowLemmas.{is_none, at_up, at_down, at_heard, at_quiet, heard_entries, strict_entries}
 use Rattle.x25_station.proofs.receiving.follow.Goals as goal
 
 pub returns-then-notes-clause-puts : goal.returns-then-notes-clause-puts
@@ -42,13 +40,19 @@ pub returns-then-wide-clause-puts : goal.returns-then-wide-clause-puts
 returns-then-wide-clause-puts c = record {
   layer = λ c' l t fits link.
       let lc = layer_settings c' in
-      at_heard (λ (s : Putting). FitsLayer lc c.hear-channel.new.layer s.layer) (view_of (link_settings c') t.near) lc c.args.wide l (option_copied c.args.packet) c.in-Some.packet.now c.args.notes.down c.args.notes.up c.if-notes.false
-      (sym c.is_some.ensures ∙ c.if-is_some.false) (ap option_copied c.in-Some.is) (c.hear-channel.ensures.puts.layer c' l t (subst (λ y. FitsLayer lc y l) (sym (c.note_down.ensures.same (is_none _ (sym c.is_some.ensures ∙ c.if-is_some.false)))) fits) link);
+      let none = is_none _ (sym c.is_some.ensures ∙ c.if-is_some.false) in
+      let stays = subst (λ y. FitsLayer lc y l) (sym (c.note_down.ensures.same none)) fits in
+      at_heard (λ (s : Putting). FitsLayer lc c.hear_all.new.layer s.layer) (view_of (link_settings c') t.near) lc c.args.wide l (option_copied c.args.packet) c.in-Some.packet.now c.args.notes.down c.args.notes.up c.if-notes.false
+      (sym c.is_some.ensures ∙ c.if-is_some.false) (ap option_copied c.in-Some.is)
+      (subst (λ (b : Bool). FitsLayer lc c.hear_all.new.layer (hears (view_of (link_settings c') t.near) lc b l c.in-Some.packet.now).step.layer) (sym c.if-wide.true) (c.hear_all.ensures.puts.layer c' l t stays link));
   link = λ c' l t fits link.
       let lc = layer_settings c' in
       let lk = link_settings c' in
-      at_heard (λ (s : Putting). FitsWhole c.hear-channel.new.link (kept_of lk (all_put lk s.put t))) (view_of lk t.near) lc c.args.wide l (option_copied c.args.packet) c.in-Some.packet.now c.args.notes.down c.args.notes.up c.if-notes.false
-      (sym c.is_some.ensures ∙ c.if-is_some.false) (ap option_copied c.in-Some.is) (c.hear-channel.ensures.puts.link c' l t (subst (λ y. FitsLayer lc y l) (sym (c.note_down.ensures.same (is_none _ (sym c.is_some.ensures ∙ c.if-is_some.false)))) fits) link);
+      let none = is_none _ (sym c.is_some.ensures ∙ c.if-is_some.false) in
+      let stays = subst (λ y. FitsLayer lc y l) (sym (c.note_down.ensures.same none)) fits in
+      at_heard (λ (s : Putting). FitsWhole c.hear_all.new.link (kept_of lk (all_put lk s.put t))) (view_of lk t.near) lc c.args.wide l (option_copied c.args.packet) c.in-Some.packet.now c.args.notes.down c.args.notes.up c.if-notes.false
+      (sym c.is_some.ensures ∙ c.if-is_some.false) (ap option_copied c.in-Some.is)
+      (subst (λ (b : Bool). FitsWhole c.hear_all.new.link (kept_of lk (all_put lk (hears (view_of lk t.near) lc b l c.in-Some.packet.now).step.put t))) (sym c.if-wide.true) (c.hear_all.ensures.puts.link c' l t stays link));
 }
 
 pub returns-then-wide-clause-entries : goal.returns-then-wide-clause-entries
@@ -56,35 +60,33 @@ returns-then-wide-clause-entries c = λ c' l t fits link.
     let lc = layer_settings c' in
     let none = is_none _ (sym c.is_some.ensures ∙ c.if-is_some.false) in
     let stays = subst (λ y. FitsLayer lc y l) (sym (c.note_down.ensures.same none)) fits in
-    let told = entries_of_answer (layer_answer lc c.args.wide l c.in-Some.packet.now) in
-    heard_entries lc c.args.wide l (option_copied c.args.packet) c.in-Some.packet.now c.args.notes (map plain_entry c.args.entries.now.items) _ _ _ _
-    c.if-notes.false none (ap option_copied c.in-Some.is)
-    (c.hear-channel.ensures.entries c' l t stays link ∙ ap (λ es. map plain_entry es.items ++ told) (c.note_down.ensures.nothing none))
-    (c.hear-channel.ensures.bringing c' l t stays link) (c.beside_of.ensures.exact ∙ ap (λ b. beside_in b c.in-Some.packet.now) (sym c.if-wide.true)) c.enter_beside.ensures.entered
+    let octets = c.in-Some.packet.now in
+    heard_entries lc c.args.wide l (option_copied c.args.packet) octets c.args.notes (map plain_entry c.args.entries.now.items) _ c.if-notes.false none (ap option_copied c.in-Some.is)
+    (c.hear_all.ensures.entries c' l t stays link ∙ ap (λ es. map plain_entry es.items ++ entries_of_packet lc true l octets) (c.note_down.ensures.nothing none)
+    ∙ ap (λ (b : Bool). map plain_entry c.args.entries.now.items ++ entries_of_packet lc b l octets) (sym c.if-wide.true))
 
-pub returns-else-wide-clause-puts : goal.returns-else-wide-clause-puts
-returns-else-wide-clause-puts c = record {
+pub returns-clause-puts : goal.returns-clause-puts
+returns-clause-puts c = record {
   layer = λ c' l t fits link.
       let lc = layer_settings c' in
-      at_heard (λ (s : Putting). FitsLayer lc c.hear-channel.new.layer s.layer) (view_of (link_settings c') t.near) lc c.args.wide l (option_copied c.args.packet) c.in-Some.packet.now c.args.notes.down c.args.notes.up c.if-notes.false
-      (sym c.is_some.ensures ∙ c.if-is_some.false) (ap option_copied c.in-Some.is) (c.hear-channel.ensures.puts.layer c' l t (subst (λ y. FitsLayer lc y l) (sym (c.note_down.ensures.same (is_none _ (sym c.is_some.ensures ∙ c.if-is_some.false)))) fits) link);
+      at_heard (λ (s : Putting). FitsLayer lc c.hear.new.layer s.layer) (view_of (link_settings c') t.near) lc c.args.wide l (option_copied c.args.packet) c.in-Some.packet.now c.args.notes.down c.args.notes.up c.if-notes.false
+      (sym c.is_some.ensures ∙ c.if-is_some.false) (ap option_copied c.in-Some.is) (c.hear.ensures.puts.layer c' l t (subst (λ y. FitsLayer lc y l) (sym (c.note_down.ensures.same (is_none _ (sym c.is_some.ensures ∙ c.if-is_some.false)))) fits) link);
   link = λ c' l t fits link.
       let lc = layer_settings c' in
       let lk = link_settings c' in
-      at_heard (λ (s : Putting). FitsWhole c.hear-channel.new.link (kept_of lk (all_put lk s.put t))) (view_of lk t.near) lc c.args.wide l (option_copied c.args.packet) c.in-Some.packet.now c.args.notes.down c.args.notes.up c.if-notes.false
-      (sym c.is_some.ensures ∙ c.if-is_some.false) (ap option_copied c.in-Some.is) (c.hear-channel.ensures.puts.link c' l t (subst (λ y. FitsLayer lc y l) (sym (c.note_down.ensures.same (is_none _ (sym c.is_some.ensures ∙ c.if-is_some.false)))) fits) link);
+      at_heard (λ (s : Putting). FitsWhole c.hear.new.link (kept_of lk (all_put lk s.put t))) (view_of lk t.near) lc c.args.wide l (option_copied c.args.packet) c.in-Some.packet.now c.args.notes.down c.args.notes.up c.if-notes.false
+      (sym c.is_some.ensures ∙ c.if-is_some.false) (ap option_copied c.in-Some.is) (c.hear.ensures.puts.link c' l t (subst (λ y. FitsLayer lc y l) (sym (c.note_down.ensures.same (is_none _ (sym c.is_some.ensures ∙ c.if-is_some.false)))) fits) link);
 }
 
-pub returns-else-wide-clause-entries : goal.returns-else-wide-clause-entries
-returns-else-wide-clause-entries c = λ c' l t fits link.
+pub returns-clause-entries : goal.returns-clause-entries
+returns-clause-entries c = λ c' l t fits link.
     let lc = layer_settings c' in
     let none = is_none _ (sym c.is_some.ensures ∙ c.if-is_some.false) in
     let stays = subst (λ y. FitsLayer lc y l) (sym (c.note_down.ensures.same none)) fits in
-    let told = entries_of_answer (layer_answer lc c.args.wide l c.in-Some.packet.now) in
-    heard_entries lc c.args.wide l (option_copied c.args.packet) c.in-Some.packet.now c.args.notes (map plain_entry c.args.entries.now.items) _ _ _ _
-    c.if-notes.false none (ap option_copied c.in-Some.is)
-    (c.hear-channel.ensures.entries c' l t stays link ∙ ap (λ es. map plain_entry es.items ++ told) (c.note_down.ensures.nothing none))
-    (c.hear-channel.ensures.bringing c' l t stays link) (ap (λ b. beside_in b c.in-Some.packet.now) (sym c.if-wide.false)) (sym (append-nil _))
+    let octets = c.in-Some.packet.now in
+    heard_entries lc c.args.wide l (option_copied c.args.packet) octets c.args.notes (map plain_entry c.args.entries.now.items) _ c.if-notes.false none (ap option_copied c.in-Some.is)
+    (c.hear.ensures.entries c' l t stays link ∙ ap (λ es. map plain_entry es.items ++ entries_of_answer (layer_answer lc c.args.wide l octets)) (c.note_down.ensures.nothing none)
+    ∙ ap (λ es. map plain_entry c.args.entries.now.items ++ es) (sym (strict_entries lc c.args.wide l octets c.if-wide.false)))
 
 pub returns-in_default-clause-puts : goal.returns-in_default-clause-puts
 returns-in_default-clause-puts c = record {

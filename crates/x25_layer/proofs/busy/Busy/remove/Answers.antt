@@ -1,5 +1,5 @@
-use Rattle.std.proofs.Common.{Ok, vec_capacity, List, ℕ, sym, subst, ◌∙◌, arith}
-use Rattle.x25_layer.specs.code.Idle.{AreRising, IsOutside}
+use Rattle.std.proofs.Common.{Ok, List, ℕ, subst, ◌∙◌}
+use Rattle.x25_layer.specs.code.Idle.{IsOutside}
 use Rattle.x25_layer.proofs.BusyLemmas.{found, rising_without, outside_without}
 use Rattle.x25_layer.proofs.busy.Busy.remove.Goals as goal
 

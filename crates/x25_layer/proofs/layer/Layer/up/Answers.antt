@@ -1,4 +1,4 @@
-use Rattle.std.proofs.Common.{◌≡◌, ◌∙◌, ℕ, refl, sym, subst, arith, List}
+use Rattle.std.proofs.Common.{◌≡◌, ◌∙◌, ℕ, refl, sym, subst, List}
 use Rattle.x25_packet.specs.Packet.{restart}
 use Rattle.x25_packet.specs.Spelling.{spelling_of}
 use Rattle.x25_layer.specs.Layer.{restart_cause}

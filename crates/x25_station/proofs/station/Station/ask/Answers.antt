@@ -48,7 +48,7 @@ invariant_of-self-in-Ok c = record {
       let request = Asks c.args.channel (plain_request c.args.request) in
       let a = answers c.in-Ok.field-0 c' _ c.ask.new.link c.swap_frames.new.self _ c.ask.new.self (record { frames = c.swap_frames.new.frames; entries = c.enter.new.entries; timer = c.reserve.new.self.timer }) s request fits
       c.in-Ok.ensures.layer c.in-Ok.ensures.link (ap (λ l. l.station) c.swap_frames.ensures.link) (ap (λ l. l.frames) c.swap_frames.ensures.link ∙ c.reserve.ensures.empty.frames) c.swap_frames.ensures.frames
-      (may c.args.self.now.manner c' _ (plain_request c.args.request) _ fits.same (c.may_ask.ensures c.args.channel) c.if-not-may_ask.false) (c.steps_keep_bounds.ensures.request c' s request fits.kept) in
+      (may c.args.self.now.manner c' c.args.channel (plain_request c.args.request) c.may_ask.result fits.same (c.may_ask.ensures c.args.channel) c.if-not-may_ask.false) (c.steps_keep_bounds.ensures.request c' s request fits.kept) in
       leaves_some c' _ _ (requests c' s request) a.state a.refused);
   aside =
       let before = c.args.self.now.aside in
@@ -74,7 +74,7 @@ returns-in-Ok-clause-does c =
     let r : code_step.Step = record { frames = c.swap_frames.new.frames; entries = c.enter.new.entries; timer = c.reserve.new.self.timer } in
     did_request c.in-Ok.field-0 c.args.self.now _ c.ask.new.link r request c.in-Ok.ensures.layer c.in-Ok.ensures.link (ap (λ l. l.station) c.swap_frames.ensures.link) (ap (λ l. l.frames) c.swap_frames.ensures.link ∙ c.reserve.ensures.empty.frames) c.swap_frames.ensures.frames
     c.steps_keep_bounds.ensures.request c.holds_few.ensures.window c.holds_few.ensures.stand
-    (λ c' s fits. may c.args.self.now.manner c' _ (plain_request c.args.request) _ fits.same (c.may_ask.ensures c.args.channel) c.if-not-may_ask.false)
+    (λ c' s fits. may c.args.self.now.manner c' c.args.channel (plain_request c.args.request) c.may_ask.result fits.same (c.may_ask.ensures c.args.channel) c.if-not-may_ask.false)
     (λ c' s fits.
     let h = c.args.channel in
     asked_enters c.in-Ok.field-0 c' _ _ c.ask.new.self s r h (plain_request c.args.request) fits c.in-Ok.ensures.layer (λ k after configured.
