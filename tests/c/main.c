@@ -94,6 +94,7 @@ static void try_refusals(void)
     expect("a bad window", x25_new(station, X25_DTE, (x25_settings){.k = 8, .n2 = 10, .channels = 1}), X25_BAD_SETTING);
     expect("no channel", x25_new(station, X25_DTE, (x25_settings){.k = 7, .n2 = 10}), X25_BAD_SETTING);
     expect("too many channels", x25_new(station, X25_DTE, (x25_settings){.k = 7, .n2 = 10, .channels = 4096}), X25_BAD_SETTING);
+    expect("too many one-way", x25_new(station, X25_DTE, (x25_settings){.k = 7, .n2 = 10, .channels = 3, .incoming = 2, .outgoing = 2}), X25_BAD_SETTING);
     expect("a setting of a later version", x25_new(station, X25_DTE, (x25_settings){.k = 7, .n2 = 10, .channels = 1, .more = 1}), X25_BAD_SETTING);
     expect("new", x25_new(station, X25_DTE, one_channel), 0);
     expect("new again", x25_new(station, X25_DTE, one_channel), X25_IN_USE);
@@ -138,6 +139,28 @@ static void try_stretch(uint16_t channel, bool is_open)
     expect("its restarts", (uint32_t)name.restarts, is_open ? 1 : 7);
     expect("its clears", (uint32_t)name.clears, is_open ? 0 : 8);
     expect("its resets", (uint32_t)name.resets, is_open ? 0 : 9);
+}
+
+/* Calls on channels that aren't one-way for the other end's: of two, 1 is one-way incoming. */
+static void try_one_way(void)
+{
+    const x25_settings settings = {.k = 7, .n2 = 10, .channels = 2, .incoming = 1};
+    uint16_t channel = 0;
+    expect("new", x25_new(&dte.station, X25_DTE, settings), 0);
+    expect("new", x25_new(&dce.station, X25_DCE, settings), 0);
+    expect("connect", x25_connect(&dte.station), 0);
+    take(&dte);
+    deliver_all();
+    expect("call", x25_call(&dte.station, "1", 1, "2", 1, NULL, 0, no_sizes, &channel), 0);
+    expect("its channel", channel, 2);
+    take(&dte);
+    deliver_all();
+    expect("one more", x25_call(&dte.station, "1", 1, "2", 1, NULL, 0, no_sizes, &channel), X25_NO_FREE_CHANNEL);
+    expect("call of the DCE", x25_call(&dce.station, "1", 1, "2", 1, NULL, 0, no_sizes, &channel), 0);
+    expect("its channel", channel, 1);
+    take(&dce);
+    x25_free(&dte.station);
+    x25_free(&dce.station);
 }
 
 /* A call on the highest of all channels there are, and a message each way. */
@@ -569,6 +592,7 @@ int main(void)
     fwrite(dte.told, 1, dte.length, stdout);
     fwrite(dce.told, 1, dce.length, stdout);
     try_many();
+    try_one_way();
     try_sizes();
     try_forms(true);
     try_forms(false);

@@ -200,12 +200,25 @@ class Python(unittest.TestCase):
             with self.assertRaisesRegex(x25.Refused, "34: "):
                 dte.send(channel, b"A", confirm=True)
 
+    def test_one_way_channels(self):
+        """Of two, 1 is one-way incoming: the DTE calls on 2 alone, and the DCE on 1."""
+        ranges = {"channels": 2, "incoming": 1}
+        with x25.Station(x25.DTE, library=LIBRARY, **ranges) as dte, x25.Station(x25.DCE, library=LIBRARY, **ranges) as dce:
+            near, far, answer = dte, dce, dte.connect()
+            while answer.frames:
+                near, far, answer = far, near, far.receive_all(answer.frames)
+            self.assertEqual(dte.call("1", "2")[0], 2)
+            with self.assertRaisesRegex(x25.Refused, "41: "):
+                dte.call("1", "2")
+            self.assertEqual(dce.call("1", "2")[0], 1)
+
     def test_a_station_that_was_closed(self):
         with x25.Station(x25.DCE, library=LIBRARY) as station:
             self.assertEqual(station.timer, x25.Timer.OFF)
         with self.assertRaisesRegex(x25.Refused, "16: no station is held"):
             station.connect()
-        for settings in ({"k": 8}, {"k": 256}, {"channels": -1}, {"channels": 0}, {"channels": 4096}, {"channels": 65537}, {"n2": 0}):
+        one_way = ({"channels": 2, "incoming": 1, "outgoing": 2}, {"incoming": -1}, {"outgoing": 65536})
+        for settings in ({"k": 8}, {"k": 256}, {"channels": -1}, {"channels": 0}, {"channels": 4096}, {"channels": 65537}, {"n2": 0}, *one_way):
             with self.assertRaisesRegex(x25.Refused, "14: "):
                 x25.Station(x25.DTE, library=LIBRARY, **settings)
 

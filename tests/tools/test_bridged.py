@@ -96,6 +96,13 @@ class Two(ToolCase):
         self.assertIn("> I cmd P=0 S=1 R=1 | CALL ch=1 called=123 calling=4567 fac=- data=41", decoded)
         self.assertEqual([text for text in decoded if "fault" in text], [])
 
+    def test_a_message_is_confirmed(self):
+        dce, words = self.listening("--t1", "2", "--quiet", "8")
+        told_dte, told_dce, _ = self.play(self.begin("dte", *words, "--t1", "2", "--quiet", "3"), dce, OPENING + "dte send 1 0 d 6869\nwait dte confirmed\n")
+        told_dte, told_dce = ([it for it in told if not it.startswith("#")] for told in (told_dte, told_dce))
+        self.assertEqual(told_dte[-2:], ["dte send ch=1 at 1.0.0 q=0 d=1 data=6869", "dte confirmed ch=1 at 1.0.0 count=1"])
+        self.assertEqual(told_dce[-1], "dce message ch=1 at 1.0.0 q=0 d=1 data=6869")
+
     def test_an_end_that_begins_by_sabme(self):
         """It is answered DM at once, and SABM after that by UA."""
         dce, words = self.listening("--quiet", "3")
@@ -226,6 +233,21 @@ class Two(ToolCase):
         self.hears(dte, "dte connected ch=2")
         self.asks(dte, "dte send 2 0 43")
         self.assertEqual(self.hears(dce, "dce message"), "dce message ch=2 at 1.1.0 q=0 data=43")
+        self.finish(dte, dce)
+
+    def test_one_way_channels(self):
+        """1 and 2 of four are for calls of the DCE and 4 for those of the DTE: an end is refused where only the other's are free."""
+        same = ["--stay", "--channels", "4", "--incoming", "2", "--outgoing", "1"]
+        dce, line = self.listening(*same)
+        dte = self.begin("dte", *line, *same)
+        self.asks(dte, "dte connect", "wait dte restarted", CALL, CALL, "dte call 5 6 -")
+        for channel in (4, 3):
+            self.hears(dce, f"dce incoming ch={channel}")
+        self.hears(dte, "# ! 41, no channel is free: 'dte call 5 6 -'")
+        self.asks(dce, *["dce call 7 8 -"] * 2, "dce call 9 0 -")
+        for channel in (1, 2):
+            self.hears(dte, f"dte incoming ch={channel}")
+        self.hears(dce, "# ! 41, no channel is free: 'dce call 9 0 -'")
         self.finish(dte, dce)
 
     def test_connect_behind_disconnect(self):
