@@ -173,8 +173,8 @@ pub fn worlds_hold_few()
 }
 
 /// Worked rows: the octets of set-up; a message that arrives, also where its frame is lost or damaged and goes again;
-/// what is given with a call and its acceptance, of which the other user is told; a message whose confirmation is asked,
-/// and told;
+/// what is given with a call and its acceptance, of which the other user is told; a message whose confirmation is
+/// asked, and told;
 /// `disconnect`, by which both ends go down; `connect`, by which both come up, also where both ask, or UA is lost, so
 /// that the second session of the DCE meets the first of the DTE, and again after the DTE left, so that the second of
 /// both meet; timer T1, which waits for SABM and UA that are on the line; and refusals.
