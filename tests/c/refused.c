@@ -107,7 +107,7 @@ static void play(void)
     deliver_all();
     expect("send", AGAIN(x25_send(&dte.station, 1, true, message, sizeof message)), 0);
     take(&dte);
-    ask(&dce, "send 1 0 68656c6c6f20796f757273656c66");
+    ask(&dce, "send 1 0 d 68656c6c6f20796f757273656c66");
     ask(&dce, "int 1 2a");
     deliver_all();
     expect("idle", x25_idle(&dte.station) && x25_idle(&dce.station), true);

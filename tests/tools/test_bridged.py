@@ -96,6 +96,13 @@ class Two(ToolCase):
         self.assertIn("> I cmd P=0 S=1 R=1 | CALL ch=1 called=123 calling=4567 fac=- data=41", decoded)
         self.assertEqual([text for text in decoded if "fault" in text], [])
 
+    def test_a_message_is_confirmed(self):
+        dce, words = self.listening("--t1", "2", "--quiet", "8")
+        told_dte, told_dce, _ = self.play(self.begin("dte", *words, "--t1", "2", "--quiet", "3"), dce, OPENING + "dte send 1 0 d 6869\nwait dte confirmed\n")
+        told_dte, told_dce = ([it for it in told if not it.startswith("#")] for told in (told_dte, told_dce))
+        self.assertEqual(told_dte[-2:], ["dte send ch=1 at 1.0.0 q=0 d=1 data=6869", "dte confirmed ch=1 at 1.0.0 count=1"])
+        self.assertEqual(told_dce[-1], "dce message ch=1 at 1.0.0 q=0 d=1 data=6869")
+
     def test_an_end_that_begins_by_sabme(self):
         """It is answered DM at once, and SABM after that by UA."""
         dce, words = self.listening("--quiet", "3")

@@ -1,5 +1,5 @@
 -- Of a step of a station: how often it tells of LinkUp, and what a command hands down.
-use Rattle.std.proofs.Common.{◌≡◌, ◌∙◌, ℕ, suc, ◌+◌, ◌==◌, Bool, true, false, List, [], ◌∷◌, ◌++◌, Option, Some, None, ap, sym, subst, refl, arith}
+use Rattle.std.proofs.Common.{◌≡◌, ◌∙◌, ℕ, zero, suc, ◌+◌, ◌==◌, Bool, true, false, List, [], ◌∷◌, ◌++◌, Option, Some, None, ap, sym, subst, refl, arith}
 use Rattle.x25_circuit.specs.Calling as circuit
 use Rattle.x25_link.specs.declared.phase.Reason.{Reason}
 use Rattle.x25_link.specs.Station.{Side}
@@ -11,6 +11,7 @@ use Rattle.x25_given.specs.Given.{PlainGiven}
 use Rattle.x25_layer.specs.Layer.{LayerSettings, Layer, LayerNotice, LayerAnswer, on_channel, restarted, restart_done, layer_fault}
 use Rattle.x25_layer.specs.Calls as asked
 use Rattle.x25_layer.specs.Calls.{LayerRequest, LayerOutcome, Accepted, Declined, layer_outcome}
+use Rattle.x25_layer.specs.Room.{named_by}
 use Rattle.x25_layer.specs.Rounds.{LinkView, Answered, Went, Refuses, calls}
 use Rattle.x25_layer.specs.laws.Transcript.{Entry}
 use Rattle.x25_layer.specs.laws.TwoLayers.{entries_asked}
@@ -19,10 +20,10 @@ use Rattle.x25_station.specs.declared.error.StationError.TheVariants as error
 use Rattle.x25_station.specs.Config.{Settings, layer_settings, link_settings}
 use Rattle.x25_station.specs.Command as command
 use Rattle.x25_station.specs.Beside.{PlainBeside, nothing, fields, diagnosed, beside_in}
-use Rattle.x25_station.specs.Entry.{StationEntry, link_up, bringing, entries_beside, station_told, of_channels, station_asked, entries_noted}
+use Rattle.x25_station.specs.Entry.{StationEntry, link_up, bringing, entries_beside, entries_behind, station_told, of_channels, station_asked, entries_noted}
 use Rattle.x25_station.specs.Giving.{is_taken, view_given, not_taken}
 use Rattle.x25_station.specs.Station.{Station, view_of}
-use Rattle.x25_station.specs.Step.{Step, Outcome, Did, Refused, did, gave, entries_of_outcome, entries_heard, layer_answer, follows, requests, gives}
+use Rattle.x25_station.specs.Step.{Step, Outcome, Did, Refused, did, gave, where_asked, confirmed_by, entries_of_outcome, entries_heard, layer_answer, follows, requests, gives}
 use Rattle.x25_station.specs.laws.ReadLaw.{RequestsOctets}
 use Rattle.x25_world.specs.laws.Claims.{ups_in}
 
@@ -40,12 +41,16 @@ ups_beside (fields facilities user) None = refl
 ups_beside (fields facilities user) (Some h) = refl
 ups_beside (diagnosed diagnostic) o = refl
 
-ups_told : (l : Layer) (ns : List LayerNotice) (b : PlainBeside) (o : Option ℕ) → ups_in (station_told l ns ++ entries_beside b o) ≡ 0
-ups_told l [] b o = ups_beside b o
-ups_told l (on_channel h notice ∷ ns) b o = ups_told l ns b o
-ups_told l (restarted cause diagnostic ∷ ns) b o = ups_told l ns b o
-ups_told l (restart_done ∷ ns) b o = ups_told l ns b o
-ups_told l (layer_fault diagnostic ∷ ns) b o = ups_told l ns b o
+ups_behind : (l : Layer) (h count : ℕ) (es : List StationEntry) → ups_in es ≡ 0 → ups_in (entries_behind l h count es) ≡ 0
+ups_behind l h zero es none = none
+ups_behind l h (suc count) es none = refl
+
+ups_told : (l : Layer) (ns : List LayerNotice) (es : List StationEntry) → ups_in es ≡ 0 → ups_in (station_told l ns ++ es) ≡ 0
+ups_told l [] es none = none
+ups_told l (on_channel h notice ∷ ns) es none = ups_told l ns es none
+ups_told l (restarted cause diagnostic ∷ ns) es none = ups_told l ns es none
+ups_told l (restart_done ∷ ns) es none = ups_told l ns es none
+ups_told l (layer_fault diagnostic ∷ ns) es none = ups_told l ns es none
 
 ups_channels : (es : List Entry) → ups_in (of_channels es) ≡ 0
 ups_channels [] = refl
@@ -64,7 +69,9 @@ ups_outcome c l request (Declined e) = refl
 ups_heard : (c : LayerSettings) (wide : Bool) (l : Layer) (packet : Option (List ℕ)) (down : Option Reason) (up : Bool) → ups_in (entries_heard c wide l packet down up) ≡ 0
 ups_heard c wide l packet down true = refl
 ups_heard c wide l packet (Some reason) false = refl
-ups_heard c wide l (Some octets) None false = (let a : LayerAnswer = layer_answer c wide l octets in ups_told a.next a.notices (beside_in wide octets) (bringing a.notices))
+ups_heard c wide l (Some octets) None false =
+    let a : LayerAnswer = layer_answer c wide l octets in
+    ups_told a.next a.notices _ (ups_behind a.next (named_by octets) (confirmed_by c wide l a.next (named_by octets)) _ (ups_beside (beside_in wide octets) (bringing a.notices)))
 ups_heard c wide l None None false = refl
 
 -- as often as its link notes it
@@ -97,11 +104,16 @@ did_entries : (c : Settings) (t : Side) (entries : List StationEntry) (a : Answe
 did_entries c t entries (Went s) step is = ap (λ (o : Outcome). (step_in step o).entries) (sym is)
 did_entries c t entries (Refuses e) step is = refused_did (error.Layer e) step is
 
+where_entries : (may : Bool) (o : Outcome) (step : Step) → where_asked may o ≡ Did step → o ≡ Did step
+where_entries true o step is = is
+where_entries false (Did found) step is = refused_did not_taken step is
+where_entries false (Refused e) step is = refused_did e step is
+
 pub requests_ups : (c : Settings) (s : Station) (request : LayerRequest) (step : Step) → requests c s request ≡ Did step → ups_in step.entries ≡ 0
 requests_ups c s request step is =
     let view : LinkView = view_of (link_settings c) s.link in
     let o : LayerOutcome = layer_outcome (layer_settings c) (view.waits [] == 256) s.layer request in
-    ap ups_in (did_entries c (alone s.link) (entries_of_outcome (layer_settings c) s.layer request o) (calls view (layer_settings c) s.layer request) step is) ∙ ups_outcome (layer_settings c) s.layer request o
+    ap ups_in (did_entries c (alone s.link) (entries_of_outcome (layer_settings c) s.layer request o) (calls view (layer_settings c) s.layer request) step (where_entries (command.may_ask c.wide request) _ step is)) ∙ ups_outcome (layer_settings c) s.layer request o
 
 gave_entries : (c : Settings) (g : PlainGiven) (taken : Bool) (t : Side) (entries : List StationEntry) (a : Answered) (step : Step) → gave c g taken t entries a ≡ Did step → step.entries ≡ entries
 gave_entries c g true t entries (Went s) step is = ap (λ (o : Outcome). (step_in step o).entries) (sym is)

@@ -4,6 +4,7 @@ use Rattle.x25_bits.specs.declared.role.Role.{Role}
 use Rattle.x25_packet.specs.Packet.{PlainPacket}
 use Rattle.x25_handshakes.specs.laws.Handshake.{At}
 use Rattle.x25_handshakes.specs.laws.PeerLayer.{PeerChannels}
+use Rattle.x25_layer.specs.declared.ranges.Ranges.{Ranges}
 use Rattle.x25_layer.specs.Layer.{LayerSettings, is_channel}
 use Rattle.x25_layer.specs.Calls.{LayerRequest, LayerOutcome, Accepted, Declined, layer_outcome, layer_pulled}
 use Rattle.x25_layer.specs.laws.TwoLayers.{End, TwoLayers, Move, Requests, Pulls, HandsUp, GoesDown, requested, pulled_in, handed_up, moves_in, moves, settings_of}
@@ -42,7 +43,7 @@ pub pulls_stay : (wide : Bool) (pulled : List ℕ) → AllStay wide (pulls_of pu
 pulls_stay wide [] = tt
 pulls_stay wide (h ∷ pulled) = (tt, tt, pulls_stay wide pulled)
 
-pub moves_reached : (wide : Bool) (r : Role) (long_data : Bool) (n : ℕ) (y : At PeerChannels) (v : TwoLayers) (ms : List Move) → AllStay wide ms → IsReachedByOctets wide r long_data n (with_peer y v)
+pub moves_reached : (wide : Bool) (r : Role) (long_data : Bool) (n : Ranges) (y : At PeerChannels) (v : TwoLayers) (ms : List Move) → AllStay wide ms → IsReachedByOctets wide r long_data n (with_peer y v)
     → IsReachedByOctets wide r long_data n (with_peer y (moves_all (settings_of r long_data n) v ms))
 moves_reached wide r long_data n y v [] stay h = h
 moves_reached wide r long_data n y v (m ∷ ms) stay h =

@@ -10,8 +10,8 @@ use Rattle.x25_script.specs.declared.script_line.Command.TheVariants as command_
 
 -- A call has the characters of the called address, those of the calling one, and the user data; the others begin with
 -- their channel, before Q, D and the user data. A call and its acceptance may have packet sizes and windows, and a
--- clear, a reset and a restart a cause and a diagnostic. Before what is asked of a call facilities may stand, user data,
--- and whether D is set.
+-- clear, a reset and a restart a cause and a diagnostic. Before what is asked of a call facilities may stand, user
+-- data, and whether D is set.
 pub data PlainCommand : Type 0 where
   call : List ℕ → List ℕ → List ℕ → Option Params → PlainCommand
   accept : ℕ → Option Params → PlainCommand

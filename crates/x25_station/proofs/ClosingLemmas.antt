@@ -1,5 +1,5 @@
 -- A call, an acceptance and a clearing confirm nothing: no stretch is open before such a packet and behind it.
-use Rattle.std.proofs.Common.{◌≡◌, ◌≢◌, ℕ, ◌-◌, ◌==◌, List, Bool, true, false, ◌&&◌, if◌then◌else◌, refl, sym, ap, subst, ◌∙◌, arith}
+use Rattle.std.proofs.Common.{◌≡◌, ◌≢◌, ℕ, ◌-◌, ◌==◌, List, Bool, true, false, ◌&&◌, if◌then◌else◌, refl, ap, ◌∙◌, arith}
 use Rattle.std.proofs.lemmas.Bool.{eqb-true}
 use Rattle.x25_packet.specs.Packet.{PlainPacket, call, accept, clear, clear_conf, user_data, rr, rnr, interrupt, interrupt_conf, reset, reset_conf, restart, restart_conf}
 use Rattle.x25_packet.specs.Spelling.{spelling_of}
@@ -9,7 +9,6 @@ use Rattle.x25_circuit.specs.Circuit.{Settings, Circuit, is_open, is_open_in, un
 use Rattle.x25_circuit.specs.Hearing.{Answer, answers, request_in, row_call, row_accept, row_clear}
 use Rattle.x25_circuit.specs.Notice.{CallRequest}
 use Rattle.x25_layer.specs.Layer.{LayerSettings, Layer, LayerAnswer, is_channel, answers_on, answers_in, drops, layer_answers}
-use Rattle.x25_layer.specs.code.FitsLayer.{is_open_at}
 use Rattle.x25_given.specs.Given.{PlainGiven}
 use Rattle.x25_given.specs.Writing.{written}
 use Rattle.x25_station.specs.Confirming.{confirmed, goes_on}

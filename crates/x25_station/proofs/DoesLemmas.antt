@@ -1,5 +1,5 @@
 -- A call does what the definition says of it, by what the calls of its link or of its layer did.
-use Rattle.std.proofs.Common.{◌≡◌, ◌≤◌, List, [], length, vec_len, Bool, true, false, Option, Some, None, Result, Ok, Err, OnErr, IsErrAnd, ◌∙◌, inl, inr, refl, ap, sym, subst, arith}
+use Rattle.std.proofs.Common.{◌≡◌, ◌≤◌, List, [], length, vec_len, Bool, true, false, Some, None, Result, Ok, Err, OnErr, IsErrAnd, ◌∙◌, inl, inr, refl, ap, sym, subst, arith}
 use Rattle.x25_link.specs.Station.{LinkStation, Side}
 use Rattle.x25_link.specs.Link.{alone}
 use Rattle.x25_link.specs.code.FitsLink.{ShownLink, LinkState, FitsWhole, after_put_to}

@@ -1,18 +1,17 @@
 -- What a packet confirms is what its P(R) acknowledges.
-use Rattle.std.proofs.Common.{◌≡◌, ◌⊎◌, inl, inr, ℕ, zero, suc, ◌+◌, ◌-◌, ◌<◌, ◌≤◌, List, [], ◌∷◌, ◌++◌, length, take, drop, Option, Some, None, Result, Ok, Err, Bool, true, false, ◌&&◌, ◌==◌, nat_le, if◌then◌else◌, refl, ap, ap₂, sym, subst, ◌∙◌, arith}
+use Rattle.std.proofs.Common.{◌≡◌, ◌⊎◌, inl, inr, ℕ, zero, suc, ◌+◌, ◌-◌, ◌≤◌, List, [], ◌∷◌, ◌++◌, length, take, drop, Option, Some, None, Result, Ok, Err, Bool, true, false, ◌==◌, nat_le, if◌then◌else◌, refl, ap, ap₂, sym, subst, ◌∙◌, arith}
 use Rattle.std.proofs.lemmas.Bool.{eqb-true}
 use Rattle.std.proofs.lemmas.Bool.Decides.{nat_tests}
-use Rattle.x25_bits.specs.Bits.{bit}
 use Rattle.x25_packet.specs.declared.error.PacketError.{PacketError}
 use Rattle.x25_packet.specs.Packet.{PlainPacket, call, accept, clear, clear_conf, user_data, rr, rnr, interrupt, interrupt_conf, reset, reset_conf, restart, restart_conf}
 use Rattle.x25_packet.specs.Reading.{channel_in}
-use Rattle.x25_packet.specs.Spelling.{channel_of, longest_user}
+use Rattle.x25_packet.specs.Spelling.{longest_user}
 use Rattle.x25_wide.specs.Taking.{read_in}
 use Rattle.x25_window.specs.code.Modulo.{resolved}
 use Rattle.x25_circuit.specs.declared.state.State.{State}
 use Rattle.x25_circuit.specs.declared.state.State.TheVariants.{Free, Calling, Arriving, Collision, Open, Resetting, Clearing}
-use Rattle.x25_circuit.specs.Circuit.{Settings as CircuitSettings, Circuit, Talk, is_open, is_open_in, incoming as terms_in, unconfirmed}
-use Rattle.x25_circuit.specs.Message.{Piece, piece_of, piece_ground, no_part, joining, asks, asked_in}
+use Rattle.x25_circuit.specs.Circuit.{Settings as CircuitSettings, Circuit, Talk, is_open, is_open_in, incoming as terms_in}
+use Rattle.x25_circuit.specs.Message.{Piece, piece_of, asked_in}
 use Rattle.x25_circuit.specs.Hearing.{Answer, answers, undecoded, row_call, row_accept, row_clear, row_clear_conf, row_reset, row_reset_conf, row_data, row_undecoded, request_in, unless, data_ground, number_ground, takes, hears_status, confirms}
 use Rattle.x25_layer.specs.Layer.{LayerSettings, Layer, LayerAnswer, LayerNotice, on_channel, restarted, restart_done, layer_fault, is_channel, put_at, answers_on, drops, answers_ready, answers_restarting, answers_in, undecoded_in}
 use Rattle.x25_layer.specs.Room.{named_by}
@@ -22,9 +21,9 @@ use Rattle.x25_layer.specs.laws.Transcript.{name_of}
 use Rattle.x25_handshakes.specs.laws.Names.{Name, same_name}
 use Rattle.x25_station.specs.Beside.{PlainBeside, beside_in, nothing, fields, diagnosed}
 use Rattle.x25_station.specs.Confirming.{confirmed, goes_on}
-use Rattle.x25_station.specs.Entry.{StationEntry, station_told, bringing, entries_beside, entries_behind, was_confirmed}
-use Rattle.x25_station.specs.Step.{layer_answer, confirmed_by, entries_of_packet}
-use Rattle.x25_station.specs.laws.ConfirmLaw.{Passes, ConfirmedIsAcknowledged, IsConfirmed, IsTrueOf, AreTrueOf, ToldIsConfirmed}
+use Rattle.x25_station.specs.Entry.{StationEntry, station_told, bringing, entries_beside, entries_behind}
+use Rattle.x25_station.specs.Step.{layer_answer, confirmed_by}
+use Rattle.x25_station.specs.laws.ConfirmLaw.{Passes, ConfirmedIsAcknowledged, IsConfirmed, AreTrueOf, ToldIsConfirmed}
 use Rattle.x25_station.proofs.ConfirmLemmas.{and_both, same_name-is, ended, confirmed_are}
 
 true_false : true ≡ false → ⊥

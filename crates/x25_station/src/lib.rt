@@ -32,6 +32,7 @@ pub use station::Station;
 pub use step::{MOST_ENTRIES, MOST_FRAMES, Step};
 pub use timer::Timer;
 pub use x25_bits::Role;
+pub use x25_circuit::Marks;
 pub use x25_frame::N1;
 pub use x25_given::Given;
 pub use x25_layer::{Awaits, Ranges};

@@ -4,8 +4,7 @@ use crate::calls::{connect, reuse, station};
 use crate::steps::SETTINGS;
 use std::alloc::Global;
 use x25_layer::Stretch;
-use x25_packet::Marks;
-use x25_station::{Asked, Entry, Role, Said, Station, Step};
+use x25_station::{Asked, Entry, Marks, Role, Said, Station, Step};
 
 /// SABM with P=1 of the DTE.
 static SABM: [u8; 4] = [0x01, 0x3f, 0xeb, 0xdf];

@@ -3,6 +3,8 @@ pub mod Known
 pub mod Growing
 pub mod Established
 pub mod Headline
+pub mod Continues
+pub mod EndContinues
 pub mod sessions
 pub mod HealingLemmas
 pub mod HealingPuts

@@ -1,5 +1,7 @@
 -- What holds over set-up and re-set-up: proofs of the claims on sessions.
 pub mod SessionTrace
+pub mod SessionCounts
+pub mod SessionConfirms
 pub mod SessionReaches
 pub mod SessionBeside
 pub mod SessionJoined

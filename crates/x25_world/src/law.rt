@@ -4,7 +4,7 @@ ghost use Rattle.x25_station.specs.Command.{RequestsWith, request_of};
 ghost use Rattle.x25_station.specs.laws.ReadLaw.{AreOctets};
 ghost use Rattle.x25_world.specs.World.{event_of};
 ghost use Rattle.x25_world.specs.rows.WorldRows.{SetsUp, MessageArrives, LostArrives, DamagedArrives};
-ghost use Rattle.x25_world.specs.rows.WorldRows.{GivenArrives};
+ghost use Rattle.x25_world.specs.rows.WorldRows.{GivenArrives, ConfirmedArrives};
 ghost use Rattle.x25_world.specs.rows.WorldRows.{DisconnectEndsBoth, ConnectSetsUp, ConnectGoesAgain, SecondMeetsFirst};
 ghost use Rattle.x25_world.specs.rows.WorldRows.{SecondMeet, TimerWaits, IsRefused};
 ghost use Rattle.x25_world.specs.laws.SessionClaims.{Throughout, ThroughoutAlong, MeetInStep, AreLawfulWhereMet};
@@ -21,10 +21,11 @@ ghost use Rattle.x25_world.specs.laws.WindowGoes.{StaysInWindow};
 ghost use Rattle.x25_world.specs.laws.SessionWindow.{SessionsStayInWindow};
 ghost use Rattle.x25_world.specs.laws.TapOctets.{IsTapOfOctets};
 ghost use Rattle.x25_world.specs.laws.BesideClaims.{BesideIsGiven};
+ghost use Rattle.x25_world.specs.laws.ConfirmedClaims.{ConfirmedAreHandedUp};
 
 use crate::Event;
 use x25_frame::reads_what_is_spelled;
-use x25_layer::{apart_layers_keep_order, each_end_is_by_itself};
+use x25_layer::{acknowledged_are_handed_up, apart_layers_keep_order, each_end_is_by_itself};
 use x25_line::{each_session_event_hands_one, links_keep_order, sessions_keep_order};
 use x25_link::{notes_what_changes, sets_up_by_rows};
 use x25_packet::reading_is_the_grammar;
@@ -41,6 +42,7 @@ pub(crate) fn laws_below()
     sessions_keep_order();
     each_session_event_hands_one();
     apart_layers_keep_order();
+    acknowledged_are_handed_up();
     each_end_is_by_itself();
     steps_are_joined();
     steps_keep_bounds();
@@ -125,6 +127,9 @@ pub fn two_stations_keep_order()
 /// that meets one, is what the other end's user gave there: in order, each at most once, on its channel, the user data
 /// as given and the facilities behind the station's own packet sizes and windows. In a session that meets none nothing
 /// is told of it.
+/// - `confirmed`: on each channel and under each name of a stretch, of the messages that the other end handed up in the
+/// session that this one meets, at least so many asked for confirmation as were told as confirmed here. In a session
+/// that meets none, none is told as confirmed.
 ///
 /// Premises: k is 1 to 7, N2 1 to 255, channels 1 to 4,095, and the users hand down octets.
 pub fn stations_meet_in_sessions()
@@ -138,6 +143,7 @@ pub fn stations_meet_in_sessions()
     ensures octets { Throughout IsTapOfOctets }
     ensures window { ThroughoutAlong SessionsStayInWindow }
     ensures beside { ThroughoutAlong BesideIsGiven }
+    ensures confirmed { Throughout ConfirmedAreHandedUp }
 {
     laws_below();
 }
@@ -167,7 +173,8 @@ pub fn worlds_hold_few()
 }
 
 /// Worked rows: the octets of set-up; a message that arrives, also where its frame is lost or damaged and goes again;
-/// what is given with a call and its acceptance, of which the other user is told;
+/// what is given with a call and its acceptance, of which the other user is told; a message whose confirmation is
+/// asked, and told;
 /// `disconnect`, by which both ends go down; `connect`, by which both come up, also where both ask, or UA is lost, so
 /// that the second session of the DCE meets the first of the DTE, and again after the DTE left, so that the second of
 /// both meet; timer T1, which waits for SABM and UA that are on the line; and refusals.
@@ -177,6 +184,7 @@ pub fn two_stations_move()
     ensures lost { LostArrives }
     ensures damaged { DamagedArrives }
     ensures given { GivenArrives }
+    ensures confirmed { ConfirmedArrives }
     ensures disconnect { DisconnectEndsBoth }
     ensures connect { ConnectSetsUp }
     ensures connect_again { ConnectGoesAgain }

@@ -4,6 +4,7 @@ use Rattle.x25_bits.specs.declared.role.Role.{Role}
 use Rattle.x25_packet.specs.Packet.{PlainPacket}
 use Rattle.x25_handshakes.specs.laws.Handshake.{At}
 use Rattle.x25_handshakes.specs.laws.PeerLayer.{PeerChannels}
+use Rattle.x25_layer.specs.declared.ranges.Ranges.{Ranges}
 use Rattle.x25_layer.specs.Layer.{LayerSettings, is_channel}
 use Rattle.x25_layer.specs.Calls.{LayerRequest, LayerOutcome, Accepted, Declined, layer_outcome, LayerPulled, layer_pulled}
 use Rattle.x25_layer.specs.laws.TwoLayers.{End, TwoLayers, Move, Requests, Pulls, HandsUp, GoesDown, requested, pulled_in, moves_in, moves, settings_of}
@@ -57,7 +58,7 @@ moves_beside c o b w (m ∷ ms) asked =
     ap (λ (v : TwoLayers). moves_all c v ms) (move_beside c o b w w.near.is_out m asked.0) ∙ moves_beside c o b (moves c w m) ms asked.1
 
 -- beside any peer that it is reached with, the end goes where it goes by itself
-pub asked_reached : (wide : Bool) (r : Role) (long_data : Bool) (n : ℕ) (y : At PeerChannels) (e : End) (o b : List PlainPacket) (ms : List Move) → AreAsked ms → AllStay wide ms
+pub asked_reached : (wide : Bool) (r : Role) (long_data : Bool) (n : Ranges) (y : At PeerChannels) (e : End) (o b : List PlainPacket) (ms : List Move) → AreAsked ms → AllStay wide ms
     → IsReachedByOctets wide r long_data n (record { near = e; peer = y; out = o; back = b })
     → (let v = moves_all (settings_of r long_data n) (alone_at e) ms in IsReachedByOctets wide r long_data n (record { near = v.near; peer = y; out = o ++ v.out; back = b }))
 asked_reached wide r long_data n y e o b ms asked stay h =

@@ -2,7 +2,7 @@
 use Rattle.std.specs.Prelude.{◌≡◌, ℕ, List, [], ◌∷◌, Option, Some, None, true}
 use Rattle.x25_circuit.specs.Circuit.{unconfirmed}
 use Rattle.x25_layer.specs.Layer.{LayerSettings, Layer}
-use Rattle.x25_layer.specs.code.FitsLayer.{is_open_at, plain_stretch}
+use Rattle.x25_layer.specs.code.FitsLayer.{is_open_at}
 use Rattle.x25_layer.specs.laws.Transcript.{name_of}
 use Rattle.x25_station.specs.declared.confirming.Unconfirmed.{Unconfirmed}
 use Rattle.x25_station.specs.declared.entry.Entry.{Entry}

@@ -9,7 +9,7 @@ use Rattle.x25_packet.specs.Facilities.{facilities_of}
 use Rattle.x25_packet.specs.Reading.{packet_of}
 use Rattle.x25_wide.specs.Facilities.{are_facilities, own_in}
 use Rattle.x25_wide.specs.Reading.{wide_of}
-use Rattle.x25_world.specs.rows.WorldRows.{SetsUp, MessageArrives, LostArrives, DamagedArrives, MoreArrives, GivenArrives, DisconnectEndsBoth, ConnectSetsUp, ConnectGoesAgain, SecondMeetsFirst, SecondMeet, TimerWaits, IsRefused}
+use Rattle.x25_world.specs.rows.WorldRows.{SetsUp, MessageArrives, LostArrives, DamagedArrives, MoreArrives, GivenArrives, ConfirmedArrives, DisconnectEndsBoth, ConnectSetsUp, ConnectGoesAgain, SecondMeetsFirst, SecondMeet, TimerWaits, IsRefused}
 
 pub sets_up : SetsUp
 unfolding pumped frame_of packet_of is_sealed fcs_of number_of low_bits add divisor divided
@@ -45,6 +45,10 @@ more_arrives = (
 pub given_arrives : GivenArrives
 unfolding are_facilities own_in wide_of pumped frame_of packed halves_of facilities_of packet_of is_sealed fcs_of number_of low_bits add divisor divided
 given_arrives = (refl, refl, refl, refl)
+
+pub confirmed_arrives : ConfirmedArrives
+unfolding are_facilities own_in wide_of pumped frame_of packed halves_of facilities_of packet_of is_sealed fcs_of number_of low_bits add divisor divided
+confirmed_arrives = (refl, refl, refl, refl)
 
 pub disconnect_ends_both : DisconnectEndsBoth
 unfolding pumped frame_of packed halves_of facilities_of packet_of is_sealed fcs_of number_of low_bits add divisor divided

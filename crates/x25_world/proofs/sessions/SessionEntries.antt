@@ -1,5 +1,7 @@
 -- What entries that an end's step adds say of its sessions, and of whom they meet.
-use Rattle.std.proofs.Common.{◌≡◌, ℕ, zero, suc, List, [], ◌∷◌, ◌++◌, inl, Bool, true, false, if◌then◌else◌, Option, Some, None, Result, Ok, refl, sym, ap, ap₂, ◌∙◌, subst, append_assoc, append-nil}
+use Rattle.std.proofs.Common.{◌≡◌, ℕ, zero, suc, ◌+◌, ◌≤◌, ◌==◌, List, [], ◌∷◌, ◌++◌, inl, Bool, true, false, if◌then◌else◌, Option, Some, None, Result, Ok, refl, sym, ap, ap₂, ◌∙◌, subst, append_assoc, append-nil, arith}
+use Rattle.std.proofs.lemmas.Bool.{eqb-true}
+use Rattle.x25_handshakes.specs.laws.Names.{Name, both, same_name}
 use Rattle.x25_bits.specs.declared.role.Role.{Role}
 use Rattle.x25_bits.specs.declared.role.Role.TheVariants.{Dte, Dce}
 use Rattle.x25_link.specs.declared.phase.Notes.{Notes}
@@ -15,19 +17,22 @@ use Rattle.x25_layer.specs.Layer.{LayerSettings, Layer, LayerAnswer, LayerNotice
 use Rattle.x25_layer.specs.Room.{named_by}
 use Rattle.x25_layer.specs.Rounds.{answer_to}
 use Rattle.x25_layer.specs.Calls.{LayerRequest, Asks, Dials, Restarts, PullsAll, LayerOutcome, Accepted, Declined}
-use Rattle.x25_layer.specs.laws.Transcript.{Entry, Said, Asked, Told}
+use Rattle.x25_layer.specs.laws.Transcript.{Entry, Said, Asked, Told, name_of}
 use Rattle.x25_layer.specs.laws.TwoLayers.{entries_asked}
 use Rattle.x25_layer.specs.laws.ApartLaw.{BeginsRestarted}
 use Rattle.x25_station.specs.Beside.{PlainBeside, nothing, fields, diagnosed, beside_in}
 use Rattle.x25_station.specs.declared.config.Cfg.{Cfg}
 use Rattle.x25_station.specs.Config.{Settings, settings_from, layer_settings}
+use Rattle.x25_station.specs.Confirming.{confirmed}
 use Rattle.x25_station.specs.Entry.{StationEntry, of_channel, restart_asked, connect_asked, disconnect_asked, relink_asked, link_up, link_down, was_restarted, restart_confirmed, at_fault, came_beside, was_diagnosed, was_confirmed, may_bring, bringing, entries_beside, entries_behind, of_channels, station_told, entries_noted, notice_of, layer_notices}
 use Rattle.x25_station.specs.Step.{entries_of_outcome, layer_answer, confirmed_by, entries_of_packet, entries_heard, follows}
 use Rattle.x25_world.specs.World.{AtEnd, entered}
 use Rattle.x25_world.specs.laws.BesideClaims.{Came, came_in}
+use Rattle.x25_world.specs.laws.ConfirmedClaims.{confirmed_in}
 use Rattle.x25_world.specs.laws.Claims.{entry_of_end, entries_at}
 use Rattle.x25_world.specs.laws.Sessions.{Progress, none_begun, after_entry, after_entries, is_in, entry_if, session_from, first_of, met_at, met_by, meets_from, meets}
 use Rattle.x25_world.proofs.Growing.{read_by}
+use Rattle.x25_world.proofs.sessions.SessionCounts.{counted_at, CountNone}
 use Rattle.x25_world.proofs.sessions.SessionBeside.{brought_as, brought_by, brought, AreTold}
 
 -- ---- one behind the other
@@ -254,6 +259,71 @@ outcome_beside c l (Dials called calling user params) (Accepted next packet) = c
 outcome_beside c l (Restarts cause diagnostic) (Accepted next packet) = refl
 outcome_beside c l PullsAll (Accepted next packet) = refl
 outcome_beside c l request (Declined e) = refl
+
+-- ---- what is confirmed
+
+channel_counts : (es : List Entry) → CountNone (of_channels es)
+channel_counts [] k name = refl
+channel_counts (e ∷ es) k name = let rest = channel_counts es k name in omega (arith, rest)
+
+-- a command of a user tells of none
+pub outcome_counts : (c : LayerSettings) (l : Layer) (request : LayerRequest) (o : LayerOutcome) → CountNone (entries_of_outcome c l request o)
+outcome_counts c l (Asks h request) (Accepted next packet) = channel_counts (entries_asked c l next (Asks h request))
+outcome_counts c l (Dials called calling user params) (Accepted next packet) = channel_counts (entries_asked c l next (Dials called calling user params))
+outcome_counts c l (Restarts cause diagnostic) (Accepted next packet) = λ k name. refl
+outcome_counts c l PullsAll (Accepted next packet) = λ k name. refl
+outcome_counts c l request (Declined e) = λ k name. refl
+
+told_counts : (l : Layer) (notices : List LayerNotice) (es : List StationEntry) (k : ℕ) (name : Name) → confirmed_in k name (station_told l notices ++ es) ≡ confirmed_in k name es
+told_counts l [] es k name = refl
+told_counts l (on_channel h notice ∷ notices) es k name = let rest = told_counts l notices es k name in omega (arith, rest)
+told_counts l (restarted cause diagnostic ∷ notices) es k name = let rest = told_counts l notices es k name in omega (arith, rest)
+told_counts l (restart_done ∷ notices) es k name = let rest = told_counts l notices es k name in omega (arith, rest)
+told_counts l (layer_fault diagnostic ∷ notices) es k name = let rest = told_counts l notices es k name in omega (arith, rest)
+
+beside_counts : (b : PlainBeside) (o : Option ℕ) → CountNone (entries_beside b o)
+beside_counts nothing o = λ k name. refl
+beside_counts (fields facilities user) None = λ k name. refl
+beside_counts (fields facilities user) (Some h) = λ k name. refl
+beside_counts (diagnosed diagnostic) o = λ k name. refl
+
+-- what a packet confirms on its channel
+behind_counts : (c : LayerSettings) (wide : Bool) (l next : Layer) (named : ℕ) (es : List StationEntry) (k : ℕ) (name : Name) → CountNone es
+    → confirmed_in k name (entries_behind next named (confirmed_by c wide l next named) es) ≤ counted_at c k name l next
+behind_counts c false l next named es k name none = let zero = none k name in omega (arith, zero)
+behind_counts c true l next named es k name none = by (confirmed c l next named) refl
+  where
+    here : (b : Bool) (m : ℕ) → confirmed c l next named ≡ suc m → (if both true b then suc m else 0) + 0 ≤ (if b then confirmed c l next named else 0)
+    here true m e = omega (arith, e)
+    here false m e = omega arith
+
+    at : (b : Bool) (m : ℕ) → confirmed c l next named ≡ suc m → (k == named) ≡ b → (if both b (same_name name (name_of next named)) then suc m else 0) + 0 ≤ counted_at c k name l next
+    at true m e is =
+        subst (λ (j : ℕ). (if both true (same_name name (name_of next named)) then suc m else 0) + 0 ≤ counted_at c j name l next) (sym (eqb-true k named is)) (here (same_name name (name_of next named)) m e)
+    at false m e is = omega arith
+
+    by : (n : ℕ) → confirmed c l next named ≡ n → confirmed_in k name (entries_behind next named n es) ≤ counted_at c k name l next
+    by zero e = let none_told = none k name in omega (arith, none_told)
+    by (suc m) e = at (k == named) m e refl
+
+pub heard_confirms : (cfg : Cfg) (end : Role) (l : Layer) (k : LinkStep) (octets : List ℕ) (p : PlainPacket) → k.packet ≡ Some octets → IsQuiet k → read_by cfg octets ≡ Ok p → (h : ℕ) (name : Name)
+    → (let c = layer_settings (settings_from end cfg) in confirmed_in h name (follows (settings_from end cfg) l k).entries ≤ counted_at c h name l (layer_answers c l p).next)
+heard_confirms cfg end l k octets p some quiet reads h name =
+    let c = settings_from end cfg in
+    let a = layer_answer (layer_settings c) c.wide l octets in
+    let es : List StationEntry = entries_beside (beside_in c.wide octets) (bringing a.notices) in
+    let behind : List StationEntry = entries_behind a.next (named_by octets) (confirmed_by (layer_settings c) c.wide l a.next (named_by octets)) es in
+    let entries : (follows c l k).entries ≡ entries_of_packet (layer_settings c) c.wide l octets =
+    ap (λ (o : Option (List ℕ)). entries_noted k.notes ++ entries_heard (layer_settings c) c.wide l o k.notes.down k.notes.up) some
+    ∙ ap (λ (n : Notes). entries_noted n ++ entries_heard (layer_settings c) c.wide l (Some octets) n.down n.up) quiet in
+    let answered : a ≡ layer_answers (layer_settings c) l p = ap (λ (r : Result PlainPacket PacketError). answer_to (layer_settings c) l octets r) reads in
+    let is : confirmed_in h name (follows c l k).entries ≡ confirmed_in h name behind = ap (confirmed_in h name) entries ∙ told_counts a.next a.notices behind h name in
+    let low : confirmed_in h name behind ≤ counted_at (layer_settings c) h name l (layer_answers (layer_settings c) l p).next =
+    subst (λ (x : LayerAnswer). confirmed_in h name behind ≤ counted_at (layer_settings c) h name l x.next) answered
+    (behind_counts (layer_settings c) c.wide l a.next (named_by octets) es h name (beside_counts (beside_in c.wide octets) (bringing a.notices))) in
+    omega (arith, is, low)
+
+-- ---- what came beside a packet
 
 told_beside : (l : Layer) (notices : List LayerNotice) (es : List StationEntry) → came_in (station_told l notices ++ es) ≡ came_in es
 told_beside l [] es = refl

@@ -10,6 +10,7 @@ use Rattle.x25_link.specs.Station.{is_up}
 use Rattle.x25_link.specs.Hearing.{other}
 use Rattle.x25_line.specs.laws.Sessions.{SessionEnd, Meeting, Sessions, extended}
 use Rattle.x25_line.specs.laws.SessionClaims.{octets_of}
+use Rattle.x25_handshakes.specs.laws.Names.{Name}
 use Rattle.x25_layer.specs.Layer.{Layer, LayerNotice, goes_up, restart_cause}
 use Rattle.x25_layer.specs.laws.Transcript.{Entry}
 use Rattle.x25_layer.specs.laws.Quiet.{AreNoFaults}
@@ -30,6 +31,8 @@ use Rattle.x25_world.proofs.Growing.{all_read, as_read, none_read, nothing_read,
 use Rattle.x25_world.proofs.Known.{true_false}
 use Rattle.x25_world.proofs.sessions.SessionTrace.{layer_of, Done, moved, own_in, own, own_more, own_same, own_other, own_goes, same_number, other_number, TakeNothing, nothing_append, BringOctets, octets_append}
 use Rattle.x25_world.specs.laws.BesideClaims.{Came, came_in, Gave, IsGiven, AreSomeOf}
+use Rattle.x25_world.specs.laws.ConfirmedClaims.{confirmed_in}
+use Rattle.x25_world.proofs.sessions.SessionCounts.{counted_in, IsCounted, CountNone, counted_same, counted_rests, counted_goes}
 use Rattle.x25_world.proofs.sessions.SessionReaches.{Beginning, SessionsReach}
 use Rattle.x25_world.proofs.sessions.SessionBeside.{brought, AreTold, told_more, MoreIs, none_more}
 use Rattle.x25_world.proofs.sessions.SessionJoined.{HaveAll, IsSession, IsLayer, IsEnd, HasMet, Meets, Hears, PairsAreInOrder, SessionsJoined, Goes, gave_none}
@@ -75,6 +78,7 @@ pub record IsSilent (p q : Progress) (es : List StationEntry) : Type 0 where
   pub entries : (n : ℕ) → layer_entries (session_from n p es) ≡ []
   pub told : (n : ℕ) → layer_notices (session_from n p es) ≡ []
   pub beside : (n : ℕ) → came_in (session_from n p es) ≡ []
+  pub confirmed : (n : ℕ) → CountNone (session_from n p es)
   pub all_entries : layer_entries es ≡ []
   pub all_told : layer_notices es ≡ []
   pub later : (n : ℕ) → (n ≡ q.begun → ⊥) → session_from n p es ≡ []
@@ -130,6 +134,7 @@ end_stays cfg end s k t t₂ es same h = record {
   before = h.before;
   sessions = λ n low high. subst (λ (e : layer.End). IsSession cfg e (k.down n) (k.up n) (session_from n none_begun es)) (sym (own_stays n)) (h.sessions n low high);
   octets = h.octets;
+  confirmed = λ n. counted_same cfg end n t t₂ (session_from n none_begun es) (same n) (h.confirmed n);
   later = λ n more. (let nothing = h.later n more in record { moves = same n ∙ nothing.moves; entries = nothing.entries });
   now = λ up. subst (λ (e : layer.End). IsLayer e s) (sym (own_stays k.begun)) (h.now up);
   alone = λ n none. subst TakeNothing (sym (same n)) (h.alone n none);
@@ -232,7 +237,8 @@ module _ {since : Beginning} (cfg : Cfg) (end : Role) (w : World) (h : SessionsJ
       (g : SessionGoes (link_of cfg end) h.links v session step.near.link step.out handed came back met)
       (o : OwnGoes (own cfg end session h.trace) (own_run (layer_of cfg end) moves (own cfg end session h.trace)) step.near.layer packets lifted step.entries) (up : is_up w.near.link.phase ≡ true)
       (still : is_up step.near.link.phase ≡ true) (plain : ArePlain step.entries) (kept : IsKept step.near)
-      (tells : AreTold (came_in step.entries) (brought cfg came)) (gave : ℕ → List Gave) (gives : AreSomeOf IsGiven (brought cfg handed) (gave session)) where
+      (tells : AreTold (came_in step.entries) (brought cfg came)) (gave : ℕ → List Gave) (gives : AreSomeOf IsGiven (brought cfg handed) (gave session))
+      (counts : (k : ℕ) (name : Name) → confirmed_in k name step.entries ≤ counted_in (layer_of cfg end) k name moves (own cfg end session h.trace)) where
     abbrev trace_on : List Done
     trace_on = h.trace ++ moved end session moves
 
@@ -270,6 +276,16 @@ module _ {since : Beginning} (cfg : Cfg) (end : Role) (w : World) (h : SessionsJ
         (session_more n ∙ ap (λ (l : List StationEntry). session_from n none_begun told_before ++ l) (plain_elsewhere n standing step.entries plain (not_in n standing differs)))
         refl refl refl (down_elsewhere n differs) (up_elsewhere n differs)
 
+    -- what is told as confirmed the moves confirm
+    counted_on : (n : ℕ) → IsCounted cfg end n trace_on (session_from n none_begun (told_before ++ step.entries))
+    counted_on n = same_or_not n session
+        (λ (is : n ≡ session). subst (λ (m : ℕ). IsCounted cfg end m trace_on (session_from m none_begun (told_before ++ step.entries))) (sym is)
+        (counted_goes cfg end session h.trace moves (session_from session none_begun told_before) step.entries (session_from session none_begun (told_before ++ step.entries)) (h.near.confirmed session)
+        (session_more session ∙ ap (λ (l : List StationEntry). session_from session none_begun told_before ++ l) (plain_here session standing step.entries plain stands_here)) counts))
+        (λ (differs : n ≡ session → ⊥). counted_same cfg end n h.trace trace_on (session_from n none_begun (told_before ++ step.entries)) (own_same end n session h.trace moves differs)
+        (counted_rests cfg end n h.trace (session_from n none_begun told_before) [] (session_from n none_begun (told_before ++ step.entries)) (h.near.confirmed n)
+        (session_more n ∙ ap (λ (l : List StationEntry). session_from n none_begun told_before ++ l) (plain_elsewhere n standing step.entries plain (not_in n standing differs))) (λ k name. refl)))
+
     -- all that was handed down is octets
     down_octets : (n : ℕ) → AllAreOctets (v.near.down n)
     down_octets n = same_or_not n session
@@ -306,6 +322,7 @@ module _ {since : Beginning} (cfg : Cfg) (end : Role) (w : World) (h : SessionsJ
       sessions = λ n low high. (let most = subst (λ (m : ℕ). n ≤ m) g.begun high in
           same_or_not n session (λ (is : n ≡ session). subst IsSessionOn (sym is) session_here) (λ (differs : n ≡ session → ⊥). session_elsewhere n low most differs));
       octets = down_octets;
+      confirmed = counted_on;
       later = λ n more. (let above = subst (λ (m : ℕ). m < n) g.begun more in
           let differs = over n above in
           let nothing = h.near.later n above in
@@ -405,6 +422,8 @@ module _ {since : Beginning} (cfg : Cfg) (end : Role) (w : World) (h : SessionsJ
           (h.links.near.down n) (h.links.near.up n) (v.near.down n) (v.near.up n) refl (h.near.sessions n low (subst (λ (m : ℕ). n ≤ m) g.begun high)) (session_more n) (silent.entries n) (silent.told n) (silent.beside n)
           (down_same n) (up_same n);
       octets = λ n. subst AllAreOctets (sym (down_same n)) (h.near.octets n);
+      confirmed = λ n. counted_rests cfg end n h.trace (session_from n none_begun told_before) (session_from n standing step.entries) (session_from n none_begun (told_before ++ step.entries)) (h.near.confirmed n)
+          (session_more n) (silent.confirmed n);
       later = λ n more. (let above = subst (λ (m : ℕ). m < n) g.begun more in
           let nothing = h.near.later n above in
           record { moves = nothing.moves; entries = session_more n ∙ ap₂ (λ (a b : List StationEntry). a ++ b) nothing.entries (silent.later n (over n above)) });
@@ -489,6 +508,8 @@ module _ {since : Beginning} (cfg : Cfg) (end : Role) (w : World) (h : SessionsJ
       sessions = λ n low high. same_or_not n the_next (λ (is : n ≡ the_next). subst IsSessionBegun (sym is) next_session)
           (λ (differs : n ≡ the_next → ⊥). session_before n low (below n (subst (λ (m : ℕ). n ≤ m) g.begun high) differs) differs);
       octets = begun_octets;
+      confirmed = λ n. counted_rests cfg end n h.trace (session_from n none_begun told_before) (session_from n standing step.entries) (session_from n none_begun (told_before ++ step.entries)) (h.near.confirmed n)
+          (session_more n) (begins.confirmed n);
       later = λ n more. (let above = subst (λ (m : ℕ). m < n) g.begun more in
           let nothing = h.near.later n (omega (arith, above)) in
           record { moves = nothing.moves; entries = session_more n ∙ ap₂ (λ (a b : List StationEntry). a ++ b) nothing.entries (begins.later n (over n above)) });

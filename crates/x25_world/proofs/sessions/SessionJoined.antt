@@ -21,6 +21,7 @@ use Rattle.x25_world.specs.laws.Sessions.{none_begun, after_entries, session_fro
 use Rattle.x25_world.proofs.Growing.{all_read, as_read, AllAreOctets, AreOnTap}
 use Rattle.x25_world.proofs.sessions.SessionTrace.{Done, own_in, own, pair_at, pair_turned, TakeNothing, BringOctets}
 use Rattle.x25_world.specs.laws.BesideClaims.{Gave, came_in}
+use Rattle.x25_world.proofs.sessions.SessionCounts.{IsCounted}
 use Rattle.x25_world.proofs.sessions.SessionReaches.{Beginning, SessionsReach, reach_swapped}
 use Rattle.x25_world.proofs.sessions.SessionBeside.{brought, AreTold, MoreIs, none_more}
 
@@ -59,6 +60,8 @@ pub record IsEnd (cfg : Cfg) (end : Role) (s : Station) (k : SessionEnd) (trace 
   pub before : (k.down 0 ≡ []) × (k.up 0 ≡ [])
   pub sessions : (n : ℕ) → 1 ≤ n → n ≤ k.begun → IsSession cfg (own cfg end n trace) (k.down n) (k.up n) (session_from n none_begun es)
   pub octets : (n : ℕ) → AllAreOctets (k.down n)
+  -- what is told as confirmed its moves confirm
+  pub confirmed : (n : ℕ) → IsCounted cfg end n trace (session_from n none_begun es)
   pub later : (n : ℕ) → k.begun < n → HasNothing end n trace es
   pub now : is_up s.link.phase ≡ true → IsLayer (own cfg end k.begun trace) s
   -- where nothing was handed up, the layer took nothing

@@ -150,6 +150,7 @@ module _ (laws : SessionLaws) (cfg : Cfg) (fine : IsConfigured cfg) where
     before = (refl, refl);
     sessions = λ n low high. absurd (none n low high);
     octets = λ n. tt;
+    confirmed = λ n k name. omega arith;
     later = λ n more. record { moves = refl; entries = refl };
     now = λ up. absurd (cc);
     alone = λ n none. tt;

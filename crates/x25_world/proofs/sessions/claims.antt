@@ -7,4 +7,5 @@ pub mod SessionWaits
 pub mod SessionQuiet
 pub mod SessionOctets
 pub mod SessionGiven
+pub mod SessionConfirmed
 pub mod SessionHeadline

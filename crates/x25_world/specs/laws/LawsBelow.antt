@@ -12,6 +12,7 @@ use Rattle.x25_line.specs.laws.SessionNumbers.{StandingGoesAlong}
 use Rattle.x25_layer.specs.declared.ranges.Ranges.{Ranges}
 use Rattle.x25_layer.specs.laws.Law.{KeepsOrder, IsQuietWorld, IsLawfulWorld, ArrivesAll}
 use Rattle.x25_layer.specs.laws.NameLaw.{NamesAreCounted}
+use Rattle.x25_layer.specs.laws.Acknowledged.{AcknowledgedAreHandedUp}
 use Rattle.x25_layer.specs.laws.Apart.{AlwaysApart}
 use Rattle.x25_layer.specs.laws.ApartLaw.{IsOverLinks, RestartsFirst, BeginsAlone, OwnMovesDecide, EventsRunOn}
 use Rattle.x25_station.specs.laws.JoinLaw.{RequestIsJoined, ReceiveIsJoined, QuietIsJoined, DownIsJoined, UpIsJoined}
@@ -75,6 +76,8 @@ pub record SessionLaws : Type 0 where
   pub layers_arrive : (long_data : Bool) (channels : Ranges) → AlwaysApart ArrivesAll long_data channels
   pub layers_named : (long_data : Bool) (channels : Ranges) → AlwaysApart NamesAreCounted long_data channels
   pub layers_restarted : (long_data : Bool) (channels : Ranges) → AlwaysApart RestartsFirst long_data channels
+  pub layers_acknowledged : (long_data : Bool) (channels : Ranges)
+      → AlwaysApart AcknowledgedAreHandedUp long_data channels
   pub own : OwnMovesDecide
   pub behind : EventsRunOn
   pub alone : BeginsAlone

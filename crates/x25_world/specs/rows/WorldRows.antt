@@ -17,12 +17,14 @@ use Rattle.x25_station.specs.declared.error.StationError.TheVariants as station_
 use Rattle.x25_station.specs.Command.{Requests, RequestsWith, Connects, Disconnects}
 use Rattle.x25_station.specs.Entry.{restart_asked, connect_asked, disconnect_asked, link_up, link_down, was_restarted}
 use Rattle.x25_station.specs.Config.{settings_from}
+use Rattle.x25_station.specs.Giving.{not_taken}
 use Rattle.x25_station.specs.Station.Told.{is_idle, stretch}
 use Rattle.x25_world.specs.declared.error.WorldError.TheVariants as error
 use Rattle.x25_world.specs.World.{AtEnd, World, Act, Commands, Receives, Fires, Loses, Damages, Event, happens}
 use Rattle.x25_world.specs.World.{refusal_of, run, start, established}
 use Rattle.x25_world.specs.laws.BesideClaims.{came_in, gave_in}
 use Rattle.x25_world.specs.laws.Claims.{handed_at}
+use Rattle.x25_world.specs.laws.ConfirmedClaims.{confirmed_in}
 use Rattle.x25_world.specs.Healing.{IsDrained, firing, AreReceiptsAndRequests, FreeThroughout, BothMayHeal}
 use Rattle.x25_world.specs.laws.Sessions.{session_at, meets}
 
@@ -129,6 +131,21 @@ GivenArrives =
     × (came_in (session_at Dce 1 w.transcript) ≡ record { channel = 2; facilities = 1 ∷ 1 ∷ []; user = [] } ∷ [])
     × (gave_in in_all_forms Dce 1 calls_and_accepts begin ≡ record { channel = Some 2; given = one_octet } ∷ [])
     × (came_in (session_at Dte 1 w.transcript) ≡ record { channel = 2; facilities = []; user = 111 ∷ [] } ∷ []))
+
+-- ---- a message whose confirmation is asked, at such stations
+
+abbrev pub asked_hi : LayerRequest
+asked_hi = Asks 2 (Sends (record { q = false; d = true }) (codes "hi"))
+
+-- it is handed up once, with its mark, and its end is told so; other stations refuse it
+abbrev pub ConfirmedArrives : Type 0
+ConfirmedArrives =
+    (let w = run in_all_forms (calls_and_accepts ++ asks Dte asked_hi ∷ delivers 2) (established in_all_forms) in
+    ((messages_in (under 2 first_stretch (handed_at Dce w))).up
+    ≡ record { q = record { q = false; d = true }; user = codes "hi" } ∷ [])
+    × (confirmed_in 2 first_stretch (session_at Dte 1 w.transcript) ≡ 1)
+    × (confirmed_in 2 first_stretch (session_at Dce 1 w.transcript) ≡ 0)
+    × (refusal_of (happens two_channels called (asks Dte asked_hi)) ≡ Some (error.Station not_taken)))
 
 -- ---- `disconnect`: the link goes down at both ends, at the DCE behind the RESTART that came before
 

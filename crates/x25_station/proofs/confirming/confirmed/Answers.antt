@@ -1,4 +1,4 @@
-use Rattle.std.proofs.Common.{◌∙◌, ◌≡◌, sym, subst, ap}
+use Rattle.std.proofs.Common.{◌∙◌, sym, subst}
 use Rattle.x25_station.specs.code.Confirming.{Stands}
 use Rattle.x25_station.specs.code.PlainEntry.{plain_name}
 use Rattle.x25_station.proofs.ConfirmLemmas.{unnamed_behind, ended_behind, other_behind, less_behind, name_behind, names_agree, names_differ, told_behind}

@@ -1,10 +1,10 @@
-use Rattle.std.proofs.Common.{true, ◌++◌, [], ◌∷◌, map, ap, ap₂, sym, subst, ◌∙◌, ℕ, Option}
+use Rattle.std.proofs.Common.{true, ◌++◌, [], ◌∷◌, map, ap, ap₂, subst, ◌∙◌, ℕ, Option}
 use Rattle.std.proofs.lemmas.List.{map-append}
 use Rattle.x25_layer.specs.Layer.{Layer as LayerState}
 use Rattle.x25_layer.specs.Room.{named_by}
 use Rattle.x25_layer.specs.Rounds.{begin, rounds}
 use Rattle.x25_station.specs.Beside.{PlainBeside, beside_in}
-use Rattle.x25_station.specs.Entry.{bringing, entries_beside, entries_behind}
+use Rattle.x25_station.specs.Entry.{bringing, entries_beside}
 use Rattle.x25_station.specs.Step.{layer_answer}
 use Rattle.x25_station.specs.Confirming.{confirmed}
 use Rattle.x25_station.specs.Config.{link_settings, layer_settings}

@@ -62,6 +62,7 @@ returns c =
       layers_arrive = apart.arrives;
       layers_named = apart.names;
       layers_restarted = apart.restarted;
+      layers_acknowledged = c.acknowledged_are_handed_up.ensures.apart;
       own = alone.own;
       behind = alone.behind;
       alone = alone.alone;

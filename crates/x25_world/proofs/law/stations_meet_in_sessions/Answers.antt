@@ -1,4 +1,4 @@
-use Rattle.x25_world.proofs.sessions.claims.SessionHeadline.{throughout_in_step, throughout_lawful, throughout_named, throughout_arrives, throughout_unmet, throughout_stand, throughout_quiet, throughout_octets}
+use Rattle.x25_world.proofs.sessions.claims.SessionHeadline.{throughout_in_step, throughout_lawful, throughout_named, throughout_arrives, throughout_unmet, throughout_stand, throughout_quiet, throughout_octets, throughout_confirmed}
 use Rattle.x25_world.proofs.sessions.SessionsAlong.{sessions_stay}
 use Rattle.x25_world.proofs.sessions.claims.SessionGiven.{beside_given}
 use Rattle.x25_world.proofs.law.stations_meet_in_sessions.Goals as goal
@@ -18,4 +18,5 @@ returns c =
       octets = throughout_octets laws keeps;
       window = sessions_stay laws keeps laws.machine;
       beside = beside_given laws keeps;
+      confirmed = throughout_confirmed laws keeps;
     }

@@ -18,10 +18,10 @@ use Rattle.x25_line.specs.laws.Sessions.{SessionEnd, Meeting, Sessions, begun_by
 use Rattle.x25_line.specs.laws.SessionClaims as met
 use Rattle.x25_line.specs.laws.SessionClaims.{AllMet, SomeMet, IsNoEarlier, InStep, MetAreInOrder, UnmetHandNothingUp, octets_of}
 use Rattle.x25_line.specs.laws.SessionEvents.{EachEventMeetsLatest, MeetsOne}
-use Rattle.x25_layer.specs.Layer.{Layer, LayerNotice}
+use Rattle.x25_layer.specs.Layer.{LayerSettings, Layer, LayerNotice, layer_answers}
 use Rattle.x25_layer.specs.code.FitsLayer.{is_full}
 use Rattle.x25_layer.specs.laws.TwoLayers as layer
-use Rattle.x25_layer.specs.laws.TwoLayers.{HandsUp}
+use Rattle.x25_layer.specs.laws.TwoLayers.{HandsUp, moves_in}
 use Rattle.x25_layer.specs.laws.RoundLaw.{moves_all, pulls_of}
 use Rattle.x25_layer.specs.laws.Apart as apart
 use Rattle.x25_layer.specs.laws.Apart.{OwnMove, Takes, Ends, own_run, AreInOrder}
@@ -35,16 +35,19 @@ use Rattle.x25_station.specs.laws.KeepLaw.{IsKept}
 use Rattle.x25_station.specs.laws.ReadLaw.{AreReadable}
 use Rattle.x25_world.specs.World.{World, Receives, delivered, after, after_step}
 use Rattle.x25_world.specs.laws.BesideClaims.{Came, IsGiven, AreSomeOf}
+use Rattle.x25_handshakes.specs.laws.Names.{Name}
+use Rattle.x25_world.specs.laws.ConfirmedClaims.{confirmed_in}
 use Rattle.x25_world.specs.laws.Claims.{link_of}
 use Rattle.x25_world.proofs.Known.{IsConfigured, both_true, true_false}
 use Rattle.x25_world.proofs.Growing.{read_by, all_read, is_read, as_read, first_read}
 use Rattle.x25_world.proofs.sessions.SessionTrace.{layer_of, Done, moved, own, own_goes, events_of, nothing_goes}
+use Rattle.x25_world.proofs.sessions.SessionCounts.{counted_at, counted_by, counted_in}
 use Rattle.x25_world.proofs.sessions.SessionReaches.{Beginning, SessionsReach, IsAt, may_ask, known_sessions, sessions_act}
 use Rattle.x25_world.proofs.sessions.SessionJoined.{HasMet, PairIsInOrder, PairsAreInOrder, SessionsJoined, Goes, gave_none, stays}
 use Rattle.x25_world.proofs.sessions.SessionBeside.{spelled_bring}
 use Rattle.x25_world.specs.laws.LawsBelow.{SessionLaws}
 use Rattle.x25_world.proofs.sessions.SessionKnown.{all_no_earlier, met_in_order, pair_ends, here_in, here_is, there_is, pair_world, own_order, own_first, nothing_in_order}
-use Rattle.x25_world.proofs.sessions.SessionEntries.{heard_plain, heard_beside}
+use Rattle.x25_world.proofs.sessions.SessionEntries.{heard_plain, heard_beside, heard_confirms}
 use Rattle.x25_world.proofs.sessions.SessionLinks.{SessionGoes, spelled, puts_spelled, spelled_back, own_step, front_entry, deliver_goes, PutsRead}
 use Rattle.x25_world.proofs.sessions.SessionGoes.{here_extended}
 use Rattle.x25_world.proofs.sessions.SessionFollows.{no_command, up_puts, silent_puts, follows_silent, follows_up}
@@ -350,6 +353,18 @@ module _ {since : Beginning} (laws : SessionLaws) (cfg : Cfg) (fine : IsConfigur
             readable = spelled_back cfg j.1.packets (joined_readable none);
           }
 
+      -- what it confirms is told
+      counts_taken : (channels : List ℕ) → IsQuiet taken → (k : ℕ) (name : Name) → confirmed_in k name step.entries ≤ counted_in (layer_of cfg end) k name (moves channels) own_here
+      counts_taken channels quiet k name =
+          let c : LayerSettings = layer_of cfg end in
+          let p : PlainPacket = in_front.packet in
+          let now = h.near.now up in
+          let told = heard_confirms cfg end w.near.layer taken packet_octets p some quiet in_front.reads k name in
+          let is : counted_by c k name own_here (Takes p) ≡ counted_at c k name w.near.layer (layer_answers c w.near.layer p).next =
+          ap (λ (gone : Bool). counted_at c k name own_here.layer (moves_in c (apart.alone own_here (p ∷ [])) gone HandsUp).near.layer) now.out
+          ∙ ap (λ (l : Layer). counted_at c k name l (layer_answers c l p).next) now.layer in
+          omega (arith, told, is)
+
       handed : abandons (settings_from end cfg) w.near ≡ false → IsKept step.near → Goes since cfg end h.links gave_none (after_step (settings_from end cfg) w back step)
       unfolding handed_puts joined_on
       handed none kept =
@@ -364,7 +379,7 @@ module _ {since : Beginning} (laws : SessionLaws) (cfg : Cfg) (fine : IsConfigur
           joins laws cfg fine end w h step after_taken taken.side (world_on j.0) (moves j.0) (f.packet ∷ []) (f.packet ∷ []) (packet_octets ∷ [])
           (ap (λ (r : Result PlainPacket PacketError). r ∷ []) f.reads) back goes_up_one up up_after (handed_puts none) j.1.layer near takes (heard_plain (settings_from end cfg) w.near.layer taken packet_octets some quiet) kept (tt, pulls_bring_octets cfg.wide end here j.0) (there, pair_on j.0)
           (heard_beside cfg end w.near.layer taken packet_octets f.packet some quiet f.reads) gave_none
-          (subst (λ (l : List Came). AreSomeOf IsGiven l []) (sym (spelled_bring laws.stations cfg j.1.packets (joined_readable none))) tt)
+          (subst (λ (l : List Came). AreSomeOf IsGiven l []) (sym (spelled_bring laws.stations cfg j.1.packets (joined_readable none))) tt) (counts_taken j.0 quiet)
           (λ o. may_ask end Receives (line.Put o) is_at tt) reach_taken (λ nothing. absurd (not_empty f.packet nothing)) (pairs_on j.0) met_taken.more
           (λ first. inr (record {
             has_met = subst (λ (ms : List Meeting). HasMet here there ms) (sym met_now) (inl (refl, refl));

@@ -1,5 +1,5 @@
 -- A command to the layer in a session, without or with something given: its own packet is put, and then what waits.
-use Rattle.std.proofs.Common.{◌≡◌, ℕ, suc, ◌==◌, ◌⊎◌, inl, inr, List, [], ◌∷◌, ◌++◌, map, Bool, true, Option, None, refl, sym, ap, ◌∙◌, subst, append-nil, arith, false, if◌then◌else◌, ◌&&◌}
+use Rattle.std.proofs.Common.{◌≡◌, ℕ, suc, ◌==◌, ◌≤◌, ◌⊎◌, inl, inr, List, [], ◌∷◌, ◌++◌, map, Bool, true, Option, None, refl, sym, ap, ◌∙◌, subst, append-nil, arith, false, if◌then◌else◌, ◌&&◌}
 use Rattle.std.proofs.lemmas.List.{append_cancel_left}
 use Rattle.x25_bits.specs.declared.role.Role.{Role}
 use Rattle.x25_frame.specs.Frame.{PlainFrame}
@@ -12,6 +12,7 @@ use Rattle.x25_line.specs.laws.Stations as line
 use Rattle.x25_line.specs.laws.Sessions.{Meeting, Sessions}
 use Rattle.x25_line.specs.laws.SessionClaims.{octets_of}
 use Rattle.x25_given.specs.Given.{PlainGiven, may_give}
+use Rattle.x25_handshakes.specs.laws.Names.{Name}
 use Rattle.x25_layer.specs.Layer.{Layer, LayerNotice}
 use Rattle.x25_circuit.specs.Calling as circuit
 use Rattle.x25_layer.specs.Calls as asked
@@ -35,16 +36,18 @@ use Rattle.x25_station.specs.laws.ReadLaw.{AreReadable, RequestsOctets}
 use Rattle.x25_world.specs.declared.error.WorldError.{WorldError}
 use Rattle.x25_world.specs.World.{World, Commands, of_station, refusal_of, after, after_step}
 use Rattle.x25_world.specs.laws.BesideClaims.{Came, came_in, Gave, channel_for, gave_where, IsGiven, AreSomeOf}
+use Rattle.x25_world.specs.laws.ConfirmedClaims.{confirmed_in}
 use Rattle.x25_world.specs.laws.Claims.{link_of}
 use Rattle.x25_world.proofs.Known.{IsConfigured, both_true}
 use Rattle.x25_world.proofs.Growing.{all_read, as_read}
 use Rattle.x25_world.proofs.sessions.SessionTrace.{layer_of, Done, moved, own, own_goes, same_number, pair_at, events_of, pair_more, pair_same, TakeNothing, nothing_goes, BringOctets, octets_append}
+use Rattle.x25_world.proofs.sessions.SessionCounts.{counted_in, CountNone}
 use Rattle.x25_world.proofs.sessions.SessionReaches.{Beginning, MayAsk, IsAt, may_ask, SessionsReach}
 use Rattle.x25_world.proofs.sessions.SessionJoined.{HasMet, PairIsInOrder, PairsAreInOrder, SessionsJoined, Goes, gave_none, stays}
 use Rattle.x25_world.proofs.sessions.SessionBeside.{brought, AreTold, spelled_bring, FirstMayGo, spelled_with_bring, own_goes_first}
 use Rattle.x25_world.specs.laws.LawsBelow.{SessionLaws}
 use Rattle.x25_world.proofs.sessions.SessionKnown.{met_in_order, all_map, pair_ends, own_quiet, own_readable, nothing_in_order}
-use Rattle.x25_world.proofs.sessions.SessionEntries.{ArePlain, outcome_plain, outcome_beside}
+use Rattle.x25_world.proofs.sessions.SessionEntries.{ArePlain, outcome_plain, outcome_beside, outcome_counts}
 use Rattle.x25_world.proofs.sessions.SessionLinks.{puts_up, SessionGoes, PutsOctets, spelled, puts_spelled, spelled_with, puts_spelled_with, AreReadBack, spelled_back, spelled_with_back, back_read, back_octets, puts_go, stays_goes, PutsRead}
 use Rattle.x25_world.proofs.sessions.SessionGoes.{same_or_not, IsNews, goes_on}
 use Rattle.x25_world.proofs.sessions.SessionMoves.{own_pulls, pulls_take_nothing, pulls_bring_octets, near_pulls, request_leaves}
@@ -175,7 +178,8 @@ module _ {since : Beginning} (laws : SessionLaws) (cfg : Cfg) (fine : IsConfigur
       (p : PutsRead cfg end t step) (m : MovesAs (apart.alone own_now coming) u p.packets step) (near : u.near ≡ own_run (layer_of cfg end) moves own_now)
       (taken : (own_run (layer_of cfg end) moves own_now).taken ≡ own_now.taken ++ lifted) (plain : ArePlain step.entries) (kept : IsKept step.near)
       (octets : BringOctets cfg.wide (moved end session moves)) (paired : (m : ℕ) × PairIsInOrder cfg end (h.trace ++ moved end session moves) session m)
-      (tells : AreTold (came_in step.entries) (brought cfg came)) (gave : ℕ → List Gave) (gives : AreSomeOf IsGiven (brought cfg p.handed) (gave session)) where
+      (tells : AreTold (came_in step.entries) (brought cfg came)) (gave : ℕ → List Gave) (gives : AreSomeOf IsGiven (brought cfg p.handed) (gave session))
+      (counts : (k : ℕ) (name : Name) → confirmed_in k name step.entries ≤ counted_in (layer_of cfg end) k name moves own_now) where
     abbrev own_then : layer.End
     own_then = own_run (layer_of cfg end) moves own_now
 
@@ -208,7 +212,7 @@ module _ {since : Beginning} (laws : SessionLaws) (cfg : Cfg) (fine : IsConfigur
           entries = ap (λ (e : layer.End). e.entries) (sym near) ∙ m.entries;
           told = told_then;
         })
-        up still plain kept tells gave gives r.reach alone
+        up still plain kept tells gave gives counts r.reach alone
         (no_faults_behind own_now.told (layer_notices step.entries)
         (subst AreNoFaults (ap (λ (e : layer.End). e.told) (own_goes cfg end session h.trace moves) ∙ told_then) (own_quiet laws cfg end session paired.0 (h.trace ++ moved end session moves) paired.1).told))
         octets pairs more news
@@ -227,6 +231,7 @@ module _ {since : Beginning} (laws : SessionLaws) (cfg : Cfg) (fine : IsConfigur
     may : command.may_ask cfg.wide request ≡ true
     plain : ArePlain step.entries
     alone : came_in step.entries ≡ []
+    uncounted : CountNone step.entries
     gives : AreReadable cfg.wide cfg.long_data packets → AreSomeOf IsGiven (brought cfg handed) gave
     kept : IsKept step.near
 
@@ -263,7 +268,7 @@ module _ {since : Beginning} (laws : SessionLaws) (cfg : Cfg) (fine : IsConfigur
         let untold : layer_notices step.entries ≡ [] =
         append_cancel_left own_now.told (layer_notices step.entries) [] (sym a.layer.told ∙ ap (λ (e : layer.End). e.told) near_on ∙ leaves.told ∙ sym (append-nil own_now.told)) in
         joins step h.links (alone w.near.link) world_on moves [] [] [] refl w.back (stays_goes (link_of cfg end) h.links w.near.link w.back h.near.link h.back) a.up a.up asked_puts a.layer near_on (leaves.taken ∙ sym (append-nil own_now.taken))
-        a.plain a.kept ((octets, a.may), pulls_bring_octets cfg.wide end session a.channels) pair_on (subst (λ (l : List Came). AreTold l []) (sym a.alone) tt) gave (a.gives asked_readable)
+        a.plain a.kept ((octets, a.may), pulls_bring_octets cfg.wide end session a.channels) pair_on (subst (λ (l : List Came). AreTold l []) (sym a.alone) tt) gave (a.gives asked_readable) (λ k name. (let none = a.uncounted k name in omega (arith, none)))
         may h.reach (λ none. nothing) (pairs_go_quietly laws cfg end h.trace session moves nothing h.links.met h.pairs) (λ n m has. has) (λ none. inl (refl, untold))
 
   -- ---- without anything given
@@ -285,6 +290,7 @@ module _ {since : Beginning} (laws : SessionLaws) (cfg : Cfg) (fine : IsConfigur
         may = granted.is_taken;
         plain = subst ArePlain (sym granted.entries) (outcome_plain (layer_settings c) w.near.layer request _);
         alone = ap came_in granted.entries ∙ outcome_beside (layer_settings c) w.near.layer request _;
+        uncounted = λ k name. ap (confirmed_in k name) granted.entries ∙ outcome_counts (layer_settings c) w.near.layer request _ k name;
         gives = λ readable. subst (λ (l : List Came). AreSomeOf IsGiven l []) (sym (spelled_bring laws.stations cfg j.2.packets readable)) tt;
         kept = subst KeptBy is (laws.stations.request_keeps c w.near request h.near.kept);
       }
@@ -328,6 +334,7 @@ module _ {since : Beginning} (laws : SessionLaws) (cfg : Cfg) (fine : IsConfigur
         may = suits_asks cfg.wide g request may.1;
         plain = subst ArePlain (sym granted.entries) (outcome_plain (layer_settings c) w.near.layer request _);
         alone = ap came_in granted.entries ∙ outcome_beside (layer_settings c) w.near.layer request _;
+        uncounted = λ k name. ap (confirmed_in k name) granted.entries ∙ outcome_counts (layer_settings c) w.near.layer request _ k name;
         gives = λ readable.
             (let channel = channel_for (layer_of cfg end) w.near.layer request in
             subst (λ (b : Bool). AreSomeOf IsGiven (brought cfg (spelled_with g j.2.packets)) (gave_where b None (record { channel = channel; given = g }))) (sym (same_number session))

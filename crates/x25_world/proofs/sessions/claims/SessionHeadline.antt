@@ -3,6 +3,7 @@ use Rattle.x25_station.specs.laws.KeepLaw.{ConnectKeeps}
 use Rattle.x25_world.specs.World.{run}
 use Rattle.x25_world.specs.laws.Claims.{HasNoProcedureError}
 use Rattle.x25_world.specs.laws.SessionClaims.{Throughout, MeetInStep, AreLawfulWhereMet, AreNamedInSessions, UnmetAreToldNothing, OpenStretchesMeet, AllArrive}
+use Rattle.x25_world.specs.laws.ConfirmedClaims.{ConfirmedAreHandedUp}
 use Rattle.x25_world.specs.laws.TapOctets.{IsTapOfOctets}
 use Rattle.x25_world.proofs.Known.{is_configured}
 use Rattle.x25_world.specs.laws.LawsBelow.{SessionLaws}
@@ -12,6 +13,7 @@ use Rattle.x25_world.proofs.sessions.claims.SessionNamed.{are_named}
 use Rattle.x25_world.proofs.sessions.claims.SessionArrives.{open_stretches_meet, all_arrive}
 use Rattle.x25_world.proofs.sessions.claims.SessionQuiet.{has_no_error}
 use Rattle.x25_world.proofs.sessions.claims.SessionOctets.{is_of_octets}
+use Rattle.x25_world.proofs.sessions.claims.SessionConfirmed.{are_confirmed}
 use Rattle.x25_world.proofs.sessions.SessionRuns.{throughout_joined}
 
 module _ (laws : SessionLaws) (keeps : ConnectKeeps) where
@@ -38,3 +40,6 @@ module _ (laws : SessionLaws) (keeps : ConnectKeeps) where
 
   pub throughout_octets : Throughout IsTapOfOctets
   throughout_octets cfg fine begin which events octets = is_of_octets laws cfg (is_configured cfg fine) (run cfg events begin) (throughout_joined laws keeps cfg fine begin which events octets)
+
+  pub throughout_confirmed : Throughout ConfirmedAreHandedUp
+  throughout_confirmed cfg fine begin which events octets = are_confirmed laws cfg (is_configured cfg fine) (run cfg events begin) (throughout_joined laws keeps cfg fine begin which events octets)

@@ -1,0 +1,410 @@
+-- Of two layers in order: as many messages as an end's moves confirm of a stretch, of those whose confirmation was asked, the other end has handed up.
+use Rattle.std.proofs.Common.{◌≡◌, ◌⊎◌, inl, inr, ℕ, zero, suc, ◌+◌, ◌-◌, ◌≤◌, List, [], ◌∷◌, ◌++◌, length, take, drop, Bool, true, false, ◌==◌, ◌&&◌, if◌then◌else◌, refl, sym, ap, subst, ◌∙◌, arith, append_assoc}
+use Rattle.std.proofs.lemmas.Bool.{eqb-true}
+use Rattle.std.proofs.lemmas.List.{take-append-drop, drop-append-le}
+use Rattle.x25_bits.specs.declared.role.Role.TheVariants.{Dte, Dce}
+use Rattle.x25_packet.specs.Packet.{PlainPacket}
+use Rattle.x25_circuit.specs.declared.message.Message.{Message}
+use Rattle.x25_circuit.specs.Message.{Piece, More, Last, Partial, no_part, joined, carried_from, carried, asked_in}
+use Rattle.x25_circuit.specs.Circuit.{Talk, silent, Circuit, is_open, unconfirmed}
+use Rattle.x25_handshakes.specs.laws.Names.{Name, both, same_name}
+use Rattle.x25_layer.specs.declared.ranges.Ranges.{Ranges}
+use Rattle.x25_layer.specs.Ranges.{is_channel}
+use Rattle.x25_layer.specs.Layer.{LayerSettings, Layer}
+use Rattle.x25_layer.specs.code.FitsLayer.{is_open_at}
+use Rattle.x25_layer.specs.laws.Acknowledged.{AcknowledgedAreUp, AcknowledgedAreHandedUp}
+use Rattle.x25_layer.specs.laws.Transcript.{Handed, nothing_handed, Entry, says, under, messages_in, name_of}
+use Rattle.x25_layer.specs.laws.TwoLayers as layer
+use Rattle.x25_layer.specs.laws.TwoLayers.{settings_of}
+use Rattle.x25_layer.specs.laws.Apart.{OwnMove, Takes, Ends, ApartEvent, own_moves, apart_happens, apart_run, apart_start, near_moves, far_moves, IsInOrder, AreInOrder, AlwaysApart}
+use Rattle.x25_layer.specs.laws.ApartLaw.{EventsRunOn}
+use Rattle.x25_station.specs.Confirming.{goes_on}
+use Rattle.x25_world.specs.laws.ConfirmedClaims.{asked_among}
+use Rattle.x25_world.proofs.Known.{true_false, both_true}
+use Rattle.x25_world.proofs.Continues.{Begins, Same, Hears}
+use Rattle.x25_world.proofs.EndContinues.{end_heard, end_called, end_enters}
+use Rattle.x25_world.proofs.sessions.SessionTrace.{TakesNone}
+use Rattle.x25_world.proofs.sessions.SessionCounts.{counted_at, counted_by, counted_in}
+
+-- ---- how many asked
+
+asked_append : (xs ys : List Piece) → asked_in (xs ++ ys) ≡ asked_in xs + asked_in ys
+asked_append [] ys = omega arith
+asked_append (x ∷ xs) ys = let rest = asked_append xs ys in omega (arith, rest)
+
+asked_take : (a b : ℕ) (xs : List Piece) → a ≤ b → asked_in (take a xs) ≤ asked_in (take b xs)
+asked_take zero b xs le = omega arith
+asked_take (suc a) zero xs le = absurd (omega (arith, le))
+asked_take (suc a) (suc b) [] le = omega arith
+asked_take (suc a) (suc b) (x ∷ xs) le = let rest = asked_take a b xs (omega (arith, le)) in omega (arith, rest)
+
+asked_longer : (a : ℕ) (xs ys : List Piece) → asked_in (take a xs) ≤ asked_in (take a (xs ++ ys))
+asked_longer zero xs ys = omega arith
+asked_longer (suc a) [] ys = omega arith
+asked_longer (suc a) (x ∷ xs) ys = let rest = asked_longer a xs ys in omega (arith, rest)
+
+asked_of_take : (a : ℕ) (xs : List Piece) → asked_in (take a xs) + asked_in (drop a xs) ≡ asked_in xs
+asked_of_take a xs = sym (asked_append (take a xs) (drop a xs)) ∙ ap asked_in (take-append-drop a xs)
+
+-- messages are carried with their marks
+asked_carried : (j : Partial) (ps : List Piece) → asked_among (carried_from j ps) ≡ asked_in ps
+asked_carried j [] = refl
+asked_carried j (More q user ∷ ps) = let rest = asked_carried (joined j (More q user)) ps in omega (arith, rest)
+asked_carried j (Last q user ∷ ps) = let rest = asked_carried (joined j (Last q user)) ps in omega (arith, rest)
+
+among_append : (xs ys : List Message) → asked_among (xs ++ ys) ≡ asked_among xs + asked_among ys
+among_append [] ys = omega arith
+among_append (x ∷ xs) ys = let rest = among_append xs ys in omega (arith, rest)
+
+-- of a circuit, as many as are acknowledged
+abbrev acknowledged : Circuit → ℕ
+acknowledged x = asked_in (take x.talk.acked x.talk.sent)
+
+-- by a packet that acknowledges more, so many more
+more_acknowledged : (x y : Circuit) (n : ℕ) → Hears x y → y.talk.acked ≤ length y.talk.sent → n ≤ acknowledged x → n + (unconfirmed x - unconfirmed y) ≤ acknowledged y
+more_acknowledged x y n h low few =
+    let s : List Piece = x.talk.sent in
+    let r : List Piece = x.talk.rest in
+    let a : ℕ = x.talk.acked in
+    let b : ℕ = y.talk.acked in
+    let up = h.acked in
+    let high : b ≤ length s = subst (λ (l : List Piece). b ≤ length l) h.sent low in
+    let here : unconfirmed x ≡ asked_in (drop a s) + asked_in r = ap asked_in (drop-append-le a s r (omega (arith, up, high))) ∙ asked_append (drop a s) r in
+    let there : unconfirmed y ≡ asked_in (drop b s) + asked_in r =
+    ap (λ (l : List Piece). asked_in (drop b (l ++ y.talk.rest))) h.sent ∙ ap (λ (l : List Piece). asked_in (drop b (s ++ l))) h.rest ∙ ap asked_in (drop-append-le b s r high) ∙ asked_append (drop b s) r in
+    let all : asked_in (take a s) + asked_in (drop a s) ≡ asked_in s = asked_of_take a s in
+    let all_there : asked_in (take b s) + asked_in (drop b s) ≡ asked_in s = asked_of_take b s in
+    let grows : asked_in (take a s) ≤ asked_in (take b s) = asked_take a b s up in
+    let now : acknowledged y ≡ asked_in (take b s) = ap (λ (l : List Piece). asked_in (take b l)) h.sent in
+    omega (arith, here, there, all, all_there, grows, now, few)
+
+-- ---- transcripts that grow
+
+under_append : (k : ℕ) (name : Name) (xs ys : List Entry) → (rest : List Message) × ((messages_in (under k name (xs ++ ys))).down ≡ (messages_in (under k name xs)).down ++ rest)
+under_append k name [] ys = ((messages_in (under k name ys)).down, refl)
+under_append k name (x ∷ xs) ys =
+    let more = under_append k name xs ys in
+    let one : Handed = if both (k == x.channel) (same_name name x.name) then says x.said else nothing_handed in
+    (more.0, ap (λ (l : List Message). one.down ++ l) more.1 ∙ sym (append_assoc one.down (messages_in (under k name xs)).down more.0))
+
+up_append : (k : ℕ) (name : Name) (xs ys : List Entry) → (rest : List Message) × ((messages_in (under k name (xs ++ ys))).up ≡ (messages_in (under k name xs)).up ++ rest)
+up_append k name [] ys = ((messages_in (under k name ys)).up, refl)
+up_append k name (x ∷ xs) ys =
+    let more = up_append k name xs ys in
+    let one : Handed = if both (k == x.channel) (same_name name x.name) then says x.said else nothing_handed in
+    (more.0, ap (λ (l : List Message). one.up ++ l) more.1 ∙ sym (append_assoc one.up (messages_in (under k name xs)).up more.0))
+
+abbrev pub down_of : ℕ → Name → layer.End → ℕ
+down_of k name e = asked_among (messages_in (under k name e.entries)).down
+
+abbrev pub up_of : ℕ → Name → layer.End → ℕ
+up_of k name e = asked_among (messages_in (under k name e.entries)).up
+
+down_grows : (c : LayerSettings) (k : ℕ) (name : Name) (e : layer.End) (what : OwnMove) → down_of k name e ≤ down_of k name (own_moves c e what)
+down_grows c k name e what =
+    let more = end_enters c e what in
+    let here = under_append k name e.entries more.0 in
+    let is : down_of k name (own_moves c e what) ≡ down_of k name e + asked_among here.0 =
+    ap (λ (es : List Entry). asked_among (messages_in (under k name es)).down) more.1 ∙ ap asked_among here.1 ∙ among_append (messages_in (under k name e.entries)).down here.0 in
+    omega (arith, is)
+
+up_grows : (c : LayerSettings) (k : ℕ) (name : Name) (e : layer.End) (what : OwnMove) → up_of k name e ≤ up_of k name (own_moves c e what)
+up_grows c k name e what =
+    let more = end_enters c e what in
+    let here = up_append k name e.entries more.0 in
+    let is : up_of k name (own_moves c e what) ≡ up_of k name e + asked_among here.0 =
+    ap (λ (es : List Entry). asked_among (messages_in (under k name es)).up) more.1 ∙ ap asked_among here.1 ∙ among_append (messages_in (under k name e.entries)).up here.0 in
+    omega (arith, is)
+
+-- ---- names
+
+abbrev name_from : ℕ → ℕ → ℕ → Name
+name_from restarts clears resets = record { restarts = restarts; clears = clears; resets = resets }
+
+name_eq : (a b c d e f : ℕ) → a ≡ d → b ≡ e → c ≡ f → name_from a b c ≡ name_from d e f
+name_eq a b c d e f p q r = ap (λ (n : ℕ). name_from n b c) p ∙ ap (λ (n : ℕ). name_from d n c) q ∙ ap (λ (n : ℕ). name_from d e n) r
+
+both_are : (a b : Bool) → both a b ≡ true → (a ≡ true) × (b ≡ true)
+both_are true b h = (refl, h)
+both_are false b h = absurd (cc)
+
+same_name_is : (m n : Name) → same_name m n ≡ true → m ≡ n
+same_name_is m n h =
+    let a = both_are (m.restarts == n.restarts) (both (m.clears == n.clears) (m.resets == n.resets)) h in
+    let b = both_are (m.clears == n.clears) (m.resets == n.resets) a.1 in
+    name_eq m.restarts m.clears m.resets n.restarts n.clears n.resets (eqb-true m.restarts n.restarts a.0) (eqb-true m.clears n.clears b.0) (eqb-true m.resets n.resets b.1)
+
+-- where the stretch goes on, it has this name in both
+same_stretch : (l next : Layer) (k : ℕ) → next.restarts ≡ l.restarts → Same (l.circuits k) (next.circuits k) → name_of l k ≡ name_of next k
+same_stretch l next k restarts same =
+    name_eq l.restarts (l.circuits k).clears (l.circuits k).resets next.restarts (next.circuits k).clears (next.circuits k).resets (sym restarts) (sym same.clears) (sym same.resets)
+
+open_there : (b o : Bool) → (if b then o else false) ≡ true → o ≡ true
+open_there true o is = is
+open_there false o is = absurd (cc)
+
+-- one that begins didn't go on
+not_on : (c : LayerSettings) (l next : Layer) (k : ℕ) → Begins (l.circuits k) (next.circuits k) → goes_on c l next k ≡ true → ⊥
+not_on c l next k begins on =
+    let opened = both_true (is_open_at c l k) _ on in
+    let others = both_true (is_open_at c next k) (same_name (name_of l k) (name_of next k)) opened.1 in
+    elim begins.new [
+      | inl closed ↦ true_false (sym (open_there (is_channel c.channels k) (is_open (l.circuits k)) opened.0) ∙ closed)
+      | inr more ↦ more_than (l.circuits k).resets (sym (ap (λ (n : Name). n.resets) (same_name_is (name_of l k) (name_of next k) others.1) ∙ more))
+    ]
+  where
+    more_than : (n : ℕ) → suc n ≡ n → ⊥
+    more_than n e = omega (arith, e)
+
+-- ---- what is kept of an end, where it was told of so many, and the other
+
+record Bounded (k : ℕ) (name : Name) (n : ℕ) (e f : layer.End) : Type 0 where
+  opened : is_open (e.layer.circuits k) ≡ true → name_of e.layer k ≡ name → n ≤ acknowledged (e.layer.circuits k)
+  down : n ≤ down_of k name e
+  up : n ≤ up_of k name f
+
+abbrev KnownAt : ℕ → layer.End → layer.End → Type 0
+KnownAt k e f = is_open (e.layer.circuits k) ≡ true → AcknowledgedAreUp k (name_of e.layer k) (e.layer.circuits k).talk e f
+
+-- those that are acknowledged
+acked_down : (k : ℕ) (e f : layer.End) → AcknowledgedAreUp k (name_of e.layer k) (e.layer.circuits k).talk e f → acknowledged (e.layer.circuits k) ≤ down_of k (name_of e.layer k) e
+acked_down k e f h =
+    let t : Talk = (e.layer.circuits k).talk in
+    let is : down_of k (name_of e.layer k) e ≡ asked_in t.sent + asked_in t.rest = ap asked_among h.down ∙ asked_carried no_part (t.sent ++ t.rest) ∙ asked_append t.sent t.rest in
+    let all : asked_in (take t.acked t.sent) + asked_in (drop t.acked t.sent) ≡ asked_in t.sent = asked_of_take t.acked t.sent in
+    omega (arith, is, all)
+
+acked_up : (k : ℕ) (e f : layer.End) → AcknowledgedAreUp k (name_of e.layer k) (e.layer.circuits k).talk e f → acknowledged (e.layer.circuits k) ≤ up_of k (name_of e.layer k) f
+acked_up k e f h =
+    let t : Talk = (e.layer.circuits k).talk in
+    let is : up_of k (name_of e.layer k) f ≡ acknowledged (e.layer.circuits k) + asked_among h.first.0 =
+    ap asked_among (sym h.first.1) ∙ among_append (carried (take t.acked t.sent)) h.first.0 ∙ ap (λ (n : ℕ). n + asked_among h.first.0) (asked_carried no_part (take t.acked t.sent)) in
+    omega (arith, is)
+
+-- nothing was handed down in a stretch that begins
+none_down : (k : ℕ) (e f : layer.End) → AcknowledgedAreUp k (name_of e.layer k) (e.layer.circuits k).talk e f → (e.layer.circuits k).talk ≡ silent → down_of k (name_of e.layer k) e ≡ 0
+none_down k e f h is = ap asked_among (h.down ∙ ap (λ (t : Talk). carried (t.sent ++ t.rest)) is)
+
+module _ (c : LayerSettings) (k : ℕ) (name : Name) (n : ℕ) (e f : layer.End) (h : Bounded k name n e f) where
+  -- ---- a packet
+
+  module _ (p : PlainPacket) where
+    abbrev heard_end : layer.End
+    heard_end = own_moves c e (Takes p)
+
+    abbrev x : Circuit
+    x = e.layer.circuits k
+
+    abbrev y : Circuit
+    y = heard_end.layer.circuits k
+
+    abbrev count : ℕ
+    count = counted_at c k name e.layer heard_end.layer
+
+    module _ (known : KnownAt k heard_end f) where
+      grows : down_of k name e ≤ down_of k name heard_end
+      grows = down_grows c k name e (Takes p)
+
+      -- in a stretch that begins none was told of
+      begins_none : Begins x y → is_open y ≡ true → name_of heard_end.layer k ≡ name → n ≤ 0
+      begins_none begins is named =
+          let few = h.down in
+          let none : down_of k name heard_end ≡ 0 = subst (λ (m : Name). down_of k m heard_end ≡ 0) named (none_down k heard_end f (known is) begins.silent) in
+          let more = grows in
+          omega (arith, few, none, more)
+
+      count_none : Begins x y → count ≡ 0
+      count_none begins = by (same_name name (name_of heard_end.layer k)) (goes_on c e.layer heard_end.layer k) refl
+        where
+          by : (a b : Bool) → goes_on c e.layer heard_end.layer k ≡ b → (if a then (if b then unconfirmed x - unconfirmed y else 0) else 0) ≡ 0
+          by true true on = absurd (not_on c e.layer heard_end.layer k begins on)
+          by true false on = refl
+          by false b on = refl
+
+      count_low : count ≤ unconfirmed x - unconfirmed y
+      count_low = by (same_name name (name_of heard_end.layer k)) (goes_on c e.layer heard_end.layer k)
+        where
+          by : (a b : Bool) → (if a then (if b then unconfirmed x - unconfirmed y else 0) else 0) ≤ unconfirmed x - unconfirmed y
+          by true true = omega arith
+          by true false = omega arith
+          by false b = omega arith
+
+      now_acked : is_open y ≡ true → name_of heard_end.layer k ≡ name → n + count ≤ acknowledged y
+      now_acked is named = elim ((end_heard c e p k).circuit is) [
+        | inl begins ↦ (let zero = begins_none begins is named in let none = count_none begins in omega (arith, zero, none))
+        | inr hears ↦ (
+            let before : n ≤ acknowledged x = h.opened hears.same.opened (same_stretch e.layer heard_end.layer k ((end_heard c e p k).restarts is) hears.same ∙ named) in
+            let all = more_acknowledged x y n hears (known is).sent before in
+            let low = count_low in
+            omega (arith, all, low))
+      ]
+
+      -- none more, or the stretch is open
+      none_or_open : (count ≡ 0) ⊎ ((is_open y ≡ true) × (name_of heard_end.layer k ≡ name))
+      none_or_open = by (same_name name (name_of heard_end.layer k)) (goes_on c e.layer heard_end.layer k) refl refl
+        where
+          by : (a b : Bool) → same_name name (name_of heard_end.layer k) ≡ a → goes_on c e.layer heard_end.layer k ≡ b
+              → ((if a then (if b then unconfirmed x - unconfirmed y else 0) else 0) ≡ 0) ⊎ ((is_open y ≡ true) × (name_of heard_end.layer k ≡ name))
+          by true true named on =
+              let opened = both_true (is_open_at c e.layer k) _ on in
+              let others = both_true (is_open_at c heard_end.layer k) (same_name (name_of e.layer k) (name_of heard_end.layer k)) opened.1 in
+              inr (open_there (is_channel c.channels k) (is_open y) others.0, sym (same_name_is name (name_of heard_end.layer k) named))
+          by true false named on = inl refl
+          by false b named on = inl refl
+
+      heard : Bounded k name (n + count) heard_end f
+      heard = record {
+        opened = now_acked;
+        down = elim none_or_open [
+          | inl none ↦ (let few = h.down in let more = grows in omega (arith, none, few, more))
+          | inr on ↦ (
+              let most = now_acked on.0 on.1 in
+              let low : acknowledged y ≤ down_of k name heard_end = subst (λ (m : Name). acknowledged y ≤ down_of k m heard_end) on.1 (acked_down k heard_end f (known on.0)) in
+              omega (arith, most, low))
+        ];
+        up = elim none_or_open [
+          | inl none ↦ (let few = h.up in omega (arith, none, few))
+          | inr on ↦ (
+              let most = now_acked on.0 on.1 in
+              let low : acknowledged y ≤ up_of k name f = subst (λ (m : Name). acknowledged y ≤ up_of k m f) on.1 (acked_up k heard_end f (known on.0)) in
+              omega (arith, most, low))
+        ];
+      }
+
+  -- ---- anything else
+
+  module _ (what : OwnMove) (none : TakesNone what) (known : KnownAt k (own_moves c e what) f) where
+    abbrev next : layer.End
+    next = own_moves c e what
+
+    called_acked : is_open (next.layer.circuits k) ≡ true → name_of next.layer k ≡ name → n ≤ acknowledged (next.layer.circuits k)
+    called_acked is named = elim ((end_called c e what k none).circuit is) [
+      | inl begins ↦ (
+          let few = h.down in
+          let zero : down_of k name next ≡ 0 = subst (λ (m : Name). down_of k m next ≡ 0) named (none_down k next f (known is) begins.silent) in
+          let more = down_grows c k name e what in
+          omega (arith, few, zero, more))
+      | inr goes ↦ (
+          let before : n ≤ acknowledged (e.layer.circuits k) = h.opened goes.same.opened (same_stretch e.layer next.layer k ((end_called c e what k none).restarts is) goes.same ∙ named) in
+          let longer = asked_longer (e.layer.circuits k).talk.acked (e.layer.circuits k).talk.sent goes.more in
+          let now : acknowledged (next.layer.circuits k) ≡ asked_in (take (e.layer.circuits k).talk.acked ((e.layer.circuits k).talk.sent ++ goes.more)) =
+          ap (λ (a : ℕ). asked_in (take a (next.layer.circuits k).talk.sent)) goes.acked ∙ ap (λ (l : List Piece). asked_in (take (e.layer.circuits k).talk.acked l)) goes.sent in
+          omega (arith, before, longer, now))
+    ]
+
+    called : Bounded k name n next f
+    called = record { opened = called_acked; down = (let few = h.down in let more = down_grows c k name e what in omega (arith, few, more)); up = h.up }
+
+  -- its own move
+  own_bounded : (what : OwnMove) → KnownAt k (own_moves c e what) f → Bounded k name (n + counted_by c k name e what) (own_moves c e what) f
+  own_bounded (Takes p) known = heard p known
+  own_bounded what known = subst (λ (m : ℕ). Bounded k name m (own_moves c e what) f) (let is : n ≡ n + 0 = omega arith in is) (called what tt known)
+
+  -- a move of the other
+  other_bounded : (d : LayerSettings) (what : OwnMove) → Bounded k name n e (own_moves d f what)
+  other_bounded d what = record { opened = h.opened; down = h.down; up = (let few = h.up in let more = up_grows d k name f what in omega (arith, few, more)) }
+
+-- ---- runs
+
+module _ (long_data : Bool) (channels : Ranges) (behind : EventsRunOn) (law : AlwaysApart AcknowledgedAreHandedUp long_data channels) (k : ℕ) (name : Name) where
+  abbrev start : Ends
+  start = apart_start long_data channels
+
+  abbrev then_run : List ApartEvent → Ends
+  then_run done = apart_run long_data channels done start
+
+  abbrev happened : Ends → ApartEvent → Ends
+  happened ends e = apart_happens long_data channels ends e
+
+  abbrev near_settings : LayerSettings
+  near_settings = settings_of Dte long_data channels
+
+  abbrev far_settings : LayerSettings
+  far_settings = settings_of Dce long_data channels
+
+  -- by one event more
+  one_more : (done : List ApartEvent) (e : ApartEvent) → AreInOrder long_data channels done start → IsInOrder (then_run done) e
+      → AreInOrder long_data channels (done ++ e ∷ []) start × (then_run (done ++ e ∷ []) ≡ happened (then_run done) e)
+  one_more done e order next = (let r = behind long_data channels done (e ∷ []) start in (r.order order (next, tt), r.run))
+
+  known_near : (done : List ApartEvent) → AreInOrder long_data channels done start → KnownAt k (then_run done).near (then_run done).far
+  known_near done order = (law done order).near k
+
+  known_far : (done : List ApartEvent) → AreInOrder long_data channels done start → KnownAt k (then_run done).far (then_run done).near
+  known_far done order = (law done order).far k
+
+  near_event : (ends : Ends) (e : ApartEvent) (n : ℕ) → KnownAt k (happened ends e).near (happened ends e).far → Bounded k name n ends.near ends.far
+      → Bounded k name (n + (if e.first then counted_by near_settings k name ends.near e.what else 0)) (happened ends e).near (happened ends e).far
+  near_event ends e n known h = by e.first known
+    where
+      by : (b : Bool) → (let v = happened ends (record { first = b; what = e.what }) in KnownAt k v.near v.far
+          → Bounded k name (n + (if b then counted_by near_settings k name ends.near e.what else 0)) v.near v.far)
+      by true known = own_bounded near_settings k name n ends.near ends.far h e.what known
+      by false known = subst (λ (m : ℕ). Bounded k name m ends.near (own_moves far_settings ends.far e.what)) (let is : n ≡ n + 0 = omega arith in is) (other_bounded near_settings k name n ends.near ends.far h far_settings e.what)
+
+  far_event : (ends : Ends) (e : ApartEvent) (n : ℕ) → KnownAt k (happened ends e).far (happened ends e).near → Bounded k name n ends.far ends.near
+      → Bounded k name (n + (if e.first then 0 else counted_by far_settings k name ends.far e.what)) (happened ends e).far (happened ends e).near
+  far_event ends e n known h = by e.first known
+    where
+      by : (b : Bool) → (let v = happened ends (record { first = b; what = e.what }) in KnownAt k v.far v.near
+          → Bounded k name (n + (if b then 0 else counted_by far_settings k name ends.far e.what)) v.far v.near)
+      by false known = own_bounded far_settings k name n ends.far ends.near h e.what known
+      by true known = subst (λ (m : ℕ). Bounded k name m ends.far (own_moves near_settings ends.near e.what)) (let is : n ≡ n + 0 = omega arith in is) (other_bounded far_settings k name n ends.far ends.near h near_settings e.what)
+
+  near_count : (ends : Ends) (e : ApartEvent) (rest : List ApartEvent) → counted_in near_settings k name (near_moves (e ∷ rest)) ends.near
+      ≡ (if e.first then counted_by near_settings k name ends.near e.what else 0) + counted_in near_settings k name (near_moves rest) (happened ends e).near
+  near_count ends e rest = by e.first
+    where
+      by : (b : Bool) → counted_in near_settings k name (if b then e.what ∷ near_moves rest else near_moves rest) ends.near
+          ≡ (if b then counted_by near_settings k name ends.near e.what else 0) + counted_in near_settings k name (near_moves rest) (happened ends (record { first = b; what = e.what })).near
+      by true = refl
+      by false = omega arith
+
+  far_count : (ends : Ends) (e : ApartEvent) (rest : List ApartEvent) → counted_in far_settings k name (far_moves (e ∷ rest)) ends.far
+      ≡ (if e.first then 0 else counted_by far_settings k name ends.far e.what) + counted_in far_settings k name (far_moves rest) (happened ends e).far
+  far_count ends e rest = by e.first
+    where
+      by : (b : Bool) → counted_in far_settings k name (if b then far_moves rest else e.what ∷ far_moves rest) ends.far
+          ≡ (if b then 0 else counted_by far_settings k name ends.far e.what) + counted_in far_settings k name (far_moves rest) (happened ends (record { first = b; what = e.what })).far
+      by true = omega arith
+      by false = refl
+
+  near_run : (done rest : List ApartEvent) (n : ℕ) → AreInOrder long_data channels done start → AreInOrder long_data channels rest (then_run done) → Bounded k name n (then_run done).near (then_run done).far
+      → (let v = apart_run long_data channels rest (then_run done) in n + counted_in near_settings k name (near_moves rest) (then_run done).near ≤ up_of k name v.far)
+  near_run done [] n order next h = (let few = h.up in omega (arith, few))
+  near_run done (e ∷ rest) n order next h =
+      let more = one_more done e order next.0 in
+      let known : KnownAt k (happened (then_run done) e).near (happened (then_run done) e).far = subst (λ (v : Ends). KnownAt k v.near v.far) more.1 (known_near (done ++ e ∷ []) more.0) in
+      let m : ℕ = n + (if e.first then counted_by near_settings k name (then_run done).near e.what else 0) in
+      let now : Bounded k name m (happened (then_run done) e).near (happened (then_run done) e).far = near_event (then_run done) e n known h in
+      let others : (let v = apart_run long_data channels rest (happened (then_run done) e) in m + counted_in near_settings k name (near_moves rest) (happened (then_run done) e).near ≤ up_of k name v.far) =
+      subst (λ (ends : Ends). AreInOrder long_data channels rest ends → Bounded k name m ends.near ends.far
+      → (let v = apart_run long_data channels rest ends in m + counted_in near_settings k name (near_moves rest) ends.near ≤ up_of k name v.far)) more.1
+      (near_run (done ++ e ∷ []) rest m more.0) next.1 now in
+      let count = near_count (then_run done) e rest in
+      omega (arith, others, count)
+
+  far_run : (done rest : List ApartEvent) (n : ℕ) → AreInOrder long_data channels done start → AreInOrder long_data channels rest (then_run done) → Bounded k name n (then_run done).far (then_run done).near
+      → (let v = apart_run long_data channels rest (then_run done) in n + counted_in far_settings k name (far_moves rest) (then_run done).far ≤ up_of k name v.near)
+  far_run done [] n order next h = (let few = h.up in omega (arith, few))
+  far_run done (e ∷ rest) n order next h =
+      let more = one_more done e order next.0 in
+      let known : KnownAt k (happened (then_run done) e).far (happened (then_run done) e).near = subst (λ (v : Ends). KnownAt k v.far v.near) more.1 (known_far (done ++ e ∷ []) more.0) in
+      let m : ℕ = n + (if e.first then 0 else counted_by far_settings k name (then_run done).far e.what) in
+      let now : Bounded k name m (happened (then_run done) e).far (happened (then_run done) e).near = far_event (then_run done) e n known h in
+      let others : (let v = apart_run long_data channels rest (happened (then_run done) e) in m + counted_in far_settings k name (far_moves rest) (happened (then_run done) e).far ≤ up_of k name v.near) =
+      subst (λ (ends : Ends). AreInOrder long_data channels rest ends → Bounded k name m ends.far ends.near
+      → (let v = apart_run long_data channels rest ends in m + counted_in far_settings k name (far_moves rest) ends.far ≤ up_of k name v.near)) more.1
+      (far_run (done ++ e ∷ []) rest m more.0) next.1 now in
+      let count = far_count (then_run done) e rest in
+      omega (arith, others, count)
+
+  -- before anything happened
+  nothing_yet : (e f : layer.End) → Bounded k name 0 e f
+  nothing_yet e f = record { opened = λ is named. omega arith; down = omega arith; up = omega arith }
+
+  pub near_confirms : (events : List ApartEvent) → AreInOrder long_data channels events start → counted_in near_settings k name (near_moves events) start.near ≤ up_of k name (then_run events).far
+  near_confirms events order = let all = near_run [] events 0 tt order (nothing_yet start.near start.far) in omega (arith, all)
+
+  pub far_confirms : (events : List ApartEvent) → AreInOrder long_data channels events start → counted_in far_settings k name (far_moves events) start.far ≤ up_of k name (then_run events).near
+  far_confirms events order = let all = far_run [] events 0 tt order (nothing_yet start.far start.near) in omega (arith, all)
