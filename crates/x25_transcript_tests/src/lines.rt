@@ -73,6 +73,27 @@ fn writes_deliveries_of_larger_numbers(rt: HostRuntime) {
     );
 }
 
+// A message of no octets whose confirmation is asked.
+fn asking(alloc: Global) -> Entry {
+    Entry::OnChannel {
+        channel: 16,
+        name: LATE,
+        said: Said::Asked(Asked::Send {
+            q: Marks { q: false, d: true },
+            user: Vec::new(alloc),
+        }),
+    }
+}
+
+#[test]
+fn shows_that_confirmation_is_asked(rt: HostRuntime) {
+    let line = "dce send ch=16 at 10.3.18446744073709551615 q=0 d=1 data=-\n";
+    assert_eq!(rt;
+        is_line(rt.alloc(), Role::Dte, Ok(asking(rt.alloc())), line),
+        Ok(true)
+    );
+}
+
 // A message of so many octets that is to be sent.
 fn sent(alloc: Global, channel: u16, name: Stretch, count: usize) -> Result<Entry, AllocError> {
     let user = vec![in alloc; 0xabu8; count]?;

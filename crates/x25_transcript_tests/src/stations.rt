@@ -1,5 +1,6 @@
 use crate::lines::is_line;
 use std::alloc::{AllocError, Global};
+use x25_layer::Stretch;
 use x25_link::Reason;
 use x25_station::{Entry, Role};
 
@@ -48,4 +49,23 @@ fn shows_what_came_beside(rt: HostRuntime) {
         );
         assert_eq!(rt; is_shown, Ok(true), "{shown}");
     }
+}
+
+#[test]
+fn shows_what_is_confirmed(rt: HostRuntime) {
+    let name = Stretch {
+        restarts: 1,
+        clears: 0,
+        resets: 12,
+    };
+    let confirmed = Entry::Confirmed {
+        channel: 4_095,
+        name,
+        count: 15,
+    };
+    let shown = "dte confirmed ch=4095 at 1.0.12 count=15\n";
+    assert_eq!(rt;
+        is_line(rt.alloc(), Role::Dte, Ok(confirmed), shown),
+        Ok(true)
+    );
 }
