@@ -341,7 +341,7 @@ fn takes_plain_words_alone(rt: HostRuntime) {
 
 #[test]
 fn takes_no_other_words(rt: HostRuntime) {
-    let others: [&[&str]; 70] = [
+    let others: [&[&str]; 74] = [
         &[],
         &["dec"],
         &["decode", "decode"],
