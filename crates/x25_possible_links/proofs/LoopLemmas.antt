@@ -5,10 +5,12 @@ use Rattle.std.proofs.Common.{drop_of_length-le}
 use Rattle.std.proofs.Math.Seq.{drop-cons}
 use Rattle.std.proofs.lemmas.Bool.{ltb-true}
 use Rattle.x25_possible_links.specs.laws.Link.{fresh, is_asking}
-use Rattle.x25_possible_links.specs.laws.Places.{is_plain, onward, upward, sends}
-use Rattle.x25_possible_links.specs.code.Steps.{all_of, and_then, made, kept, spot_at, is_large, settles, goes, first_of, answered, answers, is_below, is_covered, least}
+use Rattle.x25_possible_links.specs.laws.Places.{is_plain, onward, upward}
+use Rattle.x25_possible_links.specs.code.Steps.{all_of, and_then, made, kept, spot_at, is_large, settles, goes, first_of, answered, answers, is_below, is_covered, least, moves}
+use Rattle.x25_possible_links.specs.code.Steps.{come, gone, passed}
 use Rattle.x25_possible_links.specs.declared.frame.Frame.{Frame}
 use Rattle.x25_possible_links.specs.declared.frame.Frame.TheVariants.{Info, Ready, Sabm, Disc, Ua, Dm, Frmr, Unread, Before}
+use Rattle.x25_possible_links.specs.declared.link.Mode.{Mode}
 use Rattle.x25_possible_links.specs.declared.spots.Spot.{Spot}
 use Rattle.x25_possible_links.specs.declared.stand.Stand.{Stand}
 use Rattle.x25_possible_links.specs.declared.stand.Stand.TheVariants.{Out, Asking, Up, Free}
@@ -64,22 +66,22 @@ settles_large n [] s out large = sym (ap (λ b. if b then None else kept (spot_a
 settles_large n (x ∷ rest) s out large =
     sym (ap (λ b. if b then None else if is_plain s x then settles (n + 1) rest (onward s x) out else kept (spot_at n s) out) large)
 
-module _ (x : Frame) (way : List Frame) (n : ℕ) (s : Stand) (out : List Spot) where
-  pub goes_large : (rest : List Frame) → is_large s ≡ true → None ≡ goes x way n rest s out
-  goes_large [] large = sym (ap (λ b. if b then None else first_of (sends s [] x) (λ r. settles n (drop n way) r out) (Some out)) large)
+module _ (mode : Mode) (x : Frame) (way : List Frame) (n : ℕ) (s : Stand) (out : List Spot) where
+  pub goes_large : (rest : List Frame) → is_large s ≡ true → None ≡ goes mode x way n rest s out
+  goes_large [] large = sym (ap (λ b. if b then None else first_of (moves mode s [] x) (λ r. settles n (drop n way) r out) (Some out)) large)
   goes_large (y ∷ rest) large =
       sym (ap (λ b. if b then None
-      else first_of (sends s (y ∷ rest) x) (λ r. settles n (drop n way) r out) (goes x way (n + 1) rest (upward s y) out)) large)
+      else first_of (moves mode s (y ∷ rest) x) (λ r. settles n (drop n way) r out) (goes mode x way (n + 1) rest (upward s y) out)) large)
 
-  pub goes_found : (rest : List Frame) (r : Stand) → is_large s ≡ false → sends s rest x ≡ Some r
-      → settles n (drop n way) r out ≡ goes x way n rest s out
+  pub goes_found : (rest : List Frame) (r : Stand) → is_large s ≡ false → moves mode s rest x ≡ Some r
+      → settles n (drop n way) r out ≡ goes mode x way n rest s out
   goes_found [] r small e =
-      sym (ap (λ b. if b then None else first_of (sends s [] x) (λ r. settles n (drop n way) r out) (Some out)) small
+      sym (ap (λ b. if b then None else first_of (moves mode s [] x) (λ r. settles n (drop n way) r out) (Some out)) small
       ∙ ap (λ o. first_of o (λ r. settles n (drop n way) r out) (Some out)) e)
   goes_found (y ∷ rest) r small e =
       sym (ap (λ b. if b then None
-      else first_of (sends s (y ∷ rest) x) (λ r. settles n (drop n way) r out) (goes x way (n + 1) rest (upward s y) out)) small
-      ∙ ap (λ o. first_of o (λ r. settles n (drop n way) r out) (goes x way (n + 1) rest (upward s y) out)) e)
+      else first_of (moves mode s (y ∷ rest) x) (λ r. settles n (drop n way) r out) (goes mode x way (n + 1) rest (upward s y) out)) small
+      ∙ ap (λ o. first_of o (λ r. settles n (drop n way) r out) (goes mode x way (n + 1) rest (upward s y) out)) e)
 
 -- what all have come to is no more than there is
 pub least_most : (qs : List Spot) (n : ℕ) → least qs n ≤ n
@@ -89,3 +91,11 @@ least_most (q ∷ qs) n = go (nat_lt q.at n) refl (λ m. least_most qs m)
     go : (b : Bool) → nat_lt q.at n ≡ b → ((m : ℕ) → least qs m ≤ m) → least qs (if b then q.at else n) ≤ n
     go true e rest = let h = rest q.at in let g = ltb-true q.at n e in omega (arith, h, g)
     go false e rest = rest n
+
+pub come_large : (way : List Frame) (s : Stand) → is_large s ≡ true → Free ≡ come way s
+come_large [] s large = sym (ap (λ b. if b then Free else s) large)
+come_large (x ∷ way) s large = sym (ap (λ b. if b then Free else come way (upward s x)) large)
+
+pub gone_large : (way : List Frame) (s : Stand) → is_large s ≡ true → Free ≡ gone way s
+gone_large [] s large = sym (ap (λ b. if b then Free else s) large)
+gone_large (x ∷ way) s large = sym (ap (λ b. if b then Free else gone way (passed s x)) large)

@@ -11,10 +11,15 @@ use Rattle.x25_possible_links.specs.laws.Places.{settled, settle}
 use Rattle.x25_possible_links.specs.laws.Places as place
 use Rattle.x25_possible_links.specs.laws.Sets.{GuiltyAreTold, InnocentsStayUntold}
 use Rattle.x25_possible_links.specs.code.Steps.{begun_as, blind, broken, grow_all, grows, least, played, sends_to, sent_to, set_as}
+use Rattle.x25_possible_links.specs.code.Steps.{latest, skipped_by, standing, telling, unexplained, unexplained_as}
 use Rattle.x25_possible_links.specs.code.Steps.{settles, shift_all, shift_at, shifted_to, shown_to, spot_at, Stepped, trimmed, walk_all}
 use Rattle.x25_possible_links.specs.code.Steps.{walks}
 use Rattle.x25_possible_links.specs.declared.frame.Frame.{Frame}
+use Rattle.x25_possible_links.specs.declared.frame.Frame.TheVariants.{Ua}
+use Rattle.x25_possible_links.specs.declared.link.Mode.TheVariants.{Right, Skipping}
 use Rattle.x25_possible_links.specs.declared.set.LinkSet.{LinkSet}
+use Rattle.x25_possible_links.specs.declared.set.Told.{Told}
+use Rattle.x25_possible_links.specs.declared.set.Told.TheVariants.{Nothing, Skips, Broken}
 use Rattle.x25_possible_links.specs.declared.spots.Spot.{Spot}
 use Rattle.x25_possible_links.specs.declared.stand.Stand.{Stand}
 use Rattle.x25_possible_links.proofs.LoopLemmas.{least_most}
@@ -99,7 +104,7 @@ own_holds begun tape way qs x _ _ _ e fits (Sends tape' s r end y may h) =
     )
 
 own_fits : (begun : List Stand) (tape : List (Item Frame)) (way : List Frame) (qs new : List Spot) (x : Frame)
-    → Fits begun tape way qs → walk_all x way qs [] ≡ Some new → Fits begun (Own x ∷ tape) way new
+    → Fits begun tape way qs → walk_all Right x way qs [] ≡ Some new → Fits begun (Own x ∷ tape) way new
 own_fits begun tape way qs new x fits e = record {
   stands = λ q is.
       let g = from_all (behind_own x way) qs (placed way q) (from_added way new (flat_map (behind_own x way) qs) adds q is) in
@@ -113,7 +118,7 @@ own_fits begun tape way qs new x fits e = record {
 }
   where
     adds : Adds way [] new (flat_map (behind_own x way) qs)
-    adds = adds_all way (walks x way) (behind_own x way) (λ q out now h. adds_walks x way q out now h) qs [] new e
+    adds = adds_all way (walks Right x way) (behind_own x way) (λ q out now h. adds_walks x way q out now h) qs [] new e
 
 -- ---- as the other end sends one
 
@@ -275,10 +280,10 @@ none_left begun tape way (q ∷ qs) s end fits h e = absurd (some (eqb-true (len
 
 abbrev stepped : Bool → Frame → LinkSet → List Spot → Stepped
 stepped b x set qs =
-    if b then record { set = broken x set; told = true } else record { set = trimmed (set_as set set.way.items qs); told = false }
+    if b then unexplained x set else telling Nothing (standing qs set)
 
 sent_fits : (begun : List Stand) (tape : List (Item Frame)) (set : LinkSet) (x : Frame) (s : State) (end : List Frame)
-    (o : Option (List Spot)) → walk_all x set.way.items set.spots.items [] ≡ o → (sent_to x o set).set.is_blind ≡ false → FitsSet begun tape set
+    (o : Option (List Spot)) → walk_all Right x set.way.items set.spots.items [] ≡ o → (sent_to x o set).set.is_blind ≡ false → FitsSet begun tape set
     → Stands (link_rules begun) (Own x ∷ tape) s end → FitsSet begun (Own x ∷ tape) (sent_to x o set).set
 sent_fits begun tape set x s end None e some fits h = absurd (both_ways true some refl)
 sent_fits begun tape set x s end (Some qs) e some fits h = go (length qs == 0) refl
@@ -313,7 +318,7 @@ nothing_holds begun _ _ _ e (Takes tape s r end y may h) =
 
 abbrev sends_by : Bool → Frame → LinkSet → Stepped
 sends_by b x set =
-    if b then record { set = set; told = false } else sent_to x (walk_all x set.way.items set.spots.items []) set
+    if b then telling Nothing set else sent_to x (walk_all Right x set.way.items set.spots.items []) set
 
 abbrev shows_by : Bool → Bool → Frame → LinkSet → LinkSet
 shows_by b full x set =
@@ -326,7 +331,7 @@ own_step : (begun : List Stand) (tape : List (Item Frame)) (set : LinkSet) (x : 
     → (sends_by b x set).set.is_blind ≡ false → FitsSet begun (Own x ∷ tape) (sends_by b x set).set
 own_step begun tape set x s end true e fits h sees = absurd (both_ways set.is_blind sees e)
 own_step begun tape set x s end false e fits h sees =
-    sent_fits begun tape set x s end (walk_all x set.way.items set.spots.items []) refl sees (fits e) h
+    sent_fits begun tape set x s end (walk_all Right x set.way.items set.spots.items []) refl sees (fits e) h
 
 other_step : (begun : List Stand) (tape : List (Item Frame)) (set : LinkSet) (x : Frame) (b full : Bool) → set.is_blind ≡ b
     → (set.is_blind ≡ false → FitsSet begun tape set) → (shows_by b full x set).is_blind ≡ false
@@ -355,14 +360,40 @@ played_fits begun (Other x ∷ tape) s end h sees =
 
 -- ---- what is told
 
+IsTold : Told → Type 0
+IsTold Nothing = ⊥
+IsTold t = Unit {0}
+
+is_something : (t : Told) → IsTold t → t ≡ Nothing → ⊥
+unfolding IsTold
+is_something t is e = subst IsTold e is
+
+skipped_told : (stand : Stand) (x : Frame) (set : LinkSet) (o : Option (List Spot)) → IsTold (skipped_by o stand x set).told
+unfolding IsTold
+skipped_told stand x set None = tt
+skipped_told stand x set (Some qs) = go (length qs == 0)
+  where
+    go : (b : Bool)
+        → IsTold (if b then telling (Broken stand) (broken x set) else telling (Skips stand) (standing qs set)).told
+    go true = tt
+    go false = tt
+
+told_as : (stand : Stand) (x : Frame) (set : LinkSet) → IsTold (unexplained_as stand x set).told
+unfolding IsTold
+told_as stand Ua set = tt
+told_as stand x set = skipped_told stand x set (walk_all Skipping x set.way.items set.spots.items [])
+
+unexplained_told : (x : Frame) (set : LinkSet) → (unexplained x set).told ≡ Nothing → ⊥
+unexplained_told x set = is_something (unexplained x set).told (told_as (latest set.spots.items set.way.items) x set)
+
 untold : (begun : List Stand) (tape : List (Item Frame)) (set : LinkSet) (x : Frame) (s : State) (end : List Frame)
-    (o : Option (List Spot)) → walk_all x set.way.items set.spots.items [] ≡ o → FitsSet begun tape set
-    → Stands (link_rules begun) (Own x ∷ tape) s end → (sent_to x o set).told ≡ false
+    (o : Option (List Spot)) → walk_all Right x set.way.items set.spots.items [] ≡ o → FitsSet begun tape set
+    → Stands (link_rules begun) (Own x ∷ tape) s end → (sent_to x o set).told ≡ Nothing
 untold begun tape set x s end None e fits h = refl
 untold begun tape set x s end (Some qs) e fits h = go (length qs == 0) refl
   where
     go : (b : Bool) → (length qs == 0) ≡ b
-        → (stepped b x set qs).told ≡ false
+        → (stepped b x set qs).told ≡ Nothing
     go true k =
         absurd (none_left begun (Own x ∷ tape) set.way.items qs s end
         (own_fits begun tape set.way.items set.spots.items qs x fits e) h k)
@@ -370,10 +401,10 @@ untold begun tape set x s end (Some qs) e fits h = go (length qs == 0) refl
 
 untold_by : (begun : List Stand) (tape : List (Item Frame)) (set : LinkSet) (x : Frame) (s : State) (end : List Frame) (b : Bool)
     → set.is_blind ≡ b → (set.is_blind ≡ false → FitsSet begun tape set) → Stands (link_rules begun) (Own x ∷ tape) s end
-    → (sends_by b x set).told ≡ false
+    → (sends_by b x set).told ≡ Nothing
 untold_by begun tape set x s end true e fits h = refl
 untold_by begun tape set x s end false e fits h =
-    untold begun tape set x s end (walk_all x set.way.items set.spots.items []) refl (fits e) h
+    untold begun tape set x s end (walk_all Right x set.way.items set.spots.items []) refl (fits e) h
 
 pub innocents_stay_untold : InnocentsStayUntold
 innocents_stay_untold begun tape x s end h =
@@ -382,20 +413,20 @@ innocents_stay_untold begun tape x s end h =
     untold_by begun tape set x s end set.is_blind refl (λ k. played_fits begun tape g.0 g.1 g.2 k) h
 
 told : (begun : List Stand) (tape : List (Item Frame)) (set : LinkSet) (x : Frame) (o : Option (List Spot))
-    → walk_all x set.way.items set.spots.items [] ≡ o → (sent_to x o set).set.is_blind ≡ false → FitsSet begun tape set
-    → IsUnexplained (link_rules begun) (Own x ∷ tape) → (sent_to x o set).told ≡ true
+    → walk_all Right x set.way.items set.spots.items [] ≡ o → (sent_to x o set).set.is_blind ≡ false → FitsSet begun tape set
+    → IsUnexplained (link_rules begun) (Own x ∷ tape) → (sent_to x o set).told ≡ Nothing → ⊥
 told begun tape set x None e some fits none = absurd (both_ways true some refl)
-told begun tape set x (Some []) e some fits none = refl
+told begun tape set x (Some []) e some fits none = unexplained_told x set
 told begun tape set x (Some (q ∷ qs)) e some fits none =
     let now = own_fits begun tape set.way.items set.spots.items (q ∷ qs) x fits e in
     absurd (none (At q.stand) (drop q.at set.way.items) (now.stands q (inl refl)))
 
 told_by : (begun : List Stand) (tape : List (Item Frame)) (set : LinkSet) (x : Frame) (b : Bool) → set.is_blind ≡ b
     → (set.is_blind ≡ false → FitsSet begun tape set) → (sends_by b x set).set.is_blind ≡ false
-    → IsUnexplained (link_rules begun) (Own x ∷ tape) → (sends_by b x set).told ≡ true
+    → IsUnexplained (link_rules begun) (Own x ∷ tape) → (sends_by b x set).told ≡ Nothing → ⊥
 told_by begun tape set x true e fits sees none = absurd (both_ways set.is_blind sees e)
 told_by begun tape set x false e fits sees none =
-    told begun tape set x (walk_all x set.way.items set.spots.items []) refl sees (fits e) none
+    told begun tape set x (walk_all Right x set.way.items set.spots.items []) refl sees (fits e) none
 
 pub guilty_are_told : GuiltyAreTold
 guilty_are_told begun tape x s end h sees none =

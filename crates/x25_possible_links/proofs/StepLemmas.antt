@@ -14,6 +14,7 @@ use Rattle.x25_possible_links.specs.code.Steps.{all_of, and_then, kept, spot_at,
 use Rattle.x25_possible_links.specs.code.Steps.{walks, is_below, is_covered, numbers_below}
 use Rattle.x25_possible_links.specs.declared.frame.Frame.{Frame}
 use Rattle.x25_possible_links.specs.declared.frame.Frame.TheVariants.{Info, Ready, Sabm, Disc, Ua, Dm, Frmr, Unread, Before}
+use Rattle.x25_possible_links.specs.declared.link.Mode.TheVariants.{Right}
 use Rattle.x25_possible_links.specs.declared.spots.Spot.{Spot}
 use Rattle.x25_possible_links.specs.declared.stand.Numbers.{Numbers}
 use Rattle.x25_possible_links.specs.declared.stand.Stand.{Stand}
@@ -237,7 +238,7 @@ adds_first way n rest None out new later ps e more h = more h
 adds_first way n rest (Some r) out new later ps e more h = adds_here way n rest r out new e h
 
 pub adds_goes : (x : Frame) (way : List Frame) (n : ℕ) (rest : List Frame) (s : Stand) (out new : List Spot) → drop n way ≡ rest
-    → goes x way n rest s out ≡ Some new → Adds way out new (map settle (place.goes x s rest))
+    → goes Right x way n rest s out ≡ Some new → Adds way out new (map settle (place.goes x s rest))
 adds_goes x way n [] s out new e h = go (is_large s) h
   where
     go : (b : Bool) → (if b then None else first_of (sends s [] x) (λ r. settles n (drop n way) r out) (Some out)) ≡ Some new
@@ -249,12 +250,12 @@ adds_goes x way n (y ∷ rest) s out new e h =
   where
     go : (b : Bool)
         → (if b then None
-        else first_of (sends s (y ∷ rest) x) (λ r. settles n (drop n way) r out) (goes x way (n + 1) rest (upward s y) out)) ≡ Some new
-        → (goes x way (n + 1) rest (upward s y) out ≡ Some new → Adds way out new (map settle (place.goes x (upward s y) rest)))
+        else first_of (sends s (y ∷ rest) x) (λ r. settles n (drop n way) r out) (goes Right x way (n + 1) rest (upward s y) out)) ≡ Some new
+        → (goes Right x way (n + 1) rest (upward s y) out ≡ Some new → Adds way out new (map settle (place.goes x (upward s y) rest)))
         → Adds way out new (map settle (first (sends s (y ∷ rest) x) (y ∷ rest) (place.goes x (upward s y) rest)))
     go true g more = absurd (none-some new g)
     go false g more =
-        adds_first way n (y ∷ rest) (sends s (y ∷ rest) x) out new (goes x way (n + 1) rest (upward s y) out)
+        adds_first way n (y ∷ rest) (sends s (y ∷ rest) x) out new (goes Right x way (n + 1) rest (upward s y) out)
         (place.goes x (upward s y) rest) e more g
 
 -- ---- one after the other
@@ -296,7 +297,7 @@ adds_answers way s n (Disc ∷ rest) out new e h =
     (λ mid k. adds_answers way s (n + 1) rest mid new (next_drop n way Disc rest e) k) h
 adds_answers way s n (y ∷ rest) out new e h = adds_answers way s (n + 1) rest out new (next_drop n way y rest e) h
 
-pub adds_walks : (x : Frame) (way : List Frame) (q : Spot) (out new : List Spot) → walks x way q out ≡ Some new
+pub adds_walks : (x : Frame) (way : List Frame) (q : Spot) (out new : List Spot) → walks Right x way q out ≡ Some new
     → Adds way out new (map settle (place.walks x (placed way q)))
 adds_walks Ua way q out new h = adds_answers way q.stand q.at (drop q.at way) out new refl h
 adds_walks Unread way q out new h =
@@ -312,7 +313,7 @@ adds_walks Unread way q out new h =
     (λ b i.
     subst (λ ps. Adds way b new ps)
     (sym (map_both (place.goes Sabm q.stand (drop q.at way)) (place.goes Unread q.stand (drop q.at way))))
-    (adds_then way (goes Sabm way q.at (drop q.at way) q.stand b) _ b new (map settle (place.goes Sabm q.stand (drop q.at way)))
+    (adds_then way (goes Right Sabm way q.at (drop q.at way) q.stand b) _ b new (map settle (place.goes Sabm q.stand (drop q.at way)))
     (map settle (place.goes Unread q.stand (drop q.at way)))
     (λ c j. adds_goes Sabm way q.at (drop q.at way) q.stand b c refl j)
     (λ c j. adds_goes Unread way q.at (drop q.at way) q.stand c new refl j) i)) k)) h

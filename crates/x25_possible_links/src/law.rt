@@ -2,7 +2,8 @@
 ghost use Rattle.std.specs.Prelude.{List};
 ghost use Rattle.x25_possible_links.specs.laws.Links.{TellsExactly};
 ghost use Rattle.x25_possible_links.specs.laws.Sets.{GuiltyAreTold, InnocentsStayUntold};
-ghost use Rattle.x25_possible_links.specs.rows.Rows.{NewIsFree, RowsAreTold, RowsAreToldLater, RowsAreUntold};
+ghost use Rattle.x25_possible_links.specs.rows.Rows.{NewIsFree, RowsAreTold, RowsAreToldLater, RowsAreToldSo};
+ghost use Rattle.x25_possible_links.specs.rows.Rows.{RowsAreUntold};
 ghost use Rattle.x25_possible_links.specs.declared.stand.Stand.{Stand};
 
 /// The places that a judge of a link keeps tell exactly which tapes an end explains that keeps the rules.
@@ -15,6 +16,7 @@ pub fn rows_are_told()
     ensures told { RowsAreTold }
     ensures untold { RowsAreUntold }
     ensures later { RowsAreToldLater }
+    ensures so { RowsAreToldSo }
     ensures new { NewIsFree }
 {}
 

@@ -13,6 +13,9 @@ use crate::stand::{Numbers, Stand};
 /// Numbers up to here are counted; a set with larger ones says nothing.
 const LARGEST: u64 = 4_000_000_000_000_000_000;
 
+/// As many I frames that are taken, or acknowledged, where it isn't known how many may be.
+const FAR: u64 = 1_000_000_000_000_000_000;
+
 /// A session that begins.
 pub(crate) const FRESH: Stand = Stand::Up(Numbers {
     sent: 0,
@@ -142,7 +145,7 @@ fn declines(stand: Stand) -> Stand
 }
 
 /// Where it is behind a frame that it sends, with the way from there on in front of it; None where it may not.
-pub(crate) fn sends(stand: Stand, at: usize, way: &[Frame], frame: Frame) -> Option<Stand>
+fn sends(stand: Stand, at: usize, way: &[Frame], frame: Frame) -> Option<Stand>
     requires { IsSmall stand }
     ensures { result ≡ places.sends stand (drop at way.now) frame }
 {
@@ -250,5 +253,121 @@ pub(crate) fn is_below(one: Stand, two: Stand) -> bool
         (Stand::Up(_), Stand::Free) => true,
         (Stand::Free, Stand::Free) => true,
         _ => false,
+    }
+}
+
+// ---- behind a frame that no place allows
+
+/// Behind an I frame that leaves numbers out; None where that doesn't explain it.
+fn leapt(stand: Stand, frame: Frame) -> Option<Stand>
+    requires { IsSmall stand }
+    ensures { result ≡ steps.leapt stand frame }
+{
+    match (stand, frame) {
+        (Stand::Up(k), Frame::Info { ns, nr, .. }) => {
+            let raised = Stand::Up(Numbers {
+                sent: nth(k.sent, ns),
+                ..k
+            });
+            if is_large(raised) {
+                return None;
+            }
+            counts(
+                raised,
+                Frame::Info {
+                    ns,
+                    nr,
+                    differs: false,
+                },
+            )
+        }
+        _ => None,
+    }
+}
+
+/// Whether an N(R) is none that it may send.
+fn strays(k: Numbers, nr: u8) -> bool
+    requires { IsSmall (Up k) }
+    ensures { result ≡ steps.strays k nr }
+{
+    k.taken < nth(k.told, nr)
+}
+
+/// Behind an N(R) that it may not send nothing is known of those that it took; else nothing of what is acknowledged to
+/// it.
+fn astray(k: Numbers, nr: u8) -> Numbers
+    requires { IsSmall (Up k) }
+    ensures { result ≡ steps.astray_by k nr }
+{
+    if strays(k, nr) {
+        Numbers { taken: FAR, ..k }
+    } else {
+        Numbers { acked: FAR, ..k }
+    }
+}
+
+/// Numbers go on from one that it may not send; None where it is known no longer where it stands.
+fn onto(stand: Stand, frame: Frame) -> Option<Stand>
+    requires { IsSmall stand }
+    ensures { result ≡ steps.onto stand frame }
+{
+    match (stand, frame) {
+        (Stand::Up(k), Frame::Info { ns, nr, .. }) => {
+            let n = nth(k.sent.saturating_sub(7), ns);
+            Some(Stand::Up(Numbers {
+                sent: if n < k.sent { k.sent } else { n + 1 },
+                ..astray(k, nr)
+            }))
+        }
+        (Stand::Up(k), Frame::Ready(nr)) => Some(Stand::Up(astray(k, nr))),
+        _ => None,
+    }
+}
+
+/// Whether what it may acknowledge is known.
+pub(crate) fn is_sure(stand: Stand) -> bool
+    ensures { result ≡ steps.is_sure stand }
+{
+    match stand {
+        Stand::Up(k) => k.taken < FAR,
+        Stand::Free => false,
+        Stand::Out | Stand::Asking => true,
+    }
+}
+
+/// How a frame is taken: as the rules allow it, as one that leaves numbers out, or as one from which numbers go on.
+#[derive(Clone, Copy)]
+pub(crate) enum Mode {
+    Right,
+    Skipping,
+    Wrong,
+}
+
+/// Where it is behind a frame that it sends so, with the way from there on in front of it; None where it can't.
+pub(crate) fn moves(
+    mode: Mode,
+    stand: Stand,
+    at: usize,
+    way: &[Frame],
+    frame: Frame,
+) -> Option<Stand>
+    requires { IsSmall stand }
+    ensures { result ≡ steps.moves mode stand (drop at way.now) frame }
+{
+    match mode {
+        Mode::Right => sends(stand, at, way, frame),
+        Mode::Skipping => leapt(stand, frame),
+        Mode::Wrong => onto(stand, frame),
+    }
+}
+
+/// Past what comes, where octets that spell no frame were none.
+pub(crate) fn passed(stand: Stand, frame: Frame) -> Stand
+    requires { IsSmall stand }
+    ensures { result ≡ steps.passed stand frame }
+{
+    match frame {
+        Frame::Unread => stand,
+        _ => upward(stand, frame),
     }
 }

@@ -3,7 +3,8 @@ ghost use Rattle.std.specs.Prelude.{◌≡◌};
 ghost use Rattle.x25_possible_links.specs.code.Steps as definition;
 
 use crate::frame::Frame;
-use crate::spots::{Spot, Spots, grown, least, shifted, walked};
+use crate::link::{Mode, is_sure};
+use crate::spots::{Spot, Spots, agree, grown, latest, least, plainest, shifted, walked};
 use crate::stand::Stand;
 use arrayvec::ArrayVec;
 
@@ -16,6 +17,15 @@ pub struct LinkSet {
     pub is_blind: bool,
 }
 
+/// What is told of a frame: nothing; that it leaves numbers out; or that it breaks a rule. With where the end stands
+/// that has come farthest.
+#[derive(Clone, Copy)]
+pub enum Told {
+    Nothing,
+    Skips(Stand),
+    Broken(Stand),
+}
+
 fn are_known(spots: &[Spot]) -> bool
     ensures { result ≡ definition.are_known spots.now }
 {
@@ -25,6 +35,35 @@ fn are_known(spots: &[Spot]) -> bool
         }
     }
     true
+}
+
+fn unread(way: &[Frame]) -> usize
+    ensures { result ≡ definition.unread way.now }
+{
+    let mut count = 0;
+    for frame in way {
+        if matches!(frame, Frame::Unread) {
+            count += 1;
+        }
+    }
+    count
+}
+
+fn has_all(way: &[Frame]) -> bool
+    ensures { result ≡ definition.has_all way.now }
+{
+    way.is_empty() || !matches!(way[0], Frame::Before)
+}
+
+fn has_request(way: &[Frame]) -> bool
+    ensures { result ≡ definition.has_request way.now }
+{
+    for frame in way {
+        if matches!(frame, Frame::Sabm | Frame::Disc) {
+            return true;
+        }
+    }
+    false
 }
 
 impl LinkSet {
@@ -51,6 +90,55 @@ impl LinkSet {
         ensures { result ≡ definition.is_known self.now }
     {
         are_known(self.spots.as_slice())
+    }
+
+    /// Where the one of the places stands that has come farthest, once all has come.
+    pub fn latest(&self) -> Stand
+        ensures { result ≡ definition.latest self.now.spots.items self.now.way.items }
+    {
+        latest(self.spots.as_slice(), self.way.as_slice())
+    }
+
+    /// Where it stands once all has come, where octets that spell no frame, of either end, were none.
+    pub fn plainest(&self) -> Stand
+        ensures { result ≡ definition.plainest self.now.spots.items self.now.way.items }
+    {
+        plainest(self.spots.as_slice(), self.way.as_slice())
+    }
+
+    /// Whether nothing that can't be read may have come to it, and it is known what it may acknowledge.
+    pub fn is_sure(&self) -> bool
+        ensures { result ≡ definition.is_certain self.now }
+    {
+        self.is_known() && (self.unread() == 0 && is_sure(self.latest()))
+    }
+
+    /// Whether it has sent so many I frames in each place that is in a session once all has come.
+    pub fn agrees(&self, sent: u64) -> bool
+        ensures { result ≡ definition.agree sent self.now.way.items self.now.spots.items }
+    {
+        agree(sent, self.spots.as_slice(), self.way.as_slice())
+    }
+
+    /// How much on the way can't be read.
+    pub fn unread(&self) -> usize
+        ensures { result ≡ definition.unread self.now.way.items }
+    {
+        unread(self.way.as_slice())
+    }
+
+    /// Whether UA of it is judged: SABM or DISC may wait for it, or all that waits is shown.
+    pub fn judges_answer(&self) -> bool
+        ensures { result ≡ definition.judges_answer self.now }
+    {
+        !self.is_blind && (has_request(self.way.as_slice()) || has_all(self.way.as_slice()))
+    }
+
+    /// Whether what it may answer is shown: nothing of before may come.
+    pub fn is_followed(&self) -> bool
+        ensures { result ≡ definition.is_followed self.now }
+    {
+        !self.is_blind && has_all(self.way.as_slice())
     }
 
     /// There is no room.
@@ -81,35 +169,98 @@ impl LinkSet {
         }
     }
 
-    /// Behind a frame that no place allows: UA leaves all as it was, behind another nothing is known.
+    /// In these places.
+    fn stands(&mut self, spots: Spots)
+        ensures { self.new ≡ definition.standing spots.items self.old }
+    {
+        self.spots = spots;
+        self.trim();
+    }
+
+    /// It may be anywhere from where the least has come on.
+    fn strays(&mut self)
+        ensures { self.new ≡ definition.astray self.old }
+    {
+        let at = least(self.spots.as_slice(), self.way.len());
+        let mut spots = Spots::new();
+        spots.push(Spot {
+            stand: Stand::Free,
+            at,
+        });
+        self.stands(spots);
+    }
+
+    /// Numbers go on from a frame that breaks a rule; where none do, nothing is known.
     fn breaks(&mut self, frame: Frame)
         ensures { self.new ≡ definition.broken frame self.old }
     {
-        if !matches!(frame, Frame::Ua) {
-            *self = LinkSet::new();
+        match walked(
+            Mode::Wrong,
+            frame,
+            self.spots.as_slice(),
+            self.way.as_slice(),
+        ) {
+            None => self.lose(),
+            Some(spots) => if spots.is_empty() {
+                self.strays();
+            } else {
+                self.stands(spots);
+            },
         }
     }
 
-    /// The end sends a frame. True: no run of an end that keeps the rules explains it.
-    pub fn sends(&mut self, frame: Frame) -> bool
+    /// No place allows a frame. UA leaves all as it was.
+    fn is_unexplained(&mut self, frame: Frame) -> Told
+        ensures set { self.new ≡ (definition.unexplained frame self.old).set }
+        ensures told { result ≡ (definition.unexplained frame self.old).told }
+    {
+        let stand = self.latest();
+        if matches!(frame, Frame::Ua) {
+            return Told::Broken(stand);
+        }
+        match walked(
+            Mode::Skipping,
+            frame,
+            self.spots.as_slice(),
+            self.way.as_slice(),
+        ) {
+            None => {
+                self.lose();
+                Told::Broken(stand)
+            }
+            Some(spots) => if spots.is_empty() {
+                self.breaks(frame);
+                Told::Broken(stand)
+            } else {
+                self.stands(spots);
+                Told::Skips(stand)
+            },
+        }
+    }
+
+    /// The end sends a frame. Something is told where no run of an end that keeps the rules explains it.
+    pub fn sends(&mut self, frame: Frame) -> Told
         ensures set { self.new ≡ (definition.sends_to frame self.old).set }
         ensures told { result ≡ (definition.sends_to frame self.old).told }
     {
         if self.is_blind {
-            return false;
+            return Told::Nothing;
         }
-        match walked(frame, self.spots.as_slice(), self.way.as_slice()) {
+        match walked(
+            Mode::Right,
+            frame,
+            self.spots.as_slice(),
+            self.way.as_slice(),
+        ) {
             None => {
                 self.lose();
-                false
+                Told::Nothing
             }
             Some(spots) => if spots.is_empty() {
-                self.breaks(frame);
-                true
+                self.is_unexplained(frame)
             } else {
-                self.spots = spots;
-                self.trim();
-                false
+                self.stands(spots);
+                Told::Nothing
             },
         }
     }

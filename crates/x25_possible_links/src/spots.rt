@@ -3,7 +3,9 @@ ghost use Rattle.std.specs.Prelude.{◌≡◌, None, [], drop, true};
 ghost use Rattle.x25_possible_links.specs.code.Steps as definition;
 
 use crate::frame::Frame;
-use crate::link::{FRESH, is_asking, is_below, is_large, is_plain, onward, sends, upward};
+use crate::link::{
+    FRESH, Mode, is_asking, is_below, is_large, is_plain, moves, onward, passed, upward,
+};
 use crate::stand::Stand;
 use arrayvec::ArrayVec;
 
@@ -56,20 +58,20 @@ fn settle(stand: Stand, at: usize, way: &[Frame], out: &mut Spots) -> bool
 }
 
 /// Adds the first place from there on in which it may send a frame. False: no room.
-fn goes(frame: Frame, stand: Stand, at: usize, way: &[Frame], out: &mut Spots) -> bool
+fn goes(mode: Mode, frame: Frame, stand: Stand, at: usize, way: &[Frame], out: &mut Spots) -> bool
     ensures { definition.made result out.new.items
-        ≡ definition.goes frame way.now at (drop at way.now) stand out.old.items }
+        ≡ definition.goes mode frame way.now at (drop at way.now) stand out.old.items }
 {
     if is_large(stand) {
         return false;
     }
-    if let Some(next) = sends(stand, at, way, frame) {
+    if let Some(next) = moves(mode, stand, at, way, frame) {
         return settle(next, at, way, out);
     }
     if at >= way.len() {
         return true;
     }
-    goes(frame, upward(stand, way[at]), at + 1, way, out)
+    goes(mode, frame, upward(stand, way[at]), at + 1, way, out)
 }
 
 /// Adds where it is behind UA to SABM. False: no room.
@@ -113,28 +115,28 @@ fn any_frame(spot: Spot, way: &[Frame], out: &mut Spots) -> bool
     if !answers(spot.stand, spot.at, way, out) {
         return false;
     }
-    if !goes(Frame::Sabm, spot.stand, spot.at, way, out) {
+    if !goes(Mode::Right, Frame::Sabm, spot.stand, spot.at, way, out) {
         return false;
     }
-    goes(Frame::Unread, spot.stand, spot.at, way, out)
+    goes(Mode::Right, Frame::Unread, spot.stand, spot.at, way, out)
 }
 
 /// Adds where one is behind a frame that the end sends. False: no room.
-fn walks(frame: Frame, spot: Spot, way: &[Frame], out: &mut Spots) -> bool
-    ensures { definition.made result out.new.items ≡ definition.walks frame way.now spot out.old.items }
+fn walks(mode: Mode, frame: Frame, spot: Spot, way: &[Frame], out: &mut Spots) -> bool
+    ensures { definition.made result out.new.items ≡ definition.walks mode frame way.now spot out.old.items }
 {
-    match frame {
-        Frame::Ua => answers(spot.stand, spot.at, way, out),
-        Frame::Unread => any_frame(spot, way, out),
-        _ => goes(frame, spot.stand, spot.at, way, out),
+    match (mode, frame) {
+        (Mode::Right, Frame::Ua) => answers(spot.stand, spot.at, way, out),
+        (Mode::Right, Frame::Unread) => any_frame(spot, way, out),
+        _ => goes(mode, frame, spot.stand, spot.at, way, out),
     }
 }
 
-fn walk_all(frame: Frame, spots: &[Spot], way: &[Frame], out: &mut Spots) -> bool
-    ensures { definition.made result out.new.items ≡ definition.walk_all frame way.now spots.now out.old.items }
+fn walk_all(mode: Mode, frame: Frame, spots: &[Spot], way: &[Frame], out: &mut Spots) -> bool
+    ensures { definition.made result out.new.items ≡ definition.walk_all mode frame way.now spots.now out.old.items }
 {
     for spot in spots {
-        if !walks(frame, *spot, way, out) {
+        if !walks(mode, frame, *spot, way, out) {
             return false;
         }
     }
@@ -199,11 +201,11 @@ pub(crate) fn least(spots: &[Spot], most: usize) -> usize
 
 // ---- a new list; None: no room
 
-pub(crate) fn walked(frame: Frame, spots: &[Spot], way: &[Frame]) -> Option<Spots>
-    ensures { definition.listed result ≡ definition.walk_all frame way.now spots.now [] }
+pub(crate) fn walked(mode: Mode, frame: Frame, spots: &[Spot], way: &[Frame]) -> Option<Spots>
+    ensures { definition.listed result ≡ definition.walk_all mode frame way.now spots.now [] }
 {
     let mut out = Spots::new();
-    if walk_all(frame, spots, way, &mut out) {
+    if walk_all(mode, frame, spots, way, &mut out) {
         Some(out)
     } else {
         None
@@ -231,4 +233,72 @@ pub(crate) fn shifted(count: usize, spots: &[Spot]) -> Option<Spots>
     } else {
         None
     }
+}
+
+// ---- where they stand once all has come
+
+/// Free where a number is too large.
+fn come(stand: Stand, at: usize, way: &[Frame]) -> Stand
+    ensures { result ≡ definition.come (drop at way.now) stand }
+{
+    if is_large(stand) {
+        return Stand::Free;
+    }
+    if at >= way.len() {
+        return stand;
+    }
+    come(upward(stand, way[at]), at + 1, way)
+}
+
+/// The same, where octets that spell no frame were none.
+fn gone(stand: Stand, at: usize, way: &[Frame]) -> Stand
+    ensures { result ≡ definition.gone (drop at way.now) stand }
+{
+    if is_large(stand) {
+        return Stand::Free;
+    }
+    if at >= way.len() {
+        return stand;
+    }
+    gone(passed(stand, way[at]), at + 1, way)
+}
+
+/// Of the first of those that have come farthest.
+pub(crate) fn latest(spots: &[Spot], way: &[Frame]) -> Stand
+    ensures { result ≡ definition.latest spots.now way.now }
+{
+    if spots.is_empty() {
+        return Stand::Free;
+    }
+    let mut far = spots[0];
+    for spot in spots {
+        if far.at < spot.at {
+            far = *spot;
+        }
+    }
+    come(far.stand, far.at, way)
+}
+
+/// Of the first of all: no octets were sent that spell no frame.
+pub(crate) fn plainest(spots: &[Spot], way: &[Frame]) -> Stand
+    ensures { result ≡ definition.plainest spots.now way.now }
+{
+    if spots.is_empty() {
+        return Stand::Free;
+    }
+    gone(spots[0].stand, spots[0].at, way)
+}
+
+/// Whether each that is in a session then has sent so many I frames.
+pub(crate) fn agree(sent: u64, spots: &[Spot], way: &[Frame]) -> bool
+    ensures { result ≡ definition.agree sent way.now spots.now }
+{
+    for spot in spots {
+        if let Stand::Up(k) = come(spot.stand, spot.at, way) {
+            if k.sent != sent {
+                return false;
+            }
+        }
+    }
+    true
 }

@@ -1,5 +1,5 @@
 //! Sets of places behind tapes.
-use x25_possible_links::{Frame, LinkSet};
+use x25_possible_links::{Frame, LinkSet, Stand, Told};
 
 /// 0 to 7 are I frames by N(S), p to w those that went before with other octets, a to h RRs by N(R).
 fn frame_of(letter: u8) -> Frame {
@@ -24,7 +24,8 @@ fn frame_of(letter: u8) -> Frame {
     }
 }
 
-/// Whether of the frames of the end (behind `>`; `<` of the other one) this is told.
+/// Whether of the frames of the end (behind `>`; `<` of the other one) this is told: nothing, a rule, or `~`, that one
+/// leaves numbers out.
 fn is_told(tape: &[u8], told: &[u8]) -> bool {
     let mut set = LinkSet::new();
     let mut count = 0;
@@ -34,10 +35,10 @@ fn is_told(tape: &[u8], told: &[u8]) -> bool {
             b'>' => is_own = true,
             b'<' => is_own = false,
             _ => if is_own {
-                let mark = if set.sends(frame_of(letter)) {
-                    b'!'
-                } else {
-                    b'.'
+                let mark = match set.sends(frame_of(letter)) {
+                    Told::Nothing => b'.',
+                    Told::Skips(_) => b'~',
+                    Told::Broken(_) => b'!',
                 };
                 if count >= told.len() || told[count] != mark {
                     return false;
@@ -52,11 +53,14 @@ fn is_told(tape: &[u8], told: &[u8]) -> bool {
 }
 
 /// Tapes from where nothing is known.
-static TOLD: [(&[u8], &[u8]); 24] = [
+static TOLD: [(&[u8], &[u8]); 27] = [
     (b">S0", b".!"),
     (b">S<U>01", b"..."),
     (b">S<U>0p", b"..!"),
-    (b">S<U>02", b"..!"),
+    (b">S<U>02", b"..~"),
+    (b">S<U>0230", b"..~.."),
+    (b">S<U>0p12", b"..!.."),
+    (b">S<U>bb", b".!."),
     (b">S<U>0<b>01", b"...."),
     (b">S<U>0123456", b"........"),
     (b">S<U>01234567", b"........!"),
@@ -86,8 +90,8 @@ fn tells_of_an_end(rt: HostRuntime) {
     }
 }
 
-/// Whether a set is known behind a tape.
-fn is_found(tape: &[u8]) -> bool {
+/// The set behind a tape.
+fn behind(tape: &[u8]) -> LinkSet {
     let mut set = LinkSet::new();
     let mut is_own = false;
     for &letter in tape {
@@ -101,24 +105,61 @@ fn is_found(tape: &[u8]) -> bool {
             },
         }
     }
-    set.is_known()
+    set
 }
 
-static FOUND: [(&[u8], bool); 8] = [
-    (b"", false),
-    (b">0<S", false),
-    (b">S", true),
-    (b">U", true),
-    (b">D", true),
-    (b">X", false),
-    (b">S<U>b", false),
-    (b">S<U>U", true),
+/// Its I frames in a session; or 97 in none, 98 where it awaits UA, 99 where nothing is known.
+fn sent_by(stand: Stand) -> u64 {
+    match stand {
+        Stand::Up(k) => k.sent,
+        Stand::Out => 97,
+        Stand::Asking => 98,
+        Stand::Free => 99,
+    }
+}
+
+fn digit(is_so: bool) -> u8 {
+    if is_so { b'1' } else { b'0' }
+}
+
+/// What it has sent where it has come farthest, and where octets that spell no frame were none; how much can't be read.
+fn stands(tape: &[u8]) -> (u64, u64, usize) {
+    let set = behind(tape);
+    (sent_by(set.latest()), sent_by(set.plainest()), set.unread())
+}
+
+/// Whether it is known, surely, agrees on one I frame, and whether UA of it is judged and what it may answer is shown.
+fn marks(tape: &[u8]) -> [u8; 5] {
+    let set = behind(tape);
+    [
+        digit(set.is_known()),
+        digit(set.is_sure()),
+        digit(set.agrees(1)),
+        digit(set.judges_answer()),
+        digit(set.is_followed()),
+    ]
+}
+
+static KNOWN: [(&[u8], (u64, u64, usize), [u8; 5]); 13] = [
+    (b"", (99, 99, 0), *b"00100"),
+    (b"<S", (99, 99, 0), *b"00110"),
+    (b">0<S", (99, 99, 0), *b"00110"),
+    (b">S", (98, 98, 0), *b"11100"),
+    (b">U", (0, 0, 0), *b"11000"),
+    (b">D", (97, 97, 0), *b"11100"),
+    (b">X", (99, 99, 0), *b"00100"),
+    (b">S<U>0", (1, 1, 0), *b"11111"),
+    (b">S<U>01", (2, 2, 0), *b"11011"),
+    (b">S<U>0X", (1, 1, 0), *b"11011"),
+    (b">S<U>0<X", (1, 1, 1), *b"10111"),
+    (b">S<U>0<S", (1, 1, 0), *b"11111"),
+    (b">S<U>0b", (1, 1, 0), *b"10111"),
 ];
 
 #[test]
 fn knows_an_end(rt: HostRuntime) {
-    for &(tape, is_known) in &FOUND {
-        assert_eq!(rt; is_found(tape), is_known, "{tape:?}");
+    for &(tape, at, marked) in &KNOWN {
+        assert_eq!(rt; (stands(tape), marks(tape)), (at, marked), "{tape:?}");
     }
 }
 
@@ -138,7 +179,7 @@ fn tells_nothing_without_room(rt: HostRuntime) {
         set.shows(Frame::Sabm);
     }
     assert!(rt; !set.is_known());
-    assert!(rt; !set.sends(Frame::Sabm));
-    assert!(rt; !set.sends(Frame::Ready(5)));
+    assert!(rt; matches!(set.sends(Frame::Sabm), Told::Nothing));
+    assert!(rt; matches!(set.sends(Frame::Ready(5)), Told::Nothing));
     assert!(rt; !set.is_known());
 }

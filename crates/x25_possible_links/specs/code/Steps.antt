@@ -4,11 +4,16 @@ use Rattle.std.specs.Prelude.{ℕ, ◌+◌, ◌-◌, ◌^◌, ◌<◌, ◌==◌,
 use Rattle.std.specs.Prelude.{if◌then◌else◌, List, [], ◌∷◌, ◌++◌, length, drop, map, Option, Some, None}
 use Rattle.arrayvec.specs.ArrayVec.{ArrayVec}
 use Rattle.x25_possible.specs.laws.Possible.{Item, Own, Other}
-use Rattle.x25_possible_links.specs.laws.Link.{fresh, is_asking}
-use Rattle.x25_possible_links.specs.laws.Places.{is_plain, onward, sends, upward}
+use Rattle.x25_possible.specs.Channel.{nth}
+use Rattle.x25_possible_links.specs.laws.Link.{counts, fresh, is_asking}
+use Rattle.x25_possible_links.specs.laws.Places.{is_plain, least_of, number_of, onward, sends, upward}
 use Rattle.x25_possible_links.specs.declared.frame.Frame.{Frame}
-use Rattle.x25_possible_links.specs.declared.frame.Frame.TheVariants.{Sabm, Disc, Ua, Unread, Before}
+use Rattle.x25_possible_links.specs.declared.frame.Frame.TheVariants.{Info, Ready, Sabm, Disc, Ua, Unread, Before}
+use Rattle.x25_possible_links.specs.declared.link.Mode.{Mode}
+use Rattle.x25_possible_links.specs.declared.link.Mode.TheVariants.{Right, Skipping, Wrong}
 use Rattle.x25_possible_links.specs.declared.set.LinkSet.{LinkSet}
+use Rattle.x25_possible_links.specs.declared.set.Told.{Told}
+use Rattle.x25_possible_links.specs.declared.set.Told.TheVariants.{Nothing, Skips, Broken}
 use Rattle.x25_possible_links.specs.declared.spots.Spot.{Spot}
 use Rattle.x25_possible_links.specs.declared.stand.Numbers.{Numbers}
 use Rattle.x25_possible_links.specs.declared.stand.Stand.{Stand}
@@ -31,6 +36,41 @@ is_large (Up k) =
     nat_lt 4000000000000000000 k.sent || nat_lt 4000000000000000000 k.acked || nat_lt 4000000000000000000 k.taken
     || nat_lt 4000000000000000000 k.told
 is_large s = false
+
+-- ---- behind a frame that no place allows
+
+-- as if all numbers in front of it had gone
+abbrev pub leapt_from : Stand → Frame → Option Stand
+leapt_from s x = if is_large s then None else counts (number_of s x) (least_of s x) s x
+
+-- behind an I frame that leaves numbers out
+abbrev pub leapt : Stand → Frame → Option Stand
+leapt (Up k) (Info ns nr differs) = leapt_from (Up (record k { sent = nth k.sent ns })) (Info ns nr false)
+leapt s x = None
+
+-- so many that what may be taken, or is acknowledged, isn't known
+abbrev pub far : ℕ
+far = 1000000000000000000
+
+abbrev pub strays : Numbers → ℕ → Bool
+strays k nr = nat_lt k.taken (nth k.told nr)
+
+abbrev pub astray_by : Numbers → ℕ → Numbers
+astray_by k nr = if strays k nr then record k { taken = far } else record k { acked = far }
+
+abbrev pub gone_to : ℕ → Numbers → Numbers
+gone_to n k = record k { sent = if nat_lt n k.sent then k.sent else n + 1 }
+
+-- numbers go on from one that it may not send
+abbrev pub onto : Stand → Frame → Option Stand
+onto (Up k) (Info ns nr differs) = Some (Up (gone_to (nth (k.sent - 7) ns) (astray_by k nr)))
+onto (Up k) (Ready nr) = Some (Up (astray_by k nr))
+onto s x = None
+
+abbrev pub moves : Mode → Stand → List Frame → Frame → Option Stand
+moves Right s way x = sends s way x
+moves Skipping s way x = leapt s x
+moves Wrong s way x = onto s x
 
 -- ---- one more place
 
@@ -87,12 +127,13 @@ abbrev pub first_of : Option Stand → (Stand → Option (List Spot)) → Option
 first_of (Some r) keeps later = keeps r
 first_of None keeps later = later
 
-abbrev pub goes : Frame → List Frame → ℕ → List Frame → Stand → List Spot → Option (List Spot)
-goes x way n [] s out =
-    if is_large s then None else first_of (sends s [] x) (λ r. settles n (drop n way) r out) (Some out)
-goes x way n (y ∷ rest) s out =
+abbrev pub goes : Mode → Frame → List Frame → ℕ → List Frame → Stand → List Spot → Option (List Spot)
+goes mode x way n [] s out =
+    if is_large s then None else first_of (moves mode s [] x) (λ r. settles n (drop n way) r out) (Some out)
+goes mode x way n (y ∷ rest) s out =
     if is_large s then None
-    else first_of (sends s (y ∷ rest) x) (λ r. settles n (drop n way) r out) (goes x way (n + 1) rest (upward s y) out)
+    else first_of (moves mode s (y ∷ rest) x) (λ r. settles n (drop n way) r out)
+    (goes mode x way (n + 1) rest (upward s y) out)
 
 abbrev pub answered : List Frame → Stand → ℕ → List Spot → Option (List Spot)
 answered way s n out = and_then (settles n (drop n way) fresh out) (λ mid.
@@ -110,15 +151,52 @@ answers way s n (y ∷ rest) out = answers way s (n + 1) rest out
 abbrev pub any_frame : List Frame → Spot → List Spot → Option (List Spot)
 any_frame way q out = and_then (settles q.at (drop q.at way) q.stand out) (λ a.
     and_then (answers way q.stand q.at (drop q.at way) a) (λ b.
-    and_then (goes Sabm way q.at (drop q.at way) q.stand b) (goes Unread way q.at (drop q.at way) q.stand)))
+    and_then (goes Right Sabm way q.at (drop q.at way) q.stand b) (goes Right Unread way q.at (drop q.at way) q.stand)))
 
-abbrev pub walks : Frame → List Frame → Spot → List Spot → Option (List Spot)
-walks Ua way q out = answers way q.stand q.at (drop q.at way) out
-walks Unread way q out = any_frame way q out
-walks x way q out = goes x way q.at (drop q.at way) q.stand out
+abbrev pub walks : Mode → Frame → List Frame → Spot → List Spot → Option (List Spot)
+walks Right Ua way q out = answers way q.stand q.at (drop q.at way) out
+walks Right Unread way q out = any_frame way q out
+walks mode x way q out = goes mode x way q.at (drop q.at way) q.stand out
 
-abbrev pub walk_all : Frame → List Frame → List Spot → List Spot → Option (List Spot)
-walk_all x way qs out = all_of (walks x way) qs out
+abbrev pub walk_all : Mode → Frame → List Frame → List Spot → List Spot → Option (List Spot)
+walk_all mode x way qs out = all_of (walks mode x way) qs out
+
+-- ---- where they stand once all has come
+
+abbrev pub come : List Frame → Stand → Stand
+come [] s = if is_large s then Free else s
+come (x ∷ way) s = if is_large s then Free else come way (upward s x)
+
+-- past what comes, where octets that spell no frame were none
+abbrev pub passed : Stand → Frame → Stand
+passed s Unread = s
+passed s x = upward s x
+
+abbrev pub gone : List Frame → Stand → Stand
+gone [] s = if is_large s then Free else s
+gone (x ∷ way) s = if is_large s then Free else gone way (passed s x)
+
+-- the first of those that have come farthest
+abbrev pub farthest : List Spot → Spot → Spot
+farthest [] far = far
+farthest (q ∷ qs) far = farthest qs (if nat_lt far.at q.at then q else far)
+
+abbrev pub latest : List Spot → List Frame → Stand
+latest [] way = Free
+latest (q ∷ qs) way = come (drop (farthest (q ∷ qs) q).at way) (farthest (q ∷ qs) q).stand
+
+-- the first of all
+abbrev pub plainest : List Spot → List Frame → Stand
+plainest [] way = Free
+plainest (q ∷ qs) way = gone (drop q.at way) q.stand
+
+abbrev pub has_sent : ℕ → Stand → Bool
+has_sent n (Up k) = k.sent == n
+has_sent n s = true
+
+abbrev pub agree : ℕ → List Frame → List Spot → Bool
+agree n way [] = true
+agree n way (q ∷ qs) = has_sent n (come (drop q.at way) q.stand) && agree n way qs
 
 -- ---- as the other end sends one, and where less is on the way
 
@@ -175,26 +253,86 @@ trimmed_by n s = if n == 0 then s else shifted_to n (shift_all n s.spots.items [
 abbrev pub trimmed : LinkSet → LinkSet
 trimmed s = trimmed_by (least s.spots.items (length s.way.items)) s
 
--- a set, and whether a rule is told
+-- how much on the way can't be read
+abbrev pub unread : List Frame → ℕ
+unread [] = 0
+unread (Unread ∷ way) = unread way + 1
+unread (x ∷ way) = unread way
+
+-- nothing of before may come
+abbrev pub has_all : List Frame → Bool
+has_all (Before ∷ way) = false
+has_all way = true
+
+abbrev pub is_followed : LinkSet → Bool
+is_followed s = not s.is_blind && has_all s.way.items
+
+abbrev pub is_request : Frame → Bool
+is_request Sabm = true
+is_request Disc = true
+is_request x = false
+
+abbrev pub has_request : List Frame → Bool
+has_request [] = false
+has_request (x ∷ way) = is_request x || has_request way
+
+-- what UA of it may answer is shown, or it may answer a request that is
+abbrev pub judges_answer : LinkSet → Bool
+judges_answer s = not s.is_blind && (has_request s.way.items || has_all s.way.items)
+
+abbrev pub is_sure : Stand → Bool
+is_sure (Up k) = nat_lt k.taken far
+is_sure Free = false
+is_sure s = true
+
+-- it is known what it may acknowledge
+abbrev pub is_certain : LinkSet → Bool
+is_certain s = is_known s && (unread s.way.items == 0 && is_sure (latest s.spots.items s.way.items))
+
+-- a set, and what is told
 pub record Stepped : Type 0 where
   pub set : LinkSet
-  pub told : Bool
+  pub told : Told
 
--- behind a frame that no place allows
+abbrev pub telling : Told → LinkSet → Stepped
+telling told s = record { set = s; told = told }
+
+abbrev pub standing : List Spot → LinkSet → LinkSet
+standing qs s = trimmed (set_as s s.way.items qs)
+
+-- it may be anywhere from where the least has come on
+abbrev pub astray : LinkSet → LinkSet
+astray s = standing (spot_at (least s.spots.items (length s.way.items)) Free ∷ []) s
+
+abbrev pub broken_by : Option (List Spot) → LinkSet → LinkSet
+broken_by None s = blind
+broken_by (Some qs) s = if length qs == 0 then astray s else standing qs s
+
+-- numbers go on from a frame that breaks a rule; where none do, nothing is known
 abbrev pub broken : Frame → LinkSet → LinkSet
-broken Ua s = s
-broken x s = unknown
+broken x s = broken_by (walk_all Wrong x s.way.items s.spots.items []) s
+
+abbrev pub skipped_by : Option (List Spot) → Stand → Frame → LinkSet → Stepped
+skipped_by None stand x s = telling (Broken stand) blind
+skipped_by (Some qs) stand x s =
+    if length qs == 0 then telling (Broken stand) (broken x s) else telling (Skips stand) (standing qs s)
+
+abbrev pub unexplained_as : Stand → Frame → LinkSet → Stepped
+unexplained_as stand Ua s = telling (Broken stand) s
+unexplained_as stand x s = skipped_by (walk_all Skipping x s.way.items s.spots.items []) stand x s
+
+-- no place allows a frame: UA leaves all as it was
+abbrev pub unexplained : Frame → LinkSet → Stepped
+unexplained x s = unexplained_as (latest s.spots.items s.way.items) x s
 
 abbrev pub sent_to : Frame → Option (List Spot) → LinkSet → Stepped
-sent_to x None s = record { set = blind; told = false }
-sent_to x (Some qs) s =
-    if length qs == 0 then record { set = broken x s; told = true }
-    else record { set = trimmed (set_as s s.way.items qs); told = false }
+sent_to x None s = telling Nothing blind
+sent_to x (Some qs) s = if length qs == 0 then unexplained x s else telling Nothing (standing qs s)
 
 -- the end sends a frame
 abbrev pub sends_to : Frame → LinkSet → Stepped
 sends_to x s =
-    if s.is_blind then record { set = s; told = false } else sent_to x (walk_all x s.way.items s.spots.items []) s
+    if s.is_blind then telling Nothing s else sent_to x (walk_all Right x s.way.items s.spots.items []) s
 
 abbrev pub shown_to : LinkSet → List Frame → Option (List Spot) → LinkSet
 shown_to s way None = blind

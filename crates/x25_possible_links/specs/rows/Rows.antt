@@ -2,10 +2,12 @@
 -- definition.
 use Rattle.std.specs.Prelude.{◌≡◌, Bool, true, false, List, [], ◌∷◌}
 use Rattle.x25_possible.specs.laws.Possible.{Item, Own, Other, Place}
-use Rattle.x25_possible_links.specs.code.Steps.{begun_as, shows_to, unknown}
+use Rattle.x25_possible_links.specs.code.Steps.{begun_as, played, sends_to, shows_to, Stepped, unknown}
+use Rattle.x25_possible_links.specs.laws.Link.{fresh}
 use Rattle.x25_possible_links.specs.laws.Places.{places}
 use Rattle.x25_possible_links.specs.declared.frame.Frame.{Frame}
 use Rattle.x25_possible_links.specs.declared.frame.Frame.TheVariants.{Info, Ready, Sabm, Disc, Ua, Dm, Unread, Before}
+use Rattle.x25_possible_links.specs.declared.set.Told.TheVariants.{Nothing, Skips, Broken}
 use Rattle.x25_possible_links.specs.declared.stand.Stand.{Stand}
 use Rattle.x25_possible_links.specs.declared.stand.Stand.TheVariants.{Out, Free}
 
@@ -73,3 +75,15 @@ NewIsFree = shows_to Before (begun_as (Free ∷ [])) ≡ unknown
 pub record RowsAreToldLater : Type 0 where
   -- behind its UA its numbers are known
   pub numbers : is_nothing (places (Free ∷ []) (Own (Info 5 0 false) ∷ Own Ua ∷ Other Before ∷ [])) ≡ true
+
+-- what a set of an end that was never set up tells of a frame behind a tape
+abbrev pub sent_behind : Frame → List (Item Frame) → Stepped
+sent_behind x tape = sends_to x (played (begun_as (Out ∷ [])) tape)
+
+pub record RowsAreToldSo : Type 0 where
+  -- that a number is left out, and then it goes on from there
+  pub skips : (sent_behind (Info 1 0 false) up).told ≡ Skips fresh
+  pub skipped : (sent_behind (Info 2 0 false) (Own (Info 1 0 false) ∷ up)).told ≡ Nothing
+  -- a rule, and then numbers go on from the wrong one
+  pub breaks : (sent_behind (Ready 1) up).told ≡ Broken fresh
+  pub goes_on : (sent_behind (Ready 1) (Own (Ready 1) ∷ up)).told ≡ Nothing

@@ -31,5 +31,6 @@ returns c = record {
     before = refl;
   };
   later = record { numbers = refl };
+  so = record { skips = refl; skipped = refl; breaks = refl; goes_on = refl };
   new = refl;
 }

@@ -4,11 +4,11 @@ use Rattle.x25_possible_links.proofs.spots.«+goes».Goals as goal
 
 pub returns-then-is_large : goal.returns-then-is_large
 returns-then-is_large t c =
-    goes_large c.args.frame c.args.way.now c.args.at c.args.stand c.args.out.now.items (drop c.args.at c.args.way.now)
+    goes_large c.args.mode c.args.frame c.args.way.now c.args.at c.args.stand c.args.out.now.items (drop c.args.at c.args.way.now)
     (sym c.is_large.ensures.same ∙ c.if-is_large.true)
 
 pub returns-in-Some : goal.returns-in-Some
 returns-in-Some t c =
     c.settle.ensures
-    ∙ goes_found c.args.frame c.args.way.now c.args.at c.args.stand c.args.out.now.items (drop c.args.at c.args.way.now)
-    c.in-Some.next (sym c.is_large.ensures.same ∙ c.if-is_large.false) (sym c.sends.ensures ∙ c.in-Some.is)
+    ∙ goes_found c.args.mode c.args.frame c.args.way.now c.args.at c.args.stand c.args.out.now.items (drop c.args.at c.args.way.now)
+    c.in-Some.next (sym c.is_large.ensures.same ∙ c.if-is_large.false) (sym c.moves.ensures ∙ c.in-Some.is)
