@@ -337,7 +337,7 @@ nothing_is_due c times lines line now said later = by (time_said line) said
     at_now = record w { now = now }
 
     sound : IsClock w.deadlines
-    sound = lines_clock c times lines (new_timed c) (first_clock c.channels)
+    sound = lines_clock c times lines (new_timed c) (first_clock c.channels.count)
 
     at_time : (b : Bool) → nat_lt now w.now ≡ b → due_of now (let t : TimedTurn = if b then act_turn c times w (nothing_act w.station) else due_turns c times (most_due w.deadlines) at_now in t.next.deadlines) ≡ None
     at_time true is = absurd (omega (arith, ltb-true now w.now is, later))
