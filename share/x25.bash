@@ -13,9 +13,10 @@ _x25() {
             sim:--n2 | station:--n2) words="1 10 255" ;;
             sim:--channels) words="1 2 4 16" ;;
             station:--channels) words="1 16 255 4095" ;;
+            station:--incoming | station:--outgoing) words="0 1 16" ;;
             sim:*) words="--tap --events --down --loose --long --say-sizes --wide --k --n2 --channels --help" ;;
             station:station) words="dte dce --help" ;;
-            station:*) words="--long --say-sizes --wide --k --n2 --channels --clock --t1 --t3 --t20 --t21 --t22 --t23 --help" ;;
+            station:*) words="--long --say-sizes --wide --k --n2 --channels --incoming --outgoing --clock --t1 --t3 --t20 --t21 --t22 --t23 --help" ;;
             judge:*) words="--k --long --loose --wide --manners --strict --help" ;;
             deframe:deframe) words="dte dce --help" ;;
             deframe:*) words="--help" ;;
