@@ -3,11 +3,11 @@ use std::alloc::Global;
 use x25_packet::{Packet, PacketError};
 use x25_wide::{decode, narrow, read, reads_alike, take, taking_keeps_octets};
 
-/// What is taken of a packet: a cause, a diagnostic, and the facility field; of DATA Q, D and the user data.
+/// What is taken of a packet: a cause, a diagnostic, and the facility field.
 type Taken = (u8, u8, &'static [u8]);
 
 /// Octets in hexadecimal, the number of the error that they are for a station, or 0, and what it takes of them.
-static ROWS: [(&str, u8, Taken); 22] = [
+static ROWS: [(&str, u8, Taken); 19] = [
     ("10010b431234567000", 0, (0, 0, &[])),
     ("50010b11120201014142", 0, (0, 0, &[])),
     (
@@ -27,9 +27,6 @@ static ROWS: [(&str, u8, Taken); 22] = [
         0,
         (0, 0, &[0x42, 0x07, 0x07, 0x43, 0x02, 0x02]),
     ),
-    ("50010041", 0, (0, 1, &[0x41])),
-    ("90010041", 0, (1, 0, &[0x41])),
-    ("d00110", 0, (1, 1, &[])),
     ("10010f0000", 0, (0, 0, &[])),
     ("10010f11120343020241", 0, (0, 0, &[0x43, 0x02, 0x02])),
     ("10011305", 0, (5, 0, &[])),
@@ -64,7 +61,6 @@ fn told<'a>(packet: &'a Packet<'_>) -> (u8, u8, &'a [u8]) {
             ..
         }
         | Packet::Restart { cause, diagnostic } => (*cause, *diagnostic, &[]),
-        Packet::Data { marks, user, .. } => (u8::from(marks.q), u8::from(marks.d), user),
         _ => (255, 255, &[]),
     }
 }
