@@ -1,8 +1,7 @@
 use std::alloc::{AllocError, Global};
 use x25_circuit::{Message, Octets};
 use x25_layer::Stretch;
-use x25_packet::Marks;
-use x25_station::{Asked, Entry, Role, Said, Told};
+use x25_station::{Asked, Entry, Marks, Role, Said, Told};
 use x25_text::Text;
 use x25_transcript::{entry_line, push_entry};
 
