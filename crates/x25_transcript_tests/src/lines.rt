@@ -86,7 +86,7 @@ fn asking(alloc: Global) -> Entry {
 
 #[test]
 fn shows_that_confirmation_is_asked(rt: HostRuntime) {
-    let line = "dce send ch=16 at 10.3.18446744073709551615 q=0 d=1 data=-\n";
+    let line = "dte send ch=16 at 10.3.18446744073709551615 q=0 d=1 data=-\n";
     assert_eq!(rt;
         is_line(rt.alloc(), Role::Dte, Ok(asking(rt.alloc())), line),
         Ok(true)
