@@ -31,12 +31,12 @@ use Rattle.x25_sim.specs.laws.WritesRun.{WritesRun}
 use Rattle.x25_station.specs.declared.config.Cfg.{Cfg}
 use Rattle.x25_station.specs.Config.{Settings, settings_from}
 
--- the settings of a station
-abbrev pub settings_in : StationOptions → Cfg
-settings_in s = record {
+-- the settings of a station with so many one-way channels
+abbrev pub settings_in : StationOptions → ℕ → ℕ → Cfg
+settings_in s incoming outgoing = record {
   k = s.k;
   n2 = s.n2;
-  channels = record { count = s.channels; incoming = s.incoming; outgoing = s.outgoing };
+  channels = record { count = s.channels; incoming = incoming; outgoing = outgoing };
   long_data = s.long;
   say_sizes = s.say_sizes;
   wide = s.wide;
@@ -67,7 +67,9 @@ clock_program c end None = piping.program c
 clock_program c end (Some given) = timed_program c (times_in end given)
 
 abbrev pub place_program : Place → Program
-place_program p = clock_program (settings_from (role_in p.end) (settings_in p.station)) (role_in p.end) p.clock
+place_program p =
+    clock_program (settings_from (role_in p.end) (settings_in p.station p.station.incoming p.station.outgoing))
+    (role_in p.end) p.clock
 
 -- the program that does a task; `vectors` reads nothing
 abbrev pub program_of : Task → Program
@@ -77,7 +79,7 @@ program_of Vectors = record {
   status = λ _. if are_right then 0 else 1;
   Ended = λ _ _ _ _. ⊥;
 }
-program_of (Sim s) = simulating.program (settings_in s.station) s.down (shown_in s) s.loose
+program_of (Sim s) = simulating.program (settings_in s.station 0 0) s.down (shown_in s) s.loose
 program_of (Station p) = place_program p
 program_of (Judge g) = judging.program g.loose (begins g.k (record { long = g.long; wide = g.wide })
     (record { unjudged = g.strict; manners = g.manners }))
@@ -88,7 +90,7 @@ program_of (Frame loose) = framing.program loose
 abbrev pub WritesScript : Task → List ℕ → Option (List ℕ) → Option (List ℕ) → Type 0
 WritesScript (Decode d) script old now = ⊤
 WritesScript Vectors script old now = ⊤
-WritesScript (Sim s) script old now = WritesRun (settings_in s.station) s.down (shown_in s)
+WritesScript (Sim s) script old now = WritesRun (settings_in s.station 0 0) s.down (shown_in s)
     (asked_text s.loose script) old now
 WritesScript (Station p) script old now = ⊤
 WritesScript (Judge g) script old now = ⊤

@@ -17,17 +17,17 @@ use x25_pipe::{Role, Times, station, timed_station};
 use x25_settings::{End, GivenTimes, Place, Simulation, StationOptions, Task};
 use x25_sim::{Cfg, Ranges, Reporter, Shown, sim};
 
-/// The settings of a station, as the words of the command line say them.
-fn settings_of(options: StationOptions) -> Cfg
-    ensures { result ≡ settings_in options }
+/// The settings of a station with so many one-way channels, as the words of the command line say the rest.
+fn settings_of(options: StationOptions, incoming: u16, outgoing: u16) -> Cfg
+    ensures { result ≡ settings_in options incoming outgoing }
 {
     Cfg {
         k: options.k,
         n2: options.n2,
         channels: Ranges {
             count: options.channels,
-            incoming: options.incoming,
-            outgoing: options.outgoing,
+            incoming,
+            outgoing,
         },
         long_data: options.long,
         say_sizes: options.say_sizes,
@@ -71,7 +71,8 @@ fn answer_lines<R: Source, W: Sink>(
     ensures { Runs R.Source W.Sink (place_program place) reader.old reader.new writer.old writer.new result }
 {
     let end = role_of(place.end);
-    let cfg = settings_of(place.station);
+    let options = place.station;
+    let cfg = settings_of(options, options.incoming, options.outgoing);
     match place.clock {
         None => station(alloc, end, cfg, reader, writer),
         Some(given) => timed_station(alloc, end, cfg, times_of(end, given), reader, writer),
@@ -88,17 +89,17 @@ fn simulate<P: Reporter, R: Source, W: Sink>(
 ) -> Result<u8, Fault>
     requires { AreInRange (Task.Sim simulation) }
     ensures runs { Runs R.Source W.Sink
-        (simulating.program (settings_in simulation.station) simulation.down (shown_in simulation) simulation.loose)
+        (simulating.program (settings_in simulation.station 0 0) simulation.down (shown_in simulation) simulation.loose)
         reader.old reader.new writer.old writer.new result }
     ensures claims { OnOk result (OfInput (R.remaining reader.old) (λ script.
-        WritesRun (settings_in simulation.station) simulation.down (shown_in simulation)
+        WritesRun (settings_in simulation.station 0 0) simulation.down (shown_in simulation)
         (asked_text simulation.loose script)
         (W.contents writer.old) (W.contents writer.new))) }
 {
     sim(
         alloc,
         simulation.down,
-        settings_of(simulation.station),
+        settings_of(simulation.station, 0, 0),
         Shown {
             tap: simulation.tap,
             events: simulation.events,

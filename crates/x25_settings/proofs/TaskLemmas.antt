@@ -3,6 +3,7 @@ use Rattle.std.proofs.Common.{◌≡◌, ◌∙◌, ℕ, Bool, true, false, List
 use Rattle.std.specs.Prelude.{cond, option_and_then, option_map}
 use Rattle.std.specs.Str.{bytes_eq}
 use Rattle.std.proofs.lemmas.Slice.Eq.{bytes_eq-Decides}
+use Rattle.std.proofs.lemmas.Bool.{and_parts}
 use Rattle.std.proofs.lemmas.Option.{same_Some}
 use Rattle.x25_settings.specs.declared.options.Chosen.{Chosen}
 use Rattle.x25_settings.specs.declared.options.End.{End}
@@ -158,7 +159,8 @@ pub within : (words : List (List ℕ)) (task : Task) → Say words task → AreI
 within words (Decode d) say = tt
 within words Vectors say = tt
 within words (Sim s) say = subst (λ (s : Simulation). options.AreInRange kind.Sim s.station) (sym say.is) (in_range kind.Sim say.rest say.end say.choose)
-within words (Station p) say = subst (λ (p : Place). options.AreInRange kind.Station p.station) (sym say.is.0) (in_range kind.Station say.rest say.end say.choose)
+within words (Station p) say = subst (λ (p : Place). options.AreInRange kind.Station p.station × (options.fit_ranges p.station ≡ true)) (sym say.is.0)
+    (in_range kind.Station say.rest say.end say.choose, (and_parts _ _ say.is.1).1)
 within words (Judge g) say = subst JudgingIsInRange (sym say.is) (in_range kind.Judge say.rest say.end say.choose).0
 within words (Deframe end) say = tt
 within words (Frame loose) say = tt

@@ -35,7 +35,7 @@ abbrev pub AreInRange : Task → Type 0
 AreInRange (Decode d) = Unit {0}
 AreInRange Vectors = Unit {0}
 AreInRange (Sim s) = options.AreInRange kind.Sim s.station
-AreInRange (Station p) = options.AreInRange kind.Station p.station
+AreInRange (Station p) = options.AreInRange kind.Station p.station × (options.fit_ranges p.station ≡ true)
 AreInRange (Judge g) = JudgingIsInRange g
 AreInRange (Deframe end) = Unit {0}
 AreInRange (Frame loose) = Unit {0}
