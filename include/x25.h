@@ -13,7 +13,7 @@
  *
  * An answer has at most 24 frames of at most 4,103 octets, and 4 events, of which one has at most 65,535 octets; that of
  * x25_receive_all has as many for each frame that was taken. Its memory is set aside before anything happens: reading it takes
- * none, but for x25_entry. A new station takes less than 250 kB, with 4,095 channels less than 3 MB; one with all that may wait on
+ * none, but for x25_entry. A new station takes less than 400 kB, with 4,095 channels less than 3 MB; one with all that may wait on
  * 16 channels less than 10 MB.
  *
  * What the library can't see, and the program has to keep:
@@ -308,8 +308,8 @@ uint32_t x25_entry(const x25_station *station, size_t i, char *text, size_t size
 /* What became of timer T1 at the last call. */
 uint32_t x25_timer(const x25_station *station);
 
-/* Whether memory was refused after the last call that was accepted, for messages that may wait: they go on with the next one, as
-   x25_pull is. */
+/* Whether the answer to the last call that was accepted had no places for frames of messages that may wait: they go on with the
+   next one, as x25_pull is. */
 bool x25_waits(const x25_station *station);
 /* Whether the link is up, and all that was asked was sent and acknowledged. */
 bool x25_idle(const x25_station *station);

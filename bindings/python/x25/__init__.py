@@ -500,7 +500,7 @@ class Station:
 
     @property
     def waits(self) -> bool:
-        """Whether memory was refused for messages that wait, after the last call."""
+        """Whether the last answer had no places for frames of messages that may wait."""
         with self._lock:
             return bool(self._library.x25_waits(self._slot))
 

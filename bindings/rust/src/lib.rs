@@ -432,7 +432,7 @@ impl Station {
         Timer::of(unsafe { raw::x25_timer(self.slot.get()) })
     }
 
-    /// Whether memory was refused for messages that wait, behind the last call.
+    /// Whether the last answer had no places for frames of messages that may wait.
     pub fn waits(&self) -> bool {
         unsafe { raw::x25_waits(self.slot.get()) }
     }

@@ -8,7 +8,7 @@ use Rattle.x25_station.specs.Step.{Step, Outcome, Did, Refused}
 use Rattle.x25_station.specs.Timer.{timer_pulled}
 use Rattle.x25_station.specs.laws.TimerLaw.{Event, outcome, timer}
 
--- what is pulled from a station; nothing where memory is refused for it, and what waits then waits on
+-- what is pulled from a station; nothing where there are no places for it, and what waits then waits on
 abbrev pub rest_of : Bool → Settings → Station → Step
 rest_of false c s = pulled c s
 rest_of true c s = record { near = s; out = []; entries = [] }

@@ -14,7 +14,7 @@ use crate::slot::Slot;
 use crate::stretch_name::{StretchName, tell_name};
 use std::alloc::Global;
 
-/// Whether memory was refused for messages that wait, behind the last call: the next one pulls them.
+/// Whether the last answer had no places for frames of messages that may wait: the next call pulls them.
 #[unsafe(no_mangle)]
 pub extern "C" fn x25_waits(alloc: Global, slot: &mut Slot) -> bool
     ensures kept { slot.new.handle.held ≡ slot.old.handle.held }

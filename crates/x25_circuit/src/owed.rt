@@ -1,4 +1,4 @@
-ghost use Rattle.std.specs.Prelude.{◌≡◌};
+ghost use Rattle.std.specs.Prelude.{◌≡◌, []};
 ghost use Rattle.x25_packet.specs.Packet.{plain};
 ghost use Rattle.x25_packet.specs.Spelling.{IsChannel, IsInRange, moved_to};
 
@@ -19,6 +19,7 @@ pub enum Owed {
 }
 
 impl Owed {
+    ghost use Rattle.x25_circuit.specs.code.FitsCircuit.{user_octets};
     ghost use Rattle.x25_circuit.specs.code.Replies.{packet_owed};
 
     /// The packet on this channel, 1 to 4,095.
@@ -28,6 +29,7 @@ impl Owed {
         ensures value { plain result ≡ packet_owed channel self.now }
         ensures moved { plain result ≡ moved_to channel (packet_owed 1 self.now) }
         ensures range { IsInRange 128 (plain result) }
+        ensures control { user_octets (plain result) ≡ [] }
     {
         match self {
             Owed::Clear { cause, diagnostic } => Packet::Clear {

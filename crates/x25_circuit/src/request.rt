@@ -15,7 +15,7 @@ ghost use Rattle.x25_circuit.specs.code.FitsCircuit.{FitsCircuit, Sends, room_of
 ghost use Rattle.x25_circuit.specs.Queue.{waiting};
 ghost use Rattle.x25_circuit.specs.Request.{plain_answer, plain_request, refusal_of, with_packet, AnswersRequest};
 ghost use Rattle.x25_circuit.specs.Request.{MayPut, MayLack};
-ghost use Rattle.x25_circuit.specs.code.Replies.{IsSendable, plain_sent};
+ghost use Rattle.x25_circuit.specs.code.Replies.{IsControl, IsSendable, plain_sent};
 
 use crate::cause::{may_clear_for, may_reset_for};
 use crate::circuit::Circuit;
@@ -84,6 +84,7 @@ impl Circuit {
         ensures outcome { (c : Settings) (x : Channel) → FitsCircuit c self.old x
             → AnswersRequest c self.new result (outcome c x (plain_request request.entry)) }
         ensures range { IfOk result (λ packet. IsSendable (plain_sent packet)) }
+        ensures control { IfOk result (λ packet. IsControl (plain_sent packet)) }
         ensures at_once { IfOk result (λ packet. MayPut (plain_request request.entry) packet) }
         ensures room { room_of self.old ≤ room_of self.new }
         ensures clears { clears_of self.new ≡ clears_of self.old }

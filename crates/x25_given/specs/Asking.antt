@@ -1,5 +1,5 @@
 -- A layer over a link through which the first packet goes in another form.
-use Rattle.std.specs.Prelude.{◌≤◌, ℕ, max, Bool, List, [], ◌∷◌, Option, Some, None, Result, OnOk, OnErr}
+use Rattle.std.specs.Prelude.{ℕ, Bool, List, [], ◌∷◌, Option, Some, None, Result, OnOk, OnErr}
 use Rattle.x25_packet.specs.Packet.{PlainPacket}
 use Rattle.x25_packet.specs.Spelling.{spelling_of}
 use Rattle.x25_link.specs.declared.ordered_link.OrderedLink.{Ghosts}
@@ -32,8 +32,7 @@ GoesInForm fits after form link result f x (Went s) = OnOk result (fits link (al
 GoesInForm fits after form link result f x (Refuses e) = Unit {0}
 
 -- A call of the user does to a layer what the definition says of it, and to the link below too, in which its own packet
--- goes in this form; or it is refused and both are as before. Of what was set aside in the layer no more than for 16
--- packets is kept, or what there was.
+-- goes in this form; or it is refused and both are as before.
 pub record AsksThrough {D F T : Type 0} (g : Ghosts D) (form : F → List ℕ → List ℕ) (f : F) (old : code.Layer)
     (below : D) (new : code.Layer) (below₂ : D) (result : Result T LayerError) (request : LayerRequest) : Type 0 where
   pub layer : (c : LayerSettings) (l : Layer) (x : g.State) → FitsLayer c old l → g.fits below x
@@ -43,4 +42,3 @@ pub record AsksThrough {D F T : Type 0} (g : Ghosts D) (form : F → List ℕ �
       (calls (view_in g.up_in g.waits_in g.after_put form f x) c l request)
   pub layer_stays : (c : LayerSettings) (l : Layer) → FitsLayer c old l → OnErr result (FitsLayer c new l)
   pub link_stays : (x : g.State) → g.fits below x → OnErr result (g.fits below₂ x)
-  pub most_memory : new.memory ≤ max old.memory 16

@@ -2,8 +2,10 @@
 use Rattle.std.specs.Prelude.{◌≡◌, ℕ, List, [], ◌∷◌, ◌++◌, length, Option, Some, None}
 use Rattle.x25_link.specs.OrderedLink.{Lists}
 
--- the state of the link below, what was handed down as it was before it was written, and the form that stands yet
+-- the name of the reference to the link below, its state, what was handed down as it was before it was written, and
+-- the form that stands yet
 pub record Passage (X F : Type 0) : Type 0 where
+  pub name : ℕ
   pub below : X
   pub given : List (List ℕ)
   pub form : Option F
@@ -17,13 +19,15 @@ lists_of lists x = record { given = x.given; acked = (lists x.below).acked; take
 
 abbrev pub passed : {X F : Type 0} → (X → List ℕ → X) → (F → List ℕ → List ℕ) → Passage X F → List ℕ → Passage X F
 passed after form x octets = record {
+  name = x.name;
   below = after x.below (in_form form x.form octets);
   given = x.given ++ octets ∷ [];
   form = None;
 }
 
-pub record FitsPassage {D X F : Type 0} (fits : D → X → Type 0) (lists : X → Lists) (link : D) (stands : Option F)
-    (x : Passage X F) : Type 0 where
+pub record FitsPassage {D X F : Type 0} (fits : D → X → Type 0) (lists : X → Lists) (reference : ℕ) (link : D)
+    (stands : Option F) (x : Passage X F) : Type 0 where
+  pub name : reference ≡ x.name
   pub below : fits link x.below
   pub form : stands ≡ x.form
   pub many : length x.given ≡ length (lists x.below).given

@@ -9,17 +9,15 @@ ghost use Rattle.x25_given.specs.Asking.{AsksThrough};
 
 use crate::form::Form;
 use crate::through::Through;
-use std::mem::replace;
 use x25_circuit::{Proposal, Request};
 use x25_layer::{Layer, LayerError};
 use x25_link::OrderedLink;
 
 /// Asks the circuit of a channel, as `Layer::ask` does: its packet goes in another form, and what is pulled behind it
-/// as it is. Meanwhile `blank`, any link, stands in the place of the link, and then is let go of.
-pub fn ask_through<L: OrderedLink + Drop, F: Form + Drop>(
+/// as it is.
+pub fn ask_through<L: OrderedLink, F: Form + Drop>(
     layer: &mut Layer,
     link: &mut L,
-    blank: L,
     form: F,
     channel: u16,
     request: Request<'_>,
@@ -28,18 +26,15 @@ pub fn ask_through<L: OrderedLink + Drop, F: Form + Drop>(
     ensures { AsksThrough L.OrderedLink F.form form layer.old link.old layer.new link.new result
         (Asks channel (plain_request request.entry)) }
 {
-    let mut through = Through::over(replace(link, blank), form);
-    let answer = layer.ask(&mut through, channel, request);
-    *link = through.below();
-    answer
+    let mut form = Some(form);
+    let mut through = Through::over(link, &mut form);
+    layer.ask(&mut through, channel, request)
 }
 
 /// Calls the other end, as `Layer::call` does: the CALL goes in another form, and what is pulled behind it as it is.
-/// Meanwhile `blank`, any link, stands in the place of the link, and then is let go of.
-pub fn call_through<L: OrderedLink + Drop, F: Form + Drop>(
+pub fn call_through<L: OrderedLink, F: Form + Drop>(
     layer: &mut Layer,
     link: &mut L,
-    blank: L,
     form: F,
     called: &str,
     calling: &str,
@@ -52,8 +47,7 @@ pub fn call_through<L: OrderedLink + Drop, F: Form + Drop>(
     ensures channel { (c : LayerSettings) (l : State) → FitsLayer c layer.old l
         → IfOk result (λ channel. free_channel c.circuit.role l.circuits c.channels ≡ Some channel) }
 {
-    let mut through = Through::over(replace(link, blank), form);
-    let answer = layer.call(&mut through, called, calling, user, proposal);
-    *link = through.below();
-    answer
+    let mut form = Some(form);
+    let mut through = Through::over(link, &mut form);
+    layer.call(&mut through, called, calling, user, proposal)
 }

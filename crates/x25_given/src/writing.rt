@@ -63,12 +63,9 @@ impl<'a> Form for Writing<'a> {
 
     ghost form = { write };
 
-    fn write(self, octets: Vec<u8>) -> Vec<u8> {
+    fn written(self, octets: &[u8]) -> Option<Vec<u8>> {
         let Writing { given, memory } = self;
-        match with_given(&given, memory, &octets) {
-            Some(written) => written,
-            None => octets,
-        }
+        with_given(&given, memory, octets)
     }
 }
 

@@ -24,7 +24,7 @@ use Rattle.x25_layer.specs.Rounds.{LinkView, Answered, Went, Refuses, went, call
 use Rattle.x25_layer.specs.Rounds.{refusal_of as answered_refusal}
 use Rattle.x25_layer.specs.code.FitsLayer.{FitsCircuits, FitsLayer}
 use Rattle.x25_link.specs.declared.ordered_link.OrderedLink.{Ghosts}
-use Rattle.x25_layer.specs.code.OverLink.{LayerGives, LinkGives, UsesMemory, LacksMemory, MayLack, Does, view_of}
+use Rattle.x25_layer.specs.code.OverLink.{LayerGives, LinkGives, MayLack, Does, view_of}
 use Rattle.x25_layer.specs.Asking.{with_circuit, AsksCircuit, error_without_memory, refusal_on}
 use Rattle.x25_layer.proofs.FitLemmas.{read_at}
 use Rattle.x25_layer.proofs.PullLemmas.{fits_put, fits_same}
@@ -44,7 +44,7 @@ found_at c v l h place x fits is same read =
 
 -- ---- another circuit at one place
 
--- a layer, all else of which but its memory and its circuits is as it was
+-- a layer, all else of which but its circuits is as it was
 pub record IsLike (v v₂ : code.Layer) : Type 0 where
   pub role : v₂.role ≡ v.role
   pub long_data : v₂.long_data ≡ v.long_data
@@ -215,21 +215,15 @@ pub same_err : {T : Type 0} (r : Result T LayerError) (e f : LayerError) → IsE
 same_err (Ok x) e f is same = absurd is
 same_err (Err g) e f is same = sym is ∙ err_is g f same
 
--- a refused call uses none of what was set aside
-pub uses_none : {T : Type 0} (r : Result T LayerError) (m m₂ : ℕ) (e : LayerError) (a : Answered) → IsErrAnd r (λ x. x ≡ e) → UsesMemory m m₂ r a
-uses_none (Ok x) m m₂ e a is = absurd is
-uses_none (Err f) m m₂ e (Went s) is = tt
-uses_none (Err f) m m₂ e (Refuses d) is = tt
-
 -- ---- where memory may be missing
 
-pub may_lack : (b : Bool) (count : ℕ) (v : code.Layer) (n : ℕ) → LacksMemory count v n → MayLack b count v n
-may_lack true count v n lacks = tt
-may_lack false count v n lacks = lacks
+pub may_lack : (b : Bool) (count n : ℕ) → n < count → MayLack b count n
+may_lack true count n lacks = tt
+may_lack false count n lacks = lacks
 
-pub may_copy : (b : Bool) (count : ℕ) (v : code.Layer) (n : ℕ) → b ≡ true → MayLack b count v n
-may_copy true count v n copies = tt
-may_copy false count v n copies = absurd (cc)
+pub may_copy : (b : Bool) (count n : ℕ) → b ≡ true → MayLack b count n
+may_copy true count n copies = tt
+may_copy false count n copies = absurd (cc)
 
 -- ---- a refusal that is known before anything is done
 
@@ -242,8 +236,5 @@ refuses_all T g v below e count copied said named is = record {
   link_stays = λ x fits. fits;
   longest = refl;
   missing = λ none. absurd (named (err_is e error.NoMemory none));
-  most_memory = omega arith;
-  used = λ c l x fits link. subst (λ (a : Answered). UsesMemory {T = T} v.memory v.memory (Err e) a) (sym (is c l x fits link)) tt;
-  memory_stays = omega arith;
   room = λ h len has. has;
 }

@@ -1,5 +1,5 @@
 -- A layer's circuits, one by one.
-use Rattle.std.proofs.Common.{◌≡◌, ◌⊎◌, inl, inr, ℕ, zero, suc, ◌+◌, ◌-◌, ◌^◌, ◌<◌, ◌≤◌, List, [], ◌∷◌, ◌++◌, length, Option, Some, None, Bool, true, false, slice_get, set, take, if◌then◌else◌, refl, sym, ap, subst, ◌∙◌, arith, IfSome, IfNone, MatchOption, option_to_list, Bor, Result, Ok, Err, OnErr, drop, get_or, not, ◌&&◌, ◌||◌, ◌==◌, eq-eqb}
+use Rattle.std.proofs.Common.{◌≡◌, ◌⊎◌, inl, inr, ℕ, zero, suc, ◌+◌, ◌-◌, ◌^◌, ◌<◌, ◌≤◌, List, [], ◌∷◌, ◌++◌, length, Option, Some, None, Bool, true, false, slice_get, set, take, if◌then◌else◌, refl, sym, ap, subst, ◌∙◌, arith, IfSome, IfNone, MatchOption, Bor, Result, Ok, Err, OnErr, drop, get_or, not, ◌&&◌, ◌||◌, ◌==◌, eq-eqb}
 use Rattle.std.specs.Result.{is_err}
 use Rattle.std.proofs.lemmas.Option.{none-some, same_Some, slice_get_within, slice_get-get_or}
 use Rattle.std.proofs.lemmas.List.{append-nil, take_all}
@@ -12,7 +12,6 @@ use Rattle.x25_circuit.specs.code.FitsCircuit.{FitsCircuit, clears_of, resets_of
 use Rattle.x25_layer.specs.Ranges.{is_number}
 use Rattle.x25_layer.specs.code.Counts.{HasCountsLeft, HaveCountsLeft}
 use Rattle.x25_layer.specs.declared.layer.Layer as code
-use Rattle.x25_packet.specs.Packet.{PlainPacket}
 use Rattle.x25_layer.specs.Layer.{LayerSettings, Layer, is_channel, packet_on}
 use Rattle.x25_handshakes.specs.laws.Names.{Name}
 use Rattle.x25_layer.specs.laws.Transcript.{name_of}
@@ -225,13 +224,12 @@ if_none None by p = by p
 if_none (Some x) by p = tt
 
 -- what stands where there is no packet, and for each a number falls
-pub kept_unless : {P : Type 0} (h : ℕ) (o : Option PlainPacket) (n m : ℕ) → IfNone o P → n + length (option_to_list (packet_on h o)) ≡ m → m ≤ n → P
-kept_unless h None n m p used still = p
-kept_unless h (Some packet) n m p used still = absurd (omega (arith, used, still))
+pub fits_as : {c : LayerSettings} {v w : code.Layer} {l : Layer} → w ≡ v → FitsLayer c v l → FitsLayer c w l
+fits_as {c} {v} {w} {l} same fits = subst (λ (u : code.Layer). FitsLayer c u l) (sym same) fits
 
-pub none_owed : (P : Type 0) (o : Option Owed) → IfNone o P → IfNone (plain_owed o) P
-none_owed P None p = p
-none_owed P (Some owed) p = tt
+pub where_none : (P : Type 0) (h : ℕ) (o : Option Owed) → packet_on h (plain_owed o) ≡ None → IfNone o P → P
+where_none P h None none p = p
+where_none P h (Some owed) none p = absurd (none-some _ (sym none))
 
 -- the same counts
 pub counts_left : (v w : circuit_code.Circuit) → clears_of w ≡ clears_of v → resets_of w ≡ resets_of v → HasCountsLeft v → HasCountsLeft w

@@ -1,5 +1,5 @@
 -- What octets are read as, and the channel that they name.
-use Rattle.std.proofs.Common.{◌≡◌, ℕ, suc, ◌+◌, ◌-◌, ◌<◌, ◌≤◌, ◌∙◌, All, List, [], ◌∷◌, length, Option, Some, None, Bool, true, false, Result, Ok, Err, if◌then◌else◌, IfOk, slice_get, get_or, option_to_list, refl, sym, ap, subst, arith}
+use Rattle.std.proofs.Common.{◌≡◌, ℕ, suc, ◌-◌, ◌<◌, ◌≤◌, ◌∙◌, All, List, [], ◌∷◌, length, Option, Some, None, Bool, true, false, Result, Ok, Err, if◌then◌else◌, IfOk, slice_get, get_or, option_to_list, refl, sym, ap, subst, arith}
 use Rattle.std.proofs.lemmas.Option.{same_Some}
 use Rattle.x25_packet.specs.declared.packet.Packet.{Packet}
 use Rattle.x25_packet.specs.declared.error.PacketError.{PacketError}
@@ -108,9 +108,7 @@ heard_same g old below new below₂ told f h same by = record {
   told = λ c l fits. by.told c l fits ∙ ap (λ (a : LayerAnswer). a.notices) (same c l);
   nothing = by.nothing;
   takes = by.takes;
-  memory = by.memory;
-  used = λ c l fits. ap (λ (a : LayerAnswer). new.memory + length (option_to_list a.owed)) (sym (same c l)) ∙ by.used c l fits;
-  room = by.room;
+  room = λ c l fits none. by.room c l fits (ap (λ (a : LayerAnswer). a.owed) (same c l) ∙ none);
 }
 
 pub if_ok : {T E : Type 0} (r : Result T E) (P Q : T → Type 0) → ((x : T) → P x → Q x) → IfOk r P → IfOk r Q

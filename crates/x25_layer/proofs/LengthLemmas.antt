@@ -1,14 +1,11 @@
 -- How many octets spell a packet at most.
-use Rattle.x25_packet.specs.declared.marks.Marks.{Marks}
-use Rattle.std.proofs.Common.{◌≡◌, ℕ, ◌+◌, ◌*◌, ◌≤◌, List, [], ◌∷◌, ◌++◌, length, length-append, Bool, Bor, Option, Some, None, refl, sym, ap, subst, ◌∙◌, arith}
-use Rattle.x25_bits.specs.declared.seq.Seq.{Seq}
+use Rattle.std.proofs.Common.{◌≡◌, ℕ, ◌+◌, ◌*◌, ◌≤◌, List, [], ◌∷◌, ◌++◌, length, length-append, Option, Some, None, ap, ◌∙◌, arith}
 use Rattle.x25_packet.specs.declared.facilities.Directions.{Directions}
-use Rattle.x25_packet.specs.declared.packet.Packet.{Packet}
-use Rattle.x25_packet.specs.declared.packet.Packet.TheVariants as code
-use Rattle.x25_packet.specs.Packet.{plain}
+use Rattle.x25_packet.specs.Packet.{PlainPacket, call, accept, clear, clear_conf, user_data, rr, rnr, interrupt, interrupt_conf, reset, reset_conf, restart, restart_conf}
 use Rattle.x25_packet.specs.Digits.{packed, IsAddress}
 use Rattle.x25_packet.specs.Facilities.{facility, IsFacilityField}
-use Rattle.x25_packet.specs.Spelling.{addresses, call_body, accept_body, body_of, IsInRange}
+use Rattle.x25_packet.specs.Spelling.{addresses, call_body, accept_body, spelling_of, IsInRange}
+use Rattle.x25_circuit.specs.code.FitsCircuit.{user_octets}
 
 pub packed_short : (digits : List ℕ) → 2 * length (packed digits) ≤ length digits + 1
 unfolding packed
@@ -42,26 +39,35 @@ pub accept_short : (facilities : List ℕ) → IsFacilityField facilities → le
 accept_short [] f = omega arith
 accept_short (octet ∷ facilities) f = let g = field_short (octet ∷ facilities) f in omega (arith, g)
 
--- what follows the third octet of a CALL
-pub call_fits : (p : Packet) (channel : ℕ) (called calling : List ℕ) (facilities : List ℕ) (user : Bor (List ℕ)) → p ≡ code.Call channel called calling facilities user → IsInRange 128 (plain p)
-    → (length (body_of (plain p)) ≤ 23 + length user.now) × (length user.now ≤ 128)
-call_fits p channel called calling facilities user e is =
-    subst (λ (q : Packet). IsInRange 128 (plain q) → (length (body_of (plain q)) ≤ 23 + length user.now) × (length user.now ≤ 128)) (sym e)
-    (λ range. (call_short called calling facilities user.now range.1 range.2 range.3, range.4)) is
+-- a packet that brings no user data for a message
+pub spelled_short : (p : PlainPacket) → IsInRange 128 p → user_octets p ≡ [] → length (spelling_of p) ≤ 260
+spelled_short (call channel called calling facilities user) is none =
+    let low = call_short called calling facilities user is.1 is.2 is.3 in let few : length user ≤ 128 = is.4 in omega (arith, low, few)
+spelled_short (accept channel facilities) is none = let low = accept_short facilities is.1 in omega (arith, low)
+spelled_short (clear channel cause diagnostic) is none = omega arith
+spelled_short (clear_conf channel) is none = omega arith
+spelled_short (user_data channel marks m ps pr user) is none = let empty : length user ≡ 0 = ap (λ (xs : List ℕ). length xs) none in omega (arith, empty)
+spelled_short (rr channel pr) is none = omega arith
+spelled_short (rnr channel pr) is none = omega arith
+spelled_short (interrupt channel user) is none = let low : length user ≤ 32 = is.2 in omega (arith, low)
+spelled_short (interrupt_conf channel) is none = omega arith
+spelled_short (reset channel cause diagnostic) is none = omega arith
+spelled_short (reset_conf channel) is none = omega arith
+spelled_short (restart cause diagnostic) is none = omega arith
+spelled_short restart_conf is none = omega arith
 
--- what follows the third octet of a packet other than DATA and CALL
-pub other_short : (p : Packet) → ((channel : ℕ) (q : Marks) (m : Bool) (ps pr : Seq) (user : Bor (List ℕ)) → p ≡ code.Data channel q m ps pr user → ⊥)
-    → ((channel : ℕ) (called calling : List ℕ) (facilities : List ℕ) (user : Bor (List ℕ)) → p ≡ code.Call channel called calling facilities user → ⊥) → IsInRange 128 (plain p) → length (body_of (plain p)) ≤ 32
-other_short (code.Call channel called calling facilities user) other not_call is = absurd (not_call channel called calling facilities user refl)
-other_short (code.Accept channel facilities) other not_call is = accept_short facilities is.1
-other_short (code.Clear channel cause diagnostic) other not_call is = omega arith
-other_short (code.ClearConf channel) other not_call is = omega arith
-other_short (code.Data channel q m ps pr user) other not_call is = absurd (other channel q m ps pr user refl)
-other_short (code.Rr channel pr) other not_call is = omega arith
-other_short (code.Rnr channel pr) other not_call is = omega arith
-other_short (code.Interrupt channel user) other not_call is = let low : length user.now ≤ 32 = is.2 in omega (arith, low)
-other_short (code.InterruptConf channel) other not_call is = omega arith
-other_short (code.Reset channel cause diagnostic) other not_call is = omega arith
-other_short (code.ResetConf channel) other not_call is = omega arith
-other_short (code.Restart cause diagnostic) other not_call is = omega arith
-other_short code.RestartConf other not_call is = omega arith
+-- any packet
+pub spelled_long : (p : PlainPacket) → IsInRange 128 p → length (spelling_of p) ≤ 4099
+spelled_long (call channel called calling facilities user) is = let low = call_short called calling facilities user is.1 is.2 is.3 in let few : length user ≤ 128 = is.4 in omega (arith, low, few)
+spelled_long (accept channel facilities) is = let low = accept_short facilities is.1 in omega (arith, low)
+spelled_long (clear channel cause diagnostic) is = omega arith
+spelled_long (clear_conf channel) is = omega arith
+spelled_long (user_data channel marks m ps pr user) is = let low : length user ≤ 4096 = is.3 in omega (arith, low)
+spelled_long (rr channel pr) is = omega arith
+spelled_long (rnr channel pr) is = omega arith
+spelled_long (interrupt channel user) is = let low : length user ≤ 32 = is.2 in omega (arith, low)
+spelled_long (interrupt_conf channel) is = omega arith
+spelled_long (reset channel cause diagnostic) is = omega arith
+spelled_long (reset_conf channel) is = omega arith
+spelled_long (restart cause diagnostic) is = omega arith
+spelled_long restart_conf is = omega arith

@@ -16,9 +16,9 @@ use Rattle.x25_layer.specs.Layer.{LayerSettings, put_at, packet_on}
 use Rattle.x25_layer.specs.Calls.{layer_pulled}
 use Rattle.x25_layer.specs.code.FitsLayer.{FitsCircuits}
 use Rattle.x25_link.specs.declared.ordered_link.OrderedLink.{Ghosts}
-use Rattle.x25_layer.specs.code.OverLink.{after_all, view_of, Takes}
+use Rattle.x25_layer.specs.code.OverLink.{after_all, view_of}
 use Rattle.x25_layer.specs.Rounds.{LinkView, Putting, with_pulled, pull_one, round}
-use Rattle.x25_layer.specs.code.Pulling.{IsEnough, pulled_where, Stands}
+use Rattle.x25_layer.specs.code.Pulling.{IsEnough, Takes, pulled_where, Stands}
 use Rattle.x25_layer.proofs.FitLemmas.{get_changed, there}
 use Rattle.x25_layer.proofs.SettleLemmas.{put_other, not_same}
 
@@ -85,15 +85,15 @@ enough_still : (a : Lists) (m m₂ : ℕ) → IsEnough a m → m ≤ m₂ + 0 �
 enough_still a m m₂ enough fewer = omega (arith, enough, fewer)
 
 -- one channel more of a round
-pub stands_more : {X : Type 0} (fits fits₂ : X → Type 0) (lists : X → Lists) (after : X → List ℕ → X) (up_in : X → Bool) (waits_in : X → ℕ) (c : LayerSettings) (i : ℕ) (vs : List circuit_code.Circuit) (v : circuit_code.Circuit) (m n m₂ n₂ total : ℕ) (x : X) (t : Putting)
+pub stands_more : {X : Type 0} (fits fits₂ : X → Type 0) (lists : X → Lists) (after : X → List ℕ → X) (up_in : X → Bool) (waits_in : X → ℕ) (c : LayerSettings) (i : ℕ) (vs : List circuit_code.Circuit) (v : circuit_code.Circuit) (m n m₂ n₂ : ℕ) (x : X) (t : Putting)
     → ((y : X) (packet : List ℕ) → lists (after y packet) ≡ handed_down (lists y) packet)
-    → Stands fits lists after c vs m n total x t
+    → Stands fits lists after c vs m n x t
     → FitsCircuit c.circuit v (pulled_where (nat_lt (waits_in (after_all after x t.put)) 8) c.circuit (t.layer.circuits (suc i))).next
     → fits₂ (after_all after (after_all after x t.put) (option_to_list (packet_on (suc i) (pulled_where (nat_lt (waits_in (after_all after x t.put)) 8) c.circuit (t.layer.circuits (suc i))).packet)))
     → m₂ + length (option_to_list (pulled_where (nat_lt (waits_in (after_all after x t.put)) 8) c.circuit (t.layer.circuits (suc i))).packet) ≡ m
     → n ≤ n₂ + length (option_to_list (pulled_where (nat_lt (waits_in (after_all after x t.put)) 8) c.circuit (t.layer.circuits (suc i))).packet)
-    → Stands fits₂ lists after c (set vs i v) m₂ n₂ total x (pull_one (view_of up_in waits_in after x) c (suc i) t)
-stands_more {X} fits fits₂ lists after up_in waits_in c i vs v m n m₂ n₂ total x t adds s fit link memory promised = room (nat_lt (waits_in (after_all after x t.put)) 8) fit link memory promised
+    → Stands fits₂ lists after c (set vs i v) m₂ n₂ x (pull_one (view_of up_in waits_in after x) c (suc i) t)
+stands_more {X} fits fits₂ lists after up_in waits_in c i vs v m n m₂ n₂ x t adds s fit link fewer promised = room (nat_lt (waits_in (after_all after x t.put)) 8) fit link fewer promised
   where
     y : X
     y = after_all after x t.put
@@ -101,34 +101,32 @@ stands_more {X} fits fits₂ lists after up_in waits_in c i vs v m n m₂ n₂ t
     now : Circuit
     now = t.layer.circuits (suc i)
 
-    same : FitsCircuit c.circuit v now → fits₂ y → m₂ + 0 ≡ m → n ≤ n₂ + 0 → Stands fits₂ lists after c (set vs i v) m₂ n₂ total x t
-    same fit link memory promised = record {
+    same : FitsCircuit c.circuit v now → fits₂ y → m₂ + 0 ≡ m → n ≤ n₂ + 0 → Stands fits₂ lists after c (set vs i v) m₂ n₂ x t
+    same fit link fewer promised = record {
       channels = length-set vs i v ∙ s.channels;
       circuits = fits_same c vs t.layer.circuits i v s.circuits fit;
       link = link;
-      memory = enough_still (lists y) m m₂ s.memory (omega (arith, memory));
+      left = enough_still (lists y) m m₂ s.left (omega (arith, fewer));
       promised = enough_still (lists y) n n₂ s.promised promised;
-      sum = (let all = s.sum in omega (arith, memory, all));
     }
 
     given : (o : Option PlainPacket) → (pulled c.circuit now).packet ≡ o → FitsCircuit c.circuit v (pulled c.circuit now).next → fits₂ (after_all after y (option_to_list (packet_on (suc i) o)))
-        → m₂ + length (option_to_list o) ≡ m → n ≤ n₂ + length (option_to_list o) → Stands fits₂ lists after c (set vs i v) m₂ n₂ total x (with_pulled t (layer_pulled c t.layer (suc i)) (packet_on (suc i) o))
-    given None found fit link memory promised = same (subst (λ (z : Circuit). FitsCircuit c.circuit v z) (none_kept c.circuit now found) fit) link memory promised
-    given (Some packet) found fit link memory promised =
+        → m₂ + length (option_to_list o) ≡ m → n ≤ n₂ + length (option_to_list o) → Stands fits₂ lists after c (set vs i v) m₂ n₂ x (with_pulled t (layer_pulled c t.layer (suc i)) (packet_on (suc i) o))
+    given None found fit link fewer promised = same (subst (λ (z : Circuit). FitsCircuit c.circuit v z) (none_kept c.circuit now found) fit) link fewer promised
+    given (Some packet) found fit link fewer promised =
         let more : lists (after_all after x (t.put ++ moved_to (suc i) packet ∷ [])) ≡ handed_down (lists y) (spelling_of (moved_to (suc i) packet)) =
         ap lists (after_more after x t.put (moved_to (suc i) packet)) ∙ adds y (spelling_of (moved_to (suc i) packet)) in
         record {
           channels = length-set vs i v ∙ s.channels;
           circuits = fits_put c vs t.layer.circuits i v (pulled c.circuit now).next s.circuits fit;
           link = subst fits₂ (sym (after_more after x t.put (moved_to (suc i) packet))) link;
-          memory = enough_more (lists y) _ (spelling_of (moved_to (suc i) packet)) m m₂ more s.memory (omega (arith, memory));
+          left = enough_more (lists y) _ (spelling_of (moved_to (suc i) packet)) m m₂ more s.left (omega (arith, fewer));
           promised = enough_more (lists y) _ (spelling_of (moved_to (suc i) packet)) n n₂ more s.promised promised;
-          sum = (let all = s.sum in let one = length-append t.put (moved_to (suc i) packet ∷ []) in omega (arith, memory, all, one));
         }
 
     room : (b : Bool) → FitsCircuit c.circuit v (pulled_where b c.circuit now).next → fits₂ (after_all after y (option_to_list (packet_on (suc i) (pulled_where b c.circuit now).packet)))
         → m₂ + length (option_to_list (pulled_where b c.circuit now).packet) ≡ m → n ≤ n₂ + length (option_to_list (pulled_where b c.circuit now).packet)
-        → Stands fits₂ lists after c (set vs i v) m₂ n₂ total x (if b then with_pulled t (layer_pulled c t.layer (suc i)) (layer_pulled c t.layer (suc i)).packet else t)
+        → Stands fits₂ lists after c (set vs i v) m₂ n₂ x (if b then with_pulled t (layer_pulled c t.layer (suc i)) (layer_pulled c t.layer (suc i)).packet else t)
     room true = given (pulled c.circuit now).packet refl
     room false = same
 

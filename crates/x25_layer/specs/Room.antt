@@ -36,9 +36,6 @@ KeepOthers h old new = (k : ℕ) → (suc k ≡ h → ⊥) → slice_get new k �
 abbrev pub HaveAtMost : ℕ → List circuit_code.Circuit → Type 0
 HaveAtMost bound vs = (k : ℕ) (v : circuit_code.Circuit) → slice_get vs k ≡ Some v → room_of v ≤ bound
 
--- Memory is set aside for a packet on a channel with at most so many octets of user data, or for LinkDown and LinkUp:
--- for 16 packets that are put, which are the owed one and 15 data packets, and in the circuit of the channel for the
--- user data.
-pub record HasRoom (h len : ℕ) (v : code.Layer) : Type 0 where
-  pub memory : 16 ≤ v.memory
-  pub circuits : HasRoomOn h len v.circuits.items
+-- Memory is set aside for a packet on a channel with at most so many octets of user data.
+abbrev pub HasRoom : ℕ → ℕ → code.Layer → Type 0
+HasRoom h len v = HasRoomOn h len v.circuits.items

@@ -2,7 +2,7 @@
 ghost use Rattle.std.specs.Prelude.{◌≡◌, ◌≢◌, ◌<◌, ◌≤◌, length, true, false, IfOk, IfSome, IfNone};
 ghost use Rattle.std.specs.Prelude.{OnErr, IsErrOf};
 ghost use Rattle.x25_circuit.specs.Calling.{outcome};
-ghost use Rattle.x25_circuit.specs.code.Replies.{IsSendable, plain_sent};
+ghost use Rattle.x25_circuit.specs.code.Replies.{IsControl, IsSendable, plain_sent};
 ghost use Rattle.x25_circuit.specs.Request.{plain_request, is_message, MayPut};
 ghost use Rattle.x25_layer.specs.Layer.{LayerSettings};
 ghost use Rattle.x25_layer.specs.Ranges.{is_number};
@@ -60,8 +60,8 @@ impl Layer {
             → AsksCircuit c self.new result l channel
             (outcome c.circuit (l.circuits channel) (plain_request request.entry)) }
         ensures range { IfOk result (λ packet. IsSendable (plain_sent packet)) }
+        ensures control { IfOk result (λ packet. IsControl (plain_sent packet)) }
         ensures at_once { IfOk result (λ packet. MayPut (plain_request request.entry) packet) }
-        ensures memory { self.new.memory ≡ self.old.memory }
         ensures room { HaveRoomStill self.old.circuits.items self.new.circuits.items }
         ensures fits { OnErr result (FitsStill self.old self.new) }
         ensures missing { IsErrOf result LayerError.NoMemory → is_message (plain_request request.entry) ≡ true }
@@ -119,7 +119,7 @@ impl Layer {
         }
     }
 
-    // Where memory is missing for a call, a refusal of its circuit goes before 70.
+    // Where the link has too few places for a call, a refusal of its circuit goes before 70.
     fn without_memory(&self, channel: u16, request: &Request<'_>) -> LayerError
         requires { is_number (length self.now.circuits.items) channel ≡ true }
         ensures { (c : LayerSettings) (l : State) → FitsLayer c self.now l
@@ -149,7 +149,7 @@ impl Layer {
             (λ view c l. went view c (outcome_on l.restarts l.circuits channel
             (outcome c.circuit (l.circuits channel) (plain_request request.entry)))) }
     {
-        if self.reserve_packets(link, MOST_PUT).is_err() {
+        if link.promised() < MOST_PUT {
             return Err(self.without_memory(channel, &request));
         }
         let packet = self.ask_circuit(channel, request)?;
@@ -163,7 +163,6 @@ impl Layer {
     /// kept. The layer is as before.
     pub fn keep(&mut self, channel: u16, memory: Vec<u8>)
         ensures layer { (c : LayerSettings) (l : State) → FitsLayer c self.old l → FitsLayer c self.new l }
-        ensures aside { self.new.memory ≡ self.old.memory }
     {
         if self.circuit(channel).is_some() {
             self.keep_on(channel, memory);
@@ -174,7 +173,6 @@ impl Layer {
     fn keep_on(&mut self, channel: u16, memory: Vec<u8>)
         requires { is_number (length self.old.circuits.items) channel ≡ true }
         ensures layer { (c : LayerSettings) (l : State) → FitsLayer c self.old l → FitsLayer c self.new l }
-        ensures aside { self.new.memory ≡ self.old.memory }
     {
         let place = usize::from(channel) - 1;
         self.circuits[place].keep(memory);

@@ -7,11 +7,11 @@ ghost use Rattle.x25_layer.specs.code.Idle.{IdleBeside};
 use crate::busy::Busy;
 use crate::circuits::{begun_circuits, forget_all};
 use crate::error::LayerError;
-use crate::putting::PacketMemory;
+use crate::putting::Sheet;
 use crate::ranges::Ranges;
 use crate::stretch::Stretch;
 use std::alloc::Global;
-use x25_bits::{Promise, Role};
+use x25_bits::Role;
 use x25_circuit::{Awaits, Circuit, Params};
 
 // 1 where it is so.
@@ -46,8 +46,8 @@ pub struct Layer {
     pub(crate) counts_left: bool,
     ghost restarts_left: { counts_left ≡ true → restarts < 2 ^ 64 - 1 },
     ghost circuits_left: { counts_left ≡ true → HaveCountsLeft circuits.items },
-    /// Memory for packets that are sent.
-    pub(crate) memory: PacketMemory,
+    /// Each packet that is put is spelled there.
+    pub(crate) sheet: Sheet,
 }
 
 impl Layer {
@@ -76,7 +76,6 @@ impl Layer {
     ) -> Result<Layer, LayerError>
         ensures fits { IfOk result (λ v. FitsLayer
             (record { channels = channels; circuit = record { role = role; long_data = long_data } }) v at_rest) }
-        ensures none_aside { IfOk result (λ v. v.memory ≡ 0) }
         ensures config { IsErrOf result LayerError.BadConfig ↔ (are_ranges channels ≡ false) }
         ensures memory { are_ranges channels ≡ true → IfErr result (λ e. e ≡ LayerError.NoMemory) }
     {
@@ -87,6 +86,9 @@ impl Layer {
         let mut busy = Busy::with(alloc, count)?;
         let circuits = begun_circuits(alloc, role, count, long_data)?;
         busy.note_all(&circuits);
+        let Ok(sheet) = Sheet::new(alloc) else {
+            return Err(LayerError::NoMemory);
+        };
         Ok(Layer {
             role,
             long_data,
@@ -96,7 +98,7 @@ impl Layer {
             circuits,
             busy,
             counts_left: false,
-            memory: Promise::new(alloc),
+            sheet,
         })
     }
 
@@ -249,21 +251,11 @@ impl Layer {
         }
     }
 
-    /// How many buffers of the longest packet, of 4,099 octets each, are kept: as many at least as memory is set aside
-    /// for, and 16 at most. They are used where memory for a packet is refused.
-    pub fn blanks(&self) -> usize
-        ensures least { self.now.memory ≤ result }
-        ensures most { result ≤ 16 }
-    {
-        self.memory.blanks()
-    }
-
     /// Drops everything, at LinkDown: no restart is under way, and all channels are in p1. The counts are as they were,
     /// until `up` sets them to 0. Memory that was set aside is kept.
     pub fn down(&mut self)
         ensures layer { (c : LayerSettings) (l : State) → FitsLayer c self.old l → FitsLayer c self.new (rested l) }
         ensures room { (h len : ℕ) → HasRoom h len self.old → HasRoom h len self.new }
-        ensures memory { self.new.memory ≡ self.old.memory }
     {
         self.restarting = false;
         self.counts_left = false;

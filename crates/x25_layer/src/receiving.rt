@@ -1,5 +1,5 @@
 //! Octets that the link handed up. ITU-T X.25 (10/96), sections 3.3 and 4, and Annex C.
-ghost use Rattle.std.specs.Prelude.{◌≡◌, ℕ, ◌+◌, ◌<◌, ◌≤◌, [], length, max, min, true, IfErr, IfOk, IfNone};
+ghost use Rattle.std.specs.Prelude.{◌≡◌, ℕ, ◌+◌, ◌<◌, ◌≤◌, [], length, min, true, IfErr, IfOk, IfNone, None};
 ghost use Rattle.std.specs.Prelude.{IsOk, OnOk, OnErr};
 ghost use Rattle.x25_packet.specs.Spelling.{longest_user};
 ghost use Rattle.x25_wide.specs.Taking.{read_in};
@@ -90,7 +90,6 @@ impl Layer {
             → IfOk result (λ reply. Says reply (circuit_hears c.circuit (l.circuits channel) (plain_read read.now)).owed
             (circuit_hears c.circuit (l.circuits channel) (plain_read read.now)).notices) }
         ensures range { IfOk result (λ reply. IsSendable (plain_owed reply.packet)) }
-        ensures memory { self.new.memory ≡ self.old.memory }
         ensures err { IfErr result (λ e. e ≡ LayerError.NoMemory) }
         ensures layer_stays { OnErr result (FitsStill self.old self.new) }
         ensures enough { (len : ℕ) → brings (plain_read read.now) ≤ len
@@ -121,7 +120,7 @@ impl Layer {
     ) -> Result<Report<'a>, LayerError>
         requires kind { IsOfChannel (plain_read read.now) }
         requires left { HaveCountsLeft self.old.circuits.items }
-        requires place { TakesPacket L.OrderedLink self.old.memory link.old }
+        requires place { TakesPacket L.OrderedLink link.old }
         ensures hears { IfOk result (λ told. Hears L.OrderedLink self.old link.old self.new link.new told
             (λ c l. hears_on c l l.restarting channel (plain_read read.now))) }
         ensures err { IfErr result (λ e. e ≡ LayerError.NoMemory) }
@@ -154,7 +153,7 @@ impl Layer {
         octets: &'a [u8],
     ) -> Result<Report<'a>, LayerError>
         requires left { IsNotFull self.old }
-        requires place { TakesPacket L.OrderedLink self.old.memory link.old }
+        requires place { TakesPacket L.OrderedLink link.old }
         ensures hears { IfOk result (λ told. Hears L.OrderedLink self.old link.old self.new link.new told
             (λ c l. answer_to c l octets.now
             (read_in wide (longest_user self.old.long_data) octets.now))) }
@@ -191,8 +190,8 @@ impl Layer {
     /// configured channel, and, but for RESTART and its confirmation, while this end's restart isn't confirmed.
     ///
     /// 70 alone, and not where `reserve` set memory aside on the channel that they name for the octets behind the first
-    /// three, and the link has 16 places. The layer and the link are as before then. Of what `reserve` set aside a call
-    /// takes memory for each packet that it puts. Where it puts none, the promise stands.
+    /// three, and the link has 16 places. The layer and the link are as before then. Where no packet is owed for the
+    /// octets, what `reserve` set aside stands.
     pub fn packet<'a, L: OrderedLink>(
         &mut self,
         link: &mut L,
@@ -216,19 +215,16 @@ impl Layer {
         ensures err { IfErr result (λ e. e ≡ LayerError.NoMemory) }
         ensures enough { (len : ℕ) → length octets.now ≤ len + 3
             → HasRoom (named_by octets.now) len self.old → 16 ≤ L.promised link.old → IsOk result }
-        ensures most_memory { self.new.memory ≤ max self.old.memory 16 }
         ensures layer_stays { (c : LayerSettings) (l : State) → FitsLayer c self.old l
             → OnErr result (FitsLayer c self.new l) }
         ensures link_stays { (x : L.State) → L.fits link.old x → OnErr result (L.fits link.new x) }
-        ensures used { (c : LayerSettings) (l : State) (x : L.State) → FitsLayer c self.old l → L.fits link.old x
-            → 16 ≤ self.old.memory → OnOk result (self.new.memory
-            + length (hears (view_of L.up_in L.waits_in L.after_put x) c wide l octets.now).step.put
-            ≡ self.old.memory) }
-        ensures room { (h len : ℕ) → HasRoom h len self.old → self.old.memory ≤ self.new.memory
-            → HasRoom h len self.new }
-        ensures memory_stays { OnErr result (self.old.memory ≤ self.new.memory) }
+        ensures room { (c : LayerSettings) (l : State) (h len : ℕ) → FitsLayer c self.old l
+            → (answer_to c l octets.now (read_in wide (longest_user c.circuit.long_data) octets.now)).owed ≡ None
+            → HasRoom h len self.old → HasRoom h len self.new }
     {
-        self.reserve_packets(link, MOST_PUT)?;
+        if link.promised() < MOST_PUT {
+            return Err(LayerError::NoMemory);
+        }
         let told = self.hear(link, wide, octets)?;
         self.pull_all(link);
         Ok(told)

@@ -1,6 +1,6 @@
 //! Restart. ITU-T X.25 (10/96), section 3.3.
-ghost use Rattle.std.specs.Prelude.{◌≡◌, ℕ, suc, ◌+◌, ◌-◌, ◌^◌, ◌<◌, ◌≤◌, max, true, IfErr};
-ghost use Rattle.std.specs.Prelude.{OnOk, OnErr, IsOk};
+ghost use Rattle.std.specs.Prelude.{◌≡◌, suc, ◌+◌, ◌-◌, ◌^◌, ◌<◌, ◌≤◌, true, IfErr};
+ghost use Rattle.std.specs.Prelude.{OnOk, OnErr};
 ghost use Rattle.x25_packet.specs.Packet.{restart, restart_conf};
 ghost use Rattle.x25_packet.specs.Spelling.{spelling_of};
 ghost use Rattle.x25_circuit.specs.Circuit.{begun};
@@ -8,10 +8,10 @@ ghost use Rattle.x25_circuit.specs.Hearing.{cause_at};
 ghost use Rattle.x25_layer.specs.Layer.{LayerSettings, restart_cause, is_ready, restarting_from, layer_answers};
 ghost use Rattle.x25_layer.specs.Layer.{Layer as State};
 ghost use Rattle.x25_layer.specs.code.FitsLayer.{FitsLayer};
-ghost use Rattle.x25_layer.specs.code.OverLink.{view_of, after_all, TakesPacket, Hears, LacksMemory, Answers};
+ghost use Rattle.x25_layer.specs.code.OverLink.{view_of, after_all, TakesPacket, Hears, Answers};
 ghost use Rattle.x25_layer.specs.Calls.{Restarts};
 ghost use Rattle.x25_layer.specs.Rounds.{comes_up};
-ghost use Rattle.x25_layer.specs.Room.{HasRoom, HaveRoomStill};
+ghost use Rattle.x25_layer.specs.Room.{HaveRoomStill};
 
 use crate::circuits::{begin_all, forget_all};
 use crate::error::LayerError;
@@ -21,9 +21,6 @@ use x25_bits::Role;
 use x25_circuit::{CircuitError, may_restart_for};
 use x25_link::OrderedLink;
 use x25_packet::Packet;
-
-/// The octets of a RESTART, of which its confirmation has fewer.
-const RESTART_OCTETS: usize = 5;
 
 /// The diagnostic of a RESTART CONFIRMATION of no restart.
 const NO_RESTART: u8 = 17;
@@ -53,8 +50,7 @@ impl Layer {
     /// Begins afresh with a RESTART, at LinkUp. The link is up, fewer than 256 packets wait in it, and it takes packets
     /// of 4,099 octets.
     ///
-    /// 70 alone, and not where `reserve` set memory aside and the link has a place. The layer and the link are as
-    /// before then.
+    /// 70 alone, and that only where the link has no place. The layer and the link are as before then.
     pub fn up<L: OrderedLink>(&mut self, link: &mut L) -> Result<(), LayerError>
         requires up { L.up link.old ≡ true }
         requires free { L.waits link.old < 256 }
@@ -66,14 +62,14 @@ impl Layer {
             (comes_up (view_of L.up_in L.waits_in L.after_put x) c).step.put)) }
         ensures err { IfErr result (λ e. e ≡ LayerError.NoMemory) }
         ensures longest { L.longest link.new ≡ L.longest link.old }
-        ensures missing { OnErr result (LacksMemory 1 self.old (L.promised link.old)) }
-        ensures most_memory { self.new.memory ≤ max self.old.memory 16 }
-        ensures enough { (h len : ℕ) → HasRoom h len self.old → 16 ≤ L.promised link.old → IsOk result }
+        ensures missing { OnErr result (L.promised link.old ≡ 0) }
         ensures layer_stays { (c : LayerSettings) (l : State) → FitsLayer c self.old l
             → OnErr result (FitsLayer c self.new l) }
         ensures link_stays { (x : L.State) → L.fits link.old x → OnErr result (L.fits link.new x) }
     {
-        self.reserve_packets(link, 1)?;
+        if link.promised() == 0 {
+            return Err(LayerError::NoMemory);
+        }
         self.restarting = true;
         self.restarts = 0;
         self.counts_left = false;
@@ -83,7 +79,7 @@ impl Layer {
             cause: restart_cause(self.role),
             diagnostic: 0,
         };
-        self.put(link, &packet, RESTART_OCTETS);
+        self.put(link, &packet);
         Ok(())
     }
 
@@ -91,8 +87,8 @@ impl Layer {
     /// takes packets of 4,099 octets.
     ///
     /// 9 NotUp, then 40 Restarting, then 10 QueueFull where 256 packets wait, then 34 BadParameter where the cause is
-    /// none that the user of this end may give, and else 70 alone, and that only where memory for no packet is set
-    /// aside, or the link has no place. The layer and the link are as before then.
+    /// none that the user of this end may give, and else 70 alone, and that only where the link has no place. The layer
+    /// and the link are as before then.
     pub fn restart<L: OrderedLink>(
         &mut self,
         link: &mut L,
@@ -111,19 +107,20 @@ impl Layer {
         if !may_restart_for(self.role, cause) {
             return Err(LayerError::Circuit(CircuitError::BadParameter));
         }
-        self.reserve_packets(link, 1)?;
+        if link.promised() == 0 {
+            return Err(LayerError::NoMemory);
+        }
         self.send_restart(link, cause, diagnostic);
         Ok(())
     }
 
     // Restarts all channels of this end by a RESTART.
     fn send_restart<L: OrderedLink>(&mut self, link: &mut L, cause: u8, diagnostic: u8)
-        requires place { TakesPacket L.OrderedLink self.old.memory link.old }
+        requires place { TakesPacket L.OrderedLink link.old }
         ensures layer { (c : LayerSettings) (l : State) → FitsLayer c self.old l
             → FitsLayer c self.new (restarting_from l.restarts l.circuits) }
         ensures link { (x : L.State) → L.fits link.old x
             → L.fits link.new (L.after_put x (spelling_of (restart cause diagnostic))) }
-        ensures memory { self.new.memory + 1 ≡ self.old.memory }
         ensures promised { L.promised link.old ≤ L.promised link.new + 1 }
         ensures longest { L.longest link.new ≡ L.longest link.old }
         ensures up { L.up link.new ≡ L.up link.old }
@@ -134,7 +131,7 @@ impl Layer {
         forget_all(&mut self.circuits);
         self.busy.note_all(&self.circuits);
         let packet = Packet::Restart { cause, diagnostic };
-        self.put(link, &packet, RESTART_OCTETS);
+        self.put(link, &packet);
     }
 
     // One restart more is done: all circuits begin afresh.
@@ -142,7 +139,6 @@ impl Layer {
         requires { self.old.restarts < 2 ^ 64 - 1 }
         ensures layer { (c : LayerSettings) (l : State) → FitsLayer c self.old l
             → FitsLayer c self.new (is_ready (suc l.restarts) (λ k. begun)) }
-        ensures memory { self.new.memory ≡ self.old.memory }
         ensures room { HaveRoomStill self.old.circuits.items self.new.circuits.items }
     {
         self.restarting = false;
@@ -160,7 +156,7 @@ impl Layer {
         diagnostic: u8,
     ) -> Report<'a>
         requires restarts { self.old.restarts < 2 ^ 64 - 1 }
-        requires place { TakesPacket L.OrderedLink self.old.memory link.old }
+        requires place { TakesPacket L.OrderedLink link.old }
         ensures hears { Hears L.OrderedLink self.old link.old self.new link.new result
             (λ c l. layer_answers c l (restart cause diagnostic)) }
         ensures room { HaveRoomStill self.old.circuits.items self.new.circuits.items }
@@ -170,7 +166,7 @@ impl Layer {
             return Report::Restarted { cause, diagnostic };
         }
         self.restart_is_done();
-        self.put(link, &Packet::RestartConf, RESTART_OCTETS);
+        self.put(link, &Packet::RestartConf);
         Report::Restarted { cause, diagnostic }
     }
 
@@ -178,7 +174,7 @@ impl Layer {
     /// (profile).
     pub(crate) fn hear_restart_conf<'a, L: OrderedLink>(&mut self, link: &mut L) -> Report<'a>
         requires restarts { self.old.restarts < 2 ^ 64 - 1 }
-        requires place { TakesPacket L.OrderedLink self.old.memory link.old }
+        requires place { TakesPacket L.OrderedLink link.old }
         ensures hears { Hears L.OrderedLink self.old link.old self.new link.new result
             (λ c l. layer_answers c l restart_conf) }
         ensures room { HaveRoomStill self.old.circuits.items self.new.circuits.items }

@@ -1,5 +1,5 @@
 //! What a layer is asked before a packet is handed up: whether its counts have room, and memory to be set aside.
-ghost use Rattle.std.specs.Prelude.{◌≡◌, ℕ, ◌≤◌, ◌||◌, length, vec_capacity, max, false, IfErr, IsOk, OnOk};
+ghost use Rattle.std.specs.Prelude.{◌≡◌, ℕ, ◌≤◌, ◌||◌, length, vec_capacity, false, IfErr, IsOk, OnOk};
 ghost use Rattle.x25_circuit.specs.Circuit.{Settings};
 ghost use Rattle.x25_circuit.specs.Circuit.{Circuit as Channel};
 ghost use Rattle.x25_circuit.specs.code.FitsCircuit.{FitsCircuit};
@@ -13,7 +13,6 @@ ghost use Rattle.x25_layer.specs.Room.{KeepOthers};
 use crate::busy::Busy;
 use crate::error::LayerError;
 use crate::layer::Layer;
-use crate::putting::MOST_PUT;
 use x25_circuit::Circuit;
 
 /// Whether a count of the circuit is at its most.
@@ -93,10 +92,9 @@ impl Layer {
     }
 
     /// Sets memory aside for one `packet` on a channel with at most `len` octets of user data, which are those behind
-    /// its header of three, or for `up`, or for `down` and then `up`, which are then not refused with 70 where the link
-    /// has 16 places. It changes nothing else. However much is asked, and however often, memory is set aside for 16
-    /// packets that are put, and in the circuit of the channel, where it is configured, for 4,096 octets, or for what
-    /// was before.
+    /// its header of three, which is then not refused with 70 where the link has 16 places. It changes nothing else.
+    /// However much is asked, and however often, memory is set aside in the circuit of the channel, where it is
+    /// configured, for 4,096 octets, or for what was before.
     ///
     /// 70 alone, and only where less was set aside.
     pub fn reserve(&mut self, channel: u16, len: usize) -> Result<(), LayerError>
@@ -104,16 +102,12 @@ impl Layer {
         ensures room { OnOk result (HasRoom channel len self.new) }
         ensures left { IsNotFull self.old → IsNotFull self.new }
         ensures enough { HasRoom channel len self.old → IsOk result }
-        ensures most_memory { self.new.memory ≤ max self.old.memory 16 }
         ensures most_circuits { (bound : ℕ) → 4096 ≤ bound → HaveAtMost bound self.old.circuits.items
             → HaveAtMost bound self.new.circuits.items }
         ensures others { KeepOthers channel self.old.circuits.items self.new.circuits.items }
         ensures err { IfErr result (λ e. e ≡ LayerError.NoMemory) }
     {
         self.counts_left = !self.full();
-        if self.memory.reserve(MOST_PUT).is_err() {
-            return Err(LayerError::NoMemory);
-        }
         reserve_on(&mut self.circuits, &mut self.busy, channel, len)
     }
 }

@@ -3,7 +3,7 @@ ghost use Rattle.std.specs.Prelude.{◌≡◌, ◌+◌, ◌<◌, ◌≤◌, leng
 ghost use Rattle.x25_packet.specs.Spelling.{IsChannel};
 ghost use Rattle.x25_layer.specs.Layer.{LayerSettings};
 ghost use Rattle.x25_layer.specs.code.FitsLayer.{FitsLayer};
-ghost use Rattle.x25_layer.specs.code.OverLink.{view_of, after_all, Takes, Answers};
+ghost use Rattle.x25_layer.specs.code.OverLink.{view_of, after_all, Answers};
 ghost use Rattle.x25_layer.specs.Calls.{PullsAll};
 ghost use Rattle.x25_layer.specs.Rounds.{Putting, rounds};
 ghost use Rattle.x25_layer.specs.code.Pulling.{IsEnough, PullsOne, GoesRound};
@@ -13,24 +13,27 @@ ghost use Rattle.x25_layer.specs.code.Idle.{IdleBeside};
 use crate::busy::Busy;
 use crate::error::LayerError;
 use crate::layer::Layer;
-use crate::putting::{MOST_PUT, PacketMemory, put};
-use crate::sending::DATA_HEADER;
+use crate::putting::{MOST_PUT, Sheet};
 use x25_circuit::{Circuit, what_waits_is_pulled};
 use x25_link::OrderedLink;
 
 /// A data packet is pulled where fewer packets than these wait in the link.
 const FEW: usize = 8;
 
-// Whether fewer than 8 packets wait in the link. Memory and places for 15 packets last as long as that.
+/// The most data packets that the rounds of a call put: each is pulled where fewer than 8 packets wait, and of those
+/// that don't wait at most 7 aren't acknowledged.
+const MOST_PULLED: usize = 15;
+
+// Whether fewer than 8 packets wait in the link. What is left of 15 packets, and places for them, last as long as that.
 #[inline(always)]
-fn may_pull<L: OrderedLink>(link: &L, memory: &PacketMemory) -> bool
+fn may_pull<L: OrderedLink>(link: &L, left: usize) -> bool
     ensures few { result ≡ true → L.waits link.now < 8 }
-    ensures memory { result ≡ true → 0 < memory.now }
+    ensures left { result ≡ true → 0 < left }
     ensures promised { result ≡ true → 0 < L.promised link.now }
-    ensures state { (y : L.State) → L.fits link.now y → IsEnough (L.lists y) memory.now
+    ensures state { (y : L.State) → L.fits link.now y → IsEnough (L.lists y) left
         → IsEnough (L.lists y) (L.promised link.now) → result ≡ nat_lt (L.waits_in y) 8 }
 {
-    link.waiting() < FEW && memory.promised() > 0 && link.promised() > 0
+    link.waiting() < FEW && left > 0 && link.promised() > 0
 }
 
 // Puts the next data packet of a circuit, where it may send one and fewer than 8 packets wait in the link: whether it
@@ -40,17 +43,18 @@ fn pull_one<L: OrderedLink>(
     circuit: &mut Circuit,
     channel: u16,
     link: &mut L,
-    memory: &mut PacketMemory,
+    sheet: &mut Sheet,
+    left: &mut usize,
 ) -> bool
     requires channel { IsChannel channel }
     requires up { L.up link.old ≡ true }
     requires longest { 4099 ≤ L.longest link.old }
-    ensures { PullsOne L.OrderedLink channel circuit.old link.old memory.old circuit.new link.new memory.new result }
+    ensures { PullsOne L.OrderedLink channel circuit.old link.old left.old circuit.new link.new left.new result }
 {
     if circuit.waits() == 0 {
         return false;
     }
-    pull_waiting(circuit, channel, link, memory)
+    pull_waiting(circuit, channel, link, sheet, left)
 }
 
 // Puts it where a message waits in the circuit.
@@ -59,21 +63,23 @@ fn pull_waiting<L: OrderedLink>(
     circuit: &mut Circuit,
     channel: u16,
     link: &mut L,
-    memory: &mut PacketMemory,
+    sheet: &mut Sheet,
+    left: &mut usize,
 ) -> bool
     requires channel { IsChannel channel }
     requires up { L.up link.old ≡ true }
     requires longest { 4099 ≤ L.longest link.old }
-    ensures { PullsOne L.OrderedLink channel circuit.old link.old memory.old circuit.new link.new memory.new result }
+    ensures { PullsOne L.OrderedLink channel circuit.old link.old left.old circuit.new link.new left.new result }
 {
-    if !may_pull(link, memory) {
+    if !may_pull(link, *left) {
         return false;
     }
     let Some(data) = circuit.pull() else {
         return false;
     };
     let packet = data.packet().with_channel(channel);
-    put(memory, link, &packet, DATA_HEADER + data.user.len());
+    sheet.put(link, &packet);
+    *left -= 1;
     true
 }
 
@@ -82,7 +88,8 @@ fn pull_waiting<L: OrderedLink>(
 fn round<L: OrderedLink>(
     circuits: &mut Vec<Circuit>,
     link: &mut L,
-    memory: &mut PacketMemory,
+    sheet: &mut Sheet,
+    left: &mut usize,
     busy: &mut Busy,
 ) -> bool
     requires few { length circuits.old.items ≤ 4095 }
@@ -90,13 +97,13 @@ fn round<L: OrderedLink>(
     requires places { vec_capacity busy.old.channels ≡ length circuits.old.items }
     requires still { IdleBeside busy.old.channels.items circuits.old.items }
     requires longest { 4099 ≤ L.longest link.old }
-    ensures { GoesRound L.OrderedLink circuits.old.items link.old memory.old circuits.new.items link.new memory.new
+    ensures { GoesRound L.OrderedLink circuits.old.items link.old left.old circuits.new.items link.new left.new
         result busy.new }
 {
-    if !may_pull(link, memory) {
+    if !may_pull(link, *left) {
         return false;
     }
-    go_round(circuits, link, memory, busy)
+    go_round(circuits, link, sheet, left, busy)
 }
 
 // A round of the circuits that may be busy.
@@ -104,7 +111,8 @@ fn round<L: OrderedLink>(
 fn go_round<L: OrderedLink>(
     circuits: &mut Vec<Circuit>,
     link: &mut L,
-    memory: &mut PacketMemory,
+    sheet: &mut Sheet,
+    left: &mut usize,
     busy: &mut Busy,
 ) -> bool
     requires few { length circuits.old.items ≤ 4095 }
@@ -112,7 +120,7 @@ fn go_round<L: OrderedLink>(
     requires places { vec_capacity busy.old.channels ≡ length circuits.old.items }
     requires still { IdleBeside busy.old.channels.items circuits.old.items }
     requires longest { 4099 ≤ L.longest link.old }
-    ensures { GoesRound L.OrderedLink circuits.old.items link.old memory.old circuits.new.items link.new memory.new
+    ensures { GoesRound L.OrderedLink circuits.old.items link.old left.old circuits.new.items link.new left.new
         result busy.new }
 {
     what_waits_is_pulled();
@@ -120,7 +128,7 @@ fn go_round<L: OrderedLink>(
     let mut channel = 0;
     while let Some(next) = busy.after(channel) {
         let circuit = &mut circuits[usize::from(next) - 1];
-        is_put |= pull_one(circuit, next, link, memory);
+        is_put |= pull_one(circuit, next, link, sheet, left);
         busy.leave_idle(next, circuit);
         channel = next;
     }
@@ -132,8 +140,8 @@ impl Layer {
     /// nothing else (profile). Each accepted call does so behind its own packet; what the link does by itself doesn't,
     /// so that without a call a message may wait though nothing is on its way.
     ///
-    /// 9 NotUp, 40 Restarting, and else 70 alone, and that only where the layer has set memory aside, or its link has
-    /// places, for fewer than 16 packets. The layer and the link are as before then.
+    /// 9 NotUp, 40 Restarting, and else 70 alone, and that only where the link has places for fewer than 16 packets.
+    /// The layer and the link are as before then.
     pub fn pull<L: OrderedLink>(&mut self, link: &mut L) -> Result<(), LayerError>
         requires { 4099 ≤ L.longest link.old }
         ensures { Answers L.OrderedLink self.old link.old self.new link.new result 16 PullsAll }
@@ -141,20 +149,18 @@ impl Layer {
         if let Some(error) = self.unready(link) {
             return Err(error);
         }
-        self.reserve_packets(link, MOST_PUT)?;
+        if link.promised() < MOST_PUT {
+            return Err(LayerError::NoMemory);
+        }
         self.pull_all(link);
         Ok(())
     }
 
     /// Puts the data packets of all channels, in rounds, while fewer than 8 packets wait in the link.
-    ///
-    /// There are at most 15: each is pulled where fewer than 8 packets wait, and of those that don't wait at most 7
-    /// aren't acknowledged.
     #[inline(always)]
     pub(crate) fn pull_all<L: OrderedLink>(&mut self, link: &mut L)
         requires up { L.up link.old ≡ true }
         requires longest { 4099 ≤ L.longest link.old }
-        requires memory { 15 ≤ self.old.memory }
         requires promised { 15 ≤ L.promised link.old }
         ensures layer { (c : LayerSettings) (s : Putting) (x : L.State) → FitsLayer c self.old s.layer
             → L.fits link.old (after_all L.after_put x s.put)
@@ -163,12 +169,15 @@ impl Layer {
             → L.fits link.old (after_all L.after_put x s.put)
             → L.fits link.new (after_all L.after_put x (rounds (view_of L.up_in L.waits_in L.after_put x) c s).put) }
         ensures room { HaveRoomStill self.old.circuits.items self.new.circuits.items }
-        ensures takes { Takes L.OrderedLink self.old.memory link.old self.new.memory link.new }
-        ensures used { (c : LayerSettings) (s : Putting) (x : L.State) → FitsLayer c self.old s.layer
-            → L.fits link.old (after_all L.after_put x s.put)
-            → self.new.memory + length (rounds (view_of L.up_in L.waits_in L.after_put x) c s).put
-            ≡ self.old.memory + length s.put }
+        ensures longest { L.longest link.new ≡ L.longest link.old }
     {
-        while round(&mut self.circuits, link, &mut self.memory, &mut self.busy) {}
+        let mut left = MOST_PULLED;
+        while round(
+            &mut self.circuits,
+            link,
+            &mut self.sheet,
+            &mut left,
+            &mut self.busy,
+        ) {}
     }
 }

@@ -31,17 +31,14 @@ pub fn link_down(alloc: Global) -> Option<Box<Link>> {
 }
 
 /// Hands a packet of the octet 7 down to the link.
-fn put<L: OrderedLink>(alloc: Global, link: &mut L) -> bool {
-    let Ok(packet) = vec![in alloc; 7u8] else {
-        return false;
-    };
-    packet.len() <= link.limit() && link.put(packet).is_ok()
+fn put<L: OrderedLink>(link: &mut L) -> bool {
+    link.limit() > 0 && link.put(&[7]).is_ok()
 }
 
 /// Hands so many such packets down.
-pub fn fill<L: OrderedLink>(alloc: Global, link: &mut L, count: usize) -> bool {
+pub fn fill<L: OrderedLink>(link: &mut L, count: usize) -> bool {
     for _ in 0..count {
-        if !put(alloc, link) {
+        if !put(link) {
             return false;
         }
     }

@@ -94,10 +94,10 @@ fn refusals_of_call<L: OrderedLink>(
 }
 
 // Whether an act is refused as it says.
-fn happens<L: OrderedLink>(alloc: Global, layer: &mut Layer, link: &mut L, act: &Act) -> bool {
+fn happens<L: OrderedLink>(layer: &mut Layer, link: &mut L, act: &Act) -> bool {
     match act {
         Act::Restart(cause, wanted) => number(restart(layer, link, *cause).err()) == *wanted,
-        Act::Fill(count) => fill(alloc, link, *count),
+        Act::Fill(count) => fill(link, *count),
         Act::Ask(channel, numbers) => refuses_on(layer, link, *channel, numbers),
         Act::Call(called, calling, user, wanted) => {
             refusals_of_call(layer, link, (called, calling), user) == (*wanted, *wanted)
@@ -107,14 +107,9 @@ fn happens<L: OrderedLink>(alloc: Global, layer: &mut Layer, link: &mut L, act: 
 }
 
 // The first act that is refused otherwise.
-fn odd_act<L: OrderedLink>(
-    alloc: Global,
-    layer: &mut Layer,
-    link: &mut L,
-    acts: &[Act],
-) -> Option<usize> {
+fn odd_act<L: OrderedLink>(layer: &mut Layer, link: &mut L, acts: &[Act]) -> Option<usize> {
     for (place, act) in acts.iter().enumerate() {
-        if !happens(alloc, layer, link, act) {
+        if !happens(layer, link, act) {
             return Some(place);
         }
     }
@@ -125,7 +120,7 @@ fn odd_act<L: OrderedLink>(
 fn odd_act_of(alloc: Global, channels: u16, acts: &[Act]) -> Option<Option<usize>> {
     let mut layer = layer(alloc, Role::Dte, channels).ok()?;
     let mut link = plain_link(alloc)?;
-    Some(odd_act(alloc, &mut layer, &mut *link, acts))
+    Some(odd_act(&mut layer, &mut *link, acts))
 }
 
 static RESTARTING: [Act; 5] = [
@@ -155,7 +150,7 @@ fn odd_act_of_down(alloc: Global) -> Option<Option<usize>> {
     let mut layer = layer(alloc, Role::Dte, 3).ok()?;
     restart(&mut layer, &mut *plain_link(alloc)?, 0).ok()?;
     let mut link = link_down(alloc)?;
-    Some(odd_act(alloc, &mut layer, &mut *link, DOWN.as_slice()))
+    Some(odd_act(&mut layer, &mut *link, DOWN.as_slice()))
 }
 
 #[test]

@@ -353,10 +353,8 @@ fn head(packet: &[u8]) -> (u8, u8, usize) {
 
 // That of the next packet that waits, which is taken out of the link.
 fn next_head(link: &mut PlainLink) -> Option<(u8, u8, usize)> {
-    match link.out() {
-        Some(packet) => Some(head(packet.as_slice())),
-        None => None,
-    }
+    let packet = link.out().ok()??;
+    Some(head(packet.as_slice()))
 }
 
 // Whether these packets wait and no others, where they are taken out.
@@ -432,13 +430,7 @@ fn happens(alloc: Global, layer: &mut Layer, link: &mut PlainLink, act: Act) -> 
         Act::Send(channel, count) => sends(alloc, layer, link, channel, count),
         Act::Take(octets) => hears(layer, link, octets, false),
         Act::TakeWide(octets) => hears(layer, link, octets, true),
-        Act::Fill(count) => {
-            if fill(alloc, link, count) {
-                OK
-            } else {
-                NO_MEMORY
-            }
-        }
+        Act::Fill(count) => { if fill(link, count) { OK } else { NO_MEMORY } }
     }
 }
 

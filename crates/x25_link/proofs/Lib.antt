@@ -1,5 +1,6 @@
 pub mod AckedLemmas
 pub mod OutgoingLemmas
+pub mod PlaceLemmas
 pub mod EndLemmas
 pub mod FitsLemmas
 pub mod FrameCount

@@ -14,6 +14,22 @@ use Rattle.x25_link.specs.code.OutgoingHeld.{FitsOutgoing, sending_of}
 pub sent_length : (k : ℕ) (b : OutgoingCode) (o : Outgoing) → FitsOutgoing k b o → length (take o.sent o.given) ≡ o.sent
 sent_length k b o fits = length-take-le o.sent o.given fits.sent
 
+-- the same of what is held alone: the sender, and the packets that wait
+pub record Parts (k : ℕ) (h : Held (List ℕ)) (q : List (List ℕ)) (o : Outgoing) : Type 0 where
+  pub sender : Fits h (sending_of k o)
+  pub queue : q ≡ drop o.sent o.given
+  pub sent : o.sent ≤ length o.given
+  pub few : length q ≤ 256
+
+pub parts : (k : ℕ) (b : OutgoingCode) (o : Outgoing) → FitsOutgoing k b o → Parts k b.sender b.queue o
+parts k b o fits = record { sender = fits.sender; queue = fits.queue; sent = fits.sent; few = fits.few }
+
+pub whole : (k : ℕ) (b : OutgoingCode) (o : Outgoing) → Parts k b.sender b.queue o → FitsOutgoing k b o
+whole k b o fits = record { sender = fits.sender; queue = fits.queue; sent = fits.sent; few = fits.few }
+
+pub part_length : (k : ℕ) (h : Held (List ℕ)) (q : List (List ℕ)) (o : Outgoing) → Parts k h q o → length (take o.sent o.given) ≡ o.sent
+part_length k h q o fits = length-take-le o.sent o.given fits.sent
+
 -- ---- a packet that was sent before
 
 pub record Again (k : ℕ) (o : Outgoing) : Type 0 where
@@ -21,9 +37,9 @@ pub record Again (k : ℕ) (o : Outgoing) : Type 0 where
   pub open_is : is_open k o ≡ true
   pub packet : slice_index_or (take o.sent o.given) o.place [] ≡ next_packet o
 
-pub again_is : (k : ℕ) (b : OutgoingCode) (o : Outgoing) → FitsOutgoing k b o → true ≡ nat_lt o.place (length (take o.sent o.given)) → Again k o
-again_is k b o fits test =
-    let l = sent_length k b o fits in
+pub again_is : (k : ℕ) (h : Held (List ℕ)) (q : List (List ℕ)) (o : Outgoing) → Parts k h q o → true ≡ nat_lt o.place (length (take o.sent o.given)) → Again k o
+again_is k h q o fits test =
+    let l = part_length k h q o fits in
     let below : o.place < length (take o.sent o.given) = ltb-true _ _ (sym test) in
     let room = fits.sender.sound.room in
     let sent = fits.sent in
@@ -33,26 +49,25 @@ again_is k b o fits test =
       packet = get_or-take o.sent o.given o.place [] (omega arith);
     }
 
-pub again_fits : (k : ℕ) (b : OutgoingCode) (h : Held (List ℕ)) (o : Outgoing) → FitsOutgoing k b o → o.place < o.sent → Fits h (moved_on (sending_of k o))
-    → FitsOutgoing k (record { sender = h; queue = b.queue; spent = b.spent }) (sent_on o)
-again_fits k b h o fits below sender =
+pub again_fits : (k : ℕ) (h g : Held (List ℕ)) (q : List (List ℕ)) (o : Outgoing) → Parts k h q o → o.place < o.sent → Fits g (moved_on (sending_of k o)) → Parts k g q (sent_on o)
+again_fits k h g q o fits below sender =
     let same : max o.sent (o.place + 1) ≡ o.sent = omega arith in
     record { sender = rw same sender; queue = rw same (fits.queue); sent = rw same (fits.sent); few = fits.few }
 
 -- ---- all was sent: the place to send from is the number of the first packet that waits
 
-pub all_sent : (k : ℕ) (b : OutgoingCode) (o : Outgoing) → FitsOutgoing k b o → false ≡ nat_lt o.place (length (take o.sent o.given)) → o.place ≡ o.sent
-all_sent k b o fits test =
-    let l = sent_length k b o fits in
+pub all_sent : (k : ℕ) (h : Held (List ℕ)) (q : List (List ℕ)) (o : Outgoing) → Parts k h q o → false ≡ nat_lt o.place (length (take o.sent o.given)) → o.place ≡ o.sent
+all_sent k h q o fits test =
+    let l = part_length k h q o fits in
     let above = ltb-false _ _ (sym test) in
     let high = fits.sender.sound.place_high in
     omega arith
 
-pub same_fits : (k : ℕ) (b : OutgoingCode) (h : Held (List ℕ)) (o : Outgoing) → FitsOutgoing k b o → Fits h (sending_of k o) → FitsOutgoing k (record { sender = h; queue = b.queue; spent = b.spent }) o
-same_fits k b h o fits sender = record { sender = sender; queue = fits.queue; sent = fits.sent; few = fits.few }
+pub same_fits : (k : ℕ) (h g : Held (List ℕ)) (q : List (List ℕ)) (o : Outgoing) → Parts k h q o → Fits g (sending_of k o) → Parts k g q o
+same_fits k h g q o fits sender = record { sender = sender; queue = fits.queue; sent = fits.sent; few = fits.few }
 
-pub empty_waits : (k : ℕ) (b : OutgoingCode) (o : Outgoing) → FitsOutgoing k b o → b.queue ≡ [] → length o.given ≤ o.sent
-empty_waits k b o fits empty =
+pub empty_waits : (k : ℕ) (h : Held (List ℕ)) (q : List (List ℕ)) (o : Outgoing) → Parts k h q o → q ≡ [] → length o.given ≤ o.sent
+empty_waits k h q o fits empty =
     let rest = ap length (sym fits.queue ∙ empty) in
     omega (arith, length-drop o.sent o.given)
 
@@ -63,18 +78,18 @@ pub record Next (o : Outgoing) (x : List ℕ) (rest : List (List ℕ)) : Type 0 
   pub packet : slice_index_or o.given o.sent [] ≡ x
   pub left : rest ≡ drop (o.sent + 1) o.given
 
-pub next_is : (k : ℕ) (b : OutgoingCode) (o : Outgoing) (x : List ℕ) (rest : List (List ℕ)) → FitsOutgoing k b o → b.queue ≡ x ∷ rest → Next o x rest
-next_is k b o x rest fits queue =
+pub next_is : (k : ℕ) (h : Held (List ℕ)) (q : List (List ℕ)) (o : Outgoing) (x : List ℕ) (rest : List (List ℕ)) → Parts k h q o → q ≡ x ∷ rest → Next o x rest
+next_is k h q o x rest fits queue =
     let waits : drop o.sent o.given ≡ x ∷ rest = sym fits.queue ∙ queue in
     let some = ap length waits in
     let below : o.sent < length o.given = omega (arith, length-drop o.sent o.given) in
     let split = drop_more o.given o.sent [] below in
     record { below = below; packet = cc; left = cc }
 
-pub new_fits : (k : ℕ) (b : OutgoingCode) (h : Held (List ℕ)) (o : Outgoing) (x : List ℕ) (rest : List (List ℕ)) → FitsOutgoing k b o → o.place ≡ o.sent → Next o x rest → length rest ≤ 256
-    → Fits h (offered (sending_of k o) x) → FitsOutgoing k (record { sender = h; queue = rest; spent = b.spent }) (sent_on o)
-new_fits k b h o x rest fits place next few sender =
-    let l = sent_length k b o fits in
+pub new_fits : (k : ℕ) (h g : Held (List ℕ)) (q : List (List ℕ)) (o : Outgoing) (x : List ℕ) (rest : List (List ℕ)) → Parts k h q o → o.place ≡ o.sent → Next o x rest → length rest ≤ 256
+    → Fits g (offered (sending_of k o) x) → Parts k g rest (sent_on o)
+new_fits k h g q o x rest fits place next few sender =
+    let l = part_length k h q o fits in
     let same : max o.sent (o.place + 1) ≡ o.sent + 1 = omega arith in
     let sender' = rw (eq-eqb o.place (length (take o.sent o.given)) (place ∙ sym l)) at sender in
     rw same (record {
@@ -84,14 +99,14 @@ new_fits k b h o x rest fits place next few sender =
       few = few;
     })
 
-pub new_frame : (k : ℕ) (b : OutgoingCode) (o : Outgoing) (x : List ℕ) (rest : List (List ℕ)) (nr : ℕ) → FitsOutgoing k b o → o.place ≡ o.sent → Next o x rest
+pub new_frame : (k : ℕ) (h : Held (List ℕ)) (q : List (List ℕ)) (o : Outgoing) (x : List ℕ) (rest : List (List ℕ)) (nr : ℕ) → Parts k h q o → o.place ≡ o.sent → Next o x rest
     → info (length (take o.sent o.given) % 8) nr false x ≡ info (o.place % 8) nr false (next_packet o)
-new_frame k b o x rest nr fits place next =
-    let l = sent_length k b o fits in
+new_frame k h q o x rest nr fits place next =
+    let l = part_length k h q o fits in
     rw (l, place, next.packet) refl
 
-pub next_open : (k : ℕ) (b : OutgoingCode) (o : Outgoing) (x : List ℕ) (rest : List (List ℕ)) → FitsOutgoing k b o → o.place ≡ o.sent → Next o x rest → o.sent < o.acked + k → is_open k o ≡ true
-next_open k b o x rest fits place next room =
+pub next_open : (k : ℕ) (h : Held (List ℕ)) (q : List (List ℕ)) (o : Outgoing) (x : List ℕ) (rest : List (List ℕ)) → Parts k h q o → o.place ≡ o.sent → Next o x rest → o.sent < o.acked + k → is_open k o ≡ true
+next_open k h q o x rest fits place next room =
     rw (lt-ltb o.place (o.acked + k) (omega arith), lt-ltb o.place (length o.given) (omega (arith, next.below))) refl
 
 pub below_of : (n m : ℕ) → n ≤ m → (n ≡ m → false ≡ true) → n < m
@@ -115,43 +130,42 @@ one_released h w n fits =
 
 -- ---- a packet that is handed down where nothing may be sent
 
-pub added_fits : (k : ℕ) (b : OutgoingCode) (o : Outgoing) (packet : List ℕ) → FitsOutgoing k b o → length b.queue < 256
-    → FitsOutgoing k (record { sender = b.sender; queue = b.queue ++ packet ∷ []; spent = b.spent }) (added packet o)
-added_fits k b o packet fits few = record {
+pub added_fits : (k : ℕ) (h : Held (List ℕ)) (q : List (List ℕ)) (o : Outgoing) (packet copy : List ℕ) → copy ≡ packet → Parts k h q o → length q < 256 → Parts k h (q ++ copy ∷ []) (added packet o)
+added_fits k h q o packet copy same fits few = record {
   sender = rw (take-append-le o.sent o.given (packet ∷ []) fits.sent) (fits.sender);
-  queue = ap (λ (q : List (List ℕ)). q ++ packet ∷ []) fits.queue ∙ sym (drop-append-le o.sent o.given (packet ∷ []) fits.sent);
+  queue = ap (λ (x : List ℕ). q ++ x ∷ []) same ∙ ap (λ (m : List (List ℕ)). m ++ packet ∷ []) fits.queue ∙ sym (drop-append-le o.sent o.given (packet ∷ []) fits.sent);
   sent = omega (arith, fits.sent, length-append o.given (packet ∷ []));
-  few = omega (arith, few, length-append b.queue (packet ∷ []));
+  few = omega (arith, few, length-append q (copy ∷ []));
 }
 
 -- nothing may be sent though the window is open: all was sent, so that none waits
-pub record Rests (k : ℕ) (b : OutgoingCode) (o : Outgoing) : Type 0 where
+pub record Rests (k : ℕ) (h : Held (List ℕ)) (q : List (List ℕ)) (o : Outgoing) : Type 0 where
   pub place : o.place ≡ o.sent
-  pub none : b.queue ≡ []
+  pub none : q ≡ []
   pub room : o.sent < o.acked + k
 
-nothing_left : (xs : List (List ℕ)) → length xs ≡ 0 → xs ≡ []
+pub nothing_left : (xs : List (List ℕ)) → length xs ≡ 0 → xs ≡ []
 nothing_left [] e = refl
 nothing_left (x ∷ xs) e = absurd (omega arith)
 
-pub rests : (k : ℕ) (b : OutgoingCode) (o : Outgoing) → FitsOutgoing k b o → is_open k o ≡ false → length (take o.sent o.given) < o.acked + k → Rests k b o
-rests k b o fits shut free =
-    let l = sent_length k b o fits in
+pub rests : (k : ℕ) (h : Held (List ℕ)) (q : List (List ℕ)) (o : Outgoing) → Parts k h q o → is_open k o ≡ false → length (take o.sent o.given) < o.acked + k → Rests k h q o
+rests k h q o fits shut free =
+    let l = part_length k h q o fits in
     let low : o.place < o.acked + k = (let high = fits.sender.sound.place_high in omega (arith, l, free, high)) in
     let all = ltb-false o.place (length o.given) (sym (ap (λ (t : Bool). t && nat_lt o.place (length o.given)) (lt-ltb o.place (o.acked + k) low)) ∙ shut) in
     let high = fits.sender.sound.place_high in
     record {
       place = omega (arith, l, all, high, fits.sent);
-      none = nothing_left b.queue (let q = ap length fits.queue in omega (arith, q, length-drop o.sent o.given, l, all, high));
+      none = nothing_left q (let all_wait = ap length fits.queue in omega (arith, all_wait, length-drop o.sent o.given, l, all, high));
       room = omega (arith, l, free);
     }
 
 -- nothing may be sent and the window isn't open
-pub full_shut : (k : ℕ) (b : OutgoingCode) (o : Outgoing) → FitsOutgoing k b o → is_open k o ≡ false → length (take o.sent o.given) ≡ o.acked + k → o.acked + k ≤ o.place
-full_shut k b o fits shut full = by_test (nat_lt o.place (o.acked + k)) refl
+pub full_shut : (k : ℕ) (h : Held (List ℕ)) (q : List (List ℕ)) (o : Outgoing) → Parts k h q o → is_open k o ≡ false → length (take o.sent o.given) ≡ o.acked + k → o.acked + k ≤ o.place
+full_shut k h q o fits shut full = by_test (nat_lt o.place (o.acked + k)) refl
   where
     by_test : (t : Bool) → nat_lt o.place (o.acked + k) ≡ t → o.acked + k ≤ o.place
     by_test false e = ltb-false o.place (o.acked + k) e
     by_test true e =
         let all = ltb-false o.place (length o.given) (sym (ap (λ (t : Bool). t && nat_lt o.place (length o.given)) e) ∙ shut) in
-        omega (arith, sent_length k b o fits, full, all, fits.sent)
+        omega (arith, part_length k h q o fits, full, all, fits.sent)

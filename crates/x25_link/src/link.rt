@@ -1,4 +1,4 @@
-ghost use Rattle.std.specs.Prelude.{◌≡◌, ℕ, ◌+◌, ◌%◌, ◌<◌, ◌≤◌, ◌↔◌, ◌++◌, List, [], map, vec_len};
+ghost use Rattle.std.specs.Prelude.{◌≡◌, ℕ, ◌+◌, ◌%◌, ◌<◌, ◌≤◌, ◌↔◌, ◌++◌, List, [], length, map};
 ghost use Rattle.std.specs.Prelude.{Bool, true, false, Some, None, Ok, IfOk, IfErr, OnOk, OnErr, IsOk};
 ghost use Rattle.std.specs.Prelude.{IsErrOf};
 ghost use Rattle.x25_frame.specs.Spelling.{spelling_of};
@@ -16,7 +16,6 @@ mod in_order;
 use crate::error::LinkError;
 use crate::frames::{Frames, MOST_FRAMES};
 use crate::heard::Heard;
-use crate::octets::Octets;
 use crate::outgoing::Outgoing;
 use crate::phase::{Phase, Reason};
 use crate::station::{FRAMES, LinkStation, Parameters};
@@ -207,20 +206,20 @@ impl Link {
 
     // Hands a packet down, and leaves its frame behind the others.
     #[inline(always)]
-    fn hand_down(&mut self, packet: Vec<u8>) -> Result<(), LinkError>
-        requires { vec_len packet ≤ limit_of self.old }
+    fn hand_down(&mut self, packet: &[u8]) -> Result<(), LinkError>
+        requires { length packet.now ≤ limit_of self.old }
         ensures state { (c : Settings) (s : StationState) → FitsLink c self.old s
-            → OnOk result (FitsLink c self.new (put_step c packet.items s).side.near) }
+            → OnOk result (FitsLink c self.new (put_step c packet.now s).side.near) }
         ensures frames { (c : Settings) (s : StationState) → FitsLink c self.old s → OnOk result
-            (self.new.frames ≡ self.old.frames ++ map (spelling_of c.role) (put_step c packet.items s).side.out) }
+            (self.new.frames ≡ self.old.frames ++ map (spelling_of c.role) (put_step c packet.now s).side.out) }
         ensures places { OnOk result (places_left self.old.frames ≤ places_left self.new.frames + 1) }
         ensures refused { (c : Settings) (s : StationState) → FitsLink c self.old s → Refuses (put_refusal s) result }
         ensures not_up { IsErrOf result LinkError.NotUp ↔ (up_of self.old ≡ false) }
         ensures full { IsErrOf result LinkError.QueueFull ↔ ((up_of self.old ≡ true) × (waiting_of self.old ≡ 256)) }
         ensures kinds { IfErr result RefusesPut }
-        ensures no_place { IsErrOf result LinkError.NoMemory → places_left self.old.frames ≡ 0 }
         ensures accepted { up_of self.old ≡ true → waiting_of self.old < 256 → 0 < places_left self.old.frames
-            → IsOk result }
+            → length packet.now ≤ 260 → IsOk result }
+        ensures long { up_of self.old ≡ true → waiting_of self.old < 8 → 0 < places_left self.old.frames → IsOk result }
         ensures up_stays { up_of self.new ≡ up_of self.old }
         ensures longest_stays { limit_of self.new ≡ limit_of self.old }
         ensures waits_more { OnOk result (waiting_of self.new ≤ waiting_of self.old + 1) }
@@ -235,7 +234,10 @@ impl Link {
         if self.frames.len() == MOST_FRAMES {
             return Err(LinkError::NoMemory);
         }
-        self.station.put(Octets::of(packet), &mut self.frames);
+        if !self.station.outgoing.has_place(packet.len()) {
+            return Err(LinkError::NoMemory);
+        }
+        self.station.put(packet, &mut self.frames);
         Ok(())
     }
 }

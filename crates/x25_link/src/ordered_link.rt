@@ -1,5 +1,5 @@
-ghost use Rattle.std.specs.Prelude.{◌≡◌, ℕ, ◌+◌, ◌<◌, ◌≤◌, ◌↔◌, List, [], length, vec_len, vec_capacity};
-ghost use Rattle.std.specs.Prelude.{Bool, true, false, IfErr, IfSome, OnOk, OnErr, IsOk, IsErrOf};
+ghost use Rattle.std.specs.Prelude.{◌≡◌, ℕ, ◌+◌, ◌<◌, ◌≤◌, ◌↔◌, List, length, Bool, true, false, IfErr, OnOk, OnErr};
+ghost use Rattle.std.specs.Prelude.{IsOk, IsErrOf};
 ghost use Rattle.x25_link.specs.Error.{RefusesPut};
 ghost use Rattle.x25_link.specs.OrderedLink.{Lists, handed_down};
 
@@ -57,25 +57,14 @@ pub trait OrderedLink {
     fn promised(&self) -> usize
         ensures { result ≡ promised self.now };
 
-    /// Memory of a packet that is no longer kept, for one of so many octets and for 4,099 at most, where there is some.
-    /// The link is as before.
-    fn spent_memory(&mut self, length: usize) -> Option<Vec<u8>>
-        ensures state { (x : State) → fits self.old x → fits self.new x }
-        ensures promised_stay { promised self.new ≡ promised self.old }
-        ensures longest_stays { longest self.new ≡ longest self.old }
-        ensures waits_stays { waits self.new ≡ waits self.old }
-        ensures up_stays { up self.new ≡ up self.old }
-        ensures empty { IfSome result (λ octets. octets.items ≡ []) }
-        ensures room { IfSome result (λ octets. length ≤ vec_capacity octets) }
-        ensures few { IfSome result (λ octets. vec_capacity octets ≤ 4099) };
-
-    /// Hands a packet of at most `limit()` octets down.
+    /// Copies a packet of at most `limit()` octets, and hands it down. It takes no memory.
     ///
-    /// Refused with 9 where the link isn't up, then with 10 where 256 packets wait, and else with 70 alone, and that
-    /// only where no place is left. An accepted call takes one place at most.
-    fn put(&mut self, packet: Vec<u8>) -> Result<(), LinkError>
-        requires { vec_len packet ≤ longest self.old }
-        ensures state { (x : State) → fits self.old x → OnOk result (fits self.new (after_put x packet.items)) }
+    /// Refused with 9 where the link isn't up, then with 10 where 256 packets wait, and else with 70 alone: where no
+    /// place is left, be it for the call, or where 8 or more wait for a packet of more than 260 octets. An accepted
+    /// call takes one place at most.
+    fn put(&mut self, packet: &[u8]) -> Result<(), LinkError>
+        requires { length packet.now ≤ longest self.old }
+        ensures state { (x : State) → fits self.old x → OnOk result (fits self.new (after_put x packet.now)) }
         ensures places { OnOk result (promised self.old ≤ promised self.new + 1) }
         ensures longest_stays { longest self.new ≡ longest self.old }
         ensures up_stays { up self.new ≡ up self.old }
@@ -83,8 +72,9 @@ pub trait OrderedLink {
         ensures not_up { IsErrOf result LinkError.NotUp ↔ (up self.old ≡ false) }
         ensures full { IsErrOf result LinkError.QueueFull ↔ ((up self.old ≡ true) × (waits self.old ≡ 256)) }
         ensures kinds { IfErr result RefusesPut }
-        ensures no_place { IsErrOf result LinkError.NoMemory → promised self.old ≡ 0 }
-        ensures accepted { up self.old ≡ true → waits self.old < 256 → 0 < promised self.old → IsOk result }
+        ensures accepted { up self.old ≡ true → waits self.old < 256 → 0 < promised self.old
+            → length packet.now ≤ 260 → IsOk result }
+        ensures long { up self.old ≡ true → waits self.old < 8 → 0 < promised self.old → IsOk result }
         ensures err { OnErr result (self.new ≡ self.old) };
 
     /// A `put` hands its packet down, behind all others.

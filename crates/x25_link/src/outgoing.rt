@@ -1,6 +1,6 @@
-ghost use Rattle.std.specs.Prelude.{◌≡◌, ℕ, ◌+◌, ◌-◌, ◌%◌, ◌<◌, ◌≤◌, ◌&&◌, nat_lt, max, List, [], ◌∷◌, ◌++◌, length};
-ghost use Rattle.std.specs.Prelude.{slice_get, slice_index_or, IfOk, IfErr, IfSome, OnOk, OnErr, MatchOption};
-ghost use Rattle.std.specs.Prelude.{vec_capacity, true, false, if◌then◌else◌};
+ghost use Rattle.std.specs.Prelude.{◌≡◌, ℕ, ◌+◌, ◌-◌, ◌%◌, ◌<◌, ◌≤◌, ◌&&◌, nat_lt, List, [], ◌∷◌, ◌++◌, length};
+ghost use Rattle.std.specs.Prelude.{slice_get, slice_index_or, IfOk, IfErr, OnOk, OnErr, MatchOption};
+ghost use Rattle.std.specs.Prelude.{true, false, if◌then◌else◌};
 ghost use Rattle.x25_window.specs.code.Modulo.{resolved};
 ghost use Rattle.x25_window.specs.Sender.{Sending, acknowledged, moved_on, offered};
 ghost use Rattle.x25_window.specs.code.Held.{Fits, with_item};
@@ -9,32 +9,40 @@ ghost use Rattle.x25_frame.specs.Spelling.{spelling_of};
 ghost use Rattle.x25_link.specs.Outgoing.{Outgoing as OutgoingState, no_packet, added, acknowledged_to, gone_back};
 ghost use Rattle.x25_link.specs.Outgoing.{is_open, next_packet, waits};
 ghost use Rattle.x25_link.specs.Outgoing.{moved_on as sent_on};
+ghost use Rattle.x25_link.specs.code.Places.{longs, left_for};
 
 use crate::error::LinkError;
 use crate::frames::Frames;
-use crate::octets::Octets;
+use crate::places::{Packet, Places};
 use crate::waiting_packets::WaitingPackets;
 use std::alloc::Global;
-use x25_bits::{Pool, Role, Seq};
-use x25_frame::N1;
+use x25_bits::{Role, Seq};
 use x25_window::{Sender, WindowError};
 
-/// The most buffers of packets that were acknowledged that are kept: so many packets one call of a packet layer puts.
-const MOST_SPENT: usize = 16;
+/// How many places there are for long packets: for 7 that stand unacknowledged and 8 that wait, as a packet layer has
+/// them.
+const LONG_PACKETS: usize = 15;
 
 /// The packets handed down that aren't acknowledged: those that were sent, and behind them those that wait. And the
-/// memory of some that were acknowledged, for later ones.
+/// places that none of them stands in.
 #[derive(Drop)]
 pub struct Outgoing {
-    pub sender: Sender<Octets>,
+    pub sender: Sender<Packet>,
     pub queue: WaitingPackets,
-    pub spent: Pool<N1, MOST_SPENT>,
+    pub places: Places,
+    ghost long_ones: { places.long.all ≡ 15 },
+    ghost window: { sender.window ≤ 7 },
+    ghost sent: { length sender.items ≤ sender.window },
+    ghost short: { places.short.left + (length sender.items + length queue)
+        ≡ 263 + (longs sender.items + longs queue) },
+    ghost long: { places.long.left + (longs sender.items + longs queue) ≡ places.long.all },
 }
 
 impl Outgoing {
     ghost use Rattle.x25_link.specs.code.OutgoingHeld.{FitsOutgoing};
 
     /// No packet, or `None` where the window k isn't 1 to 7. 70 alone.
+    #[tactic(auto, using(crate::proofs::PlaceLemmas::longs_none))]
     pub fn new(alloc: Global, window: u8) -> Result<Option<Outgoing>, LinkError>
         ensures fits { IfOk result (λ made. MatchOption made
             (¬ ((1 ≤ window) × (window ≤ 7))) (λ b. FitsOutgoing window b no_packet)) }
@@ -47,7 +55,7 @@ impl Outgoing {
         Ok(Some(Outgoing {
             sender,
             queue,
-            spent: Pool::new(alloc),
+            places: Places::new(alloc, LONG_PACKETS)?,
         }))
     }
 
@@ -76,14 +84,26 @@ impl Outgoing {
         self.sender.top()
     }
 
+    /// Whether a place is left for a packet of so many octets.
+    pub fn has_place(&self, count: usize) -> bool
+        ensures value { result ≡ nat_lt 0 (left_for self.now.places.short self.now.places.long count) }
+        ensures short { count ≤ 260 → length self.now.queue < 256 → result ≡ true }
+        ensures long { length self.now.queue < 8 → result ≡ true }
+    {
+        self.places.left_for(count) > 0
+    }
+
     /// Lets a packet wait.
-    pub fn add(&mut self, packet: Octets)
-        requires { length self.old.queue < 256 }
-        ensures queue { length self.new.queue ≡ length self.old.queue + 1 }
+    pub fn add(&mut self, packet: &[u8])
+        requires room { length self.old.queue < 256 }
+        requires fits { length packet.now ≤ 4099 }
+        requires place { 0 < left_for self.old.places.short self.old.places.long (length packet.now) }
+        ensures queue { self.new.queue ≡ self.old.queue ++ packet.now ∷ [] }
         ensures sender { self.new.sender ≡ self.old.sender }
         ensures state { (k : ℕ) (o : OutgoingState) → FitsOutgoing k self.old o
-            → FitsOutgoing k self.new (added packet o) }
+            → FitsOutgoing k self.new (added packet.now o) }
     {
+        let packet = self.places.take(packet);
         self.queue.push(packet);
     }
 
@@ -110,30 +130,19 @@ impl Outgoing {
         Ok(count)
     }
 
-    // Takes the first packets as acknowledged, and keeps their memory.
+    // Takes the first packets as acknowledged, and their places back.
     #[inline(always)]
     fn release(&mut self, count: u8)
         requires { count ≤ length self.old.sender.items }
         ensures sender { (w : Sending (List ℕ)) → Fits self.old.sender w
             → Fits self.new.sender (acknowledged w (w.acked + count)) }
         ensures queue { self.new.queue ≡ self.old.queue }
+        ensures left { length self.new.sender.items + count ≡ length self.old.sender.items }
     {
         for _packet in 0..count {
             let packet = self.sender.release();
-            self.spent.keep(packet.into_vec());
+            self.places.give(packet);
         }
-    }
-
-    /// Memory of a packet that was acknowledged, for one of so many octets and for 4,099 at most, where there is some.
-    /// What is too small for them is let go of.
-    pub fn spent_memory(&mut self, length: usize) -> Option<Vec<u8>>
-        ensures same { self.new ≡ record self.old { spent = self.new.spent } }
-        ensures fewer { self.new.spent.kept ≡ self.old.spent.kept - 1 }
-        ensures empty { IfSome result (λ octets. octets.items ≡ []) }
-        ensures room { IfSome result (λ octets. length ≤ vec_capacity octets) }
-        ensures few { IfSome result (λ octets. vec_capacity octets ≤ 4099) }
-    {
-        self.spent.take(length)
     }
 
     /// Moves the place to send from back to the first frame that isn't acknowledged.
@@ -149,28 +158,38 @@ impl Outgoing {
     pub fn clear(&mut self)
         ensures state { (k : ℕ) (o : OutgoingState) → FitsOutgoing k self.old o → FitsOutgoing k self.new no_packet }
     {
+        let unacked = self.sender.unacked();
+        self.release(unacked);
+        let waiting = self.queue.len();
+        for _packet in 0..waiting {
+            if let Some(packet) = self.queue.pop() {
+                self.places.give(packet);
+            }
+        }
         self.sender.clear();
-        self.queue.clear();
     }
 
     /// As `add` and then `send_next`, where before it nothing may be sent: so where the window is open no packet waits,
     /// and this one goes at once. It says whether it did.
     #[inline(always)]
-    pub fn send_at_once(&mut self, packet: Octets, from: Role, nr: Seq, out: &mut Frames) -> bool
+    pub fn send_at_once(&mut self, packet: &[u8], from: Role, nr: Seq, out: &mut Frames) -> bool
         requires few { length self.old.queue < 256 }
+        requires fits { length packet.now ≤ 4099 }
+        requires standing { 0 < left_for self.old.places.short self.old.places.long (length packet.now) }
         requires place { length out.old < 25 }
         ensures sent { (k : ℕ) (o : OutgoingState) → FitsOutgoing k self.old o → is_open k o ≡ false
-            → result ≡ is_open k (added packet o) }
+            → result ≡ is_open k (added packet.now o) }
         ensures step { (k : ℕ) (o : OutgoingState) → FitsOutgoing k self.old o → is_open k o ≡ false
-            → FitsOutgoing k self.new (if result then sent_on (added packet o) else added packet o) }
+            → FitsOutgoing k self.new (if result then sent_on (added packet.now o) else added packet.now o) }
         ensures made { (k : ℕ) (o : OutgoingState) → FitsOutgoing k self.old o → is_open k o ≡ false →
             out.new ≡ (if result
             then out.old
-            ++ spelling_of from (info (o.place % 8) nr.number false (next_packet (added packet o))) ∷ []
+            ++ spelling_of from (info (o.place % 8) nr.number false (next_packet (added packet.now o))) ∷ []
             else out.old) }
         ensures queue { length self.new.queue ≤ length self.old.queue + 1 }
         ensures one { length out.new ≤ length out.old + 1 }
     {
+        let packet = self.places.take(packet);
         if self.sender.is_full() {
             self.queue.push(packet);
             return false;
@@ -210,7 +229,7 @@ impl Outgoing {
 }
 
 // Sends the packet at the place to send from again, where it was sent before. It says whether it did.
-fn send_again(sender: &mut Sender<Octets>, from: Role, nr: Seq, out: &mut Frames) -> bool
+fn send_again(sender: &mut Sender<Packet>, from: Role, nr: Seq, out: &mut Frames) -> bool
     requires { length out.old < 25 }
     ensures sent { (w : Sending (List ℕ)) → Fits sender.old w → result ≡ nat_lt w.place (length w.given) }
     ensures step { (w : Sending (List ℕ)) → Fits sender.old w → Fits sender.new (if result then moved_on w else w) }
@@ -233,7 +252,7 @@ fn send_again(sender: &mut Sender<Octets>, from: Role, nr: Seq, out: &mut Frames
 
 // Sends a packet for the first time.
 #[inline(always)]
-fn send_new(sender: &mut Sender<Octets>, packet: Octets, from: Role, nr: Seq, out: &mut Frames)
+fn send_new(sender: &mut Sender<Packet>, packet: Packet, from: Role, nr: Seq, out: &mut Frames)
     requires place { length out.old < 25 }
     requires open { ¬ (length sender.old.items ≡ sender.old.window) }
     ensures step { (w : Sending (List ℕ)) → Fits sender.old w → length w.given < w.acked + w.window

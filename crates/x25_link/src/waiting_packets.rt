@@ -1,6 +1,6 @@
 ghost use Rattle.std.specs.Prelude.{◌≡◌, ℕ, ◌<◌, ◌≤◌, List, [], ◌∷◌, ◌++◌, length, IfOk, MatchOption};
 
-use crate::octets::Octets;
+use crate::places::Packet;
 use circular_buffer::HeapCircularBuffer;
 use std::alloc::{AllocError, Global};
 use std::marker::Model;
@@ -11,7 +11,7 @@ pub const PLACES: usize = 256;
 /// The packets that wait, at most 256, in a ring that is made once.
 #[derive(Drop)]
 pub struct WaitingPackets {
-    ring: HeapCircularBuffer<Octets>,
+    ring: HeapCircularBuffer<Packet>,
 }
 
 impl Model for WaitingPackets {
@@ -40,7 +40,7 @@ impl WaitingPackets {
     }
 
     /// Lets a packet wait behind the others, of which there are fewer than 256.
-    pub fn push(&mut self, packet: Octets)
+    pub fn push(&mut self, packet: Packet)
         requires { length self.old < 256 }
         ensures { self.new ≡ self.old ++ packet ∷ [] }
     {
@@ -48,7 +48,7 @@ impl WaitingPackets {
     }
 
     /// Takes the first packet.
-    pub fn pop(&mut self) -> Option<Octets>
+    pub fn pop(&mut self) -> Option<Packet>
         ensures { MatchOption result ((self.old ≡ []) × (self.new ≡ [])) (λ packet. self.old ≡ packet ∷ self.new) }
     {
         self.ring.pop_front()

@@ -74,9 +74,8 @@ pub fn take<'a>(link: &mut Link, octets: &'a [u8]) -> Heard<'a> {
     link.take(octets)
 }
 
-/// Hands a packet of this octet down, as a packet layer does.
-pub fn put(link: &mut Link, alloc: Global, octet: u8) -> Result<(), LinkError> {
-    let packet = vec![in alloc; octet]?;
+/// Hands a packet down, where it is short enough.
+pub fn put(link: &mut Link, packet: &[u8]) -> Result<(), LinkError> {
     if packet.len() > link.limit() {
         return Err(LinkError::BadConfig);
     }

@@ -1,6 +1,6 @@
 //! The list of frames that a link exchanges with its caller's.
 
-use crate::calls::{connect, link, no_frames, put, swap, take};
+use crate::calls::{connect, link, no_frames, put, relink, swap, take};
 use std::alloc::Global;
 use x25_bits::{Role, Seq};
 use x25_frame::{Frame, encode};
@@ -32,18 +32,14 @@ fn ends(frames: &Frames) -> Ends {
 
 // What stands in the list behind two SABMs; once it is given back, exchanged again, how many are in it; and what stands
 // there once it is given back and a packet is handed down.
-fn answers(
-    link: &mut Link,
-    frames: &mut Frames,
-    alloc: Global,
-) -> Result<(Ends, usize, Ends), LinkError> {
+fn answers(link: &mut Link, frames: &mut Frames) -> Result<(Ends, usize, Ends), LinkError> {
     take(link, &SABM);
     take(link, &SABM);
     swap(link, frames);
     let twice = ends(frames);
     swap(link, frames);
     let count = frames.len();
-    put(link, alloc, 0)?;
+    put(link, &[0])?;
     swap(link, frames);
     Ok((twice, count, ends(frames)))
 }
@@ -51,7 +47,7 @@ fn answers(
 fn answers_of_a_dce(alloc: Global) -> Result<(Ends, usize, Ends), LinkError> {
     let mut link = link(alloc, Role::Dce, 7, 10)?;
     let mut frames = no_frames(alloc)?;
-    answers(&mut link, &mut frames, alloc)
+    answers(&mut link, &mut frames)
 }
 
 #[test]
@@ -81,7 +77,7 @@ fn seven_more(
     nr: u8,
 ) -> Result<(), LinkError> {
     for _ in 0..7u8 {
-        put(link, alloc, 0)?;
+        put(link, &[0])?;
     }
     swap(link, frames);
     acknowledge(link, alloc, Seq::modulo(nr))?;
@@ -101,9 +97,9 @@ fn fills(
         seven_more(link, frames, alloc, nr)?;
     }
     for _ in 0..4u8 {
-        put(link, alloc, 0)?;
+        put(link, &[0])?;
     }
-    let refused = put(link, alloc, 0).err().map(LinkError::number);
+    let refused = put(link, &[0]).err().map(LinkError::number);
     swap(link, frames);
     Ok((frames.len(), refused))
 }
@@ -117,4 +113,37 @@ fn fills_of_a_dte(alloc: Global) -> Result<(usize, Option<u8>), LinkError> {
 #[test]
 fn twenty_five_frames_have_places(rt: HostRuntime) {
     assert_eq!(rt; fills_of_a_dte(rt.alloc()), Ok((25, Some(70))));
+}
+
+// How many packets of 261 octets go until no long place is left, and the number of the refusal of the next.
+fn long_ones(link: &mut Link) -> (u8, Option<u8>) {
+    for count in 0..16u8 {
+        if let Err(error) = put(link, &[0; 261]) {
+            return (count, Some(error.number()));
+        }
+    }
+    (16, None)
+}
+
+/// How many long packets go, at first, once seven were acknowledged, and once the link was set up anew, and whether one
+/// of 260 octets still goes behind the first of them.
+type Long = ((u8, Option<u8>), bool, (u8, Option<u8>), (u8, Option<u8>));
+
+fn long_ones_of_a_dte(alloc: Global) -> Result<Long, LinkError> {
+    let mut link = link(alloc, Role::Dte, 7, 10)?;
+    connect(&mut link)?;
+    take(&mut link, &UA);
+    let first = long_ones(&mut link);
+    let is_short_put = put(&mut link, &[0; 260]).is_ok();
+    acknowledge(&mut link, alloc, Seq::modulo(7))?;
+    let acknowledged = long_ones(&mut link);
+    relink(&mut link)?;
+    take(&mut link, &UA);
+    Ok((first, is_short_put, acknowledged, long_ones(&mut link)))
+}
+
+#[test]
+fn fifteen_long_packets_have_places(rt: HostRuntime) {
+    let wanted = ((15, Some(70)), true, (7, Some(70)), (15, Some(70)));
+    assert_eq!(rt; long_ones_of_a_dte(rt.alloc()), Ok(wanted));
 }

@@ -25,8 +25,6 @@ enum Act {
     Take(&'static [u8]),
     /// An I frame with 4,100 octets of information comes.
     TakeLong,
-    /// Memory of a packet of one octet that was acknowledged is taken, which refuses where there is none.
-    Reuse,
 }
 
 /// What it answers: the number of a refusal, or 0; why the link went down; and whether it came up.
@@ -66,9 +64,9 @@ const UA: &[u8] = &[0x01, 0x73, 0x83, 0x57];
 /// RR with N(R)=2 of the DCE.
 const RR_2: &[u8] = &[0x01, 0x41, 0x12, 0x45];
 
-// A set-up that ends without an answer, one that is answered, packets whose memory can be taken once they are
-// acknowledged, by an N(R) that comes twice, and the end of the link.
-static DTE: [Row; 27] = [
+// A set-up that ends without an answer, one that is answered, packets that are acknowledged by an N(R) that comes
+// twice, and the end of the link.
+static DTE: [Row; 23] = [
     (Act::T1, (11, None, false), NONE, DOWN),
     (Act::Put(1), (9, None, false), NONE, DOWN),
     (Act::Probe, (9, None, false), NONE, DOWN),
@@ -82,12 +80,8 @@ static DTE: [Row; 27] = [
     (Act::Connect, (15, None, false), NONE, IDLE),
     (Act::Put(1), OK, (1, &[0x01, 0x00, 0x00, 0x10, 0x9C]), BUSY),
     (Act::Put(2), OK, (2, &[0x01, 0x04, 0x00, 0x70, 0xFB]), BUSY),
-    (Act::Reuse, (70, None, false), NONE, BUSY),
     (Act::Take(RR_2), OK, NONE, (false, false, true, true, 0)),
     (Act::Take(RR_2), OK, NONE, BUSY),
-    (Act::Reuse, OK, NONE, BUSY),
-    (Act::Reuse, OK, NONE, BUSY),
-    (Act::Reuse, (70, None, false), NONE, BUSY),
     (Act::Put(6), OK, (6, &[0x01, 0x00, 0x00, 0x10, 0x9C]), BUSY),
     (Act::Put(256), OK, NONE, (false, false, true, false, 256)),
     (
@@ -145,9 +139,9 @@ static ASKED: [Row; 12] = [
     (Act::Probe, (9, None, false), NONE, DOWN),
 ];
 
-fn put_many(link: &mut Link, alloc: Global, count: u16) -> Result<(), LinkError> {
+fn put_many(link: &mut Link, count: u16) -> Result<(), LinkError> {
     for _ in 0..count {
-        put(link, alloc, 0)?;
+        put(link, &[0])?;
     }
     Ok(())
 }
@@ -186,13 +180,6 @@ fn take_long(link: &mut Link, alloc: Global) -> (Answer, bool) {
     }
 }
 
-fn reuse(link: &mut Link) -> (Answer, bool) {
-    match link.spent_memory(1) {
-        Some(octets) => ((u8::from(!octets.is_empty()), None, false), false),
-        None => ((70, None, false), false),
-    }
-}
-
 // What it answers, and whether it acknowledged frames.
 fn happens(link: &mut Link, alloc: Global, act: Act) -> (Answer, bool) {
     match act {
@@ -202,10 +189,9 @@ fn happens(link: &mut Link, alloc: Global, act: Act) -> (Answer, bool) {
         Act::Relink => heard(relink(link)),
         Act::Abandon => heard(abandon(link)),
         Act::T1 => heard(fire(link)),
-        Act::Put(count) => number(put_many(link, alloc, count)),
+        Act::Put(count) => number(put_many(link, count)),
         Act::Take(octets) => heard(Ok(take(link, octets))),
         Act::TakeLong => take_long(link, alloc),
-        Act::Reuse => reuse(link),
     }
 }
 

@@ -229,6 +229,7 @@ fn append_packet(packet: &Packet, octets: &mut Vec<u8>) -> Result<(), NoMemory>
         → IsOk result }
     ensures memory { vec_capacity octets.new
         ≤ max (vec_capacity octets.old) (vec_len octets.old + length (spelling_of (plain packet.now))) }
+    ensures capacity { vec_capacity octets.old ≤ vec_capacity octets.new }
 {
     octets.reserve_exact(3 + body_len(packet))?;
     let [group, number] = channel(packet).to_be_bytes();
@@ -255,6 +256,7 @@ pub fn encode(packet: &Packet, octets: &mut Vec<u8>) -> Result<(), NoMemory>
         → IsOk result }
     ensures memory { vec_capacity octets.new
         ≤ max (vec_capacity octets.old) (vec_len octets.old + length (spelling_of (plain packet.now))) }
+    ensures capacity { vec_capacity octets.old ≤ vec_capacity octets.new }
 {
     append_packet(packet, octets)
 }

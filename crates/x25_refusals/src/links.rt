@@ -1,5 +1,5 @@
 //! A link. What its user sends is handed down as one packet by `put`, as the packet layer hands packets down.
-ghost use Rattle.std.specs.Prelude.{◌≤◌, vec_len};
+ghost use Rattle.std.specs.Prelude.{◌≤◌, length};
 ghost use Rattle.x25_link.specs.code.FitsLink.{limit_of};
 
 use crate::boxes::boxed;
@@ -14,7 +14,6 @@ use x25_station::{Cfg, Cmd, Role};
 /// A link, and the frames that it sent last.
 #[derive(Drop)]
 pub(crate) struct LinkParty {
-    alloc: Global,
     role: Role,
     link: Box<Link>,
     out: Frames,
@@ -74,15 +73,8 @@ fn shows(from: Role, heard: &Heard, shown: &mut Lines) -> Result<(), AllocError>
     Ok(())
 }
 
-fn packet_of(alloc: Global, octets: &[u8]) -> Result<Vec<u8>, AllocError> {
-    match octets.to_vec(alloc) {
-        Ok(packet) => Ok(packet),
-        Err(_) => octets.to_vec(alloc),
-    }
-}
-
-fn put(link: &mut Link, packet: Vec<u8>) -> Result<(), LinkError>
-    requires { vec_len packet ≤ limit_of link.old }
+fn put(link: &mut Link, packet: &[u8]) -> Result<(), LinkError>
+    requires { length packet.now ≤ limit_of link.old }
 {
     link.put(packet)
 }
@@ -101,11 +93,10 @@ impl LinkParty {
 
     fn puts(
         &mut self,
-        octets: &[u8],
+        packet: &[u8],
         to: &mut Wire,
         shown: &mut Lines,
     ) -> Result<Outcome, Trouble> {
-        let packet = packet_of(self.alloc, octets)?;
         if packet.len() > self.link.limit() {
             return Err(Trouble::NoSuchCall);
         }
@@ -120,12 +111,7 @@ impl Party for LinkParty {
     fn new(alloc: Global, role: Role, cfg: Cfg) -> Option<LinkParty> {
         let link = made(alloc, role, cfg)?;
         let out = Frames::new(alloc).ok()?;
-        Some(LinkParty {
-            alloc,
-            role,
-            link,
-            out,
-        })
+        Some(LinkParty { role, link, out })
     }
 
     fn happens(

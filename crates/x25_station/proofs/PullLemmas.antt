@@ -1,5 +1,5 @@
 -- What a pull behind a step leaves, and what it sends.
-use Rattle.std.proofs.Common.{◌≡◌, List, [], ◌∷◌, ◌++◌, map, ◌==◌, Result, Ok, Err, OnOk, OnErr, Bool, true, false, if◌then◌else◌, ℕ, refl, ap, sym, subst, ◌∙◌}
+use Rattle.std.proofs.Common.{◌≡◌, List, [], ◌∷◌, ◌++◌, map, ◌==◌, Result, Ok, Err, OnOk, OnErr, IsErrOf, Bool, true, false, if◌then◌else◌, ℕ, ◌<◌, length, arith, refl, ap, sym, subst, ◌∙◌}
 use Rattle.std.specs.Prelude.{◌≢◌}
 use Rattle.std.proofs.Math.Logic.{∥∥₁_elim}
 use Rattle.std.proofs.Math.Path.{fun_ext}
@@ -10,6 +10,7 @@ use Rattle.x25_packet.specs.Spelling as packet
 use Rattle.x25_frame.specs.Spelling.{spelling_of}
 use Rattle.x25_link.specs.Station.{is_up}
 use Rattle.x25_link.specs.Link.{alone, put_step}
+use Rattle.x25_link.specs.code.Frames.{places_left}
 use Rattle.x25_link.specs.code.FitsLink.{ShownLink, LinkState, FitsWhole, up_at, waits_of, after_put_to}
 use Rattle.x25_layer.specs.Layer.{LayerSettings}
 use Rattle.x25_layer.specs.Calls.{PullsAll, layer_outcome, outcome_in}
@@ -31,7 +32,7 @@ use Rattle.x25_station.specs.Station.{Station, all_put, view_of, waiting_after}
 use Rattle.x25_station.specs.Step.{Step, Outcome, Did, Refused, did, requests, entries_of_outcome}
 use Rattle.x25_station.specs.laws.KeepLaw.{KeptBy}
 use Rattle.x25_station.specs.code.FitsParts.{FitsParts, AreMeant}
-use Rattle.x25_station.specs.code.FitsStation.{LeavesParts, Refuses, RefusesExactly}
+use Rattle.x25_station.specs.code.FitsStation.{LeavesParts, Refuses, RefusesExactly, RefusesOnly}
 use Rattle.x25_station.specs.Receiving.{kept_of}
 use Rattle.x25_station.proofs.AskLemmas.{Layers, Links, taken_link, answered_by, goes_did, refused_exactly_did, calls_named}
 use Rattle.x25_station.proofs.LinkLemmas.{put_by_put, same_view}
@@ -219,3 +220,26 @@ module _ (T : Type 0) (e : LayerError) (result : Result Unit StationError) (othe
 pub if_error : {E : Type 0} {P : Type 0} (r : Result Unit E) → P → OnErr r P
 if_error (Ok u) p = tt
 if_error (Err e) p = p
+
+-- ---- no place is wanted behind nine frames or fewer
+
+pub lacks_places : (result : Result Unit StationError) (e : LayerError) (before frames : List (List ℕ)) → OnErr result (e ≡ layer_error.NoMemory)
+    → ((let x : Result Unit LayerError = Err e in IsErrOf x layer_error.NoMemory) → places_left frames < 16) → frames ≡ before → OnErr result (9 < length before)
+lacks_places (Ok u) e before frames due missing same = tt
+lacks_places (Err f) e before frames due missing same =
+    let few = missing (ap (λ (x : LayerError). let r : Result Unit LayerError = Err x in r) due) in
+    let n : length frames ≡ length before = ap length same in
+    omega (arith, few, n)
+
+pub goes_on : (o : Outcome) → RefusesExactly {T = Unit} (Ok tt) o → RefusesOnly {T = Unit} (Ok tt) o
+goes_on (Did step) exactly = refl
+goes_on (Refused e) exactly = exactly
+
+pub has_places : (found : StationError) (e : LayerError) (frames : List (List ℕ)) (o : Outcome) → found ≡ of_layer e
+    → ((let x : Result Unit LayerError = Err e in IsErrOf x layer_error.NoMemory) → places_left frames < 16) → frames ≡ []
+    → (let r : Result Unit StationError = Err found in RefusesExactly r o → RefusesOnly r o)
+has_places found e frames (Did step) is missing none exactly =
+    let few = missing (ap (λ (x : LayerError). let r : Result Unit LayerError = Err x in r) (memory_is e (sym is ∙ exactly))) in
+    let n : length frames ≡ 0 = ap length none in
+    absurd (omega (arith, few, n))
+has_places found e frames (Refused x) is missing none exactly = exactly

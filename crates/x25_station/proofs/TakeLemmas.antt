@@ -160,19 +160,16 @@ handed_was_up hands c l octets s p fits is = ap is_up fits.near.phase ∙ ap is_
 -- ---- memory
 
 less_room : (h n m : ℕ) (y : layer_code.Layer) → n ≤ m → HasRoom h m y → HasRoom h n y
-less_room h n m y low room = record {
-  memory = room.memory;
-  circuits = λ k v is on. (let high : min m 4096 ≤ room_of v = room.circuits k v is on in omega (arith, low, high));
-}
+less_room h n m y low room = λ k v is on. (let high : min m 4096 ≤ room_of v = room k v is on in omega (arith, low, high))
 
 -- of no channel
-pub no_room : (h m : ℕ) (y : layer_code.Layer) → HasRoom h m y → (n : ℕ) → HasRoom 0 n y
-no_room h m y room n = record { memory = room.memory; circuits = λ k v is on. absurd (omega (arith, on)) }
+no_room : (n : ℕ) (y : layer_code.Layer) → HasRoom 0 n y
+no_room n y = λ k v is on. absurd (omega (arith, on))
 
 -- of the channel that octets name, or of none
 pub room_for : (named : Bool) (h₂ h n m : ℕ) (y : layer_code.Layer) → h₂ ≡ (if named then h else 0) → n ≤ m → HasRoom h m y → HasRoom h₂ n y
 room_for true h₂ h n m y is low room = subst (λ (x : ℕ). HasRoom x n y) (sym is) (less_room h n m y low room)
-room_for false h₂ h n m y is low room = subst (λ (x : ℕ). HasRoom x n y) (sym is) (no_room h m y room n)
+room_for false h₂ h n m y is low room = subst (λ (x : ℕ). HasRoom x n y) (sym is) (no_room n y)
 
 pub few_made : (role : Role) (made : List (List ℕ)) (out : List PlainFrame) (n : ℕ) → made ≡ map (spelling_of role) out → length out ≤ n → length made ≤ n
 few_made role made out n same few =

@@ -14,7 +14,7 @@ ghost use Rattle.x25_station.specs.Command.{Requests, answer_in_brief, command_o
 ghost use Rattle.x25_station.specs.Entry.{of_channel};
 ghost use Rattle.x25_station.specs.code.Aside.{HasFewPlaces};
 ghost use Rattle.x25_station.specs.code.Clock.{TellsTimer};
-ghost use Rattle.x25_station.specs.code.FitsStation.{FitsStation, Does, IsEmpty, RefusesExactly, RefusesForMemory};
+ghost use Rattle.x25_station.specs.code.FitsStation.{FitsStation, Does, IsEmpty, RefusesForMemory, RefusesOnly};
 ghost use Rattle.x25_station.specs.code.PlainEntry.{plain_entry, plain_asked, plain_said};
 ghost use Rattle.x25_station.specs.Config.{Settings};
 ghost use Rattle.x25_station.specs.Station.{Station as State};
@@ -212,14 +212,15 @@ impl Station {
     /// its cause. A message of which confirmation is asked is refused as without, and then with 34 where `Cfg::wide`
     /// isn't set. `With` is refused as without what is given, and then with 34 where `Cfg::wide` isn't set, where that
     /// isn't allowed (`Given::is_allowed`), where user data is given beside a call, and where D is beside a clearing.
-    /// Else 70 alone, and 70 may come in place of each of these but those of `Pull`. The station is as before then.
+    /// Else 70 alone, and 70 may come in place of each of these; `Pull` is never refused with it. The station is as
+    /// before then.
     #[inline(always)]
     pub fn command(&mut self, command: Cmd<'_>, out: &mut Step) -> Result<(), StationError>
         ensures does { Does self.old self.new out.new result (λ c s. commands c s (command_of command.entry)) }
         ensures timer { TellsTimer self.old out.new.timer result false
             (λ c s. commands c s (command_of command.entry)) }
         ensures pull { command_of command.entry ≡ Requests PullsAll → (c : Settings) (s : State)
-            → FitsStation c self.old s → RefusesExactly result (requests c s PullsAll) }
+            → FitsStation c self.old s → RefusesOnly result (requests c s PullsAll) }
         ensures places { HasFewPlaces out.old.entries out.new.entries }
     {
         self.empty(out);
@@ -235,7 +236,7 @@ impl Station {
         requires { IsEmpty out.old }
         ensures does { Does self.old self.new out.new result (λ c s. commands c s (command_of command.now)) }
         ensures pull { command_of command.now ≡ Requests PullsAll → (c : Settings) (s : State)
-            → FitsStation c self.old s → RefusesExactly result (requests c s PullsAll) }
+            → FitsStation c self.old s → RefusesOnly result (requests c s PullsAll) }
         ensures places { HasFewPlaces out.old.entries out.new.entries }
     {
         match command {
@@ -308,8 +309,8 @@ impl Station {
     fn pull_asked(&mut self, out: &mut Step) -> Result<(), StationError>
         requires { IsEmpty out.old }
         ensures does { Does self.old self.new out.new result (λ c s. requests c s PullsAll) }
-        ensures exactly { (c : Settings) (s : State) → FitsStation c self.old s
-            → RefusesExactly result (requests c s PullsAll) }
+        ensures only { (c : Settings) (s : State) → FitsStation c self.old s
+            → RefusesOnly result (requests c s PullsAll) }
         ensures places { HasFewPlaces out.old.entries out.new.entries }
     {
         steps_keep_bounds();

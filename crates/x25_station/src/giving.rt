@@ -21,12 +21,10 @@ use crate::error::StationError;
 use crate::law::steps_keep_bounds;
 use crate::station::Station;
 use crate::step::Step;
-use x25_bits::Role;
 use x25_circuit::{CircuitError, Proposal, Request};
-use x25_frame::N1;
 use x25_given::{Given, Writing, ask_through, call_through};
 use x25_layer::{LayerError, Params};
-use x25_link::{Link, holds_few};
+use x25_link::holds_few;
 
 /// What may not be asked, or given so.
 pub(crate) const NOT_TAKEN: StationError = StationError::Layer(LayerError::Circuit(
@@ -164,9 +162,6 @@ impl Station {
         if !self.takes(given, given.user.is_empty()) {
             return Err(NOT_TAKEN);
         }
-        let Ok(blank) = Link::new(self.alloc, Role::Dte, 1, N1, 1) else {
-            return Err(StationError::NoMemory);
-        };
         let Ok(form) = Writing::new(self.alloc, *given) else {
             return Err(StationError::NoMemory);
         };
@@ -175,7 +170,6 @@ impl Station {
         match call_through(
             &mut self.layer,
             &mut self.link,
-            blank,
             form,
             called,
             calling,
@@ -213,22 +207,12 @@ impl Station {
         if !self.takes(given, suits(given, &judged)) {
             return Err(NOT_TAKEN);
         }
-        let Ok(blank) = Link::new(self.alloc, Role::Dte, 1, N1, 1) else {
-            return Err(StationError::NoMemory);
-        };
         let Ok(form) = Writing::new(self.alloc, *given) else {
             return Err(StationError::NoMemory);
         };
         out.reserve()?;
         let asked = asked_of(self.alloc, &mut self.messages, &request)?;
-        match ask_through(
-            &mut self.layer,
-            &mut self.link,
-            blank,
-            form,
-            channel,
-            request,
-        ) {
+        match ask_through(&mut self.layer, &mut self.link, form, channel, request) {
             Ok(()) => {
                 let asked = as_shown(&self.layer, channel, asked);
                 enter(&self.layer, &mut out.entries, channel, Said::Asked(asked));

@@ -98,7 +98,7 @@ pub fn steps_keep_bounds()
 /// What a station holds at most: 256 packets that wait in its link, 7 that were sent and aren't acknowledged, and for
 /// each channel 8 messages that wait, and one more whose last packet was pulled, until the next is begun, and one of
 /// which some packets came. A message, also one in part, has at most 65,535 octets. Between calls memory is set aside
-/// for at most 16 packets that its layer puts, and for 5 texts of entries. In all that is at most 1,316,516 octets, and
+/// for at most 5 texts of entries. In all, with the places of packets and frames, it is at most 241,275 octets, and
 /// 667,638 for each channel.
 pub fn stations_hold_few()
     ensures wait { FewWait }

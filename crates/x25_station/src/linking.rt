@@ -1,8 +1,7 @@
 //! Calls that the link alone answers, and at LinkDown the packet layer.
-ghost use Rattle.std.specs.Prelude.{◌≡◌, ℕ, ◌+◌, ◌++◌, map, true, false, None};
+ghost use Rattle.std.specs.Prelude.{◌≡◌, ◌+◌, ◌++◌, map, true, false, None};
 ghost use Rattle.x25_layer.specs.Layer.{Layer as LayerState, LayerSettings};
 ghost use Rattle.x25_layer.specs.code.FitsLayer.{FitsLayer};
-ghost use Rattle.x25_layer.specs.Room.{HasRoom};
 ghost use Rattle.x25_station.specs.Entry.{entries_down};
 ghost use Rattle.x25_station.specs.code.Aside.{GrowsBy, HasFewPlaces, HasPlaces};
 ghost use Rattle.x25_station.specs.code.Clock.{TellsTimer};
@@ -161,8 +160,6 @@ impl Station {
 pub(crate) fn note_down(layer: &mut Layer, down: Option<Reason>, entries: &mut Vec<Entry>)
     requires { HasPlaces 1 entries.old }
     ensures few { GrowsBy 1 entries.old entries.new }
-    ensures room { (h len : ℕ) → HasRoom h len layer.old → HasRoom h len layer.new }
-    ensures memory { layer.new.memory ≡ layer.old.memory }
     ensures same { down ≡ None → layer.new ≡ layer.old }
     ensures nothing { down ≡ None → entries.new ≡ entries.old }
     ensures layer { (c : LayerSettings) (l : LayerState) → FitsLayer c layer.old l

@@ -35,8 +35,8 @@ impl Station {
     /// that a message may wait in its circuit while nothing is on its way: one who calls this behind each step leaves
     /// none to wait so.
     ///
-    /// 70 alone, and that only where the link is up and no restart is under way: where memory is refused, or the step
-    /// has more than nine frames. The station is as before then, and so are the frames of the step.
+    /// 70 alone, and that only where the link is up, no restart is under way and the step has more than nine frames:
+    /// it takes no memory. The station is as before then, and so are the frames of the step.
     pub fn pull(&mut self, out: &mut Step) -> Result<(), StationError>
         ensures pulls { Pulls self.old self.new out.old.frames out.new.frames result }
         ensures entries { out.new.entries ≡ out.old.entries }

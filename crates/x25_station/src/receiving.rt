@@ -63,12 +63,10 @@ fn channel_of(frame: &[u8]) -> u16
 #[inline(never)]
 fn come_up(layer: &mut Layer, link: &mut Link, entries: &mut Vec<Entry>)
     requires put { CanPut link.old }
-    requires room { HasRoom 0 0 layer.old }
     requires entries { HasPlaces 1 entries.old }
     ensures puts { PutsBehind layer.old link.old layer.new link.new (λ view c l. (comes_up view c).step) }
     ensures entries { map plain_entry entries.new.items ≡ map plain_entry entries.old.items ++ entries_up true }
     ensures few { GrowsBy 1 entries.old entries.new }
-    ensures most_memory { layer.new.memory ≤ max layer.old.memory 16 }
 {
     entries.push_reserved(Entry::LinkUp);
     layer.up(link).unwrap();
@@ -95,7 +93,6 @@ fn hear(
         map plain_entry entries.new.items ≡ map plain_entry entries.old.items
         ++ entries_of_answer (layer_answer (layer_settings c) wide l packet.now) }
     ensures few { GrowsBy 2 entries.old entries.new }
-    ensures most_memory { layer.new.memory ≤ max layer.old.memory 16 }
     ensures used { UsesFew 3 texts.old texts.new }
     ensures bringing { (c : Settings) (l : LayerState) (t : Side) → FitsLayer (layer_settings c) layer.old l
         → FitsWhole link.old (kept_of (link_settings c) t) →
@@ -128,7 +125,6 @@ fn hear_all(
         map plain_entry entries.new.items ≡ map plain_entry entries.old.items
         ++ entries_of_packet (layer_settings c) true l packet.now }
     ensures few { GrowsBy 3 entries.old entries.new }
-    ensures most_memory { layer.new.memory ≤ max layer.old.memory 16 }
     ensures used { UsesFew 5 texts.old texts.new }
 {
     let before = unconfirmed_on(layer, named(packet));
@@ -152,7 +148,6 @@ fn follow(
     requires up { notes.up ≡ true → CanPut link.old }
     requires put { IfSome packet (λ _. CanPut link.old) }
     requires left { IfSome packet (λ _. IsNotFull layer.old) }
-    requires begun { HasRoom 0 0 layer.old }
     requires room { IfSome packet (λ p. HasRoom (named_by p.now) (length p.now - 3) layer.old) }
     requires texts { 5 ≤ texts.old }
     requires entries { HasPlaces 3 entries.old }
@@ -164,7 +159,6 @@ fn follow(
         ++ (entries_noted notes
         ++ entries_heard (layer_settings c) wide l (option_copied packet.entry) notes.down notes.up) }
     ensures few { GrowsBy 3 entries.old entries.new }
-    ensures most_memory { layer.new.memory ≤ max layer.old.memory 16 }
     ensures used { UsesFew 5 texts.old texts.new }
 {
     note_down(layer, notes.down, entries);
@@ -260,8 +254,8 @@ impl Station {
     }
 
     // Sets memory aside for all that octets may bring on a channel, with so many of user data: room for entries and
-    // their texts, for packets that are put, and in the circuit. However many they are, it is for 16 packets, 5 texts
-    // and 4,096 octets in the circuit of the channel, or for what was before.
+    // their texts, and in the circuit. However many they are, it is for 5 texts and 4,096 octets in the circuit of the
+    // channel, or for what was before.
     fn reserve(&mut self, channel: u16, len: usize, out: &mut Step) -> Result<(), StationError>
         requires { IsEmpty out.old }
         ensures fits { FitsStill self.old self.new }
@@ -273,7 +267,6 @@ impl Station {
         ensures most_places { HasFewPlaces out.old.entries out.new.entries }
         ensures refused { RefusesForMemory result }
         ensures most_texts { self.new.texts ≤ max self.old.texts 5 }
-        ensures most_memory { self.new.layer.memory ≤ max self.old.layer.memory 16 }
         ensures most_circuits { (bound : ℕ) → 4096 ≤ bound → HaveAtMost bound self.old.layer.circuits.items
             → HaveAtMost bound self.new.layer.circuits.items }
     {

@@ -1,4 +1,4 @@
-ghost use Rattle.x25_station.specs.code.Aside.{IsFewAside};
+ghost use Rattle.std.specs.Prelude.{◌≤◌};
 ghost use Rattle.x25_station.specs.code.FitsParts.{AreMeant};
 
 use crate::asking::MessageMemory;
@@ -24,7 +24,7 @@ pub struct Station {
     pub(crate) messages: MessageMemory,
     pub(crate) alloc: Global,
     ghost meant: { AreMeant manner link layer },
-    ghost aside: { IsFewAside layer texts },
+    ghost aside: { texts ≤ 5 },
 }
 
 impl Station {
@@ -198,15 +198,6 @@ impl Station {
         ensures most { result ≤ 69631 }
     {
         self.layer.octets_kept(channel)
-    }
-
-    /// How many buffers are kept for what memory is refused for later: as many at least as memory is promised for, and
-    /// 21 at most, 16 for a packet each and 5 for a text of an entry.
-    pub fn blanks(&self) -> usize
-        ensures least { self.now.layer.memory + self.now.texts ≤ result }
-        ensures most { result ≤ 21 }
-    {
-        self.layer.blanks() + self.texts.blanks()
     }
 
     /// The name of the stretch that is open on a channel, in p4 with d1, where one is.

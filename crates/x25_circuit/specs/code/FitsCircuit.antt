@@ -58,17 +58,18 @@ pub record KeepsCounts (old new : code.Circuit) : Type 0 where
   pub clears : clears_of new ≡ clears_of old
   pub resets : resets_of new ≡ resets_of old
 
--- What is asked is done so, by a packet that can be spelled, or it is refused, and then the circuit is as before. It
--- takes no memory.
-pub record SendsBy (old new : code.Circuit) (result : Result Packet CircuitError) (said : Settings → Circuit → Outcome)
-    : Type 0 where
-  pub outcome : (c : Settings) (x : Circuit) → FitsCircuit c old x → Sends c new result (said c x)
-  pub range : IfOk result (λ packet. IsInRange 128 (plain packet))
-  pub keeps : KeepsCounts old new
-  pub unchanged : OnErr result (new ≡ old)
-  pub kinds : IfErr result (λ e. e ≢ error.NoMemory)
-
 -- the user data that a packet brings for a message
 abbrev pub user_octets : PlainPacket → List ℕ
 user_octets (user_data channel q m ps pr user) = user
 user_octets other = []
+
+-- What is asked is done so, by a packet that can be spelled and brings no user data for a message, or it is refused,
+-- and then the circuit is as before. It takes no memory.
+pub record SendsBy (old new : code.Circuit) (result : Result Packet CircuitError) (said : Settings → Circuit → Outcome)
+    : Type 0 where
+  pub outcome : (c : Settings) (x : Circuit) → FitsCircuit c old x → Sends c new result (said c x)
+  pub range : IfOk result (λ packet. IsInRange 128 (plain packet))
+  pub control : IfOk result (λ packet. user_octets (plain packet) ≡ [])
+  pub keeps : KeepsCounts old new
+  pub unchanged : OnErr result (new ≡ old)
+  pub kinds : IfErr result (λ e. e ≢ error.NoMemory)

@@ -14,7 +14,7 @@ use Rattle.x25_circuit.specs.declared.owed.Owed.{Owed}
 use Rattle.x25_circuit.specs.declared.owed.Owed.TheVariants as owing
 use Rattle.x25_circuit.specs.Circuit.{Settings, Circuit}
 use Rattle.x25_circuit.specs.Hearing.{Answer}
-use Rattle.x25_circuit.specs.code.FitsCircuit.{FitsCircuit, room_of}
+use Rattle.x25_circuit.specs.code.FitsCircuit.{FitsCircuit, room_of, user_octets}
 use Rattle.x25_circuit.specs.Notice.{PlainNotice, incoming, connected, collided, cleared, clear_done, was_reset}
 use Rattle.x25_circuit.specs.Notice.{reset_done, delivered, interrupted, interrupt_done, fault}
 
@@ -64,6 +64,11 @@ plain_owed (Some owed) = Some (packet_owed 1 owed)
 abbrev pub IsSendable : Option PlainPacket → Type 0
 IsSendable None = Unit {0}
 IsSendable (Some packet) = IsInRange 128 packet
+
+-- where there is one, it brings no user data for a message
+abbrev pub IsControl : Option PlainPacket → Type 0
+IsControl None = Unit {0}
+IsControl (Some packet) = user_octets packet ≡ []
 
 -- the reply says these
 pub record Says (reply : Reply) (packet : Option PlainPacket) (told : List PlainNotice) : Type 0 where

@@ -5,16 +5,17 @@ use Rattle.x25_link.specs.OrderedLink.{Lists, handed_down}
 use Rattle.x25_given.specs.Through.{Passage, FitsPassage, lists_of, passed, in_form}
 
 pub begins : {D X F : Type 0} (fits : D → X → Type 0) (lists : X → Lists)
-    → ((d : D) (x : X) → fits d x → (lists x).acked ≤ length (lists x).given) → (d : D) (form : Option F)
-    (x : Passage X F) → FitsPassage fits lists d form x → (lists_of lists x).acked ≤ length (lists_of lists x).given
-begins fits lists below d form x h =
+    → ((d : D) (x : X) → fits d x → (lists x).acked ≤ length (lists x).given) → (name : ℕ) (d : D) (form : Option F)
+    (x : Passage X F) → FitsPassage fits lists name d form x
+    → (lists_of lists x).acked ≤ length (lists_of lists x).given
+begins fits lists below name d form x h =
     subst (λ (n : ℕ). (lists x.below).acked ≤ n) (sym h.many) (below d x.below h.below)
 
 pub few_unacknowledged : {D X F : Type 0} (fits : D → X → Type 0) (lists : X → Lists) (waits : X → ℕ)
-    → ((d : D) (x : X) → fits d x → length (lists x).given ≤ (lists x).acked + waits x + 7) → (d : D) (form : Option F)
-    (x : Passage X F) → FitsPassage fits lists d form x
+    → ((d : D) (x : X) → fits d x → length (lists x).given ≤ (lists x).acked + waits x + 7) → (name : ℕ) (d : D)
+    (form : Option F) (x : Passage X F) → FitsPassage fits lists name d form x
     → length (lists_of lists x).given ≤ (lists_of lists x).acked + waits x.below + 7
-few_unacknowledged fits lists waits below d form x h =
+few_unacknowledged fits lists waits below name d form x h =
     subst (λ (n : ℕ). n ≤ (lists x.below).acked + waits x.below + 7) (sym h.many) (below d x.below h.below)
 
 pub adds : {X F : Type 0} (lists : X → Lists) (after : X → List ℕ → X) (form : F → List ℕ → List ℕ)

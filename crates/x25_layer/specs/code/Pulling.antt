@@ -14,40 +14,45 @@ use Rattle.x25_layer.specs.code.FitsLayer.{FitsCircuits}
 use Rattle.x25_layer.specs.code.Idle.{IdleBeside}
 use Rattle.x25_layer.specs.declared.busy.Busy.{Busy}
 use Rattle.x25_layer.specs.Rounds.{Putting, round}
-use Rattle.x25_layer.specs.code.OverLink.{after_all, view_of, Takes}
+use Rattle.x25_layer.specs.code.OverLink.{after_all, view_of}
 
--- Memory for so many packets is enough for all that may be pulled on from these lists: the unacknowledged packets never
--- become more than 15, since each is pulled where fewer than 8 wait, and of those that don't wait at most 7 aren't
--- acknowledged.
+-- So many packets are enough for all that may be pulled on from these lists: the unacknowledged ones never become more
+-- than 15, since each is pulled where fewer than 8 wait, and of those that don't wait at most 7 aren't acknowledged.
 abbrev pub IsEnough : Lists → ℕ → Type 0
-IsEnough lists promised = lists.acked + 15 ≤ length lists.given + promised
+IsEnough lists left = lists.acked + 15 ≤ length lists.given + left
+
+-- Of m packets m₂ are left, for each that is put one less, and of the places of the link below no more are taken than
+-- that. The link is as it was, up or not, and takes packets as long.
+pub record Takes {D : Type 0} (g : Ghosts D) (m : ℕ) (below : D) (m₂ : ℕ) (below₂ : D) : Type 0 where
+  pub no_more : m₂ ≤ m
+  pub places : m₂ + g.promised below ≤ m + g.promised below₂
+  pub longest : g.longest below₂ ≡ g.longest below
+  pub up : g.up below₂ ≡ g.up below
 
 -- the next data packet of a circuit, where the link has room
 abbrev pub pulled_where : Bool → Settings → Circuit → Pulled
 pulled_where has_room c x = if has_room then pulled c x else pulls_nothing x
 
--- The circuits of a layer and its link stand as the step says, by the state x of the link at its start. Memory for m
--- packets is set aside in the layer, and n places are left in the link, which is enough. With the packets that were put
--- the m are `total`.
+-- The circuits of a layer and its link stand as the step says, by the state x of the link at its start. Of the packets
+-- of the rounds m are left, and n places in the link, which is enough.
 pub record Stands {X : Type 0} (fits : X → Type 0) (lists : X → Lists) (after : X → List ℕ
-    → X) (c : LayerSettings) (vs : List circuit_code.Circuit) (m n total : ℕ) (x : X) (s : Putting) : Type 0 where
+    → X) (c : LayerSettings) (vs : List circuit_code.Circuit) (m n : ℕ) (x : X) (s : Putting) : Type 0 where
   pub channels : length vs ≡ c.channels.count
   pub circuits : FitsCircuits c vs s.layer.circuits
   pub link : fits (after_all after x s.put)
-  pub memory : IsEnough (lists (after_all after x s.put)) m
+  pub left : IsEnough (lists (after_all after x s.put)) m
   pub promised : IsEnough (lists (after_all after x s.put)) n
-  pub sum : m + length s.put ≡ total
 
 -- By this pull from the circuit of a channel a circuit and the link are left so, where the link was in state y and m
--- packets had memory, of which m₂ have it still. Where the answer is that none was put, there was none.
+-- packets were left, of which m₂ are. Where the answer is that none was put, there was none.
 pub record PutsPulled {D : Type 0} (g : Ghosts D) (c : Settings) (channel : ℕ) (y : g.State) (p : Pulled)
     (v : circuit_code.Circuit) (below : D) (m m₂ : ℕ) (is_put : Bool) : Type 0 where
   pub circuit : FitsCircuit c v p.next
   pub link : g.fits below (after_all g.after_put y (option_to_list (packet_on channel p.packet)))
   pub none : is_put ≡ false → p.packet ≡ None
-  pub memory : m₂ + length (option_to_list p.packet) ≡ m
+  pub left : m₂ + length (option_to_list p.packet) ≡ m
 
--- The next data packet of a circuit is put, where there is one and the link has room, in memory that was set aside.
+-- The next data packet of a circuit is put, where there is one and the link has room.
 pub record PullsOne {D : Type 0} (g : Ghosts D) (channel : ℕ) (old : circuit_code.Circuit) (below : D) (m : ℕ)
     (new : circuit_code.Circuit) (below₂ : D) (m₂ : ℕ) (is_put : Bool) : Type 0 where
   pub pulls : (c : Settings) (x : Circuit) (y : g.State) → FitsCircuit c old x → g.fits below y
@@ -62,12 +67,12 @@ pub record PullsOne {D : Type 0} (g : Ghosts D) (channel : ℕ) (old : circuit_c
 -- A round of all circuits. Whether a packet was put is told, and which circuits may be busy behind it.
 pub record GoesRound {D : Type 0} (g : Ghosts D) (old : List circuit_code.Circuit) (below : D) (m : ℕ)
     (new : List circuit_code.Circuit) (below₂ : D) (m₂ : ℕ) (is_put : Bool) (busy : Busy) : Type 0 where
-  pub stands : (c : LayerSettings) (x : g.State) (s : Putting) (total : ℕ)
-      → Stands (g.fits below) g.lists g.after_put c old m (g.promised below) total x s
-      → Stands (g.fits below₂) g.lists g.after_put c new m₂ (g.promised below₂) total x
+  pub stands : (c : LayerSettings) (x : g.State) (s : Putting)
+      → Stands (g.fits below) g.lists g.after_put c old m (g.promised below) x s
+      → Stands (g.fits below₂) g.lists g.after_put c new m₂ (g.promised below₂) x
       (round (view_of g.up_in g.waits_in g.after_put x) c c.channels.count s)
-  pub none : (c : LayerSettings) (x : g.State) (s : Putting) (total : ℕ)
-      → Stands (g.fits below) g.lists g.after_put c old m (g.promised below) total x s → is_put ≡ false
+  pub none : (c : LayerSettings) (x : g.State) (s : Putting)
+      → Stands (g.fits below) g.lists g.after_put c old m (g.promised below) x s → is_put ≡ false
       → round (view_of g.up_in g.waits_in g.after_put x) c c.channels.count s ≡ s
   pub takes : Takes g m below m₂ below₂
   pub count : length new ≡ length old

@@ -63,12 +63,8 @@ impl OrderedLink for Link {
         MOST_FRAMES - self.frames.len()
     }
 
-    fn spent_memory(&mut self, length: usize) -> Option<Vec<u8>> {
-        self.station.outgoing.spent_memory(length)
-    }
-
     #[inline(always)]
-    fn put(&mut self, packet: Vec<u8>) -> Result<(), LinkError> {
+    fn put(&mut self, packet: &[u8]) -> Result<(), LinkError> {
         self.hand_down(packet)
     }
 }

@@ -1,11 +1,5 @@
--- How much memory a station keeps set aside (profile), and how much of it is used.
+-- How much memory a call sets aside (profile), and how much of it is used.
 use Rattle.std.specs.Prelude.{◌≡◌, ℕ, ◌+◌, ◌≤◌, max, Vec, vec_len, vec_capacity}
-use Rattle.x25_layer.specs.declared.layer.Layer as layer_code
-
--- for so many packets that its layer puts, and texts of entries
-pub record IsFewAside (y : layer_code.Layer) (texts_aside : ℕ) : Type 0 where
-  pub packets : y.memory ≤ 16
-  pub texts : texts_aside ≤ 5
 
 -- a list has room for so many more
 abbrev pub HasPlaces : {X Z : Type 0} → ℕ → Vec X Z → Type 0

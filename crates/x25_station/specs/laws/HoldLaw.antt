@@ -6,7 +6,6 @@ use Rattle.x25_circuit.specs.Circuit as circuit
 use Rattle.x25_layer.specs.Layer.{is_channel}
 use Rattle.x25_station.specs.declared.station.Station as code
 use Rattle.x25_layer.specs.Layer.InPart.{joined_at}
-use Rattle.x25_station.specs.code.Aside.{IsFewAside}
 use Rattle.x25_station.specs.Config.{Settings, layer_settings}
 use Rattle.x25_station.specs.Station.{Station}
 use Rattle.x25_station.specs.code.FitsStation.{FitsStation}
@@ -30,9 +29,9 @@ abbrev pub FewJoined : Type 0
 FewJoined = (c : Settings) (v : code.Station) (s : Station) (h : ℕ) → FitsStation c v s
     → joined_at (layer_settings c) s.layer h ≤ 65535
 
--- memory that is set aside
+-- texts of entries that memory is set aside for
 abbrev pub FewAside : Type 0
-FewAside = (v : code.Station) → IsFewAside v.layer v.texts
+FewAside = (v : code.Station) → v.texts ≤ 5
 
 -- how many messages a circuit holds of those handed down: the one that is cut, or was cut last, and those behind it
 abbrev pub holds : circuit_code.Circuit → ℕ

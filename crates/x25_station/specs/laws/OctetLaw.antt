@@ -1,6 +1,6 @@
--- How many octets a station holds at most (profile): each packet, message and frame counts as the longest of its kind.
--- Memory that is promised counts as all that the type `Promise` may have for it, and that of a `Pool` or of `Frames`
--- that contracts don't see as all that this type may have.
+-- How many octets a station holds at most (profile): each message counts as the longest. Memory that is promised counts
+-- as all that the type `Promise` may have for it, and that of a `Pool`, of `Frames` or of a `Sheet` that contracts
+-- don't see as all that this type may have.
 use Rattle.std.specs.Prelude.{ℕ, ◌+◌, ◌*◌, ◌≤◌, length}
 use Rattle.std.specs.List.{sum_by}
 use Rattle.x25_link.specs.code.FitsLink.{ShownLink}
@@ -12,20 +12,18 @@ use Rattle.x25_station.specs.Station.{Station}
 use Rattle.x25_station.specs.code.FitsStation.{FitsStation}
 use Rattle.x25_station.specs.laws.HoldLaw.{holds}
 
--- Packets of 4,099 octets: those that were sent and aren't acknowledged, those that wait, and the memory kept of those
--- that were acknowledged. The 25 places of frames, of 4,103 octets each.
+-- the places of packets that wait or stand unacknowledged, of two sizes, and the 25 places of frames
 abbrev pub link_octets : ShownLink → ℕ
 link_octets l =
-    4099 * (length l.station.outgoing.sender.items
-    + (length l.station.outgoing.queue + l.station.outgoing.spent.kept)) + 4103 * 25
+    260 * l.station.outgoing.places.short.all + (4099 * l.station.outgoing.places.long.all + 4103 * 25)
 
 -- messages of 65,535 octets, the message of which some packets came, and the memory of 4,096 of two that were read
 abbrev pub circuit_octets : circuit_code.Circuit → ℕ
 circuit_octets u = 65535 * holds u + (69631 + 4096 * 2)
 
--- those of its circuits, and 16 packets that memory is promised for
+-- those of its circuits, and the sheet on which a packet is spelled
 abbrev pub layer_octets : layer_code.Layer → ℕ
-layer_octets y = sum_by circuit_octets y.circuits.items + 4099 * 16
+layer_octets y = sum_by circuit_octets y.circuits.items + 4099
 
 -- five texts of 128 octets that memory is promised for, and the memory kept of a message that was read
 abbrev pub octets_held : code.Station → ℕ
@@ -33,9 +31,9 @@ octets_held v = link_octets v.link + (layer_octets v.layer + (128 * 5 + 4096 * v
 
 -- so many, and so many for each channel
 abbrev pub FewOctets : Type 0
-FewOctets = (v : code.Station) → octets_held v ≤ 1316516 + 667638 * length v.layer.circuits.items
+FewOctets = (v : code.Station) → octets_held v ≤ 241275 + 667638 * length v.layer.circuits.items
 
 -- with so many channels as its settings say
 abbrev pub FewOctetsInAll : Type 0
 FewOctetsInAll = (c : Settings) (v : code.Station) (s : Station) → FitsStation c v s
-    → octets_held v ≤ 1316516 + 667638 * c.channels.count
+    → octets_held v ≤ 241275 + 667638 * c.channels.count

@@ -23,4 +23,4 @@ octets_held v = (station.octets_held v.dte + station.octets_held v.dce) + (4103 
 -- with so many channels as its settings say
 abbrev pub FewOctets : Type 0
 FewOctets = (cfg : Cfg) (v : ShownWorld) (w : World) → FitsWorld cfg v w
-    → octets_held v ≤ 2875109 + 1335276 * cfg.channels.count + line_octets v
+    → octets_held v ≤ 724627 + 1335276 * cfg.channels.count + line_octets v

@@ -8,13 +8,13 @@ use Rattle.x25_layer.proofs.rounds.pull_one.Goals as goal
 
 pub returns-then-waits-eq0 : goal.returns-then-waits-eq0
 returns-then-waits-eq0 g c = record {
-  pulls = λ s x y fits link memory promised.
+  pulls = λ s x y fits link left promised.
       let none = where_nothing (nat_lt (g.L.OrderedLink.waits_in y) 8) s x (c.waits.ensures.none s x fits c.if-waits-eq0.true) in
       record {
         circuit = subst (λ (p : Pulled). FitsCircuit s c.args.circuit.now p.next) (sym none) fits;
         link = subst (λ (p : Pulled). g.L.OrderedLink.fits c.args.link.now (after_all g.L.OrderedLink.after_put y (option_to_list (packet_on c.args.channel p.packet)))) (sym none) link;
         none = λ is. ap (λ (p : Pulled). p.packet) none;
-        memory = subst (λ (p : Pulled). c.args.memory.now + length (option_to_list p.packet) ≡ c.args.memory.now) (sym none) (omega arith);
+        left = subst (λ (p : Pulled). c.args.left.now + length (option_to_list p.packet) ≡ c.args.left.now) (sym none) (omega arith);
       };
   takes = search rules;
   room = search rules;

@@ -6,7 +6,7 @@ pub returns-then-not-may_pull : goal.returns-then-not-may_pull
 returns-then-not-may_pull g c = record {
   pulls = λ k x y f l m s.
       let closed = sym (c.may_pull.ensures.state y l m s) ∙ c.if-not-may_pull.true in
-      record { circuit = rw closed f; link = rw closed l; none = λ e. rw closed refl; memory = rw closed (omega arith) };
+      record { circuit = rw closed f; link = rw closed l; none = λ e. rw closed refl; left = rw closed (omega arith) };
   takes = search rules;
   room = search rules;
   clears = search rules;
@@ -23,7 +23,7 @@ returns-in_default g c = record {
         circuit = search rules;
         link = rw room (rw none l);
         none = λ e. rw room none;
-        memory = rw room (rw none (omega arith));
+        left = rw room (rw none (omega arith));
       };
   takes = search rules;
   room = search rules;
@@ -42,7 +42,7 @@ returns g c = record {
         circuit = search rules;
         link = rw room (rw some (subst (λ p. g.L.OrderedLink.fits c.put.new.link (g.L.OrderedLink.after_put y (spelling_of p))) spelled (c.put.ensures.link y l)));
         none = λ e. rw room (cc);
-        memory = rw room (rw some (omega (arith, c.put.ensures.memory)));
+        left = rw room (rw some (omega (arith, c.may_pull.ensures.left c.if-not-may_pull.false)));
       };
   takes = search rules;
   room = search rules;

@@ -4,14 +4,13 @@ use Rattle.x25_station.proofs.law.stations_hold_few.Goals as goal
 
 pub returns : goal.returns
 returns c =
-    let stand = few_stand c.holds_few.ensures.stand c.holds_few.ensures.window in
     record {
       wait = few_wait;
-      stand = stand;
+      stand = few_stand c.holds_few.ensures.stand c.holds_few.ensures.window;
       messages = few_messages;
       joined = few_joined;
       held = few_held;
       aside = λ v. v.aside;
-      octets = few_octets stand;
-      octets_in_all = few_in_all stand;
+      octets = few_octets;
+      octets_in_all = few_in_all;
     }

@@ -6,11 +6,11 @@ use Rattle.x25_station.specs.Config.{link_settings, layer_settings}
 use Rattle.x25_station.specs.Receiving.{kept_of}
 use Rattle.x25_station.specs.Station.{all_put}
 use Rattle.x25_station.proofs.AskLemmas.{after_puts}
-use Rattle.x25_station.proofs.LinkLemmas.{seen_by, same_view, on_ok}
+use Rattle.x25_station.proofs.LinkLemmas.{seen_by, same_view, on_ok, ok_where}
 use Rattle.x25_station.proofs.receiving.come_up.Goals as goal
 
 pub unwrap-requires : goal.unwrap-requires
-unwrap-requires c = c.up.ensures.enough 0 0 c.requires.room c.requires.put.places
+unwrap-requires c = ok_where c.up.result _ c.up.ensures.missing c.requires.put.places
 
 pub returns-clause-puts : goal.returns-clause-puts
 returns-clause-puts c = record {

@@ -19,6 +19,7 @@ returns-in_err-flow c = record {
       let p = err_from_is_err_and c.from_residual.result c.from_residual.ensures.1 in
       rw (c.in_err-flow.ensures.refused d x fits) (p.1 ∙ ap Err p.2);
   range = search rules;
+  control = search rules;
   keeps = search rules;
   unchanged = search rules;
   kinds = search rules;
@@ -46,6 +47,7 @@ returns-in-Some c = record {
         subst IsFacilityField (sym c.field_for.ensures)
             (field_is_allowed known c.in-Some.answer.now (subst (λ (p : Params). may_propose p ≡ true) flow c.in_ok-flow.flow.allowed)),
       );
+  control = search rules;
   keeps = search rules;
   unchanged = search rules;
   kinds = search rules;
@@ -58,6 +60,7 @@ returns-in-None c = record {
       rw (c.in-None.is, accept_at x x.state None (sym fits.state ∙ c.in_ok-flow.ensures.arriving))
       ((subst (λ (p : Params). FitsCircuit d c.enter.new.self (entered x Open p false)) flow (c.enter.ensures.fits d x fits), rw c.none.ensures refl));
   range = ((lit≤ tt, lit≤ tt), subst IsFacilityField (sym c.none.ensures) no_field);
+  control = search rules;
   keeps = search rules;
   unchanged = search rules;
   kinds = search rules;

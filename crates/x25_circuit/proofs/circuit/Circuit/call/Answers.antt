@@ -20,6 +20,7 @@ returns-in_err-fields c = record {
       c.params.ensures (c.in_err-fields.ensures.refused d x says fits) in
       rw (refused) (p.1 ∙ ap Err p.2);
   range = search rules;
+  control = search rules;
   keeps = search rules;
   unchanged = search rules;
   kinds = search rules;
@@ -40,6 +41,7 @@ returns c = record {
       let said = c.in_ok-fields.ensures in
       let allowed = subst (λ (p : Params). may_propose p ≡ true) (said.flow ∙ c.params.ensures) c.in_ok-fields.fields.flow.allowed in
       ((lit≤ tt, lit≤ tt), said.called_address, said.calling_address, subst IsFacilityField (sym c.field_for.ensures) (field_is_allowed c.default.result c.args.proposal.now allowed), said.short);
+  control = search rules;
   keeps = search rules;
   unchanged = search rules;
   kinds = search rules;

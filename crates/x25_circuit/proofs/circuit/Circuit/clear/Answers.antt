@@ -8,6 +8,7 @@ pub returns-in-Some : goal.returns-in-Some
 returns-in-Some c = record {
   outcome = λ d x fits. rw (c.in-Some.ensures.refused d x c.args.diagnostic fits) refl;
   range = search rules;
+  control = search rules;
   keeps = search rules;
   unchanged = search rules;
   kinds = search rules;
@@ -19,6 +20,7 @@ returns c = record {
       rw (sym fits.state, clear_done d x _ c.args.cause c.args.diagnostic c.in_default.ensures.not_free c.in_default.ensures.not_clearing, subst (λ (r : Role). may_clear_for r c.args.cause ≡ true) fits.role c.in_default.ensures.given)
       ((c.end_call.ensures.fits d x fits, refl));
   range = search rules;
+  control = search rules;
   keeps = search rules;
   unchanged = search rules;
   kinds = search rules;

@@ -5,6 +5,7 @@ pub returns-in-Some : goal.returns-in-Some
 returns-in-Some c = record {
   outcome = λ d x fits. rw (c.in-Some.ensures.refused d x fits) refl;
   range = search rules;
+  control = search rules;
   keeps = search rules;
   unchanged = search rules;
   kinds = search rules;

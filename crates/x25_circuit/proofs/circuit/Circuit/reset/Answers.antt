@@ -7,6 +7,7 @@ pub returns-in-Some : goal.returns-in-Some
 returns-in-Some c = record {
   outcome = λ d x fits. rw (c.in-Some.ensures.refused d x c.args.diagnostic fits) refl;
   range = search rules;
+  control = search rules;
   keeps = search rules;
   unchanged = search rules;
   kinds = search rules;
@@ -16,6 +17,7 @@ pub returns : goal.returns
 returns c = record {
   outcome = λ d x fits. rw (sym fits.state ∙ c.in_default.ensures.open, subst (λ (r : Role). may_reset_for r c.args.cause ≡ true) fits.role c.in_default.ensures.given) ((c.begin_stretch.ensures.fits d x fits, refl));
   range = search rules;
+  control = search rules;
   keeps = search rules;
   unchanged = search rules;
   kinds = search rules;

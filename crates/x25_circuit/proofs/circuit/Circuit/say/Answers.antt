@@ -8,6 +8,7 @@ pub returns-in-Some : goal.returns-in-Some
 returns-in-Some c = record {
   outcome = λ d x fits. rw (c.in-Some.ensures.no_ready d x c.args.is_ready fits) refl;
   range = search rules;
+  control = search rules;
   keeps = search rules;
   unchanged = search rules;
   kinds = search rules;
@@ -19,6 +20,7 @@ returns c = record {
       let now = with_transfer d c.args.self.now x _ _ fits (own_fits (outgoing x).size c.args.self.now.transfer x.talk c.args.is_ready fits.talk) in
       rw (ready_at x x.state c.args.is_ready (sym fits.state ∙ c.in_default.ensures.open)) ((now, ap Some (sym (c.packet.ensures.value ∙ c.status.ensures.value d _ now))));
   range = search rules;
+  control = search rules;
   keeps = search rules;
   unchanged = search rules;
   kinds = search rules;

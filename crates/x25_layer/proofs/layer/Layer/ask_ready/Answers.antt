@@ -1,36 +1,30 @@
-use Rattle.std.proofs.Common.{rules, ◌∙◌, Ok, Err, refl, sym, subst, ap, arith}
+use Rattle.std.proofs.Common.{rules, ◌∙◌, ◌<◌, Ok, Err, sym, subst, ap}
 use Rattle.x25_circuit.specs.Calling.{Outcome, outcome}
 use Rattle.x25_circuit.specs.Request.{plain_request, is_message}
 use Rattle.x25_layer.specs.declared.error.LayerError.{LayerError}
 use Rattle.x25_layer.specs.declared.error.LayerError.TheVariants as error
-use Rattle.x25_layer.specs.code.OverLink.{view_of, LayerGives, LinkGives, UsesMemory, LacksMemory}
-use Rattle.x25_layer.specs.Calls.{outcome_on}
+use Rattle.x25_layer.specs.code.OverLink.{view_of, LayerGives, LinkGives}
 use Rattle.x25_layer.specs.Rounds.{LinkView, Answered, begin, went}
 use Rattle.x25_layer.specs.declared.layer.Layer as code
 use Rattle.x25_layer.specs.Layer.{packet_on}
 use Rattle.x25_layer.specs.Room.{HasRoomOn}
 use Rattle.x25_circuit.specs.code.Replies.{plain_sent}
-use Rattle.x25_layer.proofs.FitLemmas.{on_err}
-use Rattle.x25_layer.proofs.CallLemmas.{IsAccepted, is_accepted, declined_layer, declined_link, short_layer, short_link, uses_none, may_lack, may_copy, same_err}
+use Rattle.x25_layer.proofs.FitLemmas.{fits_as, on_err}
+use Rattle.x25_layer.proofs.CallLemmas.{IsAccepted, is_accepted, declined_layer, declined_link, short_layer, short_link, may_lack, may_copy, same_err}
 use Rattle.x25_layer.proofs.layer.Layer.ask_ready.Goals as goal
 
-pub returns-then-is_err : goal.returns-then-is_err
-returns-then-is_err g c = record {
+pub returns-then-promised-lt-MOST_PUT : goal.returns-then-promised-lt-MOST_PUT
+returns-then-promised-lt-MOST_PUT g c = record {
   layer = λ s l x fits link.
-      short_layer (Unit {0}) s _ c.args.self.now l c.args.channel _ (outcome s.circuit (l.circuits c.args.channel) (plain_request c.args.request)) (c.without_memory.ensures s l (c.reserve_packets.ensures.fits s l fits));
+      short_layer (Unit {0}) s _ c.args.self.now l c.args.channel _ (outcome s.circuit (l.circuits c.args.channel) (plain_request c.args.request)) (c.without_memory.ensures s l fits);
   link = λ s l x fits link.
-      short_link (Unit {0}) (g.L.OrderedLink.fits c.args.link.now) g.L.OrderedLink.after_put x s _ l c.args.channel _ (outcome s.circuit (l.circuits c.args.channel) (plain_request c.args.request)) (c.without_memory.ensures s l (c.reserve_packets.ensures.fits s l fits));
+      short_link (Unit {0}) (g.L.OrderedLink.fits c.args.link.now) g.L.OrderedLink.after_put x s _ l c.args.channel _ (outcome s.circuit (l.circuits c.args.channel) (plain_request c.args.request)) (c.without_memory.ensures s l fits);
   layer_stays = search rules;
   link_stays = search rules;
   longest = search rules;
   missing = λ is.
-      let lacks : LacksMemory 16 c.args.self.now (g.L.OrderedLink.promised c.args.link.now) = search rules in
-      may_lack (is_message (plain_request c.args.request)) 16 c.args.self.now (g.L.OrderedLink.promised c.args.link.now) lacks;
-  most_memory = search rules;
-  used = λ s l x fits link.
-      let view : LinkView = view_of g.L.OrderedLink.up_in g.L.OrderedLink.waits_in g.L.OrderedLink.after_put x in
-      uses_none {T = Unit {0}} (Err c.without_memory.result) c.args.self.now.memory c.reserve_packets.new.self.memory c.without_memory.result (went view s (outcome_on l.restarts l.circuits c.args.channel (outcome s.circuit (l.circuits c.args.channel) (plain_request c.args.request)))) refl;
-  memory_stays = search rules;
+      let lacks : g.L.OrderedLink.promised c.args.link.now < 16 = search rules in
+      may_lack (is_message (plain_request c.args.request)) 16 (g.L.OrderedLink.promised c.args.link.now) lacks;
   room = search rules;
 }
 
@@ -38,23 +32,17 @@ pub returns-in_err-packet : goal.returns-in_err-packet
 returns-in_err-packet g c = record {
   layer = λ s l x fits link.
       declined_layer c.from_residual.result s _ c.ask_circuit.new.self c.ask_circuit.new.self l c.args.channel c.in_err-packet.field-0.0 (outcome s.circuit (l.circuits c.args.channel) (plain_request c.args.request))
-      (c.in_err-packet.ensures.outcome s l (c.reserve_packets.ensures.fits s l fits)) c.from_residual.ensures.1;
+      (c.in_err-packet.ensures.outcome s l fits) c.from_residual.ensures.1;
   link = λ s l x fits link.
       declined_link c.from_residual.result (g.L.OrderedLink.fits c.args.link.now) g.L.OrderedLink.after_put x s _ c.ask_circuit.new.self l c.args.channel c.in_err-packet.field-0.0 (outcome s.circuit (l.circuits c.args.channel) (plain_request c.args.request))
-      (c.in_err-packet.ensures.outcome s l (c.reserve_packets.ensures.fits s l fits)) c.from_residual.ensures.1;
-  layer_stays = λ s l fits. on_err c.from_residual.result (c.in_err-packet.ensures.fits s l (c.reserve_packets.ensures.fits s l fits));
+      (c.in_err-packet.ensures.outcome s l fits) c.from_residual.ensures.1;
+  layer_stays = λ s l fits. on_err c.from_residual.result (c.in_err-packet.ensures.fits s l fits);
   link_stays = search rules;
   longest = search rules;
   missing = λ is.
-      may_copy (is_message (plain_request c.args.request)) 16 c.args.self.now (g.L.OrderedLink.promised c.args.link.now)
+      may_copy (is_message (plain_request c.args.request)) 16 (g.L.OrderedLink.promised c.args.link.now)
       (c.in_err-packet.ensures.missing (ap (λ (e : LayerError). Err e) (same_err c.from_residual.result c.in_err-packet.field-0.0 error.NoMemory c.from_residual.ensures.1 is)));
-  most_memory = search rules;
-  used = λ s l x fits link. uses_none c.from_residual.result c.args.self.now.memory _ _ _ c.from_residual.ensures.1;
-  memory_stays =
-      let same = c.ask_circuit.ensures.memory in
-      let more = c.reserve_packets.ensures.no_fewer in
-      on_err c.from_residual.result (omega (arith, same, more));
-  room = λ h len have. c.ask_circuit.ensures.room h len (subst (λ (v : code.Layer). HasRoomOn h len v.circuits.items) (sym c.reserve_packets.ensures.layer) have);
+  room = λ h len have. c.ask_circuit.ensures.room h len have;
 }
 
 pub returns : goal.returns
@@ -62,32 +50,19 @@ returns g c = record {
   layer = λ s l x fits link.
       let view : LinkView = view_of g.L.OrderedLink.up_in g.L.OrderedLink.waits_in g.L.OrderedLink.after_put x in
       let o : Outcome = outcome s.circuit (l.circuits c.args.channel) (plain_request c.args.request) in
-      let a : IsAccepted s c.ask_circuit.new.self l c.args.channel c.in_ok-packet.packet o = is_accepted s c.ask_circuit.new.self l c.args.channel c.in_ok-packet.packet o (sym fits.restarting ∙ c.requires.ready) (c.in_ok-packet.ensures.outcome s l (c.reserve_packets.ensures.fits s l fits)) in
+      let a : IsAccepted s c.ask_circuit.new.self l c.args.channel c.in_ok-packet.packet o = is_accepted s c.ask_circuit.new.self l c.args.channel c.in_ok-packet.packet o (sym fits.restarting ∙ c.requires.ready) (c.in_ok-packet.ensures.outcome s l fits) in
       subst (λ (r : Answered). LayerGives s c.pull_all.new.self (Ok tt) r) (sym (ap (went view s) a.accepted))
-      (c.pull_all.ensures.layer s (begin a.next (packet_on c.args.channel (plain_sent c.in_ok-packet.packet))) x (c.put_sent.ensures.fits s a.next a.fits) (c.put_sent.ensures.link x link));
+      (c.pull_all.ensures.layer s (begin a.next (packet_on c.args.channel (plain_sent c.in_ok-packet.packet))) x (fits_as c.put_sent.ensures.layer a.fits) (c.put_sent.ensures.link x link));
   link = λ s l x fits link.
       let view : LinkView = view_of g.L.OrderedLink.up_in g.L.OrderedLink.waits_in g.L.OrderedLink.after_put x in
       let o : Outcome = outcome s.circuit (l.circuits c.args.channel) (plain_request c.args.request) in
-      let a : IsAccepted s c.ask_circuit.new.self l c.args.channel c.in_ok-packet.packet o = is_accepted s c.ask_circuit.new.self l c.args.channel c.in_ok-packet.packet o (sym fits.restarting ∙ c.requires.ready) (c.in_ok-packet.ensures.outcome s l (c.reserve_packets.ensures.fits s l fits)) in
+      let a : IsAccepted s c.ask_circuit.new.self l c.args.channel c.in_ok-packet.packet o = is_accepted s c.ask_circuit.new.self l c.args.channel c.in_ok-packet.packet o (sym fits.restarting ∙ c.requires.ready) (c.in_ok-packet.ensures.outcome s l fits) in
       subst (λ (r : Answered). LinkGives (g.L.OrderedLink.fits c.pull_all.new.link) g.L.OrderedLink.after_put x (Ok tt) r) (sym (ap (went view s) a.accepted))
-      (c.pull_all.ensures.link s (begin a.next (packet_on c.args.channel (plain_sent c.in_ok-packet.packet))) x (c.put_sent.ensures.fits s a.next a.fits) (c.put_sent.ensures.link x link));
+      (c.pull_all.ensures.link s (begin a.next (packet_on c.args.channel (plain_sent c.in_ok-packet.packet))) x (fits_as c.put_sent.ensures.layer a.fits) (c.put_sent.ensures.link x link));
   layer_stays = search rules;
   link_stays = search rules;
   longest = search rules;
   missing = search rules;
-  most_memory = search rules;
-  used = λ s l x fits link.
-      let view : LinkView = view_of g.L.OrderedLink.up_in g.L.OrderedLink.waits_in g.L.OrderedLink.after_put x in
-      let o : Outcome = outcome s.circuit (l.circuits c.args.channel) (plain_request c.args.request) in
-      let a : IsAccepted s c.ask_circuit.new.self l c.args.channel c.in_ok-packet.packet o = is_accepted s c.ask_circuit.new.self l c.args.channel c.in_ok-packet.packet o (sym fits.restarting ∙ c.requires.ready) (c.in_ok-packet.ensures.outcome s l (c.reserve_packets.ensures.fits s l fits)) in
-      let pulled = c.pull_all.ensures.used s (begin a.next (packet_on c.args.channel (plain_sent c.in_ok-packet.packet))) x (c.put_sent.ensures.fits s a.next a.fits) (c.put_sent.ensures.link x link) in
-      let put = c.put_sent.ensures.used in
-      let same = c.ask_circuit.ensures.memory in
-      let more = c.reserve_packets.ensures.no_fewer in
-      let most = c.reserve_packets.ensures.most_memory in
-      subst (λ (r : Answered). UsesMemory {T = Unit {0}} c.args.self.now.memory c.pull_all.new.self.memory (Ok tt) r) (sym (ap (went view s) a.accepted))
-      (λ aside. omega (arith, aside, pulled, put, same, more, most));
-  memory_stays = search rules;
-  room = λ h len have. c.pull_all.ensures.room h len (subst (λ v. HasRoomOn h len v.items) (sym c.put_sent.ensures.circuits)
-      (c.ask_circuit.ensures.room h len (subst (λ (v : code.Layer). HasRoomOn h len v.circuits.items) (sym c.reserve_packets.ensures.layer) have)));
+  room = λ h len have. c.pull_all.ensures.room h len (subst (λ (v : code.Layer). HasRoomOn h len v.circuits.items) (sym c.put_sent.ensures.layer)
+      (c.ask_circuit.ensures.room h len have));
 }

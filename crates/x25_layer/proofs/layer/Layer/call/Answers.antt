@@ -2,7 +2,7 @@ use Rattle.std.proofs.Common.{rules, ◌≡◌, ℕ, ◌∙◌, Err, sym, subst,
 use Rattle.std.proofs.lemmas.Result.{err_from_is_err_and}
 use Rattle.x25_layer.specs.code.OverLink.{view_of, LayerGives, LinkGives}
 use Rattle.x25_layer.specs.Rounds.{Answered, LinkView}
-use Rattle.x25_layer.proofs.CallLemmas.{dial_goes, dial_err_layer, dial_err_link, refuses_all, uses_none}
+use Rattle.x25_layer.proofs.CallLemmas.{dial_goes, dial_err_layer, dial_err_link, refuses_all}
 use Rattle.x25_layer.proofs.layer.Layer.call.Goals as goal
 
 pub returns-in_err-channel-clause-does : goal.returns-in_err-channel-clause-does
@@ -46,8 +46,5 @@ returns-in_err-ask_ready-clause-does g c = record {
   link_stays = search rules;
   longest = search rules;
   missing = search rules;
-  most_memory = search rules;
-  used = λ s l x fits link. uses_none c.from_residual-in_err-ask_ready.result c.args.self.now.memory _ _ _ c.from_residual-in_err-ask_ready.ensures.1;
-  memory_stays = search rules;
   room = search rules;
 }

@@ -15,7 +15,7 @@ returns-clause-layer c = λ s l fits. record {
 }
 
 pub returns-clause-room : goal.returns-clause-room
-returns-clause-room c = λ h len has. record { memory = has.memory; circuits = c.forget_all.ensures.room h len has.circuits }
+returns-clause-room c = c.forget_all.ensures.room
 
 pub invariant_of-self-clause-still : goal.invariant_of-self-clause-still
 invariant_of-self-clause-still c = subst (λ (vs : List circuit_code.Circuit). IdleBeside c.note_all.new.self.channels.items vs) c.deref.ensures.value c.note_all.ensures.idle

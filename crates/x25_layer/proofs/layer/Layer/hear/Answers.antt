@@ -1,4 +1,4 @@
-use Rattle.std.proofs.Common.{rules, ℕ, ◌≡◌, ◌+◌, ◌<◌, ◌∙◌, All, length, option_to_list, IfOk, sym, ap, subst, arith}
+use Rattle.std.proofs.Common.{rules, ℕ, ◌≡◌, ◌<◌, ◌∙◌, All, option_to_list, IfOk, sym, ap, subst, arith}
 use Rattle.std.proofs.lemmas.List.Elements.{All-from_get_or}
 use Rattle.x25_packet.specs.Packet.{plain}
 use Rattle.x25_packet.specs.Spelling.{HasChannel, longest_user}
@@ -25,9 +25,7 @@ returns-in_default-clause-hears g c =
       told = λ s l fits. ap (λ (a : LayerAnswer). a.notices) (none s l);
       nothing = search rules;
       takes = search rules;
-      memory = search rules;
-      used = λ s l fits. subst (λ (a : LayerAnswer). c.args.self.now.memory + length (option_to_list a.owed) ≡ c.args.self.now.memory) (none s l) (omega arith);
-      room = search rules;
+      room = λ s l fits owed h len have. have;
     }
 
 -- ---- a packet of a channel, or octets that spell none

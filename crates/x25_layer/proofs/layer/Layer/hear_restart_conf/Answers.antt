@@ -1,4 +1,4 @@
-use Rattle.std.proofs.Common.{rules, ◌≡◌, ◌+◌, ◌∙◌, Bool, length, option_to_list, sym, subst, arith}
+use Rattle.std.proofs.Common.{rules, ◌∙◌, Bool, sym, subst}
 use Rattle.x25_packet.specs.Packet.{restart_conf}
 use Rattle.x25_layer.specs.Layer.{answers_in}
 use Rattle.x25_layer.specs.code.FitsLayer.{FitsLayer}
@@ -13,11 +13,7 @@ returns-then-self-clause-hears g c = record {
   told = search rules;
   nothing = search rules;
   takes = search rules;
-  memory = search rules;
-  used = λ s l fits.
-      subst (λ (b : Bool). c.restart_is_done.new.self.memory + length (option_to_list (answers_in s b l.restarts l.circuits restart_conf).owed) ≡ c.args.self.now.memory) (sym (sym fits.restarting ∙ c.if-self.true))
-      (let same = c.restart_is_done.ensures.memory in omega (arith, same));
-  room = λ h len have still. c.restart_is_done.ensures.room h len have;
+  room = λ s l fits none h len have. c.restart_is_done.ensures.room h len have;
 }
 
 pub returns-clause-hears : goal.returns-clause-hears
@@ -29,9 +25,5 @@ returns-clause-hears g c = record {
   told = search rules;
   nothing = search rules;
   takes = search rules;
-  memory = search rules;
-  used = λ s l fits.
-      subst (λ (b : Bool). c.send_restart.new.self.memory + length (option_to_list (answers_in s b l.restarts l.circuits restart_conf).owed) ≡ c.args.self.now.memory) (sym (sym fits.restarting ∙ c.if-self.false))
-      (let one = c.send_restart.ensures.memory in omega (arith, one));
-  room = search rules;
+  room = λ s l fits none h len have. c.send_restart.ensures.room h len have;
 }

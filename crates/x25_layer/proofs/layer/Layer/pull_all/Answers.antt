@@ -1,4 +1,4 @@
-use Rattle.std.proofs.Common.{◌≡◌, ◌∙◌, ℕ, ◌+◌, length, refl, sym, ap, subst, arith}
+use Rattle.std.proofs.Common.{◌≡◌, ◌∙◌, sym, ap, subst, arith}
 use Rattle.x25_layer.specs.Layer.{LayerSettings}
 use Rattle.x25_layer.specs.code.FitsLayer.{FitsLayer, FitsCircuits}
 use Rattle.x25_layer.specs.code.OverLink.{view_of, after_all}
@@ -20,13 +20,13 @@ loop-preserved g c =
       restarts = now.restarts;
       room = λ h len have. c.round.ensures.room h len (now.room h len have);
       takes = takes_then g.L.OrderedLink _ _ _ _ _ _ now.takes c.round.ensures.takes;
-      stands = λ s x p total before.
+      stands = λ s x p before.
           let view : LinkView = view_of g.L.OrderedLink.up_in g.L.OrderedLink.waits_in g.L.OrderedLink.after_put x in
-          let found = now.stands s x p total before in
+          let found = now.stands s x p before in
           let t : Putting = found.0 in (
             round view s s.channels.count t,
             keeps_then p t (round view s s.channels.count t) found.1 (round_keeps view s s.channels.count t),
-            c.round.ensures.stands s x t total found.2,
+            c.round.ensures.stands s x t found.2,
             rounds_behind view s t ∙ found.3,
           );
     }
@@ -35,7 +35,7 @@ loop-preserved g c =
 record Ended (g : given.Over) (c : goal.After-loop g) (s : LayerSettings) (x : g.L.OrderedLink.State) (p : Putting) : Type 0 where
   step : Putting
   keeps : KeepsRestarts p step
-  stands : Stands (g.L.OrderedLink.fits c.round.new.link) g.L.OrderedLink.lists g.L.OrderedLink.after_put s c.round.new.circuits.items c.round.new.memory (g.L.OrderedLink.promised c.round.new.link) (c.args.self.now.memory + length p.put) x step
+  stands : Stands (g.L.OrderedLink.fits c.round.new.link) g.L.OrderedLink.lists g.L.OrderedLink.after_put s c.round.new.circuits.items c.round.new.left (g.L.OrderedLink.promised c.round.new.link) x step
   end : rounds (view_of g.L.OrderedLink.up_in g.L.OrderedLink.waits_in g.L.OrderedLink.after_put x) s p ≡ step
 
 ended : (g : given.Over) (c : goal.After-loop g) (s : LayerSettings) (x : g.L.OrderedLink.State) (p : Putting) → FitsLayer s c.args.self.now p.layer → g.L.OrderedLink.fits c.args.link.now (after_all g.L.OrderedLink.after_put x p.put) → Ended g c s x p
@@ -43,24 +43,21 @@ ended g c s x p fits link =
     let view : LinkView = view_of g.L.OrderedLink.up_in g.L.OrderedLink.waits_in g.L.OrderedLink.after_put x in
     let y : g.L.OrderedLink.State = after_all g.L.OrderedLink.after_put x p.put in
     let begins = g.met.L.OrderedLink.begins c.args.link.now y link in
-    let here = c.requires.memory in
     let there = c.requires.promised in
-    let total : ℕ = c.args.self.now.memory + length p.put in
-    let found = c.loop.invariant.stands s x p total (record {
+    let found = c.loop.invariant.stands s x p (record {
       channels = fits.channels;
       circuits = fits.circuits;
       link = link;
-      memory = (let e : IsEnough (g.L.OrderedLink.lists y) c.args.self.now.memory = omega (arith, begins, here) in e);
+      left = (let e : IsEnough (g.L.OrderedLink.lists y) 15 = omega (arith, begins) in e);
       promised = (let e : IsEnough (g.L.OrderedLink.lists y) (g.L.OrderedLink.promised c.args.link.now) = omega (arith, begins, there) in e);
-      sum = refl;
     }) in
     let t : Putting = found.0 in
-    let none = c.round.ensures.none s x t total found.2 c.loop-test.false in
+    let none = c.round.ensures.none s x t found.2 c.loop-test.false in
     record {
       step = t;
       keeps = found.1;
-      stands = subst (λ (u : Putting). Stands (g.L.OrderedLink.fits c.round.new.link) g.L.OrderedLink.lists g.L.OrderedLink.after_put s c.round.new.circuits.items c.round.new.memory (g.L.OrderedLink.promised c.round.new.link) total x u) none
-          (c.round.ensures.stands s x t total found.2);
+      stands = subst (λ (u : Putting). Stands (g.L.OrderedLink.fits c.round.new.link) g.L.OrderedLink.lists g.L.OrderedLink.after_put s c.round.new.circuits.items c.round.new.left (g.L.OrderedLink.promised c.round.new.link) x u) none
+          (c.round.ensures.stands s x t found.2);
       end = sym found.3 ∙ rounds_at_end view s t none;
     }
 
@@ -81,11 +78,6 @@ pub returns-clause-link : goal.returns-clause-link
 returns-clause-link g c = λ s p x fits link.
     let e = ended g c s x p fits link in
     subst (λ (u : Putting). g.L.OrderedLink.fits c.round.new.link (after_all g.L.OrderedLink.after_put x u.put)) (sym e.end) e.stands.link
-
-pub returns-clause-used : goal.returns-clause-used
-returns-clause-used g c = λ s p x fits link.
-    let e = ended g c s x p fits link in
-    subst (λ (u : Putting). c.round.new.memory + length u.put ≡ c.args.self.now.memory + length p.put) (sym e.end) e.stands.sum
 
 pub returns-clause-room : goal.returns-clause-room
 returns-clause-room g c = λ h len have. c.round.ensures.room h len (c.loop.invariant.room h len have)

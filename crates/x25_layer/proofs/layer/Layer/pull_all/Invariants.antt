@@ -1,8 +1,8 @@
 use Rattle.std.proofs.Common.{◌≡◌, ℕ}
 use Rattle.x25_layer.specs.Layer.{LayerSettings}
-use Rattle.x25_layer.specs.code.OverLink.{view_of, Takes}
+use Rattle.x25_layer.specs.code.OverLink.{view_of}
 use Rattle.x25_layer.specs.Rounds.{Putting, rounds}
-use Rattle.x25_layer.specs.code.Pulling.{Stands}
+use Rattle.x25_layer.specs.code.Pulling.{Takes, Stands}
 use Rattle.x25_layer.specs.Room.{HasRoomOn}
 use Rattle.x25_layer.proofs.PullLemmas.{KeepsRestarts}
 use Rattle.x25_layer.proofs.layer.Layer.pull_all.Given as goal
@@ -16,13 +16,13 @@ invariant-loop g l = record {
   restarting : l.self.restarting ≡ l.initial.self.restarting;
   restarts : l.self.restarts ≡ l.initial.self.restarts;
   room : (h len : ℕ) → HasRoomOn h len l.initial.self.circuits.items → HasRoomOn h len l.self.circuits.items;
-  takes : Takes g.L.OrderedLink l.initial.self.memory l.initial.link l.self.memory l.link;
-  stands : (c : LayerSettings) (x : g.L.OrderedLink.State) (s : Putting) (total : ℕ)
-      → Stands (g.L.OrderedLink.fits l.initial.link) g.L.OrderedLink.lists g.L.OrderedLink.after_put c l.initial.self.circuits.items l.initial.self.memory (g.L.OrderedLink.promised l.initial.link) total x s
+  takes : Takes g.L.OrderedLink 15 l.initial.link l.left l.link;
+  stands : (c : LayerSettings) (x : g.L.OrderedLink.State) (s : Putting)
+      → Stands (g.L.OrderedLink.fits l.initial.link) g.L.OrderedLink.lists g.L.OrderedLink.after_put c l.initial.self.circuits.items 15 (g.L.OrderedLink.promised l.initial.link) x s
       → (t : Putting) × KeepsRestarts s t
-      × Stands (g.L.OrderedLink.fits l.link) g.L.OrderedLink.lists g.L.OrderedLink.after_put c l.self.circuits.items l.self.memory (g.L.OrderedLink.promised l.link) total x t
+      × Stands (g.L.OrderedLink.fits l.link) g.L.OrderedLink.lists g.L.OrderedLink.after_put c l.self.circuits.items l.left (g.L.OrderedLink.promised l.link) x t
       × (rounds (view_of g.L.OrderedLink.up_in g.L.OrderedLink.waits_in g.L.OrderedLink.after_put x) c t ≡ rounds (view_of g.L.OrderedLink.up_in g.L.OrderedLink.waits_in g.L.OrderedLink.after_put x) c s);
 }
 
 abbrev pub decreases-loop : goal.decreases-loop
-decreases-loop g l = l.self.memory
+decreases-loop g l = l.left

@@ -13,11 +13,8 @@ returns-clause-layer c = λ s l fits. record {
   circuits = c.reserve_on.ensures.fits s l.circuits fits.circuits;
 }
 
+pub invariant_of-self-clause-still : goal.invariant_of-self-clause-still
+invariant_of-self-clause-still c = c.reserve_on.ensures.still c.args.self.now.still
+
 pub invariant_of-self-clause-circuits_left : goal.invariant_of-self-clause-circuits_left
-invariant_of-self-clause-circuits_left c = λ is. (c.full.ensures.left (not_true _ is)).circuits
-
-pub invariant_of-self-2-clause-still : goal.invariant_of-self-2-clause-still
-invariant_of-self-2-clause-still c = c.reserve_on.ensures.still c.args.self.now.still
-
-pub invariant_of-self-2-clause-circuits_left : goal.invariant_of-self-2-clause-circuits_left
-invariant_of-self-2-clause-circuits_left c = λ is. c.reserve_on.ensures.left (c.full.ensures.left (not_true _ is)).circuits
+invariant_of-self-clause-circuits_left c = λ is. c.reserve_on.ensures.left (c.full.ensures.left (not_true _ is)).circuits

@@ -1,29 +1,12 @@
 use Rattle.std.proofs.Common.{rules, ◌≡◌, ◌∙◌, Ok, sym, subst, true, false, arith}
-use Rattle.x25_layer.specs.code.OverLink.{view_of, LayerGives, LinkGives, UsesMemory}
+use Rattle.x25_layer.specs.code.OverLink.{view_of, LayerGives, LinkGives}
 use Rattle.x25_layer.specs.Rounds.{Answered, LinkView}
-use Rattle.x25_layer.specs.Room.{HasRoomOn}
-use Rattle.x25_layer.specs.declared.layer.Layer as code
-use Rattle.x25_layer.proofs.FitLemmas.{on_err}
 use Rattle.x25_bits.specs.declared.role.Role.{Role}
 use Rattle.x25_circuit.specs.Cause.{may_restart_for}
 use Rattle.x25_layer.specs.Calls.{Restarts}
-use Rattle.x25_layer.proofs.CallLemmas.{refuses_all, uses_none}
+use Rattle.x25_layer.proofs.CallLemmas.{refuses_all}
 use Rattle.x25_layer.proofs.SettleLemmas.{restart_goes}
 use Rattle.x25_layer.proofs.layer.Layer.restart.Goals as goal
-
-pub returns-in_err-reserve_packets : goal.returns-in_err-reserve_packets
-returns-in_err-reserve_packets g c = record {
-  layer = search rules;
-  link = search rules;
-  layer_stays = λ s l fits. on_err c.from_residual.result (c.reserve_packets.ensures.fits s l fits);
-  link_stays = search rules;
-  longest = search rules;
-  missing = search rules;
-  most_memory = search rules;
-  used = λ s l x fits link. uses_none c.from_residual.result c.args.self.now.memory _ _ _ c.from_residual.ensures.1;
-  memory_stays = search rules;
-  room = search rules;
-}
 
 pub returns-in-Some : goal.returns-in-Some
 returns-in-Some g c = refuses_all _ g.L.OrderedLink c.args.self.now c.args.link.now c.in-Some.error 1 _ _ c.in-Some.ensures.kinds
@@ -32,7 +15,6 @@ returns-in-Some g c = refuses_all _ g.L.OrderedLink c.args.self.now c.args.link.
 pub returns : goal.returns
 returns g c = record {
   layer = λ s l x fits link.
-      let before = c.reserve_packets.ensures.fits s l fits in
       let view : LinkView = view_of g.L.OrderedLink.up_in g.L.OrderedLink.waits_in g.L.OrderedLink.after_put x in
       let up_law = g.met.L.OrderedLink.up_is c.args.link.now x link in
       let waits_law = g.met.L.OrderedLink.waits_are c.args.link.now x link in
@@ -42,7 +24,7 @@ returns g c = record {
       let free : g.L.OrderedLink.waits_in x ≡ 256 → ⊥ = λ full. grind (arith, full, waits_law, c.waiting.ensures.value, c.if-waiting-eq256.false) in
       let given : may_restart_for s.circuit.role c.args.cause ≡ true = subst (λ (r : Role). may_restart_for r c.args.cause ≡ true) fits.role (sym c.may_restart_for.ensures ∙ c.if-not-may_restart_for.false) in
       subst (λ (a : Answered). LayerGives s c.send_restart.new.self (Ok tt) a) (sym (restart_goes view s l c.args.cause c.args.diagnostic up at_l free given))
-      (c.send_restart.ensures.layer s l before);
+      (c.send_restart.ensures.layer s l fits);
   link = λ s l x fits link.
       let view : LinkView = view_of g.L.OrderedLink.up_in g.L.OrderedLink.waits_in g.L.OrderedLink.after_put x in
       let up_law = g.met.L.OrderedLink.up_is c.args.link.now x link in
@@ -58,21 +40,5 @@ returns g c = record {
   link_stays = search rules;
   longest = search rules;
   missing = search rules;
-  most_memory = search rules;
-  used = λ s l x fits link.
-      let view : LinkView = view_of g.L.OrderedLink.up_in g.L.OrderedLink.waits_in g.L.OrderedLink.after_put x in
-      let up_law = g.met.L.OrderedLink.up_is c.args.link.now x link in
-      let waits_law = g.met.L.OrderedLink.waits_are c.args.link.now x link in
-      let is_up = c.in_default.ensures.up in
-      let up : g.L.OrderedLink.up_in x ≡ true = search rules in
-      let at_l : l.restarting ≡ false = sym fits.restarting ∙ c.in_default.ensures.ready in
-      let free : g.L.OrderedLink.waits_in x ≡ 256 → ⊥ = λ full. grind (arith, full, waits_law, c.waiting.ensures.value, c.if-waiting-eq256.false) in
-      let given : may_restart_for s.circuit.role c.args.cause ≡ true = subst (λ (r : Role). may_restart_for r c.args.cause ≡ true) fits.role (sym c.may_restart_for.ensures ∙ c.if-not-may_restart_for.false) in
-      let one = c.send_restart.ensures.memory in
-      let more = c.reserve_packets.ensures.no_fewer in
-      let most = c.reserve_packets.ensures.most_memory in
-      subst (λ (a : Answered). UsesMemory {T = Unit {0}} c.args.self.now.memory c.send_restart.new.self.memory (Ok tt) a) (sym (restart_goes view s l c.args.cause c.args.diagnostic up at_l free given))
-      (λ aside. omega (arith, aside, one, more, most));
-  memory_stays = search rules;
-  room = λ h len have. c.send_restart.ensures.room h len (subst (λ (v : code.Layer). HasRoomOn h len v.circuits.items) (sym c.reserve_packets.ensures.layer) have);
+  room = λ h len have. c.send_restart.ensures.room h len have;
 }

@@ -1,12 +1,13 @@
 use Rattle.std.proofs.Common.{◌∙◌, refl, sym, subst, List}
 use Rattle.x25_layer.specs.declared.layer.Layer as code
+use Rattle.x25_layer.proofs.FitLemmas.{fits_as}
 use Rattle.x25_layer.specs.Room.{HasRoomOn}
 use Rattle.x25_circuit.specs.declared.circuit.Circuit as circuit_code
 use Rattle.x25_layer.specs.code.Idle.{IdleBeside}
 use Rattle.x25_layer.proofs.layer.Layer.send_restart.Goals as goal
 
 pub returns-clause-layer : goal.returns-clause-layer
-returns-clause-layer g c = λ s l fits. c.put.ensures.fits s _ (record {
+returns-clause-layer g c = λ s l fits. fits_as c.put.ensures.layer (record {
   role = fits.role;
   long_data = fits.long_data;
   ranges = fits.ranges;

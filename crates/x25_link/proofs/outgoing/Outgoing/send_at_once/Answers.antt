@@ -1,46 +1,64 @@
-use Rattle.std.proofs.Common.{ℕ, List, [], ◌∷◌, ◌++◌, sym, ap, ◌∙◌, arith}
+use Rattle.std.proofs.Common.{◌≤◌, length, subst, ℕ, List, [], ◌∷◌, ◌++◌, sym, ap, ◌∙◌, arith}
 use Rattle.x25_frame.specs.Frame.{PlainFrame}
 use Rattle.x25_frame.specs.Spelling.{spelling_of}
 use Rattle.x25_link.specs.Outgoing.{added}
 use Rattle.x25_link.specs.code.OutgoingHeld.{sending_of}
-use Rattle.x25_link.proofs.OutgoingLemmas.{added_fits, full_shut, rests, next_is, new_fits, sent_length, new_frame, next_open, below_of}
+use Rattle.x25_link.proofs.OutgoingLemmas.{parts, part_length, added_fits, full_shut, rests, next_is, new_fits, sent_length, new_frame, next_open, below_of}
+use Rattle.x25_window.specs.code.Held.{Held}
+use Rattle.x25_link.proofs.PlaceLemmas.{more_short, more_long, sent_short, sent_long}
 use Rattle.x25_link.proofs.EndLemmas.{full_closed}
 use Rattle.x25_link.proofs.outgoing.Outgoing.send_at_once.Goals as goal
 
 pub returns-then-is_full-clause-sent : goal.returns-then-is_full-clause-sent
 returns-then-is_full-clause-sent c = λ k o fits shut.
     let full = (c.is_full.ensures.state (sending_of k o) fits.sender).0 c.if-is_full.true in
-    sym (full_closed k (added c.args.packet o) (full_shut k _ o fits shut full))
+    sym (full_closed k (added c.args.packet.now o) (full_shut k _ _ o (parts k _ o fits) shut full))
 
 pub returns-then-is_full-clause-step : goal.returns-then-is_full-clause-step
 returns-then-is_full-clause-step c = λ k o fits shut.
-    let more = added_fits k _ o c.args.packet fits c.requires.few in
-    record { sender = more.sender; queue = c.push.ensures ∙ more.queue; sent = more.sent; few = rw (c.push.ensures) (more.few) }
+    let more = added_fits k _ _ o c.args.packet.now _ c.take-packet.ensures.packet (parts k _ o fits) c.requires.few in
+    record { sender = more.sender; queue = c.push.ensures ∙ more.queue; sent = more.sent; few = subst (λ (m : List (List ℕ)). length m ≤ 256) (sym c.push.ensures) more.few }
 
 pub returns-clause-sent : goal.returns-clause-sent
 returns-clause-sent c = λ k o fits shut.
     let free = below_of _ _ fits.sender.sound.room (λ e. sym c.if-is_full.false ∙ (c.is_full.ensures.state (sending_of k o) fits.sender).1 e) in
-    let left = rests k _ o fits shut free in
-    let more = added_fits k _ o c.args.packet fits c.requires.few in
-    let next = next_is k _ (added c.args.packet o) c.args.packet [] more (ap (λ (q : List (List ℕ)). q ++ c.args.packet ∷ []) left.none) in
-    sym (next_open k _ (added c.args.packet o) _ _ more left.place next left.room)
+    let left = rests k _ _ o (parts k _ o fits) shut free in
+    let more = added_fits k _ _ o c.args.packet.now _ c.take-packet.ensures.packet (parts k _ o fits) c.requires.few in
+    let next = next_is k _ _ (added c.args.packet.now o) c.take-packet.result [] more (ap (λ (m : List (List ℕ)). m ++ c.take-packet.result ∷ []) left.none) in
+    sym (next_open k _ _ (added c.args.packet.now o) _ _ more left.place next left.room)
 
 pub returns-clause-step : goal.returns-clause-step
 returns-clause-step c = λ k o fits shut.
     let free = below_of _ _ fits.sender.sound.room (λ e. sym c.if-is_full.false ∙ (c.is_full.ensures.state (sending_of k o) fits.sender).1 e) in
-    let left = rests k _ o fits shut free in
-    let more = added_fits k _ o c.args.packet fits c.requires.few in
-    let next = next_is k _ (added c.args.packet o) c.args.packet [] more (ap (λ (q : List (List ℕ)). q ++ c.args.packet ∷ []) left.none) in
+    let left = rests k _ _ o (parts k _ o fits) shut free in
+    let more = added_fits k _ _ o c.args.packet.now _ c.take-packet.ensures.packet (parts k _ o fits) c.requires.few in
+    let next = next_is k _ _ (added c.args.packet.now o) c.take-packet.result [] more (ap (λ (m : List (List ℕ)). m ++ c.take-packet.result ∷ []) left.none) in
     let l = sent_length k _ o fits in
-    let room = sent_length k _ (added c.args.packet o) more in
-    let all = new_fits k _ _ (added c.args.packet o) _ _ more left.place next (omega arith) (c.send_new.ensures.step (sending_of k (added c.args.packet o)) more.sender (omega (arith, l, room, free))) in
+    let room = part_length k _ _ (added c.args.packet.now o) more in
+    let all = new_fits k _ _ _ (added c.args.packet.now o) _ _ more left.place next (omega arith) (c.send_new.ensures.step (sending_of k (added c.args.packet.now o)) more.sender (omega (arith, l, room, free))) in
     record { sender = all.sender; queue = left.none ∙ all.queue; sent = all.sent; few = fits.few }
 
 pub returns-clause-made : goal.returns-clause-made
 returns-clause-made c = λ k o fits shut.
     let free = below_of _ _ fits.sender.sound.room (λ e. sym c.if-is_full.false ∙ (c.is_full.ensures.state (sending_of k o) fits.sender).1 e) in
-    let left = rests k _ o fits shut free in
-    let more = added_fits k _ o c.args.packet fits c.requires.few in
-    let next = next_is k _ (added c.args.packet o) c.args.packet [] more (ap (λ (q : List (List ℕ)). q ++ c.args.packet ∷ []) left.none) in
-    c.send_new.ensures.made (sending_of k (added c.args.packet o)) more.sender
-    ∙ ap (λ (f : PlainFrame). c.args.out.now ++ spelling_of c.args.from f ∷ []) (new_frame k _ (added c.args.packet o) _ _ _ more left.place next)
+    let left = rests k _ _ o (parts k _ o fits) shut free in
+    let more = added_fits k _ _ o c.args.packet.now _ c.take-packet.ensures.packet (parts k _ o fits) c.requires.few in
+    let next = next_is k _ _ (added c.args.packet.now o) c.take-packet.result [] more (ap (λ (m : List (List ℕ)). m ++ c.take-packet.result ∷ []) left.none) in
+    c.send_new.ensures.made (sending_of k (added c.args.packet.now o)) more.sender
+    ∙ ap (λ (f : PlainFrame). c.args.out.now ++ spelling_of c.args.from f ∷ []) (new_frame k _ _ (added c.args.packet.now o) _ _ _ more left.place next)
+
+pub invariant_of-self-clause-short : goal.invariant_of-self-clause-short
+invariant_of-self-clause-short c =
+    more_short _ _ _ _ c.args.self.now.queue _ _ _ c.push.ensures c.take-packet.ensures.packet c.take-packet.ensures.short c.args.self.now.short
+
+pub invariant_of-self-clause-long : goal.invariant_of-self-clause-long
+invariant_of-self-clause-long c =
+    more_long _ _ _ _ _ c.args.self.now.queue _ _ _ c.push.ensures c.take-packet.ensures.packet c.take-packet.ensures.long c.take-packet.ensures.long_ones c.args.self.now.long
+
+pub invariant_of-self-2-clause-short : goal.invariant_of-self-2-clause-short
+invariant_of-self-2-clause-short c =
+    sent_short _ _ _ _ c.args.self.now.sender.items _ _ _ (ap (λ (h : Held (List ℕ)). h.items) c.send_new.ensures.held) c.take-packet.ensures.packet c.take-packet.ensures.short c.args.self.now.short
+
+pub invariant_of-self-2-clause-long : goal.invariant_of-self-2-clause-long
+invariant_of-self-2-clause-long c =
+    sent_long _ _ _ _ _ c.args.self.now.sender.items _ _ _ (ap (λ (h : Held (List ℕ)). h.items) c.send_new.ensures.held) c.take-packet.ensures.packet c.take-packet.ensures.long c.take-packet.ensures.long_ones c.args.self.now.long

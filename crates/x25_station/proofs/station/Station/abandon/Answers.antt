@@ -25,11 +25,7 @@ invariant_of-self c = record {
             (ap (λ l. l.frames) c.swap_frames.ensures.link ∙ c.reserve.ensures.empty.frames)
             (c.steps_keep_bounds.ensures.receive c' s c.args.octets.now fits.kept),
       ));
-  aside =
-      let before = c.args.self.now.aside in
-      let low = before.packets in
-      let memory = c.note_down.ensures.memory in
-      record { packets = omega (arith, memory, low); texts = before.texts };
+  aside = c.args.self.now.aside;
 }
 
 pub returns-clause-does : goal.returns-clause-does

@@ -30,9 +30,6 @@ returns-then-not-takes-clause-does c =
 pub returns-in_default-new-clause-does : goal.returns-in_default-new-clause-does
 returns-in_default-new-clause-does c = wants_copy c.args.self.now _ _ (λ d s. gives d s (plain_given c.args.given.now) (Asks c.args.channel (plain_request c.args.request))) c.requires (λ d s fits. fits)
 
-pub returns-in_default-new-2-clause-does : goal.returns-in_default-new-2-clause-does
-returns-in_default-new-2-clause-does c = wants_copy c.args.self.now _ _ (λ d s. gives d s (plain_given c.args.given.now) (Asks c.args.channel (plain_request c.args.request))) c.requires (λ d s fits. fits)
-
 pub returns-in_err-reserve-clause-does : goal.returns-in_err-reserve-clause-does
 returns-in_err-reserve-clause-does c = hands_on c.args.self.now _ _ c.from_residual.result c.in_err-reserve.field-0.0 _ c.from_residual.ensures.1 c.in_err-reserve.ensures.refused c.reserve.ensures.empty (λ c' s fits. fits)
 
@@ -51,24 +48,16 @@ invariant_of-self-in-Ok-ask_through c =
     let takes : TakesIt c.args.self.now.manner g request = sym (c.takes.ensures ∙ ap (λ (b : Bool). c.args.self.now.manner.wide && (may_give g && b)) (c.suits.ensures c.args.channel)) ∙ c.if-not-takes.false in
     record {
       meant = meant_given h g c.args.self.now.link c.ask_through.new.link c.swap_frames.new.self c.args.self.now.layer c.ask_through.new.layer r request c.args.self.now.meant
-          (layers_as (Ok h) _ _ _ _ _ request c.in-Ok-new.ensures c.in-Ok-ask_through.ensures.layer) (links_as (Ok h) _ _ _ _ _ request c.in-Ok-new.ensures c.in-Ok-ask_through.ensures.link)
+          (layers_as (Ok h) _ _ _ _ _ request c.in-Ok.ensures c.in-Ok-ask_through.ensures.layer) (links_as (Ok h) _ _ _ _ _ request c.in-Ok.ensures c.in-Ok-ask_through.ensures.link)
           (ap (λ l. l.station) c.swap_frames.ensures.link) (ap (λ l. l.frames) c.swap_frames.ensures.link ∙ c.reserve.ensures.empty.frames) c.swap_frames.ensures.frames c.steps_keep_bounds.ensures.given takes;
-      aside =
-          let before = c.args.self.now.aside in
-          let packets = c.in-Ok-ask_through.ensures.most_memory in
-          let low = before.packets in
-          record { packets = omega (arith, packets, low); texts = before.texts };
+      aside = c.args.self.now.aside;
     }
 
 pub invariant_of-self-in-Err-ask_through : goal.invariant_of-self-in-Err-ask_through
 invariant_of-self-in-Err-ask_through c = record {
   meant = still_meant _ _ _ _ c.args.self.now.meant (λ c' s fits.
       (c', s, still_fits c' c.args.self.now.link c.ask_through.new.link _ c.ask_through.new.layer s fits (c.in-Err.ensures.layer_stays (layer_settings c') s.layer fits.layer) c.in-Err.ensures.link_stays));
-  aside =
-      let before = c.args.self.now.aside in
-      let packets = c.in-Err.ensures.most_memory in
-      let low = before.packets in
-      record { packets = omega (arith, packets, low); texts = before.texts };
+  aside = c.args.self.now.aside;
 }
 
 pub returns-in-Ok-ask_through-clause-does : goal.returns-in-Ok-ask_through-clause-does
@@ -78,8 +67,8 @@ returns-in-Ok-ask_through-clause-does c =
     let h = c.in-Ok-ask_through.field-0 in
     let r : code_step.Step = record { frames = c.swap_frames.new.frames; entries = c.enter.new.entries; timer = c.reserve.new.self.timer } in
     let takes : TakesIt c.args.self.now.manner g request = sym (c.takes.ensures ∙ ap (λ (b : Bool). c.args.self.now.manner.wide && (may_give g && b)) (c.suits.ensures c.args.channel)) ∙ c.if-not-takes.false in
-    let layers = layers_as (Ok h) c.in-Ok-new.form g c.args.self.now.link c.args.self.now.layer c.ask_through.new.layer request c.in-Ok-new.ensures c.in-Ok-ask_through.ensures.layer in
-    did_given h c.args.self.now _ c.ask_through.new.link r g request layers (links_as (Ok h) _ _ _ _ _ request c.in-Ok-new.ensures c.in-Ok-ask_through.ensures.link)
+    let layers = layers_as (Ok h) c.in-Ok.form g c.args.self.now.link c.args.self.now.layer c.ask_through.new.layer request c.in-Ok.ensures c.in-Ok-ask_through.ensures.layer in
+    did_given h c.args.self.now _ c.ask_through.new.link r g request layers (links_as (Ok h) _ _ _ _ _ request c.in-Ok.ensures c.in-Ok-ask_through.ensures.link)
     (ap (λ l. l.station) c.swap_frames.ensures.link) (ap (λ l. l.frames) c.swap_frames.ensures.link ∙ c.reserve.ensures.empty.frames) c.swap_frames.ensures.frames
     c.steps_keep_bounds.ensures.given c.holds_few.ensures.window c.holds_few.ensures.stand takes
     (λ c' s fits.
@@ -95,5 +84,5 @@ returns-in-Err-clause-does c =
     let request = Asks c.args.channel (plain_request c.args.request) in
     let takes : TakesIt c.args.self.now.manner g request = sym (c.takes.ensures ∙ ap (λ (b : Bool). c.args.self.now.manner.wide && (may_give g && b)) (c.suits.ensures c.args.channel)) ∙ c.if-not-takes.false in
     declines_late _ c.in-Err.error _ c.args.self.now _ _ g request c.of_layer-in-Err.ensures
-    (layers_as (Err c.in-Err.error) c.in-Ok-new.form g c.args.self.now.link c.args.self.now.layer c.ask_through.new.layer request c.in-Ok-new.ensures c.in-Err.ensures.layer)
+    (layers_as (Err c.in-Err.error) c.in-Ok.form g c.args.self.now.link c.args.self.now.layer c.ask_through.new.layer request c.in-Ok.ensures c.in-Err.ensures.layer)
     takes c.in-Err.ensures.layer_stays c.in-Err.ensures.link_stays c.reserve.ensures.empty refl

@@ -43,24 +43,16 @@ invariant_of-self-in-Ok-call_through c =
     let takes : TakesIt c.args.self.now.manner g request = sym (c.takes.ensures ∙ ap (λ (b : Bool). c.args.self.now.manner.wide && (may_give g && b)) c.is_empty.ensures) ∙ c.if-not-takes.false in
     record {
       meant = meant_given h g c.args.self.now.link c.call_through.new.link c.swap_frames.new.self c.args.self.now.layer c.call_through.new.layer r request c.args.self.now.meant
-          (layers_as (Ok h) _ _ _ _ _ request c.in-Ok-new.ensures c.in-Ok-call_through.ensures.does.layer) (links_as (Ok h) _ _ _ _ _ request c.in-Ok-new.ensures c.in-Ok-call_through.ensures.does.link)
+          (layers_as (Ok h) _ _ _ _ _ request c.in-Ok.ensures c.in-Ok-call_through.ensures.does.layer) (links_as (Ok h) _ _ _ _ _ request c.in-Ok.ensures c.in-Ok-call_through.ensures.does.link)
           (ap (λ l. l.station) c.swap_frames.ensures.link) (ap (λ l. l.frames) c.swap_frames.ensures.link ∙ c.reserve.ensures.empty.frames) c.swap_frames.ensures.frames c.steps_keep_bounds.ensures.given takes;
-      aside =
-          let before = c.args.self.now.aside in
-          let packets = c.in-Ok-call_through.ensures.does.most_memory in
-          let low = before.packets in
-          record { packets = omega (arith, packets, low); texts = before.texts };
+      aside = c.args.self.now.aside;
     }
 
 pub invariant_of-self-in-Err-call_through : goal.invariant_of-self-in-Err-call_through
 invariant_of-self-in-Err-call_through c = record {
   meant = still_meant _ _ _ _ c.args.self.now.meant (λ c' s fits.
       (c', s, still_fits c' c.args.self.now.link c.call_through.new.link _ c.call_through.new.layer s fits (c.in-Err.ensures.does.layer_stays (layer_settings c') s.layer fits.layer) c.in-Err.ensures.does.link_stays));
-  aside =
-      let before = c.args.self.now.aside in
-      let packets = c.in-Err.ensures.does.most_memory in
-      let low = before.packets in
-      record { packets = omega (arith, packets, low); texts = before.texts };
+  aside = c.args.self.now.aside;
 }
 
 pub returns-in-Ok-call_through-clause-does : goal.returns-in-Ok-call_through-clause-does
@@ -70,8 +62,8 @@ returns-in-Ok-call_through-clause-does c =
     let h = c.in-Ok-call_through.channel in
     let r : code_step.Step = record { frames = c.swap_frames.new.frames; entries = c.enter.new.entries; timer = c.reserve.new.self.timer } in
     let takes : TakesIt c.args.self.now.manner g request = sym (c.takes.ensures ∙ ap (λ (b : Bool). c.args.self.now.manner.wide && (may_give g && b)) c.is_empty.ensures) ∙ c.if-not-takes.false in
-    let layers = layers_as (Ok h) c.in-Ok-new.form g c.args.self.now.link c.args.self.now.layer c.call_through.new.layer request c.in-Ok-new.ensures c.in-Ok-call_through.ensures.does.layer in
-    did_given h c.args.self.now _ c.call_through.new.link r g request layers (links_as (Ok h) _ _ _ _ _ request c.in-Ok-new.ensures c.in-Ok-call_through.ensures.does.link)
+    let layers = layers_as (Ok h) c.in-Ok.form g c.args.self.now.link c.args.self.now.layer c.call_through.new.layer request c.in-Ok.ensures c.in-Ok-call_through.ensures.does.layer in
+    did_given h c.args.self.now _ c.call_through.new.link r g request layers (links_as (Ok h) _ _ _ _ _ request c.in-Ok.ensures c.in-Ok-call_through.ensures.does.link)
     (ap (λ l. l.station) c.swap_frames.ensures.link) (ap (λ l. l.frames) c.swap_frames.ensures.link ∙ c.reserve.ensures.empty.frames) c.swap_frames.ensures.frames
     c.steps_keep_bounds.ensures.given c.holds_few.ensures.window c.holds_few.ensures.stand takes
     (λ c' s fits.
@@ -87,5 +79,5 @@ returns-in-Err-clause-does c =
     let request = Dials c.args.called.now c.args.calling.now c.args.user.now c.args.proposal.now in
     let takes : TakesIt c.args.self.now.manner g request = sym (c.takes.ensures ∙ ap (λ (b : Bool). c.args.self.now.manner.wide && (may_give g && b)) c.is_empty.ensures) ∙ c.if-not-takes.false in
     declines_late _ c.in-Err.error _ c.args.self.now _ _ g request c.of_layer-in-Err.ensures
-    (layers_as (Err c.in-Err.error) c.in-Ok-new.form g c.args.self.now.link c.args.self.now.layer c.call_through.new.layer request c.in-Ok-new.ensures c.in-Err.ensures.does.layer)
+    (layers_as (Err c.in-Err.error) c.in-Ok.form g c.args.self.now.link c.args.self.now.layer c.call_through.new.layer request c.in-Ok.ensures c.in-Err.ensures.does.layer)
     takes c.in-Err.ensures.does.layer_stays c.in-Err.ensures.does.link_stays c.reserve.ensures.empty refl

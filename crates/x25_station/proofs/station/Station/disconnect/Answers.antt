@@ -27,11 +27,7 @@ invariant_of-self c = record {
       (ap (λ l. l.frames) c.swap_frames.ensures.link ∙ c.reserve.ensures.empty.frames)
       (c.steps_keep_bounds.ensures.command c' s Disconnects fits.kept))
       (goes _ (disconnect_refusal s.link.phase) step (c.in-Ok.ensures.refused (link_settings c') s.link fits.link)));
-  aside =
-      let before = c.args.self.now.aside in
-      let low = before.packets in
-      let memory = c.note_down.ensures.memory in
-      record { packets = omega (arith, memory, low); texts = before.texts };
+  aside = c.args.self.now.aside;
 }
 
 pub invariant_of-self-in-Err-1 : goal.invariant_of-self-in-Err-1

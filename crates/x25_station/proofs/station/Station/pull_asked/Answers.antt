@@ -8,6 +8,7 @@ use Rattle.x25_station.proofs.OutcomeLemmas.{leaves_some, still_meant}
 use Rattle.x25_station.proofs.AskLemmas.{answers, goes_exactly, refuses_exactly, still_fits}
 use Rattle.x25_station.proofs.DoesLemmas.{did_request, declines_request}
 use Rattle.x25_station.proofs.EnteredLemmas.{pull_enters}
+use Rattle.x25_station.proofs.PullLemmas.{goes_on, has_places}
 use Rattle.x25_station.proofs.station.Station.pull_asked.Goals as goal
 
 pub invariant_of-self : goal.invariant_of-self
@@ -18,22 +19,14 @@ invariant_of-self c = record {
       c.in-Ok.ensures.layer c.in-Ok.ensures.link (ap (λ l. l.station) c.swap_frames.ensures.link) (ap (λ l. l.frames) c.swap_frames.ensures.link ∙ c.requires.frames) c.swap_frames.ensures.frames
       refl (c.steps_keep_bounds.ensures.request c' s request fits.kept) in
       leaves_some c' _ _ (requests c' s request) a.state a.refused);
-  aside =
-      let before = c.args.self.now.aside in
-      let packets = c.in-Ok.ensures.most_memory in
-      let low = before.packets in
-      record { packets = omega (arith, packets, low); texts = before.texts };
+  aside = c.args.self.now.aside;
 }
 
 pub invariant_of-self-in-Err-1 : goal.invariant_of-self-in-Err-1
 invariant_of-self-in-Err-1 c = record {
   meant = still_meant _ _ _ _ c.args.self.now.meant (λ c' s fits.
       (c', s, still_fits c' c.args.self.now.link c.pull.new.link _ c.pull.new.self s fits (c.in-Err.ensures.layer_stays (layer_settings c') s.layer fits.layer) c.in-Err.ensures.link_stays));
-  aside =
-      let before = c.args.self.now.aside in
-      let packets = c.in-Err.ensures.most_memory in
-      let low = before.packets in
-      record { packets = omega (arith, packets, low); texts = before.texts };
+  aside = c.args.self.now.aside;
 }
 
 pub returns-in-Ok-clause-does : goal.returns-in-Ok-clause-does
@@ -50,8 +43,10 @@ returns-in-Ok-clause-does c =
 pub returns-in-Err-clause-does : goal.returns-in-Err-clause-does
 returns-in-Err-clause-does c = declines_request _ c.in-Err.error _ c.args.self.now _ _ PullsAll c.of_layer.ensures c.in-Err.ensures.layer c.in-Err.ensures.layer_stays c.in-Err.ensures.link_stays c.requires refl
 
-pub returns-in-Ok-clause-exactly : goal.returns-in-Ok-clause-exactly
-returns-in-Ok-clause-exactly c = λ c' s fits. goes_exactly (requests c' s PullsAll) ((returns-in-Ok-clause-does c).refused c' s fits)
+pub returns-in-Ok-clause-only : goal.returns-in-Ok-clause-only
+returns-in-Ok-clause-only c = λ c' s fits. goes_on (requests c' s PullsAll) (goes_exactly (requests c' s PullsAll) ((returns-in-Ok-clause-does c).refused c' s fits))
 
-pub returns-in-Err-clause-exactly : goal.returns-in-Err-clause-exactly
-returns-in-Err-clause-exactly c = λ c' s fits. refuses_exactly _ Unit c.in-Err.error _ c' c.args.self.now.link c.args.self.now.layer c.pull.new.self s PullsAll fits c.of_layer.ensures c.in-Err.ensures.layer
+pub returns-in-Err-clause-only : goal.returns-in-Err-clause-only
+returns-in-Err-clause-only c = λ c' s fits.
+    has_places _ c.in-Err.error c.args.self.now.link.frames (requests c' s PullsAll) c.of_layer.ensures c.in-Err.ensures.missing fits.sent
+    (refuses_exactly _ Unit c.in-Err.error _ c' c.args.self.now.link c.args.self.now.layer c.pull.new.self s PullsAll fits c.of_layer.ensures c.in-Err.ensures.layer)

@@ -7,7 +7,7 @@ use Rattle.x25_station.specs.Station.{Station}
 use Rattle.x25_station.specs.code.FitsParts.{FitsParts}
 use Rattle.x25_station.specs.code.FitsStation.{FitsStation}
 use Rattle.x25_station.proofs.OutcomeLemmas.{still_meant}
-use Rattle.x25_station.proofs.PullLemmas.{pulled_or_not, pulled_fits, pulled_made, same_made, still_fits, made_by_meaning, none_fits, none_sent, wanted, if_error}
+use Rattle.x25_station.proofs.PullLemmas.{pulled_or_not, pulled_fits, pulled_made, same_made, still_fits, made_by_meaning, none_fits, none_sent, wanted, if_error, lacks_places}
 use Rattle.x25_station.proofs.station.Station.pull_frames.Goals as goal
 
 pub invariant_of-self : goal.invariant_of-self
@@ -17,11 +17,7 @@ invariant_of-self c = record {
       (c.pull-answer.ensures.layer_stays (layer_settings c') s.layer fits.layer) c.pull-answer.ensures.link_stays (ap (λ l. l.station) c.swap_frames-2.ensures.link)
       (ap (λ l. l.frames) c.swap_frames-2.ensures.link ∙ c.swap_frames.ensures.frames ∙ fits.sent)
       (c.steps_keep_bounds.ensures.request c' s PullsAll fits.kept));
-  aside =
-      let before = c.args.self.now.aside in
-      let packets = c.pull-answer.ensures.most_memory in
-      let low = before.packets in
-      record { packets = omega (arith, packets, low); texts = before.texts };
+  aside = c.args.self.now.aside;
 }
 
 pub returns-in-Ok-clause-pulls : goal.returns-in-Ok-clause-pulls
@@ -37,6 +33,7 @@ returns-in-Ok-clause-pulls c = record {
   stays = λ c' s fits. tt;
   unsent = tt;
   due = λ c' s fits. tt;
+  many = tt;
 }
 
 pub returns-in-Err-clause-pulls : goal.returns-in-Err-clause-pulls
@@ -56,4 +53,5 @@ returns-in-Err-clause-pulls c =
       stays = λ c' s fits. if_error r (still c' s fits);
       unsent = if_error r same;
       due = λ c' s fits. wanted _ c.in-Err.error r c.unless_refused.ensures.other c' _ c.swap_frames.new.self _ c.pull-answer.new.self s _ fits (ap (λ l. l.station) c.swap_frames.ensures.link) c.in-Err.ensures.layer c.unless_refused.ensures.due;
+      many = lacks_places r c.in-Err.error c.args.frames.now c.swap_frames.new.self.frames c.unless_refused.ensures.due c.in-Err.ensures.missing (ap (λ l. l.frames) c.swap_frames.ensures.link);
     }

@@ -15,12 +15,9 @@ invariant_of-self-2 c = record {
   meant = still_meant _ _ _ _ c.args.self.now.meant (λ c' s fits.
       (c', s, still_fits c' c.args.self.now.link c.args.self.now.link _ c.reserve-3.new.self s fits (c.reserve-3.ensures.layer (layer_settings c') s.layer fits.layer) (λ x whole. whole)));
   aside =
-      let before = c.args.self.now.aside in
-      let low = before.packets in
-      let short = before.texts in
+      let short = c.args.self.now.aside in
       let reserved = kept_ok c.reserve-2.result (sym c.is_err.ensures.value ∙ c.if-is_err.false) c.reserve-2.ensures.ok in
-      let packets = c.reserve-3.ensures.most_memory in
-      record { packets = omega (arith, packets, low); texts = omega (arith, reserved, short) };
+      omega (arith, reserved, short);
 }
 
 pub returns-in-Ok-clause-fits : goal.returns-in-Ok-clause-fits

@@ -19,22 +19,14 @@ invariant_of-self c = record {
       c.in-Ok.ensures.layer c.in-Ok.ensures.link (ap (λ l. l.station) c.swap_frames.ensures.link) (ap (λ l. l.frames) c.swap_frames.ensures.link ∙ c.reserve.ensures.empty.frames) c.swap_frames.ensures.frames
       refl (c.steps_keep_bounds.ensures.request c' s request fits.kept) in
       leaves_some c' _ _ (requests c' s request) a.state a.refused);
-  aside =
-      let before = c.args.self.now.aside in
-      let packets = c.in-Ok.ensures.most_memory in
-      let low = before.packets in
-      record { packets = omega (arith, packets, low); texts = before.texts };
+  aside = c.args.self.now.aside;
 }
 
 pub invariant_of-self-in-Err-1 : goal.invariant_of-self-in-Err-1
 invariant_of-self-in-Err-1 c = record {
   meant = still_meant _ _ _ _ c.args.self.now.meant (λ c' s fits.
       (c', s, still_fits c' c.args.self.now.link c.restart.new.link _ c.restart.new.self s fits (c.in-Err.ensures.layer_stays (layer_settings c') s.layer fits.layer) c.in-Err.ensures.link_stays));
-  aside =
-      let before = c.args.self.now.aside in
-      let packets = c.in-Err.ensures.most_memory in
-      let low = before.packets in
-      record { packets = omega (arith, packets, low); texts = before.texts };
+  aside = c.args.self.now.aside;
 }
 
 pub returns-in-Ok-clause-does : goal.returns-in-Ok-clause-does

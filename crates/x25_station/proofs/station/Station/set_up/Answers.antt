@@ -25,9 +25,7 @@ invariant_of-self c = record {
         same = fits.same;
       }))
       (goes _ (connect_refusal s.link.phase) step (c.in-Ok.ensures.refused (link_settings c') s.link fits.link)));
-  aside =
-      let before = c.args.self.now.aside in
-      record { packets = before.packets; texts = before.texts };
+  aside = c.args.self.now.aside;
 }
 
 pub invariant_of-self-in-Err-1 : goal.invariant_of-self-in-Err-1

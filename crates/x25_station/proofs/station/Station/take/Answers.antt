@@ -13,7 +13,7 @@ use Rattle.x25_station.specs.Station.{all_put}
 use Rattle.x25_station.specs.Step.{receives, entries_heard}
 use Rattle.x25_station.proofs.FrameLemmas.{few_put}
 use Rattle.x25_station.proofs.OutcomeLemmas.{still_meant}
-use Rattle.x25_station.proofs.TakeLemmas.{handed_short, up_can_put, handed_can_put, handed_was_up, put_by_meaning, least_by_meaning, same_by_meaning, up_by_meaning, handed_named, room_for, no_room, few_made, if_some}
+use Rattle.x25_station.proofs.TakeLemmas.{handed_short, up_can_put, handed_can_put, handed_was_up, put_by_meaning, least_by_meaning, same_by_meaning, up_by_meaning, handed_named, room_for, few_made, if_some}
 use Rattle.x25_station.proofs.TookLemmas.{put_behind, took_fits, took_sends, took_enters, took_acknowledged}
 use Rattle.x25_station.proofs.station.Station.take.Goals as goal
 
@@ -53,9 +53,6 @@ follow-requires-clause-room c =
     (named ∙ ap (λ (h : ℕ). if nat_le 3 (length p.now) then h else 0) (sym c.channel_of.ensures))
     (omega (arith, short, c.saturating_sub-len.ensures)) c.in_ok-reserve.ensures.room)
 
-pub follow-requires-clause-begun : goal.follow-requires-clause-begun
-follow-requires-clause-begun c = no_room c.channel_of.result c.saturating_sub-len.result c.reserve.new.self.layer c.in_ok-reserve.ensures.room 0
-
 pub invariant_of-self : goal.invariant_of-self
 invariant_of-self c = record {
   meant = still_meant _ _ _ _ c.args.self.now.meant (λ c' s fits.
@@ -71,12 +68,9 @@ invariant_of-self c = record {
             (c.steps_keep_bounds.ensures.receive c' s c.args.octets.now fits.kept),
       ));
   aside =
-      let before = c.reserve.new.self.aside in
-      let low = before.packets in
-      let few = before.texts in
-      let packets = c.follow.ensures.most_memory in
+      let few = c.reserve.new.self.aside in
       let texts = c.follow.ensures.used.no_more in
-      record { packets = omega (arith, packets, low); texts = omega (arith, texts, few) };
+      omega (arith, texts, few);
 }
 
 pub returns-clause-does : goal.returns-clause-does
