@@ -265,7 +265,7 @@ module _ (reads : ReadsSpelled) (laws : HealingLaws) (busy_laws : BusyLaws) wher
       record {
         near = record { rest = rest.0; arrived = arrives c d joined reads laws v h.0.0.sound h.0.0.near_on rest.0 };
         far = record { rest = rest.1; arrived = arrives d c twisted reads laws (swapped v) h.1.0.sound h.1.0.near_on rest.1 };
-        once = record { near = h.0.0.sound.joint.near_notes.once; far = h.0.0.sound.joint.far_notes.once };
+        once = record { near = h.0.0.sound.joint.near_has.notes.once; far = h.0.0.sound.joint.far_has.notes.once };
       }
 
   pub settled : (c d : Settings) → AreJoined c d → (w : Stations) → Sound c d w → IsDrained w → HasTries c w.near → HasTries d w.far → OneIsFree w.near.station w.far.station

@@ -295,16 +295,8 @@ module _ (reads : ReadsSpelled) (laws : HealingLaws) where
       gone out k (inr (inl g)) =
           both_quiet c d joined reads laws (swapped y) (g.2.back ∙ k.out) g.2.out (inr (ap (λ (e : StationEnd). is_up e.station.phase) g.2.far ∙ out_not_up x.near.station.phase out)) (inl g.1) es are
       gone out k (inr (inr (inr g))) =
-          sets (calm_sets_up c d (swapped y) (record {
-            near = inr (ap (λ (e : StationEnd). is_up e.station.phase) g.far ∙ out_not_up x.near.station.phase out);
-            far = inr (ap is_up g.near);
-            there = [];
-            behind = sabm true ∷ [];
-            out = nothing_on (other d.role) d.longest y.back (g.back ∙ k.out);
-            back = g.out;
-            there_are = tt;
-            behind_are = (tt, tt);
-          }))
+          sets (calm_sets_up c d (swapped y) [] (sabm true ∷ []) (inr (ap (λ (e : StationEnd). is_up e.station.phase) g.far ∙ out_not_up x.near.station.phase out)) (inr (ap is_up g.near))
+          (nothing_on (other d.role) d.longest y.back (g.back ∙ k.out)) g.out tt (tt, tt))
       gone out k (inr (inr (inl g))) =
           both_quiet c d joined reads laws (swapped y) (g.1.back ∙ k.out) g.1.out (inr (ap (λ (e : StationEnd). is_up e.station.phase) g.1.far ∙ out_not_up x.near.station.phase out)) (inr (out_not_up y.near.station.phase g.0)) es are
 
@@ -330,27 +322,11 @@ module _ (reads : ReadsSpelled) (laws : HealingLaws) where
             polls = inl refl;
           }))
       asking k (inr (inr (inl g))) =
-          sets (calm_sets_up c d (swapped y) (record {
-            near = inr (ap (λ (e : StationEnd). is_up e.station.phase) g.1.far ∙ ap is_up k.near);
-            far = inr (out_not_up y.near.station.phase g.0);
-            there = sabm true ∷ [];
-            behind = [];
-            out = subst (λ (os : List (List ℕ)). Reads (other d.role) d.longest os (sabm true ∷ [])) (sym g.1.back) k.out;
-            back = nothing_on (other c.role) c.longest y.out g.1.out;
-            there_are = (tt, tt);
-            behind_are = tt;
-          }))
+          sets (calm_sets_up c d (swapped y) (sabm true ∷ []) [] (inr (ap (λ (e : StationEnd). is_up e.station.phase) g.1.far ∙ ap is_up k.near)) (inr (out_not_up y.near.station.phase g.0))
+          (subst (λ (os : List (List ℕ)). Reads (other d.role) d.longest os (sabm true ∷ [])) (sym g.1.back) k.out) (nothing_on (other c.role) c.longest y.out g.1.out) (tt, tt) tt)
       asking k (inr (inr (inr g))) =
-          sets (calm_sets_up c d (swapped y) (record {
-            near = inr (ap (λ (e : StationEnd). is_up e.station.phase) g.far ∙ ap is_up k.near);
-            far = inr (ap is_up g.near);
-            there = sabm true ∷ [];
-            behind = sabm true ∷ [];
-            out = subst (λ (os : List (List ℕ)). Reads (other d.role) d.longest os (sabm true ∷ [])) (sym g.back) k.out;
-            back = g.out;
-            there_are = (tt, tt);
-            behind_are = (tt, tt);
-          }))
+          sets (calm_sets_up c d (swapped y) (sabm true ∷ []) (sabm true ∷ []) (inr (ap (λ (e : StationEnd). is_up e.station.phase) g.far ∙ ap is_up k.near)) (inr (ap is_up g.near))
+          (subst (λ (os : List (List ℕ)). Reads (other d.role) d.longest os (sabm true ∷ [])) (sym g.back) k.out) g.out (tt, tt) (tt, tt))
 
       far_kind : x.back ≡ w.back → x.far ≡ w.far → Kind d c twisted reads laws (swapped x) y
       far_kind back far = kind_of d c twisted reads laws (swapped x) (subst (IsInOrderIfUp d) (sym far) far_in) (back_is back)

@@ -147,7 +147,7 @@ module _ (c d : Settings) (joined : AreJoined c d) (reads : ReadsSpelled) (laws 
           let one = each_hands_one c d (Near (Put packet)) w in
           record {
             line = machine_acts c (Put packet) w h.line;
-            joint = machine_joint (Unit {0}) c d joined reads laws.sessions.laws (Put packet) w h.line (λ _. one.came_up ∙ h.joint.near_notes.once) (λ _. tt) h.joint;
+            joint = machine_joint (Unit {0}) c d joined reads laws.sessions.laws (Put packet) w h.line (λ _. one.came_up ∙ h.joint.near_has.notes.once) (λ _. tt) h.joint;
             near_said = said_act laws c joined.near_high (Put packet) w h.near_said;
             far_said = subst (λ (e : StationEnd). HasSaidAll d.window e.station) (sym one.far) h.far_said;
           }

@@ -161,7 +161,7 @@ module _ (c d : Settings) (joined : AreJoined c d) (reads : ReadsSpelled) (laws 
       is = fires_is w running
 
       once : (acts c T1 w).near.came_up ≡ false
-      once = not_noted w (after_step c w w.back [] step) is (ap (λ (n : Notes). w.near.came_up || n.up) asks.quiet ∙ ap (λ (b : Bool). b || false) h.joint.near_notes.once)
+      once = not_noted w (after_step c w w.back [] step) is (ap (λ (n : Notes). w.near.came_up || n.up) asks.quiet ∙ ap (λ (b : Bool). b || false) h.joint.near_has.notes.once)
 
       sound : Sound c d (after_step c w w.back [] step)
       sound = subst (Sound c d) is (record {

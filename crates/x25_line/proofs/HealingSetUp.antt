@@ -215,9 +215,6 @@ pub record Calm (c d : Settings) (w : Stations) : Type 0 where
   pub there_are : AreOfSetUp there
   pub behind_are : AreOfSetUp behind
 
-calm_swapped : (c d : Settings) (w : Stations) → Calm c d w → Calm d c (swapped w)
-calm_swapped c d w h = record { near = h.far; far = h.near; there = h.behind; behind = h.there; out = h.back; back = h.out; there_are = h.behind_are; behind_are = h.there_are }
-
 -- nothing, or one poll
 abbrev pub IsPollOrNothing : List PlainFrame → Type 0
 IsPollOrNothing fs = (fs ≡ []) ⊎ ((busy : Bool) × (number : ℕ) × (number < 8) × (fs ≡ says busy true number true ∷ []))
@@ -242,15 +239,17 @@ pub record Granted (c d : Settings) (w : Stations) : Type 0 where
 abbrev pub SetsUp : Settings → Settings → Stations → Type 0
 SetsUp c d w = Asking c d w ⊎ (Asking d c (swapped w) ⊎ (Granted c d w ⊎ (Granted d c (swapped w) ⊎ Calm c d w)))
 
-pub calm_sets_up : (c d : Settings) (w : Stations) → Calm c d w → SetsUp c d w
-calm_sets_up c d w h = inr (inr (inr (inr h)))
+pub calm_sets_up : (c d : Settings) (w : Stations) (there behind : List PlainFrame) → IsBlankOrOff w.near.station → IsBlankOrOff w.far.station → Reads (other d.role) d.longest w.out there
+    → Reads (other c.role) c.longest w.back behind → AreOfSetUp there → AreOfSetUp behind → SetsUp c d w
+calm_sets_up c d w there behind near far out back there_are behind_are =
+    inr (inr (inr (inr (record { near = near; far = far; there = there; behind = behind; out = out; back = back; there_are = there_are; behind_are = behind_are }))))
 
 turned : (c d : Settings) (w : Stations) → SetsUp c d w → SetsUp d c (swapped w)
 turned c d w (inl h) = inr (inl h)
 turned c d w (inr (inl h)) = inl h
 turned c d w (inr (inr (inl h))) = inr (inr (inr (inl h)))
 turned c d w (inr (inr (inr (inl h)))) = inr (inr (inl h))
-turned c d w (inr (inr (inr (inr h)))) = calm_sets_up d c (swapped w) (calm_swapped c d w h)
+turned c d w (inr (inr (inr (inr h)))) = calm_sets_up d c (swapped w) h.behind h.there h.far h.near h.back h.out h.behind_are h.there_are
 
 -- an end that awaits UA passes a poll over
 poll_passed : (busy : Bool) (n : ℕ) (s : LinkStation) → waiting_after (Ok (says busy true n true)) s ≡ s
@@ -306,16 +305,9 @@ module _ (c d : Settings) (joined : AreJoined c d) (reads : ReadsSpelled) (laws 
   granted_hears : (w : Stations) → Granted d c (swapped w) → SetsUp c d (acts c Deliver w)
   granted_hears w h =
       let p = passes_over w h.far true h.number (ua true ∷ []) h.out in
-      calm_sets_up c d (acts c Deliver w) (record {
-        near = inr (ap (λ (z : LinkStation). is_up z.phase) p.near ∙ ap is_up h.far);
-        far = subst (λ (e : StationEnd). IsBlankOrOff e.station) (sym p.far) (inl h.near);
-        there = [];
-        behind = ua true ∷ [];
-        out = subst (λ (os : List (List ℕ)). Reads (other d.role) d.longest os []) (sym (p.out ∙ h.back)) tt;
-        back = p.back;
-        there_are = tt;
-        behind_are = (tt, tt);
-      })
+      calm_sets_up c d (acts c Deliver w) [] (ua true ∷ []) (inr (ap (λ (z : LinkStation). is_up z.phase) p.near ∙ ap is_up h.far))
+      (subst (λ (e : StationEnd). IsBlankOrOff e.station) (sym p.far) (inl h.near))
+      (subst (λ (os : List (List ℕ)). Reads (other d.role) d.longest os []) (sym (p.out ∙ h.back)) tt) p.back tt (tt, tt)
 
   -- what is put stands behind
   puts_behind : (w : Stations) (fs es : List PlainFrame) → Reads (other d.role) d.longest w.out fs → AreOfSetUp es → Reads (other d.role) d.longest (w.out ++ map (spelling_of c.role) es) (fs ++ es)
@@ -354,16 +346,7 @@ module _ (c d : Settings) (joined : AreJoined c d) (reads : ReadsSpelled) (laws 
           (puts_behind w fs (ua true ∷ []) (subst (Reads (other d.role) d.longest w.out) is h.back) (tt, tt))
 
       calm : (fs : List PlainFrame) → AreOfSetUp fs → h.behind ≡ fs → SetsUp c d v
-      calm fs are is = calm_sets_up c d v (record {
-        near = inl blank;
-        far = inr (ap is_up h.near);
-        there = fs ++ ua true ∷ [];
-        behind = [];
-        out = ua_behind fs is;
-        back = r.rest;
-        there_are = set_up_more fs (ua true ∷ []) are (tt, tt);
-        behind_are = tt;
-      })
+      calm fs are is = calm_sets_up c d v (fs ++ ua true ∷ []) [] (inl blank) (inr (ap is_up h.near)) (ua_behind fs is) r.rest (set_up_more fs (ua true ∷ []) are (tt, tt)) tt
 
       by : IsPollOrNothing h.behind → SetsUp c d v
       by (inl none) = calm [] tt none
@@ -372,7 +355,7 @@ module _ (c d : Settings) (joined : AreJoined c d) (reads : ReadsSpelled) (laws 
           inr (inr (inl (record { near = blank; far = h.near; number = n; out = ua_behind (rnr true n true ∷ []) is; back = none_reads (other c.role) c.longest r.others r.rest })))
 
   calm_hears_more : (w : Stations) → Calm c d w → (behind : List PlainFrame) → Reads (other c.role) c.longest w.back behind → AreOfSetUp behind → SetsUp c d (acts c Deliver w)
-  calm_hears_more w h [] back are = near_none w (none_reads (other c.role) c.longest w.back back) (calm_sets_up c d w h)
+  calm_hears_more w h [] back are = near_none w (none_reads (other c.role) c.longest w.back back) (inr (inr (inr (inr h))))
   calm_hears_more w h (f ∷ gs) back are =
       let s = w.near.station in
       let r = front_reads (other c.role) c.longest w.back f gs back in
@@ -380,16 +363,8 @@ module _ (c d : Settings) (joined : AreJoined c d) (reads : ReadsSpelled) (laws 
       let t = calm_takes c r.octets f s r.reads are.0 h.near in
       let v : Stations = after_step c w r.others [] step in
       let same : acts c Deliver w ≡ v = ap (λ (os : List (List ℕ)). delivered c os w) r.is in
-      subst (SetsUp c d) (sym same) (calm_sets_up c d v (record {
-        near = t.near;
-        far = h.far;
-        there = h.there ++ step.side.out;
-        behind = gs;
-        out = puts_behind w h.there step.side.out h.out t.out;
-        back = r.rest;
-        there_are = set_up_more h.there step.side.out h.there_are t.out;
-        behind_are = are.1;
-      }))
+      subst (SetsUp c d) (sym same) (calm_sets_up c d v (h.there ++ step.side.out) gs t.near h.far
+      (puts_behind w h.there step.side.out h.out t.out) r.rest (set_up_more h.there step.side.out h.there_are t.out) are.1)
 
   near_delivery : (w : Stations) → SetsUp c d w → SetsUp c d (acts c Deliver w)
   near_delivery w (inl h) = asking_hears w h h.polls

@@ -13,7 +13,7 @@ use Rattle.x25_link.specs.Link.{take_step, timer_step, timer_runs, timer_refusal
 use Rattle.x25_link.specs.laws.WindowMachine.{ShowAll}
 use Rattle.x25_link.specs.laws.RestLaw.{HasSaidAll, IsAtRest}
 use Rattle.x25_line.specs.laws.Line.{Line}
-use Rattle.x25_line.specs.laws.Stations.{StationEnd, Stations, Act, Put, Deliver, T1, Connect, Disconnect, Abandon, Lose, Damage, Event, Near, Far}
+use Rattle.x25_line.specs.laws.Stations.{StationEnd, Stations, Act, Put, Deliver, T1, Event, Near, Far}
 use Rattle.x25_line.specs.laws.Stations as one
 use Rattle.x25_line.specs.laws.StationClaims.{AreJoined, IsSetUpOnce, numbered_on}
 use Rattle.x25_line.specs.laws.Sessions.{Entry, SessionEnd, Sessions, begun_by, after_step, unless, delivered, acts, swapped, happens, run, from_nothing, from_set_up, IsTimely, AreTimely}
@@ -24,7 +24,7 @@ use Rattle.x25_line.specs.Healing.{IsDeliver, AreDeliveries, SessionsAreHealed}
 use Rattle.x25_line.specs.laws.HealingPuts.{SessionMayHeal, IsDeliverOrPut, AreDeliveriesAndPuts, FreeAt, SessionsFreeThroughout, SessionsHaveArrived}
 use Rattle.x25_line.specs.laws.LawsBelow.{HealingLaws}
 use Rattle.x25_line.proofs.HealingOnce.{IsDrained, MayHeal, FreeThroughout}
-use Rattle.x25_line.proofs.StationSteps.{FitsEnd, MayBeAway, NotesOnce, Joint, not_both}
+use Rattle.x25_line.proofs.StationSteps.{FitsEnd, MayBeAway, Has, Joint, not_both}
 use Rattle.x25_line.proofs.StationAway.{first_false, second_false}
 use Rattle.x25_line.proofs.sessions.SessionsForgotten as stands
 use Rattle.x25_line.proofs.sessions.SessionsForgotten.{Lasts}
@@ -57,11 +57,16 @@ looser_end : (c : Settings) (s : LinkStation) (l : End (List ℕ)) → FitsEnd �
 looser_end c s l (inl up) = inl up
 looser_end c s l (inr away) = inr (record { away = looser_away s.phase away.away; empty = away.empty })
 
-looser_notes : (e : StationEnd) → NotesOnce ⊥ e → NotesOnce (Unit {0}) e
-looser_notes e h = record {
-  still_up = h.still_up;
-  left = λ off. (let l = h.left off in record { reason = l.reason; again = l.again; all = l.all; asked = λ _. tt });
-  once = h.once;
+looser_has : (longest : ℕ) (e : StationEnd) (l : End (List ℕ)) → Has ⊥ longest e l → Has (Unit {0}) longest e l
+looser_has longest e l h = record {
+  down = h.down;
+  up = h.up;
+  within = h.within;
+  notes = record {
+    still_up = h.notes.still_up;
+    left = λ off. (let l = h.notes.left off in record { reason = l.reason; again = l.again; all = l.all; asked = λ _. tt });
+    once = h.notes.once;
+  };
 }
 
 -- the two stations with nothing on the line
@@ -79,14 +84,8 @@ emptied_joint c d v l h out back = record {
   back = subst (λ (fs : List PlainFrame). ShowAll fs l.back) back h.back;
   out_orderly = tt;
   back_orderly = tt;
-  near_down = h.near_down;
-  near_up = h.near_up;
-  far_down = h.far_down;
-  far_up = h.far_up;
-  near_within = h.near_within;
-  far_within = h.far_within;
-  near_notes = looser_notes v.near h.near_notes;
-  far_notes = looser_notes v.far h.far_notes;
+  near_has = looser_has d.longest v.near l.near h.near_has;
+  far_has = looser_has c.longest v.far l.far h.far_has;
   no_frmr = h.no_frmr;
   whole = h.whole;
 }

@@ -232,7 +232,7 @@ module _ (c d : Settings) (joined : AreJoined c d) (reads : ReadsSpelled) (laws 
   delivers w fs gs f o h reads_out r a =
       let v : Stations = after_step c w r.others [] (take_step c r.octets w.near.station) in
       let same : acts c Deliver w ≡ v = ap (λ (bs : List (List ℕ)). delivered c bs w) r.is in
-      let not_up : v.near.came_up ≡ false = ap (λ (n : Notes). w.near.came_up || n.up) a.quiet ∙ ap (λ (b : Bool). b || false) h.joint.near_notes.once in
+      let not_up : v.near.came_up ≡ false = ap (λ (n : Notes). w.near.came_up || n.up) a.quiet ∙ ap (λ (b : Bool). b || false) h.joint.near_has.notes.once in
       let sound = subst (Sound c d) same (sound_after w h (ap (λ (z : Stations). z.near.came_up) same ∙ not_up) (r.octets ∷ r.others) r.is) in
       subst (λ (z : Stations). Delivered c d w z fs gs o r.octets) (sym same) (record {
         sound = sound;

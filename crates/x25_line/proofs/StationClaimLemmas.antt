@@ -120,21 +120,21 @@ pub holds_order : (MayAsk : Type 0) (c d : Settings) (w : Stations) → Holds Ma
 holds_order MayAsk c d w holds =
     let l = holds.0 in
     let h = holds.1 in (
-      in_order MayAsk c w.near w.far l.near l.far.taken (length l.far.taken) l.out l.back h.near h.kept.from_near h.near_down h.far_up,
-      in_order MayAsk d w.far w.near l.far l.near.taken (length l.near.taken) l.back l.out h.far h.kept.from_far h.far_down h.near_up,
+      in_order MayAsk c w.near w.far l.near l.far.taken (length l.far.taken) l.out l.back h.near h.kept.from_near h.near_has.down h.far_has.up,
+      in_order MayAsk d w.far w.near l.far l.near.taken (length l.near.taken) l.back l.out h.far h.kept.from_far h.far_has.down h.near_has.up,
     )
 
 pub holds_lists : (MayAsk : Type 0) (c d : Settings) (w : Stations) → Holds MayAsk c d w → BothHaveTheirLists c d w
 holds_lists MayAsk c d w holds =
     let l = holds.0 in
     let h = holds.1 in
-    (has_lists MayAsk c w.near l.near h.near h.near_down h.near_up, has_lists MayAsk d w.far l.far h.far h.far_down h.far_up)
+    (has_lists MayAsk c w.near l.near h.near h.near_has.down h.near_has.up, has_lists MayAsk d w.far l.far h.far h.far_has.down h.far_has.up)
 
 pub is_behind : (MayAsk : Type 0) (c d : Settings) (w : Stations) (l : Line (List ℕ)) → Joint MayAsk c d w l → IsBehind c d w l
 is_behind MayAsk c d w l h = record {
   reached = h.reached;
-  near = record { given = h.near_down; taken = h.near_up; numbers = λ is_on. (up_of MayAsk c w.near.station l.near h.near is_on).same };
-  far = record { given = h.far_down; taken = h.far_up; numbers = λ is_on. (up_of MayAsk d w.far.station l.far h.far is_on).same };
+  near = record { given = h.near_has.down; taken = h.near_has.up; numbers = λ is_on. (up_of MayAsk c w.near.station l.near h.near is_on).same };
+  far = record { given = h.far_has.down; taken = h.far_has.up; numbers = λ is_on. (up_of MayAsk d w.far.station l.far h.far is_on).same };
   out = h.out;
   back = h.back;
   window = InWindow-from_Kept l h.kept;
@@ -159,7 +159,7 @@ module _ (reads : ReadsSpelled) (laws : Laws) where
   pub keeps_notes : Always BothNoteTheirEnds
   keeps_notes c d joined events once =
       let h = (reached c d joined events once).1 in
-      (notes_end (run c d events start).near h.near_notes, notes_end (run c d events start).far h.far_notes)
+      (notes_end (run c d events start).near h.near_has.notes, notes_end (run c d events start).far h.far_has.notes)
 
   pub goes_along : MachineGoesAlong
   goes_along c d joined events once = is_behind (Unit {0}) c d (run c d events start) (machine_run c d events start (machine_at_start c d)) (machine c d joined events once)
@@ -174,4 +174,4 @@ module _ (reads : ReadsSpelled) (laws : Laws) where
   stays_one_link c d joined events none =
       let w = run c d events start in
       let h = run_unasked c d joined reads laws events start (machine_at_start c d) (start_machine ⊥ c d joined) none in
-      record { once = record { near = h.near_notes.once; far = h.far_notes.once }; near = one_ending w.near h.near_notes; far = one_ending w.far h.far_notes }
+      record { once = record { near = h.near_has.notes.once; far = h.far_has.notes.once }; near = one_ending w.near h.near_has.notes; far = one_ending w.far h.far_has.notes }

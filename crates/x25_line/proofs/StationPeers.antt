@@ -121,11 +121,11 @@ module _ (d : Settings) (high : d.window ≤ 7) (reads : ReadsSpelled) (laws : L
 
   -- ---- what it is before it sends
 
-  unchanged : (w : Stations) (h : S w) → Ready w w.back [] None (machine_of d.window h.peer)
-  unchanged w h =
+  left_so : (w : Stations) (h : S w) (os : List (List ℕ)) → R os h.peer w.out → Ready w os [] None (machine_of d.window h.peer)
+  left_so w h os reached =
       record {
         peer = h.peer;
-        reached = h.reached;
+        reached = reached;
         is = refl;
         room = h.room;
         told = h.told;
@@ -148,17 +148,7 @@ module _ (d : Settings) (high : d.window ≤ 7) (reads : ReadsSpelled) (laws : L
 
     -- and are passed over
     passed : Ready w os [] None (machine_of d.window h.peer)
-    passed =
-        record {
-          peer = h.peer;
-          reached = comes h.peer (passes h.peer (said (frame_of (other d.role) d.longest o)));
-          is = refl;
-          room = h.room;
-          told = h.told;
-          within = h.within;
-          down_is = h.down ∙ sym (append-nil w.near.down);
-          up_is = h.up ∙ sym (append-nil w.near.up);
-        }
+    passed = left_so w h os (comes h.peer (passes h.peer (said (frame_of (other d.role) d.longest o))))
 
     -- or an N(R) is heard
     heard : (nr : ℕ) → MayHear h.peer (frame_of (other d.role) d.longest o) (hearing true nr h.peer) → Ready w os [] None (after (machine_of d.window h.peer) (Hear nr))
@@ -305,7 +295,7 @@ module _ (d : Settings) (high : d.window ≤ 7) (reads : ReadsSpelled) (laws : L
   rests_seen : (w : Stations) (h : S w) (step : Step) → AsUp d w.near.station (machine_of d.window h.peer) → Stays d.window nothing w.near.station step → S (after_step d w w.back [] step)
   rests_seen w h step u stays =
       stays_seen w h w.back [] nothing step
-      (as_window w w.back [] (machine_of d.window h.peer) (window_of d.window w.near.station) step.packet (sym u.same) (no_packet_of nothing step.packet (window_of d.window w.near.station) (λ y never. never) stays.hands_up) (unchanged w h)) stays
+      (as_window w w.back [] (machine_of d.window h.peer) (window_of d.window w.near.station) step.packet (sym u.same) (no_packet_of nothing step.packet (window_of d.window w.near.station) (λ y never. never) stays.hands_up) (left_so w h w.back h.reached)) stays
 
   -- the line to it
   line_seen : (w : Stations) (os : List (List ℕ)) (h : S w) → R os h.peer w.out → S (record w { back = os })
@@ -321,7 +311,7 @@ module _ (d : Settings) (high : d.window ≤ 7) (reads : ReadsSpelled) (laws : L
             (laws.window.take d o w.near.station (record { up = u.up; sound = u.sound }) (frame_of (other d.role) d.longest o) refl);
         puts = put_up;
         rests = rests_seen;
-        parts = λ w h step parts. parting_seen w h w.back step (machine_of d.window h.peer) (unchanged w h) parts;
+        parts = λ w h step parts. parting_seen w h w.back step (machine_of d.window h.peer) (left_so w h w.back h.reached) parts;
         passes = λ w h o os is step parts. parting_seen w h os step (machine_of d.window h.peer) (passed w h o os is) parts;
         loses = λ w h i. line_seen w (remove w.back i) h (does.loses w.back h.peer w.out i h.reached);
         damages = λ w h i octets visible.

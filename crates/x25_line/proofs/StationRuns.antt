@@ -129,9 +129,9 @@ module _ (MayAsk : Type 0) (c d : Settings) (joined : AreJoined c d) (reads : Re
         out = append-nil l.out;
         left = h.back;
         orderly = h.back_orderly;
-        given = ap (λ (xs : List (List ℕ)). xs ++ packet ∷ []) (h.near_down ∙ sym (ap (λ (z : Window). z.given) u.same));
-        taken = append-nil w.near.up ∙ h.near_up ∙ sym (ap (λ (z : Window). z.taken) u.same);
-        within = within_push d.longest w.near.station.outgoing.given packet (subst (AllWithin d.longest) (sym (ap (λ (z : Window). z.given) u.same)) h.near_within) (omega arith);
+        given = ap (λ (xs : List (List ℕ)). xs ++ packet ∷ []) (h.near_has.down ∙ sym (ap (λ (z : Window). z.given) u.same));
+        taken = append-nil w.near.up ∙ h.near_has.up ∙ sym (ap (λ (z : Window). z.taken) u.same);
+        within = within_push d.longest w.near.station.outgoing.given packet (subst (AllWithin d.longest) (sym (ap (λ (z : Window). z.given) u.same)) h.near_has.within) (omega arith);
         same_sent = ap (λ (z : Window). z.sent) u.same;
       })
       (laws.window.put c packet w.near.station (record { up = u.up; sound = u.sound }))
@@ -158,7 +158,7 @@ module _ (MayAsk : Type 0) (c d : Settings) (joined : AreJoined c d) (reads : Re
       let off : is_up step.side.near.phase ≡ false = ap (λ (z : LinkStation). is_up z.phase) i.near ∙ away_is_not_up MayAsk near.phase away.away in
       parts_joint MayAsk c d joined reads w l h l.back w.back step h.kept h.reached h.back h.back_orderly (subst (AreParting MayAsk) (sym i.out) parting)
       (subst (IsAway MayAsk) (sym i.near) away) i.packet
-      (quiet_notes MayAsk c w w.back [] step h.near_notes (quiet_by step i.down i.up) (off ∙ sym was_away))
+      (quiet_notes MayAsk c w w.back [] step h.near_has.notes (quiet_by step i.down i.up) (off ∙ sym was_away))
 
   waiting_timer : (w : Stations) (l : Line (List ℕ)) → Joint MayAsk c d w l → IsAway MayAsk w.near.station → w.near.station.phase ≡ Waiting → MayAsk → (b : Bool) (step : Step)
       → (let s = w.near.station in Is (if b then record s { tries = suc s.tries } else with_nothing Down s.tries) (if b then sabm true ∷ [] else []) (if b then None else Some Retries) false step)
@@ -168,7 +168,7 @@ module _ (MayAsk : Type 0) (c d : Settings) (joined : AreJoined c d) (reads : Re
   waiting_timer w l h away phase ask false step i =
       parts_joint MayAsk c d joined reads w l h l.back w.back step h.kept h.reached h.back h.back_orderly (subst (AreParting MayAsk) (sym i.out) tt)
       (subst (IsAway MayAsk) (sym i.near) (record { away = tt; empty = refl })) i.packet
-      (vain_notes MayAsk c w w.back step h.near_notes (ap is_up phase) ask i.down i.up (ap (λ (z : LinkStation). is_up z.phase) i.near))
+      (vain_notes MayAsk c w w.back step h.near_has.notes (ap is_up phase) ask i.down i.up (ap (λ (z : LinkStation). is_up z.phase) i.near))
 
   timer_joint : (w : Stations) (l : Line (List ℕ)) → Joint MayAsk c d w l → Leads MayAsk c d w l l.back (unless (timer_refusal w.near.station) w (after_step c w w.back [] (timer_step c w.near.station)))
   timer_joint w l h = go h.near
@@ -218,7 +218,7 @@ module _ (MayAsk : Type 0) (c d : Settings) (joined : AreJoined c d) (reads : Re
           let empty = (laws.disconnect_tells c s).empty closed.quiet off away.empty in
           parts_joint MayAsk c d joined reads w l h l.back w.back (disconnect_step c s) h.kept h.reached h.back h.back_orderly
           (subst (AreParting MayAsk) (sym closed.frames) tt) (record { away = subst (MayBeAway MayAsk) (sym closed.phase) tt; empty = empty }) closed.packet
-          (quiet_notes MayAsk c w w.back [] (disconnect_step c s) h.near_notes closed.quiet (ap is_up closed.phase ∙ sym off))
+          (quiet_notes MayAsk c w w.back [] (disconnect_step c s) h.near_has.notes closed.quiet (ap is_up closed.phase ∙ sym off))
 
       by_phase : (p : Phase) → s.phase ≡ p → IsAway MayAsk s → MayBeAway MayAsk p → Leads MayAsk c d w l l.back (after_step c w w.back [] (disconnect_step c s))
       by_phase Waiting phase away may =
@@ -263,14 +263,8 @@ module _ (MayAsk : Type 0) (c d : Settings) (joined : AreJoined c d) (reads : Re
       back = shows;
       out_orderly = h.out_orderly;
       back_orderly = orderly;
-      near_down = h.near_down;
-      near_up = h.near_up;
-      far_down = h.far_down;
-      far_up = h.far_up;
-      near_within = h.near_within;
-      far_within = h.far_within;
-      near_notes = h.near_notes;
-      far_notes = h.far_notes;
+      near_has = h.near_has;
+      far_has = h.far_has;
       no_frmr = h.no_frmr;
       whole = h.whole;
     },
@@ -339,14 +333,8 @@ joint_swapped MayAsk c d same w l h =
       back = h.out;
       out_orderly = h.back_orderly;
       back_orderly = h.out_orderly;
-      near_down = h.far_down;
-      near_up = h.far_up;
-      far_down = h.near_down;
-      far_up = h.near_up;
-      near_within = h.far_within;
-      far_within = h.near_within;
-      near_notes = h.far_notes;
-      far_notes = h.near_notes;
+      near_has = h.far_has;
+      far_has = h.near_has;
       no_frmr = h.no_frmr;
       whole = whole_more c.longest (w.near.down ++ w.far.down) (w.far.down ++ w.near.down) (either_way w.near.down w.far.down) w.sent (subst (λ (n : ℕ). AreWhole n (w.near.down ++ w.far.down) w.sent) (sym same) h.whole);
     }
@@ -423,14 +411,8 @@ start_machine MayAsk c d joined =
       back = tt;
       out_orderly = tt;
       back_orderly = tt;
-      near_down = refl;
-      near_up = refl;
-      far_down = refl;
-      far_up = refl;
-      near_within = tt;
-      far_within = tt;
-      near_notes = fresh_notes MayAsk;
-      far_notes = fresh_notes MayAsk;
+      near_has = record { down = refl; up = refl; within = tt; notes = fresh_notes MayAsk };
+      far_has = record { down = refl; up = refl; within = tt; notes = fresh_notes MayAsk };
       no_frmr = tt;
       whole = tt;
     }

@@ -87,6 +87,13 @@ pub record NotesOnce (MayAsk : Type 0) (e : StationEnd) : Type 0 where
   pub left : is_up e.station.phase ≡ false → AreEndings MayAsk e.reasons
   pub once : e.came_up ≡ false
 
+-- what an end was handed down and has handed up is the machine's, and fits; and what it noted
+pub record Has (MayAsk : Type 0) (longest : ℕ) (e : StationEnd) (l : End (List ℕ)) : Type 0 where
+  pub down : e.down ≡ l.given
+  pub up : e.up ≡ l.taken
+  pub within : AllWithin longest l.given
+  pub notes : NotesOnce MayAsk e
+
 -- `MayAsk` holds where an end may ask for set-up
 pub record Joint (MayAsk : Type 0) (c d : Settings) (w : Stations) (l : Line (List ℕ)) : Type 0 where
   pub reached : IsReached c.window d.window l
@@ -97,14 +104,8 @@ pub record Joint (MayAsk : Type 0) (c d : Settings) (w : Stations) (l : Line (Li
   pub back : ShowAll (numbered_on (other c.role) c.longest w.back) l.back
   pub out_orderly : AreOrderly MayAsk (other d.role) d.longest w.out
   pub back_orderly : AreOrderly MayAsk (other c.role) c.longest w.back
-  pub near_down : w.near.down ≡ l.near.given
-  pub near_up : w.near.up ≡ l.near.taken
-  pub far_down : w.far.down ≡ l.far.given
-  pub far_up : w.far.up ≡ l.far.taken
-  pub near_within : AllWithin d.longest l.near.given
-  pub far_within : AllWithin c.longest l.far.given
-  pub near_notes : NotesOnce MayAsk w.near
-  pub far_notes : NotesOnce MayAsk w.far
+  pub near_has : Has MayAsk d.longest w.near l.near
+  pub far_has : Has MayAsk c.longest w.far l.far
   pub no_frmr : NoFrmr w.sent
   pub whole : AreWhole d.longest (w.near.down ++ w.far.down) w.sent
 
@@ -333,14 +334,13 @@ module _ (MayAsk : Type 0) (c d : Settings) (joined : AreJoined c d) (reads : Re
           back = subst (λ (gs : List (Frame (List ℕ))). ShowAll (numbered_on (other c.role) c.longest back) gs) (sym t.back) g.left;
           out_orderly = good_out_orderly w.out step.side.out t.good h.out_orderly;
           back_orderly = g.orderly;
-          near_down = g.given ∙ sym t.given ∙ ap (λ (z : Window). z.given) (sym t.near);
-          near_up = g.taken ∙ sym t.taken ∙ ap (λ (z : Window). z.taken) (sym t.near);
-          far_down = h.far_down ∙ ap (λ (e : End (List ℕ)). e.given) (sym far);
-          far_up = h.far_up ∙ ap (λ (e : End (List ℕ)). e.taken) (sym far);
-          near_within = subst (AllWithin d.longest) (sym t.given ∙ ap (λ (z : Window). z.given) (sym t.near)) g.within;
-          far_within = subst (λ (e : End (List ℕ)). AllWithin c.longest e.given) (sym far) h.far_within;
-          near_notes = quiet_notes MayAsk c w back down step h.near_notes stays.quiet (stays.up ∙ sym was_up);
-          far_notes = h.far_notes;
+          near_has = record {
+            down = g.given ∙ sym t.given ∙ ap (λ (z : Window). z.given) (sym t.near);
+            up = g.taken ∙ sym t.taken ∙ ap (λ (z : Window). z.taken) (sym t.near);
+            within = subst (AllWithin d.longest) (sym t.given ∙ ap (λ (z : Window). z.given) (sym t.near)) g.within;
+            notes = quiet_notes MayAsk c w back down step h.near_has.notes stays.quiet (stays.up ∙ sym was_up);
+          };
+          far_has = subst (λ (e : End (List ℕ)). Has MayAsk c.longest w.far e) (sym far) h.far_has;
           no_frmr = no_frmr_append w.sent step.side.out h.no_frmr (good_no_frmr d.longest step.side.out t.good);
           whole = whole_append d.longest ((w.near.down ++ down) ++ w.far.down) w.sent step.side.out
               (whole_more d.longest (w.near.down ++ w.far.down) ((w.near.down ++ down) ++ w.far.down) (first_more w.near.down w.far.down down) w.sent h.whole)
@@ -387,9 +387,9 @@ module _ (MayAsk : Type 0) (c d : Settings) (joined : AreJoined c d) (reads : Re
         out = refl;
         left = shows;
         orderly = orderly;
-        given = append-nil w.near.down ∙ h.near_down ∙ sym same_given;
+        given = append-nil w.near.down ∙ h.near_has.down ∙ sym same_given;
         taken = taken;
-        within = subst (AllWithin d.longest) (sym same_given) h.near_within;
+        within = subst (AllWithin d.longest) (sym same_given) h.near_has.within;
         same_sent = sym (ap (λ (z : Window). z.sent) near) ∙ arrived_sent (is_some packet) g.carried (after e (Hear (g.ack % 8)));
       }
     where
@@ -406,7 +406,7 @@ module _ (MayAsk : Type 0) (c d : Settings) (joined : AreJoined c d) (reads : Re
       → Stage MayAsk c d w l (come l false g gs) os [] None (after (window_of c.window w.near.station) (Hear nr))
   tell_stage w l h u os orderly g gs is shows nr number =
       stage_arrives w l h os orderly g gs is shows None (after (window_of c.window w.near.station) (Hear nr)) (hears_same w.near.station l.near g nr u.same number) tt
-      (ap (λ (z : Window). z.given) u.same) (append-nil w.near.up ∙ h.near_up ∙ sym (ap (λ (z : Window). z.taken) u.same))
+      (ap (λ (z : Window). z.given) u.same) (append-nil w.near.up ∙ h.near_has.up ∙ sym (ap (λ (z : Window). z.taken) u.same))
 
   info_stage : (w : Stations) (l : Line (List ℕ)) → Joint MayAsk c d w l → AsUp c w.near.station l.near → (os : List (List ℕ)) → AreOrderly MayAsk (other c.role) c.longest os → (g : Frame (List ℕ)) (gs : List (Frame (List ℕ)))
       → l.back ≡ g ∷ gs → ShowAll (numbered_on (other c.role) c.longest os) gs → (ns nr : ℕ) (p : Bool) (x : List ℕ) → Shows (info ns nr p x) g
@@ -423,7 +423,7 @@ module _ (MayAsk : Type 0) (c d : Settings) (joined : AreJoined c d) (reads : Re
       ∙ ap (λ (z : List ℕ). after heard (Take 0 z)) (sym q.same ∙ up.1))
       (subst (λ (o : Option (Numbered (List ℕ))). MayTake true (length e.taken) o) (sym q.is) (sym q.number ∙ up.0 ∙ ap (λ (z : Window). length z.taken % 8) u.same))
       (ap (λ (z : Window). z.given) u.same)
-      (ap (λ (xs : List (List ℕ)). xs ++ y ∷ []) (h.near_up ∙ sym (ap (λ (z : Window). z.taken) u.same)))
+      (ap (λ (xs : List (List ℕ)). xs ++ y ∷ []) (h.near_has.up ∙ sym (ap (λ (z : Window). z.taken) u.same)))
 
   -- an N(R) that comes is valid, so that no FRMR is due
   valid_at : (w : Stations) (l : Line (List ℕ)) → Joint MayAsk c d w l → AsUp c w.near.station l.near → (g : Frame (List ℕ)) (gs : List (Frame (List ℕ))) → l.back ≡ g ∷ gs → (nr : ℕ) → nr ≡ g.ack % 8
@@ -460,9 +460,9 @@ module _ (MayAsk : Type 0) (c d : Settings) (joined : AreJoined c d) (reads : Re
         out = refl;
         left = shows;
         orderly = orderly;
-        given = append-nil w.near.down ∙ h.near_down ∙ sym (ap (λ (z : Window). z.given) u.same);
-        taken = rw none (append-nil w.near.up ∙ h.near_up ∙ sym (ap (λ (z : Window). z.taken) u.same));
-        within = subst (AllWithin d.longest) (sym (ap (λ (z : Window). z.given) u.same)) h.near_within;
+        given = append-nil w.near.down ∙ h.near_has.down ∙ sym (ap (λ (z : Window). z.given) u.same);
+        taken = rw none (append-nil w.near.up ∙ h.near_has.up ∙ sym (ap (λ (z : Window). z.taken) u.same));
+        within = subst (AllWithin d.longest) (sym (ap (λ (z : Window). z.given) u.same)) h.near_has.within;
         same_sent = ap (λ (z : Window). z.sent) u.same;
       }
 
@@ -492,14 +492,8 @@ module _ (MayAsk : Type 0) (c d : Settings) (joined : AreJoined c d) (reads : Re
       back = shows;
       out_orderly = parting_out_orderly w.out step.side.out parting h.out_orderly;
       back_orderly = orderly;
-      near_down = append-nil w.near.down ∙ h.near_down;
-      near_up = rw none (append-nil w.near.up ∙ h.near_up);
-      far_down = h.far_down;
-      far_up = h.far_up;
-      near_within = h.near_within;
-      far_within = h.far_within;
-      near_notes = notes;
-      far_notes = h.far_notes;
+      near_has = record { down = append-nil w.near.down ∙ h.near_has.down; up = rw none (append-nil w.near.up ∙ h.near_has.up); within = h.near_has.within; notes = notes };
+      far_has = h.far_has;
       no_frmr = no_frmr_append w.sent step.side.out h.no_frmr (parting_no_frmr MayAsk step.side.out parting);
       whole = whole_append d.longest ((w.near.down ++ []) ++ w.far.down) w.sent step.side.out
           (whole_more d.longest (w.near.down ++ w.far.down) ((w.near.down ++ []) ++ w.far.down) (first_more w.near.down w.far.down []) w.sent h.whole)
@@ -521,7 +515,7 @@ module _ (MayAsk : Type 0) (c d : Settings) (joined : AreJoined c d) (reads : Re
       let off = away_is_not_up MayAsk step.side.near.phase away in
       parts_joint w l h l.back os step h.kept h.reached shows orderly (last_parting MayAsk reason step.side.out leaves ends.frames)
       (record { away = away; empty = empty_lists step.side.near.outgoing step.side.near.taken ends.outgoing ends.taken }) ends.packet
-      (leaving_notes MayAsk c w os step reason h.near_notes up ends.noted (not_afresh w.near.station step tells off) off)
+      (leaving_notes MayAsk c w os step reason h.near_has.notes up ends.noted (not_afresh w.near.station step tells off) off)
 
   -- ---- what comes, by what it reads as
 
@@ -569,7 +563,7 @@ module _ (MayAsk : Type 0) (c d : Settings) (joined : AreJoined c d) (reads : Re
       → is_up w.near.station.phase ≡ false → Leads MayAsk c d w l (taken_out (first_of m) l.back) (after_step c w os [] step)
   away_joint w l h None os step orderly shows parting away none quiet was_away =
       parts_joint w l h l.back os step h.kept h.reached shows orderly parting away none
-      (quiet_notes MayAsk c w os [] step h.near_notes quiet (away_is_not_up MayAsk step.side.near.phase away.away ∙ sym was_away))
+      (quiet_notes MayAsk c w os [] step h.near_has.notes quiet (away_is_not_up MayAsk step.side.near.phase away.away ∙ sym was_away))
   away_joint w l h (Some f) os step orderly shows parting away none quiet was_away =
       let front = front_of f (numbered_on (other c.role) c.longest os) l.back shows in
       let left : (List (Frame (List ℕ))) → Line (List ℕ) = λ bs. record { near = l.near; far = l.far; out = l.out; back = remove bs 0 } in
@@ -578,4 +572,4 @@ module _ (MayAsk : Type 0) (c d : Settings) (joined : AreJoined c d) (reads : Re
       (subst (λ (bs : List (Frame (List ℕ))). Kept (left bs)) front.is (Kept-moved (Loses 0) l tt h.kept))
       (subst (λ (bs : List (Frame (List ℕ))). IsReached c.window d.window (left bs)) front.is (near_moves l (Loses 0) h.reached tt))
       front.rest_shows orderly parting away none
-      (quiet_notes MayAsk c w os [] step h.near_notes quiet (away_is_not_up MayAsk step.side.near.phase away.away ∙ sym was_away)))
+      (quiet_notes MayAsk c w os [] step h.near_has.notes quiet (away_is_not_up MayAsk step.side.near.phase away.away ∙ sym was_away)))

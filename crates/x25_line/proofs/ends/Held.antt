@@ -62,6 +62,13 @@ pub record Side (v : View) (sx : Stand) (bx p : ℕ) (sy : Stand) (b q : ℕ) (o
   pub one : how_many sabm_in back ≤ 1
   pub asks_once : WhenAsking sx ((how_many sabm_in out + how_many ua_in back ≤ 1) × (how_many disc_in out ≡ 0))
 
+-- ---- the line from x is another
+
+from_near : (v : View) (sx : Stand) (bx p : ℕ) (sy : Stand) (b q : ℕ) (out back fs : List Letter) → AllAsked (NotIn sy) (OlderOk v fs sy) b q back
+    → WhenAsking sx ((how_many sabm_in fs + how_many ua_in back ≤ 1) × (how_many disc_in fs ≡ 0)) → Side v sx bx p sy b q out back → Side v sx bx p sy b q fs back
+from_near v sx bx p sy b q out back fs asked once h =
+    record { view = h.view; tags = h.tags; live = h.live; soon = h.soon; left = h.left; asked = asked; one = h.one; asks_once = once }
+
 -- ---- the line to x is less
 
 few_uas : (sx : Stand) (out back : List Letter) → WhenAsking sx ((how_many sabm_in out + how_many ua_in back ≤ 1) × (how_many disc_in out ≡ 0)) → WhenAsking sx (how_many ua_in back ≤ 1)
@@ -92,16 +99,8 @@ pub less_far : (v : View) (sy : Stand) (b q : ℕ) (sx : Stand) (bx p : ℕ) (ba
 less_far v sy b q sx bx p back out fs l h =
     let sabms = count_less sabm_in refl back fs l in
     let discs = count_less disc_in refl back fs l in
-    record {
-      view = h.view;
-      tags = h.tags;
-      live = h.live;
-      soon = h.soon;
-      left = h.left;
-      asked = asked_map _ _ _ _ bx p (λ n. n) (λ o. (let none = o.1 in (o.0, omega (arith, none, sabms), o.2))) out h.asked;
-      one = h.one;
-      asks_once = asking_map sy _ _ (λ k. (let all = k.0 in let none = k.1 in (omega (arith, all, sabms), omega (arith, none, discs)))) h.asks_once;
-    }
+    from_near v sy b q sx bx p back out fs (asked_map _ _ _ _ bx p (λ n. n) (λ o. (let none = o.1 in (o.0, omega (arith, none, sabms), o.2))) out h.asked)
+    (asking_map sy _ _ (λ k. (let all = k.0 in let none = k.1 in (omega (arith, all, sabms), omega (arith, none, discs)))) h.asks_once) h
 
 -- ---- x sends, and its session stays
 
@@ -110,16 +109,8 @@ pub push_near : (v : View) (sx : Stand) (bx p : ℕ) (sy : Stand) (b q : ℕ) (o
 push_near v sx bx p sy b q out back e no_sabm no_disc h =
     let sabms = count_push sabm_in out e in
     let discs = count_push disc_in out e in
-    record {
-      view = h.view;
-      tags = h.tags;
-      live = h.live;
-      soon = h.soon;
-      left = h.left;
-      asked = asked_map _ _ _ _ b q (λ n. n) (λ o. (let none = o.1 in (o.0, omega (arith, none, sabms, no_sabm), o.2))) back h.asked;
-      one = h.one;
-      asks_once = asking_map sx _ _ (λ k. (let all = k.0 in let none = k.1 in (omega (arith, all, sabms, no_sabm), omega (arith, none, discs, no_disc)))) h.asks_once;
-    }
+    from_near v sx bx p sy b q out back (out ++ e ∷ []) (asked_map _ _ _ _ b q (λ n. n) (λ o. (let none = o.1 in (o.0, omega (arith, none, sabms, no_sabm), o.2))) back h.asked)
+    (asking_map sx _ _ (λ k. (let all = k.0 in let none = k.1 in (omega (arith, all, sabms, no_sabm), omega (arith, none, discs, no_disc)))) h.asks_once) h
 
 -- and as y does: what has an N(R) is sent in the session that stands; and no UA comes that y doesn't await
 pub push_far : (v : View) (sy : Stand) (b q : ℕ) (sx : Stand) (bx p : ℕ) (back out : List Letter) (e : Letter) → sabm_in e.said ≡ 0 → e.session ≤ bx → OfTells e.said ((NotIn sx → ⊥) × (e.session ≡ p))
@@ -198,16 +189,7 @@ pub close_near : (v : View) (sx : Stand) (bx p : ℕ) (sy : Stand) (b q : ℕ) (
 close_near v sx bx p sy b q out back h =
     let k = leave_near v sx bx p sy b q out back h in
     let sabms = count_push sabm_in out (letter bx Disc) in
-    record {
-      view = k.view;
-      tags = k.tags;
-      live = k.live;
-      soon = k.soon;
-      left = k.left;
-      asked = asked_map _ _ _ _ b q (λ n. n) (λ o. (let none = o.1 in (o.0, omega (arith, none, sabms), o.2))) back k.asked;
-      one = k.one;
-      asks_once = tt;
-    }
+    from_near (left_by v) Out bx p sy b q out back (out ++ letter bx Disc ∷ []) (asked_map _ _ _ _ b q (λ n. n) (λ o. (let none = o.1 in (o.0, omega (arith, none, sabms), o.2))) back k.asked) tt k
 
 -- ---- x asks
 

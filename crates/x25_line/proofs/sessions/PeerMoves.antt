@@ -12,14 +12,13 @@ use Rattle.x25_line.specs.laws.Stations.{Act}
 use Rattle.x25_line.specs.laws.StationClaims.{number_in}
 use Rattle.x25_line.specs.laws.Said.{Said, Carried, Tells, Sabm, Disc, Ua, Else, Odd as OddSaid, said}
 use Rattle.x25_line.specs.laws.Sessions.{Entry, Meeting, turned, sabm_in, ua_in, disc_in, how_many, replaced, acts}
-use Rattle.x25_line.specs.laws.Peer.{Peer}
 use Rattle.x25_line.specs.laws.Peer as once
 use Rattle.x25_line.proofs.sessions.SessionLines.{Read, none_is_some, many_append}
 use Rattle.x25_line.proofs.sessions.SessionHeld.{Owes, owes_less}
-use Rattle.x25_line.specs.laws.PeerSessions.{Stand, Out, Asking, In, PeerEnd, PeerSessions, now, with_now, begins, stands, both_ends, with_peer, AllAskedIn, IsFree, IsPatient, heard_by}
+use Rattle.x25_line.specs.laws.PeerSessions.{Stand, Out, Asking, PeerEnd, PeerSessions, now, with_now, begins, stands, both_ends, with_peer, AllAskedIn, IsFree, heard_by}
 use Rattle.x25_line.specs.laws.PeerSessions as sessions
 use Rattle.x25_line.specs.laws.PeerSessionClaims.{frmr_in}
-use Rattle.x25_line.specs.laws.Ends.{Letter, letter, Two, swapped, Moves, free, odd, asks, closes, leaves, hears, takes_ua, takes_sabm, waits_on, takes_disc, loses, damages, Ends, ends_swapped, Does, is_handed, sends, listens, moves, IsReached, far_does}
+use Rattle.x25_line.specs.laws.Ends.{Letter, letter, free, odd, asks, closes, leaves, hears, takes_ua, takes_sabm, waits_on, takes_disc, loses, damages, Ends, ends_swapped, Does, is_handed, sends, listens, moves, IsReached, far_does}
 use Rattle.x25_line.specs.laws.Ends as ends
 use Rattle.x25_line.proofs.sessions.EntryLines.{Less, whole, gone, less_removes, less_replaces, many_less, asked_fewer}
 use Rattle.x25_line.proofs.ends.Meetings.{twice_turned}

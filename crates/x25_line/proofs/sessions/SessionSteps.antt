@@ -12,7 +12,7 @@ use Rattle.x25_link.specs.declared.phase.Phase.{Phase}
 use Rattle.x25_link.specs.declared.phase.Phase.TheVariants.{Waiting, Closed}
 use Rattle.x25_link.specs.Station.{Settings}
 use Rattle.x25_link.specs.Hearing.{Step, other}
-use Rattle.x25_line.specs.laws.Stations.{Stations, start}
+use Rattle.x25_line.specs.laws.Stations.{Stations}
 use Rattle.x25_line.specs.laws.Stations as one
 use Rattle.x25_line.specs.laws.StationClaims.{AreJoined, NoFrmr, AreWhole, numbered_on}
 use Rattle.x25_line.specs.laws.Sessions.{Entry, SessionEnd, Meeting, Sessions, ua_in, how_many, sent_in, extended}

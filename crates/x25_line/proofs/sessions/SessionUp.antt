@@ -78,7 +78,7 @@ follows_no_packet (Some reason) k r s step none h = h.packet
 module _ (c d : Settings) (joined : AreJoined c d) (reads : ReadsSpelled) where
   -- no LinkUp is noted in the session alone
   quiet_up : (v : Stations) (os down : List (List ℕ)) (step : Step) → Holds ⊥ c d (one.after_step c v os down step) → step.notes.up ≡ false
-  quiet_up v os down step holds = second_false v.near.came_up step.notes.up holds.1.near_notes.once
+  quiet_up v os down step holds = second_false v.near.came_up step.notes.up holds.1.near_has.notes.once
 
   pub live_goes_on : {stand : Standing} (w : Sessions) (h : Held stand c d w) → IsView Live w.near h.alone.near.station stand.near → (es : List Entry) (os : List (List ℕ)) (met : List Meeting) (down : List (List ℕ)) (step : Step) (gone : Option ℕ)
       → Leads ⊥ c d h.alone stand.machine (taken_out gone stand.machine.back) (one.after_step c h.alone os down step) → Comes (other c.role) c.longest es os stand.far
