@@ -64,6 +64,7 @@ class Lemmas(unittest.TestCase):
         ("x25_line", "x25_link"): {"EndLemmas"},
         ("x25_sim", "x25_world"): {"Established"},
         ("x25_judge", "x25_line"): {"StationLines", "StationPeers", "StationRuns", "StationSays", "StationSends"},
+        ("x25_judge", "x25_possible_links"): {"Alike", "Covering", "Covers", "Leads", "Sends", "SetLemmas", "Stands", "StepLemmas"},
         ("any", "x25_io"): {"LineLemmas", "LooseLemmas", "RunLemmas", "TakerLemmas", "ToldLemmas"},
     }
 

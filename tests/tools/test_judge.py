@@ -120,6 +120,29 @@ class Forms(support.ToolCase):
 
 
 @support.needs_program
+class Idle(support.ToolCase):
+    """Polls and answers, 500 of each, with no I frame: then RR with N(R)=3 of an end is told."""
+
+    SET_UP, POLLS = "> 013febdf\n< 01738357\n", "> 01119717\n< 01119717\n" * 500
+    WRONG = {"dte": "> 01611064\n", "dce": "< 0361a057\n"}
+
+    def judged(self, *parts):
+        done = subprocess.run([PROGRAM, "judge"], input="".join(parts), stdout=subprocess.PIPE, text=True, timeout=60)
+        return [line for line in done.stdout.splitlines() if " ! " in line or " ~ " in line or line.startswith("#")]
+
+    def test_each_end_is_judged_on(self):
+        for end, wrong in self.WRONG.items():
+            told, *counts, _ = self.judged(self.SET_UP, self.POLLS, wrong)
+            self.assertIn(f" ! {end}: N(R) acknowledges what was never sent (2.3.4.9): at most 0", told)
+            self.assertEqual([count[-12:] for count in counts], ["0 not judged"] * 2)
+
+    def test_it_is_behind_a_set_up_in_a_trace_from_the_midst(self):
+        for end, wrong in self.WRONG.items():
+            told, *_ = self.judged(self.POLLS, self.SET_UP, self.POLLS, wrong)
+            self.assertIn(f" ! {end}: N(R) acknowledges", told)
+
+
+@support.needs_program
 class Runs(support.ToolCase):
     def test_nothing_is_told(self):
         for seed in range(RUNS):

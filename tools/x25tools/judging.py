@@ -222,16 +222,16 @@ class Frames:
         return texts
 
     def _missing(self, line: str) -> list[str]:
-        """What is judged before a line: where the capture may lack the UA to a SABM, and there was none up to a frame with a number, a frame of
-        which nothing is known."""
+        """What is judged before a line: where the capture may lack the UA to a SABM, a frame of which nothing is known before each frame with a
+        number up to a UA, since those that were sent before the SABM came may come first."""
         control, direction = _control(line), line[0]
         if control == SABM and (self._at is None or self._at in ENDS and direction == ENDS[self._at]):
             self._awaits_ua[OTHER[direction]] = True
         is_unnumbered = control is None or control & 3 == 3
         if not self._awaits_ua[direction] or is_unnumbered and control != UA:
             return []
-        self._awaits_ua[direction] = False
         if control == UA:
+            self._awaits_ua[direction] = False
             return []
         self._seen[self._end(direction), None] -= 1
         return [UNREAD[direction]]

@@ -13,23 +13,23 @@ use Rattle.x25_frame.specs.declared.error.FrameError.TheVariants.{Short, BadFcs,
 use Rattle.x25_frame.specs.declared.error.FrameError.TheVariants.{TooLong}
 use Rattle.x25_packet_judge.specs.Book as book
 use Rattle.x25_judge.specs.Counts.{counted, end_text, more, no_counts, no_tally, none, tallied, tally_line}
-use Rattle.x25_judge.specs.Held.{none_held, is_same, keeps}
+use Rattle.x25_judge.specs.Links.{Both, Missed, no_end, sees, misses}
 use Rattle.x25_judge.specs.Note.{first_note, note_text, unjudged_note}
-use Rattle.x25_judge.specs.Rule.{breaks_manners, breaks_order, is_of_manners}
+use Rattle.x25_judge.specs.Rule.{breaks_manners, breaks_order, first, is_of_manners}
 use Rattle.x25_judge.specs.RuleText.{rule_text}
-use Rattle.x25_judge.specs.Sides.{first, no_end, is_judged, sees, misses}
 use Rattle.x25_packet.specs.Reading.{channel_in}
 use Rattle.x25_packet_judge.specs.declared.book.Book.{Book}
 use Rattle.x25_packet_judge.specs.declared.book.Verdict.{Verdict}
 use Rattle.x25_judge.specs.declared.counts.Count.{Count}
 use Rattle.x25_judge.specs.declared.judge.Judge.{Judge}
 use Rattle.x25_judge.specs.declared.judge.Remark.{Remark}
+use Rattle.x25_judge.specs.declared.links.End.{End}
+use Rattle.x25_judge.specs.declared.links.Seen.{Seen}
 use Rattle.x25_judge.specs.declared.judge.Strictness.{Strictness}
 use Rattle.x25_packet_judge.specs.declared.packet_rule.PacketRule.{PacketRule}
 use Rattle.x25_judge.specs.declared.note.Note.{Note}
 use Rattle.x25_judge.specs.declared.rule.Rule.{Rule}
 use Rattle.x25_judge.specs.declared.rule.Rule.TheVariants.{NoFrame, Packet}
-use Rattle.x25_judge.specs.declared.sides.Sides.{Sides}
 
 -- before anything was sent: k, how octets are read, and what counts beside a broken rule
 abbrev pub begins : ℕ → Reading → Strictness → Judge
@@ -39,8 +39,6 @@ begins window reading strictness = record {
   strictness = strictness;
   dte = no_end;
   dce = no_end;
-  dte_held = none_held;
-  dce_held = none_held;
   book = book.empty;
   dte_frames = none;
   dce_frames = none;
@@ -51,23 +49,18 @@ begins window reading strictness = record {
 
 -- ---- a frame
 
--- the end that sends comes first
-abbrev pub sides_of : Role → Judge → Sides
-sides_of Dte j = record { own = j.dte; other = j.dce; rule = None; note = None; is_again = false }
-sides_of Dce j = record { own = j.dce; other = j.dte; rule = None; note = None; is_again = false }
+-- the end that sends, and the other one
+abbrev pub own_of : Role → Judge → End
+own_of Dte j = j.dte
+own_of Dce j = j.dce
 
--- the octets of its I frames
-abbrev pub held_of : Role → Judge → List (List ℕ)
-held_of Dte j = j.dte_held
-held_of Dce j = j.dce_held
+abbrev pub other_of : Role → Judge → End
+other_of Dte j = j.dce
+other_of Dce j = j.dte
 
-abbrev pub behind : Role → Sides → Book → Judge → Judge
-behind Dte t b j = record j { dte = t.own; dce = t.other; book = b }
-behind Dce t b j = record j { dte = t.other; dce = t.own; book = b }
-
-abbrev pub holding : Role → List (List ℕ) → Judge → Judge
-holding Dte held j = record j { dte_held = held }
-holding Dce held j = record j { dce_held = held }
+abbrev pub behind : Role → End → End → Book → Judge → Judge
+behind Dte own other b j = record j { dte = own; dce = other; book = b }
+behind Dce own other b j = record j { dte = other; dce = own; book = b }
 
 -- ---- what was judged
 
@@ -165,45 +158,46 @@ told_of j from octets r next = record {
 }
 
 -- a frame, as it is seen by the link layer and by the packet layer
-abbrev pub remark_by : Judge → Role → PlainFrame → Sides → Verdict → Remark
-remark_by j from frame t v = record {
+abbrev pub remark_by : PlainFrame → Seen → Verdict → Remark
+remark_by frame t v = record {
   rule = all_told t.rule v.rule;
   note = first_note (unjudged_note v.unjudged) t.note;
-  is_judged = is_judged frame (sides_of from j) && covers frame t.is_again v.is_judged;
+  is_judged = t.is_judged && covers frame t.is_again v.is_judged;
 }
 
-abbrev pub next_by : Judge → Role → PlainFrame → Sides → book.Seen → Judge
-next_by j from frame t s = counts_carried from frame t.is_again s.verdict.is_judged
-    (counts_frame from (is_judged frame (sides_of from j))
-    (behind from t s.book (holding from (keeps (held_of from j) frame) j)))
+abbrev pub next_by : Role → PlainFrame → Both → book.Seen → Judge → Judge
+next_by from frame t s j = counts_carried from frame t.seen.is_again s.verdict.is_judged
+    (counts_frame from t.seen.is_judged (behind from t.own t.other s.book j))
 
-abbrev pub told_seen : Judge → Role → List ℕ → PlainFrame → Sides → book.Seen → Answer
-told_seen j from octets frame t s =
-    told_of j from octets (remark_by j from frame t s.verdict) (next_by j from frame t s)
+abbrev pub book_by : Judge → Role → PlainFrame → Both → book.Seen
+book_by j from frame t = book.sees from j.reading frame (breaks_order t.seen.rule) j.book
 
-abbrev pub told_frame : Judge → Role → List ℕ → PlainFrame → Sides → Answer
-told_frame j from octets frame t = told_seen j from octets frame t
-    (book.sees from j.reading frame (breaks_order t.rule) j.book)
+abbrev pub told_frame : Judge → Role → List ℕ → PlainFrame → Both → Answer
+told_frame j from octets frame t = told_of j from octets (remark_by frame t.seen (book_by j from frame t).verdict)
+    (next_by from frame t (book_by j from frame t) j)
 
-abbrev pub remark_of : Judge → Role → PlainFrame → Sides → Remark
-remark_of j from frame t =
-    remark_by j from frame t (book.sees from j.reading frame (breaks_order t.rule) j.book).verdict
+abbrev pub seen_by : Judge → Role → PlainFrame → Both
+seen_by j from frame = sees j.window frame (own_of from j) (other_of from j)
+
+abbrev pub remark_of : Judge → Role → PlainFrame → Both → Remark
+remark_of j from frame t = remark_by frame t.seen (book_by j from frame t).verdict
 
 -- octets that spell no frame are judged where they aren't damaged
-abbrev pub remark_missed : FrameError → Remark
-remark_missed e = record { rule = no_frame e; note = None; is_judged = is_some (no_frame e) }
+abbrev pub remark_missed : FrameError → Missed → Remark
+remark_missed e m = record { rule = no_frame e; note = m.note; is_judged = is_some (no_frame e) }
 
-abbrev pub next_missed : Role → FrameError → Judge → Judge
-next_missed from e j = counts_frame from (is_some (no_frame e))
-    (behind from (misses (sides_of from j)) (book.misses from j.book) j)
+abbrev pub missed_by : Judge → Role → Missed
+missed_by j from = misses (own_of from j) (other_of from j)
 
-abbrev pub seen_by : Judge → Role → PlainFrame → Sides
-seen_by j from frame = sees j.window (is_same (held_of from j) frame) frame (sides_of from j)
+abbrev pub next_missed : Role → FrameError → Missed → Judge → Judge
+next_missed from e m j =
+    counts_frame from (is_some (no_frame e)) (behind from m.own m.other (book.misses from j.book) j)
 
 -- octets, by what they spell
 abbrev pub read_of : Judge → Role → List ℕ → Result PlainFrame FrameError → Answer
 read_of j from octets (Ok frame) = told_frame j from octets frame (seen_by j from frame)
-read_of j from octets (Err e) = told_of j from octets (remark_missed e) (next_missed from e j)
+read_of j from octets (Err e) =
+    told_of j from octets (remark_missed e (missed_by j from)) (next_missed from e (missed_by j from) j)
 
 -- a line that is none of a trace counts
 abbrev pub sent_of : Judge → Option (Role × List ℕ) → Answer

@@ -3,8 +3,8 @@ pub mod Held
 pub mod Counts
 pub mod Rule
 pub mod RuleText
-pub mod Way
-pub mod Sides
+pub mod Manners
+pub mod Links
 pub mod Judge
 pub mod Answerer
 pub mod code

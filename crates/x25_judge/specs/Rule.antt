@@ -1,5 +1,5 @@
 -- Which rules are of manners (profile).
-use Rattle.std.specs.Prelude.{nat_lt, Bool, true, false, not, Option, Some, None}
+use Rattle.std.specs.Prelude.{nat_lt, Bool, true, false, not, ◌&&◌, if◌then◌else◌, Option, Some, None}
 use Rattle.x25_packet_judge.specs.PacketRule as packet
 use Rattle.x25_judge.specs.declared.rule.Rule.{Rule}
 use Rattle.x25_judge.specs.declared.rule.Rule.TheVariants.{NoPoll, RejectAgain, OverWindow, Skips, Repeats, Packet}
@@ -23,3 +23,9 @@ breaks_manners (Some rule) = is_of_manners rule
 abbrev pub breaks_order : Option Rule → Bool
 breaks_order None = false
 breaks_order (Some rule) = not (is_of_manners rule)
+
+-- the first of them, but one of order before one of manners
+abbrev pub first : Option Rule → Option Rule → Option Rule
+first None next = next
+first (Some rule) None = Some rule
+first (Some rule) (Some next) = if is_of_manners rule && not (is_of_manners next) then Some next else Some rule

@@ -5,3 +5,4 @@ pub mod Session
 pub mod Watching
 pub mod Explaining
 pub mod VerdictClaims
+pub mod Tapes

@@ -1,7 +1,7 @@
 //! The octets of the last I frame of each number that an end sent.
 ghost use Rattle.std.specs.Prelude.{◌≡◌, ◌≤◌, [], ℕ, IfOk, List, length, vec_capacity};
 ghost use Rattle.x25_frame.specs.Frame.{plain};
-ghost use Rattle.x25_judge.specs.Held.{is_same, keeps, none_held};
+ghost use Rattle.x25_judge.specs.Held.{Held, differs, forgets, forgets_all, is_same, keeps, no_octets, none_held};
 
 use std::alloc::{AllocError, Global};
 use std::marker::Model;
@@ -15,22 +15,23 @@ const NUMBERS: usize = 8;
 #[derive(Drop)]
 pub(crate) struct Held {
     slots: Vec<Text>,
+    known: [bool; 8],
 }
 
 impl Model for Held {
-    ghost Value = { List (List ℕ) };
+    ghost Value = { Held };
 
-    ghost view = { λ h. h.slots.items };
+    ghost view = { λ h. record { octets = h.slots.items; known = h.known } };
 
     ghost invariant = { λ h. (length h.slots.items ≡ 8) × (vec_capacity h.slots ≡ 8) };
 }
 
 /// No octets of each number.
-#[tactic(auto, unfolding(crate::specs::Held::none_held))]
+#[tactic(auto, unfolding(crate::specs::Held::no_octets))]
 fn fill_up(alloc: Global, slots: &mut Vec<Text>) -> Result<(), AllocError>
     requires empty { slots.old.items ≡ [] }
     requires room { 8 ≤ vec_capacity slots.old }
-    ensures items { IfOk result (λ _. slots.new.items ≡ none_held) }
+    ensures items { IfOk result (λ _. slots.new.items ≡ no_octets) }
     ensures size { IfOk result (λ _. length slots.new.items ≡ 8) }
     ensures capacity { vec_capacity slots.new ≡ vec_capacity slots.old }
 {
@@ -47,7 +48,10 @@ impl Held {
     {
         let mut slots = Vec::with_capacity(alloc, NUMBERS)?;
         fill_up(alloc, &mut slots)?;
-        Ok(Held { slots })
+        Ok(Held {
+            slots,
+            known: [false; 8],
+        })
     }
 
     /// Whether an I frame has the octets of the last one of its number.
@@ -56,8 +60,10 @@ impl Held {
         ensures { result ≡ is_same self.now (plain frame.now) }
     {
         match frame {
-            Frame::I { ns, info, .. } => self.slots[usize::from(ns.get()) % NUMBERS].as_slice()
-                == *info,
+            Frame::I { ns, info, .. } => {
+                let at = usize::from(ns.get()) % NUMBERS;
+                self.known[at] && self.slots[at].as_slice() == *info
+            }
             Frame::Rr { .. }
             | Frame::Rnr { .. }
             | Frame::Rej { .. }
@@ -69,14 +75,50 @@ impl Held {
         }
     }
 
+    /// Whether it is known to have others.
+    #[tactic(auto, unfolding(crate::specs::Held::differs))]
+    pub(crate) fn differs(&self, frame: &Frame) -> bool
+        ensures { result ≡ differs self.now (plain frame.now) }
+    {
+        match frame {
+            Frame::I { ns, info, .. } => {
+                let at = usize::from(ns.get()) % NUMBERS;
+                self.known[at] && !(self.slots[at].as_slice() == *info)
+            }
+            Frame::Rr { .. }
+            | Frame::Rnr { .. }
+            | Frame::Rej { .. }
+            | Frame::Sabm { .. }
+            | Frame::Disc { .. }
+            | Frame::Ua { .. }
+            | Frame::Dm { .. }
+            | Frame::Frmr { .. } => false,
+        }
+    }
+
+    /// The octets of a number are known no longer.
+    pub(crate) fn forget(&mut self, number: u8)
+        ensures { self.new ≡ forgets number self.old }
+    {
+        self.known[usize::from(number) % NUMBERS] = false;
+    }
+
+    pub(crate) fn forget_all(&mut self)
+        ensures { self.new ≡ forgets_all self.old }
+    {
+        self.known = [false; 8];
+    }
+
     /// Holds the octets of an I frame.
     #[tactic(auto, unfolding(crate::specs::Held::keeps))]
     pub(crate) fn keep(&mut self, frame: &Frame)
         ensures { self.new ≡ keeps self.old (plain frame.now) }
     {
         if let Frame::I { ns, info, .. } = frame {
-            let slot = &mut self.slots[usize::from(ns.get()) % NUMBERS];
+            let at = usize::from(ns.get()) % NUMBERS;
+            let slot = &mut self.slots[at];
             slot.clear();
+            self.known[at] = info.len() <= ROOM;
             if info.len() <= ROOM {
                 slot.push(info);
             }

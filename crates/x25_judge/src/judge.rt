@@ -9,21 +9,17 @@ ghost use Rattle.x25_frame.specs.Reading.{frame_of};
 ghost use Rattle.x25_text.specs.FrameText.{frame_text, reading_text};
 ghost use Rattle.x25_text.specs.WideFrameText.{wide_frame_text, wide_reading_text};
 ghost use Rattle.x25_frame.specs.Frame.{plain};
-ghost use Rattle.x25_packet_judge.specs.Book.{sees as book_sees};
-ghost use Rattle.x25_judge.specs.Held.{is_same, keeps};
 ghost use Rattle.x25_judge.specs.Judge.{all_told, answer_to, begins, behind, broken_text, counts_carried};
 ghost use Rattle.x25_judge.specs.Judge.{counts_frame, end_of, ends_text};
-ghost use Rattle.x25_judge.specs.Judge.{counts_by, counts_packet, counts_text, covers, held_of, holding, next_by};
+ghost use Rattle.x25_judge.specs.Judge.{book_by, counts_by, counts_packet, counts_text, covers, missed_by, next_by};
 ghost use Rattle.x25_judge.specs.Judge.{next_missed, no_frame, read_of, noted_text, remark_missed, remark_of};
-ghost use Rattle.x25_judge.specs.Judge.{remark_text, seen_by, sides_of, sign_of, tallies};
-ghost use Rattle.x25_judge.specs.Rule.{breaks_order as breaks_order_of};
+ghost use Rattle.x25_judge.specs.Judge.{remark_text, seen_by, sign_of, tallies};
 
 use crate::counts::{Count, Counts, Tally, tell_end, tell_tally};
-use crate::held::Held;
+use crate::links::{End, Seen, misses, sees};
 use crate::note::{MOST_NOTE, Note, first_note, push_note, unjudged_note};
-use crate::rule::{Rule, breaks_manners, breaks_order};
+use crate::rule::{Rule, breaks_manners, breaks_order, first};
 use crate::rule_text::{MOST_RULE, push_rule};
-use crate::sides::{End, Sides, first};
 use std::alloc::{AllocError, Global};
 use x25_decode::{Reading, read_sent};
 use x25_frame::{Frame, FrameError, N1, Role, decode};
@@ -57,8 +53,6 @@ pub(crate) struct Judge {
     pub(crate) strictness: Strictness,
     pub(crate) dte: End,
     pub(crate) dce: End,
-    pub(crate) dte_held: Held,
-    pub(crate) dce_held: Held,
     pub(crate) book: Book,
     pub(crate) dte_frames: Count,
     pub(crate) dce_frames: Count,
@@ -229,8 +223,8 @@ impl Judge {
     ) -> Result<Judge, AllocError>
         ensures { IfOk result (λ judge. judge ≡ begins window reading strictness) }
     {
-        let dte_held = Held::new(alloc)?;
-        let dce_held = Held::new(alloc)?;
+        let dte = End::new(alloc)?;
+        let dce = End::new(alloc)?;
         let book = Book::new(alloc)?;
         let dte_packets = Counts::new(alloc)?;
         let dce_packets = Counts::new(alloc)?;
@@ -238,10 +232,8 @@ impl Judge {
             window,
             reading,
             strictness,
-            dte: End::new(),
-            dce: End::new(),
-            dte_held,
-            dce_held,
+            dte,
+            dce,
             book,
             dte_frames: Count::none(),
             dce_frames: Count::none(),
@@ -295,100 +287,61 @@ impl Judge {
         self.told = self.told.more(breaks_order(rule), breaks_manners(rule));
     }
 
-    /// The end that sends, and the other one.
-    fn sides(&self, from: Role) -> Sides
-        ensures { result ≡ sides_of from self.now }
+    /// What the link layer says of a frame.
+    fn look(&mut self, from: Role, frame: &Frame) -> Seen
+        ensures next { self.new ≡ behind from (seen_by self.old from (plain frame.now)).own
+            (seen_by self.old from (plain frame.now)).other self.old.book self.old }
+        ensures seen { result ≡ (seen_by self.old from (plain frame.now)).seen }
     {
         match from {
-            Role::Dte => Sides {
-                own: self.dte,
-                other: self.dce,
-                rule: None,
-                note: None,
-                is_again: false,
-            },
-            Role::Dce => Sides {
-                own: self.dce,
-                other: self.dte,
-                rule: None,
-                note: None,
-                is_again: false,
-            },
+            Role::Dte => sees(&mut self.dte, &mut self.dce, self.window, frame),
+            Role::Dce => sees(&mut self.dce, &mut self.dte, self.window, frame),
         }
     }
 
-    fn keep(&mut self, from: Role, sides: Sides)
-        ensures { self.new ≡ behind from sides self.old.book self.old }
+    /// What the link layer notes of octets that spell no frame.
+    fn look_past(&mut self, from: Role) -> Option<Note>
+        ensures next { self.new
+            ≡ behind from (missed_by self.old from).own (missed_by self.old from).other self.old.book self.old }
+        ensures note { result ≡ (missed_by self.old from).note }
     {
         match from {
-            Role::Dte => {
-                self.dte = sides.own;
-                self.dce = sides.other;
-            }
-            Role::Dce => {
-                self.dce = sides.own;
-                self.dte = sides.other;
-            }
-        }
-    }
-
-    /// Whether the end's last I frame of this number has the same octets.
-    fn has(&self, from: Role, frame: &Frame) -> bool
-        ensures { result ≡ is_same (held_of from self.now) (plain frame.now) }
-    {
-        match from {
-            Role::Dte => self.dte_held.has(frame),
-            Role::Dce => self.dce_held.has(frame),
-        }
-    }
-
-    fn hold(&mut self, from: Role, frame: &Frame)
-        ensures { self.new ≡ holding from (keeps (held_of from self.old) (plain frame.now)) self.old }
-    {
-        match from {
-            Role::Dte => self.dte_held.keep(frame),
-            Role::Dce => self.dce_held.keep(frame),
+            Role::Dte => misses(&mut self.dte, &mut self.dce),
+            Role::Dce => misses(&mut self.dce, &mut self.dte),
         }
     }
 
     /// The rule that a frame breaks, and what is noted of it.
     fn sees(&mut self, from: Role, frame: &Frame) -> Remark
-        ensures next { self.new ≡ next_by self.old from (plain frame.now) (seen_by self.old from (plain frame.now))
-            (book_sees from self.old.reading (plain frame.now)
-            (breaks_order_of (seen_by self.old from (plain frame.now)).rule) self.old.book) }
+        ensures next { self.new ≡ next_by from (plain frame.now) (seen_by self.old from (plain frame.now))
+            (book_by self.old from (plain frame.now) (seen_by self.old from (plain frame.now))) self.old }
         ensures remark { result ≡ remark_of self.old from (plain frame.now) (seen_by self.old from (plain frame.now)) }
     {
-        let is_same = self.has(from, frame);
-        let before = self.sides(from);
-        let is_judged = before.is_judged(frame);
-        let sides = before.sees(self.window, is_same, frame);
-        self.hold(from, frame);
+        let seen = self.look(from, frame);
         let verdict = self
             .book
-            .sees(from, self.reading, frame, breaks_order(sides.rule));
-        self.keep(from, sides);
-        self.count_frame(from, is_judged);
-        self.count_carried(from, frame, sides.is_again, verdict.is_judged);
+            .sees(from, self.reading, frame, breaks_order(seen.rule));
+        self.count_frame(from, seen.is_judged);
+        self.count_carried(from, frame, seen.is_again, verdict.is_judged);
         Remark {
-            rule: all_told(sides.rule, verdict.rule),
-            note: first_note(unjudged_note(verdict.unjudged), sides.note),
-            is_judged: is_judged && covers(frame, sides.is_again, verdict.is_judged),
+            rule: all_told(seen.rule, verdict.rule),
+            note: first_note(unjudged_note(verdict.unjudged), seen.note),
+            is_judged: seen.is_judged && covers(frame, seen.is_again, verdict.is_judged),
         }
     }
 
     /// The rule that octets break which spell no frame.
     fn misses(&mut self, from: Role, error: FrameError) -> Remark
-        ensures next { self.new ≡ next_missed from error self.old }
-        ensures remark { result ≡ remark_missed error }
+        ensures next { self.new ≡ next_missed from error (missed_by self.old from) self.old }
+        ensures remark { result ≡ remark_missed error (missed_by self.old from) }
     {
-        let sides = self.sides(from).misses();
+        let note = self.look_past(from);
         self.book.misses(from);
-        self.keep(from, sides);
         let rule = no_frame(error);
         self.count_frame(from, rule.is_some());
         Remark {
             rule,
-            note: None,
+            note,
             is_judged: rule.is_some(),
         }
     }

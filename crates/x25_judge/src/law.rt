@@ -1,8 +1,8 @@
 //! What a verdict means: no end that keeps the rules is told of by a rule of order, and where nothing is told order is
-//! kept. Each law is the contract of a function that does nothing.
+//! kept, as long as there is room for the places of an end. Each law is the contract of a function that does nothing.
 ghost use Rattle.x25_frame.specs.laws.ReadingLaw.{ReadsSpelled, ReadsWhatIsSpelled};
-ghost use Rattle.x25_judge.specs.laws.VerdictClaims.{JudgedAnswersAreTold, JudgedNumbersAreTold};
-ghost use Rattle.x25_judge.specs.laws.VerdictClaims.{JudgedSendingsAreTold, JudgedOctetsAreTold, JudgedFinalsAreTold};
+ghost use Rattle.x25_judge.specs.laws.VerdictClaims.{GuiltyAreTold, JudgedFinalsAreTold, JudgedSendingsAreTold};
+ghost use Rattle.x25_judge.specs.laws.VerdictClaims.{ToldAreGuilty};
 ghost use Rattle.x25_judge.specs.laws.VerdictClaims.{NoInnocentIsAccused, NoStationIsAccused};
 ghost use Rattle.x25_judge.specs.laws.VerdictClaims.{NoSessionIsAccused, SilenceMeansOrder, SilenceMeansRules};
 ghost use Rattle.x25_judge.specs.laws.VerdictClaims.{SetUpsBegin, SilenceMeansNumbers};
@@ -14,10 +14,9 @@ use x25_frame::{reading_is_the_grammar, reads_what_is_spelled};
 use x25_line::{each_event_hands_one, silent_tape_keeps_order};
 use x25_link::{follows_the_window, notes_what_changes, sets_up_by_rows};
 
-/// SABM of an end and UA of the other, anywhere in a trace, begin the session that the laws below are about, but where
-/// UA answered a SABM of that end already, and it has sent no frame with a number since. Where UA may still come to a
-/// SABM or DISC of that end that frames with numbers went behind, only the law on one packet for each number is about
-/// it.
+/// SABM of an end and UA of the other, anywhere in a trace, begin the session that the laws below are about, as long as
+/// nothing is told of either, no UA waits for the end that asks and no number for the other one, and no octets that
+/// spell no frame for either.
 pub fn set_ups_begin()
     ensures { SetUpsBegin }
 {}
@@ -77,14 +76,14 @@ pub fn silence_means_one_packet()
     laws_below();
 }
 
-/// What counts as judged is told of, by a rule of order: a frame whose N(R) acknowledges what was never sent or falls,
-/// and a UA that answers neither SABM nor DISC. By such a rule or by manners: an I frame whose N(S) is none that V(S)
-/// may have, or whose octets aren't those that the number had, and a response with F=1 that answers no P=1.
-pub fn judged_frames_are_told()
-    ensures numbers { JudgedNumbersAreTold }
-    ensures answers { JudgedAnswersAreTold }
+/// What breaks a rule is told. Where an end kept the rules up to a frame, and no run of an end that keeps them
+/// explains the trace with it, a rule is told of it, or that numbers are left out, as long as there is room; and the
+/// first rule of order that is told of an end is told of such a frame. Of what counts as judged a rule or manners are
+/// told: of an I frame whose N(S) is none that V(S) may have, and of a response with F=1 that answers no P=1.
+pub fn guilty_are_told()
+    ensures guilty { GuiltyAreTold }
+    ensures told { ToldAreGuilty }
     ensures sendings { JudgedSendingsAreTold }
-    ensures octets { JudgedOctetsAreTold }
     ensures finals { JudgedFinalsAreTold }
 {}
 

@@ -10,15 +10,15 @@ mod held;
 mod judge;
 mod judging;
 mod law;
+mod links;
+mod manners;
 mod note;
 mod rule;
 mod rule_text;
-mod sides;
-mod way;
 
 pub use judge::Strictness;
 pub use judging::judge_lines;
 pub use law::{
-    innocents_stay_untold, judged_frames_are_told, sessions_stay_untold, set_ups_begin,
+    guilty_are_told, innocents_stay_untold, sessions_stay_untold, set_ups_begin,
     silence_means_one_packet, silence_means_order, silence_means_rules_kept, stations_stay_untold,
 };

@@ -44,6 +44,17 @@ impl Rule {
     }
 }
 
+/// The first of two rules, but one of order before one of manners.
+pub(crate) fn first(rule: Option<Rule>, next: Option<Rule>) -> Option<Rule>
+    ensures { result ≡ definition.first rule next }
+{
+    match (rule, next) {
+        (None, _) => next,
+        (Some(broken), Some(worse)) if broken.is_of_manners() && !worse.is_of_manners() => next,
+        (Some(_), _) => rule,
+    }
+}
+
 /// Whether a rule of manners is broken.
 pub(crate) fn breaks_manners(rule: Option<Rule>) -> bool
     ensures { result ≡ definition.breaks_manners rule }

@@ -1,9 +1,11 @@
-mod Lists
-mod Stands
-mod Covers
-mod Sends
-mod Leads
-mod Exactly
-mod LoopLemmas
-mod StepLemmas
-mod SetLemmas
+pub mod Lists
+pub mod Stands
+pub mod Covers
+pub mod Sends
+pub mod Leads
+pub mod Exactly
+pub mod LoopLemmas
+pub mod StepLemmas
+pub mod Covering
+pub mod SetLemmas
+pub mod Alike

@@ -10,10 +10,10 @@ use Rattle.x25_possible_links.specs.laws.Link.{State, At, link_rules}
 use Rattle.x25_possible_links.specs.laws.Places.{settled, settle}
 use Rattle.x25_possible_links.specs.laws.Places as place
 use Rattle.x25_possible_links.specs.laws.Sets.{GuiltyAreTold, InnocentsStayUntold}
-use Rattle.x25_possible_links.specs.code.Steps.{begun_as, blind, broken, grow_all, grows, least, played, sends_to, sent_to, set_as}
+use Rattle.x25_possible_links.specs.code.Steps.{begun_as, broken, grow_all, grows, least, played, sends_to, sent_to, set_as}
 use Rattle.x25_possible_links.specs.code.Steps.{latest, skipped_by, standing, telling, unexplained, unexplained_as}
 use Rattle.x25_possible_links.specs.code.Steps.{settles, shift_all, shift_at, shifted_to, shown_to, spot_at, Stepped, trimmed, walk_all}
-use Rattle.x25_possible_links.specs.code.Steps.{walks}
+use Rattle.x25_possible_links.specs.code.Steps.{shows_to, walks}
 use Rattle.x25_possible_links.specs.declared.frame.Frame.{Frame}
 use Rattle.x25_possible_links.specs.declared.frame.Frame.TheVariants.{Ua}
 use Rattle.x25_possible_links.specs.declared.link.Mode.TheVariants.{Right, Skipping}
@@ -22,7 +22,8 @@ use Rattle.x25_possible_links.specs.declared.set.Told.{Told}
 use Rattle.x25_possible_links.specs.declared.set.Told.TheVariants.{Nothing, Skips, Broken}
 use Rattle.x25_possible_links.specs.declared.spots.Spot.{Spot}
 use Rattle.x25_possible_links.specs.declared.stand.Stand.{Stand}
-use Rattle.x25_possible_links.proofs.LoopLemmas.{least_most}
+use Rattle.x25_possible_links.proofs.Covering.{behind_own, behind_other, blind_sends, blind_shows, grows_adds, hurried_shows}
+use Rattle.x25_possible_links.proofs.Covering.{least_is, moved, moved_is, shows_by}
 use Rattle.x25_possible_links.proofs.Stands.{below_self}
 use Rattle.x25_possible_links.proofs.Covers.{Here}
 use Rattle.x25_possible_links.proofs.Leads.{HoldsAt, holds_shown, holds_takes, holds_settled, stays_at}
@@ -49,9 +50,6 @@ holds_by : (way : List Frame) (qs : List Spot) (ps : List (Place Stand Frame)) �
 holds_by way qs ps adds p is s end h = adds.holds p is s end h
 
 -- ---- as the end sends a frame
-
-abbrev behind_own : Frame → List Frame → Spot → List (Place Stand Frame)
-behind_own x way q = map settle (place.walks x (placed way q))
 
 link_sends : List Stand → State → List Frame → Frame → State → Type 0
 link_sends begun s end x r = (link_rules begun).Sends s end x r
@@ -122,18 +120,6 @@ own_fits begun tape way qs new x fits e = record {
 
 -- ---- as the other end sends one
 
-abbrev behind_other : Frame → List Frame → Spot → List (Place Stand Frame)
-behind_other x way q = settled q.stand (drop q.at way ++ x ∷ []) ∷ []
-
-grows_adds : (way : List Frame) (x : Frame) (q : Spot) (out new : List Spot) (b : Bool) → nat_le q.at (length way) ≡ b
-    → (if b then settles q.at (drop q.at (way ++ x ∷ [])) q.stand out else None) ≡ Some new
-    → Adds (way ++ x ∷ []) out new (behind_other x way q)
-grows_adds way x q out new false e h = absurd (none-some new h)
-grows_adds way x q out new true e h =
-    subst (λ w. Adds (way ++ x ∷ []) out new (settled q.stand w ∷ []))
-    (drop-append-le q.at way (x ∷ []) (leb-true q.at (length way) e))
-    (adds_settled (way ++ x ∷ []) q.at (drop q.at (way ++ x ∷ [])) q.stand out new refl h)
-
 other_is : (x y : Frame) (tape tape' : List (Item Frame)) → Other y ∷ tape' ≡ Other x ∷ tape → (y ≡ x) × (tape' ≡ tape)
 unfolding frame_of rest_of
 other_is x y tape tape' e = (ap (frame_of y) e, ap rest_of e)
@@ -189,26 +175,6 @@ other_fits begun tape way qs new x fits e = record {
     only q p (inr h) = absurd h
 
 -- ---- with less on the way
-
-least_is : (qs : List Spot) (n : ℕ) (q : Spot) → IsIn q qs → least qs n ≤ q.at
-least_is [] n q is = absurd is
-least_is (p ∷ qs) n q (inl e) =
-    subst (λ r. least qs (if nat_lt p.at n then p.at else n) ≤ r.at) (sym e)
-    (le_trans (least_most qs (if nat_lt p.at n then p.at else n)) (low (nat_lt p.at n) refl))
-  where
-    low : (b : Bool) → nat_lt p.at n ≡ b → (if b then p.at else n) ≤ p.at
-    low true h = omega arith
-    low false h = ltb-false p.at n h
-least_is (p ∷ qs) n q (inr is) = least_is qs (if nat_lt p.at n then p.at else n) q is
-
-abbrev moved : ℕ → List Frame → Spot → List (Place Stand Frame)
-moved n way q = placed (drop n way) (spot_at (q.at - n) q.stand) ∷ []
-
-moved_is : (n : ℕ) (way : List Frame) (q : Spot) → n ≤ q.at → placed (drop n way) (spot_at (q.at - n) q.stand) ≡ placed way q
-moved_is n way q h = ap (at q.stand) (drop-drop (q.at - n) n way ∙ ap (λ m. drop m way) (far h))
-  where
-    far : n ≤ q.at → n + (q.at - n) ≡ q.at
-    far h = omega (arith, h)
 
 shift_fits : (begun : List Stand) (tape : List (Item Frame)) (way : List Frame) (qs new : List Spot) (n : ℕ)
     → ((q : Spot) → IsIn q qs → n ≤ q.at) → Fits begun tape way qs → shift_all n qs [] ≡ Some new → Fits begun tape (drop n way) new
@@ -316,30 +282,22 @@ nothing_holds begun _ _ _ e (Sends tape s r end y may h) = absurd (no_item y tap
 nothing_holds begun _ _ _ e (Takes tape s r end y may h) =
     let g = nothing_holds begun tape s (y ∷ end) e h in (g.0, g.1, holds_takes g.0.stand (drop g.0.at []) s r y end g.2 may)
 
-abbrev sends_by : Bool → Frame → LinkSet → Stepped
-sends_by b x set =
-    if b then telling Nothing set else sent_to x (walk_all Right x set.way.items set.spots.items []) set
+own_step : (begun : List Stand) (tape : List (Item Frame)) (set : LinkSet) (x : Frame) (s : State) (end : List Frame)
+    → FitsSet begun tape set → Stands (link_rules begun) (Own x ∷ tape) s end
+    → (sends_to x set).set.is_blind ≡ false → FitsSet begun (Own x ∷ tape) (sends_to x set).set
+own_step begun tape set x s end fits h sees =
+    sent_fits begun tape set x s end (walk_all Right x set.way.items set.spots.items []) refl sees fits h
 
-abbrev shows_by : Bool → Bool → Frame → LinkSet → LinkSet
-shows_by b full x set =
-    if b then set
-    else if full then blind
-    else shown_to set (set.way.items ++ x ∷ []) (grow_all (length set.way.items) (set.way.items ++ x ∷ []) set.spots.items [])
+other_step : (begun : List Stand) (tape : List (Item Frame)) (set : LinkSet) (x : Frame) (full : Bool) → FitsSet begun tape set
+    → (shows_by full x set).is_blind ≡ false → FitsSet begun (Other x ∷ tape) (shows_by full x set)
+other_step begun tape set x true fits sees = absurd (both_ways _ sees (hurried_shows set x))
+other_step begun tape set x false fits sees =
+    shown_fits begun tape set x (grow_all (length set.way.items) (set.way.items ++ x ∷ []) set.spots.items []) refl sees fits
 
-own_step : (begun : List Stand) (tape : List (Item Frame)) (set : LinkSet) (x : Frame) (s : State) (end : List Frame) (b : Bool)
-    → set.is_blind ≡ b → (set.is_blind ≡ false → FitsSet begun tape set) → Stands (link_rules begun) (Own x ∷ tape) s end
-    → (sends_by b x set).set.is_blind ≡ false → FitsSet begun (Own x ∷ tape) (sends_by b x set).set
-own_step begun tape set x s end true e fits h sees = absurd (both_ways set.is_blind sees e)
-own_step begun tape set x s end false e fits h sees =
-    sent_fits begun tape set x s end (walk_all Right x set.way.items set.spots.items []) refl sees (fits e) h
-
-other_step : (begun : List Stand) (tape : List (Item Frame)) (set : LinkSet) (x : Frame) (b full : Bool) → set.is_blind ≡ b
-    → (set.is_blind ≡ false → FitsSet begun tape set) → (shows_by b full x set).is_blind ≡ false
-    → FitsSet begun (Other x ∷ tape) (shows_by b full x set)
-other_step begun tape set x true full e fits sees = absurd (both_ways set.is_blind sees e)
-other_step begun tape set x false true e fits sees = absurd (both_ways true sees refl)
-other_step begun tape set x false false e fits sees =
-    shown_fits begun tape set x (grow_all (length set.way.items) (set.way.items ++ x ∷ []) set.spots.items []) refl sees (fits e)
+-- there was room up to then
+saw : (b c : Bool) → (b ≡ true → c ≡ true) → c ≡ false → b ≡ false
+saw true c on e = absurd (both_ways c e (on refl))
+saw false c on e = refl
 
 played_fits : (begun : List Stand) (tape : List (Item Frame)) (s : State) (end : List Frame) → Stands (link_rules begun) tape s end
     → (played (begun_as begun) tape).is_blind ≡ false → FitsSet begun tape (played (begun_as begun) tape)
@@ -352,11 +310,13 @@ played_fits begun [] s end h sees = record {
 played_fits begun (Own x ∷ tape) s end h sees =
     let set = played (begun_as begun) tape in
     let g = before_own begun (Own x ∷ tape) tape x s end refl h in
-    own_step begun tape set x s end set.is_blind refl (λ k. played_fits begun tape g.0 g.1 g.2 k) h sees
+    let was = saw set.is_blind (sends_to x set).set.is_blind (blind_sends set x) sees in
+    own_step begun tape set x s end (played_fits begun tape g.0 g.1 g.2 was) h sees
 played_fits begun (Other x ∷ tape) s end h sees =
     let set = played (begun_as begun) tape in
     let g = before_other begun (Other x ∷ tape) tape x s end refl h in
-    other_step begun tape set x set.is_blind (length set.way.items == 128) refl (λ k. played_fits begun tape g.0 g.1 g.2 k) sees
+    let was = saw set.is_blind (shows_to x set).is_blind (blind_shows set x) sees in
+    other_step begun tape set x (length set.way.items == 128) (played_fits begun tape g.0 g.1 g.2 was) sees
 
 -- ---- what is told
 
@@ -383,7 +343,7 @@ unfolding IsTold
 told_as stand Ua set = tt
 told_as stand x set = skipped_told stand x set (walk_all Skipping x set.way.items set.spots.items [])
 
-unexplained_told : (x : Frame) (set : LinkSet) → (unexplained x set).told ≡ Nothing → ⊥
+pub unexplained_told : (x : Frame) (set : LinkSet) → (unexplained x set).told ≡ Nothing → ⊥
 unexplained_told x set = is_something (unexplained x set).told (told_as (latest set.spots.items set.way.items) x set)
 
 untold : (begun : List Stand) (tape : List (Item Frame)) (set : LinkSet) (x : Frame) (s : State) (end : List Frame)
@@ -399,18 +359,12 @@ untold begun tape set x s end (Some qs) e fits h = go (length qs == 0) refl
         (own_fits begun tape set.way.items set.spots.items qs x fits e) h k)
     go false k = refl
 
-untold_by : (begun : List Stand) (tape : List (Item Frame)) (set : LinkSet) (x : Frame) (s : State) (end : List Frame) (b : Bool)
-    → set.is_blind ≡ b → (set.is_blind ≡ false → FitsSet begun tape set) → Stands (link_rules begun) (Own x ∷ tape) s end
-    → (sends_by b x set).told ≡ Nothing
-untold_by begun tape set x s end true e fits h = refl
-untold_by begun tape set x s end false e fits h =
-    untold begun tape set x s end (walk_all Right x set.way.items set.spots.items []) refl (fits e) h
-
 pub innocents_stay_untold : InnocentsStayUntold
-innocents_stay_untold begun tape x s end h =
+innocents_stay_untold begun tape x s end h sees =
     let set = played (begun_as begun) tape in
     let g = before_own begun (Own x ∷ tape) tape x s end refl h in
-    untold_by begun tape set x s end set.is_blind refl (λ k. played_fits begun tape g.0 g.1 g.2 k) h
+    untold begun tape set x s end (walk_all Right x set.way.items set.spots.items []) refl
+    (played_fits begun tape g.0 g.1 g.2 sees) h
 
 told : (begun : List Stand) (tape : List (Item Frame)) (set : LinkSet) (x : Frame) (o : Option (List Spot))
     → walk_all Right x set.way.items set.spots.items [] ≡ o → (sent_to x o set).set.is_blind ≡ false → FitsSet begun tape set
@@ -421,14 +375,8 @@ told begun tape set x (Some (q ∷ qs)) e some fits none =
     let now = own_fits begun tape set.way.items set.spots.items (q ∷ qs) x fits e in
     absurd (none (At q.stand) (drop q.at set.way.items) (now.stands q (inl refl)))
 
-told_by : (begun : List Stand) (tape : List (Item Frame)) (set : LinkSet) (x : Frame) (b : Bool) → set.is_blind ≡ b
-    → (set.is_blind ≡ false → FitsSet begun tape set) → (sends_by b x set).set.is_blind ≡ false
-    → IsUnexplained (link_rules begun) (Own x ∷ tape) → (sends_by b x set).told ≡ Nothing → ⊥
-told_by begun tape set x true e fits sees none = absurd (both_ways set.is_blind sees e)
-told_by begun tape set x false e fits sees none =
-    told begun tape set x (walk_all Right x set.way.items set.spots.items []) refl sees (fits e) none
-
 pub guilty_are_told : GuiltyAreTold
 guilty_are_told begun tape x s end h sees none =
     let set = played (begun_as begun) tape in
-    told_by begun tape set x set.is_blind refl (λ k. played_fits begun tape s end h k) sees none
+    let was = saw set.is_blind (sends_to x set).set.is_blind (blind_sends set x) sees in
+    told begun tape set x (walk_all Right x set.way.items set.spots.items []) refl sees (played_fits begun tape s end h was) none

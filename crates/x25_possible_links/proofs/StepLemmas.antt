@@ -38,7 +38,7 @@ are_below k j h =
       told = leb-true j.told k.told c.1;
     }
 
-below_is : (s u : Stand) → is_below s u ≡ true → Below s u
+pub below_is : (s u : Stand) → is_below s u ≡ true → Below s u
 below_is Out u h = tt
 below_is Asking Asking h = tt
 below_is Asking Free h = tt

@@ -1,19 +1,22 @@
 //! The places in which an end of a link may be, frame by frame.
-ghost use Rattle.std.specs.Prelude.{◌≡◌};
+ghost use Rattle.std.specs.Prelude.{◌≡◌, ◌<◌, length};
 ghost use Rattle.x25_possible_links.specs.code.Steps as definition;
 
 use crate::frame::Frame;
 use crate::link::{Mode, is_sure};
-use crate::spots::{Spot, Spots, agree, grown, latest, least, plainest, shifted, walked};
+use crate::spots::{Spot, Spots, agree, grown, hurried, latest, least, plainest, shifted, walked};
 use crate::stand::Stand;
 use arrayvec::ArrayVec;
+
+/// Half of the room for what is on the way.
+const HALF: usize = 64;
 
 /// The places in which an end may be, and what the other one sent that may not have come to all of them.
 #[derive(Drop)]
 pub struct LinkSet {
     pub way: ArrayVec<Frame, 128>,
     pub spots: Spots,
-    /// There was no room: nothing is told any more.
+    /// There was no room once: nothing is claimed of what is told.
     pub is_blind: bool,
 }
 
@@ -131,17 +134,17 @@ impl LinkSet {
     pub fn judges_answer(&self) -> bool
         ensures { result ≡ definition.judges_answer self.now }
     {
-        !self.is_blind && (has_request(self.way.as_slice()) || has_all(self.way.as_slice()))
+        has_request(self.way.as_slice()) || has_all(self.way.as_slice())
     }
 
     /// Whether what it may answer is shown: nothing of before may come.
     pub fn is_followed(&self) -> bool
         ensures { result ≡ definition.is_followed self.now }
     {
-        !self.is_blind && has_all(self.way.as_slice())
+        has_all(self.way.as_slice())
     }
 
-    /// There is no room.
+    /// There is no room: nothing is known.
     fn lose(&mut self)
         ensures { self.new ≡ definition.blind }
     {
@@ -165,6 +168,25 @@ impl LinkSet {
                 let _ = way.try_extend_from_slice(rest);
                 self.way = way;
                 self.spots = spots;
+            }
+        }
+    }
+
+    /// The older half of a way that is full counts as come.
+    fn hurry(&mut self)
+        requires { length self.old.way.items ≡ 128 }
+        ensures set { self.new ≡ definition.hurried self.old }
+        ensures room { length self.new.way.items < 128 }
+    {
+        let (front, rest) = self.way.as_slice().split_at(HALF);
+        match hurried(HALF, self.spots.as_slice(), front) {
+            None => self.lose(),
+            Some(spots) => {
+                let mut way = ArrayVec::new();
+                let _ = way.try_extend_from_slice(rest);
+                self.way = way;
+                self.spots = spots;
+                self.is_blind = true;
             }
         }
     }
@@ -243,9 +265,6 @@ impl LinkSet {
         ensures set { self.new ≡ (definition.sends_to frame self.old).set }
         ensures told { result ≡ (definition.sends_to frame self.old).told }
     {
-        if self.is_blind {
-            return Told::Nothing;
-        }
         match walked(
             Mode::Right,
             frame,
@@ -265,17 +284,11 @@ impl LinkSet {
         }
     }
 
-    /// The other end sends a frame, which may come at any moment from now on, or is lost.
-    pub fn shows(&mut self, frame: Frame)
-        ensures { self.new ≡ definition.shows_to frame self.old }
+    /// One more is on the way.
+    fn extend(&mut self, frame: Frame)
+        requires { length self.old.way.items < 128 }
+        ensures { self.new ≡ definition.extended frame self.old }
     {
-        if self.is_blind {
-            return;
-        }
-        if self.way.is_full() {
-            self.lose();
-            return;
-        }
         let last = self.way.len();
         self.way.push(frame);
         match grown(self.spots.as_slice(), last, self.way.as_slice()) {
@@ -285,5 +298,15 @@ impl LinkSet {
                 self.trim();
             }
         }
+    }
+
+    /// The other end sends a frame, which may come at any moment from now on, or is lost.
+    pub fn shows(&mut self, frame: Frame)
+        ensures { self.new ≡ definition.shows_to frame self.old }
+    {
+        if self.way.is_full() {
+            self.hurry();
+        }
+        self.extend(frame);
     }
 }

@@ -250,7 +250,44 @@ fn come(stand: Stand, at: usize, way: &[Frame]) -> Stand
     come(upward(stand, way[at]), at + 1, way)
 }
 
-/// The same, where octets that spell no frame were none.
+/// Adds one to which so many have come, the front of the way. False: no room.
+fn hurry(count: usize, spot: Spot, front: &[Frame], out: &mut Spots) -> bool
+    ensures { definition.made result out.new.items ≡ definition.hurry_at count front.now spot out.old.items }
+{
+    keep(
+        out,
+        Spot {
+            stand: come(spot.stand, spot.at, front),
+            at: spot.at.saturating_sub(count),
+        },
+    )
+}
+
+fn hurry_all(count: usize, spots: &[Spot], front: &[Frame], out: &mut Spots) -> bool
+    ensures { definition.made result out.new.items
+        ≡ definition.hurry_all count front.now spots.now out.old.items }
+{
+    for spot in spots {
+        if !hurry(count, *spot, front, out) {
+            return false;
+        }
+    }
+    true
+}
+
+/// A new list, where so many have come to all; None: no room.
+pub(crate) fn hurried(count: usize, spots: &[Spot], front: &[Frame]) -> Option<Spots>
+    ensures { definition.listed result ≡ definition.hurry_all count front.now spots.now [] }
+{
+    let mut out = Spots::new();
+    if hurry_all(count, spots, front, &mut out) {
+        Some(out)
+    } else {
+        None
+    }
+}
+
+/// Where it stands once all has come, where octets that spell no frame were none.
 fn gone(stand: Stand, at: usize, way: &[Frame]) -> Stand
     ensures { result ≡ definition.gone (drop at way.now) stand }
 {

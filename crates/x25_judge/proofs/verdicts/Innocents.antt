@@ -1,63 +1,817 @@
--- An end that keeps the rules is told of by no rule of order, from a set-up on.
-use Rattle.std.proofs.Common.{◌≡◌, inl, inr, ℕ, arith, true, List, [], ◌∷◌, refl, sym, ap, subst}
+-- No rule of order is told of an end that keeps the rules.
+use Rattle.std.proofs.Common.{◌≡◌, ◌⊎◌, inl, inr, ℕ, ◌+◌, ◌-◌, ◌%◌, ◌<◌, ◌≤◌, ◌==◌, arith, max, Bool, true, false, suc, List, [], ◌∷◌, ◌++◌, length, drop, refl, sym, ap, ◌∙◌, subst}
+use Rattle.std.specs.Prelude.{not, ◌&&◌, ◌||◌, if◌then◌else◌, Ok}
+use Rattle.std.proofs.lemmas.Bool.{both_ways, cases_eq, eq-eqb}
 use Rattle.x25_bits.specs.declared.role.Role.{Role}
-use Rattle.x25_bits.specs.Role.{other}
-use Rattle.x25_frame.specs.Frame.{PlainFrame}
-use Rattle.x25_line.specs.laws.Peer.{Peer, fresh_peer}
-use Rattle.x25_judge.specs.Judge.{held_of, seen_by, answer_to}
-use Rattle.x25_judge.specs.Rule.{breaks_order}
-use Rattle.x25_judge.specs.Way as way
-use Rattle.x25_judge.specs.declared.judge.Judge.{Judge}
-use Rattle.x25_judge.specs.declared.way.Way.{Way}
-use Rattle.x25_judge.specs.laws.Keeping.{MayBe, Begins, HandsDown, Sends, Shown, Fails, Comes}
-use Rattle.x25_judge.specs.laws.Session.{end_of, IsSetUp}
-use Rattle.x25_judge.specs.laws.VerdictClaims.{NoInnocentIsAccused}
+use Rattle.x25_bits.specs.declared.role.Role.TheVariants.{Dte, Dce}
+use Rattle.x25_frame.specs.Frame.{PlainFrame, info, rr, rnr, rej, sabm, disc, ua, dm, frmr}
+use Rattle.x25_line.specs.laws.Peer.{Peer, fresh_peer, hearing, taking, MayHear, MayNumber}
+use Rattle.x25_line.specs.laws.Peer as peer
+use Rattle.x25_line.specs.laws.PeerSessions as session
+use Rattle.x25_line.specs.laws.PeerSessions.{In}
+use Rattle.x25_link.specs.Hearing.{other}
 use Rattle.x25_packet_judge.specs.Book as book
-use Rattle.x25_judge.proofs.verdicts.Ways.{Numbered}
-use Rattle.x25_judge.proofs.verdicts.Fair.{Own, Hears_fit}
+use Rattle.x25_judge.specs.Held.{Held, differs, keeps, no_octets, none_held}
+use Rattle.x25_decode.specs.declared.answer.Reading.{Reading}
+use Rattle.x25_judge.specs.declared.judge.Strictness.{Strictness}
+use Rattle.x25_judge.specs.Judge.{begins as judge_begins}
+use Rattle.x25_judge.specs.laws.Session.{rule_of as told_rule}
+use Rattle.x25_judge.specs.Judge.{answer_to, own_of, seen_by}
+use Rattle.x25_judge.specs.Links.{forgets_each, held_by, rule_of, shown}
+use Rattle.x25_judge.specs.Rule.{breaks_order}
+use Rattle.x25_judge.specs.declared.judge.Judge.{Judge}
+use Rattle.x25_judge.specs.declared.links.End.{End}
+use Rattle.x25_judge.specs.laws.Keeping as keeping
+use Rattle.x25_judge.specs.laws.Keeping.{MaySend, MayBe}
+use Rattle.x25_judge.specs.laws.Session.{begins_anywhere, begins_there, comes, IsBegun, IsDamaged, Shows, is_of_order}
+use Rattle.x25_judge.specs.laws.Sessions as sessions
+use Rattle.x25_judge.specs.laws.Sessions.{MaySay, MayStand, declined, numbered, asks, asks_again, closes, declines, rejects, takes_disc, takes_sabm, waits_on}
+use Rattle.x25_judge.specs.laws.VerdictClaims.{NoInnocentIsAccused, NoSessionIsAccused}
+use Rattle.x25_possible.specs.Channel.{nth}
+use Rattle.x25_possible.specs.laws.Possible.{IsIn}
+use Rattle.x25_possible_links.specs.code.Steps.{is_below, sends_to, shows_to, unknown}
+use Rattle.x25_possible_links.specs.laws.Link.{State, At, Owes, passes, hears, begins, fresh, heard, may_answer}
+use Rattle.x25_possible_links.specs.laws.Link as link
+use Rattle.x25_possible_links.specs.laws.Places.{onward, upward}
+use Rattle.x25_possible_links.specs.declared.frame.Frame.{Frame}
+use Rattle.x25_possible_links.specs.declared.frame.Frame.TheVariants.{Info, Ready, Unread, Before}
+use Rattle.x25_possible_links.specs.declared.set.LinkSet.{LinkSet}
+use Rattle.x25_possible_links.specs.declared.set.Told.TheVariants.{Nothing}
+use Rattle.x25_possible_links.specs.declared.spots.Spot.{Spot}
+use Rattle.x25_possible_links.specs.declared.stand.Numbers.{Numbers}
+use Rattle.x25_possible_links.specs.declared.stand.Stand.{Stand}
+use Rattle.x25_possible_links.specs.declared.stand.Stand.TheVariants.{Out, Asking, Up, Free}
+use Rattle.x25_possible_links.proofs.Stands.{AreBelow, Below, below_self}
+use Rattle.x25_possible_links.proofs.Covers.{Covers, Here, Asked, Later, Begins}
+use Rattle.x25_possible_links.proofs.Leads.{Leads, Stays, Steps, HoldsAt, stays_at}
+use Rattle.x25_possible_links.proofs.StepLemmas.{below_is}
+use Rattle.x25_possible_links.proofs.Covering.{Has, has_taken, has_less, has_sent, has_shown, is_untold, blind_sends, blind_shows}
 use Rattle.x25_judge.proofs.verdicts.Lines.{goes, past, told_of_order}
-use Rattle.x25_judge.proofs.verdicts.Octets.{begun_held, pushed_held}
-use Rattle.x25_judge.proofs.verdicts.Beside.{Own_fit, Hears, Beside, came_beside, sends}
-use Rattle.x25_judge.proofs.verdicts.Showing.{shown_beside}
-use Rattle.x25_judge.proofs.verdicts.Damage.{failed_beside}
+use Rattle.x25_judge.proofs.verdicts.Manners.{minds_fair}
+use Rattle.x25_judge.proofs.verdicts.Octets.{HasSent, HasRoom, IsHeld, bare_held, begun_held, each_room, held_less, held_more, keeps_room, not_each, pushed_held, same_octets, sent_held}
+use Rattle.x25_judge.proofs.verdicts.Following.{IsSame, IsSeen, Means, Says, empty, front, lost, means_on, means_one, numbers_of, says, stand_of}
 
-begun_numbered : (w : Way) (Fit : ℕ → ℕ → Type 0) → w ≡ way.fresh true → Fit 0 0 → Numbered w Fit
-begun_numbered w Fit is fit = subst (λ x. Numbered x Fit) (sym is) (record { counts = λ hears. (0, 0, fit, record { next = refl; pending = refl; few = omega arith; ever = refl }) })
+-- ---- what comes
 
-begun_own : (w : Way) → w ≡ way.fresh true → Own w 0 0
-begun_own w is = record {
-  seen = ap way.is_unseen is;
-  next = ap (λ (x : Way). x.next) is;
-  ever = ap (λ (x : Way). x.ever) is;
-  kept = ap (λ (x : Way). x.kept) is;
-  whole = ap (λ (x : Way). x.is_missed) is;
-  numbered = begun_numbered w (Own_fit 0 0) is (refl, omega arith);
+one_more : (packet : List ℕ) (xs : List (List ℕ)) → length (xs ++ packet ∷ []) ≡ length xs + 1
+one_more packet [] = refl
+one_more packet (x ∷ xs) = ap suc (one_more packet xs) ∙ one_on (length xs)
+  where
+    one_on : (n : ℕ) → suc (n + 1) ≡ suc n + 1
+    one_on n = omega arith
+
+abbrev with_heard : Bool → Bool → ℕ → ℕ → Peer → Numbers
+with_heard h t ns nr p = record {
+  sent = p.sent;
+  acked = if h then nth p.acked nr else p.acked;
+  taken = if t && ns == length p.taken % 8 then length p.taken + 1 else length p.taken;
+  told = p.told;
 }
 
-begun_hears : (w : Way) → w ≡ way.fresh true → Hears w 0 0
-begun_hears w is = record {
-  numbered = subst (λ f. Numbered w (Hears_fit f 0 0)) (sym (ap (λ (x : Way). x.former) is)) (begun_numbered w (Hears_fit 0 0 0) is (inl (omega arith), refl));
-  begun = λ hears ever. (ap (λ (x : Way). x.behind) is, ap (λ (x : Way). x.kept) is);
-}
+numbers_heard : (h t : Bool) (ns nr : ℕ) (packet : List ℕ) (p : Peer) → peer.IsWanted t ns p
+    → with_heard h t ns nr p ≡ numbers_of (taking t packet (hearing h nr p))
+numbers_heard true true ns nr packet p wanted =
+    ap (λ m. record { sent = p.sent; acked = nth p.acked nr; taken = m; told = p.told })
+    (ap (λ b. if b then length p.taken + 1 else length p.taken) (eq-eqb ns (length p.taken % 8) wanted) ∙ sym (one_more packet p.taken))
+numbers_heard false true ns nr packet p wanted =
+    ap (λ m. record { sent = p.sent; acked = p.acked; taken = m; told = p.told })
+    (ap (λ b. if b then length p.taken + 1 else length p.taken) (eq-eqb ns (length p.taken % 8) wanted) ∙ sym (one_more packet p.taken))
+numbers_heard true false ns nr packet p wanted = refl
+numbers_heard false false ns nr packet p wanted = refl
 
-begins : (from : Role) (j : Judge) → IsSetUp j → Beside from j fresh_peer []
-begins from j h = record {
-  seen = record { up = (h from).up; own = inr (begun_own (end_of from j).way (h from).way); hears = begun_hears (end_of (other from) j).way (h (other from)).way };
-  held = begun_held (held_of from j) (h from).room;
-}
+ready_heard : (h : Bool) (nr : ℕ) (p : Peer)
+    → record { sent = p.sent; acked = if h then nth p.acked nr else p.acked; taken = length p.taken; told = p.told }
+    ≡ numbers_of (hearing h nr p)
+ready_heard true nr p = refl
+ready_heard false nr p = refl
 
-beside : (from : Role) (j : Judge) (p : Peer) (frames : List PlainFrame) → MayBe from j p frames → Beside from j p frames
-beside from j p frames (Begins k up) = begins from j up
-beside from j q frames (HandsDown k p way packet h) =
-    let b = beside from j p frames h in
-    record { seen = b.seen; held = pushed_held (held_of from j) p.given packet p.sent b.held }
-beside from k q frames (Sends j p r way line octets frame shows may h) = (sends from j k p q frames frame may (beside from j p frames h) (goes j line from octets frame shows)).beside
-beside from k p all (Shown j r frames line octets frame shows is h) = shown_beside from j k p frames frame is (beside from j p frames h) (goes j line (other from) octets frame shows)
-beside from k p frames (Fails j r way line octets broken h) = failed_beside from j (answer_to j line).next p frames (past j line (other from) octets broken) (beside from j p frames h)
-beside from j q frames (Comes k p r frame way may h) = came_beside from j p q frame frames may (beside from j p (frame ∷ frames) h)
+-- what can't be read may have had as much
+unread_more : (h t w : Bool) (nr : ℕ) (k : Numbers)
+    → AreBelow (record {
+      sent = k.sent;
+      acked = if h then nth k.acked nr else k.acked;
+      taken = if t && w then k.taken + 1 else k.taken;
+      told = k.told;
+    }) (heard h t k Unread)
+unread_more h t w nr k = record { sent = refl; acked = acks h; taken = takes t w; told = omega arith }
+  where
+    near : (a : ℕ) → nth a nr ≤ a + 7
+    near a = omega arith
+
+    acks : (h : Bool) → (if h then nth k.acked nr else k.acked) ≤ (if h then k.acked + 7 else k.acked)
+    acks true = near k.acked
+    acks false = omega arith
+
+    takes : (t w : Bool) → (if t && w then k.taken + 1 else k.taken) ≤ (if t then k.taken + 1 else k.taken)
+    takes true true = omega arith
+    takes true false = omega arith
+    takes false w = omega arith
+
+module _ (set : LinkSet) (p : Peer) (end : List Frame) where
+  takes_as : (y : Frame) (h t : Bool) → Has set (At (Up (numbers_of p))) (y ∷ end)
+      → Has set (At (Up (heard h t (numbers_of p) y))) end
+  takes_as y h t has =
+      has_taken set.spots.items set.way.items (At (Up (numbers_of p))) (At (Up (heard h t (numbers_of p) y))) y end has
+      (hears (numbers_of p) y h t)
+
+  takes_unread : (h t w : Bool) (nr : ℕ) → Has set (At (Up (numbers_of p))) (Unread ∷ end)
+      → Has set (At (Up (record {
+        sent = p.sent;
+        acked = if h then nth p.acked nr else p.acked;
+        taken = if t && w then length p.taken + 1 else length p.taken;
+        told = p.told;
+      }))) end
+  takes_unread h t w nr has =
+      has_less set.spots.items set.way.items (Up (heard h t (numbers_of p) Unread)) (Up (record {
+        sent = p.sent;
+        acked = if h then nth p.acked nr else p.acked;
+        taken = if t && w then length p.taken + 1 else length p.taken;
+        told = p.told;
+      })) end (takes_as Unread h t has) (unread_more h t w nr (numbers_of p))
+
+  passes_it : (s : Stand) (y : Frame) → Has set (At s) (y ∷ end) → Has set (At s) end
+  passes_it s y has = has_taken set.spots.items set.way.items (At s) (At s) y end has (passes s y)
+
+  heard_ready : (q : Peer) (y : Frame) (nr : ℕ) (h : Bool) → (y ≡ Ready nr) ⊎ (y ≡ Unread) → q ≡ hearing h nr p
+      → Has set (At (Up (numbers_of p))) (y ∷ end) → Has set (At (Up (numbers_of q))) end
+  heard_ready q y nr h (inl e) is has =
+      subst (λ k. Has set (At (Up k)) end) (ready_heard h nr p ∙ ap numbers_of (sym is))
+      (takes_as (Ready nr) h false (subst (λ z. Has set (At (Up (numbers_of p))) (z ∷ end)) e has))
+  heard_ready q y nr h (inr e) is has =
+      subst (λ k. Has set (At (Up k)) end) (ready_heard h nr p ∙ ap numbers_of (sym is))
+      (takes_unread h false false nr (subst (λ z. Has set (At (Up (numbers_of p))) (z ∷ end)) e has))
+
+  seen_ready : (y : Frame) (nr : ℕ) (f : PlainFrame) → IsSeen y f → ((d : Bool) → shown f d ≡ Ready nr) → (y ≡ Ready nr) ⊎ (y ≡ Unread)
+  seen_ready y nr f (inl g) same = inl (g.1 ∙ same g.0)
+  seen_ready y nr f (inr g) same = inr g
+
+  pub heard_has : (q : Peer) (y : Frame) (f : PlainFrame) → IsSeen y f → MayHear p (Ok f) q
+      → Has set (At (Up (numbers_of p))) (y ∷ end) → Has set (At (Up (numbers_of q))) end
+  unfolding shown
+  heard_has q y (info ns nr pf packet) (inl g) may has =
+      subst (λ k. Has set (At (Up k)) end) (numbers_heard may.0 may.1 ns nr packet p may.2 ∙ ap numbers_of (sym may.3))
+      (takes_as (Info ns nr g.0) may.0 may.1 (subst (λ z. Has set (At (Up (numbers_of p))) (z ∷ end)) g.1 has))
+  heard_has q y (info ns nr pf packet) (inr g) may has =
+      subst (λ k. Has set (At (Up k)) end) (numbers_heard may.0 may.1 ns nr packet p may.2 ∙ ap numbers_of (sym may.3))
+      (takes_unread may.0 may.1 (ns == length p.taken % 8) nr (subst (λ z. Has set (At (Up (numbers_of p))) (z ∷ end)) g has))
+  heard_has q y (rr command nr pf) is may has =
+      heard_ready q y nr may.0 (seen_ready y nr (rr command nr pf) is (λ d. refl)) may.1 has
+  heard_has q y (rnr command nr pf) is may has =
+      heard_ready q y nr may.0 (seen_ready y nr (rnr command nr pf) is (λ d. refl)) may.1 has
+  heard_has q y (rej command nr pf) is may has =
+      heard_ready q y nr may.0 (seen_ready y nr (rej command nr pf) is (λ d. refl)) may.1 has
+  heard_has q y f is may has =
+      subst (λ r. Has set (At (Up (numbers_of r))) end) (sym may) (passes_it (Up (numbers_of p)) y has)
+
+  pub accepted_has : (y : Frame) (f : Bool) → IsSeen y (ua f) → Has set (At Asking) (y ∷ end) → Has set (At fresh) end
+  unfolding shown
+  accepted_has y f is has =
+      has_taken set.spots.items set.way.items (At Asking) (At fresh) y end has (begins y (answers is))
+    where
+      answers : IsSeen y (ua f) → may_answer y ≡ true
+      answers (inl g) = ap may_answer g.1
+      answers (inr g) = ap may_answer g
+
+-- ---- how many it has sent, in the place that it has
+
+abbrev MayHaveSent : ℕ → Stand → Type 0
+MayHaveSent n (Up k) = k.sent ≡ n
+MayHaveSent n Free = Unit {0}
+MayHaveSent n Out = ⊥
+MayHaveSent n Asking = ⊥
+
+heard_sent : (k : Numbers) (x : Frame) → (heard true true k x).sent ≡ k.sent
+heard_sent k (Info ns nr d) = refl
+heard_sent k (Ready nr) = refl
+heard_sent k Unread = refl
+heard_sent k x = refl
+
+onward_has : (n : ℕ) (u : Stand) (x : Frame) → HasSent n (onward u x) → HasSent n u
+onward_has n (Up k) x h = sym (heard_sent k x) ∙ h
+onward_has n Out x h = tt
+onward_has n Asking x h = tt
+onward_has n Free x h = tt
+
+onward_may_have : (n : ℕ) (u : Stand) (x : Frame) → MayHaveSent n u → MayHaveSent n (onward u x)
+onward_may_have n (Up k) x h = heard_sent k x ∙ h
+onward_may_have n Free x h = tt
+onward_may_have n Out x h = absurd h
+onward_may_have n Asking x h = absurd h
+
+below_has : (n : ℕ) (s u : Stand) → Below s u → MayHaveSent n s → HasSent n u
+below_has n (Up k) (Up j) b h = b.sent ∙ h
+below_has n (Up k) Free b h = tt
+below_has n (Up k) Out b h = tt
+below_has n (Up k) Asking b h = tt
+below_has n Free (Up j) b h = absurd b
+below_has n Free Out b h = tt
+below_has n Free Asking b h = tt
+below_has n Free Free b h = tt
+below_has n Out u b h = absurd h
+below_has n Asking u b h = absurd h
+
+below_may_have : (n : ℕ) (s u : Stand) → Below s u → MayHaveSent n s → MayHaveSent n u
+below_may_have n (Up k) (Up j) b h = b.sent ∙ h
+below_may_have n (Up k) Free b h = tt
+below_may_have n (Up k) Out b h = absurd b
+below_may_have n (Up k) Asking b h = absurd b
+below_may_have n Free (Up j) b h = absurd b
+below_may_have n Free Out b h = absurd b
+below_may_have n Free Asking b h = absurd b
+below_may_have n Free Free b h = tt
+below_may_have n Out u b h = absurd h
+below_may_have n Asking u b h = absurd h
+
+StateHas : ℕ → State → Type 0
+StateHas n (At s) = MayHaveSent n s
+StateHas n (Owes s) = ⊥
+
+covers_has : (n : ℕ) (u : Stand) (v : List Frame) (s : State) (end : List Frame) → Covers u v s end → StateHas n s → HasSent n u
+unfolding StateHas
+covers_has n _ _ _ end (Here s u _ b) h = below_has n s u b h
+covers_has n _ _ _ end (Asked s u q x _ b is) h = absurd h
+covers_has n _ _ s end (Later u x v _ _ k) h = onward_has n u x (covers_has n (onward u x) v s end k h)
+covers_has n _ _ s end (Begins x v _ _ a k) h = tt
+
+leads_has : (n : ℕ) (u : Stand) (way : List Frame) (t : Stand) (end : List Frame) → Leads u way t end → MayHaveSent n u → MayHaveSent n t
+leads_has n _ _ _ _ (Stays u way) h = h
+leads_has n _ _ t end (Steps u x way _ _ e k) h = leads_has n (onward u x) way t end k (onward_may_have n u x h)
+
+up_has_sent : (set : LinkSet) (k : Numbers) (end : List Frame) → Has set (At (Up k)) end
+    → (q : Spot) × IsIn q set.spots.items × HasSent k.sent q.stand
+unfolding StateHas
+up_has_sent set k end g = (
+  g.0,
+  g.1,
+  covers_has k.sent g.0.stand (drop g.0.at set.way.items) (At g.2.stand) g.2.end g.2.covers
+      (leads_has k.sent g.2.good end g.2.stand g.2.end g.2.leads
+      (below_may_have k.sent (Up k) g.2.good g.2.below refl)),
+)
+
+-- ---- the end, beside the places in which it is had
+
+pub record Follows (set : LinkSet) (held : Held) (stand : session.Stand) (p : Peer) (way : List PlainFrame) : Type 0 where
+  pub sees : set.is_blind ≡ false
+  pub end : List Frame
+  pub has : Has set (At (stand_of stand p)) end
+  pub means : Means end way
+  pub room : HasRoom held
+  pub octets : stand ≡ In → IsHeld held p.given p.sent
+
+-- or there was no room
+abbrev pub May : LinkSet → Held → session.Stand → Peer → List PlainFrame → Type 0
+May set held stand p way = (set.is_blind ≡ true) ⊎ Follows set held stand p way
+
+either_way : (b : Bool) → (b ≡ true) ⊎ (b ≡ false)
+either_way true = inl refl
+either_way false = inr refl
+
+IsSession : session.Stand → Type 0
+IsSession session.In = Unit {0}
+IsSession s = ⊥
+
+not_asking : session.Asking ≡ In → ⊥
+unfolding IsSession
+not_asking e = subst IsSession (sym e) tt
+
+not_out : session.Out ≡ In → ⊥
+unfolding IsSession
+not_out e = subst IsSession (sym e) tt
+
+not_declined : (s : session.Stand) → declined s ≡ In → ⊥
+not_declined session.Out e = not_out e
+not_declined session.Asking e = not_asking e
+not_declined session.In e = not_out e
+
+-- an I frame that goes again has the octets that it had
+same_info : (held : Held) (p : Peer) (ns nr : ℕ) (pf : Bool) (packet : List ℕ) → IsHeld held p.given p.sent → (n : ℕ)
+    → MayNumber p ns packet n → n ≤ p.sent → (n == p.sent || not (differs held (info ns nr pf packet))) ≡ true
+same_info held p ns nr pf packet is n m low = go (n == p.sent) refl
+  where
+    before : (n m : ℕ) → n ≤ m → (n ≡ m → ⊥) → n < m
+    before n m a b = omega (arith, a, b)
+
+    go : (b : Bool) → (n == p.sent) ≡ b → (b || not (differs held (info ns nr pf packet))) ≡ true
+    go true e = refl
+    go false e =
+        ap not (same_octets held p.given p.sent n ns nr pf packet m.number
+        (before n p.sent low (λ same. both_ways (n == p.sent) e (eq-eqb n p.sent same))) m.again m.same is)
+
+same_by_held : (held : Held) (p : Peer) (frame : PlainFrame) → IsHeld held p.given p.sent → IsSame p frame (differs held frame)
+same_by_held held p (info ns nr pf packet) is = λ n m low. same_info held p ns nr pf packet is n m low
+same_by_held held p (rr command nr pf) is = tt
+same_by_held held p (rnr command nr pf) is = tt
+same_by_held held p (rej command nr pf) is = tt
+same_by_held held p (sabm f) is = tt
+same_by_held held p (disc f) is = tt
+same_by_held held p (ua f) is = tt
+same_by_held held p (dm f) is = tt
+same_by_held held p (frmr f why) is = tt
+
+any : (b : Bool) → (b || true) ≡ true
+any true = refl
+any false = refl
+
+same_anyhow : (p : Peer) (frame : PlainFrame) → IsSame p frame false
+same_anyhow p (info ns nr pf packet) = λ n m low. any (n == p.sent)
+same_anyhow p (rr command nr pf) = tt
+same_anyhow p (rnr command nr pf) = tt
+same_anyhow p (rej command nr pf) = tt
+same_anyhow p (sabm f) = tt
+same_anyhow p (disc f) = tt
+same_anyhow p (ua f) = tt
+same_anyhow p (dm f) = tt
+same_anyhow p (frmr f why) = tt
+
+-- ---- the end sends
+
+bare_sent : (held : Held) (p q : Peer) (frame : PlainFrame) (t : ℕ) → keeps held frame ≡ held → q ≡ peer.told_to t p
+    → IsHeld held p.given p.sent → IsHeld (keeps held frame) q.given q.sent
+bare_sent held p q frame t same e is =
+    subst (λ (h : Held). IsHeld h q.given q.sent) (sym same) (subst (λ (r : Peer). IsHeld held r.given r.sent) (sym e) is)
+
+counted_held : (held : Held) (p q : Peer) (frame : PlainFrame) → MaySend p frame q → IsHeld held p.given p.sent
+    → IsHeld (keeps held frame) q.given q.sent
+counted_held held p q (info ns nr pf packet) may is =
+    subst (λ (r : Peer). IsHeld (keeps held (info ns nr pf packet)) r.given r.sent) (sym may.6)
+    (sent_held held p.given p.sent may.0 ns nr pf packet may.2.number may.3 may.2.again may.4 may.2.same is)
+counted_held held p q (rr command nr pf) may is = bare_sent held p q (rr command nr pf) may.0 (bare_held held (rr command nr pf) tt) may.2 is
+counted_held held p q (rnr command nr pf) may is = bare_sent held p q (rnr command nr pf) may.0 (bare_held held (rnr command nr pf) tt) may.2 is
+counted_held held p q (rej command nr pf) may is = bare_sent held p q (rej command nr pf) may.0 (bare_held held (rej command nr pf) tt) may.2 is
+counted_held held p q frame may is = absurd may
+
+said_held : (held : Held) (stand next : session.Stand) (p q : Peer) (way rest : List PlainFrame) (frame : PlainFrame)
+    → MaySay stand p way frame next q rest → HasRoom held → (stand ≡ In → IsHeld held p.given p.sent) → next ≡ In
+    → IsHeld (keeps held frame) q.given q.sent
+said_held held stand _ p q way _ frame (numbered _ _ is may) room was now = counted_held held p q frame may (was is)
+said_held held stand _ p _ way _ _ (asks b free) room was now = absurd (not_asking now)
+said_held held stand _ p _ way _ _ (asks_again b is) room was now = absurd (not_asking now)
+said_held held stand _ p _ way _ _ (closes b) room was now = absurd (not_out now)
+said_held held stand _ p _ way _ _ (declines f) room was now = absurd (not_declined stand now)
+said_held held stand _ p _ way _ _ (rejects f why) room was now = absurd (not_out now)
+said_held held stand _ p _ way _ _ (takes_disc b f rest is) room was now = absurd (not_out now)
+said_held held stand _ p _ way _ _ (takes_sabm b f rest is) room was now =
+    subst (λ (h : Held). IsHeld h [] 0) (sym (bare_held held (ua f) tt)) (begun_held held [] room.octets room.known)
+said_held held stand _ p _ way _ _ (waits_on b f rest waits is) room was now = absurd (not_asking now)
+
+-- where its octets are damaged
+lost_counted : (qs : List Spot) (held : Held) (p q : Peer) (frame : PlainFrame) → MaySend p frame q
+    → ((at : Spot) × IsIn at qs × HasSent p.sent at.stand) → IsHeld held p.given p.sent → IsHeld (forgets_each qs held) q.given q.sent
+lost_counted qs held p q (info ns nr pf packet) may at is =
+    subst (λ (r : Peer). IsHeld (forgets_each qs held) r.given r.sent) (sym may.6) (go (cases_eq may.0 p.sent))
+  where
+    more : (n m : ℕ) → n ≡ m → m + 1 ≡ max m (n + 1)
+    more n m e = omega (arith, e)
+
+    same : (n m : ℕ) → n ≤ m → (n ≡ m → ⊥) → m ≡ max m (n + 1)
+    same n m a b = omega (arith, a, b)
+
+    go : ((may.0 ≡ p.sent) ⊎ (may.0 ≡ p.sent → ⊥)) → IsHeld (forgets_each qs held) p.given (max p.sent (may.0 + 1))
+    go (inl e) =
+        subst (λ m. IsHeld (forgets_each qs held) p.given m) (more may.0 p.sent e)
+        (held_more qs held p.given p.sent is (not_each p.sent qs at.0 held is.marks at.1 at.2))
+    go (inr ne) =
+        subst (λ m. IsHeld (forgets_each qs held) p.given m) (same may.0 p.sent may.3 ne) (held_less qs held p.given p.sent is)
+lost_counted qs held p q (rr command nr pf) may at is =
+    subst (λ (r : Peer). IsHeld (forgets_each qs held) r.given r.sent) (sym may.2) (held_less qs held p.given p.sent is)
+lost_counted qs held p q (rnr command nr pf) may at is =
+    subst (λ (r : Peer). IsHeld (forgets_each qs held) r.given r.sent) (sym may.2) (held_less qs held p.given p.sent is)
+lost_counted qs held p q (rej command nr pf) may at is =
+    subst (λ (r : Peer). IsHeld (forgets_each qs held) r.given r.sent) (sym may.2) (held_less qs held p.given p.sent is)
+lost_counted qs held p q frame may at is = absurd may
+
+lost_held : (set : LinkSet) (held : Held) (stand next : session.Stand) (p q : Peer) (way rest : List PlainFrame) (end : List Frame)
+    (frame : PlainFrame) → MaySay stand p way frame next q rest → Has set (At (stand_of stand p)) end → HasRoom held
+    → (stand ≡ In → IsHeld held p.given p.sent) → next ≡ In → IsHeld (forgets_each set.spots.items held) q.given q.sent
+lost_held set held stand _ p q way _ end frame (numbered _ _ is may) has room was now =
+    lost_counted set.spots.items held p q frame may
+    (up_has_sent set (numbers_of p) end (subst (λ s. Has set (At (stand_of s p)) end) is has)) (was is)
+lost_held set held stand _ p _ way _ end _ (asks b free) has room was now = absurd (not_asking now)
+lost_held set held stand _ p _ way _ end _ (asks_again b is) has room was now = absurd (not_asking now)
+lost_held set held stand _ p _ way _ end _ (closes b) has room was now = absurd (not_out now)
+lost_held set held stand _ p _ way _ end _ (declines f) has room was now = absurd (not_declined stand now)
+lost_held set held stand _ p _ way _ end _ (rejects f why) has room was now = absurd (not_out now)
+lost_held set held stand _ p _ way _ end _ (takes_disc b f rest is) has room was now = absurd (not_out now)
+lost_held set held stand _ p _ way _ end _ (takes_sabm b f rest is) has room was now =
+    let left = each_room set.spots.items held room in begun_held (forgets_each set.spots.items held) [] left.octets left.known
+lost_held set held stand _ p _ way _ end _ (waits_on b f rest waits is) has room was now = absurd (not_asking now)
+
+-- ---- one line
+
+module _ (set : LinkSet) (held : Held) (stand : session.Stand) (p : Peer) (way : List PlainFrame) (h : Follows set held stand p way) where
+  said : (next : session.Stand) (q : Peer) (rest : List PlainFrame) (frame : PlainFrame) → MaySay stand p way frame next q rest
+      → Says set (shown frame (differs held frame)) next q rest
+  said next q rest frame may =
+      says set stand next p q way rest h.end frame (differs held frame) h.has h.means may
+      (λ is. same_by_held held p frame (h.octets is))
+
+  pub says_untold : (next : session.Stand) (q : Peer) (rest : List PlainFrame) (frame : PlainFrame)
+      → MaySay stand p way frame next q rest → (sends_to (shown frame (differs held frame)) set).told ≡ Nothing
+  says_untold next q rest frame may =
+      let s = said next q rest frame may in
+      is_untold set (shown frame (differs held frame)) s.state (At (stand_of next q)) s.end s.may s.has
+
+  pub says_on : (next : session.Stand) (q : Peer) (rest : List PlainFrame) (frame : PlainFrame) → MaySay stand p way frame next q rest
+      → May (sends_to (shown frame (differs held frame)) set).set (keeps held frame) next q rest
+  says_on next q rest frame may = go (either_way (sends_to (shown frame (differs held frame)) set).set.is_blind)
+    where
+      go : ((sends_to (shown frame (differs held frame)) set).set.is_blind ≡ true)
+          ⊎ ((sends_to (shown frame (differs held frame)) set).set.is_blind ≡ false)
+          → May (sends_to (shown frame (differs held frame)) set).set (keeps held frame) next q rest
+      go (inl e) = inl e
+      go (inr e) =
+          let s = said next q rest frame may in
+          inr (record {
+            sees = e;
+            end = s.end;
+            has = has_sent set (shown frame (differs held frame)) s.state (At (stand_of next q)) s.end s.may s.has h.sees e;
+            means = s.means;
+            room = keeps_room held frame h.room;
+            octets = said_held held stand next p q way rest frame may h.room h.octets;
+          })
+
+  garbled : (next : session.Stand) (q : Peer) (rest : List PlainFrame) (state : State) (end : List Frame)
+      → link.MaySend state end Unread (At (stand_of next q)) → Has set state end → Means end rest
+      → (next ≡ In → IsHeld (forgets_each set.spots.items held) q.given q.sent)
+      → May (sends_to Unread set).set (forgets_each set.spots.items held) next q rest
+  garbled next q rest state end may has means is = go (either_way (sends_to Unread set).set.is_blind)
+    where
+      go : ((sends_to Unread set).set.is_blind ≡ true) ⊎ ((sends_to Unread set).set.is_blind ≡ false)
+          → May (sends_to Unread set).set (forgets_each set.spots.items held) next q rest
+      go (inl e) = inl e
+      go (inr e) = inr (record {
+        sees = e;
+        end = end;
+        has = has_sent set Unread state (At (stand_of next q)) end may has h.sees e;
+        means = means;
+        room = each_room set.spots.items held h.room;
+        octets = is;
+      })
+
+  pub garbles_on : (next : session.Stand) (q : Peer) (rest : List PlainFrame) (frame : PlainFrame) → MaySay stand p way frame next q rest
+      → May (sends_to Unread set).set (forgets_each set.spots.items held) next q rest
+  garbles_on next q rest frame may =
+      let s = says set stand next p q way rest h.end frame false h.has h.means may (λ is. same_anyhow p frame) in
+      garbled next q rest s.state s.end (link.was_any s.state (At (stand_of next q)) s.end (shown frame false) s.may) s.has s.means
+      (lost_held set held stand next p q way rest h.end frame may h.has h.room h.octets)
+
+  pub noise_on : May (sends_to Unread set).set (forgets_each set.spots.items held) stand p way
+  noise_on =
+      garbled stand p way (At (stand_of stand p)) h.end (link.was_none (stand_of stand p) h.end) h.has h.means
+      (λ is. held_less set.spots.items held p.given p.sent (h.octets is))
+
+  -- the other end sends
+  pub shown_on : (y : Frame) (more : List PlainFrame) → Means (y ∷ []) more → May (shows_to y set) held stand p (way ++ more)
+  shown_on y more m = go (either_way (shows_to y set).is_blind)
+    where
+      go : ((shows_to y set).is_blind ≡ true) ⊎ ((shows_to y set).is_blind ≡ false) → May (shows_to y set) held stand p (way ++ more)
+      go (inl e) = inl e
+      go (inr e) = inr (record {
+        sees = e;
+        end = h.end ++ y ∷ [];
+        has = has_shown set y (At (stand_of stand p)) h.end h.has h.sees e;
+        means = means_on h.end (y ∷ []) way more h.means m;
+        room = h.room;
+        octets = h.octets;
+      })
+
+-- ---- without a line
+
+left : (set : LinkSet) (held : Held) (stand : session.Stand) (p : Peer) (way : List PlainFrame) → May set held stand p way
+    → May set held session.Out p way
+left set held stand p way (inl e) = inl e
+left set held stand p way (inr h) = inr (record {
+  sees = h.sees;
+  end = h.end;
+  has = has_less set.spots.items set.way.items (stand_of stand p) Out h.end h.has tt;
+  means = h.means;
+  room = h.room;
+  octets = λ is. absurd (not_out is);
+})
+
+handed : (set : LinkSet) (held : Held) (stand : session.Stand) (p : Peer) (way : List PlainFrame) (packet : List ℕ)
+    → May set held stand p way → May set held stand (record p { given = p.given ++ packet ∷ [] }) way
+handed set held stand p way packet (inl e) = inl e
+handed set held stand p way packet (inr h) = inr (record {
+  sees = h.sees;
+  end = h.end;
+  has = subst (λ s. Has set (At s) h.end) (same stand) h.has;
+  means = h.means;
+  room = h.room;
+  octets = λ is. pushed_held held p.given packet p.sent (h.octets is);
+})
+  where
+    same : (s : session.Stand) → stand_of s p ≡ stand_of s (record p { given = p.given ++ packet ∷ [] })
+    same session.Out = refl
+    same session.Asking = refl
+    same session.In = refl
+
+passed : (set : LinkSet) (held : Held) (stand : session.Stand) (p : Peer) (f : PlainFrame) (way : List PlainFrame)
+    → May set held stand p (f ∷ way) → May set held stand p way
+passed set held stand p f way (inl e) = inl e
+passed set held stand p f way (inr h) =
+    let g = front set (stand_of stand p) h.end f way h.has h.means in
+    inr (record {
+      sees = h.sees;
+      end = g.rest;
+      has = passes_it set p g.rest (stand_of stand p) g.first g.has;
+      means = g.means;
+      room = h.room;
+      octets = h.octets;
+    })
+
+came : (set : LinkSet) (held : Held) (p q : Peer) (f : PlainFrame) (way : List PlainFrame) → MayHear p (Ok f) q
+    → May set held In p (f ∷ way) → May set held In q way
+came set held p q f way may (inl e) = inl e
+came set held p q f way may (inr h) =
+    let g = front set (Up (numbers_of p)) h.end f way h.has h.means in
+    inr (record {
+      sees = h.sees;
+      end = g.rest;
+      has = heard_has set p g.rest q g.first f g.is may g.has;
+      means = g.means;
+      room = h.room;
+      octets = λ is. given_same f may (h.octets refl);
+    })
+  where
+    taking_same : (b : Bool) (x : List ℕ) (r : Peer) → IsHeld held r.given r.sent → IsHeld held (taking b x r).given (taking b x r).sent
+    taking_same true x r is = is
+    taking_same false x r is = is
+
+    hearing_same : (b : Bool) (nr : ℕ) (r : Peer) → IsHeld held r.given r.sent → IsHeld held (hearing b nr r).given (hearing b nr r).sent
+    hearing_same true nr r is = is
+    hearing_same false nr r is = is
+
+    by : (r : Peer) → q ≡ r → IsHeld held r.given r.sent → IsHeld held q.given q.sent
+    by r e is = subst (λ (s : Peer). IsHeld held s.given s.sent) (sym e) is
+
+    given_same : (f : PlainFrame) → MayHear p (Ok f) q → IsHeld held p.given p.sent → IsHeld held q.given q.sent
+    given_same (info ns nr pf packet) may is =
+        by (taking may.1 packet (hearing may.0 nr p)) may.3
+        (taking_same may.1 packet (hearing may.0 nr p) (hearing_same may.0 nr p is))
+    given_same (rr command nr pf) may is = by (hearing may.0 nr p) may.1 (hearing_same may.0 nr p is)
+    given_same (rnr command nr pf) may is = by (hearing may.0 nr p) may.1 (hearing_same may.0 nr p is)
+    given_same (rej command nr pf) may is = by (hearing may.0 nr p) may.1 (hearing_same may.0 nr p is)
+    given_same f may is = by p may is
+
+accepted : (set : LinkSet) (held : Held) (p : Peer) (f : Bool) (way : List PlainFrame) → May set held session.Asking p (ua f ∷ way)
+    → May set held In fresh_peer way
+accepted set held p f way (inl e) = inl e
+accepted set held p f way (inr h) =
+    let g = front set Asking h.end (ua f) way h.has h.means in
+    inr (record {
+      sees = h.sees;
+      end = g.rest;
+      has = accepted_has set p g.rest g.first f g.is g.has;
+      means = g.means;
+      room = h.room;
+      octets = λ is. begun_held held [] h.room.octets h.room.known;
+    })
+
+-- ---- what a line makes of the ends
+
+pub record IsSent (set : LinkSet) (held : Held) (frame : PlainFrame) (e : End) : Type 0 where
+  pub places : e.set ≡ (sends_to (shown frame (differs held frame)) set).set
+  pub octets : e.held ≡ keeps (held_by (sends_to (shown frame (differs held frame)) set).told held) frame
+
+pub sent_end : (from : Role) (j : Judge) (line octets : List ℕ) (frame : PlainFrame) → Shows line from octets frame
+    → IsSent (own_of from j).set (own_of from j).held frame (own_of from (answer_to j line).next)
+sent_end Dte j line octets frame shows =
+    let g = goes j line Dte octets frame shows in
+    record { places = ap (λ (e : End). e.set) g.own; octets = ap (λ (e : End). e.held) g.own }
+sent_end Dce j line octets frame shows =
+    let g = goes j line Dce octets frame shows in
+    record { places = ap (λ (e : End). e.set) g.own; octets = ap (λ (e : End). e.held) g.own }
+
+pub record IsShown (set : LinkSet) (held : Held) (y : Frame) (e : End) : Type 0 where
+  pub places : e.set ≡ shows_to y set
+  pub octets : e.held ≡ held
+
+pub shown_end : (from : Role) (j : Judge) (line octets : List ℕ) (frame : PlainFrame) → Shows line (other from) octets frame
+    → IsShown (own_of from j).set (own_of from j).held (shown frame (differs (own_of (other from) j).held frame))
+    (own_of from (answer_to j line).next)
+shown_end Dte j line octets frame shows =
+    let g = goes j line Dce octets frame shows in
+    record { places = ap (λ (e : End). e.set) g.opposite; octets = ap (λ (e : End). e.held) g.opposite }
+shown_end Dce j line octets frame shows =
+    let g = goes j line Dte octets frame shows in
+    record { places = ap (λ (e : End). e.set) g.opposite; octets = ap (λ (e : End). e.held) g.opposite }
+
+pub record IsMissed (set : LinkSet) (held : Held) (e : End) : Type 0 where
+  pub places : e.set ≡ (sends_to Unread set).set
+  pub octets : e.held ≡ forgets_each set.spots.items held
+
+pub missed_end : (from : Role) (j : Judge) (line octets : List ℕ) → IsDamaged line from octets
+    → IsMissed (own_of from j).set (own_of from j).held (own_of from (answer_to j line).next)
+missed_end Dte j line octets broken =
+    let g = past j line Dte octets broken in
+    record { places = ap (λ (e : End). e.set) g.own; octets = ap (λ (e : End). e.held) g.own }
+missed_end Dce j line octets broken =
+    let g = past j line Dce octets broken in
+    record { places = ap (λ (e : End). e.set) g.own; octets = ap (λ (e : End). e.held) g.own }
+
+pub lost_end : (from : Role) (j : Judge) (line octets : List ℕ) → IsDamaged line (other from) octets
+    → IsShown (own_of from j).set (own_of from j).held Unread (own_of from (answer_to j line).next)
+lost_end Dte j line octets broken =
+    let g = past j line Dce octets broken in
+    record { places = ap (λ (e : End). e.set) g.opposite; octets = ap (λ (e : End). e.held) g.opposite }
+lost_end Dce j line octets broken =
+    let g = past j line Dte octets broken in
+    record { places = ap (λ (e : End). e.set) g.opposite; octets = ap (λ (e : End). e.held) g.opposite }
+
+-- ---- and of what is known of them
+
+abbrev MayOf : End → session.Stand → Peer → List PlainFrame → Type 0
+MayOf e stand p way = May e.set e.held stand p way
+
+by_parts : (set : LinkSet) (held : Held) (e : End) (stand : session.Stand) (p : Peer) (way : List PlainFrame) → e.set ≡ set
+    → e.held ≡ held → May set held stand p way → MayOf e stand p way
+by_parts set held e stand p way a b h =
+    subst (λ (s : LinkSet). May s e.held stand p way) (sym a) (subst (λ (x : Held). May set x stand p way) (sym b) h)
+
+step_says : (from : Role) (j : Judge) (stand next : session.Stand) (p q : Peer) (way rest : List PlainFrame)
+    (line octets : List ℕ) (frame : PlainFrame) → Shows line from octets frame → MaySay stand p way frame next q rest
+    → MayOf (own_of from j) stand p way → MayOf (own_of from (answer_to j line).next) next q rest
+step_says from j stand next p q way rest line octets frame shows may (inl e) =
+    let g = sent_end from j line octets frame shows in
+    inl (ap (λ (s : LinkSet). s.is_blind) g.places ∙ blind_sends (own_of from j).set (shown frame (differs (own_of from j).held frame)) e)
+step_says from j stand next p q way rest line octets frame shows may (inr h) =
+    let g = sent_end from j line octets frame shows in
+    let x = shown frame (differs (own_of from j).held frame) in
+    let told = says_untold (own_of from j).set (own_of from j).held stand p way h next q rest frame may in
+    by_parts (sends_to x (own_of from j).set).set (keeps (own_of from j).held frame) (own_of from (answer_to j line).next) next q rest
+    g.places (g.octets ∙ ap (λ t. keeps (held_by t (own_of from j).held) frame) told)
+    (says_on (own_of from j).set (own_of from j).held stand p way h next q rest frame may)
+
+step_shown : (from : Role) (j : Judge) (stand : session.Stand) (p : Peer) (way more : List PlainFrame) (y : Frame) (e : End)
+    → IsShown (own_of from j).set (own_of from j).held y e → Means (y ∷ []) more → MayOf (own_of from j) stand p way
+    → MayOf e stand p (way ++ more)
+step_shown from j stand p way more y e g m (inl b) = inl (ap (λ (s : LinkSet). s.is_blind) g.places ∙ blind_shows (own_of from j).set y b)
+step_shown from j stand p way more y e g m (inr h) =
+    by_parts (shows_to y (own_of from j).set) (own_of from j).held e stand p (way ++ more) g.places g.octets
+    (shown_on (own_of from j).set (own_of from j).held stand p way h y more m)
+
+step_missed : (from : Role) (j : Judge) (stand next : session.Stand) (p q : Peer) (way rest : List PlainFrame) (e : End)
+    → IsMissed (own_of from j).set (own_of from j).held e
+    → (Follows (own_of from j).set (own_of from j).held stand p way
+    → May (sends_to Unread (own_of from j).set).set (forgets_each (own_of from j).set.spots.items (own_of from j).held) next q rest)
+    → MayOf (own_of from j) stand p way → MayOf e next q rest
+step_missed from j stand next p q way rest e g on (inl b) =
+    inl (ap (λ (s : LinkSet). s.is_blind) g.places ∙ blind_sends (own_of from j).set Unread b)
+step_missed from j stand next p q way rest e g on (inr h) =
+    by_parts (sends_to Unread (own_of from j).set).set (forgets_each (own_of from j).set.spots.items (own_of from j).held) e next q rest
+    g.places g.octets (on h)
+
+on_none : (way : List PlainFrame) → way ++ [] ≡ way
+on_none [] = refl
+on_none (f ∷ way) = ap (λ rest. f ∷ rest) (on_none way)
+
+step_lost : (from : Role) (j : Judge) (stand : session.Stand) (p : Peer) (way : List PlainFrame) (line octets : List ℕ)
+    → IsDamaged line (other from) octets → MayOf (own_of from j) stand p way
+    → MayOf (own_of from (answer_to j line).next) stand p way
+step_lost from j stand p way line octets broken h =
+    subst (λ w. MayOf (own_of from (answer_to j line).next) stand p w) (on_none way)
+    (step_shown from j stand p way [] Unread (own_of from (answer_to j line).next) (lost_end from j line octets broken) (lost [] [] empty) h)
+
+-- ---- the laws
+
+pub seen_fair : (from : Role) (j : Judge) (frame : PlainFrame)
+    → (sends_to (shown frame (differs (own_of from j).held frame)) (own_of from j).set).told ≡ Nothing
+    → is_of_order (seen_by j from frame).seen.rule ≡ false
+seen_fair from j frame e =
+    minds_fair j.window _ _ frame _ (ap (λ t. is_of_order (rule_of t (shown frame (differs (own_of from j).held frame)))) e)
+
+told_nothing : (from : Role) (j : Judge) (stand next : session.Stand) (p q : Peer) (way rest : List PlainFrame) (frame : PlainFrame)
+    → (own_of from j).set.is_blind ≡ false → MaySay stand p way frame next q rest → MayOf (own_of from j) stand p way
+    → (sends_to (shown frame (differs (own_of from j).held frame)) (own_of from j).set).told ≡ Nothing
+told_nothing from j stand next p q way rest frame room may (inl e) = absurd (both_ways (own_of from j).set.is_blind room e)
+told_nothing from j stand next p q way rest frame room may (inr h) =
+    says_untold (own_of from j).set (own_of from j).held stand p way h next q rest frame may
+
+pub none_of_order : (from : Role) (j : Judge) (frame : PlainFrame) → is_of_order (seen_by j from frame).seen.rule ≡ false
+    → is_of_order (told_rule j from frame) ≡ false
+none_of_order from j frame e =
+    let t = seen_by j from frame in
+    told_of_order t.seen.rule (book.sees from j.reading frame (breaks_order t.seen.rule) j.book).verdict.rule e
+
+-- a set-up begins a session
+comes_to : (way : List Frame) (u : Stand) → is_below fresh (comes way u) ≡ true → Covers u way (At fresh) []
+comes_to [] u e = Here fresh u [] (below_is fresh u e)
+comes_to (x ∷ way) Asking e = go (may_answer x) refl e (comes_to way fresh) (comes_to way Asking)
+  where
+    go : (b : Bool) → may_answer x ≡ b → is_below fresh (comes way (if b then fresh else Asking)) ≡ true
+        → (is_below fresh (comes way fresh) ≡ true → Covers fresh way (At fresh) [])
+        → (is_below fresh (comes way Asking) ≡ true → Covers Asking way (At fresh) []) → Covers Asking (x ∷ way) (At fresh) []
+    go true a h one two = Begins x way (At fresh) [] a (one h)
+    go false a h one two = Later Asking x way (At fresh) [] (two h)
+comes_to (x ∷ way) u e = Later u x way (At fresh) [] (comes_to way (upward u x) e)
+
+has_fresh : (way : List Frame) (qs : List Spot) → begins_anywhere way qs ≡ true
+    → (q : Spot) × IsIn q qs × HoldsAt q.stand (drop q.at way) (At fresh) []
+has_fresh way [] e = absurd (both_ways false refl e)
+has_fresh way (q ∷ qs) e = go (begins_there way q) refl e (has_fresh way qs)
+  where
+    go : (b : Bool) → begins_there way q ≡ b → (b || begins_anywhere way qs) ≡ true
+        → (begins_anywhere way qs ≡ true → (r : Spot) × IsIn r qs × HoldsAt r.stand (drop r.at way) (At fresh) [])
+        → (r : Spot) × IsIn r (q ∷ qs) × HoldsAt r.stand (drop r.at way) (At fresh) []
+    go true b h rest =
+        (q, inl refl, stays_at q.stand (drop q.at way) fresh fresh [] (below_self fresh) (comes_to (drop q.at way) q.stand b))
+    go false b h rest = let g = rest h in (g.0, inr g.1, g.2)
+
+begun : (from : Role) (j : Judge) → IsBegun j from → MayOf (own_of from j) In fresh_peer []
+begun from j h = inr (record {
+  sees = h.room;
+  end = [];
+  has = has_fresh (own_of from j).set.way.items (own_of from j).set.spots.items h.up;
+  means = empty;
+  room = record { octets = h.octets; known = h.known };
+  octets = λ is. begun_held (own_of from j).held [] h.octets h.known;
+})
+
+beside : (from : Role) (j : Judge) (p : Peer) (way : List PlainFrame) → MayBe from j p way → MayOf (own_of from j) In p way
+beside from _ _ _ (keeping.Begins j up) = begun from j (up from)
+beside from _ _ way (keeping.HandsDown j p _ packet h) =
+    handed (own_of from j).set (own_of from j).held In p way packet (beside from j p way h)
+beside from _ _ way (keeping.Sends j p q _ line octets frame shows may h) =
+    step_says from j In In p q way way line octets frame shows (numbered frame q refl may)
+    (beside from j p way h)
+beside from _ p _ (keeping.Shown j _ way line octets frame shows is h) =
+    step_shown from j In p way (frame ∷ []) _ _ (shown_end from j line octets frame shows)
+    (means_one _ frame (inl (differs (own_of (other from) j).held frame, refl))) (beside from j p way h)
+beside from _ _ way (keeping.Garbles j p q _ line octets frame broken may h) =
+    step_missed from j In In p q way way _ (missed_end from j line octets broken)
+    (λ f. garbles_on (own_of from j).set (own_of from j).held In p way f In q way frame (numbered frame q refl may))
+    (beside from j p way h)
+beside from _ p way (keeping.Noises j _ _ line octets broken h) =
+    step_missed from j In In p p way way _ (missed_end from j line octets broken)
+    (λ f. noise_on (own_of from j).set (own_of from j).held In p way f) (beside from j p way h)
+beside from _ p way (keeping.Fails j _ _ line octets broken h) =
+    step_lost from j In p way line octets broken (beside from j p way h)
+beside from _ p _ (keeping.Garbled j _ way line octets frame broken h) =
+    step_shown from j In p way (frame ∷ []) Unread _ (lost_end from j line octets broken)
+    (means_one Unread frame (inr refl)) (beside from j p way h)
+beside from j _ way (keeping.Comes _ p q frame _ may h) =
+    came (own_of from j).set (own_of from j).held p q frame way may (beside from j p (frame ∷ way) h)
 
 pub no_innocent_is_accused : NoInnocentIsAccused
-no_innocent_is_accused from j p q way line octets frame may shows sends_it =
-    let t = seen_by j from frame in
-    told_of_order t.rule (book.sees from j.reading frame (breaks_order t.rule) j.book).verdict.rule
-    (sends from j (answer_to j line).next p q way frame sends_it (beside from j p way may) (goes j line from octets frame shows)).quiet
+no_innocent_is_accused from j p q way line octets frame may room shows sends_it =
+    none_of_order from j frame
+    (seen_fair from j frame
+    (told_nothing from j In In p q way way frame room (numbered frame q refl sends_it) (beside from j p way may)))
+
+nothing : (from : Role) (window : ℕ) (reading : Reading)
+    (strictness : Strictness)
+    → MayOf (own_of from (judge_begins window reading strictness)) session.Out fresh_peer []
+unfolding no_octets
+nothing from window reading strictness = go from
+  where
+    at_first : Follows unknown none_held session.Out fresh_peer []
+    at_first = record {
+      sees = refl;
+      end = [];
+      has = has_less unknown.spots.items unknown.way.items Free Out []
+          (has_taken unknown.spots.items unknown.way.items (At Free) (At Free) Before []
+          (_, inl refl, stays_at Free (Before ∷ []) Free Free (Before ∷ []) tt (Here Free Free (Before ∷ []) tt)) (passes Free Before)) tt;
+      means = empty;
+      room = record { octets = refl; known = refl };
+      octets = λ is. absurd (not_out is);
+    }
+
+    go : (from : Role) → MayOf (own_of from (judge_begins window reading strictness)) session.Out fresh_peer []
+    go Dte = inr at_first
+    go Dce = inr at_first
+
+standing : (from : Role) (j : Judge) (stand : session.Stand) (p : Peer) (way : List PlainFrame) → MayStand from j stand p way
+    → MayOf (own_of from j) stand p way
+standing from _ _ _ _ (sessions.Starts window reading strictness) = nothing from window reading strictness
+standing from _ stand _ way (sessions.HandsDown j _ p _ packet h) =
+    handed (own_of from j).set (own_of from j).held stand p way packet (standing from j stand p way h)
+standing from j _ p way (sessions.Leaves _ stand _ _ h) =
+    left (own_of from j).set (own_of from j).held stand p way (standing from j stand p way h)
+standing from _ _ _ _ (sessions.Says j stand next p q way rest line octets frame shows may h) =
+    step_says from j stand next p q way rest line octets frame shows may (standing from j stand p way h)
+standing from _ stand p _ (sessions.Shown j _ _ way line octets frame shows h) =
+    step_shown from j stand p way (frame ∷ []) _ _ (shown_end from j line octets frame shows)
+    (means_one _ frame (inl (differs (own_of (other from) j).held frame, refl))) (standing from j stand p way h)
+standing from _ _ _ _ (sessions.Garbles j stand next p q way rest line octets frame broken may h) =
+    step_missed from j stand next p q way rest _ (missed_end from j line octets broken)
+    (λ f. garbles_on (own_of from j).set (own_of from j).held stand p way f next q rest frame may) (standing from j stand p way h)
+standing from _ stand p way (sessions.Noises j _ _ _ line octets broken h) =
+    step_missed from j stand stand p p way way _ (missed_end from j line octets broken)
+    (λ f. noise_on (own_of from j).set (own_of from j).held stand p way f) (standing from j stand p way h)
+standing from _ stand p way (sessions.Fails j _ _ _ line octets broken h) =
+    step_lost from j stand p way line octets broken (standing from j stand p way h)
+standing from _ stand p _ (sessions.Garbled j _ _ way line octets frame broken h) =
+    step_shown from j stand p way (frame ∷ []) Unread _ (lost_end from j line octets broken)
+    (means_one Unread frame (inr refl)) (standing from j stand p way h)
+standing from j stand p way (sessions.Passes _ _ _ frame _ h) =
+    passed (own_of from j).set (own_of from j).held stand p frame way (standing from j stand p (frame ∷ way) h)
+standing from j _ _ way (sessions.Comes _ p q frame _ may h) =
+    came (own_of from j).set (own_of from j).held p q frame way may (standing from j In p (frame ∷ way) h)
+standing from j _ _ way (sessions.TakesUa _ p f _ h) =
+    accepted (own_of from j).set (own_of from j).held p f way (standing from j session.Asking p (ua f ∷ way) h)
+
+pub no_session_is_accused : NoSessionIsAccused
+no_session_is_accused from j stand next p q way rest line octets frame may room shows says_it =
+    none_of_order from j frame
+    (seen_fair from j frame (told_nothing from j stand next p q way rest frame room says_it (standing from j stand p way may)))

@@ -9,15 +9,14 @@ use Rattle.x25_link.specs.Hearing.{other}
 use Rattle.x25_packet.specs.Reading.{channel_in}
 use Rattle.x25_packet_judge.specs.Book as book
 use Rattle.x25_packet_judge.specs.declared.packet_rule.PacketRule.{PacketRule}
-use Rattle.x25_judge.specs.Held.{keeps}
-use Rattle.x25_judge.specs.Judge.{Answer, sides_of, held_of, counts_packet, counts_on, counts_carried, all_told, is_open, told_frame, remark_of, next_by, seen_by, next_missed, no_frame, tallies, read_of, sent_of, answer_to}
+use Rattle.x25_judge.specs.Judge.{Answer, own_of, counts_packet, counts_on, counts_carried, all_told, is_open, told_frame, remark_of, next_by}
+use Rattle.x25_judge.specs.Judge.{seen_by, missed_by, next_missed, no_frame, tallies, read_of, sent_of, answer_to}
+use Rattle.x25_judge.specs.Links.{Both}
+use Rattle.x25_judge.specs.Rule.{breaks_order, is_of_manners}
 use Rattle.x25_judge.specs.declared.judge.Judge.{Judge}
 use Rattle.x25_judge.specs.declared.rule.Rule.{Rule}
 use Rattle.x25_judge.specs.declared.rule.Rule.TheVariants.{Packet}
-use Rattle.x25_judge.specs.Rule.{breaks_order, is_of_manners}
-use Rattle.x25_judge.specs.declared.sides.Sides.{Sides}
-use Rattle.x25_judge.specs.laws.Session.{end_of, Shows, IsDamaged, is_of_order}
-use Rattle.x25_judge.specs.Sides.{misses}
+use Rattle.x25_judge.specs.laws.Session.{Shows, IsDamaged, is_of_order}
 use Rattle.x25_decode.specs.Decoding.{n1}
 use Rattle.x25_frame.specs.Reading.{frame_of}
 use Rattle.x25_frame.specs.declared.error.FrameError.{FrameError}
@@ -30,25 +29,27 @@ other_twice Dce = refl
 
 -- ---- the answer to a line
 
-pub answered : (j : Judge) (line : List ℕ) (from : Role) (octets : List ℕ) (frame : PlainFrame) → Shows line from octets frame → answer_to j line ≡ told_frame j from octets frame (seen_by j from frame)
+pub answered : (j : Judge) (line : List ℕ) (from : Role) (octets : List ℕ) (frame : PlainFrame) → Shows line from octets frame
+    → answer_to j line ≡ told_frame j from octets frame (seen_by j from frame)
 unfolding answer_to
-answered j line from octets frame shows = ap (λ (s : Option (Role × List ℕ)). sent_of j s) shows.spells ∙ ap (λ r. read_of j from octets r) shows.reads
+answered j line from octets frame shows =
+    ap (λ (s : Option (Role × List ℕ)). sent_of j s) shows.spells ∙ ap (λ r. read_of j from octets r) shows.reads
 
 -- ---- the judge behind it
 
--- its ends are those that the sides show, and the octets of the I frame are kept
-pub record Goes (j k : Judge) (from : Role) (t : Sides) (frame : PlainFrame) : Type 0 where
-  pub own : end_of from k ≡ t.own
-  pub opposite : end_of (other from) k ≡ t.other
+-- its ends are those that it shows
+pub record Goes (j k : Judge) (from : Role) (t : Both) : Type 0 where
+  pub own : own_of from k ≡ t.own
+  pub opposite : own_of (other from) k ≡ t.other
   pub window : k.window ≡ j.window
-  pub held : held_of from k ≡ keeps (held_of from j) frame
-  pub other_held : held_of (other from) k ≡ held_of (other from) j
 
-on_any : (from : Role) (channel : Option ℕ) (is_judged : Bool) (j : Judge) (P : Judge → Type 0) → ((c : ℕ) → P (counts_packet from c is_judged j)) → P (counts_on from channel is_judged j)
+on_any : (from : Role) (channel : Option ℕ) (is_judged : Bool) (j : Judge) (P : Judge → Type 0)
+    → ((c : ℕ) → P (counts_packet from c is_judged j)) → P (counts_on from channel is_judged j)
 on_any from (Some channel) is_judged j P h = h channel
 on_any from None is_judged j P h = h 0
 
-carried_any : (from : Role) (frame : PlainFrame) (is_again is_judged : Bool) (j : Judge) (P : Judge → Type 0) → P j → ((c : ℕ) → P (counts_packet from c is_judged j)) → P (counts_carried from frame is_again is_judged j)
+carried_any : (from : Role) (frame : PlainFrame) (is_again is_judged : Bool) (j : Judge) (P : Judge → Type 0) → P j
+    → ((c : ℕ) → P (counts_packet from c is_judged j)) → P (counts_carried from frame is_again is_judged j)
 unfolding counts_carried
 carried_any from (info ns nr p octets) true is_judged j P h g = h
 carried_any from (info ns nr p octets) false is_judged j P h g = on_any from (channel_in octets) is_judged j P g
@@ -61,57 +62,54 @@ carried_any from (ua f) is_again is_judged j P h g = h
 carried_any from (dm f) is_again is_judged j P h g = h
 carried_any from (frmr f why) is_again is_judged j P h g = h
 
-pub next_goes : (from : Role) (j : Judge) (frame : PlainFrame) (t : Sides) (s : book.Seen) (rule : Option Rule) → Goes j (tallies rule (next_by j from frame t s)) from t frame
-next_goes Dte j frame t s rule = carried_any Dte frame t.is_again s.verdict.is_judged _ (λ k. Goes j (tallies rule k) Dte t frame)
-    (record { own = refl; opposite = refl; window = refl; held = refl; other_held = refl })
-    (λ c. record { own = refl; opposite = refl; window = refl; held = refl; other_held = refl })
-next_goes Dce j frame t s rule = carried_any Dce frame t.is_again s.verdict.is_judged _ (λ k. Goes j (tallies rule k) Dce t frame)
-    (record { own = refl; opposite = refl; window = refl; held = refl; other_held = refl })
-    (λ c. record { own = refl; opposite = refl; window = refl; held = refl; other_held = refl })
+pub next_goes : (from : Role) (j : Judge) (frame : PlainFrame) (t : Both) (s : book.Seen) (rule : Option Rule)
+    → Goes j (tallies rule (next_by from frame t s j)) from t
+next_goes Dte j frame t s rule =
+    carried_any Dte frame t.seen.is_again s.verdict.is_judged _ (λ k. Goes j (tallies rule k) Dte t)
+    (record { own = refl; opposite = refl; window = refl }) (λ c. record { own = refl; opposite = refl; window = refl })
+next_goes Dce j frame t s rule =
+    carried_any Dce frame t.seen.is_again s.verdict.is_judged _ (λ k. Goes j (tallies rule k) Dce t)
+    (record { own = refl; opposite = refl; window = refl }) (λ c. record { own = refl; opposite = refl; window = refl })
 
-pub goes : (j : Judge) (line : List ℕ) (from : Role) (octets : List ℕ) (frame : PlainFrame) → Shows line from octets frame → Goes j (answer_to j line).next from (seen_by j from frame) frame
+pub goes : (j : Judge) (line : List ℕ) (from : Role) (octets : List ℕ) (frame : PlainFrame) → Shows line from octets frame
+    → Goes j (answer_to j line).next from (seen_by j from frame)
 goes j line from octets frame shows =
     let t = seen_by j from frame in
-    let s = book.sees from j.reading frame (breaks_order t.rule) j.book in
-    subst (λ (a : Answer). Goes j a.next from t frame) (sym (answered j line from octets frame shows)) (next_goes from j frame t s (all_told t.rule s.verdict.rule))
+    let s = book.sees from j.reading frame (breaks_order t.seen.rule) j.book in
+    subst (λ (a : Answer). Goes j a.next from t) (sym (answered j line from octets frame shows))
+    (next_goes from j frame t s (all_told t.seen.rule s.verdict.rule))
 
 -- ---- the judge behind octets that are damaged
 
 pub record Past (j k : Judge) (from : Role) : Type 0 where
-  pub own : end_of from k ≡ (misses (sides_of from j)).own
-  pub opposite : end_of (other from) k ≡ (misses (sides_of from j)).other
+  pub own : own_of from k ≡ (missed_by j from).own
+  pub opposite : own_of (other from) k ≡ (missed_by j from).other
   pub window : k.window ≡ j.window
-  pub held : held_of from k ≡ held_of from j
-  pub other_held : held_of (other from) k ≡ held_of (other from) j
 
-next_past : (from : Role) (e : FrameError) (j : Judge) → Past j (tallies (no_frame e) (next_missed from e j)) from
-next_past Dte e j = record { own = refl; opposite = refl; window = refl; held = refl; other_held = refl }
-next_past Dce e j = record { own = refl; opposite = refl; window = refl; held = refl; other_held = refl }
+next_past : (from : Role) (e : FrameError) (j : Judge)
+    → Past j (tallies (no_frame e) (next_missed from e (missed_by j from) j)) from
+next_past Dte e j = record { own = refl; opposite = refl; window = refl }
+next_past Dce e j = record { own = refl; opposite = refl; window = refl }
 
 pub past : (j : Judge) (line : List ℕ) (from : Role) (octets : List ℕ) → IsDamaged line from octets → Past j (answer_to j line).next from
 unfolding answer_to
-past j line from octets broken = elim (visible_reads from n1 octets broken.visible) [ inl short ↦ read Short short | inr bad ↦ read BadFcs bad ]
+past j line from octets broken =
+    elim (visible_reads from n1 octets broken.visible) [ inl short ↦ read Short short | inr bad ↦ read BadFcs bad ]
   where
     read : (e : FrameError) → frame_of from n1 octets ≡ Err e → Past j (answer_to j line).next from
-    read e is = subst (λ (a : Answer). Past j a.next from) (sym (ap (λ (s : Option (Role × List ℕ)). sent_of j s) broken.spells ∙ ap (λ r. read_of j from octets r) is)) (next_past from e j)
-
--- ---- both ends before it
-
-pub record Stands (j : Judge) (from : Role) : Type 0 where
-  pub own : (sides_of from j).own ≡ end_of from j
-  pub opposite : (sides_of from j).other ≡ end_of (other from) j
-  pub none : (sides_of from j).rule ≡ None
-
-pub stands : (j : Judge) (from : Role) → Stands j from
-stands j Dte = record { own = refl; opposite = refl; none = refl }
-stands j Dce = record { own = refl; opposite = refl; none = refl }
+    read e is =
+        subst (λ (a : Answer). Past j a.next from)
+        (sym (ap (λ (s : Option (Role × List ℕ)). sent_of j s) broken.spells ∙ ap (λ r. read_of j from octets r) is))
+        (next_past from e j)
 
 -- ---- what is told
 
 pub told_of_order : (r : Option Rule) (packet : Option PacketRule) → is_of_order r ≡ false → is_of_order (all_told r packet) ≡ false
 told_of_order r None h = h
 told_of_order None (Some packet) h = refl
-told_of_order (Some rule) (Some packet) h = cond_both (is_of_manners rule && not (is_of_manners (Packet packet))) (Some (Packet packet)) (Some rule) (λ (o : Option Rule). is_of_order o ≡ false) (λ _. refl) (λ _. h)
+told_of_order (Some rule) (Some packet) h =
+    cond_both (is_of_manners rule && not (is_of_manners (Packet packet))) (Some (Packet packet)) (Some rule)
+    (λ (o : Option Rule). is_of_order o ≡ false) (λ _. refl) (λ _. h)
 
 told_none : (r : Option Rule) (packet : Option PacketRule) → is_some (all_told r packet) ≡ false → r ≡ None
 told_none None packet h = refl
@@ -119,13 +117,16 @@ told_none (Some rule) None h = absurd (both_ways true h refl)
 told_none (Some rule) (Some packet) h = absurd (both_ways (is_some (all_told (Some rule) (Some packet))) h told)
   where
     told : is_some (all_told (Some rule) (Some packet)) ≡ true
-    told = cond_both (is_of_manners rule && not (is_of_manners (Packet packet))) (Some (Packet packet)) (Some rule) (λ (o : Option Rule). is_some o ≡ true) (λ _. refl) (λ _. refl)
+    told =
+        cond_both (is_of_manners rule && not (is_of_manners (Packet packet))) (Some (Packet packet)) (Some rule)
+        (λ (o : Option Rule). is_some o ≡ true) (λ _. refl) (λ _. refl)
 
 -- no fault: no rule of the link layer is told
-pub none_told : (j : Judge) (line : List ℕ) (from : Role) (octets : List ℕ) (frame : PlainFrame) → Shows line from octets frame → (answer_to j line).is_faulty ≡ false → (seen_by j from frame).rule ≡ None
+pub none_told : (j : Judge) (line : List ℕ) (from : Role) (octets : List ℕ) (frame : PlainFrame) → Shows line from octets frame
+    → (answer_to j line).is_faulty ≡ false → (seen_by j from frame).seen.rule ≡ None
 none_told j line from octets frame shows quiet =
     let t = seen_by j from frame in
-    let v = (book.sees from j.reading frame (breaks_order t.rule) j.book).verdict in
+    let v = (book.sees from j.reading frame (breaks_order t.seen.rule) j.book).verdict in
     let r = remark_of j from frame t in
     let here = sym (ap (λ (a : Answer). a.is_faulty) (answered j line from octets frame shows)) ∙ quiet in
-    told_none t.rule v.rule (or_parts (is_some r.rule) (is_open j.strictness r) here).0
+    told_none t.seen.rule v.rule (or_parts (is_some r.rule) (is_open j.strictness r) here).0

@@ -1,21 +1,29 @@
 -- The octets that the judge holds of an end's last eight numbers.
 use Rattle.std.proofs.Common.{◌≡◌, ◌⊎◌, inl, inr, ℕ, ◌+◌, ◌%◌, ◌<◌, ◌≤◌, arith, max, Bool, true, zero, suc, List, [], ◌∷◌, ◌++◌, length, Some, refl, sym, ap, ◌∙◌, subst}
-use Rattle.std.specs.Prelude.{slice_get, slice_index_or, slice_set, nat_le}
-use Rattle.std.proofs.lemmas.Bool.{cases_eq, le-leb, cond-true}
-use Rattle.std.proofs.lemmas.List.{get_or-set_same, get_or-set_other, length-set}
+use Rattle.std.specs.Prelude.{slice_get, slice_index_or, slice_set, nat_le, not, ◌&&◌, false, replicate}
+use Rattle.std.specs.Str.{bytes_eq}
+use Rattle.std.proofs.lemmas.Bool.{both_ways, cases_eq, le-leb, cond-true}
+use Rattle.std.proofs.lemmas.List.{get_or-set_same, get_or-set_other, get_or-replicate, length-set}
 use Rattle.std.proofs.lemmas.Slice.Eq.{bytes_eq-Decides}
 use Rattle.x25_frame.specs.Frame.{PlainFrame, info, rr, rnr, rej, sabm, disc, ua, dm, frmr}
 use Rattle.x25_text.specs.declared.text.TheConstants.{ROOM}
-use Rattle.x25_judge.specs.Held.{kept, keeps, is_same}
+use Rattle.x25_judge.specs.Held.{Held, differs, forgets, forgets_all, is_held, kept, keeps}
+use Rattle.x25_judge.specs.Links.{forgets_each, forgets_in}
 use Rattle.x25_judge.specs.laws.Session.{IsSupervisory}
+use Rattle.x25_possible.specs.laws.Possible.{IsIn}
+use Rattle.x25_possible_links.specs.declared.spots.Spot.{Spot}
+use Rattle.x25_possible_links.specs.declared.stand.Stand.{Stand}
+use Rattle.x25_possible_links.specs.declared.stand.Stand.TheVariants.{Out, Asking, Up, Free}
 
--- each of the last eight is held under its number
-pub record IsHeld (hs : List (List ℕ)) (given : List (List ℕ)) (m : ℕ) : Type 0 where
-  pub room : length hs ≡ 8
-  pub octets : (n : ℕ) → n < m → m ≤ n + 8 → slice_get given n ≡ Some (slice_index_or hs (n % 8) [])
+-- each of the last eight that is known is held under its number
+pub record IsHeld (h : Held) (given : List (List ℕ)) (m : ℕ) : Type 0 where
+  pub room : length h.octets ≡ 8
+  pub marks : length h.known ≡ 8
+  pub octets : (n : ℕ) → n < m → m ≤ n + 8 → is_held h n ≡ true
+      → slice_get given n ≡ Some (slice_index_or h.octets (n % 8) [])
 
-pub begun_held : (hs : List (List ℕ)) → length hs ≡ 8 → IsHeld hs [] 0
-begun_held hs room = record { room = room; octets = λ n lt. absurd (never n lt) }
+pub begun_held : (h : Held) (given : List (List ℕ)) → length h.octets ≡ 8 → length h.known ≡ 8 → IsHeld h given 0
+begun_held h given room marks = record { room = room; marks = marks; octets = λ n lt low is. absurd (never n lt) }
   where
     never : (n : ℕ) → n < 0 → ⊥
     never n lt = omega arith
@@ -25,29 +33,33 @@ pushed [] x y n h = cc
 pushed (z ∷ xs) x y zero h = h
 pushed (z ∷ xs) x y (suc n) h = pushed xs x y n h
 
-pub pushed_held : (hs given : List (List ℕ)) (packet : List ℕ) (m : ℕ) → IsHeld hs given m → IsHeld hs (given ++ packet ∷ []) m
-pushed_held hs given packet m h = record { room = h.room; octets = λ n before near. pushed given packet (slice_index_or hs (n % 8) []) n (h.octets n before near) }
-
-pub same_held : (hs given more : List (List ℕ)) (m n : ℕ) → more ≡ given → n ≡ m → IsHeld hs given m → IsHeld hs more n
-same_held hs given more m n e f h = subst (λ (g : List (List ℕ)). IsHeld hs g n) (sym e) (subst (λ x. IsHeld hs given x) (sym f) h)
+pub pushed_held : (h : Held) (given : List (List ℕ)) (packet : List ℕ) (m : ℕ) → IsHeld h given m → IsHeld h (given ++ packet ∷ []) m
+pushed_held h given packet m is = record {
+  room = is.room;
+  marks = is.marks;
+  octets = λ n before near known.
+      pushed given packet (slice_index_or h.octets (n % 8) []) n (is.octets n before near known);
+}
 
 kept_whole : (packet : List ℕ) → length packet ≤ ROOM → kept packet ≡ packet
 kept_whole packet fits = cond-true (nat_le (length packet) ROOM) packet [] (le-leb (length packet) ROOM fits)
 
 -- number n goes, new or again
-pub sent_held : (hs given : List (List ℕ)) (m n ns nr : ℕ) (pf : Bool) (packet : List ℕ) → ns ≡ n % 8 → n ≤ m → m ≤ n + 7 → length packet ≤ ROOM → slice_get given n ≡ Some packet
-    → IsHeld hs given m → IsHeld (keeps hs (info ns nr pf packet)) given (max m (n + 1))
+pub sent_held : (h : Held) (given : List (List ℕ)) (m n ns nr : ℕ) (pf : Bool) (packet : List ℕ) → ns ≡ n % 8 → n ≤ m → m ≤ n + 7
+    → length packet ≤ ROOM → slice_get given n ≡ Some packet → IsHeld h given m
+    → IsHeld (keeps h (info ns nr pf packet)) given (max m (n + 1))
 unfolding keeps
-sent_held hs given m n ns nr pf packet number le near fits same h = record {
-  room = length-set hs (ns % 8) (kept packet) ∙ h.room;
-  octets = λ k before low. go k before low (cases_eq k n);
+sent_held h given m n ns nr pf packet number le near fits same is = record {
+  room = length-set h.octets (ns % 8) (kept packet) ∙ is.room;
+  marks = length-set h.known (ns % 8) (nat_le (length packet) ROOM) ∙ is.marks;
+  octets = λ k before low known. go k before low known (cases_eq k n);
 }
   where
     at : ns % 8 ≡ n % 8
     at = omega (arith, number)
 
-    in_room : ns % 8 < length hs
-    in_room = rw h.room (omega arith)
+    in_room : ns % 8 < length h.octets
+    in_room = rw is.room (omega arith)
 
     apart_from : (k : ℕ) → k < max m (n + 1) → max m (n + 1) ≤ k + 8 → (k ≡ n → ⊥) → (k % 8 ≡ ns % 8 → ⊥)
     apart_from k before low ne e = omega (arith, number, le, near, ne)
@@ -58,19 +70,26 @@ sent_held hs given m n ns nr pf packet number le near fits same h = record {
     is_near : (k : ℕ) → max m (n + 1) ≤ k + 8 → m ≤ k + 8
     is_near k low = omega arith
 
-    go : (k : ℕ) → k < max m (n + 1) → max m (n + 1) ≤ k + 8 → ((k ≡ n) ⊎ (k ≡ n → ⊥)) → slice_get given k ≡ Some (slice_index_or (slice_set hs (ns % 8) (kept packet)) (k % 8) [])
-    go k before low (inl e) =
-        let here : slice_index_or (slice_set hs (ns % 8) (kept packet)) (k % 8) [] ≡ packet =
-        ap (λ i. slice_index_or (slice_set hs (ns % 8) (kept packet)) i []) (ap (λ x. x % 8) e ∙ sym at) ∙ get_or-set_same hs (ns % 8) (kept packet) [] in_room ∙ kept_whole packet fits in
+    go : (k : ℕ) → k < max m (n + 1) → max m (n + 1) ≤ k + 8
+        → slice_index_or (slice_set h.known (ns % 8) (nat_le (length packet) ROOM)) (k % 8) false ≡ true
+        → ((k ≡ n) ⊎ (k ≡ n → ⊥))
+        → slice_get given k ≡ Some (slice_index_or (slice_set h.octets (ns % 8) (kept packet)) (k % 8) [])
+    go k before low known (inl e) =
+        let here : slice_index_or (slice_set h.octets (ns % 8) (kept packet)) (k % 8) [] ≡ packet =
+        ap (λ i. slice_index_or (slice_set h.octets (ns % 8) (kept packet)) i []) (ap (λ x. x % 8) e ∙ sym at)
+        ∙ get_or-set_same h.octets (ns % 8) (kept packet) [] in_room ∙ kept_whole packet fits in
         ap (λ x. slice_get given x) e ∙ same ∙ ap (λ (x : List ℕ). Some x) (sym here)
-    go k before low (inr ne) =
-        h.octets k (is_old k before ne) (is_near k low) ∙ ap (λ (x : List ℕ). Some x) (sym (get_or-set_other hs (ns % 8) (k % 8) (kept packet) [] (apart_from k before low ne)))
+    go k before low known (inr ne) =
+        is.octets k (is_old k before ne) (is_near k low)
+        (sym (get_or-set_other h.known (ns % 8) (k % 8) (nat_le (length packet) ROOM) false (apart_from k before low ne)) ∙ known)
+        ∙ ap (λ (x : List ℕ). Some x)
+        (sym (get_or-set_other h.octets (ns % 8) (k % 8) (kept packet) [] (apart_from k before low ne)))
 
 -- a number that went before carries what it did
-pub same_octets : (hs given : List (List ℕ)) (m n ns nr : ℕ) (pf : Bool) (packet : List ℕ) → ns ≡ n % 8 → n < m → m ≤ n + 7 → slice_get given n ≡ Some packet → IsHeld hs given m → is_same hs (info ns nr pf packet) ≡ true
-unfolding is_same
-same_octets hs given m n ns nr pf packet number before near same h =
-    (bytes_eq-Decides (slice_index_or hs (ns % 8) []) packet).1 (ap (λ i. slice_index_or hs i []) at ∙ some_is (sym (h.octets n before low) ∙ same))
+pub same_octets : (h : Held) (given : List (List ℕ)) (m n ns nr : ℕ) (pf : Bool) (packet : List ℕ) → ns ≡ n % 8 → n < m → m ≤ n + 7
+    → slice_get given n ≡ Some packet → IsHeld h given m → differs h (info ns nr pf packet) ≡ false
+unfolding differs
+same_octets h given m n ns nr pf packet number before near same is = go (is_held h ns) refl
   where
     at : ns % 8 ≡ n % 8
     at = omega (arith, number)
@@ -81,40 +100,225 @@ same_octets hs given m n ns nr pf packet number before near same h =
     some_is : {x y : List ℕ} → Some x ≡ Some y → x ≡ y
     some_is e = cc
 
+    octets_are : is_held h ns ≡ true → bytes_eq (slice_index_or h.octets (ns % 8) []) packet ≡ true
+    octets_are known =
+        (bytes_eq-Decides (slice_index_or h.octets (ns % 8) []) packet).1
+        (ap (λ i. slice_index_or h.octets i []) at
+        ∙ some_is (sym (is.octets n before low (ap (λ i. slice_index_or h.known i false) (sym at) ∙ known)) ∙ same))
+
+    go : (b : Bool) → is_held h ns ≡ b → (b && not (bytes_eq (slice_index_or h.octets (ns % 8) []) packet)) ≡ false
+    go false e = refl
+    go true e = ap not (octets_are e)
+
 -- a frame that carries nothing
-pub bare_held : (hs : List (List ℕ)) (frame : PlainFrame) → IsSupervisory frame → keeps hs frame ≡ hs
+pub bare_held : (h : Held) (frame : PlainFrame) → IsSupervisory frame → keeps h frame ≡ h
 unfolding keeps
-bare_held hs (info ns nr pf packet) h = absurd h
-bare_held hs (rr command nr pf) h = refl
-bare_held hs (rnr command nr pf) h = refl
-bare_held hs (rej command nr pf) h = refl
-bare_held hs (sabm p) h = refl
-bare_held hs (disc p) h = refl
-bare_held hs (ua f) h = refl
-bare_held hs (dm f) h = refl
-bare_held hs (frmr f why) h = refl
+bare_held h (info ns nr pf packet) g = absurd g
+bare_held h (rr command nr pf) g = refl
+bare_held h (rnr command nr pf) g = refl
+bare_held h (rej command nr pf) g = refl
+bare_held h (sabm p) g = refl
+bare_held h (disc p) g = refl
+bare_held h (ua f) g = refl
+bare_held h (dm f) g = refl
+bare_held h (frmr f why) g = refl
+
+-- each keeps its room
+pub record HasRoom (h : Held) : Type 0 where
+  pub octets : length h.octets ≡ 8
+  pub known : length h.known ≡ 8
+
+pub keeps_room : (h : Held) (frame : PlainFrame) → HasRoom h → HasRoom (keeps h frame)
+unfolding keeps
+keeps_room h (info ns nr pf packet) g = record {
+  octets = length-set h.octets (ns % 8) (kept packet) ∙ g.octets;
+  known = length-set h.known (ns % 8) (nat_le (length packet) ROOM) ∙ g.known;
+}
+keeps_room h (rr command nr pf) g = g
+keeps_room h (rnr command nr pf) g = g
+keeps_room h (rej command nr pf) g = g
+keeps_room h (sabm p) g = g
+keeps_room h (disc p) g = g
+keeps_room h (ua f) g = g
+keeps_room h (dm f) g = g
+keeps_room h (frmr f why) g = g
+
+-- ---- octets of numbers that are known no longer
+
+-- less is known
+pub record IsLess (g h : Held) : Type 0 where
+  pub octets : g.octets ≡ h.octets
+  pub marks : length g.known ≡ 8
+  pub known : (n : ℕ) → is_held g n ≡ true → is_held h n ≡ true
+
+less_on : (f g h : Held) → IsLess f g → IsLess g h → IsLess f h
+less_on f g h a b = record { octets = a.octets ∙ b.octets; marks = a.marks; known = λ n is. b.known n (a.known n is) }
+
+not_forgotten : (n k : ℕ) (h : Held) → length h.known ≡ 8 → k % 8 ≡ n % 8 → is_held (forgets n h) k ≡ true → ⊥
+not_forgotten n k h marks same is =
+    both_ways (slice_index_or (slice_set h.known (n % 8) false) (n % 8) false)
+    (get_or-set_same h.known (n % 8) false false room)
+    (ap (λ i. slice_index_or (slice_set h.known (n % 8) false) i false) (sym same) ∙ is)
+  where
+    room : n % 8 < length h.known
+    room = rw marks (omega arith)
+
+forgotten_less : (n : ℕ) (h : Held) → length h.known ≡ 8 → IsLess (forgets n h) h
+forgotten_less n h marks = record {
+  octets = refl;
+  marks = length-set h.known (n % 8) false ∙ marks;
+  known = λ k is. go k is (cases_eq (k % 8) (n % 8));
+}
+  where
+    go : (k : ℕ) → is_held (forgets n h) k ≡ true → ((k % 8 ≡ n % 8) ⊎ (k % 8 ≡ n % 8 → ⊥)) → is_held h k ≡ true
+    go k is (inl e) = absurd (not_forgotten n k h marks e is)
+    go k is (inr ne) = sym (get_or-set_other h.known (n % 8) (k % 8) false false ne) ∙ is
+
+not_any : (n : ℕ) (h : Held) → is_held (forgets_all h) n ≡ true → ⊥
+not_any n h is = both_ways (slice_index_or (replicate 8 false) (n % 8) false) (get_or-replicate 8 (n % 8) false false low) is
+  where
+    low : n % 8 < 8
+    low = omega arith
+
+all_less : (h : Held) → IsLess (forgets_all h) h
+all_less h = record { octets = refl; marks = refl; known = λ n is. absurd (not_any n h is) }
+
+in_less : (s : Stand) (h : Held) → length h.known ≡ 8 → IsLess (forgets_in s h) h
+in_less (Up k) h marks = forgotten_less (k.sent % 8) h marks
+in_less Out h marks = all_less h
+in_less Asking h marks = all_less h
+in_less Free h marks = all_less h
+
+each_less : (qs : List Spot) (h : Held) → length h.known ≡ 8 → IsLess (forgets_each qs h) h
+each_less [] h marks = record { octets = refl; marks = marks; known = λ n is. is }
+each_less (q ∷ qs) h marks =
+    let one = in_less q.stand h marks in
+    less_on (forgets_each qs (forgets_in q.stand h)) (forgets_in q.stand h) h (each_less qs (forgets_in q.stand h) one.marks) one
+
+-- in a session it has sent so many
+abbrev pub HasSent : ℕ → Stand → Type 0
+HasSent n (Up k) = k.sent ≡ n
+HasSent n s = Unit {0}
+
+not_in : (n : ℕ) (s : Stand) (h : Held) → length h.known ≡ 8 → HasSent n s → is_held (forgets_in s h) n ≡ true → ⊥
+not_in n (Up k) h marks e is = not_forgotten (k.sent % 8) n h marks (same k.sent n e) is
+  where
+    same : (a b : ℕ) → a ≡ b → b % 8 ≡ a % 8 % 8
+    same a b e = omega (arith, e)
+not_in n Out h marks e is = not_any n h is
+not_in n Asking h marks e is = not_any n h is
+not_in n Free h marks e is = not_any n h is
+
+-- octets of the next number are forgotten
+pub not_each : (n : ℕ) (qs : List Spot) (q : Spot) (h : Held) → length h.known ≡ 8 → IsIn q qs → HasSent n q.stand
+    → is_held (forgets_each qs h) n ≡ true → ⊥
+not_each n [] q h marks is e known = is
+not_each n (p ∷ qs) q h marks (inl same) e known =
+    let one = in_less p.stand h marks in
+    not_in n p.stand h marks (subst (λ (r : Spot). HasSent n r.stand) same e)
+    ((each_less qs (forgets_in p.stand h) one.marks).known n known)
+not_each n (p ∷ qs) q h marks (inr is) e known =
+    not_each n qs q (forgets_in p.stand h) (in_less p.stand h marks).marks is e known
+
+pub each_room : (qs : List Spot) (h : Held) → HasRoom h → HasRoom (forgets_each qs h)
+each_room qs h g =
+    let less = each_less qs h g.known in
+    record { octets = ap (λ (xs : List (List ℕ)). length xs) less.octets ∙ g.octets; known = less.marks }
+
+octets_less : (g h : Held) (given : List (List ℕ)) (m n : ℕ) → IsLess g h → IsHeld h given m → n < m → m ≤ n + 8
+    → is_held g n ≡ true → slice_get given n ≡ Some (slice_index_or g.octets (n % 8) [])
+octets_less g h given m n less is before near known =
+    is.octets n before near (less.known n known)
+    ∙ ap (λ (xs : List (List ℕ)). Some (slice_index_or xs (n % 8) [])) (sym less.octets)
+
+pub held_less : (qs : List Spot) (h : Held) (given : List (List ℕ)) (m : ℕ) → IsHeld h given m → IsHeld (forgets_each qs h) given m
+held_less qs h given m is =
+    let less = each_less qs h is.marks in
+    record {
+      room = ap (λ (xs : List (List ℕ)). length xs) less.octets ∙ is.room;
+      marks = less.marks;
+      octets = λ n before near known. octets_less (forgets_each qs h) h given m n less is before near known;
+    }
+
+-- a number more may have gone
+pub held_more : (qs : List Spot) (h : Held) (given : List (List ℕ)) (m : ℕ) → IsHeld h given m
+    → (is_held (forgets_each qs h) m ≡ true → ⊥) → IsHeld (forgets_each qs h) given (m + 1)
+held_more qs h given m is none =
+    let less = each_less qs h is.marks in
+    record {
+      room = ap (λ (xs : List (List ℕ)). length xs) less.octets ∙ is.room;
+      marks = less.marks;
+      octets = λ n before near known. go n before near known (cases_eq n m);
+    }
+  where
+    is_before : (n : ℕ) → n < m + 1 → (n ≡ m → ⊥) → n < m
+    is_before n a b = omega (arith, a, b)
+
+    is_near : (n : ℕ) → m + 1 ≤ n + 8 → m ≤ n + 8
+    is_near n a = omega (arith, a)
+
+    go : (n : ℕ) → n < m + 1 → m + 1 ≤ n + 8 → is_held (forgets_each qs h) n ≡ true → ((n ≡ m) ⊎ (n ≡ m → ⊥))
+        → slice_get given n ≡ Some (slice_index_or (forgets_each qs h).octets (n % 8) [])
+    go n before near known (inl e) =
+        absurd (none (subst (λ k. is_held (forgets_each qs h) k ≡ true) e known))
+    go n before near known (inr ne) =
+        octets_less (forgets_each qs h) h given m n (each_less qs h is.marks) is (is_before n before ne) (is_near n near) known
+
+-- ---- octets that are known of each number
+
+-- each of the last eight is
+abbrev pub AreKnown : Held → ℕ → Type 0
+AreKnown h m = (n : ℕ) → n < m → m ≤ n + 8 → is_held h n ≡ true
 
 pub last_of : (xs : List (List ℕ)) (x : List ℕ) (n : ℕ) → length xs ≡ n → slice_get (xs ++ x ∷ []) n ≡ Some x
 last_of [] x n e = rw (sym e) refl
 last_of (y ∷ xs) x n e = rw (sym e) (last_of xs x (length xs) refl)
 
--- the next number goes
-pub new_held : (hs given : List (List ℕ)) (m ns nr : ℕ) (pf : Bool) (packet : List ℕ) → ns ≡ m % 8 → length given ≡ m → length packet ≤ ROOM → IsHeld hs given m
-    → IsHeld (keeps hs (info ns nr pf packet)) (given ++ packet ∷ []) (max m (m + 1))
-new_held hs given m ns nr pf packet number all fits h =
-    sent_held hs (given ++ packet ∷ []) m m ns nr pf packet number (omega arith) (omega arith) fits (last_of given packet m all) (pushed_held hs given packet m h)
-
--- a number that went before goes again
-pub old_held : (hs given : List (List ℕ)) (m n ns nr : ℕ) (pf : Bool) (packet : List ℕ) → ns ≡ n % 8 → n < m → m ≤ n + 7 → slice_get given n ≡ Some packet → length packet ≤ ROOM → IsHeld hs given m
-    → IsHeld (keeps hs (info ns nr pf packet)) given (max m (n + 1))
-old_held hs given m n ns nr pf packet number before near same fits h =
-    sent_held hs given m n ns nr pf packet number (omega (arith, before)) near fits same h
-
-pub old_octets : (hs given : List (List ℕ)) (m n ns nr : ℕ) (pf : Bool) (packet : List ℕ) → ns % 8 ≡ n % 8 → n < m → m ≤ n + 7 → is_same hs (info ns nr pf packet) ≡ true → IsHeld hs given m
-    → slice_get given n ≡ Some packet
-unfolding is_same
-old_octets hs given m n ns nr pf packet number before near same h =
-    h.octets n before low ∙ ap (λ (x : List ℕ). Some x) (ap (λ i. slice_index_or hs i []) (sym number) ∙ (bytes_eq-Decides (slice_index_or hs (ns % 8) []) packet).0 same)
+-- number n goes, new or again
+pub sent_known : (h : Held) (m n ns nr : ℕ) (pf : Bool) (packet : List ℕ) → ns ≡ n % 8 → n ≤ m → length packet ≤ ROOM
+    → length h.known ≡ 8 → AreKnown h m → AreKnown (keeps h (info ns nr pf packet)) (max m (n + 1))
+unfolding keeps
+sent_known h m n ns nr pf packet number le fits marks are k before near = go (cases_eq (k % 8) (ns % 8))
   where
+    at : ns % 8 ≡ n % 8
+    at = omega (arith, number)
+
+    in_room : ns % 8 < length h.known
+    in_room = rw marks (omega arith)
+
+    is_old : (k % 8 ≡ ns % 8 → ⊥) → k < m
+    is_old ne = omega (arith, before, ne, at, le)
+
+    is_near : m ≤ k + 8
+    is_near = omega (arith, near)
+
+    go : ((k % 8 ≡ ns % 8) ⊎ (k % 8 ≡ ns % 8 → ⊥))
+        → slice_index_or (slice_set h.known (ns % 8) (nat_le (length packet) ROOM)) (k % 8) false ≡ true
+    go (inl e) =
+        ap (λ i. slice_index_or (slice_set h.known (ns % 8) (nat_le (length packet) ROOM)) i false) e
+        ∙ get_or-set_same h.known (ns % 8) (nat_le (length packet) ROOM) false in_room ∙ le-leb (length packet) ROOM fits
+    go (inr ne) =
+        get_or-set_other h.known (ns % 8) (k % 8) (nat_le (length packet) ROOM) false ne ∙ are k (is_old ne) is_near
+
+-- octets that don't differ from known ones are the same
+pub old_octets : (h : Held) (given : List (List ℕ)) (m n ns nr : ℕ) (pf : Bool) (packet : List ℕ) → ns ≡ n % 8 → n < m → m ≤ n + 7
+    → differs h (info ns nr pf packet) ≡ false → IsHeld h given m → AreKnown h m → slice_get given n ≡ Some packet
+unfolding differs
+old_octets h given m n ns nr pf packet number before near same is are =
+    is.octets n before low (are n before low)
+    ∙ ap (λ (x : List ℕ). Some x)
+    (ap (λ i. slice_index_or h.octets i []) (sym at)
+    ∙ (bytes_eq-Decides (slice_index_or h.octets (ns % 8) []) packet).0 (equal (bytes_eq (slice_index_or h.octets (ns % 8) []) packet) known same))
+  where
+    at : ns % 8 ≡ n % 8
+    at = omega (arith, number)
+
     low : m ≤ n + 8
     low = omega (arith, near)
+
+    known : is_held h ns ≡ true
+    known = ap (λ i. slice_index_or h.known i false) at ∙ are n before low
+
+    equal : (b : Bool) → is_held h ns ≡ true → (is_held h ns && not b) ≡ false → b ≡ true
+    equal true e k = refl
+    equal false e k = absurd (both_ways (is_held h ns && true) k (ap (λ c. c && true) e))

@@ -194,8 +194,8 @@ module _ (c : Settings) (high : c.window ≤ 7) (longest : c.longest ≡ n1) (re
       })
 
 pub no_station_is_accused : ReadsSpelled → Laws → EachEventHandsOne → NoInnocentIsAccused → NoStationIsAccused
-no_station_is_accused reads laws hands innocent c high longest w any once line octets frame rest out shows is =
+no_station_is_accused reads laws hands innocent c high longest w any room once line octets frame rest out shows is =
     let k = watched c high longest reads laws hands w any once in
     let r = k.reached in
     let f = front c.role w.judge r.before r.way octets frame shows.reads is r.may k.peer r.left w.out rest out r.did in
-    innocent c.role w.judge f.before f.after f.on_way line octets frame f.may shows f.sends
+    innocent c.role w.judge f.before f.after f.on_way line octets frame f.may room shows f.sends

@@ -9,7 +9,7 @@ use Rattle.x25_judge.specs.declared.judge.Judge.{Judge}
 use Rattle.x25_line.specs.laws.Peer.{Peer, fresh_peer, MayHear}
 use Rattle.x25_link.specs.Hearing.{other}
 use Rattle.x25_judge.specs.laws.Keeping.{MaySend}
-use Rattle.x25_judge.specs.laws.Session.{IsBegun, IsSetUp, Shows, IsDamaged, IsNumbered, IsSupervisory}
+use Rattle.x25_judge.specs.laws.Session.{IsSetUp, Shows, IsDamaged, IsNumbered, IsSupervisory}
 
 -- the judge behind frames with numbers of both ends, none of which breaks a rule or manners
 pub data IsQuiet : Judge → List (List ℕ) → Type 0 where
@@ -38,8 +38,8 @@ pub data IsKept (from : Role) : List (List ℕ) → Peer → Type 0 where
 -- The judge behind frames with numbers of both ends and damaged octets of the other end, where no rule and no manners
 -- are told of the end `from`.
 pub data IsUntold (from : Role) : Judge → List (List ℕ) → Type 0 where
-  -- the trace has shown a set-up, by a late UA or not
-  Begins : (is_late : Bool) (j : Judge) → ((end : Role) → IsBegun is_late j end) → IsUntold from j []
+  -- the trace has shown a set-up
+  Begins : (j : Judge) → IsSetUp j → IsUntold from j []
   -- it sends
   Says : (j : Judge) (lines : List (List ℕ)) (line octets : List ℕ) (frame : PlainFrame)
       → Shows line from octets frame → IsNumbered frame → (answer_to j line).is_faulty ≡ false

@@ -37,9 +37,18 @@ pub data MayBe (from : Role) : Judge → Peer → List PlainFrame → Type 0 whe
   Shown : (j : Judge) (p : Peer) (way : List PlainFrame) (line octets : List ℕ) (frame : PlainFrame)
       → Shows line (other from) octets frame → IsNumbered frame → MayBe from j p way
       → MayBe from (answer_to j line).next p (way ++ frame ∷ [])
-  -- octets of the other end are damaged, which is a loss
+  -- octets of it are damaged, and may have been any that it may send, or none
+  Garbles : (j : Judge) (p q : Peer) (way : List PlainFrame) (line octets : List ℕ) (frame : PlainFrame)
+      → IsDamaged line from octets → MaySend p frame q → MayBe from j p way → MayBe from (answer_to j line).next q way
+  Noises : (j : Judge) (p : Peer) (way : List PlainFrame) (line octets : List ℕ) → IsDamaged line from octets
+      → MayBe from j p way → MayBe from (answer_to j line).next p way
+  -- octets of the other end are, which is a loss
   Fails : (j : Judge) (p : Peer) (way : List PlainFrame) (line octets : List ℕ) → IsDamaged line (other from) octets
       → MayBe from j p way → MayBe from (answer_to j line).next p way
+  -- or they were a frame, which may come
+  Garbled : (j : Judge) (p : Peer) (way : List PlainFrame) (line octets : List ℕ) (frame : PlainFrame)
+      → IsDamaged line (other from) octets → MayBe from j p way
+      → MayBe from (answer_to j line).next p (way ++ frame ∷ [])
   -- the front one comes, and is heard or not, and taken or not; or it is lost
   Comes : (j : Judge) (p q : Peer) (frame : PlainFrame) (way : List PlainFrame) → MayHear p (Ok frame) q
       → MayBe from j p (frame ∷ way) → MayBe from j q way

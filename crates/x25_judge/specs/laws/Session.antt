@@ -1,34 +1,73 @@
 -- One session of a link, as a trace shows it: SABM and UA, and then frames with numbers.
-use Rattle.std.specs.Prelude.{◌≡◌, ℕ, ◌<◌, All, length, Bool, true, false, not, ◌&&◌, List, Option, Some, None, Ok}
-use Rattle.std.specs.Prelude.{nat_le}
+use Rattle.std.specs.Prelude.{◌≡◌, ℕ, ◌<◌, All, drop, Bool, true, false, not, ◌&&◌, ◌||◌, List, [], ◌∷◌, length, Option}
+use Rattle.std.specs.Prelude.{Some, None, Ok, nat_le}
 use Rattle.x25_bits.specs.declared.role.Role.{Role}
-use Rattle.x25_bits.specs.declared.role.Role.TheVariants.{Dte, Dce}
 use Rattle.x25_decode.specs.Decoding.{n1, sent_in}
 use Rattle.x25_frame.specs.Frame.{PlainFrame, info, rr, rnr, rej, dm, frmr}
 use Rattle.x25_frame.specs.Reading.{frame_of}
-use Rattle.x25_judge.specs.Judge.{held_of, remark_of, seen_by}
-use Rattle.x25_judge.specs.Sides.{may_run}
-use Rattle.x25_judge.specs.Way.{fresh, deafened}
+use Rattle.x25_judge.specs.Judge.{own_of, remark_of, seen_by}
 use Rattle.x25_judge.specs.declared.judge.Judge.{Judge}
 use Rattle.x25_judge.specs.declared.rule.Rule.{Rule}
 use Rattle.x25_judge.specs.declared.rule.Rule.TheVariants.{NoFrame, UaUnasked, NotUp, Unsent, Falls, OverWindow}
 use Rattle.x25_judge.specs.declared.rule.Rule.TheVariants.{Differs, Packet}
-use Rattle.x25_judge.specs.declared.sides.End.{End}
 use Rattle.x25_line.specs.laws.Stations.{is_visible}
+use Rattle.x25_possible_links.specs.code.Steps.{is_below}
+use Rattle.x25_possible_links.specs.laws.Link.{fresh, may_answer}
+use Rattle.x25_possible_links.specs.laws.Places.{upward}
+use Rattle.x25_possible_links.specs.declared.frame.Frame.{Frame}
+use Rattle.x25_possible_links.specs.declared.frame.Frame.TheVariants.{Info, Ready, Unread}
+use Rattle.x25_possible_links.specs.declared.spots.Spot.{Spot}
+use Rattle.x25_possible_links.specs.declared.stand.Stand.{Stand}
+use Rattle.x25_possible_links.specs.declared.stand.Stand.TheVariants.{Asking, Up}
 
-abbrev pub end_of : Role → Judge → End
-end_of Dte j = j.dte
-end_of Dce j = j.dce
+-- where an end stands once all has come
+abbrev pub comes : List Frame → Stand → Stand
+comes [] s = s
+comes (x ∷ way) s = comes way (upward s x)
 
--- an end may send, and its numbers begin; where `is_late` the N(R)s that answer them aren't judged
-pub record IsBegun (is_late : Bool) (j : Judge) (from : Role) : Type 0 where
-  pub up : may_run (end_of from j).phase ≡ true
-  pub way : (end_of from j).way ≡ deafened is_late (fresh true)
-  pub room : length (held_of from j) ≡ 8
+-- it may begin a session then
+abbrev pub begins_there : List Frame → Spot → Bool
+begins_there way q = is_below fresh (comes (drop q.at way) q.stand)
+
+abbrev pub begins_anywhere : List Frame → List Spot → Bool
+begins_anywhere way [] = false
+begins_anywhere way (q ∷ qs) = begins_there way q || begins_anywhere way qs
+
+-- no more is known of it: it awaits UA, or all that it has sent, heard and taken is nothing
+abbrev pub is_new : Stand → Bool
+is_new Asking = true
+is_new s = is_below s fresh
+
+abbrev pub are_new : List Frame → List Spot → Bool
+are_new way [] = true
+are_new way (q ∷ qs) = is_new (comes (drop q.at way) q.stand) && are_new way qs
+
+-- a session of the end may begin, with all numbers 0, and no other one may go on
+pub record IsBegun (j : Judge) (from : Role) : Type 0 where
+  pub up : begins_anywhere (own_of from j).set.way.items (own_of from j).set.spots.items ≡ true
+  pub new : are_new (own_of from j).set.way.items (own_of from j).set.spots.items ≡ true
+  pub room : (own_of from j).set.is_blind ≡ false
+  pub octets : length (own_of from j).held.octets ≡ 8
+  pub known : length (own_of from j).held.known ≡ 8
+
+-- what may be UA is on the way, or numbers are
+abbrev pub has_answer : List Frame → Bool
+has_answer [] = false
+has_answer (x ∷ way) = may_answer x || has_answer way
+
+abbrev pub is_number : Frame → Bool
+is_number (Info ns nr differs) = true
+is_number (Ready nr) = true
+is_number Unread = true
+is_number x = false
+
+abbrev pub has_number : List Frame → Bool
+has_number [] = false
+has_number (x ∷ way) = is_number x || has_number way
 
 -- the trace has shown a set-up, and nothing behind it
 abbrev pub IsSetUp : Judge → Type 0
-IsSetUp j = (from : Role) → IsBegun false j from
+IsSetUp j = (from : Role) → IsBegun j from
 
 -- ---- lines
 
@@ -50,14 +89,6 @@ IsNumbered (rnr command nr pf) = Unit {0}
 IsNumbered (rej command nr pf) = Unit {0}
 IsNumbered frame = ⊥
 
--- the N(R) of a frame that has one
-abbrev pub nr_of : PlainFrame → Option ℕ
-nr_of (info ns nr pf octets) = Some nr
-nr_of (rr command nr pf) = Some nr
-nr_of (rnr command nr pf) = Some nr
-nr_of (rej command nr pf) = Some nr
-nr_of frame = None
-
 -- it is a response with F=1, but for UA
 abbrev pub is_final : PlainFrame → Bool
 is_final (rr command nr pf) = pf && not command
@@ -66,6 +97,11 @@ is_final (rej command nr pf) = pf && not command
 is_final (dm f) = f
 is_final (frmr f why) = f
 is_final frame = false
+
+-- it is in a session
+abbrev pub is_up : Stand → Bool
+is_up (Up k) = true
+is_up s = false
 
 -- it has no N(S)
 abbrev pub IsSupervisory : PlainFrame → Type 0

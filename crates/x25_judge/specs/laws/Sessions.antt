@@ -77,10 +77,20 @@ pub data MayStand (from : Role) : Judge → Stand → Peer → List PlainFrame �
   Shown : (j : Judge) (stand : Stand) (p : Peer) (way : List PlainFrame) (line octets : List ℕ) (frame : PlainFrame)
       → Shows line (other from) octets frame → MayStand from j stand p way
       → MayStand from (answer_to j line).next stand p (way ++ frame ∷ [])
-  -- octets of the other end are damaged, which is a loss
+  -- octets of it are damaged, and may have been any that the rules allow, or none
+  Garbles : (j : Judge) (stand next : Stand) (p q : Peer) (way rest : List PlainFrame) (line octets : List ℕ)
+      (frame : PlainFrame) → IsDamaged line from octets → MaySay stand p way frame next q rest
+      → MayStand from j stand p way → MayStand from (answer_to j line).next next q rest
+  Noises : (j : Judge) (stand : Stand) (p : Peer) (way : List PlainFrame) (line octets : List ℕ)
+      → IsDamaged line from octets → MayStand from j stand p way → MayStand from (answer_to j line).next stand p way
+  -- octets of the other end are, which is a loss
   Fails : (j : Judge) (stand : Stand) (p : Peer) (way : List PlainFrame) (line octets : List ℕ)
       → IsDamaged line (other from) octets → MayStand from j stand p way
       → MayStand from (answer_to j line).next stand p way
+  -- or they were a frame, which may come
+  Garbled : (j : Judge) (stand : Stand) (p : Peer) (way : List PlainFrame) (line octets : List ℕ) (frame : PlainFrame)
+      → IsDamaged line (other from) octets → MayStand from j stand p way
+      → MayStand from (answer_to j line).next stand p (way ++ frame ∷ [])
   -- the front one comes and is passed over, or it is lost
   Passes : (j : Judge) (stand : Stand) (p : Peer) (frame : PlainFrame) (way : List PlainFrame)
       → MayStand from j stand p (frame ∷ way) → MayStand from j stand p way

@@ -1,19 +1,21 @@
 -- What the laws say of `judge`.
-use Rattle.std.specs.Prelude.{◌≡◌, ℕ, ◌==◌, ◌<◌, ◌≤◌, Bool, true, false, not, List, [], ◌∷◌, Some, is_some}
+use Rattle.std.specs.Prelude.{◌≡◌, ℕ, ◌≤◌, Bool, true, false, List, [], ◌∷◌, ◌++◌, is_some}
 use Rattle.x25_bits.specs.declared.role.Role.{Role}
 use Rattle.x25_decode.specs.Decoding.{n1}
-use Rattle.x25_decode.specs.declared.answer.Reading.{Reading}
 use Rattle.x25_frame.specs.Frame.{PlainFrame, info, sabm, ua}
-use Rattle.x25_judge.specs.Held.{is_same}
-use Rattle.x25_judge.specs.Judge.{begins, answer_to, held_of, sides_of}
-use Rattle.x25_judge.specs.Rule.{breaks_order}
-use Rattle.x25_judge.specs.Sides.{ended, is_judged}
-use Rattle.x25_judge.specs.Way.{awaited, goes_on, may_go_back}
+use Rattle.x25_judge.specs.Held.{differs}
+use Rattle.x25_decode.specs.declared.answer.Reading.{Reading}
+use Rattle.x25_judge.specs.Judge.{answer_to, begins, other_of, own_of, seen_by}
+use Rattle.x25_judge.specs.Links.{numbers, place, shown}
+use Rattle.x25_judge.specs.Manners.{goes_on, may_go_back, seen_place}
 use Rattle.x25_judge.specs.declared.judge.Judge.{Judge}
 use Rattle.x25_judge.specs.declared.judge.Strictness.{Strictness}
-use Rattle.x25_judge.specs.declared.sides.Phase.{Phase}
-use Rattle.x25_judge.specs.declared.sides.Phase.TheVariants.{Answered}
-use Rattle.x25_judge.specs.declared.way.Way.{Way}
+use Rattle.x25_judge.specs.declared.manners.Manners.{Manners}
+use Rattle.x25_judge.specs.declared.manners.Place.{Place}
+use Rattle.x25_possible.specs.laws.Possible.{IsUnexplained, Item, Own, Stands}
+use Rattle.x25_possible_links.specs.laws.Link.{State, link_rules}
+use Rattle.x25_possible_links.specs.declared.frame.Frame.{Frame}
+use Rattle.x25_possible_links.specs.declared.stand.Stand.TheVariants.{Free}
 use Rattle.x25_line.specs.laws.InWindow.{IsPrefix}
 use Rattle.x25_line.specs.laws.Peer.{Peer}
 use Rattle.x25_link.specs.Hearing.{other}
@@ -22,46 +24,50 @@ use Rattle.x25_line.specs.laws.PeerSessions.{Stand}
 use Rattle.x25_judge.specs.laws.Explaining.{IsQuiet, IsKept, IsUntold, Carries}
 use Rattle.x25_judge.specs.laws.Keeping.{MaySend, MayBe}
 use Rattle.x25_judge.specs.laws.Sessions.{MaySay, MayStand}
-use Rattle.x25_judge.specs.laws.Session.{end_of, IsBegun, Shows, IsNumbered, nr_of, is_final, rule_of, is_of_order}
+use Rattle.x25_judge.specs.laws.Session.{IsBegun, Shows, IsNumbered, has_answer, has_number, is_final, is_of_order}
+use Rattle.x25_judge.specs.laws.Session.{is_up, rule_of}
+use Rattle.x25_judge.specs.laws.Tapes.{IsTape}
 use Rattle.x25_judge.specs.laws.Watching.{Watched, IsSilent, IsAny}
 use Rattle.x25_packet_judge.specs.Numbers.{apart}
 
--- no rule of order is told of what an end sends that keeps the rules
+-- no rule of order is told of what an end sends that keeps the rules, where there is room
 abbrev pub NoInnocentIsAccused : Type 0
 NoInnocentIsAccused =
     (from : Role) (j : Judge) (p q : Peer) (way : List PlainFrame) (line octets : List ℕ) (frame : PlainFrame)
-    → MayBe from j p way → Shows line from octets frame → MaySend p frame q
+    → MayBe from j p way → (own_of from j).set.is_blind ≡ false → Shows line from octets frame → MaySend p frame q
     → is_of_order (rule_of j from frame) ≡ false
 
 -- nor over any number of set-ups
 abbrev pub NoSessionIsAccused : Type 0
 NoSessionIsAccused =
     (from : Role) (j : Judge) (stand next : Stand) (p q : Peer) (way rest : List PlainFrame) (line octets : List ℕ)
-    (frame : PlainFrame) → MayStand from j stand p way → Shows line from octets frame
-    → MaySay stand p way frame next q rest → is_of_order (rule_of j from frame) ≡ false
+    (frame : PlainFrame) → MayStand from j stand p way → (own_of from j).set.is_blind ≡ false
+    → Shows line from octets frame → MaySay stand p way frame next q rest → is_of_order (rule_of j from frame) ≡ false
 
 -- nor of a station of ours, whatever the other end and the line do, as long as it isn't set up anew
 abbrev pub NoStationIsAccused : Type 0
 NoStationIsAccused =
-    (c : Settings) → c.window ≤ 7 → c.longest ≡ n1 → (w : Watched) → IsAny c w → w.near.came_up ≡ false
+    (c : Settings) → c.window ≤ 7 → c.longest ≡ n1 → (w : Watched) → IsAny c w
+    → (own_of c.role w.judge).set.is_blind ≡ false → w.near.came_up ≡ false
     → (line octets : List ℕ) (frame : PlainFrame) (rest : List (List ℕ)) → w.out ≡ octets ∷ rest
     → Shows line c.role octets frame → IsNumbered frame → is_of_order (rule_of w.judge c.role frame) ≡ false
 
--- where nothing is told, what the station handed up is a beginning of what the trace shows
+-- where nothing is told and there is room, what the station handed up is a beginning of what the trace shows
 abbrev pub SilenceMeansOrder : Type 0
 SilenceMeansOrder =
     (c : Settings) → 1 ≤ c.window → c.window ≤ 7 → c.longest ≡ n1 → (w : Watched) → IsSilent c w
-    → w.near.came_up ≡ false → IsPrefix w.near.up w.shown
+    → (own_of (other c.role) w.judge).set.is_blind ≡ false → w.near.came_up ≡ false → IsPrefix w.near.up w.shown
 
 -- and the lines of each end are those of an end that keeps the rules
 abbrev pub SilenceMeansRules : Type 0
 SilenceMeansRules =
-    (from : Role) (j : Judge) (lines : List (List ℕ)) → IsQuiet j lines → (p : Peer) × IsKept from lines p
+    (from : Role) (j : Judge) (lines : List (List ℕ)) → IsQuiet j lines → (own_of from j).set.is_blind ≡ false
+    → (p : Peer) × IsKept from lines p
 
 -- and where lines of the other end are damaged, whatever is told of it, each number of an end carries one packet
 abbrev pub SilenceMeansNumbers : Type 0
 SilenceMeansNumbers =
-    (from : Role) (j : Judge) (lines : List (List ℕ)) → IsUntold from j lines
+    (from : Role) (j : Judge) (lines : List (List ℕ)) → IsUntold from j lines → (own_of from j).set.is_blind ≡ false
     → (given : List (List ℕ)) × Carries from lines given
 
 -- what the judge is behind these lines
@@ -69,67 +75,61 @@ abbrev pub after : Judge → List (List ℕ) → Judge
 after j [] = j
 after j (line ∷ lines) = after (answer_to j line).next lines
 
--- UA answered its SABM, and it has sent no frame with a number since
-abbrev pub IsAnswered : Phase → Type 0
-IsAnswered Answered = Unit {0}
-IsAnswered phase = ⊥
+-- no UA is on the way to the end that asks, no number to the other one, and no octets that spell no frame to either
+abbrev pub IsClear : Judge → Role → Role → Type 0
+IsClear j from end =
+    (end ≡ from → has_answer (own_of end j).set.way.items ≡ false)
+    × (end ≡ other from → has_number (own_of end j).set.way.items ≡ false)
 
-pub record SetsUp (is_late : Bool) (j : Judge) (window : ℕ) : Type 0 where
-  pub up : (from : Role) → IsBegun is_late j from
-  pub counts : j.window ≡ window
-
--- wherever a trace shows SABM of an end and then UA of the other, which is late where one to a SABM or DISC of before
--- its numbers may be missing
+-- Wherever a trace shows SABM of an end and then UA of the other, where nothing is told of either and there is room, a
+-- session of each begins, but for what of before is on the way.
 abbrev pub SetUpsBegin : Type 0
 SetUpsBegin =
-    (window : ℕ) (reading : Reading) (strictness : Strictness) (lines : List (List ℕ)) (from : Role)
+    (window : ℕ) (reading : Reading) (strictness : Strictness) (lines : List (List ℕ)) (from end : Role)
     (asks accepts asked accepted : List ℕ) (p f : Bool)
     → Shows asks from asked (sabm p) → Shows accepts (other from) accepted (ua f)
-    → (IsAnswered (end_of from (after (begins window reading strictness) lines)).phase → ⊥)
-    → SetsUp (not ((ended (end_of from (after (begins window reading strictness) lines))).late == 0))
-    (after (after (begins window reading strictness) lines) (asks ∷ accepts ∷ [])) window
+    → is_of_order (rule_of (after (begins window reading strictness) lines) from (sabm p)) ≡ false
+    → is_of_order (rule_of (after (begins window reading strictness) (lines ++ asks ∷ [])) (other from) (ua f)) ≡ false
+    → IsClear (after (begins window reading strictness) lines) from end
+    → (own_of end (after (begins window reading strictness) (lines ++ asks ∷ accepts ∷ []))).set.is_blind ≡ false
+    → IsBegun (after (begins window reading strictness) (lines ++ asks ∷ accepts ∷ [])) end
 
--- ---- what counts as judged
+-- ---- what is told
 
--- a rule of order is told of a frame that counts so, where its N(R) isn't one from the last one to the number of the
--- next new I frame
-abbrev pub JudgedNumbersAreTold : Type 0
-JudgedNumbersAreTold =
-    (from : Role) (j : Judge) (frame : PlainFrame) (nr : ℕ) → nr_of frame ≡ Some nr
-    → is_judged frame (sides_of from j) ≡ true
-    → (end_of (other from) j).way.pending < apart nr (awaited (end_of (other from) j).way)
-    → breaks_order (rule_of j from frame) ≡ true
+-- Where an end keeps the rules up to a frame, and no run of an end that keeps them explains the tape with it, a rule is
+-- told, or that numbers are left out.
+abbrev pub GuiltyAreTold : Type 0
+GuiltyAreTold =
+    (of : Role) (j : Judge) (tape : List (Item Frame)) (s : State) (way : List Frame) (line octets : List ℕ)
+    (frame : PlainFrame) → IsTape of j tape → Stands (link_rules (Free ∷ [])) tape s way → Shows line of octets frame
+    → (own_of of (answer_to j line).next).set.is_blind ≡ false
+    → IsUnexplained (link_rules (Free ∷ [])) (Own (shown frame (differs (own_of of j).held frame)) ∷ tape)
+    → is_some (rule_of j of frame) ≡ true
 
--- and where UA answers neither SABM nor DISC
-abbrev pub JudgedAnswersAreTold : Type 0
-JudgedAnswersAreTold =
-    (from : Role) (j : Judge) (f : Bool) → is_judged (ua f) (sides_of from j) ≡ true
-    → (end_of (other from) j).asked ≡ 0 → breaks_order (rule_of j from (ua f)) ≡ true
+-- And where a rule of order is told for the first time, no run does.
+abbrev pub ToldAreGuilty : Type 0
+ToldAreGuilty =
+    (of : Role) (j : Judge) (tape : List (Item Frame)) (s : State) (way : List Frame) (line octets : List ℕ)
+    (frame : PlainFrame) → IsTape of j tape → Stands (link_rules (Free ∷ [])) tape s way → Shows line of octets frame
+    → is_of_order (rule_of j of frame) ≡ true
+    → IsUnexplained (link_rules (Free ∷ [])) (Own (shown frame (differs (own_of of j).held frame)) ∷ tape)
 
 -- V(S) can't stand at the N(S), nor be set back to it
-pub record IsOutOfPlace (ns : ℕ) (p : Bool) (w : Way) : Type 0 where
-  pub here : goes_on (apart w.next ns) w ≡ false
-  pub back : may_go_back p (apart w.next ns) w ≡ false
+pub record IsOutOfPlace (ns : ℕ) (p : Bool) (m : Manners) (at : Place) : Type 0 where
+  pub here : goes_on (seen_place at m) (apart at.next ns) m ≡ false
+  pub back : may_go_back (seen_place at m) p (apart at.next ns) m ≡ false
 
--- a rule or manners are told of an I frame that counts so, where its N(S) is out of place
+-- a rule or manners are told of an I frame that counts as judged, where its N(S) is out of place
 abbrev pub JudgedSendingsAreTold : Type 0
 JudgedSendingsAreTold =
     (from : Role) (j : Judge) (ns nr : ℕ) (p : Bool) (octets : List ℕ)
-    → is_judged (info ns nr p octets) (sides_of from j) ≡ true → IsOutOfPlace ns p (end_of from j).way
-    → is_some (rule_of j from (info ns nr p octets)) ≡ true
-
--- and where it goes again, and not with the octets that it had
-abbrev pub JudgedOctetsAreTold : Type 0
-JudgedOctetsAreTold =
-    (from : Role) (j : Judge) (ns nr : ℕ) (p : Bool) (octets : List ℕ)
-    → is_judged (info ns nr p octets) (sides_of from j) ≡ true
-    → is_same (held_of from j) (info ns nr p octets) ≡ false → 0 < apart (end_of from j).way.next ns
-    → apart (end_of from j).way.next ns ≤ (end_of from j).way.kept
+    → (seen_by j from (info ns nr p octets)).seen.is_judged ≡ true → is_up (numbers (own_of from j).set) ≡ true
+    → IsOutOfPlace ns p (own_of from j).manners (place (own_of from j))
     → is_some (rule_of j from (info ns nr p octets)) ≡ true
 
 -- and of a response with F=1, where no P=1 of the other end is unanswered
 abbrev pub JudgedFinalsAreTold : Type 0
 JudgedFinalsAreTold =
     (from : Role) (j : Judge) (frame : PlainFrame) → is_final frame ≡ true
-    → is_judged frame (sides_of from j) ≡ true → (end_of (other from) j).polls ≡ 0
+    → (seen_by j from frame).seen.is_judged ≡ true → (other_of from j).manners.polls ≡ 0
     → is_some (rule_of j from frame) ≡ true

@@ -1,7 +1,7 @@
 -- What a set of places becomes, frame by frame: over lists, in the order in which the code goes. No list has more than
 -- 16 places: None where there is no room, or a number is too large.
 use Rattle.std.specs.Prelude.{ℕ, ◌+◌, ◌-◌, ◌^◌, ◌<◌, ◌==◌, nat_lt, nat_le, Bool, true, false, not, ◌&&◌, ◌||◌}
-use Rattle.std.specs.Prelude.{if◌then◌else◌, List, [], ◌∷◌, ◌++◌, length, drop, map, Option, Some, None}
+use Rattle.std.specs.Prelude.{if◌then◌else◌, List, [], ◌∷◌, ◌++◌, length, drop, take, map, Option, Some, None}
 use Rattle.arrayvec.specs.ArrayVec.{ArrayVec}
 use Rattle.x25_possible.specs.laws.Possible.{Item, Own, Other}
 use Rattle.x25_possible.specs.Channel.{nth}
@@ -167,6 +167,13 @@ abbrev pub come : List Frame → Stand → Stand
 come [] s = if is_large s then Free else s
 come (x ∷ way) s = if is_large s then Free else come way (upward s x)
 
+-- where so many have come, the front of the way
+abbrev pub hurry_at : ℕ → List Frame → Spot → List Spot → Option (List Spot)
+hurry_at n front q out = kept (spot_at (q.at - n) (come (drop q.at front) q.stand)) out
+
+abbrev pub hurry_all : ℕ → List Frame → List Spot → List Spot → Option (List Spot)
+hurry_all n front qs out = all_of (hurry_at n front) qs out
+
 -- past what comes, where octets that spell no frame were none
 abbrev pub passed : Stand → Frame → Stand
 passed s Unread = s
@@ -228,7 +235,7 @@ set_as s way spots = record { way = record { items = way }; spots = record { ite
 abbrev pub unknown : LinkSet
 unknown = set_of (Before ∷ []) (spot_at 0 Free ∷ [])
 
--- where there was no room
+-- where there was no room once, nothing is claimed of what is told
 abbrev pub blind : LinkSet
 blind = record { way = unknown.way; spots = unknown.spots; is_blind = true }
 
@@ -265,7 +272,7 @@ has_all (Before ∷ way) = false
 has_all way = true
 
 abbrev pub is_followed : LinkSet → Bool
-is_followed s = not s.is_blind && has_all s.way.items
+is_followed s = has_all s.way.items
 
 abbrev pub is_request : Frame → Bool
 is_request Sabm = true
@@ -278,7 +285,7 @@ has_request (x ∷ way) = is_request x || has_request way
 
 -- what UA of it may answer is shown, or it may answer a request that is
 abbrev pub judges_answer : LinkSet → Bool
-judges_answer s = not s.is_blind && (has_request s.way.items || has_all s.way.items)
+judges_answer s = has_request s.way.items || has_all s.way.items
 
 abbrev pub is_sure : Stand → Bool
 is_sure (Up k) = nat_lt k.taken far
@@ -331,19 +338,28 @@ sent_to x (Some qs) s = if length qs == 0 then unexplained x s else telling Noth
 
 -- the end sends a frame
 abbrev pub sends_to : Frame → LinkSet → Stepped
-sends_to x s =
-    if s.is_blind then telling Nothing s else sent_to x (walk_all Right x s.way.items s.spots.items []) s
+sends_to x s = sent_to x (walk_all Right x s.way.items s.spots.items []) s
 
 abbrev pub shown_to : LinkSet → List Frame → Option (List Spot) → LinkSet
 shown_to s way None = blind
 shown_to s way (Some qs) = trimmed (set_as s way qs)
 
+abbrev pub extended : Frame → LinkSet → LinkSet
+extended x s =
+    shown_to s (s.way.items ++ x ∷ []) (grow_all (length s.way.items) (s.way.items ++ x ∷ []) s.spots.items [])
+
+abbrev pub hurried_to : Option (List Spot) → LinkSet → LinkSet
+hurried_to None s = blind
+hurried_to (Some qs) s =
+    record { way = record { items = drop 64 s.way.items }; spots = record { items = qs }; is_blind = true }
+
+-- the older half of a way that is full counts as come
+abbrev pub hurried : LinkSet → LinkSet
+hurried s = hurried_to (hurry_all 64 (take 64 s.way.items) s.spots.items []) s
+
 -- the other end sends one
 abbrev pub shows_to : Frame → LinkSet → LinkSet
-shows_to x s =
-    if s.is_blind then s
-    else if length s.way.items == 128 then blind
-    else shown_to s (s.way.items ++ x ∷ []) (grow_all (length s.way.items) (s.way.items ++ x ∷ []) s.spots.items [])
+shows_to x s = extended x (if length s.way.items == 128 then hurried s else s)
 
 -- ---- over a tape, latest first
 

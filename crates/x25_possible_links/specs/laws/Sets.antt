@@ -7,11 +7,12 @@ use Rattle.x25_possible_links.specs.declared.frame.Frame.{Frame}
 use Rattle.x25_possible_links.specs.declared.set.Told.TheVariants.{Nothing}
 use Rattle.x25_possible_links.specs.declared.stand.Stand.{Stand}
 
--- No rule is told of an end that keeps the rules, whatever the other end sends, and however late that comes.
+-- No rule is told of an end that keeps the rules, whatever the other end sends, and however late that comes, as long as
+-- there is room.
 abbrev pub InnocentsStayUntold : Type 0
 InnocentsStayUntold =
     (begun : List Stand) (tape : List (Item Frame)) (x : Frame) (s : State) (way : List Frame)
-    → Stands (link_rules begun) (Own x ∷ tape) s way
+    → Stands (link_rules begun) (Own x ∷ tape) s way → (played (begun_as begun) tape).is_blind ≡ false
     → (sends_to x (played (begun_as begun) tape)).told ≡ Nothing
 
 -- The first frame that breaks a rule is told, as long as there is room.

@@ -1,10 +1,10 @@
 use Rattle.std.proofs.Common.{◌≡◌, ◌∙◌, [], length, replicate, ap, arith}
 use Rattle.std.proofs.lemmas.List.{length-replicate}
-use Rattle.x25_judge.specs.Held.{none_held}
+use Rattle.x25_judge.specs.Held.{no_octets}
 use Rattle.x25_judge.proofs.held.fill_up.Goals as goal
 
 pub returns-clause-items : goal.returns-clause-items
-unfolding none_held
+unfolding no_octets
 returns-clause-items c =
     let all : c.loop.counter ≡ 8 = omega arith in
     c.loop.invariant.0 ∙ ap (λ n. replicate n []) all

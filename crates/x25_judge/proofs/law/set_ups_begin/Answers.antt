@@ -1,4 +1,4 @@
-use Rattle.x25_judge.proofs.verdicts.SetUps.{set_ups_begin}
+use Rattle.x25_judge.proofs.verdicts.Beginnings.{set_ups_begin}
 use Rattle.x25_judge.proofs.law.set_ups_begin.Goals as goal
 
 pub returns : goal.returns

@@ -1,0 +1,276 @@
+-- An end that keeps the rules of docs/PEER.md, beside the places in which the judge has it.
+use Rattle.std.proofs.Common.{◌≡◌, ◌⊎◌, inl, inr, ℕ, ◌+◌, ◌-◌, ◌%◌, ◌≤◌, ◌==◌, arith, max, Bool, true, false, List, [], ◌∷◌, ◌++◌, length, Some, None, refl, sym, ap, ◌∙◌, subst}
+use Rattle.std.specs.Prelude.{not, ◌&&◌, ◌||◌, nat_le, nat_lt, if◌then◌else◌}
+use Rattle.std.proofs.lemmas.Bool.{and_from, both_ways, cond-true, eq-eqb, eqb-true, le-leb, lt-ltb}
+use Rattle.x25_frame.specs.Frame.{PlainFrame, info, rr, rnr, rej, sabm, disc, ua, dm, frmr}
+use Rattle.x25_line.specs.laws.Peer.{Peer, fresh_peer, MayAcknowledge, MayNumber}
+use Rattle.x25_line.specs.laws.Peer as peer
+use Rattle.x25_line.specs.laws.PeerSessions as session
+use Rattle.x25_line.specs.laws.PeerSessions.{In}
+use Rattle.x25_judge.specs.Links.{shown}
+use Rattle.x25_judge.specs.laws.Keeping.{MaySend}
+use Rattle.x25_judge.specs.laws.Sessions.{MaySay, HaveNoUa, IsUa, declined, numbered, asks, asks_again, closes, declines, rejects, takes_disc, takes_sabm, waits_on}
+use Rattle.x25_possible.specs.laws.Possible.{IsIn}
+use Rattle.x25_possible_links.specs.laws.Link.{State, At, Owes, passes, owes, fresh, has_ua, is_asking, is_ua, may_acknowledge, may_number, sends_as}
+use Rattle.x25_possible_links.specs.laws.Link as link
+use Rattle.x25_possible_links.specs.declared.frame.Frame.{Frame}
+use Rattle.x25_possible_links.specs.declared.frame.Frame.TheVariants.{Ready, Sabm, Disc, Ua, Dm, Frmr, Unread}
+use Rattle.x25_possible_links.specs.declared.set.LinkSet.{LinkSet}
+use Rattle.x25_possible_links.specs.declared.stand.Numbers.{Numbers}
+use Rattle.x25_possible_links.specs.declared.stand.Stand.{Stand}
+use Rattle.x25_possible_links.specs.declared.stand.Stand.TheVariants.{Out, Asking, Up, Free}
+use Rattle.x25_possible_links.proofs.Covering.{Has, has_taken}
+
+abbrev pub numbers_of : Peer → Numbers
+numbers_of p = record { sent = p.sent; acked = p.acked; taken = length p.taken; told = p.told }
+
+abbrev pub stand_of : session.Stand → Peer → Stand
+stand_of session.Out p = Out
+stand_of session.Asking p = Asking
+stand_of session.In p = Up (numbers_of p)
+
+-- ---- what is on the way
+
+-- it is shown as this frame, or can't be read
+abbrev pub IsSeen : Frame → PlainFrame → Type 0
+IsSeen y f = ((d : Bool) × (y ≡ shown f d)) ⊎ (y ≡ Unread)
+
+-- these frames, and more that can't be read
+pub data Means : List Frame → List PlainFrame → Type 0 where
+  empty : Means [] []
+  next : (y : Frame) (f : PlainFrame) (end : List Frame) (way : List PlainFrame) → IsSeen y f → Means end way
+      → Means (y ∷ end) (f ∷ way)
+  lost : (end : List Frame) (way : List PlainFrame) → Means end way → Means (Unread ∷ end) way
+
+pub means_on : (end more : List Frame) (way rest : List PlainFrame) → Means end way → Means more rest
+    → Means (end ++ more) (way ++ rest)
+means_on _ more _ rest empty m = m
+means_on _ more _ rest (next y f end way is h) m =
+    next y f (end ++ more) (way ++ rest) is (means_on end more way rest h m)
+means_on _ more way rest (lost end _ h) m = lost (end ++ more) (way ++ rest) (means_on end more way rest h m)
+
+pub means_one : (y : Frame) (f : PlainFrame) → IsSeen y f → Means (y ∷ []) (f ∷ [])
+means_one y f is = next y f [] [] is empty
+
+-- what is in front, once what is no frame was passed over
+pub record Front (set : LinkSet) (s : Stand) (f : PlainFrame) (way : List PlainFrame) : Type 0 where
+  pub first : Frame
+  pub rest : List Frame
+  pub is : IsSeen first f
+  pub has : Has set (At s) (first ∷ rest)
+  pub means : Means rest way
+
+HasFront : LinkSet → Stand → List PlainFrame → Type 0
+HasFront set s [] = Unit {0}
+HasFront set s (f ∷ way) = Front set s f way
+
+fronts : (set : LinkSet) (s : Stand) (end : List Frame) (way : List PlainFrame) → Has set (At s) end → Means end way → HasFront set s way
+unfolding HasFront
+fronts set s _ _ has empty = tt
+fronts set s _ _ has (next y f end way is m) = record { first = y; rest = end; is = is; has = has; means = m }
+fronts set s _ way has (lost end _ m) =
+    fronts set s end way (has_taken set.spots.items set.way.items (At s) (At s) Unread end has (passes s Unread)) m
+
+pub front : (set : LinkSet) (s : Stand) (end : List Frame) (f : PlainFrame) (way : List PlainFrame) → Has set (At s) end
+    → Means end (f ∷ way) → Front set s f way
+unfolding HasFront
+front set s end f way has m = fronts set s end (f ∷ way) has m
+
+-- no UA is among them
+not_ua : (y : Frame) (f : PlainFrame) → IsSeen y f → is_ua (shown f false) ≡ false → is_ua y ≡ false
+unfolding shown
+not_ua y (info ns nr pf packet) (inl h) e = ap is_ua h.1
+not_ua y (rr command nr pf) (inl h) e = ap is_ua h.1
+not_ua y (rnr command nr pf) (inl h) e = ap is_ua h.1
+not_ua y (rej command nr pf) (inl h) e = ap is_ua h.1
+not_ua y (sabm p) (inl h) e = ap is_ua h.1
+not_ua y (disc p) (inl h) e = ap is_ua h.1
+not_ua y (ua f) (inl h) e = absurd (both_ways true e refl)
+not_ua y (dm f) (inl h) e = ap is_ua h.1
+not_ua y (frmr f why) (inl h) e = ap is_ua h.1
+not_ua y f (inr h) e = ap is_ua h
+
+is_no_ua : (f : PlainFrame) → (IsUa f → ⊥) → is_ua (shown f false) ≡ false
+unfolding shown
+is_no_ua (info ns nr pf packet) none = refl
+is_no_ua (rr command nr pf) none = refl
+is_no_ua (rnr command nr pf) none = refl
+is_no_ua (rej command nr pf) none = refl
+is_no_ua (sabm p) none = refl
+is_no_ua (disc p) none = refl
+is_no_ua (ua f) none = absurd (none tt)
+is_no_ua (dm f) none = refl
+is_no_ua (frmr f why) none = refl
+
+no_ua : (end : List Frame) (way : List PlainFrame) → Means end way → HaveNoUa way → has_ua end ≡ false
+no_ua _ _ empty h = refl
+no_ua _ _ (next y f end way is m) h =
+    ap (λ b. b || has_ua end) (not_ua y f is (is_no_ua f h.0)) ∙ no_ua end way m h.1
+no_ua _ way (lost end _ m) h = no_ua end way m h
+
+-- ---- numbers
+
+acknowledged : (p : Peer) (nr t : ℕ) → MayAcknowledge p nr t → may_acknowledge t (numbers_of p) nr ≡ true
+acknowledged p nr t m =
+    and_from (nr == t % 8) (nat_le p.told t && nat_le t (length p.taken)) (eq-eqb nr (t % 8) m.number)
+    (and_from (nat_le p.told t) (nat_le t (length p.taken)) (le-leb p.told t m.rising) (le-leb t (length p.taken) m.taken))
+
+may_be_numbered : (p : Peer) (ns n : ℕ) (packet : List ℕ) (d : Bool) → MayNumber p ns packet n → n ≤ p.sent
+    → (n == p.sent || not d) ≡ true → may_number n (numbers_of p) ns d ≡ true
+may_be_numbered p ns n packet d m low same =
+    and_from (ns == n % 8) (nat_le n p.sent && (nat_le p.sent (n + 7) && (nat_lt n (p.acked + 7) && (n == p.sent || not d))))
+    (eq-eqb ns (n % 8) m.number)
+    (and_from (nat_le n p.sent) (nat_le p.sent (n + 7) && (nat_lt n (p.acked + 7) && (n == p.sent || not d))) (le-leb n p.sent low)
+    (and_from (nat_le p.sent (n + 7)) (nat_lt n (p.acked + 7) && (n == p.sent || not d)) (le-leb p.sent (n + 7) m.again)
+    (and_from (nat_lt n (p.acked + 7)) (n == p.sent || not d) (lt-ltb n (p.acked + 7) m.window) same)))
+
+pub sent_is : (n m : ℕ) → n ≤ m → (if n == m then m + 1 else m) ≡ max m (n + 1)
+sent_is n m low = go (n == m) refl
+  where
+    last : (n m : ℕ) → n ≡ m → m + 1 ≡ max m (n + 1)
+    last n m e = omega (arith, e)
+
+    before : (n m : ℕ) → n ≤ m → (n ≡ m → ⊥) → m ≡ max m (n + 1)
+    before n m low ne = omega (arith, low, ne)
+
+    go : (b : Bool) → (n == m) ≡ b → (if b then m + 1 else m) ≡ max m (n + 1)
+    go true e = last n m (eqb-true n m e)
+    go false e = before n m low (λ same. both_ways (n == m) e (eq-eqb n m same))
+
+-- the same octets go again
+abbrev pub IsSame : Peer → PlainFrame → Bool → Type 0
+IsSame p (info ns nr pf packet) d = (n : ℕ) → MayNumber p ns packet n → n ≤ p.sent → (n == p.sent || not d) ≡ true
+IsSame p frame d = Unit {0}
+
+pub record Counts (p q : Peer) (end : List Frame) (x : Frame) : Type 0 where
+  pub number : ℕ
+  pub last : ℕ
+  pub goes : sends_as number last (Up (numbers_of p)) end x ≡ Some (Up (numbers_of q))
+
+ready_counts : (p q : Peer) (end : List Frame) (nr t : ℕ) → MayAcknowledge p nr t → q ≡ peer.told_to t p
+    → Counts p q end (Ready nr)
+ready_counts p q end nr t m e = record {
+  number = 0;
+  last = t;
+  goes = cond-true (may_acknowledge t (numbers_of p) nr) (Some (Up (link.told_to t (numbers_of p)))) None (acknowledged p nr t m)
+      ∙ ap (λ r. Some (Up (numbers_of r))) (sym e);
+}
+
+counts : (p q : Peer) (end : List Frame) (frame : PlainFrame) (d : Bool) → MaySend p frame q → IsSame p frame d
+    → Counts p q end (shown frame d)
+unfolding shown
+counts p q end (info ns nr pf packet) d may same =
+    let n = may.0 in
+    let t = may.1 in record {
+      number = n;
+      last = t;
+      goes = cond-true (may_number n (numbers_of p) ns d && may_acknowledge t (numbers_of p) nr) _ None
+          (and_from (may_number n (numbers_of p) ns d) (may_acknowledge t (numbers_of p) nr)
+          (may_be_numbered p ns n packet d may.2 may.3 (same n may.2 may.3)) (acknowledged p nr t may.5))
+          ∙ ap (λ m. Some (Up (record { sent = m; acked = p.acked; taken = length p.taken; told = t }))) (sent_is n p.sent may.3)
+          ∙ ap (λ r. Some (Up (numbers_of r))) (sym may.6);
+    }
+counts p q end (rr command nr pf) d may same = ready_counts p q end nr may.0 may.1 may.2
+counts p q end (rnr command nr pf) d may same = ready_counts p q end nr may.0 may.1 may.2
+counts p q end (rej command nr pf) d may same = ready_counts p q end nr may.0 may.1 may.2
+counts p q end frame d may same = absurd may
+
+-- ---- what it sends
+
+-- where it stands before it sends this, once it has taken what it answers
+pub record Says (set : LinkSet) (x : Frame) (stand : session.Stand) (p : Peer) (way : List PlainFrame) : Type 0 where
+  pub state : State
+  pub end : List Frame
+  pub has : Has set state end
+  pub may : link.MaySend state end x (At (stand_of stand p))
+  pub means : Means end way
+
+module _ (set : LinkSet) where
+  sends_it : (s : Stand) (end : List Frame) (x : Frame) (n t : ℕ) (stand : session.Stand) (p : Peer) (way : List PlainFrame)
+      → Has set (At s) end → Means end way → sends_as n t s end x ≡ Some (stand_of stand p) → Says set x stand p way
+  sends_it s end x n t stand p way has m e =
+      record { state = At s; end = end; has = has; may = link.sends s (stand_of stand p) end x n t e; means = m }
+
+  answers_it : (s : Stand) (end : List Frame) (f : PlainFrame) (rest : List PlainFrame) (stand : session.Stand) (p : Peer)
+      → ((y : Frame) → IsSeen y f → IsIn (stand_of stand p) (link.owed s y)) → Has set (At s) end → Means end (f ∷ rest)
+      → Says set Ua stand p rest
+  answers_it s end f rest stand p owed has m =
+      let g = front set s end f rest has m in record {
+        state = Owes (stand_of stand p);
+        end = g.rest;
+        has = has_taken set.spots.items set.way.items (At s) (Owes (stand_of stand p)) g.first g.rest g.has
+            (owes s (stand_of stand p) g.first (owed g.first g.is));
+        may = link.answers (stand_of stand p) g.rest;
+        means = g.means;
+      }
+
+  owes_disc : (s : Stand) (b : Bool) (y : Frame) → IsSeen y (disc b) → IsIn Out (link.owed s y)
+  unfolding shown
+  owes_disc s b y (inl h) = subst (λ z. IsIn Out (link.owed s z)) (sym h.1) (inl refl)
+  owes_disc s b y (inr h) = subst (λ z. IsIn Out (link.owed s z)) (sym h) (any s)
+    where
+      any : (s : Stand) → IsIn Out (link.asked s)
+      any Out = inr (inl refl)
+      any Asking = inr (inr (inl refl))
+      any (Up k) = inr (inl refl)
+      any Free = inr (inr (inl refl))
+
+  owes_fresh : (s : Stand) (b : Bool) (y : Frame) → IsSeen y (sabm b) → IsIn fresh (link.owed s y)
+  unfolding shown
+  owes_fresh s b y (inl h) = subst (λ z. IsIn fresh (link.owed s z)) (sym h.1) (one s)
+    where
+      one : (s : Stand) → IsIn fresh (link.owed s Sabm)
+      one Out = inl refl
+      one Asking = inl refl
+      one (Up k) = inl refl
+      one Free = inl refl
+  owes_fresh s b y (inr h) = subst (λ z. IsIn fresh (link.owed s z)) (sym h) (any s)
+    where
+      any : (s : Stand) → IsIn fresh (link.asked s)
+      any Out = inl refl
+      any Asking = inl refl
+      any (Up k) = inl refl
+      any Free = inl refl
+
+  owes_waits : (b : Bool) (y : Frame) → IsSeen y (sabm b) → IsIn Asking (link.owed Asking y)
+  unfolding shown
+  owes_waits b y (inl h) = subst (λ z. IsIn Asking (link.owed Asking z)) (sym h.1) (inr (inl refl))
+  owes_waits b y (inr h) = subst (λ z. IsIn Asking (link.owed Asking z)) (sym h) (inr (inl refl))
+
+  asks_free : (s : Stand) (end : List Frame) → has_ua end ≡ false → link.asks s end ≡ Some Asking
+  asks_free s end e = go (is_asking s)
+    where
+      go : (b : Bool) → (if b || not (has_ua end) then Some Asking else None) ≡ Some Asking
+      go true = refl
+      go false = ap (λ c. if not c then Some Asking else None) e
+
+  pub says : (stand next : session.Stand) (p q : Peer) (way rest : List PlainFrame) (end : List Frame) (frame : PlainFrame) (d : Bool)
+      → Has set (At (stand_of stand p)) end → Means end way → MaySay stand p way frame next q rest
+      → (stand ≡ In → IsSame p frame d) → Says set (shown frame d) next q rest
+  unfolding shown
+  says stand _ p q way _ end frame d has m (numbered _ _ is may) same =
+      let c = counts p q end frame d may (same is) in
+      sends_it (Up (numbers_of p)) end (shown frame d) c.number c.last session.In q way
+      (subst (λ s. Has set (At (stand_of s p)) end) is has) m c.goes
+  says stand _ p _ way _ end _ d has m (asks b none) same =
+      sends_it (stand_of stand p) end Sabm 0 0 session.Asking p way has m (asks_free (stand_of stand p) end (no_ua end way m none))
+  says stand _ p _ way _ end _ d has m (asks_again b is) same =
+      sends_it (stand_of stand p) end Sabm 0 0 session.Asking p way has m
+      (ap (λ s. link.asks (stand_of s p) end) is)
+  says stand _ p _ way _ end _ d has m (closes b) same = sends_it (stand_of stand p) end Disc 0 0 session.Out p way has m refl
+  says stand _ p _ way _ end _ d has m (declines f) same =
+      sends_it (stand_of stand p) end Dm 0 0 (declined stand) p way has m (ap (λ (s : Stand). Some s) (same_stand stand))
+    where
+      same_stand : (stand : session.Stand) → link.declines (stand_of stand p) ≡ stand_of (declined stand) p
+      same_stand session.Out = refl
+      same_stand session.Asking = refl
+      same_stand session.In = refl
+  says stand _ p _ way _ end _ d has m (rejects f why) same = sends_it (stand_of stand p) end Frmr 0 0 session.Out p way has m refl
+  says stand _ p _ way _ end _ d has m (takes_disc b f rest is) same =
+      answers_it (stand_of stand p) end (disc b) rest session.Out p (owes_disc (stand_of stand p) b) has (subst (λ w. Means end w) is m)
+  says stand _ p _ way _ end _ d has m (takes_sabm b f rest is) same =
+      answers_it (stand_of stand p) end (sabm b) rest session.In fresh_peer (owes_fresh (stand_of stand p) b) has
+      (subst (λ w. Means end w) is m)
+  says stand _ p _ way _ end _ d has m (waits_on b f rest waits is) same =
+      answers_it Asking end (sabm b) rest session.Asking p (owes_waits b) (subst (λ s. Has set (At (stand_of s p)) end) waits has)
+      (subst (λ w. Means end w) is m)

@@ -1,0 +1,255 @@
+-- What counts as judged is told of: an N(S), and F=1.
+use Rattle.std.proofs.Common.{◌≡◌, ◌==◌, inl, inr, ℕ, ◌-◌, ◌≤◌, arith, Bool, true, false, List, Option, Some, None, refl, sym, ap, ◌∙◌, subst, eq-eqb, le-leb}
+use Rattle.std.specs.Prelude.{nat_le, nat_lt, ◌&&◌, ◌||◌, not, is_some, if◌then◌else◌}
+use Rattle.std.proofs.lemmas.Bool.{eqb-true, and_parts, and_cases, or_cases, or_parts, both_ways, cond_both}
+use Rattle.std.proofs.lemmas.Bool.Decides.{nat_tests}
+use Rattle.x25_bits.specs.declared.role.Role.{Role}
+use Rattle.x25_frame.specs.Frame.{PlainFrame, info, rr, rnr, rej, sabm, disc, ua, dm, frmr}
+use Rattle.x25_judge.specs.Held.{differs}
+use Rattle.x25_judge.specs.Judge.{all_told, book_by, other_of, own_of, seen_by}
+use Rattle.x25_judge.specs.Links as links
+use Rattle.x25_judge.specs.Manners as manners
+use Rattle.x25_judge.specs.Rule.{first, is_of_manners}
+use Rattle.x25_judge.specs.declared.judge.Judge.{Judge}
+use Rattle.x25_judge.specs.declared.links.End.{End}
+use Rattle.x25_judge.specs.declared.links.Minding.{Minding}
+use Rattle.x25_judge.specs.declared.links.Sent.{Sent}
+use Rattle.x25_judge.specs.declared.manners.Manners.{Manners}
+use Rattle.x25_judge.specs.declared.manners.Minded.{Minded}
+use Rattle.x25_judge.specs.declared.manners.Place.{Place}
+use Rattle.x25_judge.specs.declared.note.Note.TheVariants.{PollAgain, SentAgain}
+use Rattle.x25_judge.specs.declared.rule.Rule.{Rule}
+use Rattle.x25_judge.specs.declared.rule.Rule.TheVariants.{Packet, Repeats, Skips}
+use Rattle.x25_judge.specs.laws.Session.{is_final, is_up, rule_of}
+use Rattle.x25_judge.specs.laws.VerdictClaims.{IsOutOfPlace, JudgedFinalsAreTold, JudgedSendingsAreTold}
+use Rattle.x25_packet_judge.specs.Numbers.{apart}
+use Rattle.x25_packet_judge.specs.declared.packet_rule.PacketRule.{PacketRule}
+use Rattle.x25_possible_links.specs.code.Steps as steps
+use Rattle.x25_possible_links.specs.declared.frame.Frame.{Frame}
+use Rattle.x25_possible_links.specs.declared.frame.Frame.TheVariants.{Info}
+use Rattle.x25_possible_links.specs.declared.set.LinkSet.{LinkSet}
+use Rattle.x25_possible_links.specs.declared.set.Told.{Told}
+use Rattle.x25_possible_links.specs.declared.set.Told.TheVariants.{Broken, Nothing, Skips as SkipsOf}
+use Rattle.x25_possible_links.specs.declared.stand.Numbers.{Numbers}
+use Rattle.x25_possible_links.specs.declared.stand.Stand.{Stand}
+use Rattle.x25_possible_links.specs.declared.stand.Stand.TheVariants.{Asking, Free, Out, Up}
+
+-- a rule is told, or manners are
+abbrev pub IsTold : Option Rule → Type 0
+IsTold r = is_some r ≡ true
+
+abbrev pub Tells : Minding → Type 0
+Tells b = IsTold b.seen.rule
+
+pub first_keeps : (r last : Option Rule) → IsTold r → IsTold (first r last)
+first_keeps None last h = absurd (both_ways false refl h)
+first_keeps (Some rule) None h = h
+first_keeps (Some rule) (Some last) h = cond_both (is_of_manners rule && not (is_of_manners last)) (Some last) (Some rule) IsTold (λ _. refl) (λ _. refl)
+
+pub first_brings : (r last : Option Rule) → IsTold last → IsTold (first r last)
+first_brings None last h = h
+first_brings (Some rule) None h = refl
+first_brings (Some rule) (Some last) h = first_keeps (Some rule) (Some last) refl
+
+all_of : (r : Option Rule) (packet : Option PacketRule) → IsTold r → IsTold (all_told r packet)
+all_of r None h = h
+all_of r (Some packet) h = first_keeps r (Some (Packet packet)) h
+
+pub tells_of : (from : Role) (j : Judge) (frame : PlainFrame) → IsTold (seen_by j from frame).seen.rule → IsTold (rule_of j from frame)
+tells_of from j frame h = all_of (seen_by j from frame).seen.rule (book_by j from frame (seen_by j from frame)).verdict.rule h
+
+-- ---- what is judged is known before manners
+
+asks_judges : (p : Bool) (b : Minding) → (links.asks p b).seen.is_judged ≡ b.seen.is_judged
+asks_judges true b = refl
+asks_judges false b = refl
+
+answers_judge : (f is_shown : Bool) (b : Minding) → (links.answers f is_shown b).seen.is_judged ≡ b.seen.is_judged
+answers_judge true is_shown b = refl
+answers_judge false is_shown b = refl
+
+bits_judge : (command pf is_shown : Bool) (b : Minding) → (links.bits command pf is_shown b).seen.is_judged ≡ b.seen.is_judged
+bits_judge true pf is_shown b = asks_judges pf b
+bits_judge false pf is_shown b = answers_judge pf is_shown b
+
+skips_judge : (told : Told) (s : Stand) (window : ℕ) (ns : ℕ) (p : Bool) (b : Minding) → (links.skipped_by told window s ns p b).seen.is_judged ≡ b.seen.is_judged
+skips_judge (SkipsOf u) s window ns p b = refl
+skips_judge Nothing s window ns p b = refl
+skips_judge (Broken u) s window ns p b = refl
+
+counts_judge : (s : Stand) (window : ℕ) (t : Sent) (ns : ℕ) (p : Bool) (b : Minding) → (links.counts_in s window t ns p b).seen.is_judged ≡ b.seen.is_judged
+counts_judge (Up k) window t ns p b = refl
+counts_judge Out window t ns p b = skips_judge t.told Out window ns p b
+counts_judge Asking window t ns p b = skips_judge t.told Asking window ns p b
+counts_judge Free window t ns p b = skips_judge t.told Free window ns p b
+
+ready_judges : (t : Sent) (to : LinkSet) (command : Bool) (nr : ℕ) (pf : Bool) (b : Minding) → (links.ready_minded t to command nr pf b).seen.is_judged ≡ b.seen.is_judged
+ready_judges t to true nr true b = bits_judge true true t.facts.is_known b
+ready_judges t to true nr false b = bits_judge true false t.facts.is_known b
+ready_judges t to false nr true b = bits_judge false true t.facts.is_known b
+ready_judges t to false nr false b = bits_judge false false t.facts.is_known b
+
+accepts_judge : (rule : Bool) (f is_shown : Bool) (b : Minding) → (if rule then b else links.answers f is_shown (links.begins b)).seen.is_judged ≡ b.seen.is_judged
+accepts_judge true f is_shown b = refl
+accepts_judge false f is_shown b = answers_judge f is_shown (links.begins b)
+
+minds_judge : (window : ℕ) (t : Sent) (to : LinkSet) (frame : PlainFrame) (b : Minding) → (links.minds window t to frame b).seen.is_judged ≡ b.seen.is_judged
+unfolding links.minds
+minds_judge window t to (info ns nr p octets) b = counts_judge t.facts.stand window t ns p (links.asks p b) ∙ asks_judges p b
+minds_judge window t to (rr command nr pf) b = ready_judges t to command nr pf b
+minds_judge window t to (rnr command nr pf) b = ready_judges t to command nr pf b
+minds_judge window t to (rej command nr pf) b = bits_judge command pf t.facts.is_known b
+minds_judge window t to (sabm p) b = asks_judges p (links.begins b)
+minds_judge window t to (disc p) b = asks_judges p b
+minds_judge window t to (ua f) b = accepts_judge (is_some b.seen.rule) f t.facts.is_shown b
+minds_judge window t to (dm f) b = answers_judge f t.facts.is_shown b
+minds_judge window t to (frmr f why) b = answers_judge f t.facts.is_shown b
+
+-- ---- F=1
+
+answered_told : (is_shown : Bool) (m : Manners) → is_shown ≡ true → m.polls ≡ 0 → IsTold (manners.answered is_shown m).rule
+answered_told true m shown none = cond_both (not (m.polls == 0)) _ _ (λ (x : Minded). IsTold x.rule)
+    (λ some. absurd (both_ways (not (m.polls == 0)) (ap (λ x. not (x == 0)) none) some)) (λ _. refl)
+answered_told false m shown none = absurd (both_ways false refl shown)
+
+answers_tell : (is_shown : Bool) (b : Minding) → is_shown ≡ true → b.other.polls ≡ 0 → Tells (links.answers true is_shown b)
+answers_tell is_shown b shown none = first_brings b.seen.rule (manners.answered is_shown b.other).rule (answered_told is_shown b.other shown none)
+
+module _ (window : ℕ) (t : Sent) (to : LinkSet) (b : Minding) (known : t.facts.is_sure ≡ true → t.facts.is_known ≡ true) (none : b.other.polls ≡ 0) where
+  ready_tells : (command : Bool) (nr : ℕ) (pf : Bool) → (pf && not command) ≡ true → t.facts.is_sure ≡ true → Tells (links.ready_minded t to command nr pf b)
+  ready_tells false nr true final sure = answers_tell t.facts.is_known b (known sure) none
+  ready_tells false nr false final sure = absurd (both_ways false refl final)
+  ready_tells true nr true final sure = absurd (both_ways false refl final)
+  ready_tells true nr false final sure = absurd (both_ways false refl final)
+
+  reject_tells : (command : Bool) (nr : ℕ) (pf : Bool) → (pf && not command) ≡ true → t.facts.is_sure ≡ true → Tells (links.reject_minded t to command nr pf b)
+  reject_tells false nr true final sure = first_keeps (links.bits false true t.facts.is_known b).seen.rule _ (answers_tell t.facts.is_known b (known sure) none)
+  reject_tells false nr false final sure = absurd (both_ways false refl final)
+  reject_tells true nr true final sure = absurd (both_ways false refl final)
+  reject_tells true nr false final sure = absurd (both_ways false refl final)
+
+  final_tells : (f : Bool) → f ≡ true → links.judges_final 0 f t.facts ≡ true → Tells (links.answers f t.facts.is_shown b)
+  final_tells true final judged = answers_tell t.facts.is_shown b judged none
+  final_tells false final judged = absurd (both_ways false refl final)
+
+  minds_tells : (frame : PlainFrame) → is_final frame ≡ true → links.judges 0 frame t.facts ≡ true → Tells (links.minds window t to frame b)
+  unfolding links.minds links.judges
+  minds_tells (info ns nr p octets) final judged = absurd (both_ways false refl final)
+  minds_tells (rr command nr pf) final judged = ready_tells command nr pf final judged
+  minds_tells (rnr command nr pf) final judged = ready_tells command nr pf final judged
+  minds_tells (rej command nr pf) final judged = reject_tells command nr pf final judged
+  minds_tells (sabm p) final judged = absurd (both_ways false refl final)
+  minds_tells (disc p) final judged = absurd (both_ways false refl final)
+  minds_tells (ua f) final judged = absurd (both_ways false refl final)
+  minds_tells (dm f) final judged = final_tells f final judged
+  minds_tells (frmr f why) final judged = final_tells f final judged
+
+sure_is_known : (s : LinkSet) → steps.is_certain s ≡ true → steps.is_known s ≡ true
+sure_is_known s sure = (and_parts (steps.is_known s) _ sure).0
+
+-- both ends behind a frame, with manners and all that is said
+module _ (window : ℕ) (frame : PlainFrame) (x : Frame) (was : Bool) (own other : End) where
+  abbrev pub t : Sent
+  t = links.sent_by frame x own
+
+  abbrev pub before : Minding
+  before = record {
+    own = own.manners;
+    other = other.manners;
+    seen = links.seen_of was (links.is_blind (links.end_sent frame x own) (links.end_shown x other)) other.manners.polls frame x t;
+  }
+
+  judged_is : (links.sees_as window frame x was own other).seen.is_judged ≡ links.judges other.manners.polls frame (links.facts own.set)
+  unfolding links.minds links.judges
+  judged_is = minds_judge window t (steps.shows_to x other.set) frame before
+
+  final_is : is_final frame ≡ true → (links.sees_as window frame x was own other).seen.is_judged ≡ true → other.manners.polls ≡ 0 → IsTold (links.sees_as window frame x was own other).seen.rule
+  final_is final judged none = minds_tells window t (steps.shows_to x other.set) before (sure_is_known own.set) none frame final
+      (subst (λ n. links.judges n frame (links.facts own.set) ≡ true) none (sym judged_is ∙ judged))
+
+pub judged_finals_are_told : JudgedFinalsAreTold
+judged_finals_are_told from j frame final judged none =
+    let own = own_of from j in
+    let x = links.shown frame (differs own.held frame) in
+    tells_of from j frame (final_is j.window frame x (links.is_blind own (other_of from j)) own (other_of from j) final judged none)
+
+-- ---- N(S)
+
+module _ (m : Manners) (at : Place) where
+  again_told : (next : ℕ) (is_poll : Bool) (back : ℕ) → manners.goes_on at back m ≡ false → manners.may_go_back at is_poll back m ≡ false → IsTold (manners.sent_again at next is_poll back m).rule
+  again_told next is_poll back out stays =
+      cond_both (manners.goes_on at back m) (manners.notes SentAgain true (manners.repeated back m)) _ P (λ on. absurd (both_ways (manners.goes_on at back m) out on))
+      (λ _. cond_both (manners.may_go_back at is_poll back m) (manners.notes SentAgain true (manners.gone_back is_poll back m)) _ P (λ may. absurd (both_ways (manners.may_go_back at is_poll back m) stays may))
+      (λ _. cond_both (nat_lt back m.behind) (manners.breaks (Skips next) true (manners.repeated back m)) (manners.breaks (Repeats next) true (manners.repeated back m)) P (λ _. refl) (λ _. refl)))
+    where
+      P : Minded → Type 0
+      P x = IsTold x.rule
+
+  -- a number that is the next one goes on
+  goes_first : (back : ℕ) → nat_lt 0 back ≡ false → manners.goes_on at back m ≡ false → (m.behind == 0 || at.pending == 0) ≡ true → ⊥
+  goes_first back none out test =
+      let zero : back ≡ 0 = grind (arith, nat_tests) in
+      let parts = or_parts (back == m.behind) (nat_le at.pending back && nat_lt back m.behind) out in
+      elim (or_cases (m.behind == 0) (at.pending == 0) test) [
+        | inl now ↦ both_ways (back == m.behind) parts.0 (eq-eqb back m.behind (zero ∙ sym (eqb-true m.behind 0 now)))
+        | inr acked ↦ elim (and_cases (nat_le at.pending back) (nat_lt back m.behind) parts.1) [
+          | inl far ↦ both_ways (nat_le at.pending back) far (le-leb at.pending back (let e : at.pending ≡ 0 = eqb-true at.pending 0 acked in omega (arith, e)))
+          | inr low ↦ both_ways (back == m.behind) parts.0 (eq-eqb back m.behind (let e : m.behind ≤ back = grind (arith, nat_tests, low) in omega (arith, e, zero)))
+        ]
+      ]
+
+  number_told : (window back next : ℕ) (is_poll : Bool) → manners.goes_on at back m ≡ false → manners.may_go_back at is_poll back m ≡ false → IsTold (manners.sends_from window at back next is_poll false m).rule
+  number_told window back next is_poll out stays =
+      cond_both (nat_lt 0 back) (manners.sent_again at next is_poll back m) _ P (λ _. again_told next is_poll back out stays)
+      (λ none. cond_both (m.behind == 0 || at.pending == 0) (manners.sent_new window at m) (manners.breaks (Skips next) false (manners.grown 1 m)) P
+      (λ test. absurd (goes_first back none out test)) (λ _. refl))
+    where
+      P : Minded → Type 0
+      P x = IsTold x.rule
+
+-- P=1 changes nothing of this
+asked_is : (m : Manners) → (manners.asks m).manners ≡ manners.asks_on true m
+asked_is m = cond_both m.is_polling (manners.notes PollAgain false (manners.asks_on true m)) (manners.quiet (manners.asks_on true m)) (λ (x : Minded). x.manners ≡ manners.asks_on true m) (λ _. refl) (λ _. refl)
+
+stays_out : (ns : ℕ) (p q : Bool) (at : Place) (b : Minding) → IsOutOfPlace ns p b.own at → IsOutOfPlace ns p (links.asks q b).own at
+stays_out ns p true at b h = subst (λ m. IsOutOfPlace ns p m at) (sym (asked_is b.own)) (record { here = h.here; back = h.back })
+stays_out ns p false at b h = h
+
+module _ (window : ℕ) (t : Sent) (ns : ℕ) (p : Bool) (b : Minding) (counted : t.facts.is_counted ≡ true) where
+  counts_tell : (told : Told) (x : Frame) (k : Numbers) → (IsTold (links.rule_of told x) → Tells b) → IsOutOfPlace ns p b.own (manners.place_of k)
+      → Tells (links.by_own (links.minded_as told window k t ns p (links.is_differing b.seen.rule) b.own) b)
+  counts_tell (Broken s) x k broken out = first_keeps b.seen.rule _ (broken refl)
+  counts_tell (SkipsOf s) x k broken out = first_brings b.seen.rule (manners.sends window (manners.place_of k) ns p true b.own).rule refl
+  counts_tell Nothing x k broken out = first_brings b.seen.rule _
+      (cond_both t.facts.is_counted (manners.sends window (manners.place_of k) ns p false b.own) _ (λ (y : Minded). IsTold y.rule)
+      (λ _. number_told b.own (manners.seen_place (manners.place_of k) b.own) window (apart (manners.place_of k).next ns) _ p out.here out.back)
+      (λ no. absurd (both_ways t.facts.is_counted no counted)))
+
+  stand_tells : (s : Stand) (x : Frame) → is_up s ≡ true → (IsTold (links.rule_of t.told x) → Tells b) → IsOutOfPlace ns p b.own (links.place_in s)
+      → Tells (links.counts_in s window t ns p b)
+  stand_tells (Up k) x up broken out = counts_tell t.told x k broken out
+  stand_tells Out x up broken out = absurd (both_ways false refl up)
+  stand_tells Asking x up broken out = absurd (both_ways false refl up)
+  stand_tells Free x up broken out = absurd (both_ways false refl up)
+
+pub asks_tells : (p : Bool) (b : Minding) → Tells b → Tells (links.asks p b)
+asks_tells true b h = first_keeps b.seen.rule (manners.asks b.own).rule h
+asks_tells false b h = h
+
+module _ (window : ℕ) (x : Frame) (was : Bool) (own other : End) (ns nr : ℕ) (p : Bool) (octets : List ℕ) where
+  number_is : (links.sees_as window (info ns nr p octets) x was own other).seen.is_judged ≡ true → is_up (links.numbers own.set) ≡ true
+      → IsOutOfPlace ns p own.manners (links.place own) → IsTold (links.sees_as window (info ns nr p octets) x was own other).seen.rule
+  unfolding links.minds links.judges
+  number_is judged up out =
+      let frame = info ns nr p octets in
+      let b = before window frame x was own other in
+      let sure = and_parts (steps.is_certain own.set) (links.is_counted (links.numbers own.set) own.set) (sym (judged_is window frame x was own other) ∙ judged) in
+      stand_tells window (t window frame x was own other) ns p (links.asks p b) sure.1 (links.numbers own.set) x up
+      (λ broken. asks_tells p b broken) (stays_out ns p p (links.place own) b out)
+
+pub judged_sendings_are_told : JudgedSendingsAreTold
+unfolding links.shown
+judged_sendings_are_told from j ns nr p octets judged up out =
+    let own = own_of from j in
+    let frame = info ns nr p octets in
+    tells_of from j frame (number_is j.window (Info ns nr (differs own.held frame)) (links.is_blind own (other_of from j)) own (other_of from j) ns nr p octets judged up out)

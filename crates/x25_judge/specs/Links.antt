@@ -1,0 +1,338 @@
+-- Both ends of a link, frame by frame: which rule is told, what is noted, and what is judged. The rules of order are
+-- those of `link_rules` of x25_possible_links; how they are named, and manners, are of this crate.
+use Rattle.std.specs.Prelude.{ℕ, ◌+◌, ◌-◌, ◌%◌, ◌==◌, nat_lt, nat_le, Bool, true, false, not, ◌&&◌, ◌||◌, if◌then◌else◌}
+use Rattle.std.specs.Prelude.{List, [], ◌∷◌, Option, Some, None, is_some}
+use Rattle.x25_frame.specs.Frame.{PlainFrame, info, rr, rnr, rej, sabm, disc, ua, dm, frmr}
+use Rattle.x25_judge.specs.Held.{Held, differs, forgets, forgets_all, is_same, keeps, none_held}
+use Rattle.x25_judge.specs.Manners as manners
+use Rattle.x25_judge.specs.Manners.{place_of}
+use Rattle.x25_judge.specs.Note.{first_note}
+use Rattle.x25_judge.specs.Rule.{first}
+use Rattle.x25_judge.specs.declared.links.End.{End}
+use Rattle.x25_judge.specs.declared.links.Facts.{Facts}
+use Rattle.x25_judge.specs.declared.links.Minding.{Minding}
+use Rattle.x25_judge.specs.declared.links.Sent.{Sent}
+use Rattle.x25_judge.specs.declared.links.Seen.{Seen}
+use Rattle.x25_judge.specs.declared.manners.Manners.{Manners}
+use Rattle.x25_judge.specs.declared.manners.Minded.{Minded}
+use Rattle.x25_judge.specs.declared.manners.Place.{Place}
+use Rattle.x25_judge.specs.declared.note.Note.{Note}
+use Rattle.x25_judge.specs.declared.note.Note.TheVariants.{HeardBehindDamage, NumbersUnjudged, SentBehindDamage}
+use Rattle.x25_judge.specs.declared.rule.Rule.{Rule}
+use Rattle.x25_judge.specs.declared.rule.Rule.TheVariants.{Differs, Falls, NotUp, OverWindow, UaUnasked, Unsent}
+use Rattle.x25_packet_judge.specs.Numbers.{apart}
+use Rattle.x25_possible_links.specs.code.Steps as steps
+use Rattle.x25_possible_links.specs.code.Steps.{latest, plainest, sends_to, shows_to, unknown}
+use Rattle.x25_possible_links.specs.declared.frame.Frame.{Frame}
+use Rattle.x25_possible_links.specs.declared.frame.Frame.TheVariants.{Disc, Dm, Frmr, Info, Ready, Sabm, Ua, Unread}
+use Rattle.x25_possible_links.specs.declared.set.LinkSet.{LinkSet}
+use Rattle.x25_possible_links.specs.declared.set.Told.{Told}
+use Rattle.x25_possible_links.specs.declared.set.Told.TheVariants.{Broken, Nothing, Skips}
+use Rattle.x25_possible_links.specs.declared.spots.Spot.{Spot}
+use Rattle.x25_possible_links.specs.declared.stand.Numbers.{Numbers}
+use Rattle.x25_possible_links.specs.declared.stand.Stand.{Stand}
+use Rattle.x25_possible_links.specs.declared.stand.Stand.TheVariants.{Up}
+
+-- what the rules of a link look at of a frame
+unfoldable pub shown : PlainFrame → Bool → Frame
+shown (info ns nr p octets) differs = Info ns nr differs
+shown (rr command nr pf) differs = Ready nr
+shown (rnr command nr pf) differs = Ready nr
+shown (rej command nr pf) differs = Ready nr
+shown (sabm p) differs = Sabm
+shown (disc p) differs = Disc
+shown (ua f) differs = Ua
+shown (dm f) differs = Dm
+shown (frmr f why) differs = Frmr
+
+-- ---- which rule
+
+-- an N(R) that it may not send: whichever is nearer (2.3.4.9)
+abbrev pub invalid_by : ℕ → ℕ → ℕ → Numbers → Rule
+invalid_by least most nr k =
+    if nat_le (apart least nr) k.told && nat_lt (apart least nr) (apart nr most) then Falls least else Unsent most
+
+abbrev pub invalid : Numbers → ℕ → Rule
+invalid k nr = invalid_by (k.told % 8) (k.taken % 8) nr k
+
+abbrev pub strays : Numbers → ℕ → Bool
+strays k nr = nat_lt (k.taken - k.told) (apart nr (k.told % 8))
+
+abbrev pub broken_up : Numbers → Frame → Rule
+broken_up k (Info ns nr differs) =
+    if strays k nr then invalid k nr else if differs then Differs else OverWindow 7
+broken_up k (Ready nr) = invalid k nr
+broken_up k x = NotUp
+
+-- as the one of the places sees it that has come farthest
+abbrev pub broken : Stand → Frame → Rule
+broken s Ua = UaUnasked
+broken (Up k) x = broken_up k x
+broken s x = NotUp
+
+-- but that numbers are left out in front of an I frame is of manners
+abbrev pub rule_of : Told → Frame → Option Rule
+rule_of Nothing x = None
+rule_of (Skips s) (Info ns nr differs) = None
+rule_of (Skips s) x = Some (broken s x)
+rule_of (Broken s) x = Some (broken s x)
+
+-- ---- an end
+
+-- its numbers, where octets that spell no frame were none; where it isn't in a session then, where they were any
+abbrev pub numbers_by : Stand → Stand → Stand
+numbers_by (Up k) s = Up k
+numbers_by t s = s
+
+abbrev pub numbers : LinkSet → Stand
+numbers s = numbers_by (plainest s.spots.items s.way.items) (latest s.spots.items s.way.items)
+
+abbrev pub place_in : Stand → Place
+place_in (Up k) = place_of k
+place_in s = place_of (record { sent = 0; acked = 0; taken = 0; told = 0 })
+
+abbrev pub place : End → Place
+place e = place_in (numbers e.set)
+
+-- V(S) is known, or none
+abbrev pub is_counted : Stand → LinkSet → Bool
+is_counted (Up k) s = steps.agree k.sent s.way.items s.spots.items
+is_counted t s = true
+
+abbrev pub facts : LinkSet → Facts
+facts s = record {
+  stand = numbers s;
+  is_sure = steps.is_certain s;
+  is_counted = is_counted (numbers s) s;
+  is_known = steps.is_known s;
+  is_shown = steps.is_known s && steps.is_followed s;
+  is_answering = steps.judges_answer s;
+}
+
+abbrev pub judges_final : ℕ → Bool → Facts → Bool
+judges_final polls f a = not f || (not (polls == 0) || a.is_shown)
+
+-- its next frame is judged, where the other end sent so many commands with P=1 that aren't answered
+unfoldable pub judges : ℕ → PlainFrame → Facts → Bool
+judges polls (info ns nr p octets) a = a.is_sure && a.is_counted
+judges polls (rr command nr pf) a = a.is_sure
+judges polls (rnr command nr pf) a = a.is_sure
+judges polls (rej command nr pf) a = a.is_sure
+judges polls (sabm p) a = true
+judges polls (disc p) a = true
+judges polls (ua f) a = a.is_answering
+judges polls (dm f) a = judges_final polls f a
+judges polls (frmr f why) a = judges_final polls f a
+
+abbrev pub held_by : Told → Held → Held
+held_by (Skips s) h = forgets_all h
+held_by told h = h
+
+-- octets of numbers that it may have sent are known no longer
+abbrev pub forgets_in : Stand → Held → Held
+forgets_in (Up k) h = forgets (k.sent % 8) h
+forgets_in s h = forgets_all h
+
+abbrev pub forgets_each : List Spot → Held → Held
+forgets_each [] h = h
+forgets_each (q ∷ qs) h = forgets_each qs (forgets_in q.stand h)
+
+abbrev pub forgets_all_sent : End → End
+forgets_all_sent e = record e { held = forgets_each e.set.spots.items e.held }
+
+-- nothing was sent
+abbrev pub no_end : End
+no_end = record { set = unknown; held = none_held; manners = manners.none }
+
+abbrev pub with_minded : Minded → Seen → Seen
+with_minded m t =
+    record t { rule = first t.rule m.rule; note = first_note t.note m.note; is_again = t.is_again || m.is_again }
+
+abbrev pub with_note : Option Note → Seen → Seen
+with_note note t = record t { note = first_note t.note note }
+
+-- ---- manners, with what is said
+
+abbrev pub by_own : Minded → Minding → Minding
+by_own m b = record b { own = m.manners; seen = with_minded m b.seen }
+
+abbrev pub by_other : Minded → Minding → Minding
+by_other m b = record b { other = m.manners; seen = with_minded m b.seen }
+
+-- P=1 of a command asks, F=1 of a response answers
+abbrev pub asks : Bool → Minding → Minding
+asks p b = if p then by_own (manners.asks b.own) b else b
+
+abbrev pub answers : Bool → Bool → Minding → Minding
+answers f is_shown b = if f then by_other (manners.answered is_shown b.other) b else b
+
+abbrev pub bits : Bool → Bool → Bool → Minding → Minding
+bits command pf is_shown b = if command then asks pf b else answers pf is_shown b
+
+abbrev pub begins : Minding → Minding
+begins b = record b { own = manners.begun b.own }
+
+abbrev pub is_differing : Option Rule → Bool
+is_differing (Some Differs) = true
+is_differing rule = false
+
+-- an I frame with which this is told; whether its number is told to have other octets
+abbrev pub minded_as : Told → ℕ → Numbers → Sent → ℕ → Bool → Bool → Manners → Minded
+minded_as (Broken s) window k t ns p differs m = manners.again (t.is_same || differs) m
+minded_as (Skips s) window k t ns p differs m = manners.sends window (place_of k) ns p true m
+minded_as Nothing window k t ns p differs m =
+    if t.facts.is_counted then manners.sends window (place_of k) ns p false m
+    else if ns == k.sent % 8 then manners.quiet m else manners.notes SentBehindDamage t.is_same m
+
+abbrev pub minded_by : ℕ → Numbers → Sent → ℕ → Bool → Bool → Manners → Minded
+minded_by window k t ns p differs m = minded_as t.told window k t ns p differs m
+
+-- numbers are left out, where the end isn't known to be in a session
+abbrev pub skipped_by : Told → ℕ → Stand → ℕ → Bool → Minding → Minding
+skipped_by (Skips s) window stand ns p b = by_own (manners.sends window (place_in stand) ns p true b.own) b
+skipped_by told window stand ns p b = b
+
+abbrev pub counts_in : Stand → ℕ → Sent → ℕ → Bool → Minding → Minding
+counts_in (Up k) window t ns p b = by_own (minded_by window k t ns p (is_differing b.seen.rule) b.own) b
+counts_in s window t ns p b = skipped_by t.told window s ns p b
+
+abbrev pub counts : ℕ → Sent → ℕ → Bool → Minding → Minding
+counts window t ns p b = counts_in t.facts.stand window t ns p b
+
+abbrev pub is_above : Stand → ℕ → Bool
+is_above (Up k) nr = not (nr == k.told % 8)
+is_above s nr = true
+
+-- an N(R) that only octets explain that spell no frame
+abbrev pub heard_in : Stand → ℕ → ℕ → Option Note
+heard_in (Up k) nr next =
+    if nat_lt (apart next (k.told % 8)) (apart nr (k.told % 8)) then Some HeardBehindDamage else None
+heard_in s nr next = None
+
+abbrev pub heard_note : Sent → LinkSet → ℕ → Option Note
+heard_note t to nr = if t.takes_unread then heard_in t.facts.stand nr (place_in (numbers to)).next else None
+
+-- an N(R), to an end that may be in these places
+abbrev pub hears : Sent → LinkSet → ℕ → Minding → Minding
+hears t to nr b = record {
+  own = manners.hears (is_above t.facts.stand nr) b.own;
+  other = manners.heard b.other;
+  seen = with_note (heard_note t to nr) b.seen;
+}
+
+abbrev pub sends_back : LinkSet → ℕ → Minding → Minding
+sends_back to nr b = record b { other = manners.sent_back (apart (place_in (numbers to)).next nr) b.other }
+
+abbrev pub info_minded : ℕ → Sent → LinkSet → ℕ → ℕ → Bool → Minding → Minding
+info_minded window t to ns nr p b = hears t to nr (counts window t ns p (asks p b))
+
+abbrev pub ready_minded : Sent → LinkSet → Bool → ℕ → Bool → Minding → Minding
+ready_minded t to command nr pf b =
+    if pf && not command then sends_back to nr (hears t to nr (bits command pf t.facts.is_known b))
+    else hears t to nr (bits command pf t.facts.is_known b)
+
+abbrev pub rejects : Bool → Minding → Minding
+rejects is_sure b = by_own (manners.rejects is_sure b.own) b
+
+abbrev pub reject_minded : Sent → LinkSet → Bool → ℕ → Bool → Minding → Minding
+reject_minded t to command nr pf b =
+    sends_back to nr (rejects t.facts.is_sure (hears t to nr (bits command pf t.facts.is_known b)))
+
+abbrev pub accepts : Bool → Bool → Minding → Minding
+accepts f is_shown b = if is_some b.seen.rule then b else answers f is_shown (begins b)
+
+unfoldable pub minds : ℕ → Sent → LinkSet → PlainFrame → Minding → Minding
+minds window t to (info ns nr p octets) b = info_minded window t to ns nr p b
+minds window t to (rr command nr pf) b = ready_minded t to command nr pf b
+minds window t to (rnr command nr pf) b = ready_minded t to command nr pf b
+minds window t to (rej command nr pf) b = reject_minded t to command nr pf b
+minds window t to (sabm p) b = asks p (begins b)
+minds window t to (disc p) b = asks p b
+minds window t to (ua f) b = accepts f t.facts.is_shown b
+minds window t to (dm f) b = answers f t.facts.is_shown b
+minds window t to (frmr f why) b = answers f t.facts.is_shown b
+
+-- ---- a frame: both ends, and what is said of it
+
+pub record Both : Type 0 where
+  pub own : End
+  pub other : End
+  pub seen : Seen
+
+abbrev pub is_blind : End → End → Bool
+is_blind own other = not (steps.is_known own.set) || not (steps.is_known other.set)
+
+-- what is noted where there is no room any more
+abbrev pub blind_note : Bool → Bool → Option Note
+blind_note was is = if is && not was then Some NumbersUnjudged else None
+
+-- the end behind it, but for manners
+abbrev pub end_sent : PlainFrame → Frame → End → End
+end_sent frame x e = record e {
+  set = (sends_to x e.set).set;
+  held = keeps (held_by (sends_to x e.set).told e.held) frame;
+}
+
+abbrev pub end_shown : Frame → End → End
+end_shown x e = record e { set = shows_to x e.set }
+
+abbrev pub sent_by : PlainFrame → Frame → End → Sent
+sent_by frame x e = record {
+  facts = facts e.set;
+  told = (sends_to x e.set).told;
+  is_same = is_same e.held frame;
+  takes_unread = nat_lt (steps.unread (sends_to x e.set).set.way.items) (steps.unread e.set.way.items);
+}
+
+-- but for manners
+abbrev pub seen_of : Bool → Bool → ℕ → PlainFrame → Frame → Sent → Seen
+seen_of was is polls frame x t = record {
+  rule = rule_of t.told x;
+  note = blind_note was is;
+  is_again = false;
+  is_judged = judges polls frame t.facts;
+}
+
+abbrev pub mind : End → End → Minding → Both
+mind own other b = record {
+  own = record own { manners = b.own };
+  other = record other { manners = b.other };
+  seen = b.seen;
+}
+
+abbrev pub sees_by : ℕ → PlainFrame → Frame → Bool → Sent → End → End → Both
+sees_by window frame x was t own other = mind own other (minds window t other.set frame (record {
+  own = own.manners;
+  other = other.manners;
+  seen = seen_of was (is_blind own other) other.manners.polls frame x t;
+}))
+
+abbrev pub sees_as : ℕ → PlainFrame → Frame → Bool → End → End → Both
+sees_as window frame x was own other =
+    sees_by window frame x was (sent_by frame x own) (end_sent frame x own) (end_shown x other)
+
+-- an end sends a frame; at most `window` I frames may be unacknowledged
+abbrev pub sees : ℕ → PlainFrame → End → End → Both
+sees window frame own other =
+    sees_as window frame (shown frame (differs own.held frame)) (is_blind own other) own other
+
+-- octets that spell no frame, which may have been any
+pub record Missed : Type 0 where
+  pub own : End
+  pub other : End
+  pub note : Option Note
+
+abbrev pub misses : End → End → Missed
+misses own other = record {
+  own = record {
+    set = (sends_to Unread own.set).set;
+    held = (forgets_all_sent own).held;
+    manners = manners.missed own.manners;
+  };
+  other = record other {
+    set = shows_to Unread other.set;
+    manners = manners.unheard (place other).pending other.manners;
+  };
+  note = blind_note (is_blind own other)
+      (not (steps.is_known (sends_to Unread own.set).set) || not (steps.is_known (shows_to Unread other.set)));
+}

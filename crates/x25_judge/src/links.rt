@@ -1,0 +1,608 @@
+//! Both ends of a link: the places in which each may be, the octets of its last numbers, and its manners.
+ghost use Rattle.std.specs.Prelude.{◌≡◌, IfOk};
+ghost use Rattle.x25_frame.specs.Frame.{plain};
+ghost use Rattle.x25_judge.specs.Held.{keeps};
+ghost use Rattle.x25_judge.specs.Links as definition;
+
+use crate::held::Held;
+use crate::manners::{Manners, Minded, Place, again, notes, place_of, quiet};
+use crate::note::{Note, first_note};
+use crate::rule::{Rule, first};
+use std::alloc::{AllocError, Global};
+use x25_frame::Frame;
+use x25_packet_judge::apart;
+use x25_possible_links::{Frame as Shown, LinkSet, Numbers, Spot, Stand, Told};
+
+/// One end.
+#[derive(Drop)]
+pub(crate) struct End {
+    pub(crate) set: LinkSet,
+    pub(crate) held: Held,
+    pub(crate) manners: Manners,
+}
+
+/// The rule that a frame breaks, what is noted of it, whether it is an I frame that was sent before, and whether it is
+/// judged.
+#[derive(Clone, Copy)]
+pub(crate) struct Seen {
+    pub(crate) rule: Option<Rule>,
+    pub(crate) note: Option<Note>,
+    pub(crate) is_again: bool,
+    pub(crate) is_judged: bool,
+}
+
+/// What is known of an end before a frame that it sends.
+#[derive(Clone, Copy)]
+pub(crate) struct Facts {
+    /// Its numbers.
+    stand: Stand,
+    /// It is known what it may acknowledge.
+    is_sure: bool,
+    /// V(S) is known, or none.
+    is_counted: bool,
+    is_known: bool,
+    /// All is shown that its next response may answer.
+    is_shown: bool,
+    /// It is known whether its next UA answers something.
+    is_answering: bool,
+}
+
+/// A frame: what is known of its end before it, and what is told of it.
+#[derive(Clone, Copy)]
+pub(crate) struct Sent {
+    facts: Facts,
+    told: Told,
+    /// It is an I frame, and its number has the same octets.
+    is_same: bool,
+    /// Octets that spell no frame have come to its end by it.
+    takes_unread: bool,
+}
+
+/// The manners of both ends, and what is said of a frame.
+#[derive(Clone, Copy)]
+pub(crate) struct Minding {
+    own: Manners,
+    other: Manners,
+    seen: Seen,
+}
+
+impl Facts {
+    /// Whether its next frame is judged, where the other end sent so many commands with P=1 that aren't answered.
+    #[tactic(auto, unfolding(crate::specs::Links::judges))]
+    fn judges(self, polls: u8, frame: &Frame) -> bool
+        ensures { result ≡ definition.judges polls (plain frame.now) self }
+    {
+        match frame {
+            Frame::I { .. } => self.is_sure && self.is_counted,
+            Frame::Rr { .. } | Frame::Rnr { .. } | Frame::Rej { .. } => self.is_sure,
+            Frame::Sabm { .. } | Frame::Disc { .. } => true,
+            Frame::Ua { .. } => self.is_answering,
+            Frame::Dm { f } | Frame::Frmr { f, .. } => !*f || (polls != 0 || self.is_shown),
+        }
+    }
+}
+
+impl Seen {
+    fn with(self, minded: Minded) -> Seen
+        ensures { result ≡ definition.with_minded minded self }
+    {
+        Seen {
+            rule: first(self.rule, minded.rule),
+            note: first_note(self.note, minded.note),
+            is_again: self.is_again || minded.is_again,
+            ..self
+        }
+    }
+
+    fn notes(self, note: Option<Note>) -> Seen
+        ensures { result ≡ definition.with_note note self }
+    {
+        Seen {
+            note: first_note(self.note, note),
+            ..self
+        }
+    }
+}
+
+/// What the rules of a link look at of a frame.
+#[tactic(auto, unfolding(crate::specs::Links::shown))]
+fn shown(frame: &Frame, differs: bool) -> Shown
+    ensures { result ≡ definition.shown (plain frame.now) differs }
+{
+    match frame {
+        Frame::I { ns, nr, .. } => Shown::Info {
+            ns: ns.get(),
+            nr: nr.get(),
+            differs,
+        },
+        Frame::Rr { nr, .. } | Frame::Rnr { nr, .. } | Frame::Rej { nr, .. } => Shown::Ready(
+            nr.get(),
+        ),
+        Frame::Sabm { .. } => Shown::Sabm,
+        Frame::Disc { .. } => Shown::Disc,
+        Frame::Ua { .. } => Shown::Ua,
+        Frame::Dm { .. } => Shown::Dm,
+        Frame::Frmr { .. } => Shown::Frmr,
+    }
+}
+
+// ---- which rule
+
+/// An N(R) that it may not send: whichever is nearer.
+fn invalid(k: Numbers, nr: u8) -> Rule
+    ensures { result ≡ definition.invalid k nr }
+{
+    let least = (k.told % 8) as u8;
+    let most = (k.taken % 8) as u8;
+    let back = apart(least, nr);
+    if u64::from(back) <= k.told && back < apart(nr, most) {
+        Rule::Falls { least }
+    } else {
+        Rule::Unsent { most }
+    }
+}
+
+/// Whether an N(R) acknowledges more than it took.
+fn strays(k: Numbers, nr: u8) -> bool
+    ensures { result ≡ definition.strays k nr }
+{
+    let ahead = u64::from(apart(nr, (k.told % 8) as u8));
+    k.taken.saturating_sub(k.told) < ahead
+}
+
+fn broken_up(k: Numbers, frame: Shown) -> Rule
+    ensures { result ≡ definition.broken_up k frame }
+{
+    match frame {
+        Shown::Info { nr, differs, .. } => if strays(k, nr) {
+            invalid(k, nr)
+        } else if differs {
+            Rule::Differs
+        } else {
+            Rule::OverWindow { window: 7 }
+        },
+        Shown::Ready(nr) => invalid(k, nr),
+        _ => Rule::NotUp,
+    }
+}
+
+/// The rule that a frame breaks which no place allows, as the one sees it that has come farthest.
+fn broken(stand: Stand, frame: Shown) -> Rule
+    ensures { result ≡ definition.broken stand frame }
+{
+    match (stand, frame) {
+        (_, Shown::Ua) => Rule::UaUnasked,
+        (Stand::Up(k), _) => broken_up(k, frame),
+        _ => Rule::NotUp,
+    }
+}
+
+/// But that numbers are left out in front of an I frame is of manners.
+fn rule_of(told: Told, frame: Shown) -> Option<Rule>
+    ensures { result ≡ definition.rule_of told frame }
+{
+    match (told, frame) {
+        (Told::Nothing, _) | (Told::Skips(_), Shown::Info { .. }) => None,
+        (Told::Skips(stand) | Told::Broken(stand), _) => Some(broken(stand, frame)),
+    }
+}
+
+/// What is noted where there is no room any more.
+fn blind_note(was: bool, is: bool) -> Option<Note>
+    ensures { result ≡ definition.blind_note was is }
+{
+    if is && !was {
+        Some(Note::NumbersUnjudged)
+    } else {
+        None
+    }
+}
+
+/// Its numbers, where octets that spell no frame were none; where it isn't in a session then, where they were any.
+fn numbers(set: &LinkSet) -> Stand
+    ensures { result ≡ definition.numbers set.now }
+{
+    let stand = set.plainest();
+    match stand {
+        Stand::Up(_) => stand,
+        _ => set.latest(),
+    }
+}
+
+fn place_in(stand: Stand) -> Place
+    ensures { result ≡ definition.place_in stand }
+{
+    place_of(match stand {
+        Stand::Up(k) => k,
+        _ => Numbers {
+            sent: 0,
+            acked: 0,
+            taken: 0,
+            told: 0,
+        },
+    })
+}
+
+fn place(set: &LinkSet) -> Place
+    ensures { result ≡ definition.place_in (definition.numbers set.now) }
+{
+    place_in(numbers(set))
+}
+
+fn forget_in(held: &mut Held, stand: Stand)
+    ensures { held.new ≡ definition.forgets_in stand held.old }
+{
+    match stand {
+        Stand::Up(k) => held.forget((k.sent % 8) as u8),
+        _ => held.forget_all(),
+    }
+}
+
+/// Octets of the numbers that these places may have sent are known no longer.
+fn forget_each(held: &mut Held, spots: &[Spot])
+    ensures { held.new ≡ definition.forgets_each spots.now held.old }
+{
+    for spot in spots {
+        forget_in(held, spot.stand);
+    }
+}
+
+impl End {
+    /// Nothing is known. Err: no memory.
+    pub(crate) fn new(alloc: Global) -> Result<End, AllocError>
+        ensures { IfOk result (λ end. end ≡ definition.no_end) }
+    {
+        let held = Held::new(alloc)?;
+        Ok(End {
+            set: LinkSet::new(),
+            held,
+            manners: Manners::new(),
+        })
+    }
+
+    /// Holds the octets of an I frame; where numbers were left out, none other.
+    fn holds(&mut self, told: Told, frame: &Frame)
+        ensures { self.new ≡ record self.old {
+          held = keeps (definition.held_by told self.old.held) (plain frame.now);
+        } }
+    {
+        if matches!(told, Told::Skips(_)) {
+            self.held.forget_all();
+        }
+        self.held.keep(frame);
+    }
+
+    /// What is known of it before a frame.
+    fn facts(&self) -> Facts
+        ensures { result ≡ definition.facts self.now.set }
+    {
+        let stand = numbers(&self.set);
+        let is_known = self.set.is_known();
+        Facts {
+            stand,
+            is_sure: self.set.is_sure(),
+            is_counted: match stand {
+                Stand::Up(k) => self.set.agrees(k.sent),
+                _ => true,
+            },
+            is_known,
+            is_shown: is_known && self.set.is_followed(),
+            is_answering: self.set.judges_answer(),
+        }
+    }
+
+    /// It sends a frame.
+    fn sends(&mut self, shown: Shown, frame: &Frame) -> Sent
+        ensures own { self.new ≡ definition.end_sent (plain frame.now) shown self.old }
+        ensures sent { result ≡ definition.sent_by (plain frame.now) shown self.old }
+    {
+        let is_same = self.held.has(frame);
+        let facts = self.facts();
+        let unread = self.set.unread();
+        let told = self.set.sends(shown);
+        self.holds(told, frame);
+        Sent {
+            facts,
+            told,
+            is_same,
+            takes_unread: self.set.unread() < unread,
+        }
+    }
+
+    /// Octets of numbers that it may have sent are known no longer.
+    fn forgets(&mut self)
+        ensures { self.new ≡ definition.forgets_all_sent self.old }
+    {
+        forget_each(&mut self.held, self.set.spots.as_slice());
+    }
+}
+
+/// What is noted of an N(R) that only octets explain that spell no frame, where the other end's V(S) is `next`.
+fn heard_note(stand: Stand, nr: u8, next: u8) -> Option<Note>
+    ensures { result ≡ definition.heard_in stand nr next }
+{
+    match stand {
+        Stand::Up(k) => {
+            let told = (k.told % 8) as u8;
+            if apart(next, told) < apart(nr, told) {
+                Some(Note::HeardBehindDamage)
+            } else {
+                None
+            }
+        }
+        _ => None,
+    }
+}
+
+fn is_above(stand: Stand, nr: u8) -> bool
+    ensures { result ≡ definition.is_above stand nr }
+{
+    match stand {
+        Stand::Up(k) => nr as u64 != k.told % 8,
+        _ => true,
+    }
+}
+
+fn is_differing(rule: Option<Rule>) -> bool
+    ensures { result ≡ definition.is_differing rule }
+{
+    matches!(rule, Some(Rule::Differs))
+}
+
+/// An I frame with numbers of an end in a session; whether its number is told to have other octets.
+fn minded(
+    window: u8,
+    k: Numbers,
+    sent: Sent,
+    ns: u8,
+    p: bool,
+    differs: bool,
+    manners: Manners,
+) -> Minded
+    ensures { result ≡ definition.minded_by window k sent ns p differs manners }
+{
+    match sent.told {
+        Told::Broken(_) => again(sent.is_same || differs, manners),
+        Told::Skips(_) => manners.sends(window, place_of(k), ns, p, true),
+        Told::Nothing => if sent.facts.is_counted {
+            manners.sends(window, place_of(k), ns, p, false)
+        } else if ns as u64 == k.sent % 8 {
+            quiet(manners)
+        } else {
+            notes(Note::SentBehindDamage, sent.is_same, manners)
+        },
+    }
+}
+
+impl Minding {
+    fn by_own(self, minded: Minded) -> Minding
+        ensures { result ≡ definition.by_own minded self }
+    {
+        Minding {
+            own: minded.manners,
+            seen: self.seen.with(minded),
+            ..self
+        }
+    }
+
+    fn by_other(self, minded: Minded) -> Minding
+        ensures { result ≡ definition.by_other minded self }
+    {
+        Minding {
+            other: minded.manners,
+            seen: self.seen.with(minded),
+            ..self
+        }
+    }
+
+    /// A command.
+    fn asks(self, p: bool) -> Minding
+        ensures { result ≡ definition.asks p self }
+    {
+        if p {
+            self.by_own(self.own.asks())
+        } else {
+            self
+        }
+    }
+
+    /// A response, where it is shown or not what it may answer.
+    fn answers(self, f: bool, is_shown: bool) -> Minding
+        ensures { result ≡ definition.answers f is_shown self }
+    {
+        if f {
+            self.by_other(self.other.answered(is_shown))
+        } else {
+            self
+        }
+    }
+
+    fn bits(self, command: bool, pf: bool, is_shown: bool) -> Minding
+        ensures { result ≡ definition.bits command pf is_shown self }
+    {
+        if command {
+            self.asks(pf)
+        } else {
+            self.answers(pf, is_shown)
+        }
+    }
+
+    /// Numbers of the end begin anew.
+    fn begins(self) -> Minding
+        ensures { result ≡ definition.begins self }
+    {
+        Minding {
+            own: self.own.begun(),
+            ..self
+        }
+    }
+
+    /// Numbers are left out in front of an N(S), of an end that isn't known to be in a session.
+    fn skips(self, window: u8, stand: Stand, told: Told, ns: u8, p: bool) -> Minding
+        ensures { result ≡ definition.skipped_by told window stand ns p self }
+    {
+        match told {
+            Told::Skips(_) => self.by_own(self.own.sends(window, place_in(stand), ns, p, true)),
+            _ => self,
+        }
+    }
+
+    /// The N(S) of an I frame.
+    fn counts(self, window: u8, sent: Sent, ns: u8, p: bool) -> Minding
+        ensures { result ≡ definition.counts window sent ns p self }
+    {
+        match sent.facts.stand {
+            Stand::Up(k) => self.by_own(minded(
+                window,
+                k,
+                sent,
+                ns,
+                p,
+                is_differing(self.seen.rule),
+                self.own,
+            )),
+            stand => self.skips(window, stand, sent.told, ns, p),
+        }
+    }
+
+    /// An N(R), to an end that may be in these places.
+    fn hears(self, sent: Sent, to: &LinkSet, nr: u8) -> Minding
+        ensures { result ≡ definition.hears sent to.now nr self }
+    {
+        let note = if sent.takes_unread {
+            heard_note(sent.facts.stand, nr, place(to).next)
+        } else {
+            None
+        };
+        Minding {
+            own: self.own.hears(is_above(sent.facts.stand, nr)),
+            other: self.other.heard(),
+            seen: self.seen.notes(note),
+        }
+    }
+
+    /// What may set V(S) of the other end back to an N(R).
+    fn sends_back(self, to: &LinkSet, nr: u8) -> Minding
+        ensures { result ≡ definition.sends_back to.now nr self }
+    {
+        Minding {
+            other: self.other.sent_back(apart(place(to).next, nr)),
+            ..self
+        }
+    }
+
+    /// An I frame.
+    fn info(self, window: u8, sent: Sent, to: &LinkSet, ns: u8, nr: u8, p: bool) -> Minding
+        ensures { result ≡ definition.info_minded window sent to.now ns nr p self }
+    {
+        self.asks(p).counts(window, sent, ns, p).hears(sent, to, nr)
+    }
+
+    /// RR or RNR.
+    fn ready(self, sent: Sent, to: &LinkSet, command: bool, nr: u8, pf: bool) -> Minding
+        ensures { result ≡ definition.ready_minded sent to.now command nr pf self }
+    {
+        let both = self
+            .bits(command, pf, sent.facts.is_known)
+            .hears(sent, to, nr);
+        if pf && !command {
+            both.sends_back(to, nr)
+        } else {
+            both
+        }
+    }
+
+    fn rejects(self, is_sure: bool) -> Minding
+        ensures { result ≡ definition.rejects is_sure self }
+    {
+        self.by_own(self.own.rejects(is_sure))
+    }
+
+    /// REJ.
+    fn reject(self, sent: Sent, to: &LinkSet, command: bool, nr: u8, pf: bool) -> Minding
+        ensures { result ≡ definition.reject_minded sent to.now command nr pf self }
+    {
+        self.bits(command, pf, sent.facts.is_known)
+            .hears(sent, to, nr)
+            .rejects(sent.facts.is_sure)
+            .sends_back(to, nr)
+    }
+
+    /// UA.
+    fn accepts(self, f: bool, is_shown: bool) -> Minding
+        ensures { result ≡ definition.accepts f is_shown self }
+    {
+        if self.seen.rule.is_some() {
+            self
+        } else {
+            self.begins().answers(f, is_shown)
+        }
+    }
+
+    /// A frame, to an end that may be in these places.
+    #[tactic(auto, unfolding(crate::specs::Links::minds))]
+    fn minds(self, window: u8, sent: Sent, to: &LinkSet, frame: &Frame) -> Minding
+        ensures { result ≡ definition.minds window sent to.now (plain frame.now) self }
+    {
+        match frame {
+            Frame::I { ns, nr, p, .. } => self.info(window, sent, to, ns.get(), nr.get(), *p),
+            Frame::Rr { command, nr, pf } | Frame::Rnr { command, nr, pf } => {
+                self.ready(sent, to, *command, nr.get(), *pf)
+            }
+            Frame::Rej { command, nr, pf } => self.reject(sent, to, *command, nr.get(), *pf),
+            Frame::Sabm { p } => self.begins().asks(*p),
+            Frame::Disc { p } => self.asks(*p),
+            Frame::Ua { f } => self.accepts(*f, sent.facts.is_shown),
+            Frame::Dm { f } | Frame::Frmr { f, .. } => self.answers(*f, sent.facts.is_shown),
+        }
+    }
+}
+
+/// Whether it isn't known where one of them stands.
+fn is_blind(own: &End, other: &End) -> bool
+    ensures { result ≡ definition.is_blind own.now other.now }
+{
+    !own.set.is_known() || !other.set.is_known()
+}
+
+/// An end sends a frame; at most `window` I frames may be unacknowledged.
+pub(crate) fn sees(own: &mut End, other: &mut End, window: u8, frame: &Frame) -> Seen
+    ensures own { own.new ≡ (definition.sees window (plain frame.now) own.old other.old).own }
+    ensures other { other.new ≡ (definition.sees window (plain frame.now) own.old other.old).other }
+    ensures seen { result ≡ (definition.sees window (plain frame.now) own.old other.old).seen }
+{
+    let was_blind = is_blind(own, other);
+    let shown = shown(frame, own.held.differs(frame));
+    let sent = own.sends(shown, frame);
+    other.set.shows(shown);
+    let seen = Seen {
+        rule: rule_of(sent.told, shown),
+        note: blind_note(was_blind, is_blind(own, other)),
+        is_again: false,
+        is_judged: sent.facts.judges(other.manners.polls, frame),
+    };
+    let both = Minding {
+        own: own.manners,
+        other: other.manners,
+        seen,
+    };
+    let both = both.minds(window, sent, &other.set, frame);
+    own.manners = both.own;
+    other.manners = both.other;
+    both.seen
+}
+
+/// An end sends octets that spell no frame: they may have been any. What is noted of them is answered.
+pub(crate) fn misses(own: &mut End, other: &mut End) -> Option<Note>
+    ensures own { own.new ≡ (definition.misses own.old other.old).own }
+    ensures other { other.new ≡ (definition.misses own.old other.old).other }
+    ensures note { result ≡ (definition.misses own.old other.old).note }
+{
+    let was_blind = is_blind(own, other);
+    own.forgets();
+    own.manners = own.manners.missed();
+    other.manners = other.manners.unheard(place(&other.set).pending);
+    let _ = own.set.sends(Shown::Unread);
+    other.set.shows(Shown::Unread);
+    blind_note(was_blind, is_blind(own, other))
+}

@@ -1,0 +1,158 @@
+-- Places of an end that are all of a kind, as either end sends.
+use Rattle.std.proofs.Common.{◌≡◌, ◌⊎◌, inl, inr, ℕ, ◌≤◌, ◌==◌, Bool, true, false, List, [], ◌∷◌, ◌++◌, drop, length, flat_map}
+use Rattle.std.proofs.Common.{Some, None, Option, refl, sym, ◌∙◌, subst, if◌then◌else◌}
+use Rattle.std.proofs.lemmas.Bool.{both_ways, cond_both}
+use Rattle.x25_possible.specs.laws.Possible.{IsIn, Place}
+use Rattle.x25_possible_links.specs.code.Steps.{grow_all, latest, least, sends_to, sent_to, set_as, shift_all, shifted_to, shown_to}
+use Rattle.x25_possible_links.specs.code.Steps.{shows_to, standing, Stepped, telling, trimmed, unexplained, walk_all}
+use Rattle.x25_possible_links.specs.laws.Places.{settle}
+use Rattle.x25_possible_links.specs.laws.Places as place
+use Rattle.x25_possible_links.specs.declared.frame.Frame.{Frame}
+use Rattle.x25_possible_links.specs.declared.frame.Frame.TheVariants.{Ua}
+use Rattle.x25_possible_links.specs.declared.link.Mode.TheVariants.{Right}
+use Rattle.x25_possible_links.specs.declared.set.LinkSet.{LinkSet}
+use Rattle.x25_possible_links.specs.declared.set.Told.TheVariants.{Broken, Nothing}
+use Rattle.x25_possible_links.specs.declared.spots.Spot.{Spot}
+use Rattle.x25_possible_links.specs.declared.stand.Stand.{Stand}
+use Rattle.x25_possible_links.proofs.Covering.{behind_other, behind_own, hurried_shows, least_is, moved, moved_is, other_adds}
+use Rattle.x25_possible_links.proofs.Covering.{own_adds, shift_adds, shows_by}
+use Rattle.x25_possible_links.proofs.Lists.{from_all, from_map}
+use Rattle.x25_possible_links.proofs.SetLemmas.{unexplained_told}
+use Rattle.x25_possible_links.proofs.StepLemmas.{placed}
+
+abbrev pub AllAre : (Place Stand Frame → Type 0) → LinkSet → Type 0
+AllAre P set = (q : Spot) → IsIn q set.spots.items → P (placed set.way.items q)
+
+module _ (P : Place Stand Frame → Type 0) where
+  shifted_all : (way : List Frame) (qs new : List Spot) (n : ℕ) → ((q : Spot) → IsIn q qs → n ≤ q.at) → shift_all n qs [] ≡ Some new
+      → ((q : Spot) → IsIn q qs → P (placed way q)) → (q : Spot) → IsIn q new → P (placed (drop n way) q)
+  shifted_all way qs new n far e all q is = from ((shift_adds way qs new n e).from q is)
+    where
+      one : (p : Spot) → IsIn p qs → IsIn (placed (drop n way) q) (moved n way p) → P (placed (drop n way) q)
+      one p there (inl same) = subst P (sym (same ∙ moved_is n way p (far p there))) (all p there)
+      one p there (inr h) = absurd h
+
+      from : IsIn q [] ⊎ IsIn (placed (drop n way) q) (flat_map (moved n way) qs) → P (placed (drop n way) q)
+      from (inl h) = absurd h
+      from (inr h) = let g = from_all (moved n way) qs (placed (drop n way) q) h in one g.0 g.1 g.2
+
+  trim_all : (set : LinkSet) (way : List Frame) (qs : List Spot) → ((q : Spot) → IsIn q qs → P (placed way q))
+      → AllAre P (trimmed (set_as set way qs))
+  trim_all set way qs all = go (least qs (length way) == 0)
+    where
+      shift : (o : Option (List Spot)) → shift_all (least qs (length way)) qs [] ≡ o
+          → AllAre P (shifted_to (least qs (length way)) o (set_as set way qs))
+      shift None e = all
+      shift (Some new) e = shifted_all way qs new (least qs (length way)) (λ q is. least_is qs (length way) q is) e all
+
+      go : (b : Bool)
+          → AllAre P (if b then set_as set way qs
+          else shifted_to (least qs (length way)) (shift_all (least qs (length way)) qs []) (set_as set way qs))
+      go true = all
+      go false = shift (shift_all (least qs (length way)) qs []) refl
+
+module _ (P Q : Place Stand Frame → Type 0) (set : LinkSet) (x : Frame) (are : AllAre P set) where
+  -- the other end sends
+  module _ (each : (p : Place Stand Frame) → P p → Q (place.shown x p)) where
+    grown_all : (qs : List Spot) → grow_all (length set.way.items) (set.way.items ++ x ∷ []) set.spots.items [] ≡ Some qs
+        → (q : Spot) → IsIn q qs → Q (placed (set.way.items ++ x ∷ []) q)
+    grown_all qs e q is = from ((other_adds set.way.items set.spots.items qs x e).from q is)
+      where
+        one : (p : Spot) → IsIn p set.spots.items → IsIn (placed (set.way.items ++ x ∷ []) q) (behind_other x set.way.items p)
+            → Q (placed (set.way.items ++ x ∷ []) q)
+        one p there (inl same) = subst Q (sym same) (each (placed set.way.items p) (are p there))
+        one p there (inr h) = absurd h
+
+        from : IsIn q [] ⊎ IsIn (placed (set.way.items ++ x ∷ []) q) (flat_map (behind_other x set.way.items) set.spots.items)
+            → Q (placed (set.way.items ++ x ∷ []) q)
+        from (inl h) = absurd h
+        from (inr h) =
+            let g = from_all (behind_other x set.way.items) set.spots.items (placed (set.way.items ++ x ∷ []) q) h in one g.0 g.1 g.2
+
+    shown_by : (o : Option (List Spot)) → grow_all (length set.way.items) (set.way.items ++ x ∷ []) set.spots.items [] ≡ o
+        → (shown_to set (set.way.items ++ x ∷ []) o).is_blind ≡ false → AllAre Q (shown_to set (set.way.items ++ x ∷ []) o)
+    shown_by None e some = absurd (both_ways true some refl)
+    shown_by (Some qs) e some = trim_all Q set (set.way.items ++ x ∷ []) qs (grown_all qs e)
+
+    pub shown_all : (shows_to x set).is_blind ≡ false → AllAre Q (shows_to x set)
+    shown_all some = go (length set.way.items == 128) some
+      where
+        go : (full : Bool) → (shows_by full x set).is_blind ≡ false → AllAre Q (shows_by full x set)
+        go true h = absurd (both_ways _ h (hurried_shows set x))
+        go false h = shown_by (grow_all (length set.way.items) (set.way.items ++ x ∷ []) set.spots.items []) refl h
+
+  -- the end sends: there is a place from which it may
+  pub record HaveGone (now : LinkSet) : Type 0 where
+    pub all : AllAre Q now
+    pub from : Place Stand Frame
+    pub was : P from
+    pub to : Place Stand Frame
+    pub goes : IsIn to (place.walks x from)
+
+  module _ (each : (p m : Place Stand Frame) → P p → IsIn m (place.walks x p) → Q (settle m)) where
+    module _ (qs : List Spot) (e : walk_all Right x set.way.items set.spots.items [] ≡ Some qs) where
+      record GoesTo (q : Spot) : Type 0 where
+        pub from : Spot
+        pub there : IsIn from set.spots.items
+        pub to : Place Stand Frame
+        pub goes : IsIn to (place.walks x (placed set.way.items from))
+        pub same : placed set.way.items q ≡ settle to
+
+      gone_to : (q : Spot) → IsIn q qs → GoesTo q
+      gone_to q is = from ((own_adds set.way.items set.spots.items qs x e).from q is)
+        where
+          from : IsIn q [] ⊎ IsIn (placed set.way.items q) (flat_map (behind_own x set.way.items) set.spots.items) → GoesTo q
+          from (inl h) = absurd h
+          from (inr h) =
+              let g = from_all (behind_own x set.way.items) set.spots.items (placed set.way.items q) h in
+              let m = from_map settle (place.walks x (placed set.way.items g.0)) (placed set.way.items q) g.2 in
+              record { from = g.0; there = g.1; to = m.0; goes = m.1; same = m.2 }
+
+      gone_all : (q : Spot) → IsIn q qs → Q (placed set.way.items q)
+      gone_all q is =
+          let g = gone_to q is in
+          subst Q (sym g.same) (each (placed set.way.items g.from) g.to (are g.from g.there) g.goes)
+
+      pick : (rs : List Spot) → (length rs == 0) ≡ false → (q : Spot) × IsIn q rs
+      pick [] h = absurd (both_ways true h refl)
+      pick (q ∷ rs) h = (q, inl refl)
+
+      have_gone : (length qs == 0) ≡ false → HaveGone (standing qs set)
+      have_gone some =
+          let first = pick qs some in
+          let g = gone_to first.0 first.1 in
+          record {
+            all = trim_all Q set set.way.items qs gone_all;
+            from = placed set.way.items g.from;
+            was = are g.from g.there;
+            to = g.to;
+            goes = g.goes;
+          }
+
+    abbrev stepped : Bool → List Spot → Stepped
+    stepped b qs = if b then unexplained x set else telling Nothing (standing qs set)
+
+    sent_by : (o : Option (List Spot)) → walk_all Right x set.way.items set.spots.items [] ≡ o
+        → (sent_to x o set).set.is_blind ≡ false → (sent_to x o set).told ≡ Nothing → HaveGone (sent_to x o set).set
+    sent_by None e some told = absurd (both_ways true some refl)
+    sent_by (Some qs) e some told = go (length qs == 0) refl told
+      where
+        go : (b : Bool) → (length qs == 0) ≡ b → (stepped b qs).told ≡ Nothing → HaveGone (stepped b qs).set
+        go true k t = absurd (unexplained_told x set t)
+        go false k t = have_gone qs e k
+
+    pub sent_all : (sends_to x set).set.is_blind ≡ false → (sends_to x set).told ≡ Nothing → HaveGone (sends_to x set).set
+    sent_all some told = sent_by (walk_all Right x set.way.items set.spots.items []) refl some told
+
+-- ---- UA
+
+-- a rule is told of it, or nothing is
+pub ua_told : (s : LinkSet) → ((sends_to Ua s).told ≡ Nothing) ⊎ ((stand : Stand) × ((sends_to Ua s).told ≡ Broken stand))
+ua_told s = go (walk_all Right Ua s.way.items s.spots.items [])
+  where
+    go : (o : Option (List Spot)) → ((sent_to Ua o s).told ≡ Nothing) ⊎ ((stand : Stand) × ((sent_to Ua o s).told ≡ Broken stand))
+    go None = inl refl
+    go (Some qs) =
+        cond_both (length qs == 0) (unexplained Ua s) (telling Nothing (standing qs s))
+        (λ (t : Stepped). (t.told ≡ Nothing) ⊎ ((stand : Stand) × (t.told ≡ Broken stand)))
+        (λ _. inr (latest s.spots.items s.way.items, refl)) (λ _. inl refl)
