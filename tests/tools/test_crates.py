@@ -62,6 +62,8 @@ class Lemmas(unittest.TestCase):
         ("x25_given", "x25_packet"): {"AddressLaws"},
         ("x25_given", "x25_wide"): {"AgainLaws", "FacilityLemmas"},
         ("x25_line", "x25_link"): {"EndLemmas"},
+        ("x25_peer", "x25_line"): {"Meetings"},
+        ("x25_world", "x25_line"): {"Meetings", "SessionLines", "SessionsForgotten"},
         ("x25_sim", "x25_world"): {"Established"},
         ("x25_judge", "x25_line"): {"StationLines", "StationPeers", "StationRuns", "StationSays", "StationSends"},
         ("x25_judge", "x25_possible_links"): {"Alike", "Covering", "Covers", "Leads", "Sends", "SetLemmas", "Stands", "StepLemmas"},

@@ -37,7 +37,7 @@ use Rattle.x25_world.specs.laws.WindowGoes.{at_end}
 use Rattle.x25_world.specs.laws.Sessions.{last_session, handed_in}
 use Rattle.x25_world.specs.Healing.{IsDrained, receipt, all_received, firing, AreLinksOf, StopsAtRest, RestShows, PutsNothing, PutsNothingAt, NonePut, HasTries, RestsOrIsOut, Heals, MayHeal, HealsWhereNonePut, DrainsWhereNonePut}
 use Rattle.x25_world.proofs.Known.{IsConfigured, is_configured, links_joined}
-use Rattle.x25_world.proofs.OneLink.{octets_append, octets_sent}
+use Rattle.x25_line.proofs.sessions.SessionLines.{octets_append, octets_sent}
 use Rattle.x25_world.proofs.WorldLemmas.{refusal-swapped}
 use Rattle.x25_world.proofs.sessions.SessionReaches.{both_down, known_sessions}
 use Rattle.x25_world.proofs.sessions.SessionJoined.{SessionsJoined}

@@ -14,26 +14,13 @@ use Rattle.x25_world.specs.World.{World, Event, happens, after, run, established
 use Rattle.x25_world.specs.laws.Claims.{ActsInOctets, AreInOctets, IsUpOnce, link_of}
 use Rattle.x25_world.specs.laws.WindowGoes.{AsksAll, all_at, IsBehindWorld, GoesAlong, both_put, StaysInWindow}
 use Rattle.x25_world.proofs.Known.{IsConfigured}
-use Rattle.x25_world.proofs.OneLink.{AreAlike, acts_alike}
+use Rattle.x25_line.proofs.sessions.SessionsForgotten.{runs_alike}
+use Rattle.x25_world.proofs.OneLink.{IsLike, AreAlike, like_lasts}
 use Rattle.x25_world.proofs.sessions.SessionReaches.{Beginning, both_down, set_up, at_event, SessionsReach, joined_at}
 use Rattle.x25_world.proofs.sessions.SessionJoined.{SessionsJoined}
 use Rattle.x25_world.specs.laws.LawsBelow.{SessionLaws}
 use Rattle.x25_world.proofs.sessions.SessionRuns.{event_joined, established_joined, set_up_alike, down_at_none, not_set_up}
 use Rattle.x25_world.proofs.SetUpOnce.{ups_are_begun, not_anew}
-
--- ---- links with sessions and without go on alike
-
-alike_swapped : (v : Sessions) (s : line.Stations) → AreAlike v s → AreAlike (links.swapped v) (line.swapped s)
-alike_swapped v s h = record { near = h.far; far = h.near; out = h.back; back = h.out }
-
-event_alike : (c d : LinkSettings) (e : line.Event) (v : Sessions) (s : line.Stations) → AreAlike v s → AreAlike (links.happens c d e v) (line.happens c d e s)
-event_alike c d (line.Near act) v s h = acts_alike c v s h act
-event_alike c d (line.Far act) v s h =
-    alike_swapped (links.acts d act (links.swapped v)) (line.acts d act (line.swapped s)) (acts_alike d (links.swapped v) (line.swapped s) (alike_swapped v s h) act)
-
-run_alike : (c d : LinkSettings) (es : List line.Event) (v : Sessions) (s : line.Stations) → AreAlike v s → AreAlike (links.run c d es v) (line.run c d es s)
-run_alike c d [] v s h = h
-run_alike c d (e ∷ es) v s h = run_alike c d es (links.happens c d e v) (line.happens c d e s) (event_alike c d e v s h)
 
 run_append : (c d : LinkSettings) (xs ys : List line.Event) (s : line.Stations) → line.run c d (xs ++ ys) s ≡ line.run c d ys (line.run c d xs s)
 run_append c d [] ys s = refl
@@ -156,7 +143,7 @@ module _ (laws : SessionLaws) (goes : MachineGoesAlong) (before : OnceStaysOnce)
       let all = run_append c d past es line.start in
       let on : AreAlike n.joined.links (links_by (past ++ es)) =
       subst (λ (v : Sessions). AreAlike v (links_by (past ++ es))) n.run
-      (subst (λ (s : line.Stations). AreAlike (links.run c d es h.links) s) (sym all) (run_alike c d es h.links (links_by past) alike)) in
+      (subst (λ (s : line.Stations). AreAlike (links.run c d es h.links) s) (sym all) (runs_alike IsLike IsLike ⊥ like_lasts like_lasts c d es h.links (links_by past) alike)) in
       let r = rest events (after w (happens cfg w e)) n.joined (past ++ es) on octets.1 is in
       record {
         joined = r.joined;

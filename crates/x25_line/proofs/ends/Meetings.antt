@@ -1,7 +1,30 @@
 -- Which sessions meet: one to one, and in order at both ends; and the same as the other end has it.
-use Rattle.std.proofs.Common.{◌≡◌, ◌≤◌, ◌<◌, ℕ, List, [], ◌∷◌, ◌⊎◌, inl, inr, map, refl, ap, arith}
+use Rattle.std.proofs.Common.{◌≡◌, ◌≤◌, ◌<◌, ℕ, List, [], ◌∷◌, ◌⊎◌, inl, inr, map, refl, ap, ◌∙◌, arith}
 use Rattle.x25_line.specs.laws.Sessions.{Meeting, turned}
-use Rattle.x25_line.specs.laws.SessionClaims.{AllMet, SomeMet, IsAbove, InStep}
+use Rattle.x25_line.specs.laws.SessionClaims.{AllMet, SomeMet, IsNoEarlier, IsAbove, InStep}
+
+-- ---- of all that met, and of some
+
+pub all_map : (P Q : Meeting → Type 0) → ((m : Meeting) → P m → Q m) → (ms : List Meeting) → AllMet P ms → AllMet Q ms
+all_map P Q f [] h = tt
+all_map P Q f (m ∷ ms) h = (f m h.0, all_map P Q f ms h.1)
+
+pub all_some : (P Q : Meeting → Type 0) (R : Type 0) → ((m : Meeting) → P m → Q m → R) → (ms : List Meeting) → AllMet P ms → SomeMet Q ms → R
+all_some P Q R f [] h g = absurd g
+all_some P Q R f (m ∷ ms) h g = elim g [ inl here ↦ f m h.0 here | inr there ↦ all_some P Q R f ms h.1 there ]
+
+no_earlier_trans : (a b c : Meeting) → IsNoEarlier a b → IsNoEarlier b c → IsNoEarlier a c
+no_earlier_trans a b c (inl same) (inl again) = inl (again.0 ∙ same.0, again.1 ∙ same.1)
+no_earlier_trans a b c (inl same) (inr less) = inr (omega (arith, same.0, less.0), omega (arith, same.1, less.1))
+no_earlier_trans a b c (inr less) (inl same) = inr (omega (arith, same.0, less.0), omega (arith, same.1, less.1))
+no_earlier_trans a b c (inr less) (inr more) = inr (omega (arith, less.0, more.0), omega (arith, less.1, more.1))
+
+-- all that met before are the same two sessions or earlier ones
+pub all_no_earlier : (m : Meeting) (ms : List Meeting) → InStep (m ∷ ms) → AllMet (IsNoEarlier m) ms
+all_no_earlier m [] h = tt
+all_no_earlier m (n ∷ ms) h = (h.0, all_map (IsNoEarlier n) (IsNoEarlier m) (λ (x : Meeting) before. no_earlier_trans m n x h.0 before) ms (all_no_earlier n ms h.1))
+
+-- ---- the two that stand
 
 -- it is the two sessions that stand, or an earlier one of each end
 abbrev pub IsPaired : ℕ → ℕ → Meeting → Type 0

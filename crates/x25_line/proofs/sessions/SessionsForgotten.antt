@@ -66,13 +66,13 @@ pub record Alike (E F : SessionEnd → StationEnd → Type 0) (S : Type 0) (w : 
 
 -- ---- the line
 
-octets_removed : (es : List Entry) (i : ℕ) → remove (octets_of es) i ≡ octets_of (remove es i)
+pub octets_removed : (es : List Entry) (i : ℕ) → remove (octets_of es) i ≡ octets_of (remove es i)
 octets_removed [] zero = refl
 octets_removed [] (suc i) = refl
 octets_removed (e ∷ es) zero = refl
 octets_removed (e ∷ es) (suc i) = ap (λ (os : List (List ℕ)). e.octets ∷ os) (octets_removed es i)
 
-octets_replaced : (es : List Entry) (i : ℕ) (octets : List ℕ) → one.replaced (octets_of es) i octets ≡ octets_of (replaced es i octets)
+pub octets_replaced : (es : List Entry) (i : ℕ) (octets : List ℕ) → one.replaced (octets_of es) i octets ≡ octets_of (replaced es i octets)
 octets_replaced [] i octets = refl
 octets_replaced (e ∷ es) zero octets = refl
 octets_replaced (e ∷ es) (suc i) octets = ap (λ (os : List (List ℕ)). e.octets ∷ os) (octets_replaced es i octets)
@@ -147,7 +147,7 @@ module _ (E F : SessionEnd → StationEnd → Type 0) (S : Type 0) (lasts : Last
 
 -- ---- runs
 
-turned_alike : (E F : SessionEnd → StationEnd → Type 0) (S : Type 0) (w : Sessions) (v : Stations) → Alike E F S w v → Alike F E S (swapped w) (one.swapped v)
+pub turned_alike : (E F : SessionEnd → StationEnd → Type 0) (S : Type 0) (w : Sessions) (v : Stations) → Alike E F S w v → Alike F E S (swapped w) (one.swapped v)
 turned_alike E F S w v h = record { near = h.far; far = h.near; out = h.back; back = h.out; sent = h.sent }
 
 module _ (E F : SessionEnd → StationEnd → Type 0) (S : Type 0) (here : Lasts E) (there : Lasts F) where

@@ -23,7 +23,8 @@ use Rattle.x25_peer.specs.laws.BesideSessions.{ReadAs, Own, BesideSessions, thei
 use Rattle.x25_peer.specs.laws.BesideSessions as beside
 use Rattle.x25_peer.specs.laws.BesideSessionClaims.{WithAnyPeer, MeetInStep, IsInOrder, MetAreInOrder, UnmetAreToldNothing, EachMeetsLatest, UpIsLatest, IdleHasArrived, FindsNoError}
 use Rattle.x25_peer.proofs.ReadLemmas.{none_left}
-use Rattle.x25_peer.proofs.sessions.Meetings.{CanMeet, all_map, all_some, all_both, met_can_meet, could_meet_some}
+use Rattle.x25_line.proofs.ends.Meetings.{all_map, all_some}
+use Rattle.x25_peer.proofs.sessions.Meetings.{CanMeet, all_both, met_can_meet, could_meet_some}
 use Rattle.x25_peer.proofs.sessions.SessionLinks.{links_with}
 use Rattle.x25_peer.proofs.sessions.Standing.{Below, Known, Stands}
 use Rattle.x25_peer.proofs.sessions.StationActs.{asks, asks_with, connects, disconnects, probes, relinks, fires, abandons_it, comes}

@@ -24,7 +24,8 @@ use Rattle.x25_station.specs.laws.ReadLaw.{IsReachedByOctets, PutsBesidePeersAre
 use Rattle.x25_peer.specs.laws.BesideSessions.{ReadAs}
 use Rattle.x25_peer.specs.laws.BesideSessions.{Own, Theirs, BesideSessions, in_session}
 use Rattle.x25_peer.proofs.ReadLemmas.{ReadFirst, read_first, first_front, first_length}
-use Rattle.x25_peer.proofs.sessions.Meetings.{CanMeet, true_false, all_some, all_both}
+use Rattle.x25_line.proofs.ends.Meetings.{all_some}
+use Rattle.x25_peer.proofs.sessions.Meetings.{CanMeet, true_false, all_both}
 use Rattle.x25_peer.proofs.sessions.SessionLinks.{links_with, LinkReached}
 
 pub record Below : Type 0 where

@@ -46,7 +46,8 @@ use Rattle.x25_peer.specs.laws.BesideSessions.{ReadAs}
 use Rattle.x25_peer.specs.laws.BesideSessions.{Theirs, BesideSessions, stepped, followed, heard_here, links_of}
 use Rattle.x25_peer.proofs.LayerPart.{AllStay, pulls_stay, moves_reached}
 use Rattle.x25_peer.proofs.ReadLemmas.{Next, next_read, readable_behind, timer_packet}
-use Rattle.x25_peer.proofs.sessions.Meetings.{CanMeet, could_meet, all_some, all_both, met_can_meet, could_meet_some}
+use Rattle.x25_line.proofs.ends.Meetings.{all_some}
+use Rattle.x25_peer.proofs.sessions.Meetings.{CanMeet, could_meet, all_both, met_can_meet, could_meet_some}
 use Rattle.x25_peer.proofs.sessions.SessionLinks.{links_with, LinkReached, extended_none, by_lists, link_steps, two_link_steps}
 use Rattle.x25_peer.proofs.sessions.SessionLayers.{alone_at, AreAsked, pulls_asked, asked_reached, asked_tells}
 use Rattle.x25_peer.proofs.sessions.Standing.{Below, Known, PairReached, downs_of, ups_of, Stands, both_begin, heard_few, way, way_more}

@@ -1,8 +1,10 @@
 -- Of two layers in order: as many messages as an end's moves confirm of a stretch, of those whose confirmation was asked, the other end has handed up.
-use Rattle.std.proofs.Common.{◌≡◌, ◌⊎◌, inl, inr, ℕ, zero, suc, ◌+◌, ◌-◌, ◌≤◌, List, [], ◌∷◌, ◌++◌, length, take, drop, Bool, true, false, ◌==◌, ◌&&◌, if◌then◌else◌, refl, sym, ap, subst, ◌∙◌, arith, append_assoc}
+use Rattle.std.proofs.Common.{◌≡◌, ◌⊎◌, inl, inr, ℕ, zero, suc, ◌+◌, ◌-◌, ◌≤◌, List, [], ◌∷◌, ◌++◌, length, take, drop, Bool, true, false, ◌==◌, if◌then◌else◌, refl, sym, ap, subst, ◌∙◌, arith, append_assoc}
 use Rattle.std.proofs.lemmas.Bool.{eqb-true}
 use Rattle.std.proofs.lemmas.List.{take-append-drop, drop-append-le}
+use Rattle.x25_bits.specs.declared.role.Role.{Role}
 use Rattle.x25_bits.specs.declared.role.Role.TheVariants.{Dte, Dce}
+use Rattle.x25_link.specs.Hearing.{other}
 use Rattle.x25_packet.specs.Packet.{PlainPacket}
 use Rattle.x25_circuit.specs.declared.message.Message.{Message}
 use Rattle.x25_circuit.specs.Message.{Piece, More, Last, Partial, no_part, joined, carried_from, carried, asked_in}
@@ -16,15 +18,16 @@ use Rattle.x25_layer.specs.laws.Acknowledged.{AcknowledgedAreUp, AcknowledgedAre
 use Rattle.x25_layer.specs.laws.Transcript.{Handed, nothing_handed, Entry, says, under, messages_in, name_of}
 use Rattle.x25_layer.specs.laws.TwoLayers as layer
 use Rattle.x25_layer.specs.laws.TwoLayers.{settings_of}
-use Rattle.x25_layer.specs.laws.Apart.{OwnMove, Takes, Ends, ApartEvent, own_moves, apart_happens, apart_run, apart_start, near_moves, far_moves, IsInOrder, AreInOrder, AlwaysApart}
+use Rattle.x25_layer.specs.laws.Apart.{OwnMove, Takes, Ends, ApartEvent, own_moves, apart_happens, apart_run, apart_start, IsInOrder, AreInOrder, AlwaysApart}
 use Rattle.x25_layer.specs.laws.ApartLaw.{EventsRunOn}
 use Rattle.x25_station.specs.Confirming.{goes_on}
 use Rattle.x25_world.specs.laws.ConfirmedClaims.{asked_among}
 use Rattle.x25_world.proofs.Known.{true_false, both_true}
 use Rattle.x25_world.proofs.Continues.{Begins, Same, Hears}
 use Rattle.x25_world.proofs.EndContinues.{end_heard, end_called, end_enters}
-use Rattle.x25_world.proofs.sessions.SessionTrace.{TakesNone}
+use Rattle.x25_world.proofs.sessions.SessionTrace.{TakesNone, moves_of}
 use Rattle.x25_world.proofs.sessions.SessionCounts.{counted_at, counted_by, counted_in}
+use Rattle.x25_world.proofs.sessions.SessionKnown.{here_in}
 
 -- ---- how many asked
 
@@ -316,95 +319,72 @@ module _ (long_data : Bool) (channels : Ranges) (behind : EventsRunOn) (law : Al
   abbrev happened : Ends → ApartEvent → Ends
   happened ends e = apart_happens long_data channels ends e
 
-  abbrev near_settings : LayerSettings
-  near_settings = settings_of Dte long_data channels
-
-  abbrev far_settings : LayerSettings
-  far_settings = settings_of Dce long_data channels
+  abbrev settings : Role → LayerSettings
+  settings end = settings_of end long_data channels
 
   -- by one event more
   one_more : (done : List ApartEvent) (e : ApartEvent) → AreInOrder long_data channels done start → IsInOrder (then_run done) e
       → AreInOrder long_data channels (done ++ e ∷ []) start × (then_run (done ++ e ∷ []) ≡ happened (then_run done) e)
   one_more done e order next = (let r = behind long_data channels done (e ∷ []) start in (r.order order (next, tt), r.run))
 
-  known_near : (done : List ApartEvent) → AreInOrder long_data channels done start → KnownAt k (then_run done).near (then_run done).far
-  known_near done order = (law done order).near k
+  -- of an end and the other
+  abbrev KnownIn : Role → Ends → Type 0
+  KnownIn end ends = KnownAt k (here_in end ends) (here_in (other end) ends)
 
-  known_far : (done : List ApartEvent) → AreInOrder long_data channels done start → KnownAt k (then_run done).far (then_run done).near
-  known_far done order = (law done order).far k
+  abbrev BoundedIn : Role → ℕ → Ends → Type 0
+  BoundedIn end n ends = Bounded k name n (here_in end ends) (here_in (other end) ends)
 
-  near_event : (ends : Ends) (e : ApartEvent) (n : ℕ) → KnownAt k (happened ends e).near (happened ends e).far → Bounded k name n ends.near ends.far
-      → Bounded k name (n + (if e.first then counted_by near_settings k name ends.near e.what else 0)) (happened ends e).near (happened ends e).far
-  near_event ends e n known h = by e.first known
+  known_in : (end : Role) (done : List ApartEvent) → AreInOrder long_data channels done start → KnownIn end (then_run done)
+  known_in Dte done order = (law done order).near k
+  known_in Dce done order = (law done order).far k
+
+  -- what an event confirms to an end
+  abbrev added : Role → Ends → ApartEvent → ℕ
+  added Dte ends e = if e.first then counted_by (settings Dte) k name ends.near e.what else 0
+  added Dce ends e = if e.first then 0 else counted_by (settings Dce) k name ends.far e.what
+
+  after_event : (end : Role) (ends : Ends) (e : ApartEvent) (n : ℕ) → KnownIn end (happened ends e) → BoundedIn end n ends → BoundedIn end (n + added end ends e) (happened ends e)
+  after_event end ends e n known h = by end e.first known h
     where
-      by : (b : Bool) → (let v = happened ends (record { first = b; what = e.what }) in KnownAt k v.near v.far
-          → Bounded k name (n + (if b then counted_by near_settings k name ends.near e.what else 0)) v.near v.far)
-      by true known = own_bounded near_settings k name n ends.near ends.far h e.what known
-      by false known = subst (λ (m : ℕ). Bounded k name m ends.near (own_moves far_settings ends.far e.what)) (let is : n ≡ n + 0 = omega arith in is) (other_bounded near_settings k name n ends.near ends.far h far_settings e.what)
+      no_more : n ≡ n + 0
+      no_more = omega arith
 
-  far_event : (ends : Ends) (e : ApartEvent) (n : ℕ) → KnownAt k (happened ends e).far (happened ends e).near → Bounded k name n ends.far ends.near
-      → Bounded k name (n + (if e.first then 0 else counted_by far_settings k name ends.far e.what)) (happened ends e).far (happened ends e).near
-  far_event ends e n known h = by e.first known
+      by : (end : Role) (b : Bool) → (let d : ApartEvent = record { first = b; what = e.what } in KnownIn end (happened ends d) → BoundedIn end n ends → BoundedIn end (n + added end ends d) (happened ends d))
+      by Dte true known h = own_bounded (settings Dte) k name n ends.near ends.far h e.what known
+      by Dce false known h = own_bounded (settings Dce) k name n ends.far ends.near h e.what known
+      by Dte false known h = subst (λ (m : ℕ). Bounded k name m ends.near (own_moves (settings Dce) ends.far e.what)) no_more (other_bounded (settings Dte) k name n ends.near ends.far h (settings Dce) e.what)
+      by Dce true known h = subst (λ (m : ℕ). Bounded k name m ends.far (own_moves (settings Dte) ends.near e.what)) no_more (other_bounded (settings Dce) k name n ends.far ends.near h (settings Dte) e.what)
+
+  counts : (end : Role) (ends : Ends) (e : ApartEvent) (rest : List ApartEvent)
+      → counted_in (settings end) k name (moves_of end (e ∷ rest)) (here_in end ends) ≡ added end ends e + counted_in (settings end) k name (moves_of end rest) (here_in end (happened ends e))
+  counts end ends e rest = by end e.first
     where
-      by : (b : Bool) → (let v = happened ends (record { first = b; what = e.what }) in KnownAt k v.far v.near
-          → Bounded k name (n + (if b then 0 else counted_by far_settings k name ends.far e.what)) v.far v.near)
-      by false known = own_bounded far_settings k name n ends.far ends.near h e.what known
-      by true known = subst (λ (m : ℕ). Bounded k name m ends.far (own_moves near_settings ends.near e.what)) (let is : n ≡ n + 0 = omega arith in is) (other_bounded far_settings k name n ends.far ends.near h near_settings e.what)
+      by : (end : Role) (b : Bool) → (let d : ApartEvent = record { first = b; what = e.what } in
+          counted_in (settings end) k name (moves_of end (d ∷ rest)) (here_in end ends) ≡ added end ends d + counted_in (settings end) k name (moves_of end rest) (here_in end (happened ends d)))
+      by Dte true = refl
+      by Dce false = refl
+      by Dte false = omega arith
+      by Dce true = omega arith
 
-  near_count : (ends : Ends) (e : ApartEvent) (rest : List ApartEvent) → counted_in near_settings k name (near_moves (e ∷ rest)) ends.near
-      ≡ (if e.first then counted_by near_settings k name ends.near e.what else 0) + counted_in near_settings k name (near_moves rest) (happened ends e).near
-  near_count ends e rest = by e.first
-    where
-      by : (b : Bool) → counted_in near_settings k name (if b then e.what ∷ near_moves rest else near_moves rest) ends.near
-          ≡ (if b then counted_by near_settings k name ends.near e.what else 0) + counted_in near_settings k name (near_moves rest) (happened ends (record { first = b; what = e.what })).near
-      by true = refl
-      by false = omega arith
+  -- what the events to come confirm, behind those that were
+  abbrev Confirms : Role → ℕ → List ApartEvent → Ends → Type 0
+  Confirms end n rest ends = n + counted_in (settings end) k name (moves_of end rest) (here_in end ends) ≤ up_of k name (here_in (other end) (apart_run long_data channels rest ends))
 
-  far_count : (ends : Ends) (e : ApartEvent) (rest : List ApartEvent) → counted_in far_settings k name (far_moves (e ∷ rest)) ends.far
-      ≡ (if e.first then 0 else counted_by far_settings k name ends.far e.what) + counted_in far_settings k name (far_moves rest) (happened ends e).far
-  far_count ends e rest = by e.first
-    where
-      by : (b : Bool) → counted_in far_settings k name (if b then far_moves rest else e.what ∷ far_moves rest) ends.far
-          ≡ (if b then 0 else counted_by far_settings k name ends.far e.what) + counted_in far_settings k name (far_moves rest) (happened ends (record { first = b; what = e.what })).far
-      by true = omega arith
-      by false = refl
-
-  near_run : (done rest : List ApartEvent) (n : ℕ) → AreInOrder long_data channels done start → AreInOrder long_data channels rest (then_run done) → Bounded k name n (then_run done).near (then_run done).far
-      → (let v = apart_run long_data channels rest (then_run done) in n + counted_in near_settings k name (near_moves rest) (then_run done).near ≤ up_of k name v.far)
-  near_run done [] n order next h = (let few = h.up in omega (arith, few))
-  near_run done (e ∷ rest) n order next h =
+  run_confirms : (end : Role) (done rest : List ApartEvent) (n : ℕ) → AreInOrder long_data channels done start → AreInOrder long_data channels rest (then_run done) → BoundedIn end n (then_run done) → Confirms end n rest (then_run done)
+  run_confirms Dte done [] n order next h = (let few = h.up in omega (arith, few))
+  run_confirms Dce done [] n order next h = (let few = h.up in omega (arith, few))
+  run_confirms end done (e ∷ rest) n order next h =
       let more = one_more done e order next.0 in
-      let known : KnownAt k (happened (then_run done) e).near (happened (then_run done) e).far = subst (λ (v : Ends). KnownAt k v.near v.far) more.1 (known_near (done ++ e ∷ []) more.0) in
-      let m : ℕ = n + (if e.first then counted_by near_settings k name (then_run done).near e.what else 0) in
-      let now : Bounded k name m (happened (then_run done) e).near (happened (then_run done) e).far = near_event (then_run done) e n known h in
-      let others : (let v = apart_run long_data channels rest (happened (then_run done) e) in m + counted_in near_settings k name (near_moves rest) (happened (then_run done) e).near ≤ up_of k name v.far) =
-      subst (λ (ends : Ends). AreInOrder long_data channels rest ends → Bounded k name m ends.near ends.far
-      → (let v = apart_run long_data channels rest ends in m + counted_in near_settings k name (near_moves rest) ends.near ≤ up_of k name v.far)) more.1
-      (near_run (done ++ e ∷ []) rest m more.0) next.1 now in
-      let count = near_count (then_run done) e rest in
-      omega (arith, others, count)
-
-  far_run : (done rest : List ApartEvent) (n : ℕ) → AreInOrder long_data channels done start → AreInOrder long_data channels rest (then_run done) → Bounded k name n (then_run done).far (then_run done).near
-      → (let v = apart_run long_data channels rest (then_run done) in n + counted_in far_settings k name (far_moves rest) (then_run done).far ≤ up_of k name v.near)
-  far_run done [] n order next h = (let few = h.up in omega (arith, few))
-  far_run done (e ∷ rest) n order next h =
-      let more = one_more done e order next.0 in
-      let known : KnownAt k (happened (then_run done) e).far (happened (then_run done) e).near = subst (λ (v : Ends). KnownAt k v.far v.near) more.1 (known_far (done ++ e ∷ []) more.0) in
-      let m : ℕ = n + (if e.first then 0 else counted_by far_settings k name (then_run done).far e.what) in
-      let now : Bounded k name m (happened (then_run done) e).far (happened (then_run done) e).near = far_event (then_run done) e n known h in
-      let others : (let v = apart_run long_data channels rest (happened (then_run done) e) in m + counted_in far_settings k name (far_moves rest) (happened (then_run done) e).far ≤ up_of k name v.near) =
-      subst (λ (ends : Ends). AreInOrder long_data channels rest ends → Bounded k name m ends.far ends.near
-      → (let v = apart_run long_data channels rest ends in m + counted_in far_settings k name (far_moves rest) ends.far ≤ up_of k name v.near)) more.1
-      (far_run (done ++ e ∷ []) rest m more.0) next.1 now in
-      let count = far_count (then_run done) e rest in
-      omega (arith, others, count)
+      let known : KnownIn end (happened (then_run done) e) = subst (KnownIn end) more.1 (known_in end (done ++ e ∷ []) more.0) in
+      let m : ℕ = n + added end (then_run done) e in
+      let others : Confirms end m rest (happened (then_run done) e) =
+      subst (λ (ends : Ends). AreInOrder long_data channels rest ends → BoundedIn end m ends → Confirms end m rest ends) more.1 (run_confirms end (done ++ e ∷ []) rest m more.0) next.1 (after_event end (then_run done) e n known h) in
+      let sum = counts end (then_run done) e rest in
+      omega (arith, others, sum)
 
   -- before anything happened
   nothing_yet : (e f : layer.End) → Bounded k name 0 e f
   nothing_yet e f = record { opened = λ is named. omega arith; down = omega arith; up = omega arith }
 
-  pub near_confirms : (events : List ApartEvent) → AreInOrder long_data channels events start → counted_in near_settings k name (near_moves events) start.near ≤ up_of k name (then_run events).far
-  near_confirms events order = let all = near_run [] events 0 tt order (nothing_yet start.near start.far) in omega (arith, all)
-
-  pub far_confirms : (events : List ApartEvent) → AreInOrder long_data channels events start → counted_in far_settings k name (far_moves events) start.far ≤ up_of k name (then_run events).near
-  far_confirms events order = let all = far_run [] events 0 tt order (nothing_yet start.far start.near) in omega (arith, all)
+  pub confirms : (end : Role) (events : List ApartEvent) → AreInOrder long_data channels events start → counted_in (settings end) k name (moves_of end events) (here_in end start) ≤ up_of k name (here_in (other end) (then_run events))
+  confirms end events order = let all = run_confirms end [] events 0 tt order (nothing_yet (here_in end start) (here_in (other end) start)) in omega (arith, all)

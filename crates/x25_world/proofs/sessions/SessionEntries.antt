@@ -24,7 +24,7 @@ use Rattle.x25_station.specs.Beside.{PlainBeside, nothing, fields, diagnosed, be
 use Rattle.x25_station.specs.declared.config.Cfg.{Cfg}
 use Rattle.x25_station.specs.Config.{Settings, settings_from, layer_settings}
 use Rattle.x25_station.specs.Confirming.{confirmed}
-use Rattle.x25_station.specs.Entry.{StationEntry, of_channel, restart_asked, connect_asked, disconnect_asked, relink_asked, link_up, link_down, was_restarted, restart_confirmed, at_fault, came_beside, was_diagnosed, was_confirmed, may_bring, bringing, entries_beside, entries_behind, of_channels, station_told, entries_noted, notice_of, layer_notices}
+use Rattle.x25_station.specs.Entry.{StationEntry, of_channel, restart_asked, connect_asked, disconnect_asked, relink_asked, link_up, link_down, was_restarted, restart_confirmed, at_fault, came_beside, was_diagnosed, was_confirmed, may_bring, bringing, entries_beside, entries_behind, of_channels, station_told, entries_noted, notice_of, layer_entries, layer_notices}
 use Rattle.x25_station.specs.Step.{entries_of_outcome, layer_answer, confirmed_by, entries_of_packet, entries_heard, follows}
 use Rattle.x25_world.specs.World.{AtEnd, entered}
 use Rattle.x25_world.specs.laws.BesideClaims.{Came, came_in}
@@ -206,6 +206,51 @@ elsewhere_met n here there (e ∷ entries) plain out =
     at_one (came_beside channel facilities user) h = refl
     at_one (was_diagnosed diagnostic) h = refl
     at_one (was_confirmed channel name count) h = refl
+
+-- ---- entries of the link and of its commands
+
+abbrev IsMute : StationEntry → Type 0
+IsMute connect_asked = Unit {0}
+IsMute disconnect_asked = Unit {0}
+IsMute relink_asked = Unit {0}
+IsMute link_up = Unit {0}
+IsMute (link_down reason) = Unit {0}
+IsMute entry = ⊥
+
+abbrev pub AreMute : List StationEntry → Type 0
+AreMute [] = Unit {0}
+AreMute (e ∷ entries) = IsMute e × AreMute entries
+
+-- nothing of the layer is told
+pub record TellNothing (entries : List StationEntry) : Type 0 where
+  pub entered : layer_entries entries ≡ []
+  pub told : layer_notices entries ≡ []
+  pub beside : came_in entries ≡ []
+  pub confirmed : CountNone entries
+
+pub mute_tell : (entries : List StationEntry) → AreMute entries → TellNothing entries
+mute_tell [] h = record { entered = refl; told = refl; beside = refl; confirmed = λ k name. refl }
+mute_tell (e ∷ entries) h = by e h.0 (mute_tell entries h.1)
+  where
+    none_more : (n : ℕ) → n ≡ 0 → 0 + n ≡ 0
+    none_more n none = omega (arith, none)
+
+    by : (e : StationEntry) → IsMute e → TellNothing entries → TellNothing (e ∷ entries)
+    by connect_asked is t = record { entered = t.entered; told = t.told; beside = t.beside; confirmed = λ k name. none_more _ (t.confirmed k name) }
+    by disconnect_asked is t = record { entered = t.entered; told = t.told; beside = t.beside; confirmed = λ k name. none_more _ (t.confirmed k name) }
+    by relink_asked is t = record { entered = t.entered; told = t.told; beside = t.beside; confirmed = λ k name. none_more _ (t.confirmed k name) }
+    by link_up is t = record { entered = t.entered; told = t.told; beside = t.beside; confirmed = λ k name. none_more _ (t.confirmed k name) }
+    by (link_down reason) is t = record { entered = t.entered; told = t.told; beside = t.beside; confirmed = λ k name. none_more _ (t.confirmed k name) }
+    by e is t = absurd is
+
+-- of these, those of a session
+pub mute_in : (n : ℕ) (p : Progress) (entries : List StationEntry) → AreMute entries → AreMute (session_from n p entries)
+mute_in n p [] h = tt
+mute_in n p (e ∷ entries) h = by (is_in n (after_entry p e)) (mute_in n (after_entry p e) entries h.1)
+  where
+    by : (b : Bool) → AreMute (session_from n (after_entry p e) entries) → AreMute (entry_if b e ++ session_from n (after_entry p e) entries)
+    by true rest = (h.0, rest)
+    by false rest = rest
 
 -- ---- those of a step that notes nothing are such
 

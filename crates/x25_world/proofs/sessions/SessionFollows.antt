@@ -21,20 +21,17 @@ use Rattle.x25_layer.specs.laws.TwoLayers.{started}
 use Rattle.x25_layer.specs.laws.Apart.{OwnMove, own_run}
 use Rattle.x25_station.specs.declared.config.Cfg.{Cfg}
 use Rattle.x25_station.specs.Config.{settings_from, link_settings, layer_settings}
-use Rattle.x25_station.specs.Entry.{StationEntry, connect_asked, disconnect_asked, relink_asked, link_up, link_down, entries_noted, layer_entries, layer_notices}
+use Rattle.x25_station.specs.Entry.{StationEntry, connect_asked, disconnect_asked, relink_asked, link_up, link_down, entries_noted}
 use Rattle.x25_station.specs.Station.{all_put, view_of}
 use Rattle.x25_station.specs.Step.{Step, layer_at, follows, led_by}
 use Rattle.x25_station.specs.laws.KeepLaw.{IsKept}
 use Rattle.x25_station.specs.laws.JoinLaw.{station_with}
 use Rattle.x25_station.specs.laws.ReadLaw.{AreReadable}
 use Rattle.x25_world.specs.World.{World, after_step}
-use Rattle.x25_world.specs.laws.BesideClaims.{came_in}
-use Rattle.x25_world.specs.laws.ConfirmedClaims.{confirmed_in}
 use Rattle.x25_world.specs.laws.Claims.{link_of}
 use Rattle.x25_world.specs.laws.Sessions.{Progress, after_entries, session_from, is_in, entry_if}
 use Rattle.x25_world.proofs.Known.{IsConfigured, true_false}
 use Rattle.x25_world.proofs.sessions.SessionTrace.{layer_of, own, TakeNothing}
-use Rattle.x25_world.proofs.sessions.SessionCounts.{CountNone}
 use Rattle.x25_world.proofs.sessions.SessionReaches.{Beginning, MayAsk, SessionsReach, known_sessions}
 use Rattle.x25_world.proofs.sessions.SessionBeside.{spelled_bring}
 use Rattle.x25_world.proofs.sessions.SessionJoined.{HasMet, PairsAreInOrder, SessionsJoined, Goes, gave_none}
@@ -42,6 +39,7 @@ use Rattle.x25_world.specs.laws.LawsBelow.{SessionLaws}
 use Rattle.x25_world.proofs.sessions.SessionKnown.{nothing_in_order, own_readable}
 use Rattle.x25_world.proofs.sessions.SessionLinks.{SessionGoes, spelled, puts_spelled, spelled_back, back_read, back_octets, puts_go, PutsRead, puts_up}
 use Rattle.x25_world.proofs.sessions.SessionGoes.{IsSilent, not_in, rests, begins_session}
+use Rattle.x25_world.proofs.sessions.SessionEntries.{AreMute}
 
 -- the command that a step is of, if it is one of the link
 pub data Lead : Type 0 where
@@ -59,57 +57,29 @@ lead_of relink = relink_asked ∷ []
 
 -- ---- entries that aren't the layer's
 
-asked_entries : (b : Bool) (e : StationEntry) → layer_entries (e ∷ []) ≡ [] → layer_entries (entry_if b e ++ []) ≡ []
-asked_entries true e none = none
-asked_entries false e none = refl
-
-asked_told : (b : Bool) (e : StationEntry) → layer_notices (e ∷ []) ≡ [] → layer_notices (entry_if b e ++ []) ≡ []
-asked_told true e none = none
-asked_told false e none = refl
-
-asked_beside : (b : Bool) (e : StationEntry) → came_in (e ∷ []) ≡ [] → came_in (entry_if b e ++ []) ≡ []
-asked_beside true e none = none
-asked_beside false e none = refl
-
-none_and_none : 0 + 0 ≡ 0
-none_and_none = refl
-
-asked_confirmed : (b : Bool) (e : StationEntry) → CountNone (e ∷ []) → CountNone (entry_if b e ++ [])
-asked_confirmed true e none = none
-asked_confirmed false e none = λ k name. refl
-
 -- where one of them alone is of a session, which is that of r
 asked_silent : (p r : Progress) (still : Bool) (e : StationEntry) (es : List StationEntry) → after_entries p es ≡ record { begun = r.begun; stands = still } → ((n : ℕ) → session_from n p es ≡ entry_if (is_in n r) e ++ [])
-    → layer_entries (e ∷ []) ≡ [] → layer_notices (e ∷ []) ≡ [] → came_in (e ∷ []) ≡ [] → CountNone (e ∷ []) → layer_entries es ≡ [] → layer_notices es ≡ [] → IsSilent p (record { begun = r.begun; stands = still }) es
-asked_silent p r still e es progress is none untold alone uncounted all told = record {
-  progress = progress;
-  entries = λ n. ap layer_entries (is n) ∙ asked_entries (is_in n r) e none;
-  told = λ n. ap layer_notices (is n) ∙ asked_told (is_in n r) e untold;
-  beside = λ n. ap came_in (is n) ∙ asked_beside (is_in n r) e alone;
-  confirmed = λ n k name. ap (confirmed_in k name) (is n) ∙ asked_confirmed (is_in n r) e uncounted k name;
-  all_entries = all;
-  all_told = told;
-  later = λ n differs. is n ∙ ap (λ (b : Bool). entry_if b e ++ []) (not_in n r differs);
-}
+    → AreMute es → IsSilent p (record { begun = r.begun; stands = still }) es
+asked_silent p r still e es progress is mute = record { progress = progress; mute = mute; later = λ n differs. is n ∙ ap (λ (b : Bool). entry_if b e ++ []) (not_in n r differs) }
 
 -- where nothing is noted
 quiet_silent : (lead : Lead) (p : Progress) (still : Bool) → p.stands ≡ still → IsSilent p (record { begun = p.begun; stands = still }) (lead_of lead ++ [])
-quiet_silent no_command p still same = record { progress = ap (λ (b : Bool). record { begun = p.begun; stands = b }) same; entries = λ n. refl; told = λ n. refl; beside = λ n. refl; confirmed = λ n k name. refl; all_entries = refl; all_told = refl; later = λ n differs. refl }
-quiet_silent connect p still same = asked_silent p p still connect_asked (connect_asked ∷ []) (ap (λ (b : Bool). record { begun = p.begun; stands = b }) same) (λ n. refl) refl refl refl (λ k name. none_and_none) refl refl
-quiet_silent disconnect p still same = asked_silent p p still disconnect_asked (disconnect_asked ∷ []) (ap (λ (b : Bool). record { begun = p.begun; stands = b }) same) (λ n. refl) refl refl refl (λ k name. none_and_none) refl refl
-quiet_silent relink p still same = asked_silent p p still relink_asked (relink_asked ∷ []) (ap (λ (b : Bool). record { begun = p.begun; stands = b }) same) (λ n. refl) refl refl refl (λ k name. none_and_none) refl refl
+quiet_silent no_command p still same = record { progress = ap (λ (b : Bool). record { begun = p.begun; stands = b }) same; mute = tt; later = λ n differs. refl }
+quiet_silent connect p still same = asked_silent p p still connect_asked (connect_asked ∷ []) (ap (λ (b : Bool). record { begun = p.begun; stands = b }) same) (λ n. refl) (tt, tt)
+quiet_silent disconnect p still same = asked_silent p p still disconnect_asked (disconnect_asked ∷ []) (ap (λ (b : Bool). record { begun = p.begun; stands = b }) same) (λ n. refl) (tt, tt)
+quiet_silent relink p still same = asked_silent p p still relink_asked (relink_asked ∷ []) (ap (λ (b : Bool). record { begun = p.begun; stands = b }) same) (λ n. refl) (tt, tt)
 
 -- LinkDown alone
 down_silent : (lead : Lead) (p : Progress) (reason : Reason) → IsSilent p (record { begun = p.begun; stands = false }) (lead_of lead ++ link_down reason ∷ [])
-down_silent no_command p reason = record { progress = refl; entries = λ n. refl; told = λ n. refl; beside = λ n. refl; confirmed = λ n k name. refl; all_entries = refl; all_told = refl; later = λ n differs. refl }
-down_silent connect p reason = asked_silent p p false connect_asked (connect_asked ∷ link_down reason ∷ []) refl (λ n. refl) refl refl refl (λ k name. none_and_none) refl refl
-down_silent disconnect p reason = asked_silent p p false disconnect_asked (disconnect_asked ∷ link_down reason ∷ []) refl (λ n. refl) refl refl refl (λ k name. none_and_none) refl refl
-down_silent relink p reason = asked_silent p p false relink_asked (relink_asked ∷ link_down reason ∷ []) refl (λ n. refl) refl refl refl (λ k name. none_and_none) refl refl
+down_silent no_command p reason = record { progress = refl; mute = (tt, tt); later = λ n differs. refl }
+down_silent connect p reason = asked_silent p p false connect_asked (connect_asked ∷ link_down reason ∷ []) refl (λ n. refl) (tt, (tt, tt))
+down_silent disconnect p reason = asked_silent p p false disconnect_asked (disconnect_asked ∷ link_down reason ∷ []) refl (λ n. refl) (tt, (tt, tt))
+down_silent relink p reason = asked_silent p p false relink_asked (relink_asked ∷ link_down reason ∷ []) refl (λ n. refl) (tt, (tt, tt))
 
 -- LinkUp, after LinkDown or alone
 up_begins : (p : Progress) (down : Option Reason) → IsSilent p (record { begun = suc p.begun; stands = true }) (entries_noted (record { down = down; up = true }))
-up_begins p None = asked_silent p (record { begun = suc p.begun; stands = true }) true link_up (link_up ∷ []) refl (λ n. refl) refl refl refl (λ k name. none_and_none) refl refl
-up_begins p (Some reason) = asked_silent p (record { begun = suc p.begun; stands = true }) true link_up (link_down reason ∷ link_up ∷ []) refl (λ n. refl) refl refl refl (λ k name. none_and_none) refl refl
+up_begins p None = asked_silent p (record { begun = suc p.begun; stands = true }) true link_up (link_up ∷ []) refl (λ n. refl) (tt, tt)
+up_begins p (Some reason) = asked_silent p (record { begun = suc p.begun; stands = true }) true link_up (link_down reason ∷ link_up ∷ []) refl (λ n. refl) (tt, (tt, tt))
 
 -- ---- what is put
 

@@ -32,11 +32,11 @@ use Rattle.x25_world.proofs.Known.{true_false}
 use Rattle.x25_world.proofs.sessions.SessionTrace.{layer_of, Done, moved, own_in, own, own_more, own_same, own_other, own_goes, same_number, other_number, TakeNothing, nothing_append, BringOctets, octets_append}
 use Rattle.x25_world.specs.laws.BesideClaims.{Came, came_in, Gave, IsGiven, AreSomeOf}
 use Rattle.x25_world.specs.laws.ConfirmedClaims.{confirmed_in}
-use Rattle.x25_world.proofs.sessions.SessionCounts.{counted_in, IsCounted, CountNone, counted_same, counted_rests, counted_goes}
+use Rattle.x25_world.proofs.sessions.SessionCounts.{counted_in, IsCounted, counted_same, counted_rests, counted_goes}
 use Rattle.x25_world.proofs.sessions.SessionReaches.{Beginning, SessionsReach}
 use Rattle.x25_world.proofs.sessions.SessionBeside.{brought, AreTold, told_more, MoreIs, none_more}
 use Rattle.x25_world.proofs.sessions.SessionJoined.{HaveAll, IsSession, IsLayer, IsEnd, HasMet, Meets, Hears, PairsAreInOrder, SessionsJoined, Goes, gave_none}
-use Rattle.x25_world.proofs.sessions.SessionEntries.{after_append, session_append, meets_more, meets_other, none_met, ArePlain, plain_progress, plain_here, plain_elsewhere, restart_met, elsewhere_met}
+use Rattle.x25_world.proofs.sessions.SessionEntries.{after_append, session_append, meets_more, meets_other, none_met, AreMute, TellNothing, mute_tell, mute_in, ArePlain, plain_progress, plain_here, plain_elsewhere, restart_met, elsewhere_met}
 use Rattle.x25_world.proofs.sessions.SessionLinks.{SessionGoes, extended_none}
 
 -- ---- lists
@@ -75,12 +75,7 @@ nothing_of (x ∷ xs) ys e = absurd (cc)
 -- behind them the same session stands, or not; none are of another
 pub record IsSilent (p q : Progress) (es : List StationEntry) : Type 0 where
   pub progress : after_entries p es ≡ q
-  pub entries : (n : ℕ) → layer_entries (session_from n p es) ≡ []
-  pub told : (n : ℕ) → layer_notices (session_from n p es) ≡ []
-  pub beside : (n : ℕ) → came_in (session_from n p es) ≡ []
-  pub confirmed : (n : ℕ) → CountNone (session_from n p es)
-  pub all_entries : layer_entries es ≡ []
-  pub all_told : layer_notices es ≡ []
+  pub mute : AreMute es
   pub later : (n : ℕ) → (n ≡ q.begun → ⊥) → session_from n p es ≡ []
 
 -- ---- the layer in the session that stands
@@ -106,16 +101,16 @@ session_goes cfg e f l put lifted handed came es before all down up down₂ up�
 }
 
 -- with nothing put or taken, and entries that aren't the layer's
-session_rests : (cfg : Cfg) (e f : layer.End) (before all more : List StationEntry) (down up down₂ up₂ : List (List ℕ)) → f ≡ e → IsSession cfg e down up before → all ≡ before ++ more → layer_entries more ≡ []
-    → layer_notices more ≡ [] → came_in more ≡ [] → down₂ ≡ down → up₂ ≡ up → IsSession cfg f down₂ up₂ all
-session_rests cfg e f before all more down up down₂ up₂ same h is none untold alone same_down same_up = record {
+session_rests : (cfg : Cfg) (e f : layer.End) (before all more : List StationEntry) (down up down₂ up₂ : List (List ℕ)) → f ≡ e → IsSession cfg e down up before → all ≡ before ++ more → TellNothing more
+    → down₂ ≡ down → up₂ ≡ up → IsSession cfg f down₂ up₂ all
+session_rests cfg e f before all more down up down₂ up₂ same h is none same_down same_up = record {
   down = ap (all_read cfg) same_down ∙ h.down ∙ ap (λ (x : layer.End). as_read x.given) (sym same);
   up = ap (all_read cfg) same_up ∙ h.up ∙ ap (λ (x : layer.End). as_read x.taken) (sym same);
-  entries = ap (λ (x : layer.End). x.entries) same ∙ h.entries ∙ sym (append-nil (layer_entries before)) ∙ ap (λ (l : List Entry). layer_entries before ++ l) (sym none)
+  entries = ap (λ (x : layer.End). x.entries) same ∙ h.entries ∙ sym (append-nil (layer_entries before)) ∙ ap (λ (l : List Entry). layer_entries before ++ l) (sym none.entered)
       ∙ sym (layer_append before more) ∙ ap layer_entries (sym is);
-  told = ap (λ (x : layer.End). x.told) same ∙ h.told ∙ sym (append-nil (layer_notices before)) ∙ ap (λ (l : List LayerNotice). layer_notices before ++ l) (sym untold)
+  told = ap (λ (x : layer.End). x.told) same ∙ h.told ∙ sym (append-nil (layer_notices before)) ∙ ap (λ (l : List LayerNotice). layer_notices before ++ l) (sym none.told)
       ∙ sym (notices_append before more) ∙ ap layer_notices (sym is);
-  beside = told_more cfg before more all up [] up₂ h.beside (subst (λ (l : List Came). AreTold l []) (sym alone) tt) is (same_up ∙ sym (append-nil up));
+  beside = told_more cfg before more all up [] up₂ h.beside (subst (λ (l : List Came). AreTold l []) (sym none.beside) tt) is (same_up ∙ sym (append-nil up));
 }
 
 none_behind : (xs ys : List (List ℕ)) → xs ++ ys ≡ [] → ys ≡ []
@@ -190,6 +185,20 @@ module _ {since : Beginning} (cfg : Cfg) (end : Role) (w : World) (h : SessionsJ
     told = ap layer_notices (session_more 1) ∙ notices_append (session_from 1 none_begun told_before) (session_from 1 standing step.entries)
         ∙ ap₂ (λ (a b : List LayerNotice). a ++ b) before.told more.told ∙ sym (notices_append told_before step.entries);
   }
+
+  -- entries of the link alone tell nothing in any session
+  module _ (mute : AreMute step.entries) where
+    silent_in : (n : ℕ) → TellNothing (session_from n standing step.entries)
+    silent_in n = mute_tell (session_from n standing step.entries) (mute_in n standing step.entries mute)
+
+    silent_all : HaveAll (session_from 1 standing step.entries) step.entries
+    silent_all = (let all = mute_tell step.entries mute in record { entries = (silent_in 1).entered ∙ sym all.entered; told = (silent_in 1).told ∙ sym all.told })
+
+    silent_faults : AreNoFaults (layer_notices (told_before ++ step.entries))
+    silent_faults = subst AreNoFaults (sym (notices_append told_before step.entries ∙ ap (λ (ns : List LayerNotice). layer_notices told_before ++ ns) (mute_tell step.entries mute).told ∙ append-nil (layer_notices told_before))) h.near.no_fault
+
+    silent_counts : (n : ℕ) → IsCounted cfg end n h.trace (session_from n none_begun (told_before ++ step.entries))
+    silent_counts n = counted_rests cfg end n h.trace (session_from n none_begun told_before) (session_from n standing step.entries) (session_from n none_begun (told_before ++ step.entries)) (h.near.confirmed n) (session_more n) (silent_in n).confirmed
 
   progress_more : after_entries none_begun (told_before ++ step.entries) ≡ after_entries standing step.entries
   progress_more = after_append none_begun told_before step.entries ∙ ap (λ (p : Progress). after_entries p step.entries) h.near.progress
@@ -274,7 +283,7 @@ module _ {since : Beginning} (cfg : Cfg) (end : Role) (w : World) (h : SessionsJ
         session_rests cfg (own cfg end n h.trace) (own cfg end n trace_on) (session_from n none_begun told_before) (session_from n none_begun (told_before ++ step.entries)) []
         (h.links.near.down n) (h.links.near.up n) (v.near.down n) (v.near.up n) (own_elsewhere n differs) (h.near.sessions n low high)
         (session_more n ∙ ap (λ (l : List StationEntry). session_from n none_begun told_before ++ l) (plain_elsewhere n standing step.entries plain (not_in n standing differs)))
-        refl refl refl (down_elsewhere n differs) (up_elsewhere n differs)
+        (mute_tell [] tt) (down_elsewhere n differs) (up_elsewhere n differs)
 
     -- what is told as confirmed the moves confirm
     counted_on : (n : ℕ) → IsCounted cfg end n trace_on (session_from n none_begun (told_before ++ step.entries))
@@ -419,11 +428,10 @@ module _ {since : Beginning} (cfg : Cfg) (end : Role) (w : World) (h : SessionsJ
       before = (down_same 0 ∙ h.near.before.0, up_same 0 ∙ h.near.before.1);
       sessions = λ n low high.
           session_rests cfg (own cfg end n h.trace) (own cfg end n h.trace) (session_from n none_begun told_before) (session_from n none_begun (told_before ++ step.entries)) (session_from n standing step.entries)
-          (h.links.near.down n) (h.links.near.up n) (v.near.down n) (v.near.up n) refl (h.near.sessions n low (subst (λ (m : ℕ). n ≤ m) g.begun high)) (session_more n) (silent.entries n) (silent.told n) (silent.beside n)
+          (h.links.near.down n) (h.links.near.up n) (v.near.down n) (v.near.up n) refl (h.near.sessions n low (subst (λ (m : ℕ). n ≤ m) g.begun high)) (session_more n) (silent_in silent.mute n)
           (down_same n) (up_same n);
       octets = λ n. subst AllAreOctets (sym (down_same n)) (h.near.octets n);
-      confirmed = λ n. counted_rests cfg end n h.trace (session_from n none_begun told_before) (session_from n standing step.entries) (session_from n none_begun (told_before ++ step.entries)) (h.near.confirmed n)
-          (session_more n) (silent.confirmed n);
+      confirmed = silent_counts silent.mute;
       later = λ n more. (let above = subst (λ (m : ℕ). m < n) g.begun more in
           let nothing = h.near.later n above in
           record { moves = nothing.moves; entries = session_more n ∙ ap₂ (λ (a b : List StationEntry). a ++ b) nothing.entries (silent.later n (over n above)) });
@@ -431,8 +439,8 @@ module _ {since : Beginning} (cfg : Cfg) (end : Role) (w : World) (h : SessionsJ
           let old = h.near.now before.0 in
           subst (λ (n : ℕ). IsLayer (own cfg end n h.trace) step.near) (sym g.begun) (record { layer = old.layer ∙ sym before.1; out = old.out }));
       alone = λ n none. h.near.alone n (sym (up_same n) ∙ none);
-      no_fault = subst AreNoFaults (sym (notices_append told_before step.entries ∙ ap (λ (ns : List LayerNotice). layer_notices told_before ++ ns) silent.all_told ∙ append-nil (layer_notices told_before))) h.near.no_fault;
-      first_has_all = λ low. all_more (h.near.first_has_all (subst (λ (n : ℕ). n ≤ 1) g.begun low)) (record { entries = silent.entries 1 ∙ sym silent.all_entries; told = silent.told 1 ∙ sym silent.all_told });
+      no_fault = silent_faults silent.mute;
+      first_has_all = λ low. all_more (h.near.first_has_all (subst (λ (n : ℕ). n ≤ 1) g.begun low)) (silent_all silent.mute);
     }
       where
         over : (n : ℕ) → session < n → n ≡ session → ⊥
@@ -445,7 +453,7 @@ module _ {since : Beginning} (cfg : Cfg) (end : Role) (w : World) (h : SessionsJ
           (subst (λ (t : List Done). PairsAreInOrder cfg end t met) (sym (append-nil h.trace)) pairs) more
           (λ n. hears_more (λ (n m : ℕ). HasMet n m h.links.met) (λ (n m : ℕ). HasMet n m met) n (h.links.near.up n) (v.near.up n) (meets end n w.transcript) (found n)
           (meets end n (w.transcript ++ entered end step.entries)) (λ m has. more n m has) (meets_now n)
-          (λ none. inl (up_same n ∙ none, none_met n standing (after_entries none_begun told_there) step.entries silent.all_told)) (h.near_hears n));
+          (λ none. inl (up_same n ∙ none, none_met n standing (after_entries none_begun told_there) step.entries (mute_tell step.entries silent.mute).told)) (h.near_hears n));
       down = λ n. none_more cfg (h.links.near.down n) (v.near.down n) [] (down_same n);
       far = g.far;
     }
@@ -489,9 +497,9 @@ module _ {since : Beginning} (cfg : Cfg) (end : Role) (w : World) (h : SessionsJ
         subst (λ (e : layer.End). IsSession cfg e (v.near.down the_next) (v.near.up the_next) (session_from the_next none_begun (told_before ++ step.entries))) (sym own_afresh) (record {
           down = ap (all_read cfg) begun_down_here ∙ puts ∙ by_role end;
           up = ap (all_read cfg) (begun_up_same the_next ∙ nothing.1);
-          entries = sym (ap layer_entries all ∙ begins.entries the_next);
-          told = sym (ap layer_notices all ∙ begins.told the_next);
-          beside = subst (λ (l : List Came). AreTold l (brought cfg (v.near.up the_next))) (sym (ap came_in all ∙ begins.beside the_next)) tt;
+          entries = sym (ap layer_entries all ∙ (silent_in begins.mute the_next).entered);
+          told = sym (ap layer_notices all ∙ (silent_in begins.mute the_next).told);
+          beside = subst (λ (l : List Came). AreTold l (brought cfg (v.near.up the_next))) (sym (ap came_in all ∙ (silent_in begins.mute the_next).beside)) tt;
         })
       where
         by_role : (end : Role) → as_read (restart (restart_cause end) 0 ∷ []) ≡ as_read (started (goes_up (layer_of cfg end))).given
@@ -508,17 +516,16 @@ module _ {since : Beginning} (cfg : Cfg) (end : Role) (w : World) (h : SessionsJ
       sessions = λ n low high. same_or_not n the_next (λ (is : n ≡ the_next). subst IsSessionBegun (sym is) next_session)
           (λ (differs : n ≡ the_next → ⊥). session_before n low (below n (subst (λ (m : ℕ). n ≤ m) g.begun high) differs) differs);
       octets = begun_octets;
-      confirmed = λ n. counted_rests cfg end n h.trace (session_from n none_begun told_before) (session_from n standing step.entries) (session_from n none_begun (told_before ++ step.entries)) (h.near.confirmed n)
-          (session_more n) (begins.confirmed n);
+      confirmed = silent_counts begins.mute;
       later = λ n more. (let above = subst (λ (m : ℕ). m < n) g.begun more in
           let nothing = h.near.later n (omega (arith, above)) in
           record { moves = nothing.moves; entries = session_more n ∙ ap₂ (λ (a b : List StationEntry). a ++ b) nothing.entries (begins.later n (over n above)) });
       now = λ _. subst (λ (n : ℕ). IsLayer (own cfg end n h.trace) step.near) (sym g.begun)
           (subst (λ (e : layer.End). IsLayer e step.near) (sym own_afresh) (record { layer = sym layer_begins; out = refl }));
       alone = λ n none. h.near.alone n (sym (begun_up_same n) ∙ none);
-      no_fault = subst AreNoFaults (sym (notices_append told_before step.entries ∙ ap (λ (ns : List LayerNotice). layer_notices told_before ++ ns) begins.all_told ∙ append-nil (layer_notices told_before))) h.near.no_fault;
+      no_fault = silent_faults begins.mute;
       first_has_all = λ low. (let most = subst (λ (n : ℕ). n ≤ 1) g.begun low in
-          all_more (h.near.first_has_all (omega (arith, most))) (record { entries = begins.entries 1 ∙ sym begins.all_entries; told = begins.told 1 ∙ sym begins.all_told }));
+          all_more (h.near.first_has_all (omega (arith, most))) (silent_all begins.mute));
     }
       where
         none : 0 ≡ the_next → ⊥
@@ -533,7 +540,7 @@ module _ {since : Beginning} (cfg : Cfg) (end : Role) (w : World) (h : SessionsJ
         session_before : (n : ℕ) → 1 ≤ n → n ≤ session → (n ≡ the_next → ⊥) → IsSessionBegun n
         session_before n low high differs =
             session_rests cfg (own cfg end n h.trace) (own cfg end n h.trace) (session_from n none_begun told_before) (session_from n none_begun (told_before ++ step.entries)) (session_from n standing step.entries)
-            (h.links.near.down n) (h.links.near.up n) (v.near.down n) (v.near.up n) refl (h.near.sessions n low high) (session_more n) (begins.entries n) (begins.told n) (begins.beside n) (begun_down_same n differs) (begun_up_same n)
+            (h.links.near.down n) (h.links.near.up n) (v.near.down n) (v.near.up n) refl (h.near.sessions n low high) (session_more n) (silent_in begins.mute n) (begun_down_same n differs) (begun_up_same n)
 
     pub begins_session : SessionsReach since cfg end v → PairsAreInOrder cfg end h.trace met → ((n m : ℕ) → HasMet n m h.links.met → HasMet n m met) → Goes since cfg end h.links gave_none (after_step (settings_from end cfg) w back step)
     unfolding joined_of
@@ -542,7 +549,7 @@ module _ {since : Beginning} (cfg : Cfg) (end : Role) (w : World) (h : SessionsJ
           (subst (λ (t : List Done). PairsAreInOrder cfg end t met) (sym (append-nil h.trace)) pairs) more
           (λ n. hears_more (λ (n m : ℕ). HasMet n m h.links.met) (λ (n m : ℕ). HasMet n m met) n (h.links.near.up n) (v.near.up n) (meets end n w.transcript) (found n)
           (meets end n (w.transcript ++ entered end step.entries)) (λ m has. more n m has) (meets_now n)
-          (λ none. inl (begun_up_same n ∙ none, none_met n standing (after_entries none_begun told_there) step.entries begins.all_told)) (h.near_hears n));
+          (λ none. inl (begun_up_same n ∙ none, none_met n standing (after_entries none_begun told_there) step.entries (mute_tell step.entries begins.mute).told)) (h.near_hears n));
       down = λ n. same_or_not n the_next
           (λ (is : n ≡ the_next). subst (λ (k : ℕ). MoreIs cfg (h.links.near.down k) (v.near.down k) []) (sym is)
           (record { more = handed; is = g.down the_next ∙ here_extended h.links.near.down the_next handed; given = subst (λ (l : List Came). AreSomeOf IsGiven l []) (sym bring_none) tt }))

@@ -29,7 +29,7 @@ use Rattle.x25_station.specs.laws.JoinLaw.{AreAccepted, PutsBehind}
 use Rattle.x25_station.specs.laws.ReadLaw.{AreOctets, AreReadable}
 use Rattle.x25_world.specs.laws.Claims.{link_of}
 use Rattle.x25_world.proofs.Growing.{read_by, all_read, as_read, AllAreOctets}
-use Rattle.x25_world.proofs.OneLink.{octets_append, octets_sent}
+use Rattle.x25_line.proofs.sessions.SessionLines.{octets_append, octets_sent}
 use Rattle.x25_world.proofs.sessions.SessionReaches.{Beginning, SessionsReach, MayAsk, sessions_act}
 use Rattle.x25_link.specs.laws.NoteLaw.{PutTells}
 

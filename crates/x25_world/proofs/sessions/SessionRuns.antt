@@ -211,6 +211,7 @@ module _ (laws : SessionLaws) (cfg : Cfg) (fine : IsConfigured cfg) where
         far = record { station = up.far ∙ sym h.far.link; anew = inl (refl, sym (ap (λ (p : Progress). p.begun) h.far.progress) ∙ first Dce) };
         out = up.out ∙ sym h.out;
         back = up.back ∙ sym h.back;
+        sent = λ never. absurd never;
       }
 
   -- two stations run from a link just set up too

@@ -28,10 +28,13 @@ moved at n (what ∷ rest) = record { at = at; session = n; what = what } ∷ mo
 
 -- ---- of one session of an end
 
+abbrev own_if : Role → Role → Bool → OwnMove → List OwnMove
+own_if Dte Dte b what = if b then what ∷ [] else []
+own_if Dce Dce b what = if b then what ∷ [] else []
+own_if end at b what = []
+
 abbrev pub own_one : Role → ℕ → Role → ℕ → OwnMove → List OwnMove
-own_one Dte n Dte session what = if n == session then what ∷ [] else []
-own_one Dce n Dce session what = if n == session then what ∷ [] else []
-own_one end n at session what = []
+own_one end n at session what = own_if end at (n == session) what
 
 abbrev pub own_in : Role → ℕ → List Done → List OwnMove
 own_in end n [] = []
@@ -104,117 +107,93 @@ own_goes cfg end n trace moves =
 
 -- ---- of a session of each end
 
--- n of the DTE, m of the DCE
-abbrev pub pair_one : ℕ → ℕ → Role → ℕ → OwnMove → List ApartEvent
-pair_one n m Dte session what = if n == session then record { first = true; what = what } ∷ [] else []
-pair_one n m Dce session what = if m == session then record { first = false; what = what } ∷ [] else []
+-- which session is meant of each end
+abbrev pub numbers : ℕ → ℕ → Role → ℕ
+numbers dte dce Dte = dte
+numbers dte dce Dce = dce
 
-abbrev pub pair_in : ℕ → ℕ → List Done → List ApartEvent
-pair_in n m [] = []
-pair_in n m (t ∷ trace) = pair_one n m t.at t.session t.what ++ pair_in n m trace
-
--- n of the end, m of the other
-abbrev pub pair_at : Role → ℕ → ℕ → List Done → List ApartEvent
-pair_at Dte n m trace = pair_in n m trace
-pair_at Dce n m trace = pair_in m n trace
-
-pub pair_turned : (end : Role) (n m : ℕ) (trace : List Done) → pair_at (other end) m n trace ≡ pair_at end n m trace
-pair_turned Dte n m trace = refl
-pair_turned Dce n m trace = refl
+abbrev is_first : Role → Bool
+is_first Dte = true
+is_first Dce = false
 
 abbrev pub event_of : Role → OwnMove → ApartEvent
-event_of Dte what = record { first = true; what = what }
-event_of Dce what = record { first = false; what = what }
+event_of end what = record { first = is_first end; what = what }
 
 abbrev pub events_of : Role → List OwnMove → List ApartEvent
 events_of end [] = []
 events_of end (what ∷ moves) = event_of end what ∷ events_of end moves
 
-pair_append : (n m : ℕ) (xs ys : List Done) → pair_in n m (xs ++ ys) ≡ pair_in n m xs ++ pair_in n m ys
-pair_append n m [] ys = refl
-pair_append n m (x ∷ xs) ys =
-    ap (λ (l : List ApartEvent). pair_one n m x.at x.session x.what ++ l) (pair_append n m xs ys) ∙ sym (append_assoc (pair_one n m x.at x.session x.what) (pair_in n m xs) (pair_in n m ys))
+abbrev pub pair_one : (Role → ℕ) → Role → ℕ → OwnMove → List ApartEvent
+pair_one number at session what = if number at == session then event_of at what ∷ [] else []
 
-pair_at_append : (end : Role) (n m : ℕ) (xs ys : List Done) → pair_at end n m (xs ++ ys) ≡ pair_at end n m xs ++ pair_at end n m ys
-pair_at_append Dte n m xs ys = pair_append n m xs ys
-pair_at_append Dce n m xs ys = pair_append m n xs ys
+abbrev pub pair_in : (Role → ℕ) → List Done → List ApartEvent
+pair_in number [] = []
+pair_in number (t ∷ trace) = pair_one number t.at t.session t.what ++ pair_in number trace
 
-pair_moved : (end : Role) (n m : ℕ) (moves : List OwnMove) → pair_at end n m (moved end n moves) ≡ events_of end moves
-pair_moved Dte n m [] = refl
-pair_moved Dce n m [] = refl
-pair_moved Dte n m (what ∷ moves) =
-    ap₂ (λ (b : Bool) (l : List ApartEvent). (if b then record { first = true; what = what } ∷ [] else []) ++ l) (same_number n) (pair_moved Dte n m moves)
-pair_moved Dce n m (what ∷ moves) =
-    ap₂ (λ (b : Bool) (l : List ApartEvent). (if b then record { first = false; what = what } ∷ [] else []) ++ l) (same_number n) (pair_moved Dce n m moves)
+-- n of the end, m of the other
+abbrev pub pair_at : Role → ℕ → ℕ → List Done → List ApartEvent
+pair_at Dte n m trace = pair_in (numbers n m) trace
+pair_at Dce n m trace = pair_in (numbers m n) trace
 
-pair_elsewhere : (end : Role) (n m session : ℕ) (moves : List OwnMove) → (n ≡ session → ⊥) → pair_at end n m (moved end session moves) ≡ []
-pair_elsewhere Dte n m session [] differs = refl
-pair_elsewhere Dce n m session [] differs = refl
-pair_elsewhere Dte n m session (what ∷ moves) differs =
-    ap₂ (λ (b : Bool) (l : List ApartEvent). (if b then record { first = true; what = what } ∷ [] else []) ++ l) (other_number n session differs) (pair_elsewhere Dte n m session moves differs)
-pair_elsewhere Dce n m session (what ∷ moves) differs =
-    ap₂ (λ (b : Bool) (l : List ApartEvent). (if b then record { first = false; what = what } ∷ [] else []) ++ l) (other_number n session differs) (pair_elsewhere Dce n m session moves differs)
+pub pair_turned : (end : Role) (n m : ℕ) (trace : List Done) → pair_at (other end) m n trace ≡ pair_at end n m trace
+pair_turned Dte n m trace = refl
+pair_turned Dce n m trace = refl
+
+module _ (number : Role → ℕ) (end : Role) where
+  pair_append : (xs ys : List Done) → pair_in number (xs ++ ys) ≡ pair_in number xs ++ pair_in number ys
+  pair_append [] ys = refl
+  pair_append (x ∷ xs) ys = ap (λ (l : List ApartEvent). pair_one number x.at x.session x.what ++ l) (pair_append xs ys) ∙ sym (append_assoc (pair_one number x.at x.session x.what) (pair_in number xs) (pair_in number ys))
+
+  pair_moved : (session : ℕ) (moves : List OwnMove) → (number end == session) ≡ true → pair_in number (moved end session moves) ≡ events_of end moves
+  pair_moved session [] is = refl
+  pair_moved session (what ∷ moves) is = ap₂ (λ (b : Bool) (l : List ApartEvent). (if b then event_of end what ∷ [] else []) ++ l) is (pair_moved session moves is)
+
+  pair_elsewhere : (session : ℕ) (moves : List OwnMove) → (number end == session) ≡ false → pair_in number (moved end session moves) ≡ []
+  pair_elsewhere session [] differs = refl
+  pair_elsewhere session (what ∷ moves) differs = ap₂ (λ (b : Bool) (l : List ApartEvent). (if b then event_of end what ∷ [] else []) ++ l) differs (pair_elsewhere session moves differs)
+
+  in_more : (trace : List Done) (moves : List OwnMove) → pair_in number (trace ++ moved end (number end) moves) ≡ pair_in number trace ++ events_of end moves
+  in_more trace moves = pair_append trace (moved end (number end) moves) ∙ ap (λ (l : List ApartEvent). pair_in number trace ++ l) (pair_moved (number end) moves (same_number (number end)))
+
+  in_same : (session : ℕ) (trace : List Done) (moves : List OwnMove) → (number end ≡ session → ⊥) → pair_in number (trace ++ moved end session moves) ≡ pair_in number trace
+  in_same session trace moves differs =
+      pair_append trace (moved end session moves) ∙ ap (λ (l : List ApartEvent). pair_in number trace ++ l) (pair_elsewhere session moves (other_number (number end) session differs)) ∙ append-nil (pair_in number trace)
 
 pub pair_more : (end : Role) (n m : ℕ) (trace : List Done) (moves : List OwnMove) → pair_at end n m (trace ++ moved end n moves) ≡ pair_at end n m trace ++ events_of end moves
-pair_more end n m trace moves = pair_at_append end n m trace (moved end n moves) ∙ ap (λ (l : List ApartEvent). pair_at end n m trace ++ l) (pair_moved end n m moves)
+pair_more Dte n m trace moves = in_more (numbers n m) Dte trace moves
+pair_more Dce n m trace moves = in_more (numbers m n) Dce trace moves
 
 pub pair_same : (end : Role) (n m session : ℕ) (trace : List Done) (moves : List OwnMove) → (n ≡ session → ⊥) → pair_at end n m (trace ++ moved end session moves) ≡ pair_at end n m trace
-pair_same end n m session trace moves differs =
-    pair_at_append end n m trace (moved end session moves) ∙ ap (λ (l : List ApartEvent). pair_at end n m trace ++ l) (pair_elsewhere end n m session moves differs) ∙ append-nil (pair_at end n m trace)
+pair_same Dte n m session trace moves differs = in_same (numbers n m) Dte session trace moves differs
+pair_same Dce n m session trace moves differs = in_same (numbers m n) Dce session trace moves differs
 
 -- the moves of either end of the pair
 
-near_append : (xs ys : List ApartEvent) → near_moves (xs ++ ys) ≡ near_moves xs ++ near_moves ys
-near_append [] ys = refl
-near_append (x ∷ xs) ys = by x.first (near_append xs ys)
-  where
-    by : (b : Bool) → near_moves (xs ++ ys) ≡ near_moves xs ++ near_moves ys
-        → (if b then x.what ∷ near_moves (xs ++ ys) else near_moves (xs ++ ys)) ≡ (if b then x.what ∷ near_moves xs else near_moves xs) ++ near_moves ys
-    by true rest = ap (λ (l : List OwnMove). x.what ∷ l) rest
-    by false rest = rest
+abbrev pub moves_of : Role → List ApartEvent → List OwnMove
+moves_of Dte es = near_moves es
+moves_of Dce es = far_moves es
 
-far_append : (xs ys : List ApartEvent) → far_moves (xs ++ ys) ≡ far_moves xs ++ far_moves ys
-far_append [] ys = refl
-far_append (x ∷ xs) ys = by x.first (far_append xs ys)
-  where
-    by : (b : Bool) → far_moves (xs ++ ys) ≡ far_moves xs ++ far_moves ys
-        → (if b then far_moves (xs ++ ys) else x.what ∷ far_moves (xs ++ ys)) ≡ (if b then far_moves xs else x.what ∷ far_moves xs) ++ far_moves ys
-    by true rest = rest
-    by false rest = ap (λ (l : List OwnMove). x.what ∷ l) rest
+moves_if : (end at : Role) (b : Bool) (what : OwnMove) (es : List ApartEvent) → moves_of end ((if b then event_of at what ∷ [] else []) ++ es) ≡ own_if end at b what ++ moves_of end es
+moves_if Dte Dte true what es = refl
+moves_if Dte Dte false what es = refl
+moves_if Dte Dce true what es = refl
+moves_if Dte Dce false what es = refl
+moves_if Dce Dte true what es = refl
+moves_if Dce Dte false what es = refl
+moves_if Dce Dce true what es = refl
+moves_if Dce Dce false what es = refl
 
-near_one : (n m : ℕ) (at : Role) (session : ℕ) (what : OwnMove) → near_moves (pair_one n m at session what) ≡ own_one Dte n at session what
-near_one n m Dte session what = by (n == session)
-  where
-    by : (b : Bool) → near_moves (if b then record { first = true; what = what } ∷ [] else []) ≡ (if b then what ∷ [] else [])
-    by true = refl
-    by false = refl
-near_one n m Dce session what = by (m == session)
-  where
-    by : (b : Bool) → near_moves (if b then record { first = false; what = what } ∷ [] else []) ≡ []
-    by true = refl
-    by false = refl
+first_of_pair : (number : Role → ℕ) (end at : Role) (session : ℕ) (what : OwnMove) (es : List ApartEvent) → moves_of end (pair_one number at session what ++ es) ≡ own_one end (number end) at session what ++ moves_of end es
+first_of_pair number Dte Dte session what es = moves_if Dte Dte (number Dte == session) what es
+first_of_pair number Dte Dce session what es = moves_if Dte Dce (number Dce == session) what es
+first_of_pair number Dce Dte session what es = moves_if Dce Dte (number Dte == session) what es
+first_of_pair number Dce Dce session what es = moves_if Dce Dce (number Dce == session) what es
 
-far_one : (n m : ℕ) (at : Role) (session : ℕ) (what : OwnMove) → far_moves (pair_one n m at session what) ≡ own_one Dce m at session what
-far_one n m Dte session what = by (n == session)
-  where
-    by : (b : Bool) → far_moves (if b then record { first = true; what = what } ∷ [] else []) ≡ []
-    by true = refl
-    by false = refl
-far_one n m Dce session what = by (m == session)
-  where
-    by : (b : Bool) → far_moves (if b then record { first = false; what = what } ∷ [] else []) ≡ (if b then what ∷ [] else [])
-    by true = refl
-    by false = refl
-
-pub near_of_pair : (n m : ℕ) (trace : List Done) → near_moves (pair_in n m trace) ≡ own_in Dte n trace
-near_of_pair n m [] = refl
-near_of_pair n m (t ∷ trace) =
-    near_append (pair_one n m t.at t.session t.what) (pair_in n m trace) ∙ ap₂ (λ (l r : List OwnMove). l ++ r) (near_one n m t.at t.session t.what) (near_of_pair n m trace)
-
-pub far_of_pair : (n m : ℕ) (trace : List Done) → far_moves (pair_in n m trace) ≡ own_in Dce m trace
-far_of_pair n m [] = refl
-far_of_pair n m (t ∷ trace) =
-    far_append (pair_one n m t.at t.session t.what) (pair_in n m trace) ∙ ap₂ (λ (l r : List OwnMove). l ++ r) (far_one n m t.at t.session t.what) (far_of_pair n m trace)
+pub moves_of_pair : (number : Role → ℕ) (end : Role) (trace : List Done) → moves_of end (pair_in number trace) ≡ own_in end (number end) trace
+moves_of_pair number Dte [] = refl
+moves_of_pair number Dce [] = refl
+moves_of_pair number end (t ∷ trace) =
+    first_of_pair number end t.at t.session t.what (pair_in number trace) ∙ ap (λ (l : List OwnMove). own_one end (number end) t.at t.session t.what ++ l) (moves_of_pair number end trace)
 
 -- ---- moves that take nothing
 

@@ -1,21 +1,17 @@
 -- The window over set-up and re-set-up, along a run: two links with the links and the lines of a world go on as the end of each event asks,
 -- with the machine behind the sessions that stand.
-use Rattle.std.proofs.Common.{◌≡◌, ℕ, ◌+◌, inl, List, [], ◌∷◌, ◌++◌, length, map, remove, nat_le, Bool, true, false, if◌then◌else◌, Option, Some, None, Result, refl, sym, ap, ap₂, ◌∙◌, subst}
+use Rattle.std.proofs.Common.{◌≡◌, ℕ, ◌+◌, inl, List, [], ◌∷◌, ◌++◌, false, None, Result, refl, sym, ap, ap₂, ◌∙◌, subst}
 use Rattle.x25_bits.specs.declared.role.Role.{Role}
 use Rattle.x25_bits.specs.declared.role.Role.TheVariants.{Dte, Dce}
 use Rattle.x25_frame.specs.Frame.{PlainFrame}
-use Rattle.x25_frame.specs.Spelling.{spelling_of}
 use Rattle.x25_frame.specs.Reading.{frame_of}
 use Rattle.x25_frame.specs.declared.error.FrameError.{FrameError}
-use Rattle.x25_link.specs.declared.error.LinkError.{LinkError}
-use Rattle.x25_link.specs.Hearing.{other, Step as LinkStep}
-use Rattle.x25_link.specs.Station.{Settings as LinkSettings, LinkStation, is_up}
-use Rattle.x25_link.specs.Link.{take_step, put_step, put_refusal, timer_step, timer_refusal, connect_step, connect_refusal, disconnect_step, disconnect_refusal, abandon_step}
+use Rattle.x25_link.specs.Hearing.{other}
+use Rattle.x25_link.specs.Station.{Settings as LinkSettings, LinkStation}
 use Rattle.x25_line.specs.laws.Stations as line
-use Rattle.x25_line.specs.laws.Stations.{is_visible}
-use Rattle.x25_line.specs.laws.StationClaims.{number_in}
+use Rattle.x25_line.specs.laws.Stations.{StationEnd}
 use Rattle.x25_line.specs.laws.Sessions as links
-use Rattle.x25_line.specs.laws.Sessions.{Meeting, Sessions, from_nothing, sabm_in, ua_in, how_many, sent_in, begun_by, asked, IsTimely, IsTimelyAt, AreTimely}
+use Rattle.x25_line.specs.laws.Sessions.{SessionEnd, Sessions, from_nothing, sabm_in, ua_in, how_many, asked, IsTimely, IsTimelyAt, AreTimely}
 use Rattle.x25_line.specs.laws.SessionClaims.{octets_of}
 use Rattle.x25_line.specs.laws.SessionNumbers.{Standing, standing_happens, standing_run, standing_at, EachUpStandsWith, StandingGoesAlong}
 use Rattle.x25_station.specs.declared.config.Cfg.{Cfg}
@@ -27,104 +23,32 @@ use Rattle.x25_world.specs.laws.WindowGoes.{all_at}
 use Rattle.x25_world.specs.laws.SessionWindow.{StandsInWindow, SessionsGoAlong, SessionsStayInWindow}
 use Rattle.x25_world.specs.laws.SessionClaims.{ThroughoutAlong}
 use Rattle.x25_world.proofs.Known.{IsConfigured, is_configured}
-use Rattle.x25_world.proofs.OneLink.{octets_append, octets_sent, octets_removed, octets_replaced}
+use Rattle.x25_line.proofs.sessions.SessionsForgotten.{Lasts, Alike, happens_alike, runs_alike, turned_alike}
 use Rattle.x25_world.proofs.sessions.SessionReaches.{both_down, joined_at}
 use Rattle.x25_world.proofs.sessions.SessionJoined.{SessionsJoined}
 use Rattle.x25_world.specs.laws.LawsBelow.{SessionLaws}
 use Rattle.x25_world.proofs.sessions.SessionRuns.{begin_joined, throughout_joined}
 use Rattle.x25_world.proofs.WindowRuns.{Next, next}
 
--- ---- links that have the same stations and octets on their lines do alike
+-- ---- links that have the stations of these and the octets on their lines do alike
 
-pub record AreSame (v x : Sessions) : Type 0 where
-  pub near : x.near.station ≡ v.near.station
-  pub far : x.far.station ≡ v.far.station
-  pub out : octets_of x.out ≡ octets_of v.out
-  pub back : octets_of x.back ≡ octets_of v.back
+abbrev IsOf : SessionEnd → StationEnd → Type 0
+IsOf e s = s.station ≡ e.station
 
-same_swapped : (v x : Sessions) → AreSame v x → AreSame (links.swapped v) (links.swapped x)
-same_swapped v x h = record { near = h.far; far = h.near; out = h.back; back = h.out }
+of_lasts : Lasts IsOf
+of_lasts = record { station = λ e s h. h; steps = λ e s h down step. refl }
 
-if_same : (b : Bool) (v w x y : Sessions) → AreSame v x → AreSame w y → AreSame (if b then v else w) (if b then x else y)
-if_same true v w x y h g = h
-if_same false v w x y h g = g
+abbrev AreOf : Sessions → line.Stations → Type 0
+AreOf v s = Alike IsOf IsOf ⊥ v s
 
-on_line : (c : LinkSettings) (session : ℕ) (k : LinkStep) (es : List links.Entry) → octets_of (es ++ sent_in session c.role k.side.out) ≡ octets_of es ++ map (spelling_of c.role) k.side.out
-on_line c session k es = octets_append es (sent_in session c.role k.side.out) ∙ ap (λ (l : List (List ℕ)). octets_of es ++ l) (octets_sent session c.role k.side.out)
+-- the stations and the lines of a world
+abbrev end_in : LinkStation → StationEnd
+end_in s = record { station = s; down = []; up = []; reasons = []; came_up = false }
 
-module _ (c : LinkSettings) (v x : Sessions) (h : AreSame v x) where
-  step_same : (rest left : List links.Entry) (met others : List Meeting) (down : List (List ℕ)) (k : LinkStep) → octets_of left ≡ octets_of rest
-      → AreSame (links.after_step c v rest met down k) (links.after_step c x left others down k)
-  step_same rest left met others down k is = record {
-    near = refl;
-    far = h.far;
-    out = on_line c (begun_by k.notes.up x.near.begun) k x.out ∙ ap (λ (os : List (List ℕ)). os ++ map (spelling_of c.role) k.side.out) h.out ∙ sym (on_line c (begun_by k.notes.up v.near.begun) k v.out);
-    back = is;
-  }
+abbrev seen_in : World → line.Stations
+seen_in w = record { near = end_in w.near.link; far = end_in w.far.link; out = w.out; back = w.back; sent = [] }
 
-  unless_same : (refusal : LinkStation → Option LinkError) (down : List (List ℕ)) (step : LinkStation → LinkStep)
-      → AreSame (links.unless (refusal v.near.station) v (links.after_step c v v.back v.met down (step v.near.station)))
-      (links.unless (refusal x.near.station) x (links.after_step c x x.back x.met down (step x.near.station)))
-  unless_same refusal down step =
-      subst (λ (s : LinkStation). AreSame (links.unless (refusal v.near.station) v (links.after_step c v v.back v.met down (step v.near.station))) (links.unless (refusal s) x (links.after_step c x x.back x.met down (step s)))) (sym h.near)
-      (by (refusal v.near.station))
-    where
-      by : (o : Option LinkError) → AreSame (links.unless o v (links.after_step c v v.back v.met down (step v.near.station))) (links.unless o x (links.after_step c x x.back x.met down (step v.near.station)))
-      by (Some e) = h
-      by None = step_same v.back x.back v.met x.met down (step v.near.station) h.back
-
-  -- whom the near end has met where this is heard
-  abbrev heard_by : Sessions → links.Entry → List Meeting
-  heard_by z e = links.heard (is_up z.near.station.phase) (number_in (frame_of (other c.role) c.longest e.octets)) (record { near = z.near.begun; far = e.session }) z.met
-
-  delivered_same : (es fs : List links.Entry) → octets_of fs ≡ octets_of es → AreSame (links.delivered c es v) (links.delivered c fs x)
-  delivered_same [] [] is = h
-  delivered_same [] (f ∷ fs) is = absurd (never is)
-    where
-      never : f.octets ∷ octets_of fs ≡ [] → ⊥
-      never k = cc
-  delivered_same (e ∷ es) [] is = absurd (never is)
-    where
-      never : [] ≡ e.octets ∷ octets_of es → ⊥
-      never k = cc
-  delivered_same (e ∷ es) (f ∷ fs) is =
-      subst (λ (s : LinkStation). AreSame (links.delivered c (e ∷ es) v) (links.after_step c x fs (heard_by x f) [] (take_step c f.octets s))) (sym h.near)
-      (subst (λ (os : List ℕ). AreSame (links.delivered c (e ∷ es) v) (links.after_step c x fs (heard_by x f) [] (take_step c os v.near.station))) (sym (first f.octets e.octets (octets_of fs) (octets_of es) is))
-      (step_same es fs (heard_by v e) (heard_by x f) [] (take_step c e.octets v.near.station) (behind f.octets e.octets (octets_of fs) (octets_of es) is)))
-    where
-      first : (a b : List ℕ) (xs ys : List (List ℕ)) → a ∷ xs ≡ b ∷ ys → a ≡ b
-      first a b xs ys same = cc
-
-      behind : (a b : List ℕ) (xs ys : List (List ℕ)) → a ∷ xs ≡ b ∷ ys → xs ≡ ys
-      behind a b xs ys same = cc
-
-  acts_same : (act : line.Act) → AreSame (links.acts c act v) (links.acts c act x)
-  acts_same (line.Put packet) = if_same (nat_le (length packet) c.longest) _ v _ x (unless_same put_refusal (packet ∷ []) (put_step c packet)) h
-  acts_same line.Deliver = delivered_same v.back x.back h.back
-  acts_same line.T1 = unless_same timer_refusal [] (timer_step c)
-  acts_same line.Connect = unless_same (λ (s : LinkStation). connect_refusal s.phase) [] (connect_step c)
-  acts_same line.Disconnect = unless_same (λ (s : LinkStation). disconnect_refusal s.phase) [] (disconnect_step c)
-  acts_same line.Abandon =
-      subst (λ (s : LinkStation). AreSame (links.acts c line.Abandon v) (if is_up s.phase then links.after_step c x x.back x.met [] (abandon_step c s) else x)) (sym h.near)
-      (if_same (is_up v.near.station.phase) _ v _ x (step_same v.back x.back v.met x.met [] (abandon_step c v.near.station) h.back) h)
-  acts_same line.Probe =
-      subst (λ (s : LinkStation). AreSame (links.acts c line.Probe v) (if is_up s.phase then links.after_step c x x.back x.met [] (timer_step c s) else x)) (sym h.near)
-      (if_same (is_up v.near.station.phase) _ v _ x (step_same v.back x.back v.met x.met [] (timer_step c v.near.station) h.back) h)
-  acts_same (line.Lose i) = record { near = h.near; far = h.far; out = h.out; back = octets_removed x.back i ∙ ap (λ (os : List (List ℕ)). remove os i) h.back ∙ sym (octets_removed v.back i) }
-  acts_same (line.Damage i octets) =
-      if_same (is_visible octets) _ v _ x
-      (record { near = h.near; far = h.far; out = h.out; back = octets_replaced x.back i octets ∙ ap (λ (os : List (List ℕ)). line.replaced os i octets) h.back ∙ sym (octets_replaced v.back i octets) }) h
-
-event_same : (c d : LinkSettings) (e : line.Event) (v x : Sessions) → AreSame v x → AreSame (links.happens c d e v) (links.happens c d e x)
-event_same c d (line.Near act) v x h = acts_same c v x h act
-event_same c d (line.Far act) v x h =
-    same_swapped (links.acts d act (links.swapped v)) (links.acts d act (links.swapped x)) (acts_same d (links.swapped v) (links.swapped x) (same_swapped v x h) act)
-
-run_same : (c d : LinkSettings) (es : List line.Event) (v x : Sessions) → AreSame v x → AreSame (links.run c d es v) (links.run c d es x)
-run_same c d [] v x h = h
-run_same c d (e ∷ es) v x h = run_same c d es (links.happens c d e v) (links.happens c d e x) (event_same c d e v x h)
-
--- ---- .. and timer T1 is as timely
+-- ---- and timer T1 is as timely
 
 -- how many frames of a kind are among octets
 abbrev many_in : (Result PlainFrame FrameError → ℕ) → Role → ℕ → List (List ℕ) → ℕ
@@ -138,22 +62,25 @@ many_is kind from n1 (e ∷ es) = ap (λ (n : ℕ). kind (frame_of from n1 e.oct
 many_same : (kind : Result PlainFrame FrameError → ℕ) (from : Role) (n1 : ℕ) (es fs : List links.Entry) → octets_of fs ≡ octets_of es → how_many kind from n1 fs ≡ how_many kind from n1 es
 many_same kind from n1 es fs is = many_is kind from n1 fs ∙ ap (many_in kind from n1) is ∙ sym (many_is kind from n1 es)
 
-asked_same : (c d : LinkSettings) (v x : Sessions) → AreSame v x → asked c d x ≡ asked c d v
-asked_same c d v x h =
-    ap₂ (λ (n m : ℕ). n + m) (many_same sabm_in (other d.role) d.longest v.out x.out h.out) (many_same ua_in (other c.role) c.longest v.back x.back h.back)
+asked_same : (c d : LinkSettings) (v x : Sessions) (s : line.Stations) → AreOf v s → AreOf x s → asked c d x ≡ asked c d v
+asked_same c d v x s f g =
+    ap₂ (λ (n m : ℕ). n + m) (many_same sabm_in (other d.role) d.longest v.out x.out (sym g.out ∙ f.out)) (many_same ua_in (other c.role) c.longest v.back x.back (sym g.back ∙ f.back))
 
-timely_same : (c d : LinkSettings) (act : line.Act) (v x : Sessions) → AreSame v x → IsTimely c d act v → IsTimely c d act x
-timely_same c d line.T1 v x h timely = λ waiting. asked_same c d v x h ∙ timely (ap (λ (s : LinkStation). s.phase) (sym h.near) ∙ waiting)
-timely_same c d act v x h timely = tt
+timely_same : (c d : LinkSettings) (act : line.Act) (v x : Sessions) (s : line.Stations) → AreOf v s → AreOf x s → IsTimely c d act v → IsTimely c d act x
+timely_same c d line.T1 v x s f g timely = λ waiting. asked_same c d v x s f g ∙ timely (ap (λ (t : LinkStation). t.phase) (sym f.near ∙ g.near) ∙ waiting)
+timely_same c d act v x s f g timely = tt
 
-timely_at_same : (c d : LinkSettings) (e : line.Event) (v x : Sessions) → AreSame v x → IsTimelyAt c d e v → IsTimelyAt c d e x
-timely_at_same c d (line.Near act) v x h timely = timely_same c d act v x h timely
-timely_at_same c d (line.Far act) v x h timely = timely_same d c act (links.swapped v) (links.swapped x) (same_swapped v x h) timely
+timely_at_same : (c d : LinkSettings) (e : line.Event) (v x : Sessions) (s : line.Stations) → AreOf v s → AreOf x s → IsTimelyAt c d e v → IsTimelyAt c d e x
+timely_at_same c d (line.Near act) v x s f g timely = timely_same c d act v x s f g timely
+timely_at_same c d (line.Far act) v x s f g timely =
+    timely_same d c act (links.swapped v) (links.swapped x) (line.swapped s) (turned_alike IsOf IsOf ⊥ v s f) (turned_alike IsOf IsOf ⊥ x s g) timely
 
-all_timely_same : (c d : LinkSettings) (es : List line.Event) (v x : Sessions) → AreSame v x → AreTimely c d es v → AreTimely c d es x
-all_timely_same c d [] v x h timely = tt
-all_timely_same c d (e ∷ es) v x h timely =
-    (timely_at_same c d e v x h timely.0, all_timely_same c d es (links.happens c d e v) (links.happens c d e x) (event_same c d e v x h) timely.1)
+all_timely_same : (c d : LinkSettings) (es : List line.Event) (v x : Sessions) (s : line.Stations) → AreOf v s → AreOf x s → AreTimely c d es v → AreTimely c d es x
+all_timely_same c d [] v x s f g timely = tt
+all_timely_same c d (e ∷ es) v x s f g timely = (
+  timely_at_same c d e v x s f g timely.0,
+  all_timely_same c d es (links.happens c d e v) (links.happens c d e x) (line.happens c d e s) (happens_alike IsOf IsOf ⊥ of_lasts of_lasts c d e v s f) (happens_alike IsOf IsOf ⊥ of_lasts of_lasts c d e x s g) timely.1,
+)
 
 -- ---- a run, and more behind it
 
@@ -211,10 +138,13 @@ module _ (laws : SessionLaws) (law : StandingGoesAlong) (cfg : Cfg) (fine : IsCo
   stand_next w h e n v s st =
       let r = st.0 in
       let es : List line.Event = all_at e.at n.asked in
-      let same : AreSame h.links v = record { near = r.near ∙ sym h.near.link; far = r.far ∙ sym h.far.link; out = r.out ∙ sym h.out; back = r.back ∙ sym h.back } in
-      let now : AreSame n.joined.links (links.run c d es v) = subst (λ (x : Sessions). AreSame x (links.run c d es v)) n.run (run_same c d es h.links v same) in
+      let seen : line.Stations = seen_in w in
+      let before : AreOf h.links seen = record { near = sym h.near.link; far = sym h.far.link; out = sym h.out; back = sym h.back; sent = λ never. absurd never } in
+      let also : AreOf v seen = record { near = sym r.near; far = sym r.far; out = sym r.out; back = sym r.back; sent = λ never. absurd never } in
+      let behind : AreOf n.joined.links (line.run c d es seen) = subst (λ (x : Sessions). AreOf x (line.run c d es seen)) n.run (runs_alike IsOf IsOf ⊥ of_lasts of_lasts c d es h.links seen before) in
+      let now : AreOf (links.run c d es v) (line.run c d es seen) = runs_alike IsOf IsOf ⊥ of_lasts of_lasts c d es v seen also in
       let timely : AreTimely c d (r.events ++ es) from_nothing =
-      timely_append c d r.events es from_nothing r.timely (subst (λ (x : Sessions). AreTimely c d es x) (sym r.run) (all_timely_same c d es h.links v same n.timely)) in
+      timely_append c d r.events es from_nothing r.timely (subst (λ (x : Sessions). AreTimely c d es x) (sym r.run) (all_timely_same c d es h.links v seen before also n.timely)) in
       let runs : links.run c d (r.events ++ es) from_nothing ≡ links.run c d es v = links_append c d r.events es from_nothing ∙ ap (links.run c d es) r.run in
       let stands : standing_run c d (r.events ++ es) from_nothing first ≡ standing_run c d es v s =
       standing_append (λ (z : Standing). z ≡ standing_run c d es v s) c d r.events es from_nothing first
@@ -224,10 +154,10 @@ module _ (laws : SessionLaws) (law : StandingGoesAlong) (cfg : Cfg) (fine : IsCo
           timely = timely;
           run = runs;
           standing = stands;
-          near = now.near ∙ n.joined.near.link;
-          far = now.far ∙ n.joined.far.link;
-          out = now.out ∙ n.joined.out;
-          back = now.back ∙ n.joined.back;
+          near = sym now.near ∙ behind.near ∙ n.joined.near.link;
+          far = sym now.far ∙ behind.far ∙ n.joined.far.link;
+          out = sym now.out ∙ behind.out ∙ n.joined.out;
+          back = sym now.back ∙ behind.back ∙ n.joined.back;
         },
         stood (r.events ++ es) (links.run c d es v) (standing_run c d es v s) timely runs stands,
       )

@@ -45,8 +45,9 @@ use Rattle.x25_world.proofs.sessions.SessionCounts.{counted_at, counted_by, coun
 use Rattle.x25_world.proofs.sessions.SessionReaches.{Beginning, SessionsReach, IsAt, may_ask, known_sessions, sessions_act}
 use Rattle.x25_world.proofs.sessions.SessionJoined.{HasMet, PairIsInOrder, PairsAreInOrder, SessionsJoined, Goes, gave_none, stays}
 use Rattle.x25_world.proofs.sessions.SessionBeside.{spelled_bring}
+use Rattle.x25_line.proofs.ends.Meetings.{all_no_earlier}
 use Rattle.x25_world.specs.laws.LawsBelow.{SessionLaws}
-use Rattle.x25_world.proofs.sessions.SessionKnown.{all_no_earlier, met_in_order, pair_ends, here_in, here_is, there_is, pair_world, own_order, own_first, nothing_in_order}
+use Rattle.x25_world.proofs.sessions.SessionKnown.{met_in_order, pair_ends, here_in, here_is, there_is, own_order, own_first, nothing_in_order}
 use Rattle.x25_world.proofs.sessions.SessionEntries.{heard_plain, heard_beside, heard_confirms}
 use Rattle.x25_world.proofs.sessions.SessionLinks.{SessionGoes, spelled, puts_spelled, spelled_back, own_step, front_entry, deliver_goes, PutsRead}
 use Rattle.x25_world.proofs.sessions.SessionGoes.{here_extended}
@@ -69,21 +70,12 @@ front_of cfg octets rest (p ∷ flight) is = record { packet = p; others = fligh
 -- ---- meetings
 
 -- where one of the two met before, they met each other
-met_again : (m : Meeting) (ms : List Meeting) → AllMet (IsNoEarlier m) ms → SomeMet (λ (p : Meeting). p.near ≡ m.near) ms → HasMet m.near m.far ms
-met_again m [] all some = absurd some
-met_again m (p ∷ ms) all some = elim some [
-  | inl here ↦ elim all.0 [ inl same ↦ inl (same.0, same.1) | inr less ↦ absurd (never p.near m.near here less.0) ]
-  | inr there ↦ inr (met_again m ms all.1 there)
-]
-  where
-    never : (a b : ℕ) → a ≡ b → a < b → ⊥
-    never a b e lt = omega (arith, e, lt)
-
-met_again_there : (m : Meeting) (ms : List Meeting) → AllMet (IsNoEarlier m) ms → SomeMet (λ (p : Meeting). p.far ≡ m.far) ms → HasMet m.near m.far ms
-met_again_there m [] all some = absurd some
-met_again_there m (p ∷ ms) all some = elim some [
-  | inl here ↦ elim all.0 [ inl same ↦ inl (same.0, same.1) | inr less ↦ absurd (never p.far m.far here less.1) ]
-  | inr there ↦ inr (met_again_there m ms all.1 there)
+met_again : (number : Meeting → ℕ) (m : Meeting) → ((p : Meeting) → (p.near < m.near) × (p.far < m.far) → number p < number m) → (ms : List Meeting) → AllMet (IsNoEarlier m) ms
+    → SomeMet (λ (p : Meeting). number p ≡ number m) ms → HasMet m.near m.far ms
+met_again number m lower [] all some = absurd some
+met_again number m lower (p ∷ ms) all some = elim some [
+  | inl here ↦ elim all.0 [ inl same ↦ inl (same.0, same.1) | inr less ↦ absurd (never (number p) (number m) here (lower p less)) ]
+  | inr there ↦ inr (met_again number m lower ms all.1 there)
 ]
   where
     never : (a b : ℕ) → a ≡ b → a < b → ⊥
@@ -115,9 +107,9 @@ module _ {since : Beginning} (laws : SessionLaws) (cfg : Cfg) (fine : IsConfigur
       elim (unmet.near here) [
         | inl empty ↦ elim (unmet.far there) [
           | inl empty_there ↦ nothing_in_order cfg end h.trace here there (h.near.alone here empty) (h.far.alone there empty_there)
-          | inr some ↦ met_in_order cfg end h.trace h.links.met here there h.pairs (met_again_there now_met h.links.met earlier some)
+          | inr some ↦ met_in_order cfg end h.trace h.links.met here there h.pairs (met_again (λ (p : Meeting). p.far) now_met (λ p less. less.1) h.links.met earlier some)
         ]
-        | inr some ↦ met_in_order cfg end h.trace h.links.met here there h.pairs (met_again now_met h.links.met earlier some)
+        | inr some ↦ met_in_order cfg end h.trace h.links.met here there h.pairs (met_again (λ (p : Meeting). p.near) now_met (λ p less. less.0) h.links.met earlier some)
       ]
 
   record HaveMet (v : Sessions) : Type 0 where
@@ -257,10 +249,10 @@ module _ {since : Beginning} (laws : SessionLaws) (cfg : Cfg) (fine : IsConfigur
       own_there = own cfg (other end) there h.trace
 
       abbrev flight : List PlainPacket
-      flight = (pair_world laws cfg end here there h.trace).back
+      flight = (own_order laws cfg end here there h.trace paired).0
 
       given_is : own_there.given ≡ own_here.taken ++ flight
-      given_is = own_order laws cfg end here there h.trace paired
+      given_is = (own_order laws cfg end here there h.trace paired).1
 
       in_front : Front cfg packet_octets flight
       in_front =

@@ -45,8 +45,9 @@ use Rattle.x25_world.proofs.sessions.SessionCounts.{counted_in, CountNone}
 use Rattle.x25_world.proofs.sessions.SessionReaches.{Beginning, MayAsk, IsAt, may_ask, SessionsReach}
 use Rattle.x25_world.proofs.sessions.SessionJoined.{HasMet, PairIsInOrder, PairsAreInOrder, SessionsJoined, Goes, gave_none, stays}
 use Rattle.x25_world.proofs.sessions.SessionBeside.{brought, AreTold, spelled_bring, FirstMayGo, spelled_with_bring, own_goes_first}
+use Rattle.x25_line.proofs.ends.Meetings.{all_map}
 use Rattle.x25_world.specs.laws.LawsBelow.{SessionLaws}
-use Rattle.x25_world.proofs.sessions.SessionKnown.{met_in_order, all_map, pair_ends, own_quiet, own_readable, nothing_in_order}
+use Rattle.x25_world.proofs.sessions.SessionKnown.{met_in_order, pair_ends, own_quiet, own_readable, nothing_in_order}
 use Rattle.x25_world.proofs.sessions.SessionEntries.{ArePlain, outcome_plain, outcome_beside, outcome_counts}
 use Rattle.x25_world.proofs.sessions.SessionLinks.{puts_up, SessionGoes, PutsOctets, spelled, puts_spelled, spelled_with, puts_spelled_with, AreReadBack, spelled_back, spelled_with_back, back_read, back_octets, puts_go, stays_goes, PutsRead}
 use Rattle.x25_world.proofs.sessions.SessionGoes.{same_or_not, IsNews, goes_on}

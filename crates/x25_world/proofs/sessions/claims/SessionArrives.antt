@@ -26,11 +26,12 @@ use Rattle.x25_world.specs.laws.Sessions.{Progress, last_session, handed_in, mee
 use Rattle.x25_world.specs.laws.SessionClaims.{OpenStretchesMeet, AllArrive}
 use Rattle.x25_world.proofs.Known.{IsConfigured, both_true, true_false}
 use Rattle.x25_world.proofs.Growing.{all_read, as_read, none_read, as_many}
-use Rattle.x25_world.proofs.sessions.SessionTrace.{layer_of, Done, own_in, own, pair_in}
+use Rattle.x25_world.proofs.sessions.SessionTrace.{layer_of, Done, own_in, own}
 use Rattle.x25_world.proofs.sessions.SessionReaches.{Beginning, known_sessions}
 use Rattle.x25_world.proofs.sessions.SessionJoined.{HasMet, PairIsInOrder, SessionsJoined, sessions_swapped}
+use Rattle.x25_line.proofs.ends.Meetings.{all_some}
 use Rattle.x25_world.specs.laws.LawsBelow.{SessionLaws}
-use Rattle.x25_world.proofs.sessions.SessionKnown.{all_some, some_map, met_in_order, pair_world, world_here, world_there}
+use Rattle.x25_world.proofs.sessions.SessionKnown.{some_map, met_in_order, of_either}
 use Rattle.x25_layer.specs.code.FitsLayer.{waits_up_to}
 use Rattle.std.proofs.lemmas.Bool.{eqb-true, eq-eqb, leb-true}
 
@@ -119,18 +120,12 @@ up_where_open s k kept opened = by (is_up s.link.phase) refl
 -- ---- of two layers in order
 
 module _ (laws : SessionLaws) (cfg : Cfg) where
-  arrives_here : (end : Role) (n m : ℕ) (trace : List Done) → PairIsInOrder cfg end trace n m → (k acked : ℕ) → IsIdleTo k (pair_world laws cfg end n m trace).near (pair_world laws cfg end n m trace).far acked
-      → HasAllOf k (name_of (pair_world laws cfg end n m trace).near.layer k) (pair_world laws cfg end n m trace).near.entries (pair_world laws cfg end n m trace).far.entries
-  arrives_here Dte n m trace order = (laws.layers_arrive cfg.long_data cfg.channels (pair_in n m trace) order).near
-  arrives_here Dce n m trace order = (laws.layers_arrive cfg.long_data cfg.channels (pair_in m n trace) order).far
-
   -- of any two ends
-  abbrev ArrivesFrom : layer.End → layer.End → Type 0
-  ArrivesFrom giver taker = (k acked : ℕ) → IsIdleTo k giver taker acked → HasAllOf k (name_of giver.layer k) giver.entries taker.entries
+  abbrev ArrivesFrom : Role → layer.End → layer.End → Type 0
+  ArrivesFrom end giver taker = (k acked : ℕ) → IsIdleTo k giver taker acked → HasAllOf k (name_of giver.layer k) giver.entries taker.entries
 
-  own_arrives : (end : Role) (n m : ℕ) (trace : List Done) → PairIsInOrder cfg end trace n m → ArrivesFrom (own cfg end n trace) (own cfg (other end) m trace)
-  own_arrives end n m trace order = subst (λ (e : layer.End). ArrivesFrom e (own cfg (other end) m trace)) (world_here laws cfg end n m trace)
-      (subst (λ (f : layer.End). ArrivesFrom (pair_world laws cfg end n m trace).near f) (world_there laws cfg end n m trace) (arrives_here end n m trace order))
+  own_arrives : (end : Role) (n m : ℕ) (trace : List Done) → PairIsInOrder cfg end trace n m → ArrivesFrom end (own cfg end n trace) (own cfg (other end) m trace)
+  own_arrives = of_either laws cfg ArrivesFrom (λ events order. (let both = laws.layers_arrive cfg.long_data cfg.channels events order in (both.near, both.far)))
 
 -- the sessions of both ends that stand meet each other, as the near end sees it
 pub record StandingMeet {since : Beginning} (cfg : Cfg) (end : Role) (w : World) (h : SessionsJoined since cfg end w) : Type 0 where
@@ -164,8 +159,8 @@ module _ (laws : SessionLaws) (cfg : Cfg) (fine : IsConfigured cfg) where
 
       is_latest : (m : ℕ) → HasMet n m h.links.met → m ≡ h.links.far.begun
       is_latest m met =
-          (all_some (λ (p : Meeting). p.near ≡ n → p.far ≡ h.links.far.begun) (λ (p : Meeting). (p.near ≡ n) × (p.far ≡ m)) (λ (p : Meeting). m ≡ h.links.far.begun) (λ (p : Meeting) only is. sym is.1 ∙ only is.0) h.links.met
-          ((known_sessions EachMeetsLatest laws.agree cfg fine end h.links h.reach).near (ap (λ (x : LinkStation). is_up x.phase) h.near.link ∙ up)) met).1
+          all_some (λ (p : Meeting). p.near ≡ n → p.far ≡ h.links.far.begun) (λ (p : Meeting). (p.near ≡ n) × (p.far ≡ m)) (m ≡ h.links.far.begun) (λ (p : Meeting) only is. sym is.1 ∙ only is.0) h.links.met
+          ((known_sessions EachMeetsLatest laws.agree cfg fine end h.links h.reach).near (ap (λ (x : LinkStation). is_up x.phase) h.near.link ∙ up)) met
 
       standing : (m : ℕ) → m ≡ h.links.far.begun → meets end n w.transcript ≡ Some m → HasMet n m h.links.met → 1 ≤ m → StandingMeet cfg end w h
       standing m same told met low = record {

@@ -1,5 +1,5 @@
 -- Of what an end is told as confirmed in a session, as many messages the other end handed up in the session that it meets.
-use Rattle.std.proofs.Common.{◌≡◌, ℕ, ◌≤◌, inl, inr, List, [], Some, None, sym, ap, ◌∙◌, subst, arith}
+use Rattle.std.proofs.Common.{◌≡◌, ℕ, ◌≤◌, List, [], Some, None, ap, subst, arith}
 use Rattle.x25_bits.specs.declared.role.Role.{Role}
 use Rattle.x25_bits.specs.declared.role.Role.TheVariants.{Dte, Dce}
 use Rattle.x25_handshakes.specs.laws.Names.{Name}
@@ -16,13 +16,13 @@ use Rattle.x25_world.specs.laws.Sessions.{session_at, handed_in, meets}
 use Rattle.x25_world.specs.laws.ConfirmedClaims.{confirmed_in, asked_among, ConfirmedAreHandedUp}
 use Rattle.x25_world.specs.laws.LawsBelow.{SessionLaws}
 use Rattle.x25_world.proofs.Known.{IsConfigured}
-use Rattle.x25_world.proofs.sessions.SessionTrace.{layer_of, Done, own_in, own, pair_in, near_of_pair, far_of_pair}
+use Rattle.x25_world.proofs.sessions.SessionTrace.{layer_of, Done, own_in, own, numbers, pair_at, moves_of_pair}
 use Rattle.x25_world.proofs.sessions.SessionCounts.{counted_in, none_counted}
-use Rattle.x25_world.proofs.sessions.SessionConfirms.{up_of, near_confirms, far_confirms}
+use Rattle.x25_world.proofs.sessions.SessionConfirms.{up_of, confirms}
 use Rattle.x25_world.proofs.sessions.SessionReaches.{Beginning, known_sessions}
 use Rattle.x25_world.proofs.sessions.SessionJoined.{HasMet, PairIsInOrder, SessionsJoined, sessions_swapped}
 use Rattle.x25_world.proofs.sessions.SessionKnown.{met_in_order, pair_ends, here_in, there_is}
-use Rattle.x25_world.proofs.sessions.claims.SessionMeets.{told_met, begun_both}
+use Rattle.x25_world.proofs.sessions.claims.SessionMeets.{told_met, unmet_up, begun_both}
 
 module _ (laws : SessionLaws) (cfg : Cfg) (k : ℕ) (name : Name) where
   abbrev counted : Role → List OwnMove → ℕ
@@ -30,11 +30,11 @@ module _ (laws : SessionLaws) (cfg : Cfg) (k : ℕ) (name : Name) where
 
   pair_confirms : (end : Role) (n m : ℕ) (trace : List Done) → PairIsInOrder cfg end trace n m → counted end (own_in end n trace) ≤ up_of k name (here_in (other end) (pair_ends cfg end n m trace))
   pair_confirms Dte n m trace order =
-      subst (λ (l : List OwnMove). counted Dte l ≤ up_of k name (pair_ends cfg Dte n m trace).far) (near_of_pair n m trace)
-      (near_confirms cfg.long_data cfg.channels laws.behind (laws.layers_acknowledged cfg.long_data cfg.channels) k name (pair_in n m trace) order)
+      subst (λ (l : List OwnMove). counted Dte l ≤ up_of k name (pair_ends cfg Dte n m trace).far) (moves_of_pair (numbers n m) Dte trace)
+      (confirms cfg.long_data cfg.channels laws.behind (laws.layers_acknowledged cfg.long_data cfg.channels) k name Dte (pair_at Dte n m trace) order)
   pair_confirms Dce n m trace order =
-      subst (λ (l : List OwnMove). counted Dce l ≤ up_of k name (pair_ends cfg Dce n m trace).near) (far_of_pair m n trace)
-      (far_confirms cfg.long_data cfg.channels laws.behind (laws.layers_acknowledged cfg.long_data cfg.channels) k name (pair_in m n trace) order)
+      subst (λ (l : List OwnMove). counted Dce l ≤ up_of k name (pair_ends cfg Dce n m trace).near) (moves_of_pair (numbers m n) Dce trace)
+      (confirms cfg.long_data cfg.channels laws.behind (laws.layers_acknowledged cfg.long_data cfg.channels) k name Dce (pair_at Dce n m trace) order)
 
   own_confirms : (end : Role) (n m : ℕ) (trace : List Done) → PairIsInOrder cfg end trace n m → counted end (own_in end n trace) ≤ up_of k name (own cfg (other end) m trace)
   own_confirms end n m trace order = subst (λ (e : layer.End). counted end (own_in end n trace) ≤ up_of k name e) (there_is laws cfg end n m trace) (pair_confirms end n m trace order)
@@ -55,17 +55,8 @@ module _ (laws : SessionLaws) (cfg : Cfg) (fine : IsConfigured cfg) {since : Beg
   unmet_from : (n : ℕ) → meets end n w.transcript ≡ None → (k : ℕ) (name : Name) → confirmed_in k name (session_at end n w.transcript) ≡ 0
   unmet_from n unmet k name =
       let counts = h.near.confirmed n k name in
-      let none = none_counted (layer_of cfg end) k name (own_in end n h.trace) (started (goes_up (layer_of cfg end))) (h.near.alone n nothing_up) in
+      let none = none_counted (layer_of cfg end) k name (own_in end n h.trace) (started (goes_up (layer_of cfg end))) (h.near.alone n (unmet_up (λ (n m : ℕ). HasMet n m h.links.met) n (h.links.near.up n) (meets end n w.transcript) (h.near_hears n) unmet)) in
       omega (arith, counts, none)
-    where
-      not_met : (m : ℕ) → meets end n w.transcript ≡ Some m → ⊥
-      not_met m some = never (sym unmet ∙ some)
-        where
-          never : None ≡ Some m → ⊥
-          never e = cc
-
-      nothing_up : h.links.near.up n ≡ []
-      nothing_up = elim (h.near_hears n) [ inl none ↦ none.0 | inr one ↦ absurd (not_met one.session one.told) ]
 
 module _ (laws : SessionLaws) (cfg : Cfg) (fine : IsConfigured cfg) {since : Beginning} (w : World) (h : SessionsJoined since cfg Dte w) where
   met_confirmed : (end : Role) (n m : ℕ) → meets end n w.transcript ≡ Some m → (k : ℕ) (name : Name)

@@ -1,5 +1,5 @@
 -- What the user of an end is told that came beside a packet is what the user of the other end gave.
-use Rattle.std.proofs.Common.{◌≡◌, ℕ, inl, inr, List, [], Some, None, sym, ap, ◌∙◌, subst}
+use Rattle.std.proofs.Common.{◌≡◌, ℕ, inl, inr, List, [], Some, None, sym, ap, subst}
 use Rattle.x25_bits.specs.declared.role.Role.{Role}
 use Rattle.x25_bits.specs.declared.role.Role.TheVariants.{Dte, Dce}
 use Rattle.x25_handshakes.specs.laws.Histories.{IsPrefix}
@@ -10,18 +10,17 @@ use Rattle.x25_station.specs.declared.config.Cfg.{Cfg}
 use Rattle.x25_station.specs.laws.KeepLaw.{ConnectKeeps}
 use Rattle.x25_world.specs.World.{World, Event, swapped, run}
 use Rattle.x25_world.specs.laws.BesideClaims.{Came, came_in, Gave, gave_in, IsGiven, AreSomeOf, BesideIsGiven}
-use Rattle.x25_world.specs.laws.Claims.{entries_at}
+use Rattle.x25_line.proofs.ends.Meetings.{all_some}
 use Rattle.x25_world.specs.laws.LawsBelow.{SessionLaws}
 use Rattle.x25_world.specs.laws.SessionClaims.{ThroughoutAlong}
-use Rattle.x25_world.specs.laws.Sessions.{none_begun, session_from, session_at, meets}
+use Rattle.x25_world.specs.laws.Sessions.{session_at, meets}
 use Rattle.x25_world.proofs.Known.{IsConfigured, is_configured}
 use Rattle.x25_world.proofs.sessions.SessionReaches.{Beginning, both_down, known_sessions}
 use Rattle.x25_world.proofs.sessions.SessionBeside.{brought, brought_append, AreTold, MoreIs, some_begin, some_of_same, some_of_none}
 use Rattle.x25_world.proofs.sessions.SessionJoined.{HasMet, SessionsJoined, sessions_swapped}
-use Rattle.x25_world.proofs.sessions.SessionKnown.{all_some}
 use Rattle.x25_world.proofs.sessions.SessionRuns.{RunGoes, throughout_goes}
-use Rattle.x25_world.proofs.sessions.claims.SessionLawful.{which_session, session_zero}
-use Rattle.x25_world.proofs.sessions.claims.SessionMeets.{told_met, begun_both}
+use Rattle.x25_world.proofs.sessions.claims.SessionLawful.{which_session, unbegun_nothing}
+use Rattle.x25_world.proofs.sessions.claims.SessionMeets.{told_met, unmet_up, begun_both}
 
 -- of octets of which these are a beginning
 begin_given : (cfg : Cfg) (told : List Came) (up down : List (List ℕ)) (gave : List Gave) → AreTold told (brought cfg up) → IsPrefix up down → AreSomeOf IsGiven (brought cfg down) gave → AreSomeOf IsGiven told gave
@@ -39,28 +38,19 @@ module _ (laws : SessionLaws) (cfg : Cfg) (fine : IsConfigured cfg) {since : Beg
   met_from n m gave given told =
       let met = told_met (λ (n m : ℕ). HasMet n m h.links.met) n m (h.links.near.up n) (meets end n w.transcript) (h.near_hears n) told in
       let high = begun_both h.links.near.begun h.links.far.begun h.links.met n m (known_sessions OnlyBegunHaveLists laws.begun cfg fine end h.links h.reach).met met.has_met in
-      let begins = (all_some (IsInOrder h.links.near h.links.far) (λ (p : Meeting). (p.near ≡ n) × (p.far ≡ m)) (λ (p : Meeting). IsPrefix (h.links.near.up n) (h.links.far.down m))
+      let begins = all_some (IsInOrder h.links.near h.links.far) (λ (p : Meeting). (p.near ≡ n) × (p.far ≡ m)) (IsPrefix (h.links.near.up n) (h.links.far.down m))
       (λ (p : Meeting) order is. subst (λ (k : ℕ). IsPrefix (h.links.near.up k) (h.links.far.down m)) is.0 (subst (λ (k : ℕ). IsPrefix (h.links.near.up p.near) (h.links.far.down k)) is.1 order.back))
-      h.links.met (known_sessions MetAreInOrder laws.order cfg fine end h.links h.reach) met.has_met).1 in
+      h.links.met (known_sessions MetAreInOrder laws.order cfg fine end h.links h.reach) met.has_met in
       begin_given cfg (came_in (session_at end n w.transcript)) (h.links.near.up n) (h.links.far.down m) gave (h.near.sessions n met.begun.0 high.0).beside begins given
 
   unmet_from : (n : ℕ) → meets end n w.transcript ≡ None → came_in (session_at end n w.transcript) ≡ []
   unmet_from n unmet = elim (which_session h.links.near.begun n) [
-    | inl never ↦ elim never [
-      | inl zeroth ↦ ap (λ (k : ℕ). came_in (session_from k none_begun (entries_at end w.transcript))) zeroth ∙ ap came_in (session_zero (entries_at end w.transcript))
-      | inr later ↦ ap came_in (h.near.later n later).entries
-    ]
+    | inl never ↦ ap came_in (unbegun_nothing cfg end w h n never)
     | inr begun ↦ some_of_none (λ (x y : Came). x ≡ y) (came_in (session_at end n w.transcript)) (subst (λ (os : List (List ℕ)). AreTold (came_in (session_at end n w.transcript)) (brought cfg os)) nothing_up (h.near.sessions n begun.0 begun.1).beside)
   ]
     where
-      not_met : (m : ℕ) → meets end n w.transcript ≡ Some m → ⊥
-      not_met m some = never (sym unmet ∙ some)
-        where
-          never : None ≡ Some m → ⊥
-          never e = cc
-
       nothing_up : h.links.near.up n ≡ []
-      nothing_up = elim (h.near_hears n) [ inl none ↦ none.0 | inr one ↦ absurd (not_met one.session one.told) ]
+      nothing_up = unmet_up (λ (n m : ℕ). HasMet n m h.links.met) n (h.links.near.up n) (meets end n w.transcript) (h.near_hears n) unmet
 
 module _ (laws : SessionLaws) (cfg : Cfg) (fine : IsConfigured cfg) (begin : World) (events : List Event) (w : World)
     (r : RunGoes both_down cfg from_nothing (λ (n : ℕ). gave_in cfg Dte n events begin) (λ (n : ℕ). gave_in cfg Dce n events begin) w) where

@@ -6,7 +6,6 @@ use Rattle.x25_bits.specs.declared.role.Role.{Role}
 use Rattle.x25_bits.specs.declared.role.Role.TheVariants.{Dte, Dce}
 use Rattle.x25_link.specs.Hearing.{other}
 use Rattle.x25_line.specs.laws.SessionClaims.{OnlyBegunHaveLists}
-use Rattle.x25_layer.specs.laws.TwoLayers as layer
 use Rattle.x25_layer.specs.laws.Transcript.{Entry}
 use Rattle.x25_layer.specs.laws.Law.{HandsUpLawfully}
 use Rattle.x25_station.specs.declared.config.Cfg.{Cfg}
@@ -17,12 +16,12 @@ use Rattle.x25_world.specs.laws.Sessions.{Progress, none_begun, after_entry, is_
 use Rattle.x25_world.specs.laws.SessionClaims.{AreLawfulWhereMet, UnmetAreToldNothing}
 use Rattle.x25_world.proofs.Known.{IsConfigured}
 use Rattle.x25_world.proofs.Growing.{all_read, none_read}
-use Rattle.x25_world.proofs.sessions.SessionTrace.{layer_of, Done, own_in, own, pair_in}
+use Rattle.x25_world.proofs.sessions.SessionTrace.{layer_of, Done, own_in, own}
 use Rattle.x25_world.proofs.sessions.SessionReaches.{Beginning, known_sessions}
 use Rattle.x25_world.proofs.sessions.SessionJoined.{HasMet, PairIsInOrder, SessionsJoined, sessions_swapped}
 use Rattle.x25_world.specs.laws.LawsBelow.{SessionLaws}
-use Rattle.x25_world.proofs.sessions.SessionKnown.{met_in_order, pair_world, world_here, world_there}
-use Rattle.x25_world.proofs.sessions.claims.SessionMeets.{told_met, begun_both}
+use Rattle.x25_world.proofs.sessions.SessionKnown.{met_in_order, of_either}
+use Rattle.x25_world.proofs.sessions.claims.SessionMeets.{told_met, unmet_up, begun_both}
 
 -- ---- which session
 
@@ -62,19 +61,21 @@ before_first p (e ∷ entries) first =
     let goes_on = begins_after p e first in
     ap (λ (b : Bool). entry_if b e ++ session_from 0 q entries) (none_is_first q goes_on) ∙ before_first q entries goes_on
 
-pub session_zero : (entries : List StationEntry) → session_from 0 none_begun entries ≡ []
+session_zero : (entries : List StationEntry) → session_from 0 none_begun entries ≡ []
 session_zero entries = before_first none_begun entries (λ stands. absurd (cc))
+
+-- a session that isn't begun has no entry
+pub unbegun_nothing : {since : Beginning} (cfg : Cfg) (end : Role) (w : World) (h : SessionsJoined since cfg end w) (n : ℕ) → (n ≡ 0) ⊎ (h.links.near.begun < n) → session_at end n w.transcript ≡ []
+unbegun_nothing cfg end w h n never = elim never [
+  | inl zeroth ↦ ap (λ (k : ℕ). session_from k none_begun (entries_at end w.transcript)) zeroth ∙ session_zero (entries_at end w.transcript)
+  | inr later ↦ (h.near.later n later).entries
+]
 
 -- ---- of two layers in order
 
 module _ (laws : SessionLaws) (cfg : Cfg) where
-  lawful_here : (end : Role) (n m : ℕ) (trace : List Done) → PairIsInOrder cfg end trace n m → HandsUpLawfully (pair_world laws cfg end n m trace).near.entries (pair_world laws cfg end n m trace).far.entries
-  lawful_here Dte n m trace order = (laws.layers_lawful cfg.long_data cfg.channels (pair_in n m trace) order).near
-  lawful_here Dce n m trace order = (laws.layers_lawful cfg.long_data cfg.channels (pair_in m n trace) order).far
-
   pub own_lawful : (end : Role) (n m : ℕ) (trace : List Done) → PairIsInOrder cfg end trace n m → HandsUpLawfully (own cfg end n trace).entries (own cfg (other end) m trace).entries
-  own_lawful end n m trace order = subst (λ (e : layer.End). HandsUpLawfully e.entries (own cfg (other end) m trace).entries) (world_here laws cfg end n m trace)
-      (subst (λ (e : layer.End). HandsUpLawfully (pair_world laws cfg end n m trace).near.entries e.entries) (world_there laws cfg end n m trace) (lawful_here end n m trace order))
+  own_lawful = of_either laws cfg (λ end e f. HandsUpLawfully e.entries f.entries) (λ events order. (let both = laws.layers_lawful cfg.long_data cfg.channels events order in (both.near, both.far)))
 
 module _ (laws : SessionLaws) (cfg : Cfg) (fine : IsConfigured cfg) where
   -- ---- in a session that meets one
@@ -97,21 +98,12 @@ module _ (laws : SessionLaws) (cfg : Cfg) (fine : IsConfigured cfg) where
 
   untold_from : {since : Beginning} (end : Role) (w : World) → SessionsJoined since cfg end w → (n : ℕ) → meets end n w.transcript ≡ None → layer_notices (session_at end n w.transcript) ≡ []
   untold_from end w h n unmet = elim (which_session h.links.near.begun n) [
-    | inl never ↦ elim never [
-      | inl zeroth ↦ ap (λ (k : ℕ). layer_notices (session_from k none_begun (entries_at end w.transcript))) zeroth ∙ ap layer_notices (session_zero (entries_at end w.transcript))
-      | inr later ↦ ap layer_notices (h.near.later n later).entries
-    ]
+    | inl never ↦ ap layer_notices (unbegun_nothing cfg end w h n never)
     | inr begun ↦ at_session begun.0 begun.1
   ]
     where
-      not_met : (m : ℕ) → meets end n w.transcript ≡ Some m → ⊥
-      not_met m some = never (sym unmet ∙ some)
-        where
-          never : None ≡ Some m → ⊥
-          never e = cc
-
       nothing_up : h.links.near.up n ≡ []
-      nothing_up = elim (h.near_hears n) [ inl none ↦ none.0 | inr one ↦ absurd (not_met one.session one.told) ]
+      nothing_up = unmet_up (λ (n m : ℕ). HasMet n m h.links.met) n (h.links.near.up n) (meets end n w.transcript) (h.near_hears n) unmet
 
       at_session : 1 ≤ n → n ≤ h.links.near.begun → layer_notices (session_at end n w.transcript) ≡ []
       at_session low high =

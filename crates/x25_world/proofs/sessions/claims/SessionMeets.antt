@@ -13,8 +13,8 @@ use Rattle.x25_world.specs.laws.SessionClaims.{MeetInStep}
 use Rattle.x25_world.proofs.Known.{IsConfigured}
 use Rattle.x25_world.proofs.sessions.SessionReaches.{Beginning, known_sessions}
 use Rattle.x25_world.proofs.sessions.SessionJoined.{HasMet, Hears, SessionsJoined}
+use Rattle.x25_line.proofs.ends.Meetings.{all_no_earlier, all_some}
 use Rattle.x25_world.specs.laws.LawsBelow.{SessionLaws}
-use Rattle.x25_world.proofs.sessions.SessionKnown.{all_no_earlier, all_some}
 
 -- ---- by the links
 
@@ -25,13 +25,11 @@ AreInStep n m p q = ((n ≡ p) × (m ≡ q)) ⊎ (((n < p) × (m < q)) ⊎ ((p <
 -- this meeting is no later than one
 below : (x : Meeting) (ms : List Meeting) (n m : ℕ) → AllMet (IsNoEarlier x) ms → HasMet n m ms → ((n ≡ x.near) × (m ≡ x.far)) ⊎ ((n < x.near) × (m < x.far))
 below x ms n m all some =
-    (all_some (IsNoEarlier x) (λ (p : Meeting). (p.near ≡ n) × (p.far ≡ m)) (λ (p : Meeting). ((n ≡ x.near) × (m ≡ x.far)) ⊎ ((n < x.near) × (m < x.far))) (λ (p : Meeting) le is. no_later p le is) ms all some).1
+    all_some (IsNoEarlier x) (λ (p : Meeting). (p.near ≡ n) × (p.far ≡ m)) (((n ≡ x.near) × (m ≡ x.far)) ⊎ ((n < x.near) × (m < x.far))) no_later ms all some
   where
     no_later : (p : Meeting) → IsNoEarlier x p → (p.near ≡ n) × (p.far ≡ m) → ((n ≡ x.near) × (m ≡ x.far)) ⊎ ((n < x.near) × (m < x.far))
-    no_later p le is = elim le [ inl same ↦ inl (sym is.0 ∙ same.0, sym is.1 ∙ same.1) | inr less ↦ inr (lower p.near x.near n is.0 less.0, lower p.far x.far m is.1 less.1) ]
-      where
-        lower : (a b c : ℕ) → a ≡ c → a < b → c < b
-        lower a b c e lt = omega (arith, e, lt)
+    no_later p (inl same) is = inl (sym is.0 ∙ same.0, sym is.1 ∙ same.1)
+    no_later p (inr less) is = inr (omega (arith, is.0, less.0), omega (arith, is.1, less.1))
 
 two_in_step : (ms : List Meeting) → InStep ms → (n m p q : ℕ) → HasMet n m ms → HasMet p q ms → AreInStep n m p q
 two_in_step [] step n m p q f g = absurd f
@@ -52,11 +50,8 @@ two_in_step (x ∷ ms) step n m p q f g = elim f [
 -- both were begun
 pub begun_both : (near far : ℕ) (met : List Meeting) (n m : ℕ) → AllMet (λ (p : Meeting). (p.near ≤ near) × (p.far ≤ far)) met → HasMet n m met → (n ≤ near) × (m ≤ far)
 begun_both near far met n m all some =
-    (all_some (λ (p : Meeting). (p.near ≤ near) × (p.far ≤ far)) (λ (p : Meeting). (p.near ≡ n) × (p.far ≡ m)) (λ (p : Meeting). (n ≤ near) × (m ≤ far))
-    (λ (p : Meeting) le is. (below_begun p.near near n is.0 le.0, below_begun p.far far m is.1 le.1)) met all some).1
-  where
-    below_begun : (a b c : ℕ) → a ≡ c → a ≤ b → c ≤ b
-    below_begun a b c e le = omega (arith, e, le)
+    all_some (λ (p : Meeting). (p.near ≤ near) × (p.far ≤ far)) (λ (p : Meeting). (p.near ≡ n) × (p.far ≡ m)) ((n ≤ near) × (m ≤ far))
+    (λ (p : Meeting) le is. (omega (arith, is.0, le.0), omega (arith, is.1, le.1))) met all some
 
 -- ---- by the transcript
 
@@ -69,6 +64,13 @@ HasMetAt Dce n m met = HasMet m n met
 pub record MetBegun (Met : Type 0) (n m : ℕ) : Type 0 where
   pub has_met : Met
   pub begun : (1 ≤ n) × (1 ≤ m)
+
+-- nothing is handed up in a session that meets none
+pub unmet_up : (Met : ℕ → ℕ → Type 0) (n : ℕ) (up : List (List ℕ)) (met : Option ℕ) → Hears Met n up met → met ≡ None → up ≡ []
+unmet_up Met n up met h unmet = elim h [ inl none ↦ none.0 | inr one ↦ absurd (never one.session (sym unmet ∙ one.told)) ]
+  where
+    never : (m : ℕ) → None ≡ Some m → ⊥
+    never m e = cc
 
 pub told_met : (Met : ℕ → ℕ → Type 0) (n m : ℕ) (up : List (List ℕ)) (met : Option ℕ) → Hears Met n up met → met ≡ Some m → MetBegun (Met n m) n m
 told_met Met n m up met hears some = elim hears [

@@ -1,5 +1,5 @@
 -- The name of a stretch is what the session that stands tells of.
-use Rattle.std.proofs.Common.{◌≡◌, ℕ, List, true, sym, ap, ◌∙◌, subst, arith}
+use Rattle.std.proofs.Common.{◌≡◌, ℕ, List, true, sym, ap, ◌∙◌, arith}
 use Rattle.x25_bits.specs.declared.role.Role.{Role}
 use Rattle.x25_bits.specs.declared.role.Role.TheVariants.{Dte, Dce}
 use Rattle.x25_link.specs.Station.{is_up}
@@ -13,20 +13,16 @@ use Rattle.x25_world.specs.World.{World, swapped}
 use Rattle.x25_world.specs.laws.Sessions.{Progress, session_at, last_session}
 use Rattle.x25_world.specs.laws.SessionClaims.{AreNamedInSessions}
 use Rattle.x25_world.proofs.Known.{IsConfigured}
-use Rattle.x25_world.proofs.sessions.SessionTrace.{Done, own, pair_in}
+use Rattle.x25_world.proofs.sessions.SessionTrace.{Done, own}
 use Rattle.x25_world.proofs.sessions.SessionReaches.{Beginning}
 use Rattle.x25_world.proofs.sessions.SessionJoined.{PairIsInOrder, SessionsJoined, sessions_swapped}
 use Rattle.x25_world.specs.laws.LawsBelow.{SessionLaws}
-use Rattle.x25_world.proofs.sessions.SessionKnown.{pair_world, world_here}
+use Rattle.x25_world.proofs.sessions.SessionKnown.{of_either}
 use Rattle.x25_world.proofs.sessions.acts.SessionRequests.{session_pair}
 
 module _ (laws : SessionLaws) (cfg : Cfg) where
-  counts_here : (end : Role) (n m : ℕ) (trace : List Done) → PairIsInOrder cfg end trace n m → IsCounted (pair_world laws cfg end n m trace).near
-  counts_here Dte n m trace order = (laws.layers_named cfg.long_data cfg.channels (pair_in n m trace) order).near
-  counts_here Dce n m trace order = (laws.layers_named cfg.long_data cfg.channels (pair_in m n trace) order).far
-
   own_counts : (end : Role) (n m : ℕ) (trace : List Done) → PairIsInOrder cfg end trace n m → IsCounted (own cfg end n trace)
-  own_counts end n m trace order = subst (λ (e : layer.End). IsCounted e) (world_here laws cfg end n m trace) (counts_here end n m trace order)
+  own_counts = of_either laws cfg (λ end e f. IsCounted e) (λ events order. (let both = laws.layers_named cfg.long_data cfg.channels events order in (both.near, both.far)))
 
 module _ (laws : SessionLaws) (cfg : Cfg) (fine : IsConfigured cfg) where
   named_from : {since : Beginning} (end : Role) (w : World) → SessionsJoined since cfg end w → (k : ℕ) → is_up w.near.link.phase ≡ true

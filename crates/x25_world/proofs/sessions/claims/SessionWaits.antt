@@ -18,10 +18,10 @@ use Rattle.x25_layer.specs.declared.error.LayerError.TheVariants as error
 use Rattle.x25_layer.specs.Layer.{Layer, is_channel, is_ready}
 use Rattle.x25_layer.specs.Calls.{PullsAll, outcome_in, layer_outcome}
 use Rattle.x25_layer.specs.Rounds.{LinkView, Putting, begin, rounds, Answered, Went, Refuses, went, calls}
-use Rattle.x25_layer.specs.laws.Apart.{AlwaysApart, as_world}
+use Rattle.x25_layer.specs.laws.Apart.{AlwaysApart, apart_run, apart_start, as_world}
 use Rattle.x25_layer.specs.laws.Transcript.{Entry, name_of}
 use Rattle.x25_layer.specs.laws.TwoLayers as layer
-use Rattle.x25_layer.specs.laws.Law.{HasAllOf, KeepsOrder}
+use Rattle.x25_layer.specs.laws.Law.{HasAllOf}
 use Rattle.x25_layer.specs.laws.WaitLaw as wait
 use Rattle.x25_layer.specs.laws.WaitLaw.{PullsNone, RoundsLeaveNone, StillPullsNone, KeepsNoneClosed, OpensNoneInRestart, IsDrained, IsOpenAtBoth, WaitForUsersAlone}
 use Rattle.x25_station.specs.declared.config.Cfg.{Cfg}
@@ -38,10 +38,10 @@ use Rattle.x25_world.specs.laws.WaitClaims.{WaitsForUser, Arrived, NotReady, Mes
 use Rattle.x25_world.specs.laws.LawsBelow.{SessionLaws}
 use Rattle.x25_world.proofs.Known.{IsConfigured, is_configured, both_true, true_false}
 use Rattle.x25_world.proofs.Growing.{all_read, as_read, as_many}
-use Rattle.x25_world.proofs.sessions.SessionTrace.{layer_of, Done, own, pair_in}
+use Rattle.x25_world.proofs.sessions.SessionTrace.{layer_of, Done, own}
 use Rattle.x25_world.proofs.sessions.SessionReaches.{Beginning, known_sessions}
 use Rattle.x25_world.proofs.sessions.SessionJoined.{PairIsInOrder, SessionsJoined, sessions_swapped}
-use Rattle.x25_world.proofs.sessions.SessionKnown.{some_map, met_in_order, pair_ends, pair_world, world_here, world_there}
+use Rattle.x25_world.proofs.sessions.SessionKnown.{some_map, met_in_order, of_either}
 use Rattle.x25_world.proofs.sessions.SessionRuns.{throughout_joined}
 use Rattle.x25_world.proofs.sessions.acts.SessionRequests.{session_pair}
 use Rattle.x25_world.proofs.sessions.claims.SessionArrives.{stretch_of, name_if, open_if, meet_from, latest_near, latest_far}
@@ -77,38 +77,22 @@ none_left given taken out order all =
     let l : length given ≡ length taken + length out = ap length order ∙ length-append taken out in
     no_length out (let e : length out ≡ 0 = omega (arith, l, all) in e)
 
-drained_turned : (w : layer.TwoLayers) → IsDrained (layer.turned w) → IsDrained w
-drained_turned w d = record { near_up = d.far_up; far_up = d.near_up; out = d.back; back = d.out }
-
 abbrev pub LayersWait : Type 0
 LayersWait = (long_data : Bool) (channels : Ranges) → AlwaysApart (WaitForUsersAlone long_data channels) long_data channels
 
 module _ (laws : SessionLaws) (waits_law : LayersWait) (cfg : Cfg) where
-  order_here : (end : Role) (n m : ℕ) (trace : List Done) → PairIsInOrder cfg end trace n m → KeepsOrder (pair_world laws cfg end n m trace)
-  order_here Dte n m trace order = laws.layers_order cfg.long_data cfg.channels (pair_in n m trace) order
-  order_here Dce n m trace order =
-      let k = laws.layers_order cfg.long_data cfg.channels (pair_in m n trace) order in
-      record { near = k.far; far = k.near }
-
-  waits_here : (end : Role) (n m : ℕ) (trace : List Done) → PairIsInOrder cfg end trace n m → IsDrained (pair_world laws cfg end n m trace) → PullsNone (layer_of cfg end) (pair_world laws cfg end n m trace).near.layer
-      → (k : ℕ) → is_channel cfg.channels k ≡ true → wait.WaitsForUser k (pair_world laws cfg end n m trace).near (pair_world laws cfg end n m trace).far
-  waits_here Dte n m trace order drained none k is = (waits_law cfg.long_data cfg.channels (pair_in n m trace) order).near drained none k is
-  waits_here Dce n m trace order drained none k is = (waits_law cfg.long_data cfg.channels (pair_in m n trace) order).far (drained_turned (as_world (pair_ends cfg Dce n m trace)) drained) none k is
-
-  -- of any two ends
   abbrev WaitsFrom : Role → layer.End → layer.End → Type 0
   WaitsFrom end giver taker = giver.is_out ≡ false → taker.is_out ≡ false → length taker.taken ≡ length giver.given → length giver.taken ≡ length taker.given → PullsNone (layer_of cfg end) giver.layer
       → (k : ℕ) → is_channel cfg.channels k ≡ true → wait.WaitsForUser k giver taker
 
-  waits_in_pair : (end : Role) (n m : ℕ) (trace : List Done) → PairIsInOrder cfg end trace n m → WaitsFrom end (pair_world laws cfg end n m trace).near (pair_world laws cfg end n m trace).far
-  waits_in_pair end n m trace order up up_there all all_back none k is =
-      let p = pair_world laws cfg end n m trace in
-      let keeps = order_here end n m trace order in
-      waits_here end n m trace order (record { near_up = up; far_up = up_there; out = none_left p.near.given p.far.taken p.out keeps.near all; back = none_left p.far.given p.near.taken p.back keeps.far all_back }) none k is
-
   own_waits : (end : Role) (n m : ℕ) (trace : List Done) → PairIsInOrder cfg end trace n m → WaitsFrom end (own cfg end n trace) (own cfg (other end) m trace)
-  own_waits end n m trace order = subst (λ (e : layer.End). WaitsFrom end e (own cfg (other end) m trace)) (world_here laws cfg end n m trace)
-      (subst (λ (f : layer.End). WaitsFrom end (pair_world laws cfg end n m trace).near f) (world_there laws cfg end n m trace) (waits_in_pair end n m trace order))
+  own_waits = of_either laws cfg WaitsFrom (λ events order.
+      (let w = as_world (apart_run cfg.long_data cfg.channels events (apart_start cfg.long_data cfg.channels)) in
+      let keeps = laws.layers_order cfg.long_data cfg.channels events order in
+      let wait_for = waits_law cfg.long_data cfg.channels events order in
+      let drained : w.near.is_out ≡ false → w.far.is_out ≡ false → length w.far.taken ≡ length w.near.given → length w.near.taken ≡ length w.far.given → IsDrained w =
+      λ up up_there all all_back. record { near_up = up; far_up = up_there; out = none_left w.near.given w.far.taken w.out keeps.near all; back = none_left w.far.given w.near.taken w.back keeps.far all_back } in
+      (λ up up_there all all_back. wait_for.near (drained up up_there all all_back), λ up up_there all all_back. wait_for.far (drained up_there up all_back all))))
 
 -- ---- of a world
 
@@ -196,12 +180,8 @@ abbrev pub LayersKeepNone : Type 0
 LayersKeepNone = (long_data : Bool) (channels : Ranges) → AlwaysApart wait.ClosedKeepNone long_data channels
 
 module _ (laws : SessionLaws) (closed_law : LayersKeepNone) (cfg : Cfg) (fine : IsConfigured cfg) where
-  closed_here : (end : Role) (n m : ℕ) (trace : List Done) → PairIsInOrder cfg end trace n m → KeepsNoneClosed (pair_world laws cfg end n m trace).near
-  closed_here Dte n m trace order = (closed_law cfg.long_data cfg.channels (pair_in n m trace) order).near
-  closed_here Dce n m trace order = (closed_law cfg.long_data cfg.channels (pair_in m n trace) order).far
-
   own_closed : (end : Role) (n m : ℕ) (trace : List Done) → PairIsInOrder cfg end trace n m → KeepsNoneClosed (own cfg end n trace)
-  own_closed end n m trace order = subst (λ (e : layer.End). KeepsNoneClosed e) (world_here laws cfg end n m trace) (closed_here end n m trace order)
+  own_closed = of_either laws cfg (λ end e f. KeepsNoneClosed e) (λ events order. (let both = closed_law cfg.long_data cfg.channels events order in (both.near, both.far)))
 
   closed_from : {since : Beginning} (end : Role) (w : World) → SessionsJoined since cfg end w → (k : ℕ) → is_open (w.near.layer.circuits k) ≡ false → waits (w.near.layer.circuits k) ≡ 0
   closed_from end w h k closed = by (is_up w.near.link.phase) refl
@@ -224,12 +204,8 @@ LayersOpenNone = (long_data : Bool) (channels : Ranges) → AlwaysApart wait.Non
 
 -- while a restart is under way no circuit is open
 module _ (laws : SessionLaws) (shut_law : LayersOpenNone) (cfg : Cfg) (fine : IsConfigured cfg) where
-  shut_here : (end : Role) (n m : ℕ) (trace : List Done) → PairIsInOrder cfg end trace n m → OpensNoneInRestart (pair_world laws cfg end n m trace).near
-  shut_here Dte n m trace order = (shut_law cfg.long_data cfg.channels (pair_in n m trace) order).near
-  shut_here Dce n m trace order = (shut_law cfg.long_data cfg.channels (pair_in m n trace) order).far
-
   own_shut : (end : Role) (n m : ℕ) (trace : List Done) → PairIsInOrder cfg end trace n m → OpensNoneInRestart (own cfg end n trace)
-  own_shut end n m trace order = subst (λ (e : layer.End). OpensNoneInRestart e) (world_here laws cfg end n m trace) (shut_here end n m trace order)
+  own_shut = of_either laws cfg (λ end e f. OpensNoneInRestart e) (λ events order. (let both = shut_law cfg.long_data cfg.channels events order in (both.near, both.far)))
 
   shut_from : {since : Beginning} (end : Role) (w : World) → SessionsJoined since cfg end w → w.near.layer.restarting ≡ true → (k : ℕ) → is_open (w.near.layer.circuits k) ≡ false
   shut_from end w h restarts k = by (is_up w.near.link.phase) refl
