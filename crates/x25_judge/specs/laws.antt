@@ -1,5 +1,4 @@
 -- What the laws of this crate say (src/law.rt), and the traces that they are about.
-pub mod Keeping
 pub mod Sessions
 pub mod Session
 pub mod Watching

@@ -3,8 +3,8 @@
 ghost use Rattle.x25_frame.specs.laws.ReadingLaw.{ReadsSpelled, ReadsWhatIsSpelled};
 ghost use Rattle.x25_judge.specs.laws.VerdictClaims.{GuiltyAreTold, JudgedFinalsAreTold, JudgedSendingsAreTold};
 ghost use Rattle.x25_judge.specs.laws.VerdictClaims.{ToldAreGuilty};
-ghost use Rattle.x25_judge.specs.laws.VerdictClaims.{NoInnocentIsAccused, NoStationIsAccused};
-ghost use Rattle.x25_judge.specs.laws.VerdictClaims.{NoSessionIsAccused, SilenceMeansOrder, SilenceMeansRules};
+ghost use Rattle.x25_judge.specs.laws.VerdictClaims.{NoSessionIsAccused, NoStationIsAccused};
+ghost use Rattle.x25_judge.specs.laws.VerdictClaims.{SilenceMeansOrder, SilenceMeansRules};
 ghost use Rattle.x25_judge.specs.laws.VerdictClaims.{SetUpsBegin, SilenceMeansNumbers};
 ghost use Rattle.x25_line.specs.laws.LawsBelow.{Laws};
 ghost use Rattle.x25_line.specs.laws.PeerClaims.{KeepsOrder, OnAnySilentTape};
@@ -21,20 +21,14 @@ pub fn set_ups_begin()
     ensures { SetUpsBegin }
 {}
 
-/// An end that keeps the rules of docs/PEER.md, and whose numbers go one by one when they go for the first time, is
-/// told of by no rule of order of the link layer: an N(R) that acknowledges what was never sent or falls, other octets
-/// in an I frame that goes again, more than seven I frames unacknowledged. That holds whatever frames the other end
-/// sends, whether it keeps any rule or not, whatever of them comes, is heard or taken, and whichever of its lines are
-/// damaged, from a set-up on to the next frame without a number. Nothing comes behind which 64 more lines of the other
-/// end were shown. Of octets of it that pass the check and are no frame it says nothing, and no law here does.
-pub fn innocents_stay_untold()
-    ensures { NoInnocentIsAccused }
-{}
-
-/// The same over any number of link set-ups, of the whole trace from its first line on: an end that keeps these rules
-/// and those of set-up of docs/PEER.md is told of by no rule of order of the link layer, whatever frames the other end
-/// sends, SABM, UA, DISC and DM at any moment too, and whatever of them comes or is damaged. Beyond those rules it
-/// leaves its session as it sends DM or FRMR and as it answers DISC.
+/// An end that keeps the rules of docs/PEER.md, over any number of link set-ups, and whose numbers go one by one when
+/// they go for the first time, is told of by no rule of order of the link layer: an N(R) that acknowledges what was
+/// never sent or falls, other octets in an I frame that goes again, more than seven I frames unacknowledged. That holds
+/// of the whole trace from its first line on, and from any set-up on, whatever frames the other end sends, whether it
+/// keeps any rule or not, SABM, UA, DISC and DM at any moment too, whatever of them comes, is heard or taken, and
+/// whichever lines are damaged. Nothing comes behind which 64 more lines of the other end were shown. Beyond those
+/// rules it leaves its session as it sends DM or FRMR and as it answers DISC. Of octets of it that pass the check and
+/// are no frame it says nothing, and no law here does.
 pub fn sessions_stay_untold()
     ensures { NoSessionIsAccused }
 {}
@@ -46,7 +40,7 @@ pub fn stations_stay_untold()
     ensures { NoStationIsAccused }
 {
     laws_below();
-    innocents_stay_untold();
+    sessions_stay_untold();
 }
 
 /// From a set-up on to the next frame without a number, of a trace taken in front of a station: as long as there is

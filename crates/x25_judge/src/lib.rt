@@ -19,6 +19,6 @@ mod rule_text;
 pub use judge::Strictness;
 pub use judging::judge_lines;
 pub use law::{
-    guilty_are_told, innocents_stay_untold, sessions_stay_untold, set_ups_begin,
-    silence_means_one_packet, silence_means_order, silence_means_rules_kept, stations_stay_untold,
+    guilty_are_told, sessions_stay_untold, set_ups_begin, silence_means_one_packet,
+    silence_means_order, silence_means_rules_kept, stations_stay_untold,
 };

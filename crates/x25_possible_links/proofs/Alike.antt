@@ -1,24 +1,59 @@
 -- Places of an end that are all of a kind, as either end sends.
 use Rattle.std.proofs.Common.{◌≡◌, ◌⊎◌, inl, inr, ℕ, ◌≤◌, ◌==◌, Bool, true, false, List, [], ◌∷◌, ◌++◌, drop, length, flat_map}
-use Rattle.std.proofs.Common.{Some, None, Option, refl, sym, ap, map, ◌∙◌, subst, if◌then◌else◌}
-use Rattle.std.proofs.lemmas.Bool.{both_ways, cond_both}
-use Rattle.x25_possible.specs.laws.Possible.{IsIn, Place}
+use Rattle.std.proofs.Common.{not, take, Some, None, Option, refl, sym, ap, map, ◌∙◌, subst, if◌then◌else◌}
+use Rattle.std.proofs.lemmas.Bool.{and_parts, both_ways, cond_both, eqb-true, not-true}
+use Rattle.x25_possible.specs.laws.Possible.{IsIn, Place, at}
+use Rattle.x25_possible_links.specs.code.Steps.{are_known, extended, hastened, hurried, is_free, is_large, pressed, rushed}
 use Rattle.x25_possible_links.specs.code.Steps.{came, grow_all, latest, least, sends_to, sent_to, set_as, shifted, shown_to}
-use Rattle.x25_possible_links.specs.code.Steps.{shows_to, standing, Stepped, telling, trimmed, unexplained, walk_all}
-use Rattle.x25_possible_links.specs.laws.Places.{settle}
+use Rattle.x25_possible_links.specs.code.Steps.{broken, shows_to, skipped_by, standing, Stepped, telling, trimmed}
+use Rattle.x25_possible_links.specs.code.Steps.{unexplained, unexplained_as, walk_all}
+use Rattle.x25_possible_links.specs.laws.Link.{fresh, may_answer}
+use Rattle.x25_possible_links.specs.laws.Places.{onward, settle, upward}
 use Rattle.x25_possible_links.specs.laws.Places as place
 use Rattle.x25_possible_links.specs.declared.frame.Frame.{Frame}
 use Rattle.x25_possible_links.specs.declared.frame.Frame.TheVariants.{Ua}
-use Rattle.x25_possible_links.specs.declared.link.Mode.TheVariants.{Right}
+use Rattle.x25_possible_links.specs.declared.link.Mode.TheVariants.{Right, Skipping}
 use Rattle.x25_possible_links.specs.declared.set.LinkSet.{LinkSet}
-use Rattle.x25_possible_links.specs.declared.set.Told.TheVariants.{Broken, Nothing}
+use Rattle.x25_possible_links.specs.declared.set.Told.{Told}
+use Rattle.x25_possible_links.specs.declared.set.Told.TheVariants.{Broken, Nothing, Skips}
 use Rattle.x25_possible_links.specs.declared.spots.Spot.{Spot}
 use Rattle.x25_possible_links.specs.declared.stand.Stand.{Stand}
-use Rattle.x25_possible_links.proofs.Covering.{behind_other, behind_own, hastened_shows, least_is, lost_blind, moved_is, other_adds}
+use Rattle.x25_possible_links.specs.declared.stand.Stand.TheVariants.{Out, Asking, Up, Free}
+use Rattle.x25_possible_links.proofs.Leads.{rushed_free}
+use Rattle.x25_possible_links.proofs.Covering.{behind_other, behind_own, hasten, extended_blind, least_is, lost_blind, moved_is, other_adds}
 use Rattle.x25_possible_links.proofs.Covering.{own_adds, shows_by}
 use Rattle.x25_possible_links.proofs.Lists.{from_all, from_map}
-use Rattle.x25_possible_links.proofs.SetLemmas.{unexplained_told}
 use Rattle.x25_possible_links.proofs.StepLemmas.{placed}
+
+-- ---- what no place allows is told
+
+IsTold : Told → Type 0
+IsTold Nothing = ⊥
+IsTold t = Unit {0}
+
+is_something : (t : Told) → IsTold t → t ≡ Nothing → ⊥
+unfolding IsTold
+is_something t is e = subst IsTold e is
+
+skipped_told : (stand : Stand) (x : Frame) (set : LinkSet) (o : Option (List Spot)) → IsTold (skipped_by o stand x set).told
+unfolding IsTold
+skipped_told stand x set None = tt
+skipped_told stand x set (Some qs) = go (length qs == 0)
+  where
+    go : (b : Bool)
+        → IsTold (if b then telling (Broken stand) (broken x set) else telling (Skips stand) (standing qs set)).told
+    go true = tt
+    go false = tt
+
+told_as : (stand : Stand) (x : Frame) (set : LinkSet) → IsTold (unexplained_as stand x set).told
+unfolding IsTold
+told_as stand Ua set = tt
+told_as stand x set = skipped_told stand x set (walk_all Skipping x set.way.items set.spots.items [])
+
+unexplained_told : (x : Frame) (set : LinkSet) → (unexplained x set).told ≡ Nothing → ⊥
+unexplained_told x set = is_something (unexplained x set).told (told_as (latest set.spots.items set.way.items) x set)
+
+-- ---- all of a kind
 
 abbrev pub AllAre : (Place Stand Frame → Type 0) → LinkSet → Type 0
 AllAre P set = (q : Spot) → IsIn q set.spots.items → P (placed set.way.items q)
@@ -40,6 +75,60 @@ module _ (P : Place Stand Frame → Type 0) where
       go : (b : Bool) → AllAre P (if b then set_as set way qs else set_as set (drop n way) (map (shifted n) qs))
       go true = all
       go false = shifted_all way qs n (λ q is. least_is qs (length way) q is) all
+
+-- ---- where the older half counts as come
+
+pressed_is : (u : Stand) (x : Frame) → (pressed u x ≡ Free) ⊎ ((onward u x ≡ pressed u x) × (upward u x ≡ onward u x))
+pressed_is Out x = inr (refl, refl)
+pressed_is (Up k) x = inr (refl, refl)
+pressed_is Free x = inr (refl, refl)
+pressed_is Asking x = go (may_answer x)
+  where
+    go : (b : Bool) → ((if b then Free else Asking) ≡ Free) ⊎ ((Asking ≡ (if b then Free else Asking)) × ((if b then fresh else Asking) ≡ Asking))
+    go true = inl refl
+    go false = inr (refl, refl)
+
+each_known : (qs : List Spot) (q : Spot) → are_known qs ≡ true → IsIn q qs → is_free q.stand ≡ false
+each_known [] q e is = absurd is
+each_known (p ∷ qs) q e (inl same) =
+    subst (λ (r : Spot). is_free r.stand ≡ false) (sym same) (not-true (is_free p.stand) (and_parts (not (is_free p.stand)) (are_known qs) e).0)
+each_known (p ∷ qs) q e (inr is) = each_known qs q (and_parts (not (is_free p.stand)) (are_known qs) e).1 is
+
+-- it makes what it may of each frame, but for UA that it awaits
+abbrev pub IsPassed : (Place Stand Frame → Type 0) → Type 0
+IsPassed P = (u : Stand) (x : Frame) (v : List Frame) → upward u x ≡ onward u x → P (at u (x ∷ v)) → P (at (onward u x) v)
+
+module _ (P : Place Stand Frame → Type 0) (passes : IsPassed P) where
+  abbrev Known : Stand → List Frame → Type 0
+  Known u v = is_free u ≡ false → P (at u v)
+
+  small_on : (b : Bool) (u w : Stand) (v : List Frame) → (is_free w ≡ false → P (at w v)) → Known (if b then Free else w) v
+  small_on true u w v h e = absurd (both_ways true e refl)
+  small_on false u w v h e = h e
+
+  rushed_on : (rest front : List Frame) (u : Stand) → P (at u (front ++ rest)) → Known (rushed front u) rest
+  rushed_on rest [] u h = small_on (is_large u) u u rest (λ e. h)
+  rushed_on rest (x ∷ front) u h =
+      small_on (is_large u) u (rushed front (pressed u x)) rest (λ e. elim (pressed_is u x) [
+        | inl free ↦ absurd (both_ways (is_free (rushed front (pressed u x))) e (ap (λ w. is_free (rushed front w)) free ∙ ap is_free (rushed_free front)))
+        | inr same ↦ rushed_on rest front (pressed u x)
+            (subst (λ w. P (at w (front ++ rest))) same.0 (passes u x (front ++ rest) same.1 h)) e
+      ])
+
+  hastened_all : (set : LinkSet) → length set.way.items ≡ 128 → (hastened set).is_blind ≡ false → AllAre P set → AllAre P (hastened set)
+  hastened_all set full sees are q is =
+      let g = from_map (hurried 64 (take 64 set.way.items)) set.spots.items q is in
+      let known = each_known (hastened set).spots.items q all_known is in
+      subst (λ (r : Spot). P (placed (drop 64 set.way.items) r)) (sym g.2)
+      (hasten (λ u v. P (at u v)) Known set.way.items g.0 full (λ front h. rushed_on (drop 64 set.way.items) front g.0.stand h)
+      (λ rest h. rushed_on rest [] g.0.stand h) (are g.0 g.1) (subst (λ (r : Spot). is_free r.stand ≡ false) g.2 known))
+    where
+      all_known : are_known (hastened set).spots.items ≡ true
+      all_known = go (are_known (hastened set).spots.items) sees
+        where
+          go : (b : Bool) → (if b then set.is_blind else true) ≡ false → b ≡ true
+          go true e = refl
+          go false e = absurd (both_ways true e refl)
 
 module _ (P Q : Place Stand Frame → Type 0) (set : LinkSet) (x : Frame) (are : AllAre P set) where
   -- the other end sends
@@ -64,12 +153,8 @@ module _ (P Q : Place Stand Frame → Type 0) (set : LinkSet) (x : Frame) (are :
     shown_by None e some = absurd (both_ways _ some (lost_blind (set_as set (set.way.items ++ x ∷ []) set.spots.items) (came set)))
     shown_by (Some qs) e some = trim_all Q set (set.way.items ++ x ∷ []) qs (grown_all qs e)
 
-    pub shown_all : (shows_to x set).is_blind ≡ false → AllAre Q (shows_to x set)
-    shown_all some = go (length set.way.items == 128) some
-      where
-        go : (full : Bool) → (shows_by full x set).is_blind ≡ false → AllAre Q (shows_by full x set)
-        go true h = absurd (both_ways _ h (hastened_shows set x))
-        go false h = shown_by (grow_all (length set.way.items) (set.way.items ++ x ∷ []) set.spots.items) refl h
+    extended_all : (extended x set).is_blind ≡ false → AllAre Q (extended x set)
+    extended_all some = shown_by (grow_all (length set.way.items) (set.way.items ++ x ∷ []) set.spots.items) refl some
 
   -- the end sends: there is a place from which it may
   pub record HaveGone (now : LinkSet) : Type 0 where
@@ -133,6 +218,21 @@ module _ (P Q : Place Stand Frame → Type 0) (set : LinkSet) (x : Frame) (are :
 
     pub sent_all : (sends_to x set).set.is_blind ≡ false → (sends_to x set).told ≡ Nothing → HaveGone (sends_to x set).set
     sent_all some told = sent_by (walk_all Right x set.way.items set.spots.items []) refl some told
+
+-- the other end sends
+pub shown_all : (P Q : Place Stand Frame → Type 0) (set : LinkSet) (x : Frame) → AllAre P set → IsPassed P
+    → ((p : Place Stand Frame) → P p → Q (place.shown x p)) → (shows_to x set).is_blind ≡ false → AllAre Q (shows_to x set)
+shown_all P Q set x are passes each some = go (length set.way.items == 128) refl some
+  where
+    saw : (b c : Bool) → (b ≡ true → c ≡ true) → c ≡ false → b ≡ false
+    saw true c on e = absurd (both_ways c e (on refl))
+    saw false c on e = refl
+
+    go : (full : Bool) → (length set.way.items == 128) ≡ full → (shows_by full x set).is_blind ≡ false → AllAre Q (shows_by full x set)
+    go true e h =
+        let sees = saw (hastened set).is_blind (extended x (hastened set)).is_blind (extended_blind (hastened set) x) h in
+        extended_all P Q (hastened set) x (hastened_all P passes set (eqb-true (length set.way.items) 128 e) sees are) each h
+    go false e h = extended_all P Q set x are each h
 
 -- ---- UA
 

@@ -2,14 +2,14 @@
 use Rattle.std.proofs.Common.{Bool, true, false, ◌≡◌, inl, inr, ℕ, ◌+◌, ◌-◌, ◌<◌, ◌≤◌, ◌==◌, nat_le, nat_lt}
 use Rattle.std.proofs.Common.{List, [], ◌∷◌, ◌++◌, map, drop, length, refl, sym, ap, subst, ◌∙◌, Option, Some, None, arith}
 use Rattle.std.proofs.Common.{flat_map, if◌then◌else◌, le_trans, take, drop_of_length-le}
-use Rattle.std.proofs.lemmas.Bool.{both_ways, leb-true, le-leb, ltb-false, eqb-true}
+use Rattle.std.proofs.lemmas.Bool.{both_ways, cond_both, leb-true, le-leb, ltb-false, eqb-true}
 use Rattle.std.proofs.lemmas.List.{drop-drop, drop-append-le, length-drop, length-take, take-append-drop}
 use Rattle.std.proofs.lemmas.Option.{none-some}
 use Rattle.x25_possible.specs.laws.Possible.{IsIn, Place, at}
 use Rattle.x25_possible_links.specs.laws.Link.{State, At, MaySend, MayTake}
 use Rattle.x25_possible_links.specs.laws.Places.{settled, settle}
 use Rattle.x25_possible_links.specs.laws.Places as place
-use Rattle.x25_possible_links.specs.code.Steps.{astray, best, broken, broken_by, came, extended, grow_all, grown, hastened, hurried}
+use Rattle.x25_possible_links.specs.code.Steps.{are_known, astray, best, broken, broken_by, came, extended, grow_all, grown, hastened, hastened_to, hurried}
 use Rattle.x25_possible_links.specs.code.Steps.{latest, least, lost, rushed, sends_to, sent_to, set_as, shifted, shown_to, shows_to}
 use Rattle.x25_possible_links.specs.code.Steps.{skipped_by, spot_at, standing, Stepped, telling, trimmed, unexplained}
 use Rattle.x25_possible_links.specs.code.Steps.{unexplained_as, walk_all, walks}
@@ -150,14 +150,13 @@ free_at qs way n s end g =
 
 -- ---- where the older half counts as come
 
-hasten : (way : List Frame) (q : Spot) (s : State) (end : List Frame) → length way ≡ 128 → length end < 64
-    → HoldsAt q.stand (drop q.at way) s end
-    → HoldsAt (rushed (drop q.at (take 64 way)) q.stand) (drop (q.at - 64) (drop 64 way)) s end
-hasten way q s end full few h = go (nat_le q.at 64) refl
+-- what is so of each place once the front has come, is so of each place
+pub hasten : (F G : Stand → List Frame → Type 0) (way : List Frame) (q : Spot) → length way ≡ 128
+    → ((front : List Frame) → F q.stand (front ++ drop 64 way) → G (rushed front q.stand) (drop 64 way))
+    → ((rest : List Frame) → F q.stand rest → G (rushed [] q.stand) rest)
+    → F q.stand (drop q.at way) → G (rushed (drop q.at (take 64 way)) q.stand) (drop (q.at - 64) (drop 64 way))
+hasten F G way q full some none h = go (nat_le q.at 64) refl
   where
-    half : length (drop 64 way) ≡ 64
-    half = let l = length-drop 64 way in omega (arith, l, full)
-
     front : length (take 64 way) ≡ 64
     front = let l = length-take 64 way in omega (arith, l, full)
 
@@ -171,27 +170,30 @@ hasten way q s end full few h = go (nat_le q.at 64) refl
     far : (q.at ≤ 64 → ⊥) → 64 + (q.at - 64) ≡ q.at
     far more = omega (arith, more)
 
-    go : (b : Bool) → nat_le q.at 64 ≡ b
-        → HoldsAt (rushed (drop q.at (take 64 way)) q.stand) (drop (q.at - 64) (drop 64 way)) s end
+    go : (b : Bool) → nat_le q.at 64 ≡ b → G (rushed (drop q.at (take 64 way)) q.stand) (drop (q.at - 64) (drop 64 way))
     go true e =
         let less = leb-true q.at 64 e in
-        subst (λ n. HoldsAt (rushed (drop q.at (take 64 way)) q.stand) (drop n (drop 64 way)) s end) (sym (none_taken less))
-        (holds_rushed (drop 64 way) (drop q.at (take 64 way)) q.stand s end (subst (λ n. length end < n) (sym half) few)
-        (subst (λ w. HoldsAt q.stand w s end) (within less) h))
+        subst (λ n. G (rushed (drop q.at (take 64 way)) q.stand) (drop n (drop 64 way))) (sym (none_taken less))
+        (some (drop q.at (take 64 way)) (subst (F q.stand) (within less) h))
     go false e =
         let more : (q.at ≤ 64 → ⊥) = λ less. both_ways (nat_le q.at 64) e (le-leb q.at 64 less) in
-        subst (λ w. HoldsAt (rushed w q.stand) (drop (q.at - 64) (drop 64 way)) s end)
+        subst (λ w. G (rushed w q.stand) (drop (q.at - 64) (drop 64 way)))
         (sym (drop_of_length-le (take 64 way) (let m = more in omega (arith, m, front))))
-        (holds_freed (drop (q.at - 64) (drop 64 way)) q.stand s end
-        (subst (λ w. HoldsAt q.stand w s end) (sym (drop-drop (q.at - 64) 64 way ∙ ap (λ n. drop n way) (far more))) h))
+        (none (drop (q.at - 64) (drop 64 way))
+        (subst (F q.stand) (sym (drop-drop (q.at - 64) 64 way ∙ ap (λ n. drop n way) (far more))) h))
 
 hastened_has : (set : LinkSet) (s : State) (end : List Frame) → length set.way.items ≡ 128 → length end < 64 → Has set s end
     → Has (hastened set) s end
 hastened_has set s end full few g = (
   hurried 64 (take 64 set.way.items) g.0,
   in_map (hurried 64 (take 64 set.way.items)) set.spots.items g.0 g.1,
-  hasten set.way.items g.0 s end full few g.2,
+  hasten (λ u v. HoldsAt u v s end) (λ u v. HoldsAt u v s end) set.way.items g.0 full
+      (λ front h. holds_rushed (drop 64 set.way.items) front g.0.stand s end (subst (λ n. length end < n) (sym half) few) h)
+      (λ rest h. holds_freed rest g.0.stand s end h) g.2,
 )
+  where
+    half : length (drop 64 set.way.items) ≡ 64
+    half = let l = length-drop 64 set.way.items in omega (arith, l, full)
 
 -- ---- a set
 
@@ -263,12 +265,12 @@ shown_blind : (set : LinkSet) (way : List Frame) (o : Option (List Spot)) → se
 shown_blind set way None e = lost_blind (set_as set way set.spots.items) (came set)
 shown_blind set way (Some qs) e = trimmed_blind (set_as set way qs) ∙ e
 
-extended_blind : (set : LinkSet) (x : Frame) → set.is_blind ≡ true → (extended x set).is_blind ≡ true
+pub extended_blind : (set : LinkSet) (x : Frame) → set.is_blind ≡ true → (extended x set).is_blind ≡ true
 extended_blind set x e =
     shown_blind set (set.way.items ++ x ∷ []) (grow_all (length set.way.items) (set.way.items ++ x ∷ []) set.spots.items) e
 
-pub hastened_shows : (set : LinkSet) (x : Frame) → (extended x (hastened set)).is_blind ≡ true
-hastened_shows set x = extended_blind (hastened set) x refl
+hastened_blind : (set : LinkSet) (qs : List Spot) → set.is_blind ≡ true → (hastened_to qs set).is_blind ≡ true
+hastened_blind set qs e = cond_both (are_known qs) set.is_blind true (λ b. b ≡ true) (λ _. e) (λ _. refl)
 
 -- with a way that is full or not
 abbrev pub shows_by : Bool → Frame → LinkSet → LinkSet
@@ -278,7 +280,8 @@ pub blind_shows : (set : LinkSet) (x : Frame) → set.is_blind ≡ true → (sho
 blind_shows set x e = go (length set.way.items == 128)
   where
     go : (full : Bool) → (shows_by full x set).is_blind ≡ true
-    go true = hastened_shows set x
+    go true =
+        extended_blind (hastened set) x (hastened_blind set (map (hurried 64 (take 64 set.way.items)) set.spots.items) e)
     go false = extended_blind set x e
 
 -- ---- a frame of each
@@ -342,9 +345,10 @@ module _ (x : Frame) (s : State) (end : List Frame) where
           (other_in set.way.items set.spots.items qs x s end has e)
 
   -- the other end sends one
-  pub has_shown : (set : LinkSet) → length end < 64 → Has set s end → Has (shows_to x set) s (end ++ x ∷ [])
+  pub has_shown : (set : LinkSet) → ((length set.way.items == 128) ≡ true → length end < 64) → Has set s end
+      → Has (shows_to x set) s (end ++ x ∷ [])
   has_shown set few has = go (length set.way.items == 128) refl
     where
       go : (full : Bool) → (length set.way.items == 128) ≡ full → Has (shows_by full x set) s (end ++ x ∷ [])
-      go true e = extended_has (hastened set) (hastened_has set s end (eqb-true (length set.way.items) 128 e) few has)
+      go true e = extended_has (hastened set) (hastened_has set s end (eqb-true (length set.way.items) 128 e) (few e) has)
       go false e = extended_has set has

@@ -433,7 +433,7 @@ pressed_on _ _ _ end x v e few (Begins y way s _ a k) =
     presses_begun v s end x (subst (λ z. may_answer z ≡ true) (ap (front_of y) e) a)
     (subst (λ w. Covers fresh w s end) (ap tail_of e) k)
 
-rushed_free : (front : List Frame) → rushed front Free ≡ Free
+pub rushed_free : (front : List Frame) → rushed front Free ≡ Free
 rushed_free [] = refl
 rushed_free (x ∷ front) = rushed_free front
 

@@ -7,5 +7,5 @@ pub mod Exactly
 pub mod LoopLemmas
 pub mod StepLemmas
 pub mod Covering
-pub mod SetLemmas
 pub mod Alike
+pub mod SetLemmas

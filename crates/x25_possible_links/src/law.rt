@@ -20,7 +20,8 @@ pub fn rows_are_told()
     ensures new { NewIsFree }
 {}
 
-/// No rule is told of an end that keeps the rules, with room, or where nothing comes behind which 64 frames were sent.
+/// No rule is told of an end that keeps the rules, with room on the way, or where nothing comes behind which 64 frames
+/// were sent.
 pub fn innocents_stay_untold()
     ensures { InnocentsStayUntold }
 {}

@@ -18,7 +18,7 @@ const HALF: usize = 64;
 pub struct LinkSet {
     pub way: ArrayVec<Frame, 128>,
     pub spots: Spots,
-    /// There was no room once: less is known than the rules say, and less is told.
+    /// There was no room for its places once, or it may have missed UA: less is known than the rules say, and told.
     pub is_blind: bool,
 }
 
@@ -165,7 +165,7 @@ impl LinkSet {
         let _ = self.way.drain(..count);
     }
 
-    /// The older half of a way that is full counts as come.
+    /// The older half of a way that is full counts as come. An end that awaited UA may have passed over one there.
     fn hurry(&mut self)
         requires { length self.old.way.items ≡ 128 }
         ensures set { self.new ≡ definition.hastened self.old }
@@ -174,7 +174,9 @@ impl LinkSet {
         let (front, _) = self.way.as_slice().split_at(HALF);
         hurry_all(HALF, front, self.spots.as_mut_slice());
         let _ = self.way.drain(..HALF);
-        self.is_blind = true;
+        if !self.is_known() {
+            self.is_blind = true;
+        }
     }
 
     /// In these places.

@@ -98,7 +98,7 @@ fn tells_behind_a_long_way(rt: HostRuntime) {
         set.shows(Frame::Ready(0));
         assert!(rt; matches!(set.sends(Frame::Ready(0)), Told::Nothing));
     }
-    assert!(rt; set.is_blind && set.is_sure());
+    assert!(rt; !set.is_blind && set.is_sure());
     assert!(rt; matches!(set.sends(Frame::Ready(3)), Told::Broken(_)));
 }
 
@@ -211,7 +211,7 @@ fn keeps_half_without_room(rt: HostRuntime) {
     for _ in 0..129 {
         set.shows(Frame::Sabm);
     }
-    assert!(rt; set.is_blind && set.is_known());
+    assert!(rt; !set.is_blind && set.is_known());
     for _ in 0..65 {
         assert!(rt; matches!(set.sends(Frame::Ua), Told::Nothing));
     }

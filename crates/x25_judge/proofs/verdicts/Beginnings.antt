@@ -181,7 +181,7 @@ asker s =
     let mid = (sends_to Sabm s).set in
     let last = shows_to Ua mid in
     has_taken last.spots.items last.way.items (At Asking) (At fresh) Ua []
-    (has_shown Ua (At Asking) [] mid (omega arith) (asks_in s.way.items s.spots.items s.is_blind)) (begins Ua refl)
+    (has_shown Ua (At Asking) [] mid (λ full. omega arith) (asks_in s.way.items s.spots.items s.is_blind)) (begins Ua refl)
 
 -- ---- the end that answers
 
@@ -219,7 +219,7 @@ answers_in : (way : List Frame) (qs : List Spot) (b : Bool) → Answers (set_in 
 answers_in way [] b untold = absurd (untold (none_answers (shows_to Sabm (set_in way [] b)) (none_shown way b)))
 answers_in way (q ∷ qs) b untold =
     let mid = shows_to Sabm (set_in way (q ∷ qs) b) in
-    let shown = has_shown Sabm (At q.stand) [] (set_in way (q ∷ qs) b) (omega arith) (first_in q qs way) in
+    let shown = has_shown Sabm (At q.stand) [] (set_in way (q ∷ qs) b) (λ full. omega arith) (first_in q qs way) in
     has_sent mid Ua (Owes fresh) (At fresh) [] (answers fresh [])
     (has_taken mid.spots.items mid.way.items (At q.stand) (Owes fresh) Sabm [] shown (owes q.stand fresh Sabm (owed_first q.stand)))
 
@@ -276,7 +276,7 @@ asker_new : (s : LinkSet) → has_answer s.way.items ≡ false → (sends_to Sab
     → (sends_to Sabm s).set.is_blind ≡ false → (shows_to Ua (sends_to Sabm s).set).is_blind ≡ false
     → IsNew (shows_to Ua (sends_to Sabm s).set)
 asker_new s free told some room =
-    shown_all Waits (IsWithin no_numbers) (sends_to Sabm s).set Ua waits each room
+    shown_all Waits (IsWithin no_numbers) (sends_to Sabm s).set Ua waits (λ u x v e h. subst (λ w. comes v w ≡ Asking) e h) each room
   where
     waits : AllAre Waits (sends_to Sabm s).set
     waits =
@@ -350,6 +350,7 @@ answerer_new s free some room told =
     shown : AllAre HasNone (shows_to Sabm s)
     shown =
         shown_all HasNone HasNone s Sabm (λ q is. no_number_left q.at s.way.items free)
+        (λ u x v e h. (or_parts (is_number x) (has_number v) h).1)
         (λ p h. settled_no_number (p.way ++ Sabm ∷ []) p.state (no_number_on p.way h)) some
 
 -- ---- the judge

@@ -8,9 +8,8 @@ use Rattle.x25_line.specs.laws.Peer as peer
 use Rattle.x25_line.specs.laws.PeerSessions as session
 use Rattle.x25_line.specs.laws.PeerSessions.{In}
 use Rattle.x25_judge.specs.Links.{shown}
-use Rattle.x25_judge.specs.laws.Keeping.{MaySend}
 use Rattle.x25_judge.specs.laws.Session.{Way}
-use Rattle.x25_judge.specs.laws.Sessions.{MaySay, HaveNoUa, IsUa, declined, numbered, asks, asks_again, closes, declines, rejects, takes_disc, takes_sabm, waits_on}
+use Rattle.x25_judge.specs.laws.Sessions.{MaySay, MaySend, HaveNoUa, IsUa, declined, numbered, asks, asks_again, closes, declines, rejects, takes_disc, takes_sabm, waits_on}
 use Rattle.x25_possible.specs.laws.Possible.{IsIn}
 use Rattle.x25_possible_links.specs.laws.Link.{State, At, Owes, passes, owes, fresh, has_ua, is_asking, is_ua, may_acknowledge, may_number, sends_as}
 use Rattle.x25_possible_links.specs.laws.Link as link

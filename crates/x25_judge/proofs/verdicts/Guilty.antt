@@ -1,5 +1,5 @@
 -- What no run of an end that keeps the rules explains is told, and the first rule of order is told of that alone.
-use Rattle.std.proofs.Common.{◌≡◌, ℕ, Bool, true, false, [], ◌∷◌, inr, None, refl, sym, ap, ◌∙◌, subst}
+use Rattle.std.proofs.Common.{◌≡◌, ℕ, Bool, true, false, [], ◌∷◌, None, refl, sym, ap, ◌∙◌, subst}
 use Rattle.std.specs.Prelude.{is_some}
 use Rattle.std.proofs.lemmas.Bool.{both_ways, cond_both}
 use Rattle.x25_bits.specs.declared.role.Role.{Role}
@@ -25,7 +25,7 @@ use Rattle.x25_possible_links.specs.declared.stand.Stand.TheVariants.{Asking, Fr
 use Rattle.x25_possible_links.proofs.SetLemmas as sets
 use Rattle.x25_judge.proofs.verdicts.Innocents.{none_of_order, seen_fair, sent_end}
 use Rattle.x25_judge.proofs.verdicts.Minded.{IsTold, Tells, asks_tells, first_brings, first_keeps, tells_of}
-use Rattle.x25_judge.proofs.verdicts.Tapes.{is_played, told_is}
+use Rattle.x25_judge.proofs.verdicts.Tapes.{told_is}
 
 -- ---- what is told of the set is told of the frame
 
@@ -123,7 +123,7 @@ untold from j frame none = go (sends_to (links.shown frame (differs (own_of from
 -- ---- the laws
 
 pub guilty_are_told : GuiltyAreTold
-guilty_are_told of j tape s way line octets frame is h shows sees none =
+guilty_are_told of j tape s way line octets frame is h well shows sees none =
     tells_of of j frame (frame_tells j.window _ _ frame (differs (own_of of j).held frame) _ not_nothing refl)
   where
     x : Frame
@@ -136,15 +136,12 @@ guilty_are_told of j tape s way line octets frame is h shows sees none =
     room = sym (ap (λ t. t.set.is_blind) all) ∙ sym (ap (λ (m : LinkSet). m.is_blind) (sent_end of j line octets frame shows).places) ∙ sees
 
     not_nothing : (sends_to x (own_of of j).set).told ≡ Nothing → ⊥
-    not_nothing e = sets.guilty_are_told (Free ∷ []) tape x s way h room none (sym (ap (λ t. t.told) all) ∙ e)
+    not_nothing e = sets.guilty_are_told (Free ∷ []) tape x s way h well room none (sym (ap (λ t. t.told) all) ∙ e)
 
 pub told_are_guilty : ToldAreGuilty
-told_are_guilty of j tape s way line octets frame is h shows order = λ r end run.
+told_are_guilty of j tape frame s way is order run well =
     both_ways (is_of_order (rule_of j of frame))
     (none_of_order of j frame
     (seen_fair of j frame
     (ap (λ t. t.told) (told_is of j tape (links.shown frame (differs (own_of of j).held frame)) is)
-    ∙ sets.innocents_stay_untold (Free ∷ []) tape (links.shown frame (differs (own_of of j).held frame)) r end run (inr room)))) order
-  where
-    room : (played (begun_as (Free ∷ [])) tape).is_blind ≡ false
-    room = let e = is_played of j tape is in sym (ap (λ (m : LinkSet). m.is_blind) e.0) ∙ e.1
+    ∙ sets.innocents_stay_untold (Free ∷ []) tape (links.shown frame (differs (own_of of j).held frame)) s way run well))) order

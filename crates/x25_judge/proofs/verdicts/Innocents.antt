@@ -21,12 +21,10 @@ use Rattle.x25_judge.specs.Links.{forgets_each, held_by, rule_of, shown}
 use Rattle.x25_judge.specs.Rule.{breaks_order}
 use Rattle.x25_judge.specs.declared.judge.Judge.{Judge}
 use Rattle.x25_judge.specs.declared.links.End.{End}
-use Rattle.x25_judge.specs.laws.Keeping as keeping
-use Rattle.x25_judge.specs.laws.Keeping.{MaySend, MayBe}
 use Rattle.x25_judge.specs.laws.Session.{begins_anywhere, begins_there, comes, IsBegun, IsDamaged, IsTimely, Shows, Way, is_of_order}
 use Rattle.x25_judge.specs.laws.Sessions as sessions
-use Rattle.x25_judge.specs.laws.Sessions.{MaySay, MayStand, declined, numbered, asks, asks_again, closes, declines, rejects, takes_disc, takes_sabm, waits_on}
-use Rattle.x25_judge.specs.laws.VerdictClaims.{NoInnocentIsAccused, NoSessionIsAccused}
+use Rattle.x25_judge.specs.laws.Sessions.{MaySay, MaySend, MayStand, declined, numbered, asks, asks_again, closes, declines, rejects, takes_disc, takes_sabm, waits_on}
+use Rattle.x25_judge.specs.laws.VerdictClaims.{NoSessionIsAccused}
 use Rattle.x25_possible.specs.Channel.{nth}
 use Rattle.x25_possible.specs.laws.Possible.{IsIn}
 use Rattle.x25_possible_links.specs.code.Steps.{is_below, sends_to, shows_to, unknown}
@@ -442,7 +440,7 @@ module _ (set : LinkSet) (held : Held) (stand : session.Stand) (p : Peer) (way :
       → Follows (shows_to y set) held stand p (way ++ what ∷ [])
   shown_on y what is timely = record {
     end = h.end ++ y ∷ [];
-    has = has_shown y (At (stand_of stand p)) h.end set (subst (λ n. n < 64) (sym (means_same h.end way h.means)) timely) h.has;
+    has = has_shown y (At (stand_of stand p)) h.end set (λ full. subst (λ n. n < 64) (sym (means_same h.end way h.means)) timely) h.has;
     means = means_on h.end way y what is h.means;
     room = h.room;
     octets = h.octets;
@@ -679,33 +677,6 @@ begun from j h = record {
   octets = λ is. begun_held (own_of from j).held [] h.octets h.known;
 }
 
-beside : (from : Role) (j : Judge) (p : Peer) (way : Way) → MayBe from j p way → FollowsOf (own_of from j) In p way
-beside from _ _ _ (keeping.Begins j up) = begun from j (up from)
-beside from _ _ way (keeping.HandsDown j p _ packet h) =
-    handed (own_of from j).set (own_of from j).held In p way packet (beside from j p way h)
-beside from _ _ way (keeping.Sends j p q _ line octets frame shows may h) =
-    step_says from j In In p q way way line octets frame shows (numbered frame q refl may) (beside from j p way h)
-beside from _ p _ (keeping.Shown j _ way line octets frame shows is timely h) =
-    step_shown from j In p way (Some frame) _ _ (shown_end from j line octets frame shows)
-    (inl (differs (own_of (other from) j).held frame, refl)) timely (beside from j p way h)
-beside from _ _ way (keeping.Garbles j p q _ line octets frame broken may h) =
-    step_missed from j In q way _ (missed_end from j line octets broken)
-    (garbles_on (own_of from j).set (own_of from j).held In p way (beside from j p way h) In q way frame (numbered frame q refl may))
-beside from _ p way (keeping.Noises j _ _ line octets broken h) =
-    step_missed from j In p way _ (missed_end from j line octets broken)
-    (noise_on (own_of from j).set (own_of from j).held In p way (beside from j p way h))
-beside from _ p _ (keeping.Fails j _ way line octets what broken timely h) =
-    step_lost from j In p way line octets what broken timely (beside from j p way h)
-beside from j _ way (keeping.Comes _ p q frame _ may h) =
-    came (own_of from j).set (own_of from j).held p q frame way may (beside from j p (Some frame ∷ way) h)
-beside from j p way (keeping.Fades _ _ _ h) =
-    passed (own_of from j).set (own_of from j).held In p None way (beside from j p (None ∷ way) h)
-
-pub no_innocent_is_accused : NoInnocentIsAccused
-no_innocent_is_accused from j p q way line octets frame may shows sends_it =
-    none_of_order from j frame
-    (seen_fair from j frame (told_nothing from j In In p q way way frame (numbered frame q refl sends_it) (beside from j p way may)))
-
 nothing : (from : Role) (window : ℕ) (reading : Reading) (strictness : Strictness)
     → FollowsOf (own_of from (judge_begins window reading strictness)) session.Out fresh_peer []
 unfolding no_octets
@@ -729,6 +700,7 @@ nothing from window reading strictness = go from
 standing : (from : Role) (j : Judge) (stand : session.Stand) (p : Peer) (way : Way) → MayStand from j stand p way
     → FollowsOf (own_of from j) stand p way
 standing from _ _ _ _ (sessions.Starts window reading strictness) = nothing from window reading strictness
+standing from _ _ _ _ (sessions.SetUp j b) = begun from j b
 standing from _ stand _ way (sessions.HandsDown j _ p _ packet h) =
     handed (own_of from j).set (own_of from j).held stand p way packet (standing from j stand p way h)
 standing from j _ p way (sessions.Leaves _ stand _ _ h) =

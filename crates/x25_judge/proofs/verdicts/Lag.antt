@@ -12,7 +12,9 @@ use Rattle.x25_line.specs.laws.StationClaims.{number_in}
 use Rattle.x25_line.specs.laws.Stations.{is_visible, replaced}
 use Rattle.x25_line.proofs.StationLines.{visible_reads}
 use Rattle.x25_judge.specs.declared.judge.Judge.{Judge}
-use Rattle.x25_judge.specs.laws.Keeping.{MaySend, MayBe, HandsDown, Comes, Fades}
+use Rattle.x25_judge.specs.laws.Sessions as sessions
+use Rattle.x25_judge.specs.laws.Sessions.{MaySend, MayStand}
+use Rattle.x25_line.specs.laws.PeerSessions.{In}
 use Rattle.x25_judge.specs.laws.Session.{IsNumbered, Way}
 
 -- From p, with such frames on the way to it, to a state with what is left of these, and with such octets sent.
@@ -41,11 +43,11 @@ no_more [] octets e = cc
 no_more (o ∷ out) octets e = cc
 
 -- where nothing was sent
-pub at_front : (from : Role) (j : Judge) (p : Peer) (way : Way) (q : Peer) (left : Way) (out : List (List ℕ)) → out ≡ [] → Did from p way q left out → MayBe from j p way → MayBe from j q left
+pub at_front : (from : Role) (j : Judge) (p : Peer) (way : Way) (q : Peer) (left : Way) (out : List (List ℕ)) → out ≡ [] → Did from p way q left out → MayStand from j In p way → MayStand from j In q left
 at_front from j p way q left out none did_nothing may = may
-at_front from j p way q left out none (was_given r l o packet d) may = HandsDown j r left packet (at_front from j p way r left out none d may)
-at_front from j p way q left out none (heard r s f l o hears d) may = Comes j r q f left hears (at_front from j p way r (Some f ∷ left) out none d may)
-at_front from j p way q left out none (faded r l o d) may = Fades j q left (at_front from j p way q (None ∷ left) out none d may)
+at_front from j p way q left out none (was_given r l o packet d) may = sessions.HandsDown j In r left packet (at_front from j p way r left out none d may)
+at_front from j p way q left out none (heard r s f l o hears d) may = sessions.Comes j r q f left hears (at_front from j p way r (Some f ∷ left) out none d may)
+at_front from j p way q left out none (faded r l o d) may = sessions.Passes j In q None left (at_front from j p way q (None ∷ left) out none d may)
 at_front from j p way q left all none (said r s f octets l o reads sends d) may = absurd (no_more o octets none)
 at_front from j p way q left all none (freed r octets l o reads d) may = absurd (no_more o octets none)
 
@@ -54,7 +56,7 @@ pub record Front (from : Role) (j : Judge) (way : Way) (q : Peer) (left : Way) (
   pub before : Peer
   pub after : Peer
   pub on_way : Way
-  pub may : MayBe from j before on_way
+  pub may : MayStand from j In before on_way
   pub sends : MaySend before frame after
   pub did : Did from after on_way q left rest
   pub few : length on_way ≤ length way
@@ -88,7 +90,7 @@ others_are x y xs ys e = cc
 ok_is : (f g : PlainFrame) (r : Result PlainFrame FrameError) → r ≡ Ok f → r ≡ Ok g → f ≡ g
 ok_is f g r e h = cc
 
-module _ (from : Role) (j : Judge) (p : Peer) (way : Way) (octets : List ℕ) (frame : PlainFrame) (reads : frame_of from n1 octets ≡ Ok frame) (is : IsNumbered frame) (may : MayBe from j p way) where
+module _ (from : Role) (j : Judge) (p : Peer) (way : Way) (octets : List ℕ) (frame : PlainFrame) (reads : frame_of from n1 octets ≡ Ok frame) (is : IsNumbered frame) (may : MayStand from j In p way) where
   pub front : (q : Peer) (left : Way) (out rest : List (List ℕ)) → out ≡ octets ∷ rest → Did from p way q left out → Front from j way q left frame rest
   front q left out rest e did_nothing = absurd (never e)
     where
@@ -237,10 +239,10 @@ taken from p q way left octets all back out e (damaged l o b x is h) d = record 
 
 -- ---- nothing is between the tape and it
 
-pub all_lost : (from end : Role) (j : Judge) (p : Peer) (left : Way) (back : List (List ℕ)) → back ≡ [] → OnLine end left back → MayBe from j p left → MayBe from j p []
+pub all_lost : (from end : Role) (j : Judge) (p : Peer) (left : Way) (back : List (List ℕ)) → back ≡ [] → OnLine end left back → MayStand from j In p left → MayStand from j In p []
 all_lost from end j p left back none empty may = may
-all_lost from end j p left back none (lost None l b h) may = all_lost from end j p l back none h (Fades j p l may)
-all_lost from end j p left back none (lost (Some f) l b h) may = all_lost from end j p l back none h (Comes j p p f l (passes p (Ok f)) may)
+all_lost from end j p left back none (lost None l b h) may = all_lost from end j p l back none h (sessions.Passes j In p None l may)
+all_lost from end j p left back none (lost (Some f) l b h) may = all_lost from end j p l back none h (sessions.Passes j In p (Some f) l may)
 all_lost from end j p left all none (there f l octets back reads h) may = absurd (some none)
   where
     some : octets ∷ back ≡ [] → ⊥

@@ -25,7 +25,7 @@ use Rattle.x25_judge.specs.Judge.{own_of, answer_to}
 use Rattle.x25_judge.specs.Links.{held_by, shown}
 use Rattle.x25_judge.specs.declared.judge.Judge.{Judge}
 use Rattle.x25_judge.specs.declared.links.End.{End}
-use Rattle.x25_judge.specs.laws.Keeping.{MaySend}
+use Rattle.x25_judge.specs.laws.Sessions.{MaySend}
 use Rattle.x25_judge.specs.laws.Session.{are_new, comes, is_new, IsBegun, Shows, IsNumbered}
 use Rattle.x25_judge.specs.laws.Watching.{Watched, more, IsSilent, Begins, Acts, Rests, Says, Comes, Fails}
 use Rattle.x25_judge.specs.laws.VerdictClaims.{SilenceMeansOrder, SilenceMeansRules}
@@ -54,7 +54,7 @@ use Rattle.x25_judge.proofs.verdicts.Guilty.{untold}
 use Rattle.x25_judge.proofs.verdicts.Innocents.{IsShown, sent_end, shown_end}
 use Rattle.x25_judge.proofs.verdicts.Lines.{other_twice, none_told}
 use Rattle.x25_judge.proofs.verdicts.Octets.{AreKnown, IsHeld, begun_held, last_of, old_octets, pushed_held, sent_held, sent_known}
-use Rattle.x25_judge.proofs.verdicts.Silent.{Fits, IsNumber, IsWithin, heard_sent, shown_within, walked_within, walks_within}
+use Rattle.x25_judge.proofs.verdicts.Silent.{Fits, IsNumber, IsWithin, heard_sent, shown_within, walked_within, walks_within, within_passes}
 
 -- ---- an end in a session
 
@@ -110,7 +110,7 @@ module _ (set : LinkSet) (h : Held) (k : Numbers) (given : List (List ℕ)) (e :
   pub shown_knows : (y : Frame) → (shows_to y set).is_blind ≡ false → Knows (shows_to y set) h (heard true true k y) given
   shown_knows y room = record {
     sees = room;
-    within = shown_all (IsWithin k) (IsWithin (heard true true k y)) set y e.within (λ p b. shown_within y k p b) room;
+    within = shown_all (IsWithin k) (IsWithin (heard true true k y)) set y e.within (within_passes k) (λ p b. shown_within y k p b) room;
     all = e.all ∙ sym (heard_sent k y);
     octets = subst (λ m. IsHeld h given m) (sym (heard_sent k y)) e.octets;
     known = subst (λ m. AreKnown h m) (sym (heard_sent k y)) e.known;

@@ -14,6 +14,7 @@ use Rattle.x25_possible_links.specs.declared.frame.Frame.TheVariants.{Info, Read
 use Rattle.x25_possible_links.specs.declared.stand.Numbers.{Numbers}
 use Rattle.x25_possible_links.specs.declared.stand.Stand.{Stand}
 use Rattle.x25_possible_links.specs.declared.stand.Stand.TheVariants.{Out, Asking, Up, Free}
+use Rattle.x25_possible_links.proofs.Alike.{IsPassed}
 use Rattle.x25_possible_links.proofs.Sends.{counted_at, swaps}
 use Rattle.x25_possible_links.proofs.Stands.{AreBelow, Below, below_on, below_self, counts_more, heard_below, onward_up}
 
@@ -91,6 +92,9 @@ upward_within Asking k x b = cond_both (may_answer x) fresh Asking (λ (u : Stan
     begun : Fits (heard true true k x) fresh
     begun = let told = asks.1 in record { sent = asks.0; acked = omega arith; taken = omega arith; told = omega (arith, told) }
 upward_within Free k x b = absurd b
+
+pub within_passes : (k : Numbers) → IsPassed (IsWithin k)
+within_passes k u x v e h = subst (λ w. Fits k (comes v w)) e h
 
 pub shown_within : (x : Frame) (k : Numbers) (p : Place Stand Frame) → IsWithin k p → IsWithin (heard true true k x) (place.shown x p)
 shown_within x k p h =

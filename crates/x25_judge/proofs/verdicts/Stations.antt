@@ -21,9 +21,11 @@ use Rattle.x25_line.proofs.StationRuns.{noted_before}
 use Rattle.x25_line.proofs.StationSays.{MayDo}
 use Rattle.x25_line.proofs.StationSends.{AllWithin, within_push, item_at}
 use Rattle.x25_judge.specs.declared.judge.Judge.{Judge}
-use Rattle.x25_judge.specs.laws.Keeping.{MayBe, Begins as first, Sends, Shown, Fails as Missed}
+use Rattle.x25_judge.specs.laws.Sessions as sessions
+use Rattle.x25_judge.specs.laws.Sessions.{MaySend, MayStand, numbered}
+use Rattle.x25_line.specs.laws.PeerSessions.{In}
 use Rattle.x25_judge.specs.laws.Session.{Way}
-use Rattle.x25_judge.specs.laws.VerdictClaims.{NoInnocentIsAccused, NoStationIsAccused}
+use Rattle.x25_judge.specs.laws.VerdictClaims.{NoSessionIsAccused, NoStationIsAccused}
 use Rattle.x25_judge.specs.laws.Watching.{Watched, our_end, IsAny, Begins, Acts, Rests, Says, Comes, Fails}
 use Rattle.x25_judge.proofs.verdicts.Lag.{Did, did_nothing, was_given, said, freed, comes_behind, front, at_front, OnLine, empty, one_more, one_more_damaged, one_lost, one_damaged, taken, all_lost}
 
@@ -32,7 +34,7 @@ module _ (c : Settings) (longest : c.longest ≡ n1) (j : Judge) (since : ℕ) w
   pub record OnTrace (os : List (List ℕ)) (p : Peer) (out : List (List ℕ)) : Type 0 where
     pub before : Peer
     pub way : Way
-    pub may : MayBe c.role j before way
+    pub may : MayStand c.role j In before way
     pub left : Way
     pub did : Did c.role before way p left out
     pub line : OnLine (other c.role) left os
@@ -159,7 +161,7 @@ module _ (c : Settings) (high : c.window ≤ 7) (longest : c.longest ≡ n1) (re
   watched w (Begins j up any) once =
       record {
         peer = fresh_peer;
-        reached = record { before = fresh_peer; way = []; may = first j up; left = []; did = did_nothing; line = empty; within = tt; few = omega arith };
+        reached = record { before = fresh_peer; way = []; may = sessions.SetUp j (up c.role); left = []; did = did_nothing; line = empty; within = tt; few = omega arith };
         fits = inl (record { up = refl; sound = record { place_low = omega arith; place_high = omega arith; sent_high = omega arith; room = omega arith }; same = refl });
         room = omega arith;
         told = omega arith;
@@ -192,7 +194,7 @@ module _ (c : Settings) (high : c.window ≤ 7) (longest : c.longest ≡ n1) (re
       let r = k.reached in
       let f = front c.role v.judge r.before r.way octets frame shows.reads is r.may k.peer r.left v.out rest out r.did in
       moved v k w.judge v.shown rest v.back v.since
-      (record { before = f.after; way = f.on_way; may = Sends v.judge f.before f.after f.on_way line octets frame shows f.sends f.may; left = r.left; did = f.did; line = r.line; within = r.within; few = le_trans f.few r.few })
+      (record { before = f.after; way = f.on_way; may = sessions.Says v.judge In In f.before f.after f.on_way f.on_way line octets frame shows (numbered frame f.after refl f.sends) f.may; left = r.left; did = f.did; line = r.line; within = r.within; few = le_trans f.few r.few })
   watched w (Comes v line octets frame shows is passes lags h) once =
       let k = watched v h once in
       let r = k.reached in
@@ -200,7 +202,7 @@ module _ (c : Settings) (high : c.window ≤ 7) (longest : c.longest ≡ n1) (re
       (record {
         before = r.before;
         way = r.way ++ Some frame ∷ [];
-        may = Shown v.judge r.before r.way line octets frame shows is (timely r.way v.since r.few lags) r.may;
+        may = sessions.Shown v.judge In r.before r.way line octets frame shows (timely r.way v.since r.few lags) r.may;
         left = r.left ++ Some frame ∷ [];
         did = comes_behind c.role r.before r.way k.peer r.left v.out (Some frame) r.did;
         line = one_more (other c.role) r.left v.back frame octets shows.reads r.line;
@@ -214,7 +216,7 @@ module _ (c : Settings) (high : c.window ≤ 7) (longest : c.longest ≡ n1) (re
       (record {
         before = r.before;
         way = r.way ++ None ∷ [];
-        may = Missed v.judge r.before r.way line octets None broken (timely r.way v.since r.few lags) r.may;
+        may = sessions.Fails v.judge In r.before r.way line octets None broken (timely r.way v.since r.few lags) r.may;
         left = r.left ++ None ∷ [];
         did = comes_behind c.role r.before r.way k.peer r.left v.out None r.did;
         line = one_more_damaged (other c.role) r.left v.back octets broken.visible r.line;
@@ -222,9 +224,9 @@ module _ (c : Settings) (high : c.window ≤ 7) (longest : c.longest ≡ n1) (re
         few = one_longer r.way None v.since r.few;
       })
 
-pub no_station_is_accused : ReadsSpelled → Laws → EachEventHandsOne → NoInnocentIsAccused → NoStationIsAccused
-no_station_is_accused reads laws hands innocent c high longest w any once line octets frame rest out shows is =
+pub no_station_is_accused : ReadsSpelled → Laws → EachEventHandsOne → NoSessionIsAccused → NoStationIsAccused
+no_station_is_accused reads laws hands fair c high longest w any once line octets frame rest out shows is =
     let k = watched c high longest reads laws hands w any once in
     let r = k.reached in
     let f = front c.role w.judge r.before r.way octets frame shows.reads is r.may k.peer r.left w.out rest out r.did in
-    innocent c.role w.judge f.before f.after f.on_way line octets frame f.may shows f.sends
+    fair c.role w.judge In In f.before f.after f.on_way f.on_way line octets frame f.may shows (numbered frame f.after refl f.sends)

@@ -8,7 +8,7 @@ use Rattle.x25_judge.specs.Judge.{answer_to}
 use Rattle.x25_judge.specs.declared.judge.Judge.{Judge}
 use Rattle.x25_line.specs.laws.Peer.{Peer, fresh_peer, MayHear}
 use Rattle.x25_link.specs.Hearing.{other}
-use Rattle.x25_judge.specs.laws.Keeping.{MaySend}
+use Rattle.x25_judge.specs.laws.Sessions.{MaySend}
 use Rattle.x25_judge.specs.laws.Session.{IsSetUp, Shows, IsDamaged, IsNumbered, IsSupervisory}
 
 -- the judge behind frames with numbers of both ends, none of which breaks a rule or manners

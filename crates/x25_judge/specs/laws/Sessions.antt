@@ -1,19 +1,19 @@
 -- An end that keeps the rules of docs/PEER.md over any number of set-ups, beside one that does what it likes, in a
--- trace from its first line on: where the end stands, what it may send there, and what may still come to it. Its rules
--- of set-up are those of `PeerSessions` of x25_line, and of frames with numbers those of `Keeping`. ITU-T X.25
--- (10/96), sections 2.4.4 and 2.4.5.
-use Rattle.std.specs.Prelude.{◌≡◌, ℕ, Bool, List, [], ◌∷◌, ◌++◌, Ok, Option, Some, None}
+-- trace from its first line on, or from a set-up on: where the end stands, what it may send there, and what may still
+-- come to it. Its rules of set-up are those of `PeerSessions` of x25_line, and of frames with numbers those of `Peer`.
+-- ITU-T X.25 (10/96), sections 2.4.4 and 2.4.5.
+use Rattle.std.specs.Prelude.{◌≡◌, ℕ, ◌≤◌, Bool, List, [], ◌∷◌, ◌++◌, length, Ok, Option, Some, None}
 use Rattle.x25_bits.specs.declared.role.Role.{Role}
 use Rattle.x25_decode.specs.declared.answer.Reading.{Reading}
-use Rattle.x25_frame.specs.Frame.{PlainFrame, sabm, disc, ua, dm, frmr}
+use Rattle.x25_frame.specs.Frame.{PlainFrame, info, rr, rnr, rej, sabm, disc, ua, dm, frmr}
 use Rattle.x25_judge.specs.Judge.{begins, answer_to}
 use Rattle.x25_judge.specs.declared.judge.Judge.{Judge}
 use Rattle.x25_judge.specs.declared.judge.Strictness.{Strictness}
-use Rattle.x25_line.specs.laws.Peer.{Peer, fresh_peer, MayHear}
+use Rattle.x25_line.specs.laws.Peer.{Peer, fresh_peer, MayNumber, MayAcknowledge, numbered_to, told_to, MayHear}
 use Rattle.x25_link.specs.Hearing.{other}
 use Rattle.x25_line.specs.laws.PeerSessions.{Stand, Out, Asking, In}
-use Rattle.x25_judge.specs.laws.Keeping.{MaySend}
-use Rattle.x25_judge.specs.laws.Session.{Shows, IsDamaged, IsTimely, Way}
+use Rattle.x25_text.specs.declared.text.TheConstants.{ROOM}
+use Rattle.x25_judge.specs.laws.Session.{IsBegun, Shows, IsDamaged, IsTimely, Way}
 
 -- ---- what is on the way to it
 
@@ -28,6 +28,16 @@ HaveNoUa (None ∷ way) = HaveNoUa way
 HaveNoUa (Some frame ∷ way) = (IsUa frame → ⊥) × HaveNoUa way
 
 -- ---- what it may send
+
+-- A frame with a number, and what it is then. Beyond the rules of `Peer` numbers go one by one when they go for the
+-- first time (section 2.4.5.1). A line has room for so many octets.
+abbrev pub MaySend : Peer → PlainFrame → Peer → Type 0
+MaySend p (info ns nr pf packet) q = (n : ℕ) × (t : ℕ) × MayNumber p ns packet n × (n ≤ p.sent)
+    × (length packet ≤ ROOM) × MayAcknowledge p nr t × (q ≡ told_to t (numbered_to n p))
+MaySend p (rr command nr pf) q = (t : ℕ) × MayAcknowledge p nr t × (q ≡ told_to t p)
+MaySend p (rnr command nr pf) q = (t : ℕ) × MayAcknowledge p nr t × (q ≡ told_to t p)
+MaySend p (rej command nr pf) q = (t : ℕ) × MayAcknowledge p nr t × (q ≡ told_to t p)
+MaySend p frame q = ⊥
 
 -- DM ends a session, and isn't sent in place of waiting for UA
 abbrev pub declined : Stand → Stand
@@ -63,6 +73,8 @@ pub data MayStand (from : Role) : Judge → Stand → Peer → Way → Type 0 wh
   -- nothing was shown or set up
   Starts : (window : ℕ) (reading : Reading) (strictness : Strictness)
       → MayStand from (begins window reading strictness) Out fresh_peer []
+  -- or the trace has shown a set-up
+  SetUp : (j : Judge) → IsBegun j from → MayStand from j In fresh_peer []
   -- it is handed down a packet
   HandsDown : (j : Judge) (stand : Stand) (p : Peer) (way : Way) (packet : List ℕ)
       → MayStand from j stand p way → MayStand from j stand (record p { given = p.given ++ packet ∷ [] }) way

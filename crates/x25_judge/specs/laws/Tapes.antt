@@ -1,5 +1,5 @@
 -- What a trace is to an end: what it sent itself, and what the other end did.
-use Rattle.std.specs.Prelude.{◌≡◌, ℕ, false, List, [], ◌∷◌}
+use Rattle.std.specs.Prelude.{ℕ, List, [], ◌∷◌}
 use Rattle.x25_bits.specs.declared.role.Role.{Role}
 use Rattle.x25_bits.specs.declared.role.Role.TheVariants.{Dte, Dce}
 use Rattle.x25_decode.specs.declared.answer.Reading.{Reading}
@@ -20,14 +20,14 @@ item_by Dte Dce x = Other x
 item_by Dce Dte x = Other x
 item_by Dce Dce x = Own x
 
--- The tape of the end `of` behind lines, latest first, as long as there is room, over what was sent before the first of
--- them; an I frame with whether its number is known to have other octets.
+-- The tape of the end `of` behind lines, latest first, over what was sent before the first of them; an I frame with
+-- whether its number is known to have other octets.
 pub data IsTape (of : Role) : Judge → List (Item Frame) → Type 0 where
   Begins : (window : ℕ) (reading : Reading) (strictness : Strictness)
       → IsTape of (begins window reading strictness) (Other Before ∷ [])
   Sees : (j : Judge) (tape : List (Item Frame)) (from : Role) (line octets : List ℕ) (frame : PlainFrame)
-      → Shows line from octets frame → (own_of of (answer_to j line).next).set.is_blind ≡ false → IsTape of j tape
+      → Shows line from octets frame → IsTape of j tape
       → IsTape of (answer_to j line).next (item_by of from (shown frame (differs (own_of from j).held frame)) ∷ tape)
   Misses : (j : Judge) (tape : List (Item Frame)) (from : Role) (line octets : List ℕ) → IsDamaged line from octets
-      → (own_of of (answer_to j line).next).set.is_blind ≡ false → IsTape of j tape
+      → IsTape of j tape
       → IsTape of (answer_to j line).next (item_by of from Unread ∷ tape)

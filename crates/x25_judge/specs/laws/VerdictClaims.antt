@@ -1,5 +1,5 @@
 -- What the laws say of `judge`.
-use Rattle.std.specs.Prelude.{◌≡◌, ℕ, ◌≤◌, Bool, true, false, List, [], ◌∷◌, ◌++◌, is_some}
+use Rattle.std.specs.Prelude.{◌≡◌, ◌⊎◌, ℕ, ◌≤◌, Bool, true, false, List, [], ◌∷◌, ◌++◌, is_some}
 use Rattle.x25_bits.specs.declared.role.Role.{Role}
 use Rattle.x25_decode.specs.Decoding.{n1}
 use Rattle.x25_frame.specs.Frame.{PlainFrame, info, sabm, ua}
@@ -14,6 +14,7 @@ use Rattle.x25_judge.specs.declared.manners.Manners.{Manners}
 use Rattle.x25_judge.specs.declared.manners.Place.{Place}
 use Rattle.x25_possible.specs.laws.Possible.{IsUnexplained, Item, Own, Stands}
 use Rattle.x25_possible_links.specs.laws.Link.{State, link_rules}
+use Rattle.x25_possible_links.specs.laws.Sets.{IsRoomy, IsTimely}
 use Rattle.x25_possible_links.specs.declared.frame.Frame.{Frame}
 use Rattle.x25_possible_links.specs.declared.stand.Stand.TheVariants.{Free}
 use Rattle.x25_line.specs.laws.InWindow.{IsPrefix}
@@ -22,7 +23,6 @@ use Rattle.x25_link.specs.Hearing.{other}
 use Rattle.x25_link.specs.Station.{Settings}
 use Rattle.x25_line.specs.laws.PeerSessions.{Stand}
 use Rattle.x25_judge.specs.laws.Explaining.{IsQuiet, IsKept, IsUntold, Carries}
-use Rattle.x25_judge.specs.laws.Keeping.{MaySend, MayBe}
 use Rattle.x25_judge.specs.laws.Sessions.{MaySay, MayStand}
 use Rattle.x25_judge.specs.laws.Session.{IsBegun, Shows, IsNumbered, has_answer, has_number, is_final, is_of_order}
 use Rattle.x25_judge.specs.laws.Session.{is_up, rule_of, Way}
@@ -30,13 +30,7 @@ use Rattle.x25_judge.specs.laws.Tapes.{IsTape}
 use Rattle.x25_judge.specs.laws.Watching.{Watched, IsSilent, IsAny}
 use Rattle.x25_packet_judge.specs.Numbers.{apart}
 
--- no rule of order is told of what an end sends that keeps the rules
-abbrev pub NoInnocentIsAccused : Type 0
-NoInnocentIsAccused =
-    (from : Role) (j : Judge) (p q : Peer) (way : Way) (line octets : List ℕ) (frame : PlainFrame) → MayBe from j p way
-    → Shows line from octets frame → MaySend p frame q → is_of_order (rule_of j from frame) ≡ false
-
--- nor over any number of set-ups
+-- no rule of order is told of what an end sends that keeps the rules, over any number of set-ups
 abbrev pub NoSessionIsAccused : Type 0
 NoSessionIsAccused =
     (from : Role) (j : Judge) (stand next : Stand) (p q : Peer) (way rest : Way) (line octets : List ℕ)
@@ -99,18 +93,20 @@ SetUpsBegin =
 abbrev pub GuiltyAreTold : Type 0
 GuiltyAreTold =
     (of : Role) (j : Judge) (tape : List (Item Frame)) (s : State) (way : List Frame) (line octets : List ℕ)
-    (frame : PlainFrame) → IsTape of j tape → Stands (link_rules (Free ∷ [])) tape s way → Shows line of octets frame
+    (frame : PlainFrame) → IsTape of j tape → (run : Stands (link_rules (Free ∷ [])) tape s way)
+    → IsTimely run ⊎ IsRoomy (Free ∷ []) tape → Shows line of octets frame
     → (own_of of (answer_to j line).next).set.is_blind ≡ false
     → IsUnexplained (link_rules (Free ∷ [])) (Own (shown frame (differs (own_of of j).held frame)) ∷ tape)
     → is_some (rule_of j of frame) ≡ true
 
--- And where a rule of order is told for the first time, no run does.
+-- And where a rule of order is told for the first time, no run does in which nothing comes too late; and none at all
+-- where there was room on the way.
 abbrev pub ToldAreGuilty : Type 0
 ToldAreGuilty =
-    (of : Role) (j : Judge) (tape : List (Item Frame)) (s : State) (way : List Frame) (line octets : List ℕ)
-    (frame : PlainFrame) → IsTape of j tape → Stands (link_rules (Free ∷ [])) tape s way → Shows line of octets frame
-    → is_of_order (rule_of j of frame) ≡ true
-    → IsUnexplained (link_rules (Free ∷ [])) (Own (shown frame (differs (own_of of j).held frame)) ∷ tape)
+    (of : Role) (j : Judge) (tape : List (Item Frame)) (frame : PlainFrame) (s : State) (way : List Frame)
+    → IsTape of j tape → is_of_order (rule_of j of frame) ≡ true
+    → (run : Stands (link_rules (Free ∷ [])) (Own (shown frame (differs (own_of of j).held frame)) ∷ tape) s way)
+    → IsTimely run ⊎ IsRoomy (Free ∷ []) tape → ⊥
 
 -- V(S) can't stand at the N(S), nor be set back to it
 pub record IsOutOfPlace (ns : ℕ) (p : Bool) (m : Manners) (at : Place) : Type 0 where

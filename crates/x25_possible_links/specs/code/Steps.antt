@@ -361,13 +361,16 @@ abbrev pub extended : Frame → LinkSet → LinkSet
 extended x s =
     shown_to s (s.way.items ++ x ∷ []) (grow_all (length s.way.items) (s.way.items ++ x ∷ []) s.spots.items)
 
--- the older half of a way that is full counts as come
-abbrev pub hastened : LinkSet → LinkSet
-hastened s = record {
+-- the older half of a way that is full counts as come: an end that awaited UA may have passed over one there
+abbrev pub hastened_to : List Spot → LinkSet → LinkSet
+hastened_to qs s = record {
   way = record { items = drop 64 s.way.items };
-  spots = record { items = map (hurried 64 (take 64 s.way.items)) s.spots.items };
-  is_blind = true;
+  spots = record { items = qs };
+  is_blind = if are_known qs then s.is_blind else true;
 }
+
+abbrev pub hastened : LinkSet → LinkSet
+hastened s = hastened_to (map (hurried 64 (take 64 s.way.items)) s.spots.items) s
 
 -- the other end sends one
 abbrev pub shows_to : Frame → LinkSet → LinkSet

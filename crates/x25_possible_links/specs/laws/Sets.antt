@@ -1,6 +1,7 @@
 -- What a set of places of an end of a link tells, over a whole tape.
-use Rattle.std.specs.Prelude.{◌≡◌, ◌⊎◌, ◌<◌, false, List, ◌∷◌, length}
-use Rattle.x25_possible.specs.laws.Possible.{Item, Own, IsUnexplained, Rules, Stands, Begins, Sends, Shows, Takes}
+use Rattle.std.specs.Prelude.{◌≡◌, ◌⊎◌, ◌<◌, ◌==◌, false, List, [], ◌∷◌, length}
+use Rattle.x25_possible.specs.laws.Possible.{Item, Own, Other, IsUnexplained, Rules, Stands}
+use Rattle.x25_possible.specs.laws.Possible.{Begins, Sends, Shows, Takes}
 use Rattle.x25_possible_links.specs.laws.Link.{State, link_rules}
 use Rattle.x25_possible_links.specs.code.Steps.{begun_as, played, sends_to}
 use Rattle.x25_possible_links.specs.declared.frame.Frame.{Frame}
@@ -15,19 +16,27 @@ IsTimely (Sends tape s r way x may run) = IsTimely run
 IsTimely (Shows tape s way x run) = (length way < 64) × IsTimely run
 IsTimely (Takes tape s r way x may run) = IsTimely run
 
+-- or there is room on the way for all that the other end sends
+abbrev pub IsRoomy : List Stand → List (Item Frame) → Type 0
+IsRoomy begun [] = Unit {0}
+IsRoomy begun (Own x ∷ tape) = IsRoomy begun tape
+IsRoomy begun (Other x ∷ tape) =
+    ((length (played (begun_as begun) tape).way.items == 128) ≡ false) × IsRoomy begun tape
+
 -- No rule is told of an end that keeps the rules, whatever the other end sends, and however late that comes, as long as
--- there is room, or nothing comes too late.
+-- there is room for it on the way, or nothing comes too late.
 abbrev pub InnocentsStayUntold : Type 0
 InnocentsStayUntold =
     (begun : List Stand) (tape : List (Item Frame)) (x : Frame) (s : State) (way : List Frame)
     (run : Stands (link_rules begun) (Own x ∷ tape) s way)
-    → IsTimely run ⊎ ((played (begun_as begun) tape).is_blind ≡ false)
+    → IsTimely run ⊎ IsRoomy begun tape
     → (sends_to x (played (begun_as begun) tape)).told ≡ Nothing
 
--- The first frame that breaks a rule is told, as long as there is room.
+-- The first frame that breaks a rule is told, as long as there is room for its places too.
 abbrev pub GuiltyAreTold : Type 0
 GuiltyAreTold =
     (begun : List Stand) (tape : List (Item Frame)) (x : Frame) (s : State) (way : List Frame)
-    → Stands (link_rules begun) tape s way → (sends_to x (played (begun_as begun) tape)).set.is_blind ≡ false
+    (run : Stands (link_rules begun) tape s way) → IsTimely run ⊎ IsRoomy begun tape
+    → (sends_to x (played (begun_as begun) tape)).set.is_blind ≡ false
     → IsUnexplained (link_rules begun) (Own x ∷ tape)
     → (sends_to x (played (begun_as begun) tape)).told ≡ Nothing → ⊥
