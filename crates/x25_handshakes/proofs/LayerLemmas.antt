@@ -4,7 +4,7 @@ use Rattle.x25_handshakes.specs.laws.Handshake.{Side, Live, Left, At}
 use Rattle.x25_bits.specs.declared.role.Role.{Role}
 use Rattle.x25_bits.specs.declared.role.Role.TheVariants.{Dte, Dce}
 use Rattle.x25_handshakes.specs.laws.Layers.{LayerPacket, Restart, Channels, all_fresh, layer_takes, LayerAct, layer_acts, Pair, Move, Acts, Takes, LinkDown, turned, first_error, pair_moves, Event, pair_happens, pair_run, pair_start}
-use Rattle.x25_handshakes.proofs.TermsLemmas.{Laws}
+use Rattle.x25_handshakes.specs.laws.LawsBelow.{Laws}
 use Rattle.x25_handshakes.proofs.CallsRelation.{IsCalled}
 use Rattle.x25_handshakes.specs.laws.Calls.{fresh_call}
 use Rattle.x25_handshakes.proofs.HandshakeLemmas.{ext_act, ext_take, hand_flip, both_requests, hand_map}
