@@ -87,10 +87,8 @@ rest_has_all : (s : LinkStation) → IsAtRest s → s.outgoing.sent ≤ length s
 rest_has_all s rest high same =
     let outer = and_parts (is_up s.phase) (waits s.outgoing == 0 && s.outgoing.acked == s.outgoing.sent) rest.idle in
     let inner = and_parts (waits s.outgoing == 0) (s.outgoing.acked == s.outgoing.sent) outer.1 in
-    counts (length s.outgoing.given) s.outgoing.sent s.outgoing.acked (eqb-true (waits s.outgoing) 0 inner.0) same high
-  where
-    counts : (n m a : ℕ) → n - m ≡ 0 → a ≡ m → m ≤ n → n ≡ a
-    counts n m a none same high = omega arith
+    let none : length s.outgoing.given - s.outgoing.sent ≡ 0 = eqb-true (waits s.outgoing) 0 inner.0 in
+    omega (arith, none, same, high)
 
 module _ (c d : Settings) (joined : AreJoined c d) (reads : ReadsSpelled) (laws : HealingLaws) where
   pub arrives : (w : Stations) → Sound c d w → is_up w.near.station.phase ≡ true → IsAtRest w.near.station → HasArrived w.near w.far

@@ -86,10 +86,7 @@ numbered_count kind k (f ∷ fs) h =
 
 quiet_rest : (m : Option PlainFrame) (fs : List PlainFrame) → consed m fs ≡ [] → (m ≡ None) × (fs ≡ [])
 quiet_rest None fs e = (refl, e)
-quiet_rest (Some f) fs e = absurd (never e)
-  where
-    never : f ∷ fs ≡ [] → ⊥
-    never k = cc
+quiet_rest (Some f) fs e = absurd (cc)
 
 module _ (from : Role) (n1 : ℕ) where
   abbrev pub numbers : List Entry → List PlainFrame
