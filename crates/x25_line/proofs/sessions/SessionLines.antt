@@ -63,11 +63,6 @@ number_kind kind of_disc (Ok (rr command nr pf)) g e = refl
 number_kind kind of_disc (Ok (rnr command nr pf)) g e = refl
 number_kind kind of_disc (Ok (rej command nr pf)) g e = refl
 
-pub error_kind : (kind : Read → ℕ) → IsKind kind → (e : FrameError) → kind (Err e) ≡ 0
-error_kind kind of_sabm e = refl
-error_kind kind of_ua e = refl
-error_kind kind of_disc e = refl
-
 -- how many frames of a kind are sent
 abbrev pub count : (Read → ℕ) → List PlainFrame → ℕ
 count kind [] = 0
