@@ -1,5 +1,5 @@
 -- What is acknowledged to an end that talks, the other end has taken in the same stretch.
-use Rattle.std.proofs.Common.{◌≡◌, ◌⊎◌, inl, inr, ℕ, suc, ◌≤◌, List, [], ◌∷◌, ◌++◌, length, take, drop, Option, Some, None, refl, sym, ap, subst, ◌∙◌, arith}
+use Rattle.std.proofs.Common.{◌≡◌, ◌⊎◌, inl, inr, ℕ, ◌≤◌, List, [], ◌∷◌, ◌++◌, length, take, drop, Some, refl, sym, ap, subst, ◌∙◌, arith}
 use Rattle.std.proofs.lemmas.Bool.{true≢false}
 use Rattle.std.proofs.lemmas.List.{take-append-drop, take-append-le}
 use Rattle.x25_bits.specs.declared.role.Role.{Role}
@@ -8,20 +8,20 @@ use Rattle.x25_circuit.specs.declared.message.Message.{Message}
 use Rattle.x25_circuit.specs.Message.{no_part, joining, carried_from, carried}
 use Rattle.x25_circuit.specs.Params.{Terms}
 use Rattle.x25_circuit.specs.Notice.{CallRequest}
-use Rattle.x25_handshakes.specs.laws.Handshake.{Side, Live, Left, At, state_of}
+use Rattle.x25_handshakes.specs.laws.Handshake.{Side, Live, At, state_of}
 use Rattle.x25_handshakes.specs.laws.Stretch.{Packet, Stretch, fresh}
 use Rattle.x25_handshakes.specs.laws.Transfer.{d1, fresh_transfer}
 use Rattle.x25_handshakes.specs.laws.Calls.{Phase, Talking, Connection, fresh_call}
 use Rattle.x25_handshakes.specs.laws.Channel.{live}
 use Rattle.x25_handshakes.specs.laws.Layers.{Channels, all_fresh, ready, Pair, turned}
 use Rattle.x25_handshakes.specs.laws.Names.{Name}
-use Rattle.x25_handshakes.specs.laws.Histories.{Lists, messages, resets_in, held_in, circuit_at, name_at, held_at, channel_view, Histories, turned_histories, histories_run, histories_start, IsPrefix, IsLawful}
+use Rattle.x25_handshakes.specs.laws.Histories.{Lists, messages, resets_in, held_in, circuit_at, name_at, held_at, Histories, histories_run, histories_start, IsPrefix}
 use Rattle.x25_handshakes.specs.laws.Arrivals.{open_at}
 use Rattle.x25_handshakes.specs.laws.Acknowledged.{AcknowledgedAreUp, AcknowledgedAreHandedUp}
 use Rattle.x25_handshakes.specs.laws.PeerClaims.{InEpochs, transfer_of}
-use Rattle.x25_handshakes.proofs.TermsLemmas.{Laws}
+use Rattle.x25_handshakes.specs.laws.LawsBelow.{Laws}
 use Rattle.x25_handshakes.proofs.StretchRelation.{pieces, StretchesRelated}
-use Rattle.x25_handshakes.proofs.TransferRelation.{stretch_level, TransfersRelated}
+use Rattle.x25_handshakes.proofs.TransferRelation.{stretch_level}
 use Rattle.x25_handshakes.proofs.CallsRelation.{stage_of, TalksRelated}
 use Rattle.x25_handshakes.proofs.ChannelRelation.{Seen, connection_level, ChannelRelated}
 use Rattle.x25_handshakes.proofs.LayersRelation.{on, channels_level, LayersRelated, EndsRelated}
@@ -33,7 +33,6 @@ use Rattle.x25_handshakes.proofs.StretchLemmas.{StretchesRelated-fresh}
 use Rattle.x25_handshakes.proofs.CallLemmas.{TalksRelated-flip}
 use Rattle.x25_handshakes.proofs.JointLemmas.{in_stage, joint_order}
 use Rattle.x25_handshakes.proofs.NameLemmas.{name_eq}
-use Rattle.x25_handshakes.proofs.HistoryLemmas.{lawful_turned}
 use Rattle.x25_handshakes.proofs.TurnLemmas.{Ends-meet}
 use Rattle.x25_handshakes.proofs.StretchKindLemmas.{messages_handled}
 use Rattle.x25_handshakes.proofs.LayerLemmas.{Stands, Stands-turned}

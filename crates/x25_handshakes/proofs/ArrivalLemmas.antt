@@ -15,7 +15,7 @@ use Rattle.x25_handshakes.specs.laws.Layers.{LayerPacket, Channels, ready, Pair,
 use Rattle.x25_handshakes.specs.laws.Names.{Name}
 use Rattle.x25_handshakes.specs.laws.Histories.{messages, name_at}
 use Rattle.x25_handshakes.specs.laws.Arrivals.{open_in, open_phase, open_call, open_channel, open_at, HasArrived, AllArrives}
-use Rattle.x25_handshakes.proofs.TermsLemmas.{Laws}
+use Rattle.x25_handshakes.specs.laws.LawsBelow.{Laws}
 use Rattle.x25_handshakes.proofs.LayersRelation.{EndsRelated}
 use Rattle.x25_handshakes.proofs.StretchRelation.{FollowsFrom}
 use Rattle.x25_handshakes.proofs.LayerLemmas.{Stands, Stands-turned, Stands-run, Stands-start}

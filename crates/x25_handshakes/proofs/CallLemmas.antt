@@ -7,7 +7,8 @@ use Rattle.x25_handshakes.specs.laws.Handshake.{At}
 use Rattle.x25_handshakes.specs.laws.Stretch.{Packet, Stretch, fresh}
 use Rattle.x25_handshakes.specs.laws.Transfer.{fresh_transfer, transfer_takes, transfer_acts}
 use Rattle.x25_handshakes.specs.laws.Calls.{Phase, Unused, Waiting, Connection, call_takes, CallAct, call_acts, fresh_call}
-use Rattle.x25_handshakes.proofs.TermsLemmas.{Laws, IsSound}
+use Rattle.x25_handshakes.specs.laws.LawsBelow.{Laws}
+use Rattle.x25_handshakes.proofs.TermsLemmas.{IsSound}
 use Rattle.x25_handshakes.proofs.TransferRelation.{TransfersRelated}
 use Rattle.x25_handshakes.proofs.StretchRelation.{StretchesRelated}
 use Rattle.x25_handshakes.proofs.CallsRelation.{TalksRelated, stage_of, Joint, GoodCall, IsCalled}

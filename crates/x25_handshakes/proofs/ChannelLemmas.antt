@@ -8,7 +8,7 @@ use Rattle.x25_handshakes.specs.laws.Calls.{Connection, fresh_call}
 use Rattle.x25_handshakes.specs.laws.Channel.{fresh_channel}
 use Rattle.x25_circuit.specs.Params.{Terms}
 use Rattle.x25_handshakes.specs.laws.Transfer.{fresh_transfer}
-use Rattle.x25_handshakes.proofs.TermsLemmas.{Laws}
+use Rattle.x25_handshakes.specs.laws.LawsBelow.{Laws}
 use Rattle.x25_handshakes.proofs.HandshakeLemmas.{hand_flip, both_fresh, hand_map}
 use Rattle.x25_handshakes.proofs.CallsRelation.{TalksRelated, stage_of, IsCalled}
 use Rattle.x25_handshakes.specs.laws.PeerLayers.{other_role}

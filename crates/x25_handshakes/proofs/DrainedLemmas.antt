@@ -16,7 +16,7 @@ use Rattle.x25_handshakes.specs.laws.Names.{Name}
 use Rattle.x25_handshakes.specs.laws.Histories.{messages, resets_in, name_at}
 use Rattle.x25_handshakes.specs.laws.Arrivals.{open_in, open_phase, open_call, open_channel, open_at}
 use Rattle.x25_handshakes.specs.laws.Drained.{is_up, pulled_at, IsOpenThere, AllIsKnown}
-use Rattle.x25_handshakes.proofs.TermsLemmas.{Laws}
+use Rattle.x25_handshakes.specs.laws.LawsBelow.{Laws}
 use Rattle.x25_handshakes.proofs.HandshakeRelation.{Level, Handshake}
 use Rattle.x25_handshakes.proofs.HandshakeLemmas.{cons≢nil}
 use Rattle.x25_handshakes.proofs.StretchRelation.{StretchesRelated}

@@ -65,20 +65,6 @@ cons≢nil p K e = subst (λ (l : List _). elim l as (λ _. Type 0) [ [] ↦ ⊥
 request_front : {P : Type 0} (mark : P → Mark) (p : P) (K : List P) (left : Bool) → mark p ≡ Request → Ends mark left (p ∷ K) → (left ≡ true) × (K ≡ [])
 request_front mark p K left is ends = subst (λ (m : Mark). ends_at m left K (Ends mark left K)) is ends
 
--- A live end takes a request, and confirms it.
-pub request_live : {S T P : Type 0} (l : Level S T P) (empty : l.related l.fresh [] [] l.fresh_there) (c p : P) → l.mark c ≡ Confirm → l.mark p ≡ Request →
-    (ex ey : ℕ) (x : S) (y : Side T) (L K : List P) → Handshake l ex ey (Live x) y L (p ∷ K) → Handshake l (suc ex) ey (Live l.fresh) y (L ++ c ∷ []) K
-request_live l empty c p is_c is_p ex ey x y L K (inl same) =
-    inr (inl (record {
-      epochs = ap suc same.epochs;
-      waits = (request_front l.mark p K (has_left y) is_p same.back).0;
-      back = (request_front l.mark p K (has_left y) is_p same.back).1;
-      there = behind_confirm l.mark c is_c L same.there;
-      inner = subst (λ (u : List _). l.related l.fresh (before l.mark u) [] l.fresh_there) (sym (past_confirm l.mark c is_c L same.there)) empty;
-    }))
-request_live l empty c p is_c is_p ex ey x y L K (inr (inl ahead)) = absurd (cons≢nil p K ahead.back)
-request_live l empty c p is_c is_p ex ey x y L K (inr (inr later)) = absurd (true≢false (sym later.waits))
-
 -- A live end never takes a confirmation.
 pub confirm_never : {S T P : Type 0} (l : Level S T P) (p : P) → l.mark p ≡ Confirm →
     (ex ey : ℕ) (x : S) (y : Side T) (L K : List P) → Handshake l ex ey (Live x) y L (p ∷ K) → ⊥
@@ -132,15 +118,10 @@ past_inner {P} mark (p ∷ L) o all b = past_map (λ l. before mark l) (λ l. be
     (λ e. before_inner mark L o all e) (λ e. past_inner mark L o all e)
 
 -- what R keeps with both ends there is kept for the end that is there
-pub ext_act : {S T P : Type 0} (gone : S → Type 0) (gone_there : T → Type 0) (R : S → List P → List P → T → Type 0) (x x₂ : S) (o u v : List P) (y : Side T) →
-    ((w : List P) (z : T) → R x w v z → R x₂ (w ++ o) v z) → Extended gone gone_there R (Live x) u v y → Extended gone gone_there R (Live x₂) (u ++ o) v y
-ext_act gone gone_there R x x₂ o u v (Live y) kept r = kept u y r
-ext_act gone gone_there R x x₂ o u v (Left z) kept r = (r.0 ++ o, r.1, kept r.0 z r.2)
-
-pub ext_take : {S T P : Type 0} (gone : S → Type 0) (gone_there : T → Type 0) (R : S → List P → List P → T → Type 0) (x x₂ : S) (p : P) (o u v : List P) (y : Side T) →
-    ((w : List P) (z : T) → R x w (p ∷ v) z → R x₂ (w ++ o) v z) → Extended gone gone_there R (Live x) u (p ∷ v) y → Extended gone gone_there R (Live x₂) (u ++ o) v y
-ext_take gone gone_there R x x₂ p o u v (Live y) kept r = kept u y r
-ext_take gone gone_there R x x₂ p o u v (Left z) kept r = (r.0 ++ o, r.1, kept r.0 z r.2)
+pub ext_step : {S T P : Type 0} (gone : S → Type 0) (gone_there : T → Type 0) (R : S → List P → List P → T → Type 0) (x x₂ : S) (o u v v₂ : List P) (y : Side T) →
+    ((w : List P) (z : T) → R x w v z → R x₂ (w ++ o) v₂ z) → Extended gone gone_there R (Live x) u v y → Extended gone gone_there R (Live x₂) (u ++ o) v₂ y
+ext_step gone gone_there R x x₂ o u v v₂ (Live y) kept r = kept u y r
+ext_step gone gone_there R x x₂ o u v v₂ (Left z) kept r = (r.0 ++ o, r.1, kept r.0 z r.2)
 
 -- An end leaves: its request goes to the back.
 pub leave : {S T P : Type 0} (l : Level S T P) (q : P) → l.mark q ≡ Request →
@@ -174,7 +155,7 @@ inner_act l o all ex ey x x₂ y L K kept (inl same) =
       there = ends_inner l.mark L o all same.there;
       back = same.back;
       inner = subst (λ (u : List _). Extended l.gone l.gone_there l.related (Live x₂) u (before l.mark K) y) (sym (before_inner l.mark L o all same.there))
-          (ext_act l.gone l.gone_there l.related x x₂ o (before l.mark L) (before l.mark K) y (λ w z r. kept w (before l.mark K) z r) same.inner);
+          (ext_step l.gone l.gone_there l.related x x₂ o (before l.mark L) (before l.mark K) (before l.mark K) y (λ w z r. kept w (before l.mark K) z r) same.inner);
     })
 inner_act l o all ex ey x x₂ y L K kept (inr (inl ahead)) =
     inr (inl (record {
@@ -212,24 +193,12 @@ request_skips l empty c p j all is_c is_p ex ey x y L K (inl same) =
 request_skips l empty c p j all is_c is_p ex ey x y L K (inr (inl ahead)) = absurd (some≢nil j p K ahead.back)
 request_skips l empty c p j all is_c is_p ex ey x y L K (inr (inr later)) = absurd (true≢false (sym later.waits))
 
-pub before_front : {P : Type 0} (mark : P → Mark) (p : P) (K : List P) → mark p ≡ Inner → before mark (p ∷ K) ≡ p ∷ before mark K
-before_front {P} mark p K is = ap (λ m. kept_before {P = P} m p (before mark K)) is
+pub request_live : {S T P : Type 0} (l : Level S T P) (empty : l.related l.fresh [] [] l.fresh_there) (c p : P) → l.mark c ≡ Confirm → l.mark p ≡ Request →
+    (ex ey : ℕ) (x : S) (y : Side T) (L K : List P) → Handshake l ex ey (Live x) y L (p ∷ K) → Handshake l (suc ex) ey (Live l.fresh) y (L ++ c ∷ []) K
+request_live l empty c p is_c is_p ex ey x y L K h = request_skips l empty c p [] tt is_c is_p ex ey x y L K h
 
--- A live end takes a packet of its epoch.
-pub inner_take : {S T P : Type 0} (l : Level S T P) (p : P) (o : List P) → l.mark p ≡ Inner → AllInner l.mark o →
-    (ex ey : ℕ) (x x₂ : S) (y : Side T) (L K : List P) → ((w v : List P) (z : T) → l.related x w (p ∷ v) z → l.related x₂ (w ++ o) v z) →
-    Handshake l ex ey (Live x) y L (p ∷ K) → Handshake l ex ey (Live x₂) y (L ++ o) K
-inner_take l p o is all ex ey x x₂ y L K kept (inl same) =
-    inl (record {
-      epochs = same.epochs;
-      there = ends_inner l.mark L o all same.there;
-      back = inner_front l.mark p K (has_left y) is same.back;
-      inner = subst (λ (u : List _). Extended l.gone l.gone_there l.related (Live x₂) u (before l.mark K) y) (sym (before_inner l.mark L o all same.there))
-          (ext_take l.gone l.gone_there l.related x x₂ p o (before l.mark L) (before l.mark K) y (λ w z r. kept w (before l.mark K) z r)
-          (subst (λ (v : List _). Extended l.gone l.gone_there l.related (Live x) (before l.mark L) v y) (before_front l.mark p K is) same.inner));
-    })
-inner_take l p o is all ex ey x x₂ y L K kept (inr (inl ahead)) = absurd (cons≢nil p K ahead.back)
-inner_take l p o is all ex ey x x₂ y L K kept (inr (inr later)) = absurd (true≢false (sym later.waits))
+before_front : {P : Type 0} (mark : P → Mark) (p : P) (K : List P) → mark p ≡ Inner → before mark (p ∷ K) ≡ p ∷ before mark K
+before_front {P} mark p K is = ap (λ m. kept_before {P = P} m p (before mark K)) is
 
 -- a line with inner packets in front
 inner_more : {P : Type 0} (mark : P → Mark) (j K : List P) (left : Bool) → AllInner mark j → Ends mark left K → Ends mark left (j ++ K)
@@ -243,11 +212,6 @@ inner_fronts mark (q ∷ j) K left all ends = inner_fronts mark j K left all.1 (
 before_fronts : {P : Type 0} (mark : P → Mark) (j K : List P) → AllInner mark j → before mark (j ++ K) ≡ j ++ before mark K
 before_fronts mark [] K all = refl
 before_fronts mark (q ∷ j) K all = before_front mark q (j ++ K) all.0 ∙ ap (λ l. q ∷ l) (before_fronts mark j K all.1)
-
-ext_step : {S T P : Type 0} (gone : S → Type 0) (gone_there : T → Type 0) (R : S → List P → List P → T → Type 0) (x x₂ : S) (o u v v₂ : List P) (y : Side T) →
-    ((w : List P) (z : T) → R x w v z → R x₂ (w ++ o) v₂ z) → Extended gone gone_there R (Live x) u v y → Extended gone gone_there R (Live x₂) (u ++ o) v₂ y
-ext_step gone gone_there R x x₂ o u v v₂ (Live y) kept r = kept u y r
-ext_step gone gone_there R x x₂ o u v v₂ (Left z) kept r = (r.0 ++ o, r.1, kept r.0 z r.2)
 
 -- A live end takes a packet of its epoch before the inner packets in front of it.
 pub inner_take_behind : {S T P : Type 0} (l : Level S T P) (j : List P) (p : P) (o : List P) → AllInner l.mark j → l.mark p ≡ Inner → AllInner l.mark o →
@@ -265,6 +229,11 @@ inner_take_behind l j p o front is all ex ey x x₂ y L K kept (inl same) =
     })
 inner_take_behind l j p o front is all ex ey x x₂ y L K kept (inr (inl ahead)) = absurd (some≢nil j p K ahead.back)
 inner_take_behind l j p o front is all ex ey x x₂ y L K kept (inr (inr later)) = absurd (true≢false (sym later.waits))
+
+pub inner_take : {S T P : Type 0} (l : Level S T P) (p : P) (o : List P) → l.mark p ≡ Inner → AllInner l.mark o →
+    (ex ey : ℕ) (x x₂ : S) (y : Side T) (L K : List P) → ((w v : List P) (z : T) → l.related x w (p ∷ v) z → l.related x₂ (w ++ o) v z) →
+    Handshake l ex ey (Live x) y L (p ∷ K) → Handshake l ex ey (Live x₂) y (L ++ o) K
+inner_take l p o is all ex ey x x₂ y L K kept h = inner_take_behind l [] p o tt is all ex ey x x₂ y L K kept h
 
 forget_back : {S T P : Type 0} (gone : S → Type 0) (gone_there : T → Type 0) (R : S → List P → List P → T → Type 0) (x : S) (u v v₂ : List P) (y : Side T) → Extended gone gone_there R (Left x) u v y → Extended gone gone_there R (Left x) u v₂ y
 forget_back gone gone_there R x u v v₂ (Live y) r = r
@@ -378,16 +347,6 @@ inner_live l ex ey x (Left z) L K (inl same) = (same.inner.0, before l.mark K, z
 inner_live l ex ey x y L K (inr (inl ahead)) = (before l.mark (past l.mark L), [], l.fresh_there, ahead.inner)
 inner_live l ex ey x y L K (inr (inr later)) = absurd (true≢false (sym later.waits))
 
--- the same, with the inner packet at the front
-pub live_front : {S T P : Type 0} (l : Level S T P) (p : P) → l.mark p ≡ Inner → (ex ey : ℕ) (x : S) (y : Side T) (L K : List P) → Handshake l ex ey (Live x) y L (p ∷ K)
-    → (w : List P) × (v : List P) × (z : T) × l.related x w (p ∷ v) z
-live_front {P = P} l p is ex ey x (Live z) L K (inl same) =
-    (before l.mark L, before l.mark K, z, subst (λ (v : List P). l.related x (before l.mark L) v z) (before_front l.mark p K is) same.inner)
-live_front {P = P} l p is ex ey x (Left z) L K (inl same) =
-    (same.inner.0, before l.mark K, z, subst (λ (v : List P). l.related x same.inner.0 v z) (before_front l.mark p K is) same.inner.2)
-live_front l p is ex ey x y L K (inr (inl ahead)) = absurd (cons≢nil p K ahead.back)
-live_front l p is ex ey x y L K (inr (inr later)) = absurd (true≢false (sym later.waits))
-
 -- The relation of the ends may be put by one that follows from it.
 ext_map : {S T P : Type 0} (gone : S → Type 0) (gone_there : T → Type 0) (R Q : S → List P → List P → T → Type 0) → ((x : S) (u v : List P) (y : T) → R x u v y → Q x u v y)
     → (x : Side S) (u v : List P) (y : Side T) → Extended gone gone_there R x u v y → Extended gone gone_there Q x u v y
@@ -424,6 +383,11 @@ meets {P = P} l p is ex ey x (Left z) L K (inl same) =
     (same.epochs, same.inner.0, before l.mark K, subst (λ (v : List P). l.related x same.inner.0 v z) (before_front l.mark p K is) same.inner.2)
 meets l p is ex ey x y L K (inr (inl ahead)) = absurd (cons≢nil p K ahead.back)
 meets l p is ex ey x y L K (inr (inr later)) = absurd (true≢false (sym later.waits))
+
+-- so it stands in the inner relation, with the packet at the front
+pub live_front : {S T P : Type 0} (l : Level S T P) (p : P) → l.mark p ≡ Inner → (ex ey : ℕ) (x : S) (y : Side T) (L K : List P) → Handshake l ex ey (Live x) y L (p ∷ K)
+    → (w : List P) × (v : List P) × (z : T) × l.related x w (p ∷ v) z
+live_front l p is ex ey x y L K h = (let m = meets l p is ex ey x y L K h in (m.1, m.2, state_of y, m.3))
 
 -- Two live ends of one epoch stand in the inner relation.
 pub both_live : {S T P : Type 0} (l : Level S T P) (e : ℕ) (x : S) (y : T) (L K : List P) → Handshake l e e (Live x) (Live y) L K → l.related x (before l.mark L) (before l.mark K) y

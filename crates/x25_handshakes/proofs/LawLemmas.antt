@@ -8,7 +8,7 @@ use Rattle.x25_handshakes.specs.laws.Layers.{LayerPacket, On, Channels, ready, M
 use Rattle.x25_handshakes.specs.laws.Names.{Name}
 use Rattle.x25_handshakes.specs.laws.Histories.{Lists, Kind, name_at, held_at, channel_view, written, IsLawful, Histories, turned_histories, histories_moves, histories_happens, histories_run, histories_start, AreInOrder}
 use Rattle.x25_handshakes.specs.laws.PeerLayers.{other_role}
-use Rattle.x25_handshakes.proofs.TermsLemmas.{Laws}
+use Rattle.x25_handshakes.specs.laws.LawsBelow.{Laws}
 use Rattle.x25_handshakes.proofs.LayersRelation.{EndsRelated}
 use Rattle.x25_handshakes.proofs.LayerLemmas.{Stands, Stands-moves, Stands-turned, Stands-start}
 use Rattle.x25_handshakes.proofs.HistoryLemmas.{Turn, MayHandUp, lawful_turned, lawful_turn}

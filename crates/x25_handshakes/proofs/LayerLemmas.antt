@@ -4,10 +4,10 @@ use Rattle.x25_handshakes.specs.laws.Handshake.{Side, Live, Left, At}
 use Rattle.x25_bits.specs.declared.role.Role.{Role}
 use Rattle.x25_bits.specs.declared.role.Role.TheVariants.{Dte, Dce}
 use Rattle.x25_handshakes.specs.laws.Layers.{LayerPacket, Restart, Channels, all_fresh, layer_takes, LayerAct, layer_acts, Pair, Move, Acts, Takes, LinkDown, turned, first_error, pair_moves, Event, pair_happens, pair_run, pair_start}
-use Rattle.x25_handshakes.proofs.TermsLemmas.{Laws}
+use Rattle.x25_handshakes.specs.laws.LawsBelow.{Laws}
 use Rattle.x25_handshakes.proofs.CallsRelation.{IsCalled}
 use Rattle.x25_handshakes.specs.laws.Calls.{fresh_call}
-use Rattle.x25_handshakes.proofs.HandshakeLemmas.{ext_act, ext_take, hand_flip, both_requests, hand_map}
+use Rattle.x25_handshakes.proofs.HandshakeLemmas.{ext_step, hand_flip, both_requests, hand_map}
 use Rattle.x25_handshakes.specs.laws.PeerLayers.{other_role}
 use Rattle.x25_handshakes.proofs.ChannelRelation.{Seen, ChannelRelated}
 use Rattle.x25_handshakes.proofs.LayersRelation.{on, OnEach, restart_mark, channels_level, LayersRelated, GoodLayer, EndsRelated}
@@ -71,14 +71,14 @@ Stands-moves laws r (Live x) out back far error (Acts a) h =
     let some = EndsRelated-some r x out back far h.top in
     record {
       quiet = ap (λ e. first_error e (layer_acts x a).error) h.quiet ∙ (GoodLayer-acts laws r x some.0 back some.1 a some.2).quiet;
-      top = ext_act (λ z. Unit {0}) (λ z. Unit {0}) (LayersRelated r) x (layer_acts x a).next (layer_acts x a).out out back far (λ w z k. (GoodLayer-acts laws r x w back z a k).kept) h.top;
+      top = ext_step (λ z. Unit {0}) (λ z. Unit {0}) (LayersRelated r) x (layer_acts x a).next (layer_acts x a).out out back back far (λ w z k. (GoodLayer-acts laws r x w back z a k).kept) h.top;
     }
 Stands-moves laws r (Live x) out [] far error Takes h = h
 Stands-moves laws r (Live x) out (p ∷ K) far error Takes h =
     let some = EndsRelated-some r x out (p ∷ K) far h.top in
     record {
       quiet = ap (λ e. first_error e (layer_takes r x p).error) h.quiet ∙ (GoodLayer-takes laws r x some.0 p K some.1 some.2).quiet;
-      top = ext_take (λ z. Unit {0}) (λ z. Unit {0}) (LayersRelated r) x (layer_takes r x p).next p (layer_takes r x p).out out K far (λ w z k. (GoodLayer-takes laws r x w p K z k).kept) h.top;
+      top = ext_step (λ z. Unit {0}) (λ z. Unit {0}) (LayersRelated r) x (layer_takes r x p).next (layer_takes r x p).out out (p ∷ K) K far (λ w z k. (GoodLayer-takes laws r x w p K z k).kept) h.top;
     }
 Stands-moves laws r (Live x) out back far error LinkDown h = record { quiet = h.quiet; top = EndsRelated-stops r x out back far h.top }
 Stands-moves laws r (Left x) out back far error what h = h

@@ -13,11 +13,12 @@ use Rattle.x25_handshakes.specs.laws.Transfer.{transfer_side_takes, transfer_sid
 use Rattle.x25_handshakes.specs.laws.Calls.{Phase, Unused, Waiting, Offered, Crossed, Talking, Connection, CallStep, goes, unexpected, called_talk, calling_talk, is_answered, phase_takes, call_takes, CallAct, PlacesCall, AcceptsCall, Talks, accepts, phase_acts, call_acts}
 use Rattle.x25_handshakes.specs.laws.Channel.{live, lifted_call, channel_side_takes, ChannelAct, Within, SendsClear, clears, channel_side_acts}
 use Rattle.x25_handshakes.specs.laws.PeerTransfer.{MayDoTransfer, does_transfer, transfer_packet_of, transfer_taking}
-use Rattle.x25_handshakes.specs.laws.PeerCalls.{Stage, Free, Calling, Called, Collided, InData, PeerCall, stands, CallDeed, InTransfer, MayDoCall, called_in_data, calling_in_data, does_call, call_packet_of, PeerCallStep, call_taking}
+use Rattle.x25_handshakes.specs.laws.PeerCalls.{InData, PeerCall, stands, InTransfer, MayDoCall, called_in_data, calling_in_data, does_call, call_packet_of, PeerCallStep, call_taking}
 use Rattle.x25_handshakes.specs.laws.PeerCalls as peer
 use Rattle.x25_handshakes.specs.laws.PeerChannel.{peer_live, InCall, Clears, MayDoChannel, does_channel, channel_packet_of, PeerChannelStep, channel_taking}
 use Rattle.x25_handshakes.specs.laws.LayerPeers.{as_peer_stretch, as_side, as_at, as_stage, as_peer_call}
-use Rattle.x25_handshakes.proofs.TermsLemmas.{Laws, answer_read}
+use Rattle.x25_handshakes.specs.laws.LawsBelow.{Laws}
+use Rattle.x25_handshakes.proofs.TermsLemmas.{answer_read}
 use Rattle.x25_handshakes.proofs.LayerPeers.{Did, Nothing, Something, Heard, did_above, TransferHeard, IsFit, transfer_did, transfer_heard}
 
 -- ---- a call

@@ -19,7 +19,7 @@ use Rattle.x25_handshakes.specs.laws.PeerLayer.{PeerChannels, put_peer, peer_rea
 use Rattle.x25_handshakes.specs.laws.PeerLayers.{other_role, found, layer_found, IsReached}
 use Rattle.x25_handshakes.specs.laws.PeerLayers as joined
 use Rattle.x25_handshakes.specs.laws.LayerPeers.{as_side, as_at, as_peer_call, as_peer_channels, as_peer, IsPeerOf, LayersArePeers}
-use Rattle.x25_handshakes.proofs.TermsLemmas.{Laws}
+use Rattle.x25_handshakes.specs.laws.LawsBelow.{Laws}
 use Rattle.x25_handshakes.proofs.HandshakeRelation.{Handshake}
 use Rattle.x25_handshakes.proofs.HandshakeLemmas.{inner_live}
 use Rattle.x25_handshakes.proofs.TransferRelation.{stretch_level}

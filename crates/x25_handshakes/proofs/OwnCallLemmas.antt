@@ -11,7 +11,8 @@ use Rattle.x25_handshakes.specs.laws.Stretch.{Packet, Call, Accept, Stretch}
 use Rattle.x25_handshakes.specs.laws.Transfer.{TransferStep, fresh_transfer, transfer_takes, TransferAct, transfer_acts}
 use Rattle.x25_handshakes.specs.laws.Calls.{Phase, Unused, Waiting, Offered, Crossed, Talking, Connection, CallStep, goes, unexpected, called_talk, calling_talk, is_answered, phase_takes, CallAct, PlacesCall, AcceptsCall, Talks, accepts, phase_acts}
 use Rattle.x25_handshakes.specs.laws.PeerCalls.{Stage, Free, Calling, Called, Collided, InData}
-use Rattle.x25_handshakes.proofs.TermsLemmas.{Laws, IsSound, AreSound, answer_sound, answer_read}
+use Rattle.x25_handshakes.specs.laws.LawsBelow.{Laws}
+use Rattle.x25_handshakes.proofs.TermsLemmas.{IsSound, AreSound, answer_sound, answer_read}
 use Rattle.x25_handshakes.proofs.HandshakeLemmas.{both_fresh}
 use Rattle.x25_handshakes.proofs.TransferRelation.{own_level}
 use Rattle.x25_handshakes.proofs.OwnTransferLemmas.{OwnStretches, own_takes, own_acts}

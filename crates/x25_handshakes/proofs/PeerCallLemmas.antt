@@ -13,7 +13,7 @@ use Rattle.x25_handshakes.specs.laws.Calls.{Connection, call_takes, CallAct, cal
 use Rattle.x25_handshakes.specs.laws.PeerStretch.{PeerStretch, fresh_peer}
 use Rattle.x25_handshakes.specs.laws.PeerTransfer.{fresh_peer_transfer, TransferDeed, MayDoTransfer, does_transfer, transfer_packet_of, transfer_taking}
 use Rattle.x25_handshakes.specs.laws.PeerCalls.{Stage, Free, Calling, Called, Collided, InData, PeerCall, fresh_peer_call, CallDeed, PlacesCall, AcceptsCall, InTransfer, MayDoCall, calling_in_data, does_call, call_packet_of, PeerCallStep, call_taking}
-use Rattle.x25_handshakes.proofs.TermsLemmas.{Laws}
+use Rattle.x25_handshakes.specs.laws.LawsBelow.{Laws}
 use Rattle.x25_handshakes.proofs.CallsRelation.{Nil, OneCall, MaybeCall, IsProposal, IsAnswer, stage_of, JointOf, GoodCall}
 use Rattle.x25_handshakes.specs.laws.PeerLayers.{other_role}
 use Rattle.x25_handshakes.proofs.OwnCallLemmas.{own_dte_talks, own_dce_talks, Agreed, agreed, said, proposes, push_first, nil_is, call_first, accept_first, accept_behind, Accepted-map, CallAccepted-map, DteTalks, dte_takes, dte_acts, DceTalks, dce_takes, dce_acts}

@@ -10,7 +10,7 @@ use Rattle.x25_handshakes.specs.laws.Channel.{fresh_channel}
 use Rattle.x25_handshakes.specs.laws.PeerCalls.{PeerCall, fresh_peer_call, does_call, call_packet_of, PeerCallStep, call_taking}
 use Rattle.x25_handshakes.specs.laws.PeerChannel.{peer_live, peer_clr, fresh_peer_channel, ChannelDeed, InCall, Clears, MayDoChannel, does_channel, channel_packet_of, PeerChannelStep, live_channel_taking, left_channel_taking, channel_taking}
 use Rattle.x25_handshakes.specs.laws.PeerLayers.{other_role, found}
-use Rattle.x25_handshakes.proofs.TermsLemmas.{Laws}
+use Rattle.x25_handshakes.specs.laws.LawsBelow.{Laws}
 use Rattle.x25_handshakes.proofs.HandshakeRelation.{Level, Handshake, Handshaken}
 use Rattle.x25_handshakes.proofs.HandshakeLemmas.{inner_live, live_front, turned, request_live, confirm_never, leave, inner_act, inner_take, drops, marker_left, flip, both_fresh}
 use Rattle.x25_handshakes.proofs.ChannelRelation.{clear_mark, own_call_level}

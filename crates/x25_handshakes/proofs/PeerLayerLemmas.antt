@@ -10,7 +10,7 @@ use Rattle.x25_handshakes.specs.laws.PeerCalls.{PeerCall, fresh_peer_call}
 use Rattle.x25_handshakes.specs.laws.PeerChannel.{does_channel, channel_packet_of, PeerChannelStep, channel_taking}
 use Rattle.x25_handshakes.specs.laws.PeerLayer.{PeerChannels, put_peer, peer_fresh, peer_ready, peer_restarting, LayerDeed, InChannel, Restarts, MayDoLayer, does_layer, layer_packet_of, ready_taking, layer_taking}
 use Rattle.x25_handshakes.specs.laws.PeerLayers.{other_role, found, layer_found, AreElsewhere}
-use Rattle.x25_handshakes.proofs.TermsLemmas.{Laws}
+use Rattle.x25_handshakes.specs.laws.LawsBelow.{Laws}
 use Rattle.x25_handshakes.proofs.HandshakeRelation.{Level, Handshake, Handshaken, GoodStep, AllInner}
 use Rattle.x25_handshakes.proofs.HandshakeLemmas.{turned, request_live, confirm_never, leave, inner_act, inner_take_behind, drops, marker_left, flip}
 use Rattle.x25_handshakes.proofs.LayersRelation.{kept_on, on, OnEach, restart_mark, own_channels_level}

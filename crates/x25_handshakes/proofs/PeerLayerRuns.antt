@@ -9,7 +9,7 @@ use Rattle.x25_handshakes.specs.laws.PeerLayer.{PeerChannels}
 use Rattle.x25_handshakes.specs.laws.PeerLayers.{layer_found, JoinedLayers, near_stepped, Happens, Acts, Takes, Does, Hears, HearsChannel, IsReached, at_start, goes_on}
 use Rattle.x25_handshakes.specs.laws.Arrivals.{open_channel}
 use Rattle.x25_handshakes.specs.laws.PeerClaims.{ChannelsAreInOrder, is_open_there, TookLayer, WithAnyPeerLayer, KeepsLayers, LayerFindsNoError, LayerHasArrived}
-use Rattle.x25_handshakes.proofs.TermsLemmas.{Laws}
+use Rattle.x25_handshakes.specs.laws.LawsBelow.{Laws}
 use Rattle.x25_handshakes.proofs.LayersRelation.{on}
 use Rattle.x25_handshakes.proofs.HandshakeRelation.{Handshake}
 use Rattle.x25_handshakes.proofs.PeerOrder.{in_epochs, channel_order, meet, took_channel}

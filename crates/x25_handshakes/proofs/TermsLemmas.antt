@@ -2,15 +2,8 @@
 use Rattle.std.proofs.Common.{◌≡◌, ◌≤◌, true, arith}
 use Rattle.x25_circuit.specs.declared.params.Params.{Params}
 use Rattle.x25_circuit.specs.Params.{Proposal, Terms, may_propose, may_answer, field_for, said_in, called_terms, calling_terms}
-use Rattle.x25_circuit.specs.laws.ParamsLaws.{FieldIsSaid, NoFieldIsKnown, ProposalIsAnswer, AnswerIsAllowed, AreTerms, TermsAreAllowed}
-
--- what a circuit's laws say of them
-pub record Laws : Type 0 where
-  pub said : FieldIsSaid
-  pub no_field : NoFieldIsKnown
-  pub proposal : ProposalIsAnswer
-  pub answer : AnswerIsAllowed
-  pub terms : TermsAreAllowed
+use Rattle.x25_circuit.specs.laws.ParamsLaws.{AreTerms}
+use Rattle.x25_handshakes.specs.laws.LawsBelow.{Laws}
 
 -- of one direction: one to seven packets unacknowledged, and at least one octet in a packet
 pub record IsSound (t : Terms) : Type 0 where

@@ -6,6 +6,7 @@ pub mod Channel
 pub mod Drained
 pub mod Handshake
 pub mod Histories
+pub mod LawsBelow
 pub mod LayerPeers
 pub mod Layers
 pub mod Names

@@ -1,4 +1,5 @@
 ghost use Rattle.std.specs.Prelude.{◌≡◌, List, None};
+ghost use Rattle.x25_handshakes.specs.laws.LawsBelow.{Laws};
 ghost use Rattle.x25_handshakes.specs.laws.Layers.{Event, pair_run, pair_start};
 ghost use Rattle.x25_handshakes.specs.laws.Histories.{messages, interrupts, calls, AreInOrder};
 ghost use Rattle.x25_handshakes.specs.laws.Arrivals.{AllArrives};
@@ -9,6 +10,13 @@ ghost use Rattle.x25_handshakes.specs.laws.PeerClaims.{WithAnyPeer, FindsNoError
 ghost use Rattle.x25_handshakes.specs.laws.PeerClaims.{WithAnyPeerLayer, LayerFindsNoError, KeepsLayers};
 ghost use Rattle.x25_handshakes.specs.laws.PeerClaims.{LayerHasArrived};
 ghost use Rattle.x25_handshakes.specs.rows.PeerRows.{LatePeerMoves, PeerLayerMoves};
+
+/// What the laws of a circuit say of proposals and answers, which those of two layers rest on.
+fn laws_below()
+    ensures { Laws }
+{
+    x25_circuit::values_are_agreed();
+}
 
 /// Two packet layers over lines that keep order, each end out at any moment, and any calls of their users, with the
 /// packet sizes and windows that each call proposes and its acceptance answers (ITU-T X.25 (10/96), section 6.12): no
@@ -22,7 +30,7 @@ pub fn keeps_order()
     ensures calls { AreInOrder calls }
     ensures arrived { AllArrives }
 {
-    x25_circuit::values_are_agreed();
+    laws_below();
 }
 
 /// The same two layers: of a stretch that is open at an end, the messages whose last data packets are acknowledged are
@@ -30,7 +38,7 @@ pub fn keeps_order()
 pub fn acknowledged_are_handed_up()
     ensures up { AcknowledgedAreHandedUp }
 {
-    x25_circuit::values_are_agreed();
+    laws_below();
 }
 
 /// The same two layers, where nothing is on the way between them and both links are up: a stretch that is open at one
@@ -40,7 +48,7 @@ pub fn acknowledged_are_handed_up()
 pub fn drained_ends_know()
     ensures known { AllIsKnown }
 {
-    x25_circuit::values_are_agreed();
+    laws_below();
 }
 
 /// A packet layer, by the definition of the laws above, and any peer that keeps the rules of `PeerLayer` and those
@@ -61,7 +69,7 @@ pub fn any_peer_keeps_layers()
     ensures order { WithAnyPeerLayer KeepsLayers }
     ensures arrived { WithAnyPeerLayer LayerHasArrived }
 {
-    x25_circuit::values_are_agreed();
+    laws_below();
 }
 
 /// Our own layer keeps the rules of a peer. Of two of our layers, as `keeps_order` has them, after each list of events
@@ -70,7 +78,7 @@ pub fn any_peer_keeps_layers()
 pub fn layers_are_peers()
     ensures { LayersArePeers }
 {
-    x25_circuit::values_are_agreed();
+    laws_below();
 }
 
 /// The same of a circuit in p4 alone: data, flow control, interrupts, and RESET of either end at any moment, where the

@@ -1,19 +1,17 @@
 -- Over set-up and re-set-up, from nothing too, deliveries alone drain each line, as it does with the sessions forgotten.
-use Rattle.std.proofs.Common.{◌≡◌, ◌⊎◌, inl, inr, List, [], ◌∷◌, length, refl, sym, ap, ◌∙◌, subst, arith}
+use Rattle.std.proofs.Common.{◌≡◌, ◌⊎◌, List, [], ◌∷◌, length, refl, sym, ap, ◌∙◌, arith}
 use Rattle.x25_frame.specs.laws.ReadingLaw.{ReadsSpelled}
 use Rattle.x25_link.specs.Station.{Settings}
-use Rattle.x25_line.specs.laws.Stations.{Stations, Event, Near, Far, start}
+use Rattle.x25_line.specs.laws.Stations.{Stations, Event, Near, Far}
 use Rattle.x25_line.specs.laws.Stations as one
-use Rattle.x25_line.specs.laws.Sessions.{Entry, Sessions, from_nothing, from_set_up, acts, swapped, run}
-use Rattle.x25_line.specs.laws.StationClaims.{AreJoined}
+use Rattle.x25_line.specs.laws.Sessions.{Entry, Sessions, acts, swapped, run}
 use Rattle.x25_line.specs.laws.SessionClaims.{octets_of, AreStationsOf}
 use Rattle.x25_line.specs.Healing.{EachFindsIn, SessionsDrainEnd, SomeSessionsDrain}
 use Rattle.x25_line.specs.laws.LawsBelow.{HealingLaws}
 use Rattle.x25_line.proofs.HealingOnce.{EachFinds}
-use Rattle.x25_line.proofs.sessions.SessionsForgotten.{sessions_are_links, set_up_is_the_start}
-use Rattle.x25_line.proofs.HealingRuns.{BothSaid, fresh_said}
-use Rattle.x25_line.proofs.HealingSessions.{both_down, nothing_alike, down_said}
-use Rattle.x25_line.proofs.DrainRuns.{Fit, fit_run, at_most, back_of, enough_for, count, drains}
+use Rattle.x25_line.proofs.sessions.SessionsForgotten.{sessions_are_links}
+use Rattle.x25_line.proofs.HealingSessions.{forgotten}
+use Rattle.x25_line.proofs.DrainRuns.{at_most, back_of, enough_for, count, drains}
 
 no_entries : (es : List Entry) → octets_of es ≡ [] → es ≡ []
 no_entries [] none = refl
@@ -29,49 +27,16 @@ finds_alike c d (Far a ∷ es) w v h finds = (
   finds_alike c d es (swapped (acts d a (swapped w))) (one.swapped (one.acts d a (one.swapped v))) (sessions_are_links c d (Far a ∷ []) w v h) finds.1,
 )
 
-module _ (reads : ReadsSpelled) (laws : HealingLaws) (c d : Settings) (joined : AreJoined c d) where
-  -- two stations that do the same, each of whose packets may be sent
-  record Forgotten (w : Sessions) : Type 0 where
-    pub alone : Stations
-    pub alike : AreStationsOf w alone
-    pub said : BothSaid laws c d alone
-    pub fit : Fit c d alone
-
-  begins : (begin : Sessions) → (begin ≡ from_nothing) ⊎ (begin ≡ from_set_up) → Forgotten begin
-  begins begin (inl is) = subst Forgotten (sym is) (record {
-    alone = both_down;
-    alike = nothing_alike;
-    said = (down_said c.window, down_said d.window);
-    fit = record { near_place = omega arith; far_place = omega arith; near_within = tt; far_within = tt };
-  })
-  begins begin (inr is) = subst Forgotten (sym is) (record {
-    alone = start;
-    alike = set_up_is_the_start;
-    said = (fresh_said laws c.window, fresh_said laws d.window);
-    fit = record { near_place = omega arith; far_place = omega arith; near_within = tt; far_within = tt };
-  })
-
-  -- after these events
-  record Reached (w : Sessions) : Type 0 where
-    pub alone : Stations
-    pub alike : AreStationsOf w alone
-    pub fit : Fit c d alone
-
-  reached : (begin : Sessions) → (begin ≡ from_nothing) ⊎ (begin ≡ from_set_up) → (events : List Event) → Reached (run c d events begin)
-  reached begin is events =
-      let f = begins begin is in
-      record { alone = one.run c d events f.alone; alike = sessions_are_links c d events begin f.alone f.alike; fit = fit_run laws c d joined events f.alone f.said f.fit }
-
 pub sessions_drain_end : ReadsSpelled → HealingLaws → SessionsDrainEnd
 sessions_drain_end reads laws c d joined begin is events =
     let w : Sessions = run c d events begin in
-    let r = reached reads laws c d joined begin is events in
+    let r = forgotten laws c d joined begin is events in
     (at_most (back_of r.alone) c d r.alone, λ es are finds. count reads c d joined (back_of r.alone) es r.alone are r.fit (enough_for r.alone) (finds_alike c d es w r.alone r.alike finds))
 
 pub some_sessions_drain : ReadsSpelled → HealingLaws → SomeSessionsDrain
 some_sessions_drain reads laws c d joined begin is events =
     let w : Sessions = run c d events begin in
-    let r = reached reads laws c d joined begin is events in
+    let r = forgotten laws c d joined begin is events in
     let some = drains reads c d joined (back_of r.alone) (at_most (back_of r.alone) c d r.alone) r.alone r.fit (enough_for r.alone) (omega arith) in
     let after = sessions_are_links c d some.deliveries w r.alone r.alike in
     (some.deliveries, some.are, (no_entries _ (sym after.out ∙ some.drained.out), no_entries _ (sym after.back ∙ some.drained.back)))

@@ -97,9 +97,6 @@ rej_some back some true false = omega (arith, some)
 rej_some back some false false = omega (arith, some)
 
 module _ (c : Settings) (n1 back low : ℕ) (s : LinkStation) (small : c.window ≤ 7) (within : AllWithin n1 s.outgoing.given) (heavy : 4 * length s.outgoing.given + 2 ≤ back) (low_place : s.outgoing.acked ≤ s.outgoing.place) where
-  k : ℕ
-  k = c.window
-
   some : 2 ≤ back
   some = omega (arith, heavy)
 

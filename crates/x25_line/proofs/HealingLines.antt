@@ -52,10 +52,7 @@ none_reads from n1 (o ∷ os) h = absurd h
 
 pub reads_none : (from : Role) (n1 : ℕ) (os : List (List ℕ)) (fs : List PlainFrame) → Reads from n1 os fs → os ≡ [] → fs ≡ []
 reads_none from n1 [] [] h e = refl
-reads_none from n1 (o ∷ os) (f ∷ fs) h e = absurd (not_nil e)
-  where
-    not_nil : o ∷ os ≡ [] → ⊥
-    not_nil e = cc
+reads_none from n1 (o ∷ os) (f ∷ fs) h e = absurd (cc)
 reads_none from n1 os fs h e = absurd h
 
 -- a frame is there

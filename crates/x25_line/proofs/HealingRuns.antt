@@ -1,7 +1,7 @@
 -- From a quiet moment, a firing and deliveries heal an end; and what rest shows.
 use Rattle.std.proofs.Common.{◌≡◌, ℕ, ◌+◌, ◌%◌, ◌≤◌, ◌<◌, List, [], ◌∷◌, ◌++◌, length, map, Bool, true, false, if◌then◌else◌, Option, Some, None, refl, sym, ap, ◌∙◌, subst, arith}
 use Rattle.std.specs.Prelude.{◌||◌, nat_lt, nat_le, ◌==◌, ◌-◌, ◌&&◌}
-use Rattle.std.proofs.lemmas.Bool.{and_right, eqb-true, and_parts}
+use Rattle.std.proofs.lemmas.Bool.{and_right}
 use Rattle.x25_bits.specs.declared.role.Role.{Role}
 use Rattle.x25_frame.specs.Frame.{PlainFrame}
 use Rattle.x25_frame.specs.Spelling.{spelling_of}
@@ -18,10 +18,9 @@ use Rattle.x25_line.specs.laws.StationClaims.{AreJoined, AreWhole}
 use Rattle.x25_line.specs.laws.WholeNumbers.{machine_acts}
 use Rattle.x25_line.specs.Healing.{IsDeliver, IsDelivery, AreDeliveries}
 use Rattle.x25_line.specs.laws.LawsBelow.{HealingLaws}
-use Rattle.x25_link.specs.Outgoing.{waits}
 use Rattle.x25_line.proofs.HealingOnce.{IsDrained, HasArrived, ShowsAtRest}
 use Rattle.x25_line.proofs.StationRuns.{machine_joint}
-use Rattle.x25_line.proofs.StationClaimLemmas.{holds_order, holds_lists}
+use Rattle.x25_line.proofs.StationClaimLemmas.{idle_all, holds_order, holds_lists}
 use Rattle.x25_line.proofs.StationEvents.{each_hands_one}
 use Rattle.x25_line.proofs.HealingLines.{Reads, reads_more, whole_behind}
 use Rattle.x25_line.proofs.HealingSteps.{Sound, near_up, up_is, deliver_is}
@@ -82,23 +81,13 @@ module _ (laws : HealingLaws) where
 
 -- ---- what rest shows
 
--- nothing waits where a station is at rest, and all is acknowledged
-rest_has_all : (s : LinkStation) → IsAtRest s → s.outgoing.sent ≤ length s.outgoing.given → s.outgoing.acked ≡ s.outgoing.sent → length s.outgoing.given ≡ s.outgoing.acked
-rest_has_all s rest high same =
-    let outer = and_parts (is_up s.phase) (waits s.outgoing == 0 && s.outgoing.acked == s.outgoing.sent) rest.idle in
-    let inner = and_parts (waits s.outgoing == 0) (s.outgoing.acked == s.outgoing.sent) outer.1 in
-    counts (length s.outgoing.given) s.outgoing.sent s.outgoing.acked (eqb-true (waits s.outgoing) 0 inner.0) same high
-  where
-    counts : (n m a : ℕ) → n - m ≡ 0 → a ≡ m → m ≤ n → n ≡ a
-    counts n m a none same high = omega arith
-
 module _ (c d : Settings) (joined : AreJoined c d) (reads : ReadsSpelled) (laws : HealingLaws) where
   pub arrives : (w : Stations) → Sound c d w → is_up w.near.station.phase ≡ true → IsAtRest w.near.station → HasArrived w.near w.far
   arrives w h up rest =
       let order = holds_order (Unit {0}) c d w (h.line, h.joint) in
       let lists = holds_lists (Unit {0}) c d w (h.line, h.joint) in
       let t = laws.rest.only_then w.near.station rest in
-      let all = rest_has_all w.near.station rest (near_up c d w h up).sound.sent_high t.3 in
+      let all = sym (idle_all w.near.station rest.idle (near_up c d w h up).sound.sent_high) in
       let same = ap length (lists.0.given up) in
       record { handed_up = order.0.idle rest.idle; acked = omega (arith, all, same); sent = omega (arith, all, same, t.3) }
 

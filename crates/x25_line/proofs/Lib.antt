@@ -24,8 +24,6 @@ pub mod HealingSetUp
 pub mod HealingEnds
 pub mod HealingSessions
 pub mod HealingStands
-pub mod HealingPutsSessions
-pub mod HealingSessionEnds
 pub mod DrainWeights
 pub mod DrainSteps
 pub mod DrainRuns
@@ -34,6 +32,6 @@ pub mod BusyLines
 pub mod HealingPhases
 pub mod HealingBoth
 pub mod HealingPuts
-pub mod BusySessions
+pub mod SessionsHeal
 pub mod sessions
 pub mod ends

@@ -98,10 +98,7 @@ module _ (c : Settings) (octets : List ℕ) (s : LinkStation) (f : Bool) (why : 
       sym (same_length _ f _ why (sym (ap (λ (z : Step). z.side.out) (closed_still c.window (rejects c octets ground (alone s)) refl)) ∙ out))
 
   no_reason : {A : Type 0} (o : Option Reason) → o ≡ None → o ≡ Some FrmrSent → A
-  no_reason o none is = absurd (never (sym none ∙ is))
-    where
-      never : None ≡ Some FrmrSent → ⊥
-      never e = cc
+  no_reason o none is = absurd (cc)
 
   -- a frame whose N(R) is invalid
   invalid : (nr : ℕ) (row : Side → Step) (b : Bool) → is_valid nr s ≡ b → (if b then None else Some FrmrSent) ≡ Some FrmrSent

@@ -37,10 +37,9 @@ pub idle_all : (s : LinkStation) → is_idle s ≡ true → s.outgoing.sent ≤ 
 idle_all s idle high =
     let outer = and_parts (is_up s.phase) (waits s.outgoing == 0 && s.outgoing.acked == s.outgoing.sent) idle in
     let inner = and_parts (waits s.outgoing == 0) (s.outgoing.acked == s.outgoing.sent) outer.1 in
-    counts s.outgoing.acked s.outgoing.sent (length s.outgoing.given) (eqb-true (waits s.outgoing) 0 inner.0) (eqb-true s.outgoing.acked s.outgoing.sent inner.1) high
-  where
-    counts : (a m n : ℕ) → n - m ≡ 0 → a ≡ m → m ≤ n → a ≡ n
-    counts a m n none all high = omega arith
+    let none : length s.outgoing.given - s.outgoing.sent ≡ 0 = eqb-true (waits s.outgoing) 0 inner.0 in
+    let all : s.outgoing.acked ≡ s.outgoing.sent = eqb-true s.outgoing.acked s.outgoing.sent inner.1 in
+    omega (arith, none, all, high)
 
 -- an end that is Up isn't away
 pub up_of : (MayAsk : Type 0) (c : Settings) (s : LinkStation) (e : End (List ℕ)) → FitsEnd MayAsk c s e → is_up s.phase ≡ true → AsUp c s e

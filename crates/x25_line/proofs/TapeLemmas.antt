@@ -35,10 +35,7 @@ item_same (Some item) packet h = ap (λ (z : List ℕ). Some z) (octets_same ite
 -- ---- by a test
 
 none_some : {A B : Type 0} (q : A) → None ≡ Some q → B
-none_some q h = absurd (never h)
-  where
-    never : None ≡ Some q → ⊥
-    never e = cc
+none_some q h = absurd (cc)
 
 some_same : {A : Type 0} (x y : A) → Some x ≡ Some y → x ≡ y
 some_same x y e = cc
@@ -89,17 +86,15 @@ item_judged ns n packet p u held window number again h = go (n == p.sent) refl h
         let parts = and_parts (nat_lt n p.sent) (is_item (slice_get p.given n) packet) test in
         let below : n < p.sent = ltb-true n p.sent parts.0 in
         let same = some_same (numbered_to n p) u is in
+        let still : p.sent ≡ max p.sent (n + 1) = omega (arith, below) in
         record {
           base = p;
           from = inl refl;
           n = n;
           may = record { number = number; same = item_same (slice_get p.given n) packet parts.1; window = window; again = again };
           is = sym same;
-          held = subst (λ (z : Peer). length z.given ≡ z.sent) same (held ∙ still p.sent n below);
+          held = subst (λ (z : Peer). length z.given ≡ z.sent) same (held ∙ still);
         }
-      where
-        still : (a b : ℕ) → b < a → a ≡ max a (b + 1)
-        still a b lt = omega arith
     old false test is = none_some u is
 
     go : (b : Bool) → (n == p.sent) ≡ b
@@ -107,17 +102,15 @@ item_judged ns n packet p u held window number again h = go (n == p.sent) refl h
     go true test is =
         let next : n ≡ p.sent = eqb-true n p.sent test in
         let same = some_same (numbered_to n (grown packet p)) u is in
+        let one_more : length p.given + 1 ≡ max p.sent (n + 1) = omega (arith, held, next) in
         record {
           base = grown packet p;
           from = inr refl;
           n = n;
           may = record { number = number; same = slice_get-last p.given packet n (next ∙ sym held); window = window; again = again };
           is = sym same;
-          held = subst (λ (z : Peer). length z.given ≡ z.sent) same (length_push p.given packet ∙ one_more (length p.given) p.sent n held next);
+          held = subst (λ (z : Peer). length z.given ≡ z.sent) same (length_push p.given packet ∙ one_more);
         }
-      where
-        one_more : (a b m : ℕ) → a ≡ b → m ≡ b → a + 1 ≡ max b (m + 1)
-        one_more a b m e f = omega arith
     go false test is = old (nat_lt n p.sent && is_item (slice_get p.given n) packet) refl is
 
 number_judged : (ns : ℕ) (packet : List ℕ) (p u : Peer) → length p.given ≡ p.sent → judges_number ns packet p ≡ Some u → Numbered ns packet p u

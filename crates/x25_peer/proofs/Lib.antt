@@ -1,3 +1,4 @@
+pub mod Granted
 pub mod LayerPart
 pub mod ReadLemmas
 pub mod sessions

@@ -1,36 +1,20 @@
 -- What packets are read as, and what a link's peer sends and hears.
-use Rattle.std.proofs.Common.{◌≡◌, ℕ, ◌+◌, ◌≤◌, nat_lt, List, [], ◌∷◌, ◌++◌, length, drop, map, Bool, true, false, if◌then◌else◌, Some, None, Result, Ok, refl, sym, ap, subst, ◌∙◌, append_assoc, arith}
+use Rattle.std.proofs.Common.{◌≡◌, ℕ, ◌≤◌, List, [], ◌∷◌, ◌++◌, length, drop, Bool, true, false, Some, None, Result, Ok, refl, sym, ap, subst, ◌∙◌, append_assoc, arith}
 use Rattle.std.proofs.lemmas.List.{length-append, drop_all}
 use Rattle.x25_frame.specs.Frame.{PlainFrame}
 use Rattle.x25_frame.specs.declared.error.FrameError.{FrameError}
 use Rattle.x25_packet.specs.Packet.{PlainPacket}
-use Rattle.x25_packet.specs.Spelling as packet
-use Rattle.x25_wide.specs.Taking.{read_in}
-use Rattle.x25_given.specs.Given.{PlainGiven, may_give}
-use Rattle.x25_given.specs.Writing.{write}
-use Rattle.x25_link.specs.Station.{Settings as LinkSettings, LinkStation, with_near}
-use Rattle.x25_link.specs.Hearing.{quiet, leaves}
-use Rattle.x25_link.specs.Link.{alone, closed_by, asks_again, timer_step}
-use Rattle.x25_link.specs.declared.phase.Reason.TheVariants.{Retries}
 use Rattle.x25_line.specs.laws.Said.{Said, Tells, Odd, said}
 use Rattle.x25_line.specs.laws.Peer.{Peer, MaySay, MaySend, MayMake, MayHear, hearing, taking}
 use Rattle.x25_layer.specs.Layer.{LayerNotice}
 use Rattle.x25_layer.specs.laws.Transcript.{Entry}
 use Rattle.x25_station.specs.Config.{Settings}
 use Rattle.x25_station.specs.Entry.{StationEntry, in_layer, notice_in, layer_entries, layer_notices}
-use Rattle.x25_station.specs.laws.GivenLaw.{GivesOctets, GivenIsRead}
 use Rattle.x25_station.specs.laws.ReadLaw.{AreReadable}
 use Rattle.x25_peer.specs.laws.BesideSessions.{read_by, ReadAs}
+use Rattle.x25_peer.proofs.sessions.LinkSteps.{AreReadBack}
 
 -- ---- lists
-
-abbrev pub spelled : List PlainPacket → List (List ℕ)
-spelled packets = map packet.spelling_of packets
-
--- the same where something is given beside the first
-abbrev pub spelled_with : PlainGiven → List PlainPacket → List (List ℕ)
-spelled_with g [] = []
-spelled_with g (p ∷ packets) = write g (packet.spelling_of p) ∷ spelled packets
 
 pub layer_append : (xs ys : List StationEntry) → layer_entries (xs ++ ys) ≡ layer_entries xs ++ layer_entries ys
 layer_append [] ys = refl
@@ -49,16 +33,11 @@ read_append c [] qs [] rs h g = g
 read_append c (o ∷ os) qs (p ∷ ps) rs h g = (h.0, read_append c os qs ps rs h.1 g)
 read_append c os qs ps rs h g = absurd h
 
--- what packets spell is read as they are
-pub spelled_read : (c : Settings) (ps : List PlainPacket) → AreReadable c.wide c.long_data ps → ReadAs c (spelled ps) ps
-spelled_read c [] h = tt
-spelled_read c (p ∷ ps) h = (h.0.reads, spelled_read c ps h.1)
-
-pub given_read : GivenIsRead → (c : Settings) (g : PlainGiven) (ps : List PlainPacket) → c.wide ≡ true → may_give g ≡ true → GivesOctets g → AreReadable c.wide c.long_data ps → ReadAs c (spelled_with g ps) ps
-given_read law c g [] wide may octets h = tt
-given_read law c g (p ∷ ps) wide may octets h =
-    let o : List ℕ = write g (packet.spelling_of p) in
-    (ap (λ (b : Bool). read_in b (packet.longest_user c.long_data) o) wide ∙ (law c.wide c.long_data g p may octets h.0).reads, spelled_read c ps h.1)
+-- what the other end reads back
+pub back_reads : (c : Settings) (os : List (List ℕ)) (ps : List PlainPacket) → AreReadBack c.wide c.long_data os ps → ReadAs c os ps
+back_reads c [] [] h = tt
+back_reads c (o ∷ os) (p ∷ ps) h = (h.0.reads, back_reads c os ps h.1)
+back_reads c os ps h = absurd h
 
 -- the octets of the first of these packets, as they are read
 abbrev pub ReadFirst : Settings → List (List ℕ) → List PlainPacket → Type 0
@@ -138,11 +117,3 @@ heard_same p q r m = by (said r) m
     by (Tells None nr) m = is _ (hears_more p m.0 false nr []) m.1
     by (Tells (Some c) nr) m = is _ (hears_more p m.0 m.1 nr c.packet) m.3
     by s m = is p (hears_more p false false 0 []) m
-
-pub timer_packet : (c : LinkSettings) (s : LinkStation) → (timer_step c s).packet ≡ None
-timer_packet c s = by (nat_lt s.tries c.retries)
-  where
-    by : (b : Bool)
-        → (closed_by c.window (if b then quiet (asks_again s.phase (with_near (alone s) (record s { tries = s.tries + 1 }))) else leaves Retries (alone s))).packet ≡ None
-    by true = refl
-    by false = refl

@@ -1,4 +1,5 @@
 -- What holds over set-up and re-set-up.
+pub mod LinkSteps
 pub mod SessionLinks
 pub mod SessionLayers
 pub mod Meetings

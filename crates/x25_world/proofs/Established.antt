@@ -23,7 +23,7 @@ use Rattle.x25_world.specs.laws.Claims.{link_of}
 use Rattle.x25_world.specs.laws.WindowGoes.{restart_of, two_links}
 use Rattle.x25_world.proofs.sessions.SessionTrace.{layer_of}
 use Rattle.x25_world.specs.laws.LawsBelow.{Laws}
-use Rattle.x25_world.proofs.sessions.SessionLinks.{puts_up}
+use Rattle.x25_peer.proofs.sessions.LinkSteps.{handed_up}
 
 -- ---- an end that comes up
 
@@ -48,7 +48,7 @@ comes_up laws cfg end k sent is =
       out = u.link.out ∙ ap₂ (λ (fs gs : List PlainFrame). fs ++ gs) is.out frames;
       layer = u.layer;
       entries = u.entries ∙ ap₂ (λ (d : Option Reason) (b : Bool). entries_noted (record { down = d; up = b })) is.down is.up;
-      up = ap (λ (s : LinkStation). is_up s.phase) u.link.link ∙ puts_up laws.put_tells c (restart_of end ∷ []) k.side (ap (λ (s : LinkStation). is_up s.phase) is.near);
+      up = ap (λ (s : LinkStation). is_up s.phase) u.link.link ∙ handed_up laws.put_tells c (restart_of end ∷ []) k.side (ap (λ (s : LinkStation). is_up s.phase) is.near);
     }
 
 -- ---- the DTE has asked

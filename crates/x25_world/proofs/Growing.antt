@@ -10,11 +10,9 @@ use Rattle.x25_packet.specs.Spelling.{longest_user}
 use Rattle.x25_packet.specs.declared.error.PacketError.{PacketError}
 use Rattle.x25_wide.specs.Taking.{read_in}
 use Rattle.x25_link.specs.Hearing.{other}
-use Rattle.x25_layer.specs.Layer.{LayerNotice}
-use Rattle.x25_layer.specs.laws.Transcript.{Entry}
 use Rattle.x25_station.specs.declared.config.Cfg.{Cfg}
 use Rattle.x25_station.specs.laws.ReadLaw.{AreOctets}
-use Rattle.x25_station.specs.Entry.{StationEntry, in_layer, notice_in, layer_entries, layer_notices}
+use Rattle.x25_station.specs.Entry.{StationEntry}
 use Rattle.x25_world.specs.World.{OnTap, AtEnd, tapped, entered}
 use Rattle.x25_world.specs.laws.Claims.{entry_of_end, entries_at}
 
@@ -95,14 +93,6 @@ pub entries_other : (end : Role) (transcript : List AtEnd) (entries : List Stati
 entries_other end transcript entries =
     entries_append (other end) transcript (entered end entries) ∙ ap (λ (es : List StationEntry). entries_at (other end) transcript ++ es) (no_entries end entries)
     ∙ append-nil (entries_at (other end) transcript)
-
-pub layer_append : (xs ys : List StationEntry) → layer_entries (xs ++ ys) ≡ layer_entries xs ++ layer_entries ys
-layer_append [] ys = refl
-layer_append (x ∷ xs) ys = ap (λ (es : List Entry). in_layer x ++ es) (layer_append xs ys) ∙ sym (append_assoc (in_layer x) (layer_entries xs) (layer_entries ys))
-
-pub notices_append : (xs ys : List StationEntry) → layer_notices (xs ++ ys) ≡ layer_notices xs ++ layer_notices ys
-notices_append [] ys = refl
-notices_append (x ∷ xs) ys = ap (λ (ns : List LayerNotice). notice_in x ++ ns) (notices_append xs ys) ∙ sym (append_assoc (notice_in x) (layer_notices xs) (layer_notices ys))
 
 -- ---- a tap that grows
 

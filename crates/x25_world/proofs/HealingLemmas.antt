@@ -14,7 +14,7 @@ use Rattle.x25_link.specs.Link as link
 use Rattle.x25_link.specs.laws.RestLaw.{IsAtRest}
 use Rattle.x25_line.specs.laws.Stations as line
 use Rattle.x25_line.specs.laws.Sessions as links
-use Rattle.x25_line.specs.laws.Sessions.{Meeting, Sessions, from_nothing, sent_in, begun_by, IsTimely, AreTimely}
+use Rattle.x25_line.specs.laws.Sessions.{Meeting, Sessions, from_nothing, begun_by, IsTimely, AreTimely}
 use Rattle.x25_line.specs.laws.SessionNumbers.{standing_run, standing_at}
 use Rattle.x25_line.specs.laws.SessionClaims as claims
 use Rattle.x25_line.specs.laws.SessionClaims.{octets_of}
@@ -37,13 +37,13 @@ use Rattle.x25_world.specs.laws.WindowGoes.{at_end}
 use Rattle.x25_world.specs.laws.Sessions.{last_session, handed_in}
 use Rattle.x25_world.specs.Healing.{IsDrained, receipt, all_received, firing, AreLinksOf, StopsAtRest, RestShows, PutsNothing, PutsNothingAt, NonePut, HasTries, RestsOrIsOut, Heals, MayHeal, HealsWhereNonePut, DrainsWhereNonePut}
 use Rattle.x25_world.proofs.Known.{IsConfigured, is_configured, links_joined}
-use Rattle.x25_line.proofs.sessions.SessionLines.{octets_append, octets_sent}
 use Rattle.x25_world.proofs.WorldLemmas.{refusal-swapped}
-use Rattle.x25_world.proofs.sessions.SessionReaches.{both_down, known_sessions}
+use Rattle.x25_world.proofs.sessions.SessionReaches.{both_down, known_sessions, links_append, timely_append}
 use Rattle.x25_world.proofs.sessions.SessionJoined.{SessionsJoined}
-use Rattle.x25_world.proofs.sessions.SessionFollows.{silent, timer_silent}
+use Rattle.x25_peer.proofs.Granted.{timer_silent}
+use Rattle.x25_world.proofs.sessions.SessionLinks.{octets_put}
+use Rattle.x25_world.proofs.sessions.SessionFollows.{silent}
 use Rattle.x25_world.proofs.sessions.SessionRuns.{throughout_joined}
-use Rattle.x25_world.proofs.sessions.SessionsAlong.{links_append, timely_append}
 
 -- ---- links that have the links and the lines of a world
 
@@ -72,8 +72,7 @@ module _ (c : Settings) (w : World) (v : Sessions) (h : Alike w v) where
       record {
         near = ap (λ (ps : List PlainPacket). (all_put (link_settings c) ps k.side).near) (sym none);
         far = h.far;
-        out = octets_append v.out (sent_in session c.role k.side.out)
-            ∙ ap (λ (os : List (List ℕ)). octets_of v.out ++ os) (octets_sent session c.role k.side.out)
+        out = octets_put v.out session c.role k.side.out
             ∙ ap (λ (os : List (List ℕ)). os ++ map (spelling_of c.role) k.side.out) h.out
             ∙ ap (λ (ps : List PlainPacket). w.out ++ map (spelling_of c.role) (all_put (link_settings c) ps k.side).out) (sym none);
         back = is;

@@ -1,9 +1,8 @@
 -- How the two links of a world heal while the layers put packets: each event of the world is a delivery to a link, where octets come, and then packets
 -- that are handed down to it.
-use Rattle.std.proofs.Common.{◌≡◌, ℕ, List, [], ◌∷◌, ◌++◌, map, Bool, true, false, if◌then◌else◌, option_to_list, refl, sym, ap, ap₂, ◌∙◌, subst}
+use Rattle.std.proofs.Common.{◌≡◌, ℕ, List, [], ◌∷◌, ◌++◌, map, Bool, true, false, if◌then◌else◌, option_to_list, refl, sym, ap, ◌∙◌, subst}
 use Rattle.x25_bits.specs.declared.role.Role.{Role}
 use Rattle.x25_bits.specs.declared.role.Role.TheVariants.{Dte, Dce}
-use Rattle.x25_frame.specs.Frame.{PlainFrame}
 use Rattle.x25_frame.specs.Spelling.{spelling_of}
 use Rattle.x25_link.specs.declared.phase.Phase.{Phase}
 use Rattle.x25_link.specs.declared.phase.Phase.TheVariants.{Waiting}
@@ -13,6 +12,7 @@ use Rattle.x25_link.specs.laws.RestLaw.{IsAtRest}
 use Rattle.x25_line.specs.laws.Stations as line
 use Rattle.x25_line.specs.laws.Sessions as links
 use Rattle.x25_line.specs.laws.Sessions.{SessionEnd, Meeting, Sessions, begun_by, IsTimely, AreTimely}
+use Rattle.x25_line.specs.laws.SessionClaims.{octets_of}
 use Rattle.x25_line.specs.laws.HealingPuts.{SessionMayHeal, AreFree, IsDeliverOrPut, AreDeliveriesAndPuts, SessionsFreeThroughout, SessionsHaveArrived, PutsHealSessions}
 use Rattle.x25_given.specs.Given.{PlainGiven}
 use Rattle.x25_layer.specs.Calls.{LayerRequest}
@@ -30,11 +30,11 @@ use Rattle.x25_world.specs.laws.SessionClaims.{Throughout}
 use Rattle.x25_world.specs.laws.WindowGoes.{all_at}
 use Rattle.x25_world.specs.Healing.{firing, HasTries, IsReceiptOrRequest, AreReceiptsAndRequests, ComeFreely, ActsFreely, FreeAt, FreeThroughout, LinkMayHeal, HealsWithPuts}
 use Rattle.x25_world.proofs.Known.{IsConfigured, is_configured, true_false}
-use Rattle.x25_world.proofs.sessions.SessionReaches.{both_down, twice, known_sessions}
+use Rattle.x25_world.proofs.sessions.SessionReaches.{both_down, twice, known_sessions, links_append}
 use Rattle.x25_world.proofs.sessions.SessionJoined.{SessionsJoined, sessions_swapped}
-use Rattle.x25_world.proofs.sessions.SessionLinks.{SessionGoes, stays_goes, deliver_goes, puts_of, all_act, all_puts_go, PutsRead}
+use Rattle.x25_peer.proofs.sessions.LinkSteps.{SessionGoes, StepGoes, stays_goes, deliver_goes, puts_of, all_act, puts_go, HasPut}
+use Rattle.x25_world.proofs.sessions.SessionLinks.{octets_put, front_entry}
 use Rattle.x25_world.proofs.sessions.SessionRuns.{event_joined, throughout_joined, down_at_none, not_set_up}
-use Rattle.x25_world.proofs.sessions.SessionsAlong.{links_append}
 use Rattle.x25_world.proofs.sessions.acts.SessionRequests.{request_puts, given_puts, said_octets}
 use Rattle.x25_world.proofs.sessions.acts.SessionReceives.{taken_puts}
 use Rattle.x25_world.proofs.HealingLemmas.{Alike, turned, back_after, c_of, d_of, both_alike, none_of, joined_alike, links_are, fired_then, gone_are}
@@ -63,15 +63,15 @@ module _ (laws : SessionLaws) (cfg : Cfg) (fine : IsConfigured cfg) (end : Role)
   none_asked : Asked cfg end w w v
   none_asked = record { comes = false; handed = []; free = λ is. true_false (sym is); alike = like }
 
-  puts_alike : (v₁ : Sessions) (session : ℕ) (t : Side) (lifted left : List (List ℕ)) (met : List Meeting) (step : Step) → SessionGoes (link_of cfg end) v v₁ session t.near t.out [] lifted left met → (p : PutsRead cfg end t step)
-      → Alike (after_step c w left step) (all_act (link_of cfg end) (puts_of p.handed) v₁)
+  puts_alike : (v₁ : Sessions) (session : ℕ) (t : Side) (lifted : List (List ℕ)) (left : List links.Entry) (met : List Meeting) (step : Step) → SessionGoes (link_of cfg end) v v₁ session t.near t.out [] lifted left met → (p : HasPut c t step)
+      → Alike (after_step c w (octets_of left) step) (all_act (link_of cfg end) (puts_of p.handed) v₁)
   puts_alike v₁ session t lifted left met step g p =
-      let r = all_puts_go cfg end v v₁ session p.handed p.packets t [] lifted left met g p.link.accepted p.readable in
+      let r = puts_go c v v₁ session p.packets p.handed t step lifted left met g p.put in
       record {
-        near = r.station ∙ sym p.link.link;
+        near = r.station;
         far = ap (λ (e : SessionEnd). e.station) r.far ∙ like.far;
-        out = r.out ∙ ap₂ (λ (os : List (List ℕ)) (fs : List PlainFrame). os ++ map (spelling_of end) fs) like.out (sym p.link.out);
-        back = r.back;
+        out = ap octets_of r.out ∙ octets_put v.out session end step.out ∙ ap (λ (os : List (List ℕ)). os ++ map (spelling_of end) step.out) like.out;
+        back = ap octets_of r.back;
       }
 
   came_asked : ComeFreely c w.near w.far.link w.back → Asked cfg end w (after w (delivered c w w.back)) v
@@ -82,22 +82,27 @@ module _ (laws : SessionLaws) (cfg : Cfg) (fine : IsConfigured cfg) (end : Role)
       by (octets ∷ back) is free =
           let k = take_step (link_of cfg end) octets w.near.link in
           let v₁ : Sessions = links.acts (link_of cfg end) line.Deliver v in
+          let f = front_entry octets back v.back (like.back ∙ is) in
+          let next : Step = follows c w.near.layer k in
+          let goes : StepGoes (link_of cfg end) v v₁ k f.others v₁.met = subst (λ (os : List ℕ). StepGoes (link_of cfg end) v v₁ (take_step (link_of cfg end) os w.near.link) f.others v₁.met) f.octets
+          (deliver_goes (link_of cfg end) v w.near.link f.entry f.others like.near f.is) in
           let p = taken_puts laws cfg fine end w h (λ before e same. absurd (down_at_none before e same)) octets back is free.0 in
           subst (λ (b : Bool). Asked cfg end w (after_step c w back (follows c w.near.layer (if b then abandon_step (link_of cfg end) w.near.link else k))) v) (sym free.0)
           (record {
             comes = true;
             handed = p.handed;
             free = λ same. free.1;
-            alike = puts_alike v₁ (begun_by k.notes.up v.near.begun) k.side (option_to_list k.packet) back v₁.met (follows c w.near.layer k)
-                (deliver_goes (link_of cfg end) v w.near.link octets back like.near (like.back ∙ is)) p;
+            alike = subst (λ (os : List (List ℕ)). Alike (after_step c w os next) (all_act (link_of cfg end) (puts_of p.handed) v₁)) f.left
+                (puts_alike v₁ (begun_by k.notes.up v.near.begun) k.side (option_to_list k.packet) f.others v₁.met next goes p);
           })
 
-  puts_asked : (step : Step) → PutsRead cfg end (alone w.near.link) step → Asked cfg end w (after_step c w w.back step) v
+  puts_asked : (step : Step) → HasPut c (alone w.near.link) step → Asked cfg end w (after_step c w w.back step) v
   puts_asked step p = record {
     comes = false;
     handed = p.handed;
     free = λ same. true_false (sym same);
-    alike = puts_alike v v.near.begun (alone w.near.link) [] w.back v.met step (stays_goes (link_of cfg end) v w.near.link w.back like.near like.back) p;
+    alike = subst (λ (os : List (List ℕ)). Alike (after_step c w os step) (all_act (link_of cfg end) (puts_of p.handed) v)) like.back
+        (puts_alike v v.near.begun (alone w.near.link) [] v.back v.met step (stays_goes (link_of cfg end) v w.near.link like.near) p);
   }
 
   request_asked : (request : LayerRequest) → RequestsOctets request → Asked cfg end w (after w (of_station c w (requests c w.near request))) v

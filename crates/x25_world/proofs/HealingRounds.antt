@@ -16,14 +16,15 @@ use Rattle.x25_station.specs.Station.{Station}
 use Rattle.x25_station.specs.Station.Told.{is_at_rest}
 use Rattle.x25_station.specs.Step.{Outcome, Did, Refused, commands}
 use Rattle.x25_world.specs.World.{World, AtEnd, swapped, WorldOutcome, Happened, Declined, of_station, swapped_back, Event, happens, after, run}
-use Rattle.x25_world.specs.laws.Claims.{ActsInOctets, AreInOctets, IsBeginning}
+use Rattle.x25_world.specs.laws.Claims.{AreInOctets, IsBeginning}
 use Rattle.x25_world.specs.laws.SessionClaims.{Throughout}
 use Rattle.x25_world.specs.laws.WaitClaims.{pull_at, AllWaitForUsers, HasNoneToPull, PullsLeaveNone, UnpulledWaitForUsers}
-use Rattle.x25_world.specs.Healing.{all_received, firing, next_end, arrivals, deliveries, one_if, if_accepted, behind, both_tried, pull_round, unless_empty, pull_rounds, fire_and_pull, healing, received_by, received_in, IsDrained, AreReceiptsAndRequests, FreeThroughout, BothMayHeal, HaveArrived, HealsWithPuts, RestShows, ArrivesByHealing, AllArrives, RestShowsAll}
+use Rattle.x25_world.specs.Healing.{receipt, all_received, firing, next_end, arrivals, deliveries, one_if, if_accepted, behind, both_tried, pull_round, unless_empty, pull_rounds, fire_and_pull, healing, received_by, received_in, IsDrained, AreReceiptsAndRequests, FreeThroughout, BothMayHeal, HaveArrived, HealsWithPuts, RestShows, ArrivesByHealing, AllArrives, RestShowsAll}
 use Rattle.x25_world.specs.code.ShownWorld.{ShownWorld}
 use Rattle.x25_world.specs.code.FitsWorld.{FitsWorld, FitsRun, Leaves}
 use Rattle.x25_world.specs.code.FitsHealing.{most_times, TellingWorld, GoesBy}
-use Rattle.x25_world.proofs.HealingSchedule.{run_append, accepted_append, count_append, tried_is, Begun, goes_on, rest_is}
+use Rattle.x25_world.proofs.WorldLemmas.{run_append, accepted_append, octets_append}
+use Rattle.x25_world.proofs.HealingSchedule.{count_append, tried_is, Begun, goes_on, rest_is}
 
 -- ---- rounds
 
@@ -135,41 +136,46 @@ rounds_more at count (suc n) (suc m) low filled none = omega (arith, low)
 
 -- ---- the whole
 
-octets_append : (xs ys : List Event) → AreInOctets xs → AreInOctets ys → AreInOctets (xs ++ ys)
-octets_append [] ys f g = g
-octets_append (x ∷ xs) ys f g = (f.0, octets_append xs ys f.1 g)
+-- what holds of lists of events, of none and of one behind another, holds of those of a round where it holds of each
+module _ (P : List Event → Type 0) (none : P []) (append : (xs ys : List Event) → P xs → P ys → P (xs ++ ys)) where
+  received_are : ((at : Role) → P (receipt at ∷ [])) → (ends : List Role) → P (all_received ends)
+  received_are receipts [] = none
+  received_are receipts (at ∷ ends) = append (receipt at ∷ []) (all_received ends) (receipts at) (received_are receipts ends)
 
-received_octets : (ends : List Role) → AreInOctets (all_received ends)
-received_octets [] = tt
-received_octets (at ∷ ends) = (tt, received_octets ends)
+  tried_is_so : (cfg : Cfg) (e : Event) (w : World) → P (e ∷ []) → P (if_accepted cfg e w)
+  tried_is_so cfg e w is = by (happens cfg w e)
+    where
+      by : (o : WorldOutcome) → P (one_if e o)
+      by (Happened next) = is
+      by (Declined x) = none
 
-tried_octets : (cfg : Cfg) (e : Event) (w : World) → ActsInOctets e.act → AreInOctets (if_accepted cfg e w)
-tried_octets cfg e w octets = by (happens cfg w e)
-  where
-    by : (o : WorldOutcome) → AreInOctets (one_if e o)
-    by (Happened next) = (octets, tt)
-    by (Declined x) = tt
+  both_are_so : (cfg : Cfg) (first second : Event) (w : World) → P (first ∷ []) → P (second ∷ []) → P (both_tried cfg first second w)
+  both_are_so cfg first second w is is_there =
+      let x = run cfg (if_accepted cfg first w) w in
+      append (if_accepted cfg first w) (if_accepted cfg second x) (tried_is_so cfg first w is) (tried_is_so cfg second x is_there)
 
-both_octets : (cfg : Cfg) (first second : Event) (w : World) → ActsInOctets first.act → ActsInOctets second.act → AreInOctets (both_tried cfg first second w)
-both_octets cfg first second w octets octets_there =
-    let x = run cfg (if_accepted cfg first w) w in
-    octets_append (if_accepted cfg first w) (if_accepted cfg second x) (tried_octets cfg first w octets) (tried_octets cfg second x octets_there)
+  module _ (receipts : (at : Role) → P (receipt at ∷ [])) (pulls : (at : Role) → P (pull_at at ∷ [])) where
+    round_is_so : (cfg : Cfg) (most : ℕ) (w : World) → P (pull_round cfg most w)
+    round_is_so cfg most w =
+        let x = run cfg (deliveries cfg most w) w in
+        append (deliveries cfg most w) (both_tried cfg (pull_at Dte) (pull_at Dce) x) (received_are receipts (arrivals cfg most w)) (both_are_so cfg (pull_at Dte) (pull_at Dce) x (pulls Dte) (pulls Dce))
 
-round_octets : (cfg : Cfg) (most : ℕ) (w : World) → AreInOctets (pull_round cfg most w)
-round_octets cfg most w =
-    let x = run cfg (deliveries cfg most w) w in
-    octets_append (deliveries cfg most w) (both_tried cfg (pull_at Dte) (pull_at Dce) x) (received_octets (arrivals cfg most w)) (both_octets cfg (pull_at Dte) (pull_at Dce) x tt tt)
+    unless_is_so : (rest : World → List Event) → ((w : World) → P (rest w)) → (w : World) (at : Option Role) → P (unless_empty rest w at)
+    unless_is_so rest are w None = none
+    unless_is_so rest are w (Some at) = are w
 
-unless_octets : (rest : World → List Event) → ((w : World) → AreInOctets (rest w)) → (w : World) (at : Option Role) → AreInOctets (unless_empty rest w at)
-unless_octets rest octets w None = tt
-unless_octets rest octets w (Some at) = octets w
+    rounds_are_so : (cfg : Cfg) (most : ℕ) (n : ℕ) (w : World) → P (pull_rounds cfg most n w)
+    unfolding pull_rounds
+    rounds_are_so cfg most zero w = none
+    rounds_are_so cfg most (suc n) w =
+        let x = run cfg (pull_round cfg most w) w in
+        append (pull_round cfg most w) (left_behind cfg most n x) (round_is_so cfg most w) (unless_is_so (pull_rounds cfg most n) (rounds_are_so cfg most n) x (next_end x.out x.back))
 
 rounds_octets : (cfg : Cfg) (most : ℕ) (n : ℕ) (w : World) → AreInOctets (pull_rounds cfg most n w)
-unfolding pull_rounds
-rounds_octets cfg most zero w = tt
-rounds_octets cfg most (suc n) w =
-    let x = run cfg (pull_round cfg most w) w in
-    octets_append (pull_round cfg most w) (left_behind cfg most n x) (round_octets cfg most w) (unless_octets (pull_rounds cfg most n) (rounds_octets cfg most n) x (next_end x.out x.back))
+rounds_octets = rounds_are_so AreInOctets tt octets_append (λ at. (tt, tt)) (λ at. (tt, tt))
+
+received_octets : (ends : List Role) → AreInOctets (all_received ends)
+received_octets = received_are AreInOctets tt octets_append (λ at. (tt, tt))
 
 healing_octets : (cfg : Cfg) (most : ℕ) (w : World) → AreInOctets (healing cfg most w)
 healing_octets cfg most w =
@@ -177,7 +183,7 @@ healing_octets cfg most w =
     let fired = both_tried cfg (firing Dte) (firing Dce) v in
     let x = run cfg fired v in
     octets_append (deliveries cfg most w) (fire_and_pull cfg most v) (received_octets (arrivals cfg most w))
-    (octets_append fired (pull_rounds cfg most most x) (both_octets cfg (firing Dte) (firing Dce) v tt tt) (rounds_octets cfg most most x))
+    (octets_append fired (pull_rounds cfg most most x) (both_are_so AreInOctets tt octets_append cfg (firing Dte) (firing Dce) v (tt, tt) (tt, tt)) (rounds_octets cfg most most x))
 
 pub holds_healed : (Holds : Cfg → World → World → Type 0) (old : ShownWorld) (new : TellingWorld) (cfg : Cfg) (most : ℕ) (from : World) (past : List Event) (before : List AtEnd)
     → FitsRun cfg from old past
@@ -204,34 +210,8 @@ requests_append : (xs ys : List Event) → AreReceiptsAndRequests xs → AreRece
 requests_append [] ys f g = g
 requests_append (x ∷ xs) ys f g = (f.0, requests_append xs ys f.1 g)
 
-received_requests : (ends : List Role) → AreReceiptsAndRequests (all_received ends)
-received_requests [] = tt
-received_requests (at ∷ ends) = (tt, received_requests ends)
-
-pulled_requests : (cfg : Cfg) (end : Role) (w : World) → AreReceiptsAndRequests (if_accepted cfg (pull_at end) w)
-pulled_requests cfg end w = by (happens cfg w (pull_at end))
-  where
-    by : (o : WorldOutcome) → AreReceiptsAndRequests (one_if (pull_at end) o)
-    by (Happened next) = (tt, tt)
-    by (Declined x) = tt
-
-round_requests : (cfg : Cfg) (most : ℕ) (w : World) → AreReceiptsAndRequests (pull_round cfg most w)
-round_requests cfg most w =
-    let x = run cfg (deliveries cfg most w) w in
-    let y = run cfg (if_accepted cfg (pull_at Dte) x) x in
-    requests_append (deliveries cfg most w) (both_tried cfg (pull_at Dte) (pull_at Dce) x) (received_requests (arrivals cfg most w))
-    (requests_append (if_accepted cfg (pull_at Dte) x) (if_accepted cfg (pull_at Dce) y) (pulled_requests cfg Dte x) (pulled_requests cfg Dce y))
-
-unless_requests : (rest : World → List Event) → ((w : World) → AreReceiptsAndRequests (rest w)) → (w : World) (at : Option Role) → AreReceiptsAndRequests (unless_empty rest w at)
-unless_requests rest are w None = tt
-unless_requests rest are w (Some at) = are w
-
 rounds_requests : (cfg : Cfg) (most : ℕ) (n : ℕ) (w : World) → AreReceiptsAndRequests (pull_rounds cfg most n w)
-unfolding pull_rounds
-rounds_requests cfg most zero w = tt
-rounds_requests cfg most (suc n) w =
-    let x = run cfg (pull_round cfg most w) w in
-    requests_append (pull_round cfg most w) (left_behind cfg most n x) (round_requests cfg most w) (unless_requests (pull_rounds cfg most n) (rounds_requests cfg most n) x (next_end x.out x.back))
+rounds_requests = rounds_are_so AreReceiptsAndRequests tt requests_append (λ at. (tt, tt)) (λ at. (tt, tt))
 
 -- both pulls, accepted or not
 abbrev pulled_both : Cfg → World → World

@@ -13,17 +13,9 @@ use Rattle.x25_world.specs.code.PlainTold.{plain_entered}
 use Rattle.x25_world.specs.code.ShownWorld.{ShownWorld}
 use Rattle.x25_world.specs.code.FitsWorld.{FitsWorld, IsRefusal}
 use Rattle.x25_world.specs.code.FitsHealing.{TellingWorld, telling, Tells, GoesBy, GoesPartly}
-use Rattle.x25_world.proofs.WorldLemmas.{run-push, AreAccepted-push}
+use Rattle.x25_world.proofs.WorldLemmas.{run_append, accepted_append}
 
 -- ---- lists of events
-
-pub run_append : (cfg : Cfg) (xs ys : List Event) (w : World) → run cfg (xs ++ ys) w ≡ run cfg ys (run cfg xs w)
-run_append cfg [] ys w = refl
-run_append cfg (x ∷ xs) ys w = run_append cfg xs ys (after w (happens cfg w x))
-
-pub accepted_append : (cfg : Cfg) (xs ys : List Event) (w : World) → AreAccepted cfg xs w → AreAccepted cfg ys (run cfg xs w) → AreAccepted cfg (xs ++ ys) w
-accepted_append cfg [] ys w f g = g
-accepted_append cfg (x ∷ xs) ys w f g = (f.0, accepted_append cfg xs ys (after w (happens cfg w x)) f.1 g)
 
 -- one list, and then another
 pub goes_behind : (cfg : Cfg) (xs ys : List Event) (w : World) (u v : TellingWorld) (before : List AtEnd) → GoesBy cfg xs w u before → GoesBy cfg ys (run cfg xs w) v before → GoesBy cfg (xs ++ ys) w v before
@@ -184,12 +176,12 @@ one_delivered cfg most w u v before count at low h is fits =
     let x = run cfg (all_received h.done) w in
     let here : next_end x.out x.back ≡ Some at = sym (line_is cfg u.world x h.goes.fits.fits) ∙ is in
     let events : all_received (h.done ++ at ∷ []) ≡ all_received h.done ++ receipt at ∷ [] = received_append h.done (at ∷ []) in
-    let next : run cfg (all_received (h.done ++ at ∷ [])) w ≡ after x (happens cfg x (receipt at)) = ap (λ (es : List Event). run cfg es w) events ∙ run-push cfg (all_received h.done) (receipt at) w in
+    let next : run cfg (all_received (h.done ++ at ∷ [])) w ≡ after x (happens cfg x (receipt at)) = ap (λ (es : List Event). run cfg es w) events ∙ run_append cfg (all_received h.done) (receipt at ∷ []) w in
     let fewer : most - count ≡ suc (most - (count + 1)) = omega (arith, low) in
     record {
       done = h.done ++ at ∷ [];
       goes = record {
-        accepted = subst (λ (es : List Event). AreAccepted cfg es w) (sym events) (AreAccepted-push cfg (all_received h.done) (receipt at) w h.goes.accepted (found cfg x at here));
+        accepted = subst (λ (es : List Event). AreAccepted cfg es w) (sym events) (accepted_append cfg (all_received h.done) (receipt at ∷ []) w h.goes.accepted (found cfg x at here, tt));
         fits = subst (λ (z : World). Tells cfg v z before) (sym next) fits;
       };
       counted = length-append h.done (at ∷ []) ∙ ap (λ (n : ℕ). n + 1) h.counted;

@@ -20,10 +20,7 @@ both_true false b e = absurd (never e)
     never e = cc
 
 pub true_false : {A : Type 0} → true ≡ false → A
-true_false e = absurd (never e)
-  where
-    never : true ≡ false → ⊥
-    never e = cc
+true_false e = absurd (cc)
 
 pub second_false : (a b : Bool) → (a || b) ≡ false → b ≡ false
 second_false true b e = true_false e

@@ -55,9 +55,9 @@ links_turned : (asks : Bool) (cfg : Cfg) (end : Role) (v : line.Stations) → Li
 links_turned asks cfg Dte v h = record { events = h.events; unasked = h.unasked; run = h.run }
 links_turned asks cfg Dce v h = record { events = h.events; unasked = h.unasked; run = h.run }
 
-more_links : (c d : LinkSettings) (es : List line.Event) (e : line.Event) (v : line.Stations) → line.run c d (es ++ e ∷ []) v ≡ line.happens c d e (line.run c d es v)
-more_links c d [] e v = refl
-more_links c d (x ∷ es) e v = more_links c d es e (line.happens c d x v)
+pub run_append : (c d : LinkSettings) (xs ys : List line.Event) (s : line.Stations) → line.run c d (xs ++ ys) s ≡ line.run c d ys (line.run c d xs s)
+run_append c d [] ys s = refl
+run_append c d (x ∷ xs) ys s = run_append c d xs ys (line.happens c d x s)
 
 more_unasked : (c d : LinkSettings) (es : List line.Event) (e : line.Event) (v : line.Stations) → NoneConnects c d es v → AcceptsNoConnectAt e (line.run c d es v) → NoneConnects c d (es ++ e ∷ []) v
 more_unasked c d [] e v h g = (g, tt)
@@ -69,7 +69,7 @@ module _ (asks : Bool) (cfg : Cfg) (v : line.Stations) where
   reach_more end e none h w is = record {
     events = h.events ++ e ∷ [];
     unasked = λ free. more_unasked (link_of cfg Dte) (link_of cfg Dce) h.events e line.start (h.unasked free) (subst (λ (x : line.Stations). AcceptsNoConnectAt e x) (sym h.run) (none free));
-    run = more_links (link_of cfg Dte) (link_of cfg Dce) h.events e line.start ∙ ap (line.happens (link_of cfg Dte) (link_of cfg Dce) e) h.run ∙ is;
+    run = run_append (link_of cfg Dte) (link_of cfg Dce) h.events (e ∷ []) line.start ∙ ap (line.happens (link_of cfg Dte) (link_of cfg Dce) e) h.run ∙ is;
   }
 
   link_acts : (end : Role) (act : line.Act) → (asks ≡ false → AcceptsNoConnect act v) → LinksReach asks cfg end v → LinksReach asks cfg end (line.acts (link_of cfg end) act v)

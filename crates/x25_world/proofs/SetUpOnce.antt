@@ -28,8 +28,7 @@ use Rattle.x25_world.proofs.sessions.SessionJoined.{HaveAll, IsEnd, HasMet, Pair
 use Rattle.x25_world.specs.laws.LawsBelow.{SessionLaws}
 use Rattle.x25_world.proofs.sessions.SessionKnown.{met_in_order, nothing_in_order}
 use Rattle.x25_world.proofs.sessions.claims.SessionMeets.{begun_both, meet_in_step}
-use Rattle.x25_world.proofs.sessions.claims.SessionLawful.{own_lawful}
-use Rattle.x25_world.proofs.sessions.claims.SessionNamed.{are_named}
+use Rattle.x25_world.proofs.sessions.claims.SessionLawful.{own_lawful, are_named}
 use Rattle.x25_world.proofs.sessions.claims.SessionArrives.{all_arrive, open_stretches_meet}
 
 -- ---- how many sessions an end began

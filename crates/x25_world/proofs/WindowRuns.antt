@@ -15,16 +15,12 @@ use Rattle.x25_world.specs.laws.Claims.{ActsInOctets, AreInOctets, IsUpOnce, lin
 use Rattle.x25_world.specs.laws.WindowGoes.{AsksAll, all_at, IsBehindWorld, GoesAlong, both_put, StaysInWindow}
 use Rattle.x25_world.proofs.Known.{IsConfigured}
 use Rattle.x25_line.proofs.sessions.SessionsForgotten.{runs_alike}
-use Rattle.x25_world.proofs.OneLink.{IsLike, AreAlike, like_lasts}
+use Rattle.x25_world.proofs.OneLink.{IsLike, AreAlike, like_lasts, run_append}
 use Rattle.x25_world.proofs.sessions.SessionReaches.{Beginning, both_down, set_up, at_event, SessionsReach, joined_at}
 use Rattle.x25_world.proofs.sessions.SessionJoined.{SessionsJoined}
 use Rattle.x25_world.specs.laws.LawsBelow.{SessionLaws}
 use Rattle.x25_world.proofs.sessions.SessionRuns.{event_joined, established_joined, set_up_alike, down_at_none, not_set_up}
 use Rattle.x25_world.proofs.SetUpOnce.{ups_are_begun, not_anew}
-
-run_append : (c d : LinkSettings) (xs ys : List line.Event) (s : line.Stations) → line.run c d (xs ++ ys) s ≡ line.run c d ys (line.run c d xs s)
-run_append c d [] ys s = refl
-run_append c d (x ∷ xs) ys s = run_append c d xs ys (line.happens c d x s)
 
 machine_append : (c d : LinkSettings) (xs ys : List line.Event) (s : line.Stations) (l : Line (List ℕ))
     → machine_run c d (xs ++ ys) s l ≡ machine_run c d ys (line.run c d xs s) (machine_run c d xs s l)

@@ -194,21 +194,19 @@ refused_later U (Some d) x e made memory = cc
 pub told_behind : (all before told more next : List AtEnd) → all ≡ before ++ told → next ≡ all ++ more → next ≡ before ++ (told ++ more)
 told_behind all before told more next e f = f ∙ ap (λ (l : List AtEnd). l ++ more) e ∙ append_assoc before told more
 
--- ---- one more event
-
-pub run-push : (cfg : Cfg) (es : List Event) (e : Event) (w : World) → run cfg (es ++ e ∷ []) w ≡ after (run cfg es w) (happens cfg (run cfg es w) e)
-run-push cfg [] e w = refl
-run-push cfg (x ∷ es) e w = run-push cfg es e (after w (happens cfg w x))
-
-pub AreAccepted-push : (cfg : Cfg) (es : List Event) (e : Event) (w : World) → AreAccepted cfg es w → refusal_of (happens cfg (run cfg es w) e) ≡ None → AreAccepted cfg (es ++ e ∷ []) w
-AreAccepted-push cfg [] e w h last = (last, tt)
-AreAccepted-push cfg (x ∷ es) e w h last = (h.0, AreAccepted-push cfg es e (after w (happens cfg w x)) h.1 last)
-
 -- ---- runs
 
-octets_push : (es : List Event) (e : Event) → AreInOctets es → ActsInOctets e.act → AreInOctets (es ++ e ∷ [])
-octets_push [] e h last = (last, tt)
-octets_push (x ∷ es) e h last = (h.0, octets_push es e h.1 last)
+pub run_append : (cfg : Cfg) (xs ys : List Event) (w : World) → run cfg (xs ++ ys) w ≡ run cfg ys (run cfg xs w)
+run_append cfg [] ys w = refl
+run_append cfg (x ∷ xs) ys w = run_append cfg xs ys (after w (happens cfg w x))
+
+pub accepted_append : (cfg : Cfg) (xs ys : List Event) (w : World) → AreAccepted cfg xs w → AreAccepted cfg ys (run cfg xs w) → AreAccepted cfg (xs ++ ys) w
+accepted_append cfg [] ys w f g = g
+accepted_append cfg (x ∷ xs) ys w f g = (f.0, accepted_append cfg xs ys (after w (happens cfg w x)) f.1 g)
+
+pub octets_append : (xs ys : List Event) → AreInOctets xs → AreInOctets ys → AreInOctets (xs ++ ys)
+octets_append [] ys f g = g
+octets_append (x ∷ xs) ys f g = (f.0, octets_append xs ys f.1 g)
 
 -- one more event, where it is accepted
 pub run_and_then : (cfg : Cfg) (from : World) (old new : ShownWorld) (past : List Event) (e : Event) (r : Result (Unit {0}) WorldError) → FitsRun cfg from old past → ActsInOctets e.act
@@ -216,9 +214,9 @@ pub run_and_then : (cfg : Cfg) (from : World) (old new : ShownWorld) (past : Lis
     → ((w : World) → FitsWorld cfg old w → OnErr r (FitsWorld cfg new w)) → FitsRun cfg from new (and_then past e r)
 run_and_then cfg from old new past e (Ok x) h octets step accepted stays = record {
   settings = h.settings;
-  octets = octets_push past e h.octets octets;
-  accepted = AreAccepted-push cfg past e from h.accepted (accepted (run cfg past from) h.fits);
-  fits = rw run-push (step (run cfg past from) h.fits);
+  octets = octets_append past (e ∷ []) h.octets (octets, tt);
+  accepted = accepted_append cfg past (e ∷ []) from h.accepted (accepted (run cfg past from) h.fits, tt);
+  fits = subst (FitsWorld cfg new) (sym (run_append cfg past (e ∷ []) from)) (step (run cfg past from) h.fits);
 }
 run_and_then cfg from old new past e (Err x) h octets step accepted stays = record { settings = h.settings; octets = h.octets; accepted = h.accepted; fits = stays (run cfg past from) h.fits }
 

@@ -63,11 +63,6 @@ number_kind kind of_disc (Ok (rr command nr pf)) g e = refl
 number_kind kind of_disc (Ok (rnr command nr pf)) g e = refl
 number_kind kind of_disc (Ok (rej command nr pf)) g e = refl
 
-pub error_kind : (kind : Read → ℕ) → IsKind kind → (e : FrameError) → kind (Err e) ≡ 0
-error_kind kind of_sabm e = refl
-error_kind kind of_ua e = refl
-error_kind kind of_disc e = refl
-
 -- how many frames of a kind are sent
 abbrev pub count : (Read → ℕ) → List PlainFrame → ℕ
 count kind [] = 0
@@ -86,10 +81,7 @@ numbered_count kind k (f ∷ fs) h =
 
 quiet_rest : (m : Option PlainFrame) (fs : List PlainFrame) → consed m fs ≡ [] → (m ≡ None) × (fs ≡ [])
 quiet_rest None fs e = (refl, e)
-quiet_rest (Some f) fs e = absurd (never e)
-  where
-    never : f ∷ fs ≡ [] → ⊥
-    never k = cc
+quiet_rest (Some f) fs e = absurd (cc)
 
 module _ (from : Role) (n1 : ℕ) where
   abbrev pub numbers : List Entry → List PlainFrame

@@ -131,7 +131,7 @@ alike_delivered : (c : Settings) (p : PeerEnd) (w : Sessions) (es : List Entry) 
 alike_delivered c p w [] = refl
 alike_delivered c p w (e ∷ es) = refl
 
-alike : (c : Settings) (p : PeerEnd) (a : Act) (w : Sessions) → with_peer p (acts c a w) ≡ with_peer p (acts c a (both_ends (with_peer p w)))
+pub alike : (c : Settings) (p : PeerEnd) (a : Act) (w : Sessions) → with_peer p (acts c a w) ≡ with_peer p (acts c a (both_ends (with_peer p w)))
 alike c p (Put packet) w =
     let x = both_ends (with_peer p w) in
     alike_if p (nat_le (length packet) c.longest) w _ x _ refl

@@ -68,10 +68,7 @@ no_frmr_behind (frmr g why ∷ xs) ys h = absurd h
 no_frmr_behind (frame ∷ xs) ys h = no_frmr_behind xs ys h
 
 pub waiting_is_closed : {A : Type 0} (p : Phase) → p ≡ Waiting → p ≡ Closed → A
-waiting_is_closed p e f = absurd (never (sym e ∙ f))
-  where
-    never : Waiting ≡ Closed → ⊥
-    never k = cc
+waiting_is_closed p e f = absurd (cc)
 
 waiting_away : {A : Type 0} (p : Phase) → p ≡ Waiting → MayBeAway ⊥ p → A
 waiting_away p e h = absurd (subst (MayBeAway ⊥) e h)

@@ -11,10 +11,7 @@ abbrev pub CanMeet : ℕ → ℕ → List Meeting → Type 0
 CanMeet n m met = AllMet (λ (p : Meeting). (p.near ≡ n → p.far ≡ m) × (p.far ≡ m → p.near ≡ n)) met
 
 pub true_false : {A : Type 0} → true ≡ false → A
-true_false e = absurd (never e)
-  where
-    never : true ≡ false → ⊥
-    never k = cc
+true_false e = absurd (cc)
 
 -- so they did before
 pub could_meet : (n m : ℕ) (b : Bool) (r : Option PlainFrame) (x : Meeting) (met : List Meeting) → CanMeet n m (heard b r x met) → CanMeet n m met

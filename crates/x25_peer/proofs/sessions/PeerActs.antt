@@ -121,10 +121,7 @@ read_front : (c : Settings) (given : List PlainPacket) (taken : List (List ℕ))
     → drop n given ≡ read ++ drop (length taken) given
 read_front c given [] zero [] first few reads = refl
 read_front c given [] zero (r ∷ read) first few reads = absurd reads
-read_front c given [] (suc n) read first few reads = absurd (never few)
-  where
-    never : suc n ≤ 0 → ⊥
-    never low = omega (arith, low)
+read_front c given [] (suc n) read first few reads = (let none : suc n ≤ 0 = few in absurd (omega (arith, none)))
 read_front c [] (t ∷ taken) n read first few reads = absurd first
 read_front c (g ∷ given) (t ∷ taken) zero [] first few reads = absurd reads
 read_front c (g ∷ given) (t ∷ taken) zero (r ∷ read) first few reads =
@@ -132,11 +129,8 @@ read_front c (g ∷ given) (t ∷ taken) zero (r ∷ read) first few reads =
     let more : given ≡ read ++ drop (length taken) given = read_front c given taken 0 read first.1 (omega (arith)) reads.1 in
     ap (λ (l : List PlainPacket). g ∷ l) more ∙ ap (λ (x : PlainPacket). x ∷ (read ++ drop (length taken) given)) one
 read_front c (g ∷ given) (t ∷ taken) (suc n) read first few reads =
-    let low : n ≤ length taken = fewer few in
-    read_front c given taken n read first.1 low reads
-  where
-    fewer : suc n ≤ suc (length taken) → n ≤ length taken
-    fewer low = omega (arith, low)
+    let low : suc n ≤ suc (length taken) = few in
+    read_front c given taken n read first.1 (omega (arith, low)) reads
 
 -- ---- packets go down to it
 

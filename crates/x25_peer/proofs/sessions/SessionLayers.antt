@@ -67,22 +67,29 @@ asked_reached wide r long_data n y e o b ms asked stay h =
     let moved = moves_reached wide r long_data n y start ms stay (subst (λ (l : List PlainPacket). IsReachedByOctets wide r long_data n (record { near = e; peer = y; out = l; back = b })) (sym (append-nil o)) h) in
     subst (λ (v : TwoLayers). IsReachedByOctets wide r long_data n (record { near = v.near; peer = y; out = v.out; back = v.back })) (moves_beside c o b (alone_at e) ms asked) moved
 
--- ---- such moves tell the user nothing
+-- ---- by such moves it takes nothing, and tells the user nothing
 
-requested_tells : (c : LayerSettings) (w : TwoLayers) (request : LayerRequest) (x : LayerOutcome) → (requested c w request x).near.told ≡ w.near.told
-requested_tells c w request (Accepted next packet) = refl
-requested_tells c w request (Declined e) = refl
+pub record IsToldNoMore (e f : End) : Type 0 where
+  pub taken : f.taken ≡ e.taken
+  pub told : f.told ≡ e.told
 
-pulls_tell : (w : TwoLayers) (x : LayerPulled) (yes : Bool) → (if yes then pulled_in w x else w).near.told ≡ w.near.told
-pulls_tell w x true = refl
-pulls_tell w x false = refl
+requested_leaves : (c : LayerSettings) (w : TwoLayers) (request : LayerRequest) (x : LayerOutcome) → IsToldNoMore w.near (requested c w request x).near
+requested_leaves c w request (Accepted next packet) = record { taken = refl; told = refl }
+requested_leaves c w request (Declined e) = record { taken = refl; told = refl }
 
-move_tells : (c : LayerSettings) (w : TwoLayers) (gone : Bool) (m : Move) → IsAsked m → (moves_in c w gone m).near.told ≡ w.near.told
-move_tells c w true m asked = refl
-move_tells c w false (Requests full request) asked = requested_tells c w request (layer_outcome c full w.near.layer request)
-move_tells c w false (Pulls h) asked = pulls_tell w (layer_pulled c w.near.layer h) (is_channel c.channels h)
-move_tells c w false m asked = absurd asked
+pulled_leaves : (w : TwoLayers) (x : LayerPulled) (yes : Bool) → IsToldNoMore w.near (if yes then pulled_in w x else w).near
+pulled_leaves w x true = record { taken = refl; told = refl }
+pulled_leaves w x false = record { taken = refl; told = refl }
 
-pub asked_tells : (c : LayerSettings) (w : TwoLayers) (ms : List Move) → AreAsked ms → (moves_all c w ms).near.told ≡ w.near.told
-asked_tells c w [] asked = refl
-asked_tells c w (m ∷ ms) asked = asked_tells c (moves c w m) ms asked.1 ∙ move_tells c w w.near.is_out m asked.0
+move_leaves : (c : LayerSettings) (w : TwoLayers) (gone : Bool) (m : Move) → IsAsked m → IsToldNoMore w.near (moves_in c w gone m).near
+move_leaves c w true m asked = record { taken = refl; told = refl }
+move_leaves c w false (Requests full request) asked = requested_leaves c w request (layer_outcome c full w.near.layer request)
+move_leaves c w false (Pulls h) asked = pulled_leaves w (layer_pulled c w.near.layer h) (is_channel c.channels h)
+move_leaves c w false m asked = absurd asked
+
+pub asked_leaves : (c : LayerSettings) (w : TwoLayers) (ms : List Move) → AreAsked ms → IsToldNoMore w.near (moves_all c w ms).near
+asked_leaves c w [] asked = record { taken = refl; told = refl }
+asked_leaves c w (m ∷ ms) asked =
+    let first = move_leaves c w w.near.is_out m asked.0 in
+    let others = asked_leaves c (moves c w m) ms asked.1 in
+    record { taken = others.taken ∙ first.taken; told = others.told ∙ first.told }

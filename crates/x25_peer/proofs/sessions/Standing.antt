@@ -151,18 +151,11 @@ pub record Stands (c : Settings) (w : BesideSessions) : Type 0 where
 
 -- ---- the lists of what is known
 
-pub into_down : (known : ℕ → Known) (s : ℕ) (k : Known) (more : List (List ℕ)) → k.down ≡ (known s).down ++ more → (n : ℕ) → extended (downs_of known) s more n ≡ downs_of (in_session s k known) n
-into_down known s k more same n = by (n == s) refl
+pub into : (list : Known → List (List ℕ)) (known : ℕ → Known) (s : ℕ) (k : Known) (more : List (List ℕ)) → list k ≡ list (known s) ++ more → (n : ℕ) → extended (λ i. list (known i)) s more n ≡ list (in_session s k known n)
+into list known s k more same n = by (n == s) refl
   where
-    by : (b : Bool) → (n == s) ≡ b → (if b then (known n).down ++ more else (known n).down) ≡ (if b then k else known n).down
-    by true is = ap (λ (i : ℕ). (known i).down ++ more) (eqb-true n s is) ∙ sym same
-    by false is = refl
-
-pub into_up : (known : ℕ → Known) (s : ℕ) (k : Known) (more : List (List ℕ)) → k.up ≡ (known s).up ++ more → (n : ℕ) → extended (ups_of known) s more n ≡ ups_of (in_session s k known) n
-into_up known s k more same n = by (n == s) refl
-  where
-    by : (b : Bool) → (n == s) ≡ b → (if b then (known n).up ++ more else (known n).up) ≡ (if b then k else known n).up
-    by true is = ap (λ (i : ℕ). (known i).up ++ more) (eqb-true n s is) ∙ sym same
+    by : (b : Bool) → (n == s) ≡ b → (if b then list (known n) ++ more else list (known n)) ≡ list (if b then k else known n)
+    by true is = ap (λ (i : ℕ). list (known i) ++ more) (eqb-true n s is) ∙ sym same
     by false is = refl
 
 -- ---- what the laws of the links say

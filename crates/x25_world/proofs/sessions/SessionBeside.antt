@@ -42,7 +42,7 @@ use Rattle.x25_world.specs.laws.BesideClaims.{Came, came_of, came_in, Gave, chan
 use Rattle.x25_world.specs.laws.LawsBelow.{Laws}
 use Rattle.x25_world.proofs.Known.{true_false}
 use Rattle.x25_world.proofs.Growing.{read_by}
-use Rattle.x25_world.proofs.sessions.SessionLinks.{spelled, spelled_with}
+use Rattle.x25_peer.proofs.sessions.LinkSteps.{spelled, spelled_with}
 
 -- ---- some of a list, in order
 

@@ -153,11 +153,8 @@ not_on c l next k begins on =
     let others = both_true (is_open_at c next k) (same_name (name_of l k) (name_of next k)) opened.1 in
     elim begins.new [
       | inl closed ↦ true_false (sym (open_there (is_channel c.channels k) (is_open (l.circuits k)) opened.0) ∙ closed)
-      | inr more ↦ more_than (l.circuits k).resets (sym (ap (λ (n : Name). n.resets) (same_name_is (name_of l k) (name_of next k) others.1) ∙ more))
+      | inr more ↦ (let e : suc (l.circuits k).resets ≡ (l.circuits k).resets = sym (ap (λ (n : Name). n.resets) (same_name_is (name_of l k) (name_of next k) others.1) ∙ more) in omega (arith, e))
     ]
-  where
-    more_than : (n : ℕ) → suc n ≡ n → ⊥
-    more_than n e = omega (arith, e)
 
 -- ---- what is kept of an end, where it was told of so many, and the other
 

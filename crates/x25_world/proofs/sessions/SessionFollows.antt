@@ -1,18 +1,15 @@
 -- A step of the link that hands nothing up: nothing is noted; or LinkDown; or LinkUp, by which a session begins.
-use Rattle.std.proofs.Common.{◌≡◌, ℕ, suc, List, [], ◌∷◌, ◌++◌, map, ◌+◌, nat_lt, Bool, true, false, if◌then◌else◌, Option, Some, None, refl, sym, ap, ap₂, ◌∙◌, subst, arith}
+use Rattle.std.proofs.Common.{◌≡◌, ℕ, suc, List, [], ◌∷◌, ◌++◌, ◌+◌, Bool, true, false, if◌then◌else◌, Option, Some, None, refl, sym, ap, ap₂, ◌∙◌, subst, arith}
 use Rattle.x25_bits.specs.declared.role.Role.{Role}
-use Rattle.x25_frame.specs.Frame.{PlainFrame}
-use Rattle.x25_frame.specs.Spelling.{spelling_of}
 use Rattle.x25_packet.specs.Packet.{PlainPacket, restart}
 use Rattle.x25_link.specs.declared.phase.Reason.{Reason}
-use Rattle.x25_link.specs.declared.phase.Reason.TheVariants.{Retries}
 use Rattle.x25_link.specs.declared.phase.Notes.{Notes}
-use Rattle.x25_link.specs.Station.{Settings as LinkSettings, LinkStation, is_up, with_near}
-use Rattle.x25_link.specs.Hearing.{Step as LinkStep, quiet, leaves}
-use Rattle.x25_link.specs.Link.{timer_step, alone, closed_by, asks_again}
+use Rattle.x25_link.specs.Station.{LinkStation, is_up}
+use Rattle.x25_link.specs.Hearing.{Step as LinkStep, quiet}
 use Rattle.x25_link.specs.laws.NoteLaw.{IsQuiet, Tells}
 use Rattle.x25_line.specs.laws.Stations as line
-use Rattle.x25_line.specs.laws.Sessions.{Sessions}
+use Rattle.x25_line.specs.laws.Sessions as links
+use Rattle.x25_line.specs.laws.Sessions.{Meeting, Sessions, begun_by}
 use Rattle.x25_line.specs.laws.SessionClaims.{octets_of, OnlyBegunHaveLists}
 use Rattle.x25_layer.specs.Layer.{LayerSettings, Layer, rested, restart_cause, goes_up}
 use Rattle.x25_layer.specs.Rounds.{LinkView}
@@ -32,12 +29,13 @@ use Rattle.x25_world.specs.laws.Claims.{link_of}
 use Rattle.x25_world.specs.laws.Sessions.{Progress, after_entries, session_from, is_in, entry_if}
 use Rattle.x25_world.proofs.Known.{IsConfigured, true_false}
 use Rattle.x25_world.proofs.sessions.SessionTrace.{layer_of, own, TakeNothing}
-use Rattle.x25_world.proofs.sessions.SessionReaches.{Beginning, MayAsk, SessionsReach, known_sessions}
+use Rattle.x25_world.proofs.sessions.SessionReaches.{Beginning, MayAsk, SessionsReach, puts_reach, known_sessions}
 use Rattle.x25_world.proofs.sessions.SessionBeside.{spelled_bring}
 use Rattle.x25_world.proofs.sessions.SessionJoined.{HasMet, PairsAreInOrder, SessionsJoined, Goes, gave_none}
 use Rattle.x25_world.specs.laws.LawsBelow.{SessionLaws}
 use Rattle.x25_world.proofs.sessions.SessionKnown.{nothing_in_order, own_readable}
-use Rattle.x25_world.proofs.sessions.SessionLinks.{SessionGoes, spelled, puts_spelled, spelled_back, back_read, back_octets, puts_go, PutsRead, puts_up}
+use Rattle.x25_peer.proofs.sessions.LinkSteps.{SessionGoes, StepGoes, step_as, spelled, puts_spelled, HasPut, puts_up, puts_of, all_act, puts_go}
+use Rattle.x25_world.proofs.sessions.SessionLinks.{back_read, back_octets}
 use Rattle.x25_world.proofs.sessions.SessionGoes.{IsSilent, not_in, rests, begins_session}
 use Rattle.x25_world.proofs.sessions.SessionEntries.{AreMute}
 
@@ -83,14 +81,6 @@ up_begins p (Some reason) = asked_silent p (record { begun = suc p.begun; stands
 
 -- ---- what is put
 
--- a firing of T1 hands nothing up and notes no LinkUp
-pub timer_silent : (c : LinkSettings) (s : LinkStation) → ((timer_step c s).packet ≡ None) × ((timer_step c s).notes.up ≡ false)
-timer_silent c s = by (nat_lt s.tries c.retries)
-  where
-    by : (b : Bool) → let k = closed_by c.window (if b then quiet (asks_again s.phase (with_near (alone s) (record s { tries = s.tries + 1 }))) else leaves Retries (alone s)) in (k.packet ≡ None) × (k.notes.up ≡ false)
-    by true = (refl, refl)
-    by false = (refl, refl)
-
 -- nothing where the link hands nothing up and notes no LinkUp
 pub silent : (view : LinkView) (c : LayerSettings) (wide : Bool) (l : Layer) (packet : Option (List ℕ)) (down : Option Reason) (up : Bool) → packet ≡ None → up ≡ false → (layer_at view c wide l packet down up).put ≡ []
 silent view c wide l packet down up none not_up =
@@ -100,15 +90,14 @@ silent view c wide l packet down up none not_up =
     by None = refl
     by (Some reason) = refl
 
-pub silent_puts : (cfg : Cfg) (end : Role) (l : Layer) (k : LinkStep) → k.packet ≡ None → k.notes.up ≡ false → PutsRead cfg end k.side (follows (settings_from end cfg) l k)
+pub silent_puts : (cfg : Cfg) (end : Role) (l : Layer) (k : LinkStep) → k.packet ≡ None → k.notes.up ≡ false → HasPut (settings_from end cfg) k.side (follows (settings_from end cfg) l k)
 silent_puts cfg end l k none not_up =
     let c = settings_from end cfg in
     let nothing = silent (view_of (link_settings c) k.side.near) (layer_settings c) c.wide l k.packet k.notes.down k.notes.up none not_up in
     record {
       handed = [];
       packets = [];
-      link = record { accepted = tt; link = ap (λ (ps : List PlainPacket). (all_put (link_settings c) ps k.side).near) nothing; out = ap (λ (ps : List PlainPacket). (all_put (link_settings c) ps k.side).out) nothing };
-      readable = tt;
+      put = record { accepted = tt; link = ap (λ (ps : List PlainPacket). (all_put (link_settings c) ps k.side).near) nothing; out = ap (λ (ps : List PlainPacket). (all_put (link_settings c) ps k.side).out) nothing; readable = tt };
     }
 
 -- RESTART where a session begins
@@ -126,81 +115,68 @@ module _ {since : Beginning} (laws : SessionLaws) (cfg : Cfg) (fine : IsConfigur
       (own_readable laws cfg fine end n m h.trace
       (nothing_in_order cfg end h.trace n m (subst TakeNothing (sym (h.near.later n (omega arith)).moves) tt) (subst TakeNothing (sym (h.far.later m (omega arith)).moves) tt)) h.octets)
 
-  pub up_puts : (k : LinkStep) → Tells w.near.link k → k.notes.up ≡ true → PutsRead cfg end k.side (follows (settings_from end cfg) w.near.layer k)
+  pub up_puts : (k : LinkStep) → Tells w.near.link k → k.notes.up ≡ true → HasPut (settings_from end cfg) k.side (follows (settings_from end cfg) w.near.layer k)
   up_puts k tells up =
       let packets : List PlainPacket = restart (restart_cause end) 0 ∷ [] in
       record {
         handed = spelled packets;
         packets = packets;
-        link = puts_spelled (settings_from end cfg) k.side packets (follows (settings_from end cfg) w.near.layer k) (laws.stations.up (settings_from end cfg) w.near.layer k up (tells.fresh_up up)).link;
-        readable = spelled_back cfg packets restart_readable;
+        put = puts_spelled (settings_from end cfg) k.side packets (follows (settings_from end cfg) w.near.layer k) (laws.stations.up (settings_from end cfg) w.near.layer k up (tells.fresh_up up)).link restart_readable;
       }
 
 -- ---- the link's step, at `v`, and the layer's
 
-module _ {since : Beginning} (laws : SessionLaws) (cfg : Cfg) (fine : IsConfigured cfg) (end : Role) (w : World) (h : SessionsJoined since cfg end w) (lead : Lead) (back : List (List ℕ)) (k : LinkStep) (v : Sessions)
-    (reach : SessionsReach since cfg end v) (pairs : PairsAreInOrder cfg end h.trace v.met) (more : (n m : ℕ) → HasMet n m h.links.met → HasMet n m v.met) (tells : Tells w.near.link k) where
+module _ {since : Beginning} (laws : SessionLaws) (cfg : Cfg) (fine : IsConfigured cfg) (end : Role) (w : World) (h : SessionsJoined since cfg end w) (lead : Lead) (left : List links.Entry) (k : LinkStep) (v : Sessions) (met : List Meeting)
+    (reach : SessionsReach since cfg end v) (pairs : PairsAreInOrder cfg end h.trace met) (more : (n m : ℕ) → HasMet n m h.links.met → HasMet n m met) (tells : Tells w.near.link k) (g : StepGoes (link_of cfg end) h.links v k left met) where
   abbrev whole_step : Step
   whole_step = led_by (lead_of lead) (follows (settings_from end cfg) w.near.layer k)
 
-  abbrev GoesTo : ℕ → Type 0
-  GoesTo n = SessionGoes (link_of cfg end) h.links v n k.side.near k.side.out [] [] back v.met
+  goes_at : (up : Bool) → k.notes.up ≡ up → k.packet ≡ None → SessionGoes (link_of cfg end) h.links v (begun_by up h.links.near.begun) k.side.near k.side.out [] [] left met
+  goes_at up is none = step_as (link_of cfg end) h.links v k left met up None is none g
 
   abbrev standing : Progress
   standing = record { begun = h.links.near.begun; stands = is_up w.near.link.phase }
 
-  quiet_step : GoesTo h.links.near.begun → k.packet ≡ None → IsKept whole_step.near → IsQuiet k → Goes since cfg end h.links gave_none (after_step (settings_from end cfg) w back whole_step)
-  quiet_step g none kept quiet =
+  quiet_step : k.packet ≡ None → IsKept whole_step.near → IsQuiet k → Goes since cfg end h.links gave_none (after_step (settings_from end cfg) w (octets_of left) whole_step)
+  quiet_step none kept quiet =
       let is = laws.stations.quiet (settings_from end cfg) w.near.layer k none quiet in
       let step : Step = record { near = station_with k.side.near w.near.layer; out = k.side.out; entries = lead_of lead ++ [] } in
       let same : step ≡ whole_step = ap (λ (s : Step). led_by (lead_of lead) s) (sym is) in
-      subst (λ (s : Step). Goes since cfg end h.links gave_none (after_step (settings_from end cfg) w back s)) same
-      (rests cfg end w h step back v v.met g (quiet_silent lead standing (is_up k.side.near.phase) (sym (tells.stays quiet))) (λ still. (sym (tells.stays quiet) ∙ still, refl))
+      subst (λ (s : Step). Goes since cfg end h.links gave_none (after_step (settings_from end cfg) w (octets_of left) s)) same
+      (rests cfg end w h step left v met (goes_at false (ap (λ (n : Notes). n.up) quiet) none) (quiet_silent lead standing (is_up k.side.near.phase) (sym (tells.stays quiet))) (λ still. (sym (tells.stays quiet) ∙ still, refl))
       (subst (λ (s : Step). IsKept s.near) (sym same) kept) reach pairs more)
 
-  down_step : GoesTo h.links.near.begun → IsKept whole_step.near → (reason : Reason) → k.notes ≡ record { down = Some reason; up = false }
-      → Goes since cfg end h.links gave_none (after_step (settings_from end cfg) w back whole_step)
-  down_step g kept reason noted =
+  down_step : k.packet ≡ None → IsKept whole_step.near → (reason : Reason) → k.notes ≡ record { down = Some reason; up = false }
+      → Goes since cfg end h.links gave_none (after_step (settings_from end cfg) w (octets_of left) whole_step)
+  down_step none kept reason noted =
       let is = laws.stations.down (settings_from end cfg) w.near.layer k reason noted in
       let step : Step = record { near = station_with k.side.near (rested w.near.layer); out = k.side.out; entries = lead_of lead ++ link_down reason ∷ [] } in
       let same : step ≡ whole_step = ap (λ (s : Step). led_by (lead_of lead) s) (sym is) in
       let off : is_up k.side.near.phase ≡ false = tells.left reason (ap (λ (n : Notes). n.down) noted) (ap (λ (n : Notes). n.up) noted) in
-      subst (λ (s : Step). Goes since cfg end h.links gave_none (after_step (settings_from end cfg) w back s)) same
-      (rests cfg end w h step back v v.met g (subst (λ (b : Bool). IsSilent standing (record { begun = standing.begun; stands = b }) (lead_of lead ++ link_down reason ∷ [])) (sym off) (down_silent lead standing reason)) (λ still. true_false (sym still ∙ off))
+      subst (λ (s : Step). Goes since cfg end h.links gave_none (after_step (settings_from end cfg) w (octets_of left) s)) same
+      (rests cfg end w h step left v met (goes_at false (ap (λ (n : Notes). n.up) noted) none) (subst (λ (b : Bool). IsSilent standing (record { begun = standing.begun; stands = b }) (lead_of lead ++ link_down reason ∷ [])) (sym off) (down_silent lead standing reason)) (λ still. true_false (sym still ∙ off))
       (subst (λ (s : Step). IsKept s.near) (sym same) kept) reach pairs more)
 
-  pub follows_silent : k.notes.up ≡ false → GoesTo h.links.near.begun → k.packet ≡ None → IsKept whole_step.near → Goes since cfg end h.links gave_none (after_step (settings_from end cfg) w back whole_step)
-  follows_silent not_up g none kept = by k.notes.down refl
+  pub follows_silent : k.notes.up ≡ false → k.packet ≡ None → IsKept whole_step.near → Goes since cfg end h.links gave_none (after_step (settings_from end cfg) w (octets_of left) whole_step)
+  follows_silent not_up none kept = by k.notes.down refl
     where
-      by : (o : Option Reason) → k.notes.down ≡ o → Goes since cfg end h.links gave_none (after_step (settings_from end cfg) w back whole_step)
-      by None is = quiet_step g none kept (ap₂ (λ (d : Option Reason) (u : Bool). record { down = d; up = u }) is not_up)
-      by (Some reason) is = down_step g kept reason (ap₂ (λ (d : Option Reason) (u : Bool). record { down = d; up = u }) is not_up)
+      by : (o : Option Reason) → k.notes.down ≡ o → Goes since cfg end h.links gave_none (after_step (settings_from end cfg) w (octets_of left) whole_step)
+      by None is = quiet_step none kept (ap₂ (λ (d : Option Reason) (u : Bool). record { down = d; up = u }) is not_up)
+      by (Some reason) is = down_step none kept reason (ap₂ (λ (d : Option Reason) (u : Bool). record { down = d; up = u }) is not_up)
 
-  pub follows_up : ((octets : List ℕ) → MayAsk since end (line.Put octets)) → k.notes.up ≡ true → GoesTo (suc h.links.near.begun) → IsKept (follows (settings_from end cfg) w.near.layer k).near
-      → Goes since cfg end h.links gave_none (after_step (settings_from end cfg) w back (follows (settings_from end cfg) w.near.layer k))
-  follows_up asks up g kept =
-      let c = link_of cfg end in
-      let step : Step = follows (settings_from end cfg) w.near.layer k in
-      let u = laws.stations.up (settings_from end cfg) w.near.layer k up (tells.fresh_up up) in
+  pub follows_up : ((octets : List ℕ) → MayAsk since end (line.Put octets)) → k.notes.up ≡ true → k.packet ≡ None → IsKept (follows (settings_from end cfg) w.near.layer k).near
+      → Goes since cfg end h.links gave_none (after_step (settings_from end cfg) w (octets_of left) (follows (settings_from end cfg) w.near.layer k))
+  follows_up asks up none kept =
+      let c = settings_from end cfg in
+      let step : Step = follows c w.near.layer k in
+      let u = laws.stations.up c w.near.layer k up (tells.fresh_up up) in
       let packets : List PlainPacket = restart (restart_cause end) 0 ∷ [] in
       let handed = spelled packets in
-      let readable = spelled_back cfg packets (restart_readable laws cfg fine end w h) in
-      let p = puts_spelled (settings_from end cfg) k.side packets step u.link in
-      let r = puts_go cfg end h.links v (suc h.links.near.begun) handed packets k.side [] [] back v.met asks reach g p.accepted readable in
-      let still : is_up step.near.link.phase ≡ true = ap (λ (s : LinkStation). is_up s.phase) p.link ∙ puts_up laws.stations.put_tells c handed k.side (ap (λ (s : LinkStation). is_up s.phase) (tells.fresh_up up)) in
+      let p = puts_spelled c k.side packets step u.link (restart_readable laws cfg fine end w h) in
+      let r = puts_go c h.links v (suc h.links.near.begun) packets handed k.side step [] left met (goes_at true up none) p in
+      let still : is_up step.near.link.phase ≡ true = puts_up laws.stations.put_tells c k.side packets handed step p (ap (λ (s : LinkStation). is_up s.phase) (tells.fresh_up up)) in
       let begins : IsSilent standing (record { begun = suc h.links.near.begun; stands = true }) step.entries =
       subst (λ (es : List StationEntry). IsSilent standing (record { begun = suc h.links.near.begun; stands = true }) es) (sym (u.entries ∙ ap (λ (b : Bool). entries_noted (record { down = k.notes.down; up = b })) up)) (up_begins standing k.notes.down) in
       let known = known_sessions OnlyBegunHaveLists laws.begun cfg fine end h.links h.reach in
-      begins_session cfg end w h step back r.links v.met handed (back_read cfg handed packets readable) (back_octets cfg handed packets readable) (spelled_bring laws.stations cfg packets (restart_readable laws cfg fine end w h))
-      (record {
-        station = r.goes.station ∙ sym p.link;
-        begun = r.goes.begun;
-        down = r.goes.down;
-        up = r.goes.up;
-        far = r.goes.far;
-        out = r.goes.out ∙ ap (λ (fs : List PlainFrame). octets_of h.links.out ++ map (spelling_of end) fs) (sym p.out);
-        back = r.goes.back;
-        sent = r.goes.sent ∙ ap (λ (fs : List PlainFrame). h.links.sent ++ fs) (sym p.out);
-        met = r.goes.met;
-      })
-      begins known.near still u.layer kept r.reach pairs more
+      begins_session cfg end w h step left (all_act (link_of cfg end) (puts_of handed) v) met handed (back_read cfg handed packets p.readable) (back_octets cfg handed packets p.readable)
+      (spelled_bring laws.stations cfg packets (restart_readable laws cfg fine end w h)) r begins known.near still u.layer kept (puts_reach cfg end handed v asks reach) pairs more

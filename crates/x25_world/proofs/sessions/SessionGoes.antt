@@ -8,7 +8,8 @@ use Rattle.x25_frame.specs.Spelling.{spelling_of}
 use Rattle.x25_packet.specs.Packet.{PlainPacket, restart}
 use Rattle.x25_link.specs.Station.{is_up}
 use Rattle.x25_link.specs.Hearing.{other}
-use Rattle.x25_line.specs.laws.Sessions.{SessionEnd, Meeting, Sessions, extended}
+use Rattle.x25_line.specs.laws.Sessions as links
+use Rattle.x25_line.specs.laws.Sessions.{SessionEnd, Meeting, Sessions, sent_in, extended}
 use Rattle.x25_line.specs.laws.SessionClaims.{octets_of}
 use Rattle.x25_handshakes.specs.laws.Names.{Name}
 use Rattle.x25_layer.specs.Layer.{Layer, LayerNotice, goes_up, restart_cause}
@@ -27,7 +28,7 @@ use Rattle.x25_station.specs.laws.KeepLaw.{IsKept}
 use Rattle.x25_world.specs.World.{World, tapped, entered, after_step}
 use Rattle.x25_world.specs.laws.Claims.{entries_at, link_of}
 use Rattle.x25_world.specs.laws.Sessions.{Progress, none_begun, after_entries, is_in, session_from, first_of, met_by, meets}
-use Rattle.x25_world.proofs.Growing.{all_read, as_read, none_read, nothing_read, grown, AllAreOctets, all_octets_append, AreOnTap, entries_more, entries_other, layer_append, notices_append, on_tap}
+use Rattle.x25_world.proofs.Growing.{all_read, as_read, none_read, nothing_read, grown, AllAreOctets, all_octets_append, AreOnTap, entries_more, entries_other, on_tap}
 use Rattle.x25_world.proofs.Known.{true_false}
 use Rattle.x25_world.proofs.sessions.SessionTrace.{layer_of, Done, moved, own_in, own, own_more, own_same, own_other, own_goes, same_number, other_number, TakeNothing, nothing_append, BringOctets, octets_append}
 use Rattle.x25_world.specs.laws.BesideClaims.{Came, came_in, Gave, IsGiven, AreSomeOf}
@@ -37,7 +38,9 @@ use Rattle.x25_world.proofs.sessions.SessionReaches.{Beginning, SessionsReach}
 use Rattle.x25_world.proofs.sessions.SessionBeside.{brought, AreTold, told_more, MoreIs, none_more}
 use Rattle.x25_world.proofs.sessions.SessionJoined.{HaveAll, IsSession, IsLayer, IsEnd, HasMet, Meets, Hears, PairsAreInOrder, SessionsJoined, Goes, gave_none}
 use Rattle.x25_world.proofs.sessions.SessionEntries.{after_append, session_append, meets_more, meets_other, none_met, AreMute, TellNothing, mute_tell, mute_in, ArePlain, plain_progress, plain_here, plain_elsewhere, restart_met, elsewhere_met}
-use Rattle.x25_world.proofs.sessions.SessionLinks.{SessionGoes, extended_none}
+use Rattle.x25_peer.proofs.ReadLemmas.{layer_append, notices_append}
+use Rattle.x25_peer.proofs.sessions.LinkSteps.{SessionGoes, extended_none}
+use Rattle.x25_world.proofs.sessions.SessionLinks.{octets_put}
 
 -- ---- lists
 
@@ -158,7 +161,7 @@ pub record IsNews (n m : ℕ) (met : List Meeting) (notices : List LayerNotice) 
   pub restarts : BeginsRestarted notices
   pub begun : 1 ≤ m
 
-module _ {since : Beginning} (cfg : Cfg) (end : Role) (w : World) (h : SessionsJoined since cfg end w) (step : Step) (back : List (List ℕ)) (v : Sessions) (met : List Meeting) where
+module _ {since : Beginning} (cfg : Cfg) (end : Role) (w : World) (h : SessionsJoined since cfg end w) (step : Step) (left : List links.Entry) (v : Sessions) (met : List Meeting) where
   abbrev session : ℕ
   session = h.links.near.begun
 
@@ -211,12 +214,12 @@ module _ {since : Beginning} (cfg : Cfg) (end : Role) (w : World) (h : SessionsJ
       ∙ ap (λ (p : Progress). first_of (meets end n w.transcript) (met_by n p (after_entries none_begun told_there) step.entries)) h.near.progress
 
   -- the sessions of both ends, where the near end's part is known
-  joined_of : (moves : List OwnMove) (at : ℕ) → SessionsReach since cfg end v → v.far ≡ h.links.far → octets_of v.out ≡ octets_of h.links.out ++ map (spelling_of end) step.out → octets_of v.back ≡ back
+  joined_of : (moves : List OwnMove) (at : ℕ) → SessionsReach since cfg end v → v.far ≡ h.links.far → v.out ≡ h.links.out ++ sent_in at end step.out → v.back ≡ left
       → v.sent ≡ h.links.sent ++ step.out → v.met ≡ met → IsEnd cfg end step.near v.near (h.trace ++ moved end at moves) (told_before ++ step.entries) → BringOctets cfg.wide (moved end at moves)
       → PairsAreInOrder cfg end (h.trace ++ moved end at moves) met → ((n m : ℕ) → HasMet n m h.links.met → HasMet n m met)
       → ((n : ℕ) → Hears (λ (n m : ℕ). HasMet n m met) n (v.near.up n) (meets end n (w.transcript ++ entered end step.entries)))
-      → SessionsJoined since cfg end (after_step (settings_from end cfg) w back step)
-  joined_of moves at reach far out left sent same_met near octets pairs more hears = record {
+      → SessionsJoined since cfg end (after_step (settings_from end cfg) w (octets_of left) step)
+  joined_of moves at reach far out same_left sent same_met near octets pairs more hears = record {
     links = v;
     trace = h.trace ++ moved end at moves;
     reach = reach;
@@ -224,8 +227,8 @@ module _ {since : Beginning} (cfg : Cfg) (end : Role) (w : World) (h : SessionsJ
     far = subst (λ (es : List StationEntry). IsEnd cfg (other end) w.far v.far (h.trace ++ moved end at moves) es) (sym (entries_other end w.transcript step.entries))
         (subst (λ (k : SessionEnd). IsEnd cfg (other end) w.far k (h.trace ++ moved end at moves) told_there) (sym far)
         (end_stays cfg (other end) w.far h.links.far h.trace (h.trace ++ moved end at moves) told_there (λ n. own_other end n at h.trace moves) h.far));
-    out = out ∙ ap (λ (os : List (List ℕ)). os ++ map (spelling_of end) step.out) h.out;
-    back = left;
+    out = ap octets_of out ∙ octets_put h.links.out at end step.out ∙ ap (λ (os : List (List ℕ)). os ++ map (spelling_of end) step.out) h.out;
+    back = ap octets_of same_left;
     tap = subst (λ (fs : List PlainFrame). AreOnTap (w.tap ++ tapped end (map (spelling_of end) step.out)) fs) (sym sent) (on_tap end w.tap h.links.sent step.out h.tap);
     octets = octets_append cfg.wide h.trace (moved end at moves) h.octets octets;
     pairs = subst (PairsAreInOrder cfg end (h.trace ++ moved end at moves)) (sym same_met) pairs;
@@ -240,10 +243,28 @@ module _ {since : Beginning} (cfg : Cfg) (end : Role) (w : World) (h : SessionsJ
       with_none None = refl
       with_none (Some m) = refl
 
+  -- where these octets were handed down in this session
+  module _ (b : ℕ) (handed : List (List ℕ)) (down : (n : ℕ) → v.near.down n ≡ extended h.links.near.down b handed n) where
+    down_here : v.near.down b ≡ h.links.near.down b ++ handed
+    down_here = down b ∙ here_extended h.links.near.down b handed
+
+    down_apart : (n : ℕ) → (n ≡ b → ⊥) → v.near.down n ≡ h.links.near.down n
+    down_apart n differs = down n ∙ elsewhere_extended h.links.near.down n b handed differs
+
+    octets_then : AllAreOctets handed → (n : ℕ) → AllAreOctets (v.near.down n)
+    octets_then in_octets n = same_or_not n b
+        (λ (is : n ≡ b). subst (λ (k : ℕ). AllAreOctets (v.near.down k)) (sym is) (subst AllAreOctets (sym down_here) (all_octets_append (h.links.near.down b) handed (h.near.octets b) in_octets)))
+        (λ (differs : n ≡ b → ⊥). subst AllAreOctets (sym (down_apart n differs)) (h.near.octets n))
+
+    more_then : (gave : ℕ → List Gave) → AreSomeOf IsGiven (brought cfg handed) (gave b) → (n : ℕ) → MoreIs cfg (h.links.near.down n) (v.near.down n) (gave n)
+    more_then gave gives n = same_or_not n b
+        (λ (is : n ≡ b). subst (λ (k : ℕ). MoreIs cfg (h.links.near.down k) (v.near.down k) (gave k)) (sym is) (record { more = handed; is = down_here; given = gives }))
+        (λ (differs : n ≡ b → ⊥). none_more cfg (h.links.near.down n) (v.near.down n) (gave n) (down_apart n differs))
+
   -- ---- in the session that stands
 
   module _ (moves : List OwnMove) (packets lifted : List PlainPacket) (handed came : List (List ℕ)) (puts : all_read cfg handed ≡ as_read packets) (took : all_read cfg came ≡ as_read lifted) (in_octets : AllAreOctets handed)
-      (g : SessionGoes (link_of cfg end) h.links v session step.near.link step.out handed came back met)
+      (g : SessionGoes (link_of cfg end) h.links v session step.near.link step.out handed came left met)
       (o : OwnGoes (own cfg end session h.trace) (own_run (layer_of cfg end) moves (own cfg end session h.trace)) step.near.layer packets lifted step.entries) (up : is_up w.near.link.phase ≡ true)
       (still : is_up step.near.link.phase ≡ true) (plain : ArePlain step.entries) (kept : IsKept step.near)
       (tells : AreTold (came_in step.entries) (brought cfg came)) (gave : ℕ → List Gave) (gives : AreSomeOf IsGiven (brought cfg handed) (gave session))
@@ -264,7 +285,7 @@ module _ {since : Beginning} (cfg : Cfg) (end : Role) (w : World) (h : SessionsJ
     up_elsewhere n differs = g.up n ∙ elsewhere_extended h.links.near.up n session came differs
 
     down_elsewhere : (n : ℕ) → (n ≡ session → ⊥) → v.near.down n ≡ h.links.near.down n
-    down_elsewhere n differs = g.down n ∙ elsewhere_extended h.links.near.down n session handed differs
+    down_elsewhere n differs = down_apart session handed g.down n differs
 
     abbrev IsSessionOn : ℕ → Type 0
     IsSessionOn n = IsSession cfg (own cfg end n trace_on) (v.near.down n) (v.near.up n) (session_from n none_begun (told_before ++ step.entries))
@@ -276,7 +297,7 @@ module _ {since : Beginning} (cfg : Cfg) (end : Role) (w : World) (h : SessionsJ
         (subst (λ (e : layer.End). OwnGoes (own cfg end session h.trace) e step.near.layer packets lifted step.entries) (sym (own_goes cfg end session h.trace moves)) o)
         (h.near.sessions session (h.near.first up) (omega arith)) puts took tells
         (session_more session ∙ ap (λ (l : List StationEntry). session_from session none_begun told_before ++ l) (plain_here session standing step.entries plain stands_here))
-        (g.down session ∙ here_extended h.links.near.down session handed) up_here
+        (down_here session handed g.down) up_here
 
     session_elsewhere : (n : ℕ) → 1 ≤ n → n ≤ session → (n ≡ session → ⊥) → IsSessionOn n
     session_elsewhere n low high differs =
@@ -294,13 +315,6 @@ module _ {since : Beginning} (cfg : Cfg) (end : Role) (w : World) (h : SessionsJ
         (λ (differs : n ≡ session → ⊥). counted_same cfg end n h.trace trace_on (session_from n none_begun (told_before ++ step.entries)) (own_same end n session h.trace moves differs)
         (counted_rests cfg end n h.trace (session_from n none_begun told_before) [] (session_from n none_begun (told_before ++ step.entries)) (h.near.confirmed n)
         (session_more n ∙ ap (λ (l : List StationEntry). session_from n none_begun told_before ++ l) (plain_elsewhere n standing step.entries plain (not_in n standing differs))) (λ k name. refl)))
-
-    -- all that was handed down is octets
-    down_octets : (n : ℕ) → AllAreOctets (v.near.down n)
-    down_octets n = same_or_not n session
-        (λ (is : n ≡ session). subst (λ (k : ℕ). AllAreOctets (v.near.down k)) (sym is)
-        (subst AllAreOctets (sym (g.down session ∙ here_extended h.links.near.down session handed)) (all_octets_append (h.links.near.down session) handed (h.near.octets session) in_octets)))
-        (λ (differs : n ≡ session → ⊥). subst AllAreOctets (sym (down_elsewhere n differs)) (h.near.octets n))
 
     nothing_taken : (lifted ≡ [] → TakeNothing moves) → (n : ℕ) → v.near.up n ≡ [] → TakeNothing (own_in end n trace_on)
     nothing_taken alone n none = same_or_not n session here elsewhere
@@ -330,10 +344,10 @@ module _ {since : Beginning} (cfg : Cfg) (end : Role) (w : World) (h : SessionsJ
       );
       sessions = λ n low high. (let most = subst (λ (m : ℕ). n ≤ m) g.begun high in
           same_or_not n session (λ (is : n ≡ session). subst IsSessionOn (sym is) session_here) (λ (differs : n ≡ session → ⊥). session_elsewhere n low most differs));
-      octets = down_octets;
+      octets = octets_then session handed g.down in_octets;
       confirmed = counted_on;
       later = λ n more. (let above = subst (λ (m : ℕ). m < n) g.begun more in
-          let differs = over n above in
+          let differs : n ≡ session → ⊥ = λ (is : n ≡ session). omega (arith, above, is) in
           let nothing = h.near.later n above in
           record {
             moves = own_same end n session h.trace moves differs ∙ nothing.moves;
@@ -344,18 +358,14 @@ module _ {since : Beginning} (cfg : Cfg) (end : Role) (w : World) (h : SessionsJ
       alone = nothing_taken alone;
       no_fault = subst AreNoFaults (sym (notices_append told_before step.entries)) (no_faults_append (layer_notices told_before) (layer_notices step.entries) h.near.no_fault no_fault);
       first_has_all = λ low. (let most = subst (λ (n : ℕ). n ≤ 1) g.begun low in
-          let all = plain_here 1 standing step.entries plain (subst (λ (n : ℕ). is_in n standing ≡ true) (first_one session (h.near.first up) most) stands_here) in
+          let low = h.near.first up in
+          let one : session ≡ 1 = omega (arith, low, most) in
+          let all = plain_here 1 standing step.entries plain (subst (λ (n : ℕ). is_in n standing ≡ true) one stands_here) in
           all_more (h.near.first_has_all most) (record { entries = ap layer_entries all; told = ap layer_notices all }));
     }
       where
-        first_one : (n : ℕ) → 1 ≤ n → n ≤ 1 → n ≡ 1
-        first_one n low high = omega (arith, low, high)
-
         none : 0 ≡ session → ⊥
         none is = (let low = h.near.first up in omega (arith, low, is))
-
-        over : (n : ℕ) → session < n → n ≡ session → ⊥
-        over n more is = omega (arith, more, is)
 
     abbrev HasMetOn : ℕ → ℕ → Type 0
     HasMetOn n m = HasMet n m met
@@ -366,14 +376,11 @@ module _ {since : Beginning} (cfg : Cfg) (end : Role) (w : World) (h : SessionsJ
     pub goes_on : SessionsReach since cfg end v → (lifted ≡ [] → TakeNothing moves) → AreNoFaults (layer_notices step.entries) → BringOctets cfg.wide (moved end session moves)
         → PairsAreInOrder cfg end trace_on met → ((n m : ℕ) → HasMet n m h.links.met → HasMet n m met)
         → ((own cfg end session h.trace).taken ≡ [] → ((lifted ≡ []) × (layer_notices step.entries ≡ [])) ⊎ IsNews session h.links.far.begun met (layer_notices step.entries))
-        → Goes since cfg end h.links gave (after_step (settings_from end cfg) w back step)
+        → Goes since cfg end h.links gave (after_step (settings_from end cfg) w (octets_of left) step)
     unfolding joined_of
     goes_on reach alone no_fault octets pairs more news = record {
       joined = joined_of moves session reach g.far g.out g.back g.sent g.met (near_goes_on alone no_fault) octets pairs more hears;
-      down = λ n. same_or_not n session
-          (λ (is : n ≡ session). subst (λ (k : ℕ). MoreIs cfg (h.links.near.down k) (v.near.down k) (gave k)) (sym is)
-          (record { more = handed; is = g.down session ∙ here_extended h.links.near.down session handed; given = gives }))
-          (λ (differs : n ≡ session → ⊥). none_more cfg (h.links.near.down n) (v.near.down n) (gave n) (down_elsewhere n differs));
+      down = more_then session handed g.down gave gives;
       far = g.far;
     }
       where
@@ -410,93 +417,84 @@ module _ {since : Beginning} (cfg : Cfg) (end : Role) (w : World) (h : SessionsJ
 
   -- ---- where nothing is asked of the layer
 
-  -- entries that aren't the layer's: the session that stands has gone on so
-  module _ (g : SessionGoes (link_of cfg end) h.links v session step.near.link step.out [] [] back met) (silent : IsSilent standing (record { begun = session; stands = is_up step.near.link.phase }) step.entries)
-      (layer_stays : is_up step.near.link.phase ≡ true → (is_up w.near.link.phase ≡ true) × (step.near.layer ≡ w.near.layer)) (kept : IsKept step.near) where
-    down_same : (n : ℕ) → v.near.down n ≡ h.links.near.down n
-    down_same n = g.down n ∙ extended_none h.links.near.down session n
-
+  -- Entries that aren't the layer's: this session stands then, or none, and these octets were handed down in it.
+  module _ (b : ℕ) (handed : List (List ℕ)) (g : SessionGoes (link_of cfg end) h.links v b step.near.link step.out handed [] left met) (silent : IsSilent standing (record { begun = b; stands = is_up step.near.link.phase }) step.entries) where
     up_same : (n : ℕ) → v.near.up n ≡ h.links.near.up n
-    up_same n = g.up n ∙ extended_none h.links.near.up session n
+    up_same n = g.up n ∙ extended_none h.links.near.up b n
 
-    near_rests : IsEnd cfg end step.near v.near h.trace (told_before ++ step.entries)
-    near_rests = record {
-      link = g.station;
-      kept = kept;
-      progress = progress_more ∙ silent.progress ∙ ap (λ (n : ℕ). record { begun = n; stands = is_up step.near.link.phase }) (sym g.begun);
-      first = λ still. subst (λ (n : ℕ). 1 ≤ n) (sym g.begun) (h.near.first (layer_stays still).0);
-      before = (down_same 0 ∙ h.near.before.0, up_same 0 ∙ h.near.before.1);
-      sessions = λ n low high.
-          session_rests cfg (own cfg end n h.trace) (own cfg end n h.trace) (session_from n none_begun told_before) (session_from n none_begun (told_before ++ step.entries)) (session_from n standing step.entries)
-          (h.links.near.down n) (h.links.near.up n) (v.near.down n) (v.near.up n) refl (h.near.sessions n low (subst (λ (m : ℕ). n ≤ m) g.begun high)) (session_more n) (silent_in silent.mute n)
-          (down_same n) (up_same n);
-      octets = λ n. subst AllAreOctets (sym (down_same n)) (h.near.octets n);
-      confirmed = silent_counts silent.mute;
-      later = λ n more. (let above = subst (λ (m : ℕ). m < n) g.begun more in
-          let nothing = h.near.later n above in
-          record { moves = nothing.moves; entries = session_more n ∙ ap₂ (λ (a b : List StationEntry). a ++ b) nothing.entries (silent.later n (over n above)) });
-      now = λ still. (let before = layer_stays still in
-          let old = h.near.now before.0 in
-          subst (λ (n : ℕ). IsLayer (own cfg end n h.trace) step.near) (sym g.begun) (record { layer = old.layer ∙ sym before.1; out = old.out }));
-      alone = λ n none. h.near.alone n (sym (up_same n) ∙ none);
-      no_fault = silent_faults silent.mute;
-      first_has_all = λ low. all_more (h.near.first_has_all (subst (λ (n : ℕ). n ≤ 1) g.begun low)) (silent_all silent.mute);
-    }
-      where
-        over : (n : ℕ) → session < n → n ≡ session → ⊥
-        over n more is = omega (arith, more, is)
+    abbrev IsSessionThen : ℕ → Type 0
+    IsSessionThen n = IsSession cfg (own cfg end n h.trace) (v.near.down n) (v.near.up n) (session_from n none_begun (told_before ++ step.entries))
 
-    pub rests : SessionsReach since cfg end v → PairsAreInOrder cfg end h.trace met → ((n m : ℕ) → HasMet n m h.links.met → HasMet n m met) → Goes since cfg end h.links gave_none (after_step (settings_from end cfg) w back step)
-    unfolding joined_of
-    rests reach pairs more = record {
-      joined = joined_of [] session reach g.far g.out g.back g.sent g.met (subst (λ (t : List Done). IsEnd cfg end step.near v.near t (told_before ++ step.entries)) (sym (append-nil h.trace)) near_rests) tt
-          (subst (λ (t : List Done). PairsAreInOrder cfg end t met) (sym (append-nil h.trace)) pairs) more
-          (λ n. hears_more (λ (n m : ℕ). HasMet n m h.links.met) (λ (n m : ℕ). HasMet n m met) n (h.links.near.up n) (v.near.up n) (meets end n w.transcript) (found n)
-          (meets end n (w.transcript ++ entered end step.entries)) (λ m has. more n m has) (meets_now n)
-          (λ none. inl (up_same n ∙ none, none_met n standing (after_entries none_begun told_there) step.entries (mute_tell step.entries silent.mute).told)) (h.near_hears n));
-      down = λ n. none_more cfg (h.links.near.down n) (v.near.down n) [] (down_same n);
-      far = g.far;
-    }
+    session_stays : (n : ℕ) → 1 ≤ n → n ≤ session → v.near.down n ≡ h.links.near.down n → IsSessionThen n
+    session_stays n low high same_down =
+        session_rests cfg (own cfg end n h.trace) (own cfg end n h.trace) (session_from n none_begun told_before) (session_from n none_begun (told_before ++ step.entries)) (session_from n standing step.entries)
+        (h.links.near.down n) (h.links.near.up n) (v.near.down n) (v.near.up n) refl (h.near.sessions n low high) (session_more n) (silent_in silent.mute n) same_down (up_same n)
 
-  -- ---- as a session begins
+    module _ (in_octets : AllAreOctets handed) (latest : session ≤ b) (one_more : b ≤ suc session) (before : v.near.down 0 ≡ h.links.near.down 0) (here : 1 ≤ b → IsSessionThen b)
+        (stands : is_up step.near.link.phase ≡ true → (1 ≤ b) × IsLayer (own cfg end b h.trace) step.near) (kept : IsKept step.near) where
+      near_quietly : IsEnd cfg end step.near v.near h.trace (told_before ++ step.entries)
+      near_quietly = record {
+        link = g.station;
+        kept = kept;
+        progress = progress_more ∙ silent.progress ∙ ap (λ (n : ℕ). record { begun = n; stands = is_up step.near.link.phase }) (sym g.begun);
+        first = λ still. subst (λ (n : ℕ). 1 ≤ n) (sym g.begun) (stands still).0;
+        before = (before ∙ h.near.before.0, up_same 0 ∙ h.near.before.1);
+        sessions = λ n low high. (let most = subst (λ (m : ℕ). n ≤ m) g.begun high in
+            same_or_not n b (λ (is : n ≡ b). subst IsSessionThen (sym is) (here (subst (λ (m : ℕ). 1 ≤ m) is low)))
+            (λ (differs : n ≡ b → ⊥). session_stays n low (omega (arith, most, differs, one_more)) (down_apart b handed g.down n differs)));
+        octets = octets_then b handed g.down in_octets;
+        confirmed = silent_counts silent.mute;
+        later = λ n more. (let above = subst (λ (m : ℕ). m < n) g.begun more in
+            let nothing = h.near.later n (omega (arith, above, latest)) in
+            record { moves = nothing.moves; entries = session_more n ∙ ap₂ (λ (xs ys : List StationEntry). xs ++ ys) nothing.entries (silent.later n (λ (is : n ≡ b). omega (arith, above, is))) });
+        now = λ still. subst (λ (n : ℕ). IsLayer (own cfg end n h.trace) step.near) (sym g.begun) (stands still).1;
+        alone = λ n none. h.near.alone n (sym (up_same n) ∙ none);
+        no_fault = silent_faults silent.mute;
+        first_has_all = λ low. (let most = subst (λ (n : ℕ). n ≤ 1) g.begun low in all_more (h.near.first_has_all (omega (arith, most, latest))) (silent_all silent.mute));
+      }
 
+      quietly : SessionsReach since cfg end v → PairsAreInOrder cfg end h.trace met → ((n m : ℕ) → HasMet n m h.links.met → HasMet n m met) → brought cfg handed ≡ []
+          → Goes since cfg end h.links gave_none (after_step (settings_from end cfg) w (octets_of left) step)
+      unfolding joined_of
+      quietly reach pairs more bring_none = record {
+        joined = joined_of [] b reach g.far g.out g.back g.sent g.met (subst (λ (t : List Done). IsEnd cfg end step.near v.near t (told_before ++ step.entries)) (sym (append-nil h.trace)) near_quietly) tt
+            (subst (λ (t : List Done). PairsAreInOrder cfg end t met) (sym (append-nil h.trace)) pairs) more
+            (λ n. hears_more (λ (n m : ℕ). HasMet n m h.links.met) (λ (n m : ℕ). HasMet n m met) n (h.links.near.up n) (v.near.up n) (meets end n w.transcript) (found n)
+            (meets end n (w.transcript ++ entered end step.entries)) (λ m has. more n m has) (meets_now n)
+            (λ none. inl (up_same n ∙ none, none_met n standing (after_entries none_begun told_there) step.entries (mute_tell step.entries silent.mute).told)) (h.near_hears n));
+        down = more_then b handed g.down gave_none (subst (λ (l : List Came). AreSomeOf IsGiven l []) (sym bring_none) tt);
+        far = g.far;
+      }
+
+  -- the session that stands has gone on so
+  pub rests : SessionGoes (link_of cfg end) h.links v session step.near.link step.out [] [] left met → IsSilent standing (record { begun = session; stands = is_up step.near.link.phase }) step.entries
+      → (is_up step.near.link.phase ≡ true → (is_up w.near.link.phase ≡ true) × (step.near.layer ≡ w.near.layer)) → IsKept step.near → SessionsReach since cfg end v → PairsAreInOrder cfg end h.trace met
+      → ((n m : ℕ) → HasMet n m h.links.met → HasMet n m met) → Goes since cfg end h.links gave_none (after_step (settings_from end cfg) w (octets_of left) step)
+  rests g silent layer_stays kept reach pairs more =
+      let same : (n : ℕ) → v.near.down n ≡ h.links.near.down n = λ n. g.down n ∙ extended_none h.links.near.down session n in
+      quietly session [] g silent tt (omega arith) (omega arith) (same 0) (λ low. session_stays session [] g silent session low (omega arith) (same session))
+      (λ still. (let before = layer_stays still in let old = h.near.now before.0 in (h.near.first before.0, record { layer = old.layer ∙ sym before.1; out = old.out }))) kept reach pairs more refl
+
+  -- or the next begins
   module _ (handed : List (List ℕ)) (puts : all_read cfg handed ≡ as_read (restart (restart_cause end) 0 ∷ [])) (in_octets : AllAreOctets handed) (bring_none : brought cfg handed ≡ [])
-      (g : SessionGoes (link_of cfg end) h.links v (suc session) step.near.link step.out handed [] back met)
+      (g : SessionGoes (link_of cfg end) h.links v (suc session) step.near.link step.out handed [] left met)
       (begins : IsSilent standing (record { begun = suc session; stands = true }) step.entries) (fresh : (n : ℕ) → session < n → (h.links.near.down n ≡ []) × (h.links.near.up n ≡ [])) (still : is_up step.near.link.phase ≡ true)
       (layer_begins : step.near.layer ≡ (goes_up (layer_of cfg end)).next) (kept : IsKept step.near) where
     abbrev the_next : ℕ
     the_next = suc session
 
-    begun_up_same : (n : ℕ) → v.near.up n ≡ h.links.near.up n
-    begun_up_same n = g.up n ∙ extended_none h.links.near.up the_next n
-
-    begun_down_same : (n : ℕ) → (n ≡ the_next → ⊥) → v.near.down n ≡ h.links.near.down n
-    begun_down_same n differs = g.down n ∙ elsewhere_extended h.links.near.down n the_next handed differs
-
-    begun_down_here : v.near.down the_next ≡ handed
-    begun_down_here = g.down the_next ∙ here_extended h.links.near.down the_next handed ∙ ap (λ (l : List (List ℕ)). l ++ handed) (fresh the_next (omega arith)).0
-
-    begun_octets : (n : ℕ) → AllAreOctets (v.near.down n)
-    begun_octets n = same_or_not n the_next (λ (is : n ≡ the_next). subst (λ (k : ℕ). AllAreOctets (v.near.down k)) (sym is) (subst AllAreOctets (sym begun_down_here) in_octets))
-        (λ (differs : n ≡ the_next → ⊥). subst AllAreOctets (sym (begun_down_same n differs)) (h.near.octets n))
-
-    none_moved : own_in end the_next h.trace ≡ []
-    none_moved = (h.near.later the_next (omega arith)).moves
-
     own_afresh : own cfg end the_next h.trace ≡ started (goes_up (layer_of cfg end))
-    own_afresh = ap (λ (l : List OwnMove). own_run (layer_of cfg end) l (started (goes_up (layer_of cfg end)))) none_moved
+    own_afresh = ap (λ (l : List OwnMove). own_run (layer_of cfg end) l (started (goes_up (layer_of cfg end)))) (h.near.later the_next (omega arith)).moves
 
-    abbrev IsSessionBegun : ℕ → Type 0
-    IsSessionBegun n = IsSession cfg (own cfg end n h.trace) (v.near.down n) (v.near.up n) (session_from n none_begun (told_before ++ step.entries))
-
-    next_session : IsSessionBegun the_next
+    next_session : IsSession cfg (own cfg end the_next h.trace) (v.near.down the_next) (v.near.up the_next) (session_from the_next none_begun (told_before ++ step.entries))
     next_session =
         let nothing = fresh the_next (omega arith) in
+        let up : v.near.up the_next ≡ [] = g.up the_next ∙ extended_none h.links.near.up the_next the_next ∙ nothing.1 in
         let all : session_from the_next none_begun (told_before ++ step.entries) ≡ session_from the_next standing step.entries =
         session_more the_next ∙ ap (λ (l : List StationEntry). l ++ session_from the_next standing step.entries) (h.near.later the_next (omega arith)).entries in
         subst (λ (e : layer.End). IsSession cfg e (v.near.down the_next) (v.near.up the_next) (session_from the_next none_begun (told_before ++ step.entries))) (sym own_afresh) (record {
-          down = ap (all_read cfg) begun_down_here ∙ puts ∙ by_role end;
-          up = ap (all_read cfg) (begun_up_same the_next ∙ nothing.1);
+          down = ap (all_read cfg) (down_here the_next handed g.down ∙ ap (λ (l : List (List ℕ)). l ++ handed) nothing.0) ∙ puts ∙ by_role end;
+          up = ap (all_read cfg) up;
           entries = sym (ap layer_entries all ∙ (silent_in begins.mute the_next).entered);
           told = sym (ap layer_notices all ∙ (silent_in begins.mute the_next).told);
           beside = subst (λ (l : List Came). AreTold l (brought cfg (v.near.up the_next))) (sym (ap came_in all ∙ (silent_in begins.mute the_next).beside)) tt;
@@ -506,53 +504,8 @@ module _ {since : Beginning} (cfg : Cfg) (end : Role) (w : World) (h : SessionsJ
         by_role Dte = refl
         by_role Dce = refl
 
-    near_begins : IsEnd cfg end step.near v.near h.trace (told_before ++ step.entries)
-    near_begins = record {
-      link = g.station;
-      kept = kept;
-      progress = progress_more ∙ begins.progress ∙ ap₂ (λ (n : ℕ) (b : Bool). record { begun = n; stands = b }) (sym g.begun) (sym still);
-      first = λ _. subst (λ (n : ℕ). 1 ≤ n) (sym g.begun) (omega arith);
-      before = (begun_down_same 0 none ∙ h.near.before.0, begun_up_same 0 ∙ h.near.before.1);
-      sessions = λ n low high. same_or_not n the_next (λ (is : n ≡ the_next). subst IsSessionBegun (sym is) next_session)
-          (λ (differs : n ≡ the_next → ⊥). session_before n low (below n (subst (λ (m : ℕ). n ≤ m) g.begun high) differs) differs);
-      octets = begun_octets;
-      confirmed = silent_counts begins.mute;
-      later = λ n more. (let above = subst (λ (m : ℕ). m < n) g.begun more in
-          let nothing = h.near.later n (omega (arith, above)) in
-          record { moves = nothing.moves; entries = session_more n ∙ ap₂ (λ (a b : List StationEntry). a ++ b) nothing.entries (begins.later n (over n above)) });
-      now = λ _. subst (λ (n : ℕ). IsLayer (own cfg end n h.trace) step.near) (sym g.begun)
-          (subst (λ (e : layer.End). IsLayer e step.near) (sym own_afresh) (record { layer = sym layer_begins; out = refl }));
-      alone = λ n none. h.near.alone n (sym (begun_up_same n) ∙ none);
-      no_fault = silent_faults begins.mute;
-      first_has_all = λ low. (let most = subst (λ (n : ℕ). n ≤ 1) g.begun low in
-          all_more (h.near.first_has_all (omega (arith, most))) (silent_all begins.mute));
-    }
-      where
-        none : 0 ≡ the_next → ⊥
-        none is = omega (arith, is)
-
-        over : (n : ℕ) → the_next < n → n ≡ the_next → ⊥
-        over n more is = omega (arith, more, is)
-
-        below : (n : ℕ) → n ≤ the_next → (n ≡ the_next → ⊥) → n ≤ session
-        below n le differs = omega (arith, le, differs)
-
-        session_before : (n : ℕ) → 1 ≤ n → n ≤ session → (n ≡ the_next → ⊥) → IsSessionBegun n
-        session_before n low high differs =
-            session_rests cfg (own cfg end n h.trace) (own cfg end n h.trace) (session_from n none_begun told_before) (session_from n none_begun (told_before ++ step.entries)) (session_from n standing step.entries)
-            (h.links.near.down n) (h.links.near.up n) (v.near.down n) (v.near.up n) refl (h.near.sessions n low high) (session_more n) (silent_in begins.mute n) (begun_down_same n differs) (begun_up_same n)
-
-    pub begins_session : SessionsReach since cfg end v → PairsAreInOrder cfg end h.trace met → ((n m : ℕ) → HasMet n m h.links.met → HasMet n m met) → Goes since cfg end h.links gave_none (after_step (settings_from end cfg) w back step)
-    unfolding joined_of
-    begins_session reach pairs more = record {
-      joined = joined_of [] session reach g.far g.out g.back g.sent g.met (subst (λ (t : List Done). IsEnd cfg end step.near v.near t (told_before ++ step.entries)) (sym (append-nil h.trace)) near_begins) tt
-          (subst (λ (t : List Done). PairsAreInOrder cfg end t met) (sym (append-nil h.trace)) pairs) more
-          (λ n. hears_more (λ (n m : ℕ). HasMet n m h.links.met) (λ (n m : ℕ). HasMet n m met) n (h.links.near.up n) (v.near.up n) (meets end n w.transcript) (found n)
-          (meets end n (w.transcript ++ entered end step.entries)) (λ m has. more n m has) (meets_now n)
-          (λ none. inl (begun_up_same n ∙ none, none_met n standing (after_entries none_begun told_there) step.entries (mute_tell step.entries begins.mute).told)) (h.near_hears n));
-      down = λ n. same_or_not n the_next
-          (λ (is : n ≡ the_next). subst (λ (k : ℕ). MoreIs cfg (h.links.near.down k) (v.near.down k) []) (sym is)
-          (record { more = handed; is = g.down the_next ∙ here_extended h.links.near.down the_next handed; given = subst (λ (l : List Came). AreSomeOf IsGiven l []) (sym bring_none) tt }))
-          (λ (differs : n ≡ the_next → ⊥). none_more cfg (h.links.near.down n) (v.near.down n) [] (begun_down_same n differs));
-      far = g.far;
-    }
+    pub begins_session : SessionsReach since cfg end v → PairsAreInOrder cfg end h.trace met → ((n m : ℕ) → HasMet n m h.links.met → HasMet n m met) → Goes since cfg end h.links gave_none (after_step (settings_from end cfg) w (octets_of left) step)
+    begins_session reach pairs more =
+        quietly the_next handed g (subst (λ (up : Bool). IsSilent standing (record { begun = the_next; stands = up }) step.entries) (sym still) begins) in_octets (omega arith) (omega arith)
+        (down_apart the_next handed g.down 0 (λ (is : 0 ≡ the_next). omega (arith, is))) (λ low. next_session)
+        (λ up. (omega arith, subst (λ (e : layer.End). IsLayer e step.near) (sym own_afresh) (record { layer = sym layer_begins; out = refl }))) kept reach pairs more bring_none

@@ -1,13 +1,14 @@
 -- Moves of a layer by itself: those of two layers, of which it is the end that moves.
-use Rattle.std.proofs.Common.{◌≡◌, ℕ, List, [], ◌∷◌, ◌++◌, Bool, true, false, if◌then◌else◌, refl, ap, ◌∙◌}
+use Rattle.std.proofs.Common.{◌≡◌, ℕ, List, [], ◌∷◌, ◌++◌, Bool, true, false, if◌then◌else◌, refl, sym, ap, ◌∙◌}
 use Rattle.x25_bits.specs.declared.role.Role.{Role}
 use Rattle.x25_packet.specs.Packet.{PlainPacket}
 use Rattle.x25_layer.specs.Layer.{LayerSettings, is_channel}
-use Rattle.x25_layer.specs.Calls.{LayerRequest, LayerOutcome, Accepted, Declined, layer_outcome, layer_pulled}
+use Rattle.x25_layer.specs.Calls.{layer_pulled}
 use Rattle.x25_layer.specs.laws.TwoLayers as layer
-use Rattle.x25_layer.specs.laws.TwoLayers.{requested, pulled_in, moves_in}
+use Rattle.x25_layer.specs.laws.TwoLayers.{pulled_in, moves_in}
 use Rattle.x25_layer.specs.laws.RoundLaw.{moves_all, pulls_of}
-use Rattle.x25_layer.specs.laws.Apart.{OwnMove, Requests, Pulls, Takes, alone, own_moves, own_run}
+use Rattle.x25_layer.specs.laws.Apart.{OwnMove, Pulls, Takes, alone, own_moves, own_run}
+use Rattle.x25_peer.proofs.sessions.SessionLayers.{pulls_asked, asked_leaves}
 use Rattle.x25_world.proofs.sessions.SessionTrace.{moved, TakeNothing, BringOctets}
 
 abbrev pub own_pulls : List ℕ → List OwnMove
@@ -38,46 +39,10 @@ pub near_pulls : (c : LayerSettings) (w : layer.TwoLayers) (channels : List ℕ)
 near_pulls c w [] = refl
 near_pulls c w (h ∷ channels) = near_pulls c (layer.moves c w (layer.Pulls h)) channels ∙ ap (λ (e : layer.End). own_run c (own_pulls channels) e) (pull_near c w h)
 
--- ---- what they leave as it was
-
-pub record IsToldNoMore (e f : layer.End) : Type 0 where
-  pub taken : f.taken ≡ e.taken
-  pub told : f.told ≡ e.told
-
-pull_leaves : (c : LayerSettings) (e : layer.End) (h : ℕ) → IsToldNoMore e (own_moves c e (Pulls h))
-pull_leaves c e h = by e.is_out
-  where
-    if_channel : (b : Bool) → IsToldNoMore e (if b then pulled_in (alone e []) (layer_pulled c e.layer h) else alone e []).near
-    if_channel true = record { taken = refl; told = refl }
-    if_channel false = record { taken = refl; told = refl }
-
-    by : (gone : Bool) → IsToldNoMore e (moves_in c (alone e []) gone (layer.Pulls h)).near
-    by true = record { taken = refl; told = refl }
-    by false = if_channel (is_channel c.channels h)
-
-pub pulls_leave : (c : LayerSettings) (e : layer.End) (channels : List ℕ) → IsToldNoMore e (own_run c (own_pulls channels) e)
-pulls_leave c e [] = record { taken = refl; told = refl }
-pulls_leave c e (h ∷ channels) =
-    let first = pull_leaves c e h in
-    let others = pulls_leave c (own_moves c e (Pulls h)) channels in
-    record { taken = others.taken ∙ first.taken; told = others.told ∙ first.told }
-
-pub request_leaves : (c : LayerSettings) (e : layer.End) (is_full : Bool) (request : LayerRequest) (channels : List ℕ) → IsToldNoMore e (own_run c (Requests is_full request ∷ own_pulls channels) e)
-request_leaves c e is_full request channels =
-    let first = by e.is_out in
-    let others = pulls_leave c (own_moves c e (Requests is_full request)) channels in
-    record { taken = others.taken ∙ first.taken; told = others.told ∙ first.told }
-  where
-    after : (o : LayerOutcome) → IsToldNoMore e (requested c (alone e []) request o).near
-    after (Accepted next packet) = record { taken = refl; told = refl }
-    after (Declined error) = record { taken = refl; told = refl }
-
-    by : (gone : Bool) → IsToldNoMore e (moves_in c (alone e []) gone (layer.Requests is_full request)).near
-    by true = record { taken = refl; told = refl }
-    by false = after (layer_outcome c is_full e.layer request)
-
 -- ---- what is taken
 
 pub take_takes : (c : LayerSettings) (e : layer.End) (packet : PlainPacket) (channels : List ℕ) → e.is_out ≡ false → (own_run c (Takes packet ∷ own_pulls channels) e).taken ≡ e.taken ++ packet ∷ []
 take_takes c e packet channels out =
-    (pulls_leave c (own_moves c e (Takes packet)) channels).taken ∙ ap (λ (gone : Bool). (moves_in c (alone e (packet ∷ [])) gone layer.HandsUp).near.taken) out
+    let x : layer.TwoLayers = alone (own_moves c e (Takes packet)) [] in
+    ap (λ (f : layer.End). f.taken) (sym (near_pulls c x channels)) ∙ (asked_leaves c x (pulls_of channels) (pulls_asked channels)).taken
+    ∙ ap (λ (gone : Bool). (moves_in c (alone e (packet ∷ [])) gone layer.HandsUp).near.taken) out

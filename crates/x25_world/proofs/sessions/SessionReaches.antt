@@ -1,5 +1,5 @@
 -- Two links over set-up and re-set-up, as either end sees them: a run of the same events, with the ends swapped.
-use Rattle.std.proofs.Common.{◌≡◌, Bool, false, List, [], ◌∷◌, ◌++◌, inl, refl, sym, ap, ◌∙◌, subst, map}
+use Rattle.std.proofs.Common.{◌≡◌, ℕ, Bool, false, List, [], ◌∷◌, ◌++◌, inl, refl, sym, ap, ◌∙◌, subst, map}
 use Rattle.x25_bits.specs.declared.role.Role.{Role}
 use Rattle.x25_bits.specs.declared.role.Role.TheVariants.{Dte, Dce}
 use Rattle.x25_link.specs.Station.{Settings as LinkSettings}
@@ -14,6 +14,7 @@ use Rattle.x25_world.specs.World.{Act, Event}
 use Rattle.x25_world.specs.laws.Claims.{link_of}
 use Rattle.x25_world.specs.laws.WindowGoes.{Asks, AsksAll, at_end, all_at}
 use Rattle.x25_world.proofs.Known.{IsConfigured}
+use Rattle.x25_peer.proofs.sessions.LinkSteps.{puts_of, all_act, puts_last}
 use Rattle.x25_world.proofs.OneLink.{OneLink, one_turned, one_acts}
 
 -- ---- the ends swapped
@@ -96,13 +97,13 @@ reach_swapped cfg Dce v h = record {
   grown = λ before e is. (let g = h.grown before e is in record { asked = g.asked; may = g.may; timely = g.timely; run = g.run });
 }
 
-run_more : (c d : LinkSettings) (es : List line.Event) (e : line.Event) (v : Sessions) → links.run c d (es ++ e ∷ []) v ≡ links.happens c d e (links.run c d es v)
-run_more c d [] e v = refl
-run_more c d (x ∷ es) e v = run_more c d es e (links.happens c d x v)
+pub links_append : (c d : LinkSettings) (xs ys : List line.Event) (v : Sessions) → links.run c d (xs ++ ys) v ≡ links.run c d ys (links.run c d xs v)
+links_append c d [] ys v = refl
+links_append c d (x ∷ xs) ys v = links_append c d xs ys (links.happens c d x v)
 
-timely_more : (c d : LinkSettings) (es : List line.Event) (e : line.Event) (v : Sessions) → AreTimely c d es v → IsTimelyAt c d e (links.run c d es v) → AreTimely c d (es ++ e ∷ []) v
-timely_more c d [] e v h g = (g, tt)
-timely_more c d (x ∷ es) e v h g = (h.0, timely_more c d es e (links.happens c d x v) h.1 g)
+pub timely_append : (c d : LinkSettings) (xs ys : List line.Event) (v : Sessions) → AreTimely c d xs v → AreTimely c d ys (links.run c d xs v) → AreTimely c d (xs ++ ys) v
+timely_append c d [] ys v f g = g
+timely_append c d (x ∷ xs) ys v f g = (f.0, timely_append c d xs ys (links.happens c d x v) f.1 g)
 
 -- Since a set-up after which none may ask for another, the act is no Connect that is accepted.
 abbrev pub MayAct : Beginning → line.Act → Sessions → Type 0
@@ -147,11 +148,13 @@ grow cfg end act v before e timely asks g =
       asked = g.asked ++ act ∷ [];
       may = asks_more e.act g.asked act g.may asks.1;
       timely = subst (λ (es : List line.Event). AreTimely c d es before) (sym (all_more e.at g.asked act))
-          (timely_more c d (all_at e.at g.asked) (at_end e.at act) before g.timely
-          (subst (λ (x : Sessions). IsTimelyAt c d (at_end e.at act) x) (sym g.run)
-          (subst (λ (at : Role). IsTimelyAt c d (at_end at act) (seen_from end v)) (sym asks.0) (seen_timely cfg end act v timely))));
+          (timely_append c d (all_at e.at g.asked) (at_end e.at act ∷ []) before g.timely (
+            subst (λ (x : Sessions). IsTimelyAt c d (at_end e.at act) x) (sym g.run)
+                (subst (λ (at : Role). IsTimelyAt c d (at_end at act) (seen_from end v)) (sym asks.0) (seen_timely cfg end act v timely)),
+            tt,
+          ));
       run = ap (λ (es : List line.Event). links.run c d es before) (all_more e.at g.asked act)
-          ∙ run_more c d (all_at e.at g.asked) (at_end e.at act) before
+          ∙ links_append c d (all_at e.at g.asked) (at_end e.at act ∷ []) before
           ∙ ap (links.happens c d (at_end e.at act)) g.run
           ∙ ap (λ (at : Role). links.happens c d (at_end at act) (seen_from end v)) asks.0
           ∙ seen_acts cfg end act v;
@@ -165,11 +168,16 @@ sessions_act cfg end act v timely may asks h =
     let d = link_of cfg (other end) in
     record {
       events = h.events ++ line.Near act ∷ [];
-      timely = timely_more c d h.events (line.Near act) from_nothing h.timely (subst (λ (x : Sessions). IsTimely c d act x) (sym h.run) timely);
-      run = run_more c d h.events (line.Near act) from_nothing ∙ ap (λ (x : Sessions). links.acts c act x) h.run;
+      timely = timely_append c d h.events (line.Near act ∷ []) from_nothing h.timely (subst (λ (x : Sessions). IsTimely c d act x) (sym h.run) timely, tt);
+      run = links_append c d h.events (line.Near act ∷ []) from_nothing ∙ ap (λ (x : Sessions). links.acts c act x) h.run;
       one_link = λ asks is. one_acts asks cfg end act v (λ free. may (is ∙ ap set_up free)) (h.one_link asks is);
       grown = λ before e is. grow cfg end act v before e timely (asks before e is) (h.grown before e is);
     }
+
+-- and octets that are handed down
+pub puts_reach : {since : Beginning} (cfg : Cfg) (end : Role) (os : List (List ℕ)) (v : Sessions) → ((octets : List ℕ) → MayAsk since end (line.Put octets)) → SessionsReach since cfg end v
+    → SessionsReach since cfg end (all_act (link_of cfg end) (puts_of os) v)
+puts_reach {since} cfg end os v asks = puts_last (link_of cfg end) (SessionsReach since cfg end) (λ o x reach. sessions_act cfg end (line.Put o) x tt (λ off s same. tt) (asks o) reach) os v
 
 pub joined_at : (cfg : Cfg) (end : Role) → IsConfigured cfg → AreJoined (link_of cfg end) (link_of cfg (other end))
 joined_at cfg Dte fine = record { near_role = refl; far_role = refl; longest = refl; near_low = fine.low; near_high = fine.high; far_low = fine.low; far_high = fine.high }

@@ -24,7 +24,8 @@ use Rattle.x25_world.specs.laws.SessionWindow.{StandsInWindow, SessionsGoAlong, 
 use Rattle.x25_world.specs.laws.SessionClaims.{ThroughoutAlong}
 use Rattle.x25_world.proofs.Known.{IsConfigured, is_configured}
 use Rattle.x25_line.proofs.sessions.SessionsForgotten.{Lasts, Alike, happens_alike, runs_alike, turned_alike}
-use Rattle.x25_world.proofs.sessions.SessionReaches.{both_down, joined_at}
+use Rattle.x25_world.proofs.WorldLemmas.{run_append}
+use Rattle.x25_world.proofs.sessions.SessionReaches.{both_down, links_append, timely_append, joined_at}
 use Rattle.x25_world.proofs.sessions.SessionJoined.{SessionsJoined}
 use Rattle.x25_world.specs.laws.LawsBelow.{SessionLaws}
 use Rattle.x25_world.proofs.sessions.SessionRuns.{begin_joined, throughout_joined}
@@ -84,21 +85,9 @@ all_timely_same c d (e ∷ es) v x s f g timely = (
 
 -- ---- a run, and more behind it
 
-pub links_append : (c d : LinkSettings) (xs ys : List line.Event) (v : Sessions) → links.run c d (xs ++ ys) v ≡ links.run c d ys (links.run c d xs v)
-links_append c d [] ys v = refl
-links_append c d (x ∷ xs) ys v = links_append c d xs ys (links.happens c d x v)
-
-pub timely_append : (c d : LinkSettings) (xs ys : List line.Event) (v : Sessions) → AreTimely c d xs v → AreTimely c d ys (links.run c d xs v) → AreTimely c d (xs ++ ys) v
-timely_append c d [] ys v f g = g
-timely_append c d (x ∷ xs) ys v f g = (f.0, timely_append c d xs ys (links.happens c d x v) f.1 g)
-
 standing_append : (P : Standing → Type 0) (c d : LinkSettings) (xs ys : List line.Event) (v : Sessions) (s : Standing) → P (standing_run c d ys (links.run c d xs v) (standing_run c d xs v s)) → P (standing_run c d (xs ++ ys) v s)
 standing_append P c d [] ys v s h = h
 standing_append P c d (x ∷ xs) ys v s h = standing_append P c d xs ys (links.happens c d x v) (standing_happens c d x v s) h
-
-world_append : (cfg : Cfg) (xs ys : List Event) (w : World) → run cfg (xs ++ ys) w ≡ run cfg ys (run cfg xs w)
-world_append cfg [] ys w = refl
-world_append cfg (x ∷ xs) ys w = world_append cfg xs ys (after w (happens cfg w x))
 
 octets_before : (xs ys : List Event) → AreInOctets (xs ++ ys) → AreInOctets xs
 octets_before [] ys h = tt
@@ -177,7 +166,7 @@ any_goes_on : (laws : SessionLaws) → ConnectKeeps → StandingGoesAlong → (c
     → (v : Sessions) (s : Standing) → StandsInWindow cfg (run cfg past begin) v s → SessionsGoAlong cfg (run cfg (past ++ more) begin) more (run cfg past begin) v s
 any_goes_on laws keeps law cfg fine begin is past more octets v s st =
     along laws law cfg (is_configured cfg fine) (run cfg (past ++ more) begin) more (run cfg past begin) (throughout_joined laws keeps cfg fine begin is past (octets_before past more octets))
-    (octets_behind past more octets) (sym (world_append cfg past more begin)) v s st
+    (octets_behind past more octets) (sym (run_append cfg past more begin)) v s st
 
 pub sessions_stay : (laws : SessionLaws) → ConnectKeeps → StandingGoesAlong → ThroughoutAlong SessionsStayInWindow
 sessions_stay laws keeps law cfg fine begin is events octets =

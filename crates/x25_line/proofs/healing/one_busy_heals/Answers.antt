@@ -1,4 +1,4 @@
-use Rattle.x25_line.proofs.BusySessions.{sessions_heal_unless_both_busy}
+use Rattle.x25_line.proofs.SessionsHeal.{sessions_heal_unless_both_busy}
 use Rattle.x25_line.proofs.healing.one_busy_heals.Goals as goal
 
 pub returns : goal.returns

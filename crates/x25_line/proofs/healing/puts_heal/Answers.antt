@@ -1,4 +1,4 @@
-use Rattle.x25_line.proofs.HealingPutsSessions.{puts_heal_sessions}
+use Rattle.x25_line.proofs.SessionsHeal.{puts_heal_sessions}
 use Rattle.x25_line.proofs.healing.puts_heal.Goals as goal
 
 pub returns : goal.returns

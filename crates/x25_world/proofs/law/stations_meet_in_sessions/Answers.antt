@@ -1,6 +1,6 @@
 use Rattle.x25_world.proofs.sessions.claims.SessionHeadline.{throughout_in_step, throughout_lawful, throughout_named, throughout_arrives, throughout_unmet, throughout_stand, throughout_quiet, throughout_octets, throughout_confirmed}
 use Rattle.x25_world.proofs.sessions.SessionsAlong.{sessions_stay}
-use Rattle.x25_world.proofs.sessions.claims.SessionGiven.{beside_given}
+use Rattle.x25_world.proofs.sessions.claims.SessionLawful.{beside_given}
 use Rattle.x25_world.proofs.law.stations_meet_in_sessions.Goals as goal
 
 pub returns : goal.returns

@@ -1,20 +1,20 @@
 -- Octets come, over set-up and re-set-up: the link takes them, and the layer the packet that the link hands up, which is the next of those that
 -- the other end gave in its latest session.
-use Rattle.std.proofs.Common.{◌≡◌, ℕ, zero, suc, ◌≤◌, ◌<◌, inl, inr, List, [], ◌∷◌, ◌++◌, remove, Bool, true, false, if◌then◌else◌, Option, Some, None, Result, Ok, option_to_list, refl, sym, ap, ◌∙◌, subst, append_assoc, arith}
+use Rattle.std.proofs.Common.{◌≡◌, ℕ, zero, suc, ◌≤◌, ◌<◌, inl, inr, List, [], ◌∷◌, ◌++◌, remove, Bool, true, false, if◌then◌else◌, Option, Some, None, Result, Ok, refl, sym, ap, ◌∙◌, subst, append_assoc, arith}
 use Rattle.std.proofs.lemmas.List.{append_cancel_left, map-append}
 use Rattle.x25_bits.specs.declared.role.Role.{Role}
 use Rattle.x25_bits.specs.declared.role.Role.TheVariants.{Dte, Dce}
 use Rattle.x25_packet.specs.Packet.{PlainPacket}
 use Rattle.x25_packet.specs.declared.error.PacketError.{PacketError}
 use Rattle.x25_handshakes.specs.laws.Histories.{IsPrefix}
-use Rattle.x25_link.specs.Station.{LinkStation, is_up}
+use Rattle.x25_link.specs.Station.{is_up}
 use Rattle.x25_link.specs.Hearing.{other, Step as LinkStep}
 use Rattle.x25_link.specs.laws.NoteLaw.{IsQuiet}
 use Rattle.x25_link.specs.declared.phase.Notes.{Notes}
 use Rattle.x25_link.specs.Link.{take_step, abandon_step}
 use Rattle.x25_line.specs.laws.Stations as line
 use Rattle.x25_line.specs.laws.Sessions as links
-use Rattle.x25_line.specs.laws.Sessions.{SessionEnd, Meeting, Sessions, begun_by}
+use Rattle.x25_line.specs.laws.Sessions.{SessionEnd, Meeting, Sessions}
 use Rattle.x25_line.specs.laws.SessionClaims as met
 use Rattle.x25_line.specs.laws.SessionClaims.{AllMet, SomeMet, IsNoEarlier, InStep, MetAreInOrder, UnmetHandNothingUp, octets_of}
 use Rattle.x25_line.specs.laws.SessionEvents.{EachEventMeetsLatest, MeetsOne}
@@ -49,12 +49,12 @@ use Rattle.x25_line.proofs.ends.Meetings.{all_no_earlier}
 use Rattle.x25_world.specs.laws.LawsBelow.{SessionLaws}
 use Rattle.x25_world.proofs.sessions.SessionKnown.{met_in_order, pair_ends, here_in, here_is, there_is, own_order, own_first, nothing_in_order}
 use Rattle.x25_world.proofs.sessions.SessionEntries.{heard_plain, heard_beside, heard_confirms}
-use Rattle.x25_world.proofs.sessions.SessionLinks.{SessionGoes, spelled, puts_spelled, spelled_back, own_step, front_entry, deliver_goes, PutsRead}
+use Rattle.x25_peer.proofs.sessions.LinkSteps.{SessionGoes, StepGoes, step_as, deliver_goes, abandon_goes, spelled, PutsRead, HasPut, puts_spelled}
+use Rattle.x25_world.proofs.sessions.SessionLinks.{FrontEntry, front_entry}
 use Rattle.x25_world.proofs.sessions.SessionGoes.{here_extended}
 use Rattle.x25_world.proofs.sessions.SessionFollows.{no_command, up_puts, silent_puts, follows_silent, follows_up}
 use Rattle.x25_world.proofs.sessions.SessionMoves.{own_pulls, pulls_take_nothing, pulls_bring_octets, near_pulls, take_takes}
 use Rattle.x25_world.proofs.sessions.acts.SessionRequests.{pair_goes, pair_stays, puts_readable, joins}
-use Rattle.x25_world.proofs.sessions.acts.SessionTimers.{not_begun_by}
 
 -- the packet in front of those in flight, by what its octets are read as
 record Front (cfg : Cfg) (octets : List ℕ) (flight : List PlainPacket) : Type 0 where
@@ -130,8 +130,8 @@ module _ {since : Beginning} (laws : SessionLaws) (cfg : Cfg) (fine : IsConfigur
   ]
 
   module _ (octets : List ℕ) (back : List (List ℕ)) (front : w.back ≡ octets ∷ back) where
-    line_is : octets_of h.links.back ≡ octets ∷ back
-    line_is = h.back ∙ front
+    came : FrontEntry octets back h.links.back
+    came = front_entry octets back h.links.back (h.back ∙ front)
 
     -- ---- where a count is full
 
@@ -145,22 +145,11 @@ module _ {since : Beginning} (laws : SessionLaws) (cfg : Cfg) (fine : IsConfigur
         let c = link_of cfg end in
         let up : is_up w.near.link.phase ≡ true = (both_true (is_up w.near.link.phase) (is_full (layer_settings (settings_from end cfg)) w.near.layer) full).0 in
         let k = abandon_step c w.near.link in
-        let left : LinkStation → Sessions = λ s. links.after_step c h.links h.links.back h.links.met [] (abandon_step c s) in
-        let was : links.acts c line.Abandon h.links ≡ left w.near.link =
-        ap (λ (s : LinkStation). if is_up s.phase then left s else h.links) h.near.link ∙ ap (λ (b : Bool). if b then left w.near.link else h.links) up in
-        let same : gone ≡ record (left w.near.link) { back = remove h.links.back 0 } = ap (λ (x : Sessions). record x { back = remove x.back 0 }) was in
-        let not_up : k.notes.up ≡ false = not_begun_by k.notes.up here (sym (ap (λ (x : Sessions). x.near.begun) was) ∙ (laws.hands c c (line.Near line.Abandon) h.links).0.begun) in
-        let g = own_step c h.links (remove h.links.back 0) h.links.met k in
-        let f = front_entry octets back h.links.back line_is in
-        let goes : SessionGoes c h.links (record (left w.near.link) { back = remove h.links.back 0 }) here k.side.near k.side.out [] [] back h.links.met =
-        subst (λ (b : Bool). SessionGoes c h.links (record (left w.near.link) { back = remove h.links.back 0 }) (begun_by b here) k.side.near k.side.out [] [] back h.links.met) not_up
-        (subst (λ (os : List (List ℕ)). SessionGoes c h.links (record (left w.near.link) { back = remove h.links.back 0 }) (begun_by k.notes.up here) k.side.near k.side.out [] [] os h.links.met)
-        (ap (λ (es : List links.Entry). octets_of (remove es 0)) f.is ∙ f.left) g) in
-        follows_silent laws cfg fine end w h no_command back k gone
+        subst (λ (os : List (List ℕ)). Goes since cfg end h.links gave_none (after_step (settings_from end cfg) w os (follows (settings_from end cfg) w.near.layer k))) (ap (λ (es : List links.Entry). octets_of (remove es 0)) came.is ∙ came.left)
+        (follows_silent laws cfg fine end w h no_command (remove h.links.back 0) k gone h.links.met
         (sessions_act cfg end (line.Lose 0) (links.acts c line.Abandon h.links) tt (λ off s same. tt) (may_ask end Receives (line.Lose 0) is_at refl)
         (sessions_act cfg end line.Abandon h.links tt (λ off s same. tt) (may_ask end Receives line.Abandon is_at tt) h.reach))
-        (subst (λ (x : Sessions). PairsAreInOrder cfg end h.trace x.met) (sym same) h.pairs) (λ n m has. subst (λ (x : Sessions). HasMet n m x.met) (sym same) has) (laws.stations.abandon_tells c w.near.link) not_up
-        (subst (λ (x : Sessions). SessionGoes c h.links x here k.side.near k.side.out [] [] back x.met) (sym same) goes) refl kept
+        h.pairs (λ n m has. has) (laws.stations.abandon_tells c w.near.link) (abandon_goes c h.links w.near.link h.near.link up) refl refl kept)
 
     -- ---- where the link takes the octets
 
@@ -173,14 +162,9 @@ module _ {since : Beginning} (laws : SessionLaws) (cfg : Cfg) (fine : IsConfigur
     reach_taken : SessionsReach since cfg end after_taken
     reach_taken = sessions_act cfg end line.Deliver h.links tt (λ off s same. tt) (may_ask end Receives line.Deliver is_at tt) h.reach
 
-    goes_taken : SessionGoes (link_of cfg end) h.links after_taken (begun_by taken.notes.up here) taken.side.near taken.side.out [] (option_to_list taken.packet) back after_taken.met
-    goes_taken = deliver_goes (link_of cfg end) h.links w.near.link octets back h.near.link line_is
-
-    goes_in : (up : Bool) (packet : Option (List ℕ)) → taken.notes.up ≡ up → taken.packet ≡ packet
-        → SessionGoes (link_of cfg end) h.links after_taken (begun_by up here) taken.side.near taken.side.out [] (option_to_list packet) back after_taken.met
-    goes_in up packet is same =
-        subst (λ (b : Bool). SessionGoes (link_of cfg end) h.links after_taken (begun_by b here) taken.side.near taken.side.out [] (option_to_list packet) back after_taken.met) is
-        (subst (λ (p : Option (List ℕ)). SessionGoes (link_of cfg end) h.links after_taken (begun_by taken.notes.up here) taken.side.near taken.side.out [] (option_to_list p) back after_taken.met) same goes_taken)
+    goes_taken : StepGoes (link_of cfg end) h.links after_taken taken came.others after_taken.met
+    goes_taken = subst (λ (os : List ℕ). StepGoes (link_of cfg end) h.links after_taken (take_step (link_of cfg end) os w.near.link) came.others after_taken.met) came.octets
+        (deliver_goes (link_of cfg end) h.links w.near.link came.entry came.others h.near.link came.is)
 
     meets_one : MeetsOne line.Deliver now_met h.links.near after_taken.near h.links.met after_taken.met
     meets_one = known_sessions EachEventMeetsLatest laws.meets cfg fine end h.links h.reach (line.Near line.Deliver)
@@ -191,8 +175,8 @@ module _ {since : Beginning} (laws : SessionLaws) (cfg : Cfg) (fine : IsConfigur
     -- ---- a packet is handed up
 
     module _ (not_up : taken.notes.up ≡ false) (packet_octets : List ℕ) (some : taken.packet ≡ Some packet_octets) where
-      goes_up_one : SessionGoes (link_of cfg end) h.links after_taken here taken.side.near taken.side.out [] (packet_octets ∷ []) back after_taken.met
-      goes_up_one = goes_in false (Some packet_octets) not_up some
+      goes_up_one : SessionGoes (link_of cfg end) h.links after_taken here taken.side.near taken.side.out [] (packet_octets ∷ []) came.others after_taken.met
+      goes_up_one = step_as (link_of cfg end) h.links after_taken taken came.others after_taken.met false (Some packet_octets) not_up some goes_taken
 
       up_more : after_taken.near.up here ≡ h.links.near.up here ++ packet_octets ∷ []
       up_more = goes_up_one.up here ∙ here_extended h.links.near.up here (packet_octets ∷ [])
@@ -202,14 +186,11 @@ module _ {since : Beginning} (laws : SessionLaws) (cfg : Cfg) (fine : IsConfigur
       met_now = elim meets_one [
         | inl now ↦ now.met
         | inr none ↦ elim none.nothing_up [
-          | inl afresh ↦ absurd (one_more here (sym afresh.begins.begun ∙ goes_up_one.begun))
+          | inl afresh ↦ (let more : suc here ≡ here = sym afresh.begins.begun ∙ goes_up_one.begun in absurd (omega (arith, more)))
           | inr rest ↦ absurd (never (append_cancel_left (h.links.near.up here) (packet_octets ∷ []) [] (sym up_more ∙ rest.up)))
         ]
       ]
         where
-          one_more : (n : ℕ) → suc n ≡ n → ⊥
-          one_more n e = omega (arith, e)
-
           never : packet_octets ∷ [] ≡ [] → ⊥
           never e = cc
 
@@ -288,13 +269,10 @@ module _ {since : Beginning} (laws : SessionLaws) (cfg : Cfg) (fine : IsConfigur
         others_on (p ∷ ms) earlier pairs = (
           elim earlier.0 [
             | inl same ↦ subst (λ (n : ℕ). PairIsInOrder cfg end trace_on n p.far) (sym same.0) (subst (λ (m : ℕ). PairIsInOrder cfg end trace_on here m) (sym same.1) pair_on)
-            | inr less ↦ pair_stays laws cfg end h.trace here moves p.near p.far (below p.near less.0) pairs.0
+            | inr less ↦ pair_stays laws cfg end h.trace here moves p.near p.far (λ (e : p.near ≡ here). (let lt = less.0 in omega (arith, lt, e))) pairs.0
           ],
           others_on ms earlier.1 pairs.1,
         )
-          where
-            below : (n : ℕ) → n < here → n ≡ here → ⊥
-            below n lt e = omega (arith, lt, e)
 
         pairs_on : PairsAreInOrder cfg end trace_on after_taken.met
         pairs_on = subst (PairsAreInOrder cfg end trace_on) (sym met_now) (pair_on, others_on h.links.met (all_no_earlier now_met h.links.met met_in_step) h.pairs)
@@ -335,15 +313,11 @@ module _ {since : Beginning} (laws : SessionLaws) (cfg : Cfg) (fine : IsConfigur
           let j = joined_on none in
           puts_readable laws cfg fine end w h (moves j.0) j.1.packets (ap (λ (e : layer.End). e.given) (sym (near_on j.0)) ∙ j.1.layer.given) (tt, pulls_bring_octets cfg.wide end here j.0) (there, pair_on j.0)
 
-      handed_puts : abandons (settings_from end cfg) w.near ≡ false → PutsRead cfg end taken.side step
-      handed_puts none =
-          let j = joined_on none in
-          record {
-            handed = spelled j.1.packets;
-            packets = j.1.packets;
-            link = puts_spelled (settings_from end cfg) taken.side j.1.packets step j.1.link;
-            readable = spelled_back cfg j.1.packets (joined_readable none);
-          }
+      packets_put : (none : abandons (settings_from end cfg) w.near ≡ false) → PutsRead (settings_from end cfg) taken.side (joined_on none).1.packets (spelled (joined_on none).1.packets) step
+      packets_put none = (let j = joined_on none in puts_spelled (settings_from end cfg) taken.side j.1.packets step j.1.link (joined_readable none))
+
+      handed_puts : abandons (settings_from end cfg) w.near ≡ false → HasPut (settings_from end cfg) taken.side step
+      handed_puts none = (let j = joined_on none in record { handed = spelled j.1.packets; packets = j.1.packets; put = packets_put none })
 
       -- what it confirms is told
       counts_taken : (channels : List ℕ) → IsQuiet taken → (k : ℕ) (name : Name) → confirmed_in k name step.entries ≤ counted_in (layer_of cfg end) k name (moves channels) own_here
@@ -357,8 +331,8 @@ module _ {since : Beginning} (laws : SessionLaws) (cfg : Cfg) (fine : IsConfigur
           ∙ ap (λ (l : Layer). counted_at c k name l (layer_answers c l p).next) now.layer in
           omega (arith, told, is)
 
-      handed : abandons (settings_from end cfg) w.near ≡ false → IsKept step.near → Goes since cfg end h.links gave_none (after_step (settings_from end cfg) w back step)
-      unfolding handed_puts joined_on
+      handed : abandons (settings_from end cfg) w.near ≡ false → IsKept step.near → Goes since cfg end h.links gave_none (after_step (settings_from end cfg) w (octets_of came.others) step)
+      unfolding joined_on
       handed none kept =
           let hands = laws.stations.take_hands_up (link_of cfg end) octets w.near.link in
           let quiet : IsQuiet taken = hands.quiet packet_octets some in
@@ -368,8 +342,8 @@ module _ {since : Beginning} (laws : SessionLaws) (cfg : Cfg) (fine : IsConfigur
           let near = near_on j.0 in
           let takes = take_takes (layer_of cfg end) own_here f.packet j.0 (h.near.now up).out in
           let all = own_goes cfg end here h.trace (moves j.0) in
-          joins laws cfg fine end w h step after_taken taken.side (world_on j.0) (moves j.0) (f.packet ∷ []) (f.packet ∷ []) (packet_octets ∷ [])
-          (ap (λ (r : Result PlainPacket PacketError). r ∷ []) f.reads) back goes_up_one up up_after (handed_puts none) j.1.layer near takes (heard_plain (settings_from end cfg) w.near.layer taken packet_octets some quiet) kept (tt, pulls_bring_octets cfg.wide end here j.0) (there, pair_on j.0)
+          joins laws cfg fine end w h step after_taken taken.side (world_on j.0) (moves j.0) j.1.packets (f.packet ∷ []) (f.packet ∷ []) (spelled j.1.packets) (packet_octets ∷ [])
+          (ap (λ (r : Result PlainPacket PacketError). r ∷ []) f.reads) came.others goes_up_one up up_after (packets_put none) j.1.layer near takes (heard_plain (settings_from end cfg) w.near.layer taken packet_octets some quiet) kept (tt, pulls_bring_octets cfg.wide end here j.0) (there, pair_on j.0)
           (heard_beside cfg end w.near.layer taken packet_octets f.packet some quiet f.reads) gave_none
           (subst (λ (l : List Came). AreSomeOf IsGiven l []) (sym (spelled_bring laws.stations cfg j.1.packets (joined_readable none))) tt) (counts_taken j.0 quiet)
           (λ o. may_ask end Receives (line.Put o) is_at tt) reach_taken (λ nothing. absurd (not_empty f.packet nothing)) (pairs_on j.0) met_taken.more
@@ -384,10 +358,10 @@ module _ {since : Beginning} (laws : SessionLaws) (cfg : Cfg) (fine : IsConfigur
 
     -- ---- what the layer puts
 
-    pub taken_puts : abandons (settings_from end cfg) w.near ≡ false → PutsRead cfg end taken.side (follows (settings_from end cfg) w.near.layer taken)
+    pub taken_puts : abandons (settings_from end cfg) w.near ≡ false → HasPut (settings_from end cfg) taken.side (follows (settings_from end cfg) w.near.layer taken)
     taken_puts none = by taken.notes.up taken.packet refl refl
       where
-        by : (up : Bool) (o : Option (List ℕ)) → taken.notes.up ≡ up → taken.packet ≡ o → PutsRead cfg end taken.side (follows (settings_from end cfg) w.near.layer taken)
+        by : (up : Bool) (o : Option (List ℕ)) → taken.notes.up ≡ up → taken.packet ≡ o → HasPut (settings_from end cfg) taken.side (follows (settings_from end cfg) w.near.layer taken)
         by true o up is = up_puts laws cfg fine end w h taken (laws.stations.take_tells (link_of cfg end) octets w.near.link) up
         by false None up is = silent_puts cfg end w.near.layer taken is up
         by false (Some packet_octets) up is = handed_puts up packet_octets is none
@@ -395,16 +369,16 @@ module _ {since : Beginning} (laws : SessionLaws) (cfg : Cfg) (fine : IsConfigur
     -- ---- all that may come
 
     takes_joined : abandons (settings_from end cfg) w.near ≡ false → IsKept (follows (settings_from end cfg) w.near.layer taken).near
-        → Goes since cfg end h.links gave_none (after_step (settings_from end cfg) w back (follows (settings_from end cfg) w.near.layer taken))
+        → Goes since cfg end h.links gave_none (after_step (settings_from end cfg) w (octets_of came.others) (follows (settings_from end cfg) w.near.layer taken))
     takes_joined none kept = by taken.notes.up taken.packet refl refl
       where
-        by : (up : Bool) (o : Option (List ℕ)) → taken.notes.up ≡ up → taken.packet ≡ o → Goes since cfg end h.links gave_none (after_step (settings_from end cfg) w back (follows (settings_from end cfg) w.near.layer taken))
+        by : (up : Bool) (o : Option (List ℕ)) → taken.notes.up ≡ up → taken.packet ≡ o → Goes since cfg end h.links gave_none (after_step (settings_from end cfg) w (octets_of came.others) (follows (settings_from end cfg) w.near.layer taken))
         by true None up is =
-            follows_up laws cfg fine end w h no_command back taken after_taken reach_taken met_taken.pairs met_taken.more (laws.stations.take_tells (link_of cfg end) octets w.near.link) (λ o. may_ask end Receives (line.Put o) is_at tt) up (goes_in true None up is) kept
+            follows_up laws cfg fine end w h no_command came.others taken after_taken after_taken.met reach_taken met_taken.pairs met_taken.more (laws.stations.take_tells (link_of cfg end) octets w.near.link) goes_taken (λ o. may_ask end Receives (line.Put o) is_at tt) up is kept
         by true (Some packet_octets) up is =
             true_false (sym up ∙ ap (λ (n : Notes). n.up) ((laws.stations.take_hands_up (link_of cfg end) octets w.near.link).quiet packet_octets is))
         by false None up is =
-            follows_silent laws cfg fine end w h no_command back taken after_taken reach_taken met_taken.pairs met_taken.more (laws.stations.take_tells (link_of cfg end) octets w.near.link) up (goes_in false None up is) is kept
+            follows_silent laws cfg fine end w h no_command came.others taken after_taken after_taken.met reach_taken met_taken.pairs met_taken.more (laws.stations.take_tells (link_of cfg end) octets w.near.link) goes_taken up is kept
         by false (Some packet_octets) up is = handed up packet_octets is none kept
 
     came_joined : Goes since cfg end h.links gave_none (after_step (settings_from end cfg) w back (receives (settings_from end cfg) w.near octets))
@@ -415,7 +389,7 @@ module _ {since : Beginning} (laws : SessionLaws) (cfg : Cfg) (fine : IsConfigur
 
         by : (b : Bool) → abandons (settings_from end cfg) w.near ≡ b → IsKept (step b).near → Goes since cfg end h.links gave_none (after_step (settings_from end cfg) w back (step b))
         by true is kept = abandoned is kept
-        by false is kept = takes_joined is kept
+        by false is kept = subst (λ (os : List (List ℕ)). Goes since cfg end h.links gave_none (after_step (settings_from end cfg) w os (step false))) came.left (takes_joined is kept)
 
   pub receives_joined : Goes since cfg end h.links gave_none (after w (delivered (settings_from end cfg) w w.back))
   receives_joined = by w.back refl

@@ -1,14 +1,13 @@
 -- A command to the layer in a session, without or with something given: its own packet is put, and then what waits.
-use Rattle.std.proofs.Common.{◌≡◌, ℕ, suc, ◌==◌, ◌≤◌, ◌⊎◌, inl, inr, List, [], ◌∷◌, ◌++◌, map, Bool, true, Option, None, refl, sym, ap, ◌∙◌, subst, append-nil, arith, false, if◌then◌else◌, ◌&&◌}
+use Rattle.std.proofs.Common.{◌≡◌, ℕ, suc, ◌==◌, ◌≤◌, ◌⊎◌, inl, inr, List, [], ◌∷◌, ◌++◌, Bool, true, Option, None, refl, sym, ap, ◌∙◌, subst, append-nil, arith, if◌then◌else◌, ◌&&◌}
 use Rattle.std.proofs.lemmas.List.{append_cancel_left}
 use Rattle.x25_bits.specs.declared.role.Role.{Role}
-use Rattle.x25_frame.specs.Frame.{PlainFrame}
-use Rattle.x25_frame.specs.Spelling.{spelling_of}
 use Rattle.x25_packet.specs.Packet.{PlainPacket}
 use Rattle.x25_link.specs.Outgoing.{waits}
-use Rattle.x25_link.specs.Station.{LinkStation, Side, is_up}
+use Rattle.x25_link.specs.Station.{Side, is_up}
 use Rattle.x25_link.specs.Link.{alone}
 use Rattle.x25_line.specs.laws.Stations as line
+use Rattle.x25_line.specs.laws.Sessions as links
 use Rattle.x25_line.specs.laws.Sessions.{Meeting, Sessions}
 use Rattle.x25_line.specs.laws.SessionClaims.{octets_of}
 use Rattle.x25_given.specs.Given.{PlainGiven, may_give}
@@ -16,7 +15,7 @@ use Rattle.x25_handshakes.specs.laws.Names.{Name}
 use Rattle.x25_layer.specs.Layer.{Layer, LayerNotice}
 use Rattle.x25_circuit.specs.Calling as circuit
 use Rattle.x25_layer.specs.Calls as asked
-use Rattle.x25_layer.specs.Calls.{LayerRequest, LayerOutcome, Accepted, Declined, layer_outcome}
+use Rattle.x25_layer.specs.Calls.{LayerRequest, layer_outcome}
 use Rattle.x25_layer.specs.laws.Quiet.{AreNoFaults}
 use Rattle.x25_layer.specs.laws.TwoLayers as layer
 use Rattle.x25_layer.specs.laws.TwoLayers.{Requests as Requested}
@@ -24,11 +23,11 @@ use Rattle.x25_layer.specs.laws.RoundLaw.{moves_all, pulls_of}
 use Rattle.x25_layer.specs.laws.Apart as apart
 use Rattle.x25_layer.specs.laws.Apart.{OwnMove, Requests, apart_start, own_run, AreInOrder}
 use Rattle.x25_station.specs.declared.config.Cfg.{Cfg}
-use Rattle.x25_station.specs.Config.{Settings, settings_from, layer_settings, link_settings}
+use Rattle.x25_station.specs.Config.{Settings, settings_from, layer_settings}
 use Rattle.x25_station.specs.Command as command
-use Rattle.x25_station.specs.Entry.{layer_notices, StationEntry}
-use Rattle.x25_station.specs.Giving.{suits, is_taken, view_given, not_taken}
-use Rattle.x25_station.specs.Step.{Step, Outcome, Did, Refused, requests, did, entries_of_outcome, gave, gives, where_asked}
+use Rattle.x25_station.specs.Entry.{layer_notices}
+use Rattle.x25_station.specs.Giving.{suits, is_taken}
+use Rattle.x25_station.specs.Step.{Step, Outcome, Did, Refused, requests, gave, gives}
 use Rattle.x25_station.specs.laws.GivenLaw.{GivesOctets}
 use Rattle.x25_station.specs.laws.JoinLaw.{station_with, MovesAs}
 use Rattle.x25_station.specs.laws.KeepLaw.{IsKept, KeptBy}
@@ -42,83 +41,25 @@ use Rattle.x25_world.proofs.Known.{IsConfigured, both_true}
 use Rattle.x25_world.proofs.Growing.{all_read, as_read}
 use Rattle.x25_world.proofs.sessions.SessionTrace.{layer_of, Done, moved, own, own_goes, same_number, pair_at, events_of, pair_more, pair_same, TakeNothing, nothing_goes, BringOctets, octets_append}
 use Rattle.x25_world.proofs.sessions.SessionCounts.{counted_in, CountNone}
-use Rattle.x25_world.proofs.sessions.SessionReaches.{Beginning, MayAsk, IsAt, may_ask, SessionsReach}
+use Rattle.x25_world.proofs.sessions.SessionReaches.{Beginning, MayAsk, IsAt, may_ask, SessionsReach, puts_reach}
 use Rattle.x25_world.proofs.sessions.SessionJoined.{HasMet, PairIsInOrder, PairsAreInOrder, SessionsJoined, Goes, gave_none, stays}
 use Rattle.x25_world.proofs.sessions.SessionBeside.{brought, AreTold, spelled_bring, FirstMayGo, spelled_with_bring, own_goes_first}
 use Rattle.x25_line.proofs.ends.Meetings.{all_map}
 use Rattle.x25_world.specs.laws.LawsBelow.{SessionLaws}
 use Rattle.x25_world.proofs.sessions.SessionKnown.{met_in_order, pair_ends, own_quiet, own_readable, nothing_in_order}
 use Rattle.x25_world.proofs.sessions.SessionEntries.{ArePlain, outcome_plain, outcome_beside, outcome_counts}
-use Rattle.x25_world.proofs.sessions.SessionLinks.{puts_up, SessionGoes, PutsOctets, spelled, puts_spelled, spelled_with, puts_spelled_with, AreReadBack, spelled_back, spelled_with_back, back_read, back_octets, puts_go, stays_goes, PutsRead}
+use Rattle.x25_peer.proofs.Granted.{did_granted, gave_granted, suits_asks}
+use Rattle.x25_peer.proofs.ReadLemmas.{readable_behind}
+use Rattle.x25_peer.proofs.sessions.LinkSteps.{SessionGoes, spelled, spelled_with, PutsRead, HasPut, puts_spelled, puts_spelled_with, puts_up, puts_of, all_act, puts_go, stays_goes}
+use Rattle.x25_peer.proofs.sessions.SessionLayers.{pulls_asked, asked_leaves}
+use Rattle.x25_world.proofs.sessions.SessionLinks.{back_read, back_octets}
 use Rattle.x25_world.proofs.sessions.SessionGoes.{same_or_not, IsNews, goes_on}
-use Rattle.x25_world.proofs.sessions.SessionMoves.{own_pulls, pulls_take_nothing, pulls_bring_octets, near_pulls, request_leaves}
-use Rattle.x25_station.specs.declared.error.StationError.{StationError}
-use Rattle.x25_station.specs.declared.error.StationError.TheVariants as error
-use Rattle.x25_layer.specs.declared.error.LayerError.TheVariants as layer_error
-use Rattle.x25_station.specs.Station.{Station, view_of}
-use Rattle.x25_layer.specs.Rounds.{Refuses, went}
-
-abbrev step_in : Step → Outcome → Step
-step_in k (Did step) = step
-step_in k (Refused e) = k
-
-refused_did : {A : Type 0} (e : StationError) (step : Step) → Refused e ≡ Did step → A
-refused_did e step is = absurd (subst (λ (o : Outcome). elim o as (λ _. Type 0) [ Did x ↦ ⊥ | Refused y ↦ Unit {0} ]) is tt)
+use Rattle.x25_world.proofs.sessions.SessionMoves.{own_pulls, pulls_take_nothing, pulls_bring_octets, near_pulls}
 
 -- what calls and acceptances say changes no octet of the user
 pub said_octets : (says : Bool) (l : Layer) (request : LayerRequest) → RequestsOctets request → RequestsOctets (command.said_by says l request)
 said_octets says l (asked.Asks h (circuit.Calls called calling user proposal)) octets = octets
 said_octets says l request octets = octets
-
-pub readable_behind : (wide long_data : Bool) (ps qs : List PlainPacket) → AreReadable wide long_data (ps ++ qs) → AreReadable wide long_data qs
-readable_behind wide long_data [] qs h = h
-readable_behind wide long_data (p ∷ ps) qs h = readable_behind wide long_data ps qs h.1
-
--- what something is given beside is no message
-suits_asks : (wide : Bool) (g : PlainGiven) (request : LayerRequest) → suits g request ≡ true → command.may_ask wide request ≡ true
-suits_asks wide g (asked.Asks h (circuit.Sends marks user)) is = absurd (cc)
-suits_asks wide g (asked.Asks h request) is = refl
-suits_asks wide g request is = refl
-
--- What is seen of a command that is accepted: the link is up, what is given is taken, and the layer accepts it.
-record IsGranted (up taken : Bool) (o : LayerOutcome) (told : List StationEntry) (step : Step) : Type 0 where
-  is_up : up ≡ true
-  is_taken : taken ≡ true
-  next : Layer
-  own : Option PlainPacket
-  accepted : o ≡ Accepted next own
-  entries : step.entries ≡ told
-
-entries_did : (step next : Step) → Did next ≡ Did step → step.entries ≡ next.entries
-entries_did step next is = ap (λ (o : Outcome). (step_in next o).entries) (sym is)
-
-did_granted : (c : Settings) (s : Station) (request : LayerRequest) (step : Step) → requests c s request ≡ Did step
-    → (let o = layer_outcome (layer_settings c) (waits s.link.outgoing == 256) s.layer request in IsGranted (is_up s.link.phase) (command.may_ask c.wide request) o (entries_of_outcome (layer_settings c) s.layer request o) step)
-did_granted c s request step is = by (is_up s.link.phase) (command.may_ask c.wide request) (layer_outcome (layer_settings c) (waits s.link.outgoing == 256) s.layer request) is
-  where
-    entries : LayerOutcome → List StationEntry
-    entries o = entries_of_outcome (layer_settings c) s.layer request o
-
-    by : (up may : Bool) (o : LayerOutcome) → where_asked may (did c (alone s.link) (entries o) (if up then went (view_of (link_settings c) s.link) (layer_settings c) o else Refuses layer_error.NotUp)) ≡ Did step → IsGranted up may o (entries o) step
-    by true true (Accepted next own) is = record { is_up = refl; is_taken = refl; next = next; own = own; accepted = refl; entries = entries_did step _ is }
-    by true true (Declined e) is = refused_did (error.Layer e) step is
-    by false true o is = refused_did (error.Layer layer_error.NotUp) step is
-    by true false (Accepted next own) is = refused_did not_taken step is
-    by true false (Declined e) is = refused_did (error.Layer e) step is
-    by false false o is = refused_did (error.Layer layer_error.NotUp) step is
-
-gave_granted : (c : Settings) (s : Station) (g : PlainGiven) (request : LayerRequest) (step : Step) → gives c s g request ≡ Did step
-    → (let o = layer_outcome (layer_settings c) (waits s.link.outgoing == 256) s.layer request in IsGranted (is_up s.link.phase) (is_taken c g request) o (entries_of_outcome (layer_settings c) s.layer request o) step)
-gave_granted c s g request step is = by (is_up s.link.phase) (is_taken c g request) (layer_outcome (layer_settings c) (waits s.link.outgoing == 256) s.layer request) is
-  where
-    entries : LayerOutcome → List StationEntry
-    entries o = entries_of_outcome (layer_settings c) s.layer request o
-
-    by : (up taken : Bool) (o : LayerOutcome) → gave c g taken (alone s.link) (entries o) (if up then went (view_given (link_settings c) g s.link) (layer_settings c) o else Refuses layer_error.NotUp) ≡ Did step → IsGranted up taken o (entries o) step
-    by true true (Accepted next own) is = record { is_up = refl; is_taken = refl; next = next; own = own; accepted = refl; entries = entries_did step _ is }
-    by true false (Accepted next own) is = refused_did not_taken step is
-    by true taken (Declined e) is = refused_did (error.Layer e) step is
-    by false taken o is = refused_did (error.Layer layer_error.NotUp) step is
 
 no_faults_behind : (xs ys : List LayerNotice) → AreNoFaults (xs ++ ys) → AreNoFaults ys
 no_faults_behind [] ys h = h
@@ -174,12 +115,12 @@ module _ {since : Beginning} (laws : SessionLaws) (cfg : Cfg) (fine : IsConfigur
       (own_readable laws cfg fine end session paired.0 (h.trace ++ moved end session moves) paired.1 (octets_append cfg.wide h.trace (moved end session moves) h.octets octets)))
 
   -- the link's own step is at `v`, with the side `t`; behind it go the octets of the packets that the layer puts
-  module _ (step : Step) (v : Sessions) (t : Side) (u : layer.TwoLayers) (moves : List OwnMove) (lifted coming : List PlainPacket) (came : List (List ℕ)) (took : all_read cfg came ≡ as_read lifted) (back : List (List ℕ))
-      (g : SessionGoes (link_of cfg end) h.links v session t.near t.out [] came back v.met) (up : is_up w.near.link.phase ≡ true) (up_after : is_up t.near.phase ≡ true)
-      (p : PutsRead cfg end t step) (m : MovesAs (apart.alone own_now coming) u p.packets step) (near : u.near ≡ own_run (layer_of cfg end) moves own_now)
+  module _ (step : Step) (v : Sessions) (t : Side) (u : layer.TwoLayers) (moves : List OwnMove) (packets lifted coming : List PlainPacket) (handed came : List (List ℕ)) (took : all_read cfg came ≡ as_read lifted) (left : List links.Entry)
+      (g : SessionGoes (link_of cfg end) h.links v session t.near t.out [] came left v.met) (up : is_up w.near.link.phase ≡ true) (up_after : is_up t.near.phase ≡ true)
+      (p : PutsRead (settings_from end cfg) t packets handed step) (m : MovesAs (apart.alone own_now coming) u packets step) (near : u.near ≡ own_run (layer_of cfg end) moves own_now)
       (taken : (own_run (layer_of cfg end) moves own_now).taken ≡ own_now.taken ++ lifted) (plain : ArePlain step.entries) (kept : IsKept step.near)
       (octets : BringOctets cfg.wide (moved end session moves)) (paired : (m : ℕ) × PairIsInOrder cfg end (h.trace ++ moved end session moves) session m)
-      (tells : AreTold (came_in step.entries) (brought cfg came)) (gave : ℕ → List Gave) (gives : AreSomeOf IsGiven (brought cfg p.handed) (gave session))
+      (tells : AreTold (came_in step.entries) (brought cfg came)) (gave : ℕ → List Gave) (gives : AreSomeOf IsGiven (brought cfg handed) (gave session))
       (counts : (k : ℕ) (name : Name) → confirmed_in k name step.entries ≤ counted_in (layer_of cfg end) k name moves own_now) where
     abbrev own_then : layer.End
     own_then = own_run (layer_of cfg end) moves own_now
@@ -189,22 +130,10 @@ module _ {since : Beginning} (laws : SessionLaws) (cfg : Cfg) (fine : IsConfigur
 
     pub joins : ((octets : List ℕ) → MayAsk since end (line.Put octets)) → SessionsReach since cfg end v → (lifted ≡ [] → TakeNothing moves) → PairsAreInOrder cfg end (h.trace ++ moved end session moves) v.met → ((n m : ℕ) → HasMet n m h.links.met → HasMet n m v.met)
         → (own_now.taken ≡ [] → ((lifted ≡ []) × (layer_notices step.entries ≡ [])) ⊎ IsNews session h.links.far.begun v.met (layer_notices step.entries))
-        → Goes since cfg end h.links gave (after_step (settings_from end cfg) w back step)
+        → Goes since cfg end h.links gave (after_step (settings_from end cfg) w (octets_of left) step)
     joins asks reach alone pairs more news =
-        let r = puts_go cfg end h.links v session p.handed p.packets t [] came back v.met asks reach g p.link.accepted p.readable in
-        let still : is_up step.near.link.phase ≡ true = ap (λ (s : LinkStation). is_up s.phase) p.link.link ∙ puts_up laws.stations.put_tells (link_of cfg end) p.handed t up_after in
-        goes_on cfg end w h step back r.links v.met moves p.packets lifted p.handed came (back_read cfg p.handed p.packets p.readable) took (back_octets cfg p.handed p.packets p.readable)
-        (record {
-          station = r.goes.station ∙ sym p.link.link;
-          begun = r.goes.begun;
-          down = r.goes.down;
-          up = r.goes.up;
-          far = r.goes.far;
-          out = r.goes.out ∙ ap (λ (fs : List PlainFrame). octets_of h.links.out ++ map (spelling_of end) fs) (sym p.link.out);
-          back = r.goes.back;
-          sent = r.goes.sent ∙ ap (λ (fs : List PlainFrame). h.links.sent ++ fs) (sym p.link.out);
-          met = r.goes.met;
-        })
+        let r = puts_go (settings_from end cfg) h.links v session packets handed t step came left v.met g p in
+        goes_on cfg end w h step left (all_act (link_of cfg end) (puts_of handed) v) v.met moves packets lifted handed came (back_read cfg handed packets p.readable) took (back_octets cfg handed packets p.readable) r
         (record {
           layer = ap (λ (e : layer.End). e.layer) (sym near) ∙ m.layer;
           out = ap (λ (e : layer.End). e.is_out) (sym near) ∙ m.up;
@@ -213,7 +142,7 @@ module _ {since : Beginning} (laws : SessionLaws) (cfg : Cfg) (fine : IsConfigur
           entries = ap (λ (e : layer.End). e.entries) (sym near) ∙ m.entries;
           told = told_then;
         })
-        up still plain kept tells gave gives counts r.reach alone
+        up (puts_up laws.stations.put_tells (settings_from end cfg) t packets handed step p up_after) plain kept tells gave gives counts (puts_reach cfg end handed v asks reach) alone
         (no_faults_behind own_now.told (layer_notices step.entries)
         (subst AreNoFaults (ap (λ (e : layer.End). e.told) (own_goes cfg end session h.trace moves) ∙ told_then) (own_quiet laws cfg end session paired.0 (h.trace ++ moved end session moves) paired.1).told))
         octets pairs more news
@@ -225,9 +154,8 @@ module _ {since : Beginning} (laws : SessionLaws) (cfg : Cfg) (fine : IsConfigur
     channels : List ℕ
     packets : List PlainPacket
     handed : List (List ℕ)
-    link : PutsOctets (settings_from end cfg) (alone w.near.link) handed step
     layer : MovesAs (apart.alone own_now []) (moves_all (layer_of cfg end) (apart.alone own_now []) (Requested (waits w.near.link.outgoing == 256) request ∷ pulls_of channels)) packets step
-    back : AreReadable cfg.wide cfg.long_data packets → AreReadBack cfg handed packets
+    puts : AreReadable cfg.wide cfg.long_data packets → PutsRead (settings_from end cfg) (alone w.near.link) packets handed step
     up : is_up w.near.link.phase ≡ true
     may : command.may_ask cfg.wide request ≡ true
     plain : ArePlain step.entries
@@ -258,19 +186,19 @@ module _ {since : Beginning} (laws : SessionLaws) (cfg : Cfg) (fine : IsConfigur
     asked_readable : AreReadable cfg.wide cfg.long_data a.packets
     asked_readable = puts_readable moves a.packets (ap (λ (e : layer.End). e.given) (sym near_on) ∙ a.layer.given) ((octets, a.may), pulls_bring_octets cfg.wide end session a.channels) pair_on
 
-    asked_puts : PutsRead cfg end (alone w.near.link) step
-    asked_puts = record { handed = a.handed; packets = a.packets; link = a.link; readable = a.back asked_readable }
+    asked_puts : HasPut (settings_from end cfg) (alone w.near.link) step
+    asked_puts = record { handed = a.handed; packets = a.packets; put = a.puts asked_readable }
 
     asked_joined : ((o : List ℕ) → MayAsk since end (line.Put o)) → Goes since cfg end h.links gave (after_step (settings_from end cfg) w w.back step)
-    unfolding asked_puts
     asked_joined may =
         let nothing : TakeNothing moves = (tt, pulls_take_nothing a.channels) in
-        let leaves = request_leaves (layer_of cfg end) own_now full request a.channels in
+        let leaves = asked_leaves (layer_of cfg end) begin (Requested full request ∷ pulls_of a.channels) (tt, pulls_asked a.channels) in
         let untold : layer_notices step.entries ≡ [] =
-        append_cancel_left own_now.told (layer_notices step.entries) [] (sym a.layer.told ∙ ap (λ (e : layer.End). e.told) near_on ∙ leaves.told ∙ sym (append-nil own_now.told)) in
-        joins step h.links (alone w.near.link) world_on moves [] [] [] refl w.back (stays_goes (link_of cfg end) h.links w.near.link w.back h.near.link h.back) a.up a.up asked_puts a.layer near_on (leaves.taken ∙ sym (append-nil own_now.taken))
+        append_cancel_left own_now.told (layer_notices step.entries) [] (sym a.layer.told ∙ leaves.told ∙ sym (append-nil own_now.told)) in
+        subst (λ (os : List (List ℕ)). Goes since cfg end h.links gave (after_step (settings_from end cfg) w os step)) h.back
+        (joins step h.links (alone w.near.link) world_on moves a.packets [] [] a.handed [] refl h.links.back (stays_goes (link_of cfg end) h.links w.near.link h.near.link) a.up a.up (a.puts asked_readable) a.layer near_on (ap (λ (e : layer.End). e.taken) (sym near_on) ∙ leaves.taken ∙ sym (append-nil own_now.taken))
         a.plain a.kept ((octets, a.may), pulls_bring_octets cfg.wide end session a.channels) pair_on (subst (λ (l : List Came). AreTold l []) (sym a.alone) tt) gave (a.gives asked_readable) (λ k name. (let none = a.uncounted k name in omega (arith, none)))
-        may h.reach (λ none. nothing) (pairs_go_quietly laws cfg end h.trace session moves nothing h.links.met h.pairs) (λ n m has. has) (λ none. inl (refl, untold))
+        may h.reach (λ none. nothing) (pairs_go_quietly laws cfg end h.trace session moves nothing h.links.met h.pairs) (λ n m has. has) (λ none. inl (refl, untold)))
 
   -- ---- without anything given
 
@@ -284,9 +212,8 @@ module _ {since : Beginning} (laws : SessionLaws) (cfg : Cfg) (fine : IsConfigur
         channels = j.0;
         packets = j.2.packets;
         handed = spelled j.2.packets;
-        link = puts_spelled c (alone w.near.link) j.2.packets step j.2.link;
+        puts = puts_spelled c (alone w.near.link) j.2.packets step j.2.link;
         layer = j.2.layer;
-        back = spelled_back cfg j.2.packets;
         up = granted.is_up;
         may = granted.is_taken;
         plain = subst ArePlain (sym granted.entries) (outcome_plain (layer_settings c) w.near.layer request _);
@@ -296,7 +223,7 @@ module _ {since : Beginning} (laws : SessionLaws) (cfg : Cfg) (fine : IsConfigur
         kept = subst KeptBy is (laws.stations.request_keeps c w.near request h.near.kept);
       }
 
-  pub request_puts : (request : LayerRequest) → RequestsOctets request → (step : Step) → requests (settings_from end cfg) w.near request ≡ Did step → PutsRead cfg end (alone w.near.link) step
+  pub request_puts : (request : LayerRequest) → RequestsOctets request → (step : Step) → requests (settings_from end cfg) w.near request ≡ Did step → HasPut (settings_from end cfg) (alone w.near.link) step
   request_puts request octets step is = asked_puts request octets gave_none step (request_asked request step is)
 
   -- what is asked for may be said in full
@@ -328,9 +255,8 @@ module _ {since : Beginning} (laws : SessionLaws) (cfg : Cfg) (fine : IsConfigur
         channels = j.0;
         packets = j.2.packets;
         handed = spelled_with g j.2.packets;
-        link = puts_spelled_with c g (alone w.near.link) j.2.packets step j.2.link;
+        puts = puts_spelled_with laws.stations.given_read c g (alone w.near.link) j.2.packets step taken.0 may.0 of_given j.2.link;
         layer = j.2.layer;
-        back = spelled_with_back laws.stations.given_read cfg g j.2.packets taken.0 may.0 of_given;
         up = granted.is_up;
         may = suits_asks cfg.wide g request may.1;
         plain = subst ArePlain (sym granted.entries) (outcome_plain (layer_settings c) w.near.layer request _);
@@ -343,7 +269,7 @@ module _ {since : Beginning} (laws : SessionLaws) (cfg : Cfg) (fine : IsConfigur
         kept = subst KeptBy is (laws.stations.given_keeps c w.near g request h.near.kept);
       }
 
-  pub given_puts : (g : PlainGiven) (request : LayerRequest) → GivesOctets g → RequestsOctets request → (step : Step) → gives (settings_from end cfg) w.near g request ≡ Did step → PutsRead cfg end (alone w.near.link) step
+  pub given_puts : (g : PlainGiven) (request : LayerRequest) → GivesOctets g → RequestsOctets request → (step : Step) → gives (settings_from end cfg) w.near g request ≡ Did step → HasPut (settings_from end cfg) (alone w.near.link) step
   given_puts g request of_given octets step is = asked_puts request octets (gave_by_request g request None) step (given_asked g request of_given step is)
 
   pub gives_joined : (g : PlainGiven) (asked request : LayerRequest) → IsAt since end (Commands (command.RequestsWith g asked)) → GivesOctets g → RequestsOctets request

@@ -1,5 +1,5 @@
 -- Timer T1 runs out, and the link is polled, connected, disconnected and set up anew, over set-up and re-set-up.
-use Rattle.std.proofs.Common.{◌≡◌, ℕ, ◌+◌, List, [], ◌∷◌, Bool, true, false, ◌&&◌, ◌||◌, if◌then◌else◌, Option, Some, None, Result, Ok, option_to_list, refl, sym, ap, ◌∙◌, subst, arith}
+use Rattle.std.proofs.Common.{◌≡◌, ℕ, ◌+◌, List, [], ◌∷◌, Bool, true, false, ◌&&◌, ◌||◌, if◌then◌else◌, Option, Some, None, Result, Ok, refl, sym, ap, ◌∙◌, subst, arith}
 use Rattle.std.specs.List.{list_any}
 use Rattle.x25_bits.specs.Role as bits
 use Rattle.x25_bits.specs.declared.role.Role.{Role}
@@ -8,15 +8,13 @@ use Rattle.x25_frame.specs.Frame.{PlainFrame, sabm, ua}
 use Rattle.x25_frame.specs.Reading.{frame_of}
 use Rattle.x25_frame.specs.declared.error.FrameError.{FrameError}
 use Rattle.x25_link.specs.declared.error.LinkError.{LinkError}
-use Rattle.x25_link.specs.declared.phase.Phase.{Phase}
-use Rattle.x25_link.specs.declared.phase.Phase.TheVariants.{Waiting, Down, Up, Closed}
-use Rattle.x25_link.specs.Station.{LinkStation, Side, is_up, with_nothing, awaits_ua, Settings as LinkSettings}
-use Rattle.x25_link.specs.Hearing.{other, Step as LinkStep, quiet}
+use Rattle.x25_link.specs.Station.{LinkStation, awaits_ua, Settings as LinkSettings}
+use Rattle.x25_link.specs.Hearing.{other, Step as LinkStep}
 use Rattle.x25_link.specs.laws.NoteLaw.{Tells}
-use Rattle.x25_link.specs.Link.{timer_refusal, timer_step, connect_refusal, connect_step, disconnect_refusal, disconnect_step, probe_refusal, abandon_step, relink_refusal, relink_step}
+use Rattle.x25_link.specs.Link.{timer_refusal, timer_step, connect_refusal, connect_step, disconnect_refusal, disconnect_step, probe_refusal, relink_refusal, relink_step}
 use Rattle.x25_line.specs.laws.Stations as line
 use Rattle.x25_line.specs.laws.Sessions as links
-use Rattle.x25_line.specs.laws.Sessions.{Meeting, Sessions, begun_by, sabm_in, ua_in, how_many, IsTimely}
+use Rattle.x25_line.specs.laws.Sessions.{begun_by, sabm_in, ua_in, how_many, IsTimely}
 use Rattle.x25_line.specs.laws.SessionClaims.{octets_of}
 use Rattle.x25_station.specs.declared.config.Cfg.{Cfg}
 use Rattle.x25_station.specs.Config.{settings_from, longest_packet}
@@ -31,35 +29,12 @@ use Rattle.x25_world.specs.declared.error.WorldError.TheVariants as error
 use Rattle.x25_world.specs.World.{World, Declined, Commands, Fires, of_station, refusal_of, is_on_line, fired, after, after_step}
 use Rattle.x25_world.specs.laws.Claims.{link_of, IsNoConnect}
 use Rattle.x25_world.proofs.Known.{IsConfigured, true_false, second_false}
-use Rattle.x25_world.proofs.sessions.SessionReaches.{Beginning, set_up, MayAct, MayAsk, IsAt, may_ask, SessionsReach, sessions_act}
-use Rattle.x25_world.proofs.sessions.SessionJoined.{HasMet, PairsAreInOrder, SessionsJoined, Goes, gave_none, stays}
+use Rattle.x25_world.proofs.sessions.SessionReaches.{Beginning, set_up, MayAct, MayAsk, IsAt, may_ask, sessions_act}
+use Rattle.x25_world.proofs.sessions.SessionJoined.{SessionsJoined, Goes, gave_none, stays}
 use Rattle.x25_world.specs.laws.LawsBelow.{SessionLaws}
-use Rattle.x25_world.proofs.sessions.SessionLinks.{SessionGoes, own_step, left_at, two_steps_go}
-use Rattle.x25_world.proofs.sessions.SessionFollows.{Lead, no_command, connect, disconnect, relink, lead_of, timer_silent, follows_silent}
-use Rattle.x25_link.specs.declared.phase.Reason.TheVariants.{Counts}
-
--- connect is accepted in Down alone
-was_down : (p : Phase) → connect_refusal p ≡ None → p ≡ Down
-was_down Down is = refl
-was_down p is = absurd (cc)
-
--- a probe is refused where the link isn't up
-probe_acts : (c : LinkSettings) (v : Sessions)
-    → links.acts c line.Probe v ≡ links.unless (probe_refusal v.near.station.phase) v (links.after_step c v v.back v.met [] (timer_step c v.near.station))
-probe_acts c v = by v.near.station.phase
-  where
-    by : (p : Phase) → (let done = links.after_step c v v.back v.met [] (timer_step c v.near.station) in (if is_up p then done else v) ≡ links.unless (probe_refusal p) v done)
-    by Down = refl
-    by Waiting = refl
-    by Up = refl
-    by Closed = refl
-
--- relink is accepted in Up alone
-was_up : (p : Phase) → relink_refusal p ≡ None → is_up p ≡ true
-was_up Down is = absurd (cc)
-was_up Waiting is = absurd (cc)
-was_up Up is = refl
-was_up Closed is = absurd (cc)
+use Rattle.x25_peer.proofs.Granted.{connects_in_down, relinks_in_up, timer_silent}
+use Rattle.x25_peer.proofs.sessions.LinkSteps.{act_goes, probe_acts, relink_goes}
+use Rattle.x25_world.proofs.sessions.SessionFollows.{Lead, no_command, connect, disconnect, relink, lead_of, follows_silent}
 
 -- ---- frames of a set-up on the line
 
@@ -103,16 +78,10 @@ module _ {since : Beginning} (laws : SessionLaws) (cfg : Cfg) (fine : IsConfigur
   act_follows lead act refusal step is same timely may asks accepted none tells kept =
       let c = link_of cfg end in
       let k = step w.near.link in
-      let v = links.after_step c h.links h.links.back h.links.met [] k in
-      let done : links.acts c act h.links ≡ v =
-      is ∙ ap (λ (s : LinkStation). links.unless (refusal s) h.links (links.after_step c h.links h.links.back h.links.met [] (step s))) h.near.link
-      ∙ ap (λ (o : Option LinkError). links.unless o h.links v) accepted in
-      let not_up : k.notes.up ≡ false = not_begun_by k.notes.up h.links.near.begun (sym (ap (λ (x : Sessions). x.near.begun) done) ∙ same) in
-      follows_silent laws cfg fine end w h lead w.back k v (subst (λ (x : Sessions). SessionsReach since cfg end x) done (sessions_act cfg end act h.links timely may asks h.reach)) h.pairs (λ n m has. has) tells not_up
-      (subst (λ (b : Bool). SessionGoes c h.links v (begun_by b h.links.near.begun) k.side.near k.side.out [] [] w.back h.links.met) not_up
-      (subst (λ (p : Option (List ℕ)). SessionGoes c h.links v (begun_by k.notes.up h.links.near.begun) k.side.near k.side.out [] (option_to_list p) w.back h.links.met) none
-      (subst (λ (os : List (List ℕ)). SessionGoes c h.links v (begun_by k.notes.up h.links.near.begun) k.side.near k.side.out [] (option_to_list k.packet) os h.links.met) h.back
-      (own_step c h.links h.links.back h.links.met k)))) none kept
+      let g = act_goes c h.links w.near.link act refusal step is h.near.link accepted in
+      subst (λ (os : List (List ℕ)). Goes since cfg end h.links gave_none (after_step (settings_from end cfg) w os (led_by (lead_of lead) (follows (settings_from end cfg) w.near.layer k)))) h.back
+      (follows_silent laws cfg fine end w h lead h.links.back k (links.acts c act h.links) h.links.met (sessions_act cfg end act h.links timely may asks h.reach) h.pairs (λ n m has. has) tells g
+      (not_begun_by k.notes.up h.links.near.begun (sym g.begun ∙ same)) none kept)
 
   -- or that is refused
   act_joined : (lead : Lead) (act : line.Act) (refusal : LinkStation → Option LinkError) (step : LinkStation → LinkStep)
@@ -165,7 +134,7 @@ module _ {since : Beginning} (laws : SessionLaws) (cfg : Cfg) (fine : IsConfigur
       (after w (of_station (settings_from end cfg) w (unless (connect_refusal w.near.link.phase) (led_by (lead_of lead) (follows (settings_from end cfg) w.near.layer (connect_step (link_of cfg end) w.near.link))))))
   connecting lead asks may =
       act_joined lead line.Connect (λ (s : LinkStation). connect_refusal s.phase) (connect_step (link_of cfg end)) refl (laws.hands (link_of cfg end) (link_of cfg end) (line.Near line.Connect) h.links).0.begun tt
-      (λ accepted free s same is. may free accepted) asks refl (λ accepted. laws.stations.connect_tells (link_of cfg end) w.near.link (was_down w.near.link.phase accepted))
+      (λ accepted free s same is. may free accepted) asks refl (λ accepted. laws.stations.connect_tells (link_of cfg end) w.near.link (connects_in_down w.near.link.phase accepted))
 
   pub connects_joined : IsAt since end (Commands Connects) → (since ≡ set_up false → IsNoConnect (Commands Connects) (refusal_of (of_station (settings_from end cfg) w (connects_asked (settings_from end cfg) w.near))))
       → Goes since cfg end h.links gave_none (after w (of_station (settings_from end cfg) w (connects_asked (settings_from end cfg) w.near)))
@@ -195,41 +164,19 @@ module _ {since : Beginning} (laws : SessionLaws) (cfg : Cfg) (fine : IsConfigur
       c : LinkSettings
       c = link_of cfg end
 
-      s : LinkStation
-      s = w.near.link
-
       k : LinkStep
-      k = relink_step c s
+      k = relink_step c w.near.link
 
       step : Step
       step = led_by (relink_asked ∷ []) (follows (settings_from end cfg) w.near.layer k)
 
-      again : Side
-      again = (connect_step c (with_nothing Down s.tries)).side
-
-      left : LinkStep → Sessions
-      left x = links.after_step c h.links h.links.back h.links.met [] x
-
-      v : Sessions
-      v = links.acts c line.Connect (links.acts c line.Abandon h.links)
-
-      by : (o : Option LinkError) → relink_refusal s.phase ≡ o → (since ≡ set_up false → IsNoConnect (Commands Relinks) (refusal_of (of_station (settings_from end cfg) w (unless o step))))
+      by : (o : Option LinkError) → relink_refusal w.near.link.phase ≡ o → (since ≡ set_up false → IsNoConnect (Commands Relinks) (refusal_of (of_station (settings_from end cfg) w (unless o step))))
           → Goes since cfg end h.links gave_none (after w (of_station (settings_from end cfg) w (unless o step)))
       by (Some e) is none = stays cfg end w h gave_none
       by None is none =
-          let two = laws.stations.relinks c s in
-          let was : links.acts c line.Abandon h.links ≡ left (left_at (with_nothing Down s.tries) (Some Counts)) =
-          ap (λ (x : LinkStation). if is_up x.phase then left (abandon_step c x) else h.links) h.near.link
-          ∙ ap (λ (b : Bool). if b then left (abandon_step c s) else h.links) (was_up s.phase is)
-          ∙ ap (λ (t : Side). let x : LinkStep = record { side = t; packet = None; notes = record { down = Some Counts; up = false } } in left x) two.abandoned in
-          let same : v ≡ links.after_step c (left (left_at (with_nothing Down s.tries) (Some Counts))) h.links.back h.links.met [] (quiet again) = ap (links.acts c line.Connect) was in
-          let met : v.met ≡ h.links.met = ap (λ (x : Sessions). x.met) same in
-          follows_silent laws cfg fine end w h relink w.back k v
+          subst (λ (os : List (List ℕ)). Goes since cfg end h.links gave_none (after_step (settings_from end cfg) w os step)) h.back
+          (follows_silent laws cfg fine end w h relink h.links.back k (links.acts c line.Connect (links.acts c line.Abandon h.links)) h.links.met
           (sessions_act cfg end line.Connect (links.acts c line.Abandon h.links) tt (λ free x same. absurd (none free)) (may_ask end (Commands Relinks) line.Connect is_at tt)
           (sessions_act cfg end line.Abandon h.links tt (λ off x same. tt) (may_ask end (Commands Relinks) line.Abandon is_at tt) h.reach))
-          (subst (λ (x : List Meeting). PairsAreInOrder cfg end h.trace x) (sym met) h.pairs) (λ n m has. subst (λ (x : List Meeting). HasMet n m x) (sym met) has) (laws.stations.relink_tells c s) refl
-          (subst (λ (x : Sessions). SessionGoes c h.links x h.links.near.begun k.side.near k.side.out [] [] w.back x.met) (sym same)
-          (subst (λ (t : Side). SessionGoes c h.links (links.after_step c (left (left_at (with_nothing Down s.tries) (Some Counts))) h.links.back h.links.met [] (quiet again)) h.links.near.begun t.near t.out [] [] w.back h.links.met) (sym two.connected)
-          (subst (λ (os : List (List ℕ)). SessionGoes c h.links (links.after_step c (left (left_at (with_nothing Down s.tries) (Some Counts))) h.links.back h.links.met [] (quiet again)) h.links.near.begun again.near again.out [] [] os h.links.met) h.back
-          (two_steps_go c h.links (with_nothing Down s.tries) (Some Counts) again)))) refl
-          (subst (λ (o : Option LinkError). KeptBy (unless o step)) is (laws.stations.command_keeps (settings_from end cfg) w.near Relinks h.near.kept))
+          h.pairs (λ n m has. has) (laws.stations.relink_tells c w.near.link) (relink_goes laws.stations.relinks c h.links w.near.link h.near.link (relinks_in_up w.near.link.phase is)) refl refl
+          (subst (λ (o : Option LinkError). KeptBy (unless o step)) is (laws.stations.command_keeps (settings_from end cfg) w.near Relinks h.near.kept)))

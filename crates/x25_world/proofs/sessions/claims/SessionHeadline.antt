@@ -8,12 +8,9 @@ use Rattle.x25_world.specs.laws.TapOctets.{IsTapOfOctets}
 use Rattle.x25_world.proofs.Known.{is_configured}
 use Rattle.x25_world.specs.laws.LawsBelow.{SessionLaws}
 use Rattle.x25_world.proofs.sessions.claims.SessionMeets.{meet_in_step}
-use Rattle.x25_world.proofs.sessions.claims.SessionLawful.{are_lawful, unmet_told_nothing}
-use Rattle.x25_world.proofs.sessions.claims.SessionNamed.{are_named}
+use Rattle.x25_world.proofs.sessions.claims.SessionLawful.{are_lawful, unmet_told_nothing, are_named, are_confirmed}
 use Rattle.x25_world.proofs.sessions.claims.SessionArrives.{open_stretches_meet, all_arrive}
-use Rattle.x25_world.proofs.sessions.claims.SessionQuiet.{has_no_error}
-use Rattle.x25_world.proofs.sessions.claims.SessionOctets.{is_of_octets}
-use Rattle.x25_world.proofs.sessions.claims.SessionConfirmed.{are_confirmed}
+use Rattle.x25_world.proofs.sessions.claims.SessionQuiet.{has_no_error, is_of_octets}
 use Rattle.x25_world.proofs.sessions.SessionRuns.{throughout_joined}
 
 module _ (laws : SessionLaws) (keeps : ConnectKeeps) where

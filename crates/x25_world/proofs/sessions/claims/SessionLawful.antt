@@ -1,27 +1,45 @@
--- What is handed up in a session of an end: a beginning of what was handed down in the one that it meets, and nothing where it meets
--- none.
+-- What is handed up and told in a session of an end: a beginning of what was handed down in the one that it meets, and nothing where it
+-- meets none. So what came beside a packet was given there, and what is told as confirmed was handed up.
 use Rattle.std.proofs.Common.{◌≡◌, ℕ, zero, suc, ◌==◌, ◌≤◌, ◌<◌, nat_le, ◌⊎◌, inl, inr, List, [], ◌∷◌, ◌++◌, Bool, true, false, ◌&&◌, Some, None, refl, sym, ap, ◌∙◌, subst, arith}
 use Rattle.std.proofs.lemmas.Bool.{eqb-true, leb-true, leb-false}
 use Rattle.x25_bits.specs.declared.role.Role.{Role}
 use Rattle.x25_bits.specs.declared.role.Role.TheVariants.{Dte, Dce}
 use Rattle.x25_link.specs.Hearing.{other}
-use Rattle.x25_line.specs.laws.SessionClaims.{OnlyBegunHaveLists}
-use Rattle.x25_layer.specs.laws.Transcript.{Entry}
+use Rattle.x25_link.specs.Station.{is_up}
+use Rattle.x25_line.specs.laws.SessionClaims.{OnlyBegunHaveLists, IsInOrder, MetAreInOrder}
+use Rattle.x25_line.specs.laws.Sessions.{Meeting, from_nothing}
+use Rattle.x25_line.proofs.ends.Meetings.{all_some}
+use Rattle.x25_handshakes.specs.laws.Histories.{IsPrefix}
+use Rattle.x25_handshakes.specs.laws.Names.{Name}
+use Rattle.x25_layer.specs.laws.Transcript.{Entry, name_of, under, messages_in}
 use Rattle.x25_layer.specs.laws.Law.{HandsUpLawfully}
+use Rattle.x25_layer.specs.Layer.{Layer, LayerNotice, goes_up}
+use Rattle.x25_layer.specs.laws.NameLaw.{first_name, counted, IsCounted}
+use Rattle.x25_layer.specs.laws.TwoLayers as layer
+use Rattle.x25_layer.specs.laws.TwoLayers.{started}
+use Rattle.x25_layer.specs.laws.Apart.{OwnMove}
 use Rattle.x25_station.specs.declared.config.Cfg.{Cfg}
 use Rattle.x25_station.specs.Entry.{StationEntry, link_up, link_down, layer_notices}
-use Rattle.x25_world.specs.World.{World, swapped}
+use Rattle.x25_station.specs.laws.KeepLaw.{ConnectKeeps}
+use Rattle.x25_world.specs.World.{World, swapped, Event, run}
 use Rattle.x25_world.specs.laws.Claims.{entries_at}
-use Rattle.x25_world.specs.laws.Sessions.{Progress, none_begun, after_entry, is_in, entry_if, session_from, session_at, handed_in, meets}
-use Rattle.x25_world.specs.laws.SessionClaims.{AreLawfulWhereMet, UnmetAreToldNothing}
-use Rattle.x25_world.proofs.Known.{IsConfigured}
-use Rattle.x25_world.proofs.Growing.{all_read, none_read}
-use Rattle.x25_world.proofs.sessions.SessionTrace.{layer_of, Done, own_in, own}
-use Rattle.x25_world.proofs.sessions.SessionReaches.{Beginning, known_sessions}
-use Rattle.x25_world.proofs.sessions.SessionJoined.{HasMet, PairIsInOrder, SessionsJoined, sessions_swapped}
+use Rattle.x25_world.specs.laws.Sessions.{Progress, none_begun, after_entry, is_in, entry_if, session_from, session_at, handed_in, meets, last_session}
+use Rattle.x25_world.specs.laws.SessionClaims.{AreLawfulWhereMet, UnmetAreToldNothing, AreNamedInSessions, ThroughoutAlong}
 use Rattle.x25_world.specs.laws.LawsBelow.{SessionLaws}
-use Rattle.x25_world.proofs.sessions.SessionKnown.{met_in_order, of_either}
+use Rattle.x25_world.specs.laws.BesideClaims.{Came, came_in, Gave, gave_in, IsGiven, AreSomeOf, BesideIsGiven}
+use Rattle.x25_world.specs.laws.ConfirmedClaims.{confirmed_in, asked_among, ConfirmedAreHandedUp}
+use Rattle.x25_world.proofs.Known.{IsConfigured, is_configured}
+use Rattle.x25_world.proofs.Growing.{all_read, none_read}
+use Rattle.x25_world.proofs.sessions.SessionTrace.{layer_of, Done, own_in, own, numbers, pair_at, moves_of_pair}
+use Rattle.x25_world.proofs.sessions.SessionReaches.{Beginning, known_sessions, both_down}
+use Rattle.x25_world.proofs.sessions.SessionJoined.{HasMet, PairIsInOrder, SessionsJoined, sessions_swapped}
+use Rattle.x25_world.proofs.sessions.SessionKnown.{met_in_order, of_either, pair_ends, here_in, there_is}
 use Rattle.x25_world.proofs.sessions.claims.SessionMeets.{told_met, unmet_up, begun_both}
+use Rattle.x25_world.proofs.sessions.acts.SessionRequests.{session_pair}
+use Rattle.x25_world.proofs.sessions.SessionBeside.{brought, brought_append, AreTold, MoreIs, some_begin, some_of_same, some_of_none}
+use Rattle.x25_world.proofs.sessions.SessionRuns.{RunGoes, throughout_goes}
+use Rattle.x25_world.proofs.sessions.SessionCounts.{counted_in, none_counted}
+use Rattle.x25_world.proofs.sessions.SessionConfirms.{up_of, confirms}
 
 -- ---- which session
 
@@ -71,6 +89,22 @@ unbegun_nothing cfg end w h n never = elim never [
   | inr later ↦ (h.near.later n later).entries
 ]
 
+-- ---- the session that it meets, or none
+
+record MeetsBegun {since : Beginning} (cfg : Cfg) (end : Role) (w : World) (h : SessionsJoined since cfg end w) (n m : ℕ) : Type 0 where
+  has_met : HasMet n m h.links.met
+  near : (1 ≤ n) × (n ≤ h.links.near.begun)
+  far : (1 ≤ m) × (m ≤ h.links.far.begun)
+
+meets_begun : {since : Beginning} (laws : SessionLaws) (cfg : Cfg) → IsConfigured cfg → (end : Role) (w : World) (h : SessionsJoined since cfg end w) (n m : ℕ) → meets end n w.transcript ≡ Some m → MeetsBegun cfg end w h n m
+meets_begun laws cfg fine end w h n m told =
+    let met = told_met (λ (n m : ℕ). HasMet n m h.links.met) n m (h.links.near.up n) (meets end n w.transcript) (h.near_hears n) told in
+    let high = begun_both h.links.near.begun h.links.far.begun h.links.met n m (known_sessions OnlyBegunHaveLists laws.begun cfg fine end h.links h.reach).met met.has_met in
+    record { has_met = met.has_met; near = (met.begun.0, high.0); far = (met.begun.1, high.1) }
+
+nothing_up : {since : Beginning} (cfg : Cfg) (end : Role) (w : World) (h : SessionsJoined since cfg end w) (n : ℕ) → meets end n w.transcript ≡ None → h.links.near.up n ≡ []
+nothing_up cfg end w h n unmet = unmet_up (λ (n m : ℕ). HasMet n m h.links.met) n (h.links.near.up n) (meets end n w.transcript) (h.near_hears n) unmet
+
 -- ---- of two layers in order
 
 module _ (laws : SessionLaws) (cfg : Cfg) where
@@ -82,10 +116,9 @@ module _ (laws : SessionLaws) (cfg : Cfg) (fine : IsConfigured cfg) where
 
   lawful_from : {since : Beginning} (end : Role) (w : World) → SessionsJoined since cfg end w → (n m : ℕ) → meets end n w.transcript ≡ Some m → HandsUpLawfully (handed_in end n w) (handed_in (other end) m w)
   lawful_from end w h n m told =
-      let met = told_met (λ (n m : ℕ). HasMet n m h.links.met) n m (h.links.near.up n) (meets end n w.transcript) (h.near_hears n) told in
-      let high = begun_both h.links.near.begun h.links.far.begun h.links.met n m (known_sessions OnlyBegunHaveLists laws.begun cfg fine end h.links h.reach).met met.has_met in
-      let here = h.near.sessions n met.begun.0 high.0 in
-      let there = h.far.sessions m met.begun.1 high.1 in
+      let met = meets_begun laws cfg fine end w h n m told in
+      let here = h.near.sessions n met.near.0 met.near.1 in
+      let there = h.far.sessions m met.far.0 met.far.1 in
       subst (λ (e : List Entry). HandsUpLawfully e (handed_in (other end) m w)) here.entries
       (subst (λ (f : List Entry). HandsUpLawfully (own cfg end n h.trace).entries f) there.entries
       (own_lawful laws cfg end n m h.trace (met_in_order cfg end h.trace h.links.met n m h.pairs met.has_met)))
@@ -102,14 +135,126 @@ module _ (laws : SessionLaws) (cfg : Cfg) (fine : IsConfigured cfg) where
     | inr begun ↦ at_session begun.0 begun.1
   ]
     where
-      nothing_up : h.links.near.up n ≡ []
-      nothing_up = unmet_up (λ (n m : ℕ). HasMet n m h.links.met) n (h.links.near.up n) (meets end n w.transcript) (h.near_hears n) unmet
-
       at_session : 1 ≤ n → n ≤ h.links.near.begun → layer_notices (session_at end n w.transcript) ≡ []
       at_session low high =
           let session = h.near.sessions n low high in
-          sym session.told ∙ (laws.alone (layer_of cfg end) (own_in end n h.trace) (none_read (own cfg end n h.trace).taken (sym session.up ∙ ap (all_read cfg) nothing_up))).told
+          sym session.told ∙ (laws.alone (layer_of cfg end) (own_in end n h.trace) (none_read (own cfg end n h.trace).taken (sym session.up ∙ ap (all_read cfg) (nothing_up cfg end w h n unmet)))).told
 
   pub unmet_told_nothing : {since : Beginning} (w : World) → SessionsJoined since cfg Dte w → UnmetAreToldNothing cfg w
   unmet_told_nothing w h Dte n unmet = untold_from Dte w h n unmet
   unmet_told_nothing w h Dce n unmet = untold_from Dce (swapped w) (sessions_swapped cfg Dte w h) n unmet
+
+-- ---- the name of a stretch is what the session that stands tells of
+
+module _ (laws : SessionLaws) (cfg : Cfg) where
+  own_counts : (end : Role) (n m : ℕ) (trace : List Done) → PairIsInOrder cfg end trace n m → IsCounted (own cfg end n trace)
+  own_counts = of_either laws cfg (λ end e f. IsCounted e) (λ events order. (let both = laws.layers_named cfg.long_data cfg.channels events order in (both.near, both.far)))
+
+module _ (laws : SessionLaws) (cfg : Cfg) (fine : IsConfigured cfg) where
+  named_from : {since : Beginning} (end : Role) (w : World) → SessionsJoined since cfg end w → (k : ℕ) → is_up w.near.link.phase ≡ true
+      → name_of w.near.layer k ≡ counted k first_name (layer_notices (session_at end (last_session end w) w.transcript))
+  named_from end w h k up =
+      let n = h.links.near.begun in
+      let now = h.near.now up in
+      let pair = session_pair laws cfg fine end w h n in
+      let session = h.near.sessions n (h.near.first up) (omega arith) in
+      ap (λ (l : Layer). name_of l k) (sym now.layer) ∙ own_counts laws cfg end n pair.0 h.trace pair.1 k now.out ∙ ap (λ (ns : List LayerNotice). counted k first_name ns) session.told
+      ∙ ap (λ (p : Progress). counted k first_name (layer_notices (session_at end p.begun w.transcript))) (sym h.near.progress)
+
+  pub are_named : {since : Beginning} (w : World) → SessionsJoined since cfg Dte w → AreNamedInSessions cfg w
+  are_named w h Dte k up = named_from Dte w h k up
+  are_named w h Dce k up = named_from Dce (swapped w) (sessions_swapped cfg Dte w h) k up
+
+-- ---- what came beside a packet the other user gave
+
+-- of octets of which these are a beginning
+begin_given : (cfg : Cfg) (told : List Came) (up down : List (List ℕ)) (gave : List Gave) → AreTold told (brought cfg up) → IsPrefix up down → AreSomeOf IsGiven (brought cfg down) gave → AreSomeOf IsGiven told gave
+begin_given cfg told up down gave tells begins given =
+    some_of_same IsGiven told (brought cfg up) gave tells
+    (some_begin IsGiven (brought cfg up) (brought cfg begins.0) gave
+    (subst (λ (l : List Came). AreSomeOf IsGiven l gave) (brought_append cfg up begins.0) (subst (λ (os : List (List ℕ)). AreSomeOf IsGiven (brought cfg os) gave) (sym begins.1) given)))
+
+-- all that was handed down in a session that had nothing
+all_given : (cfg : Cfg) (down : List (List ℕ)) (gave : List Gave) → MoreIs cfg [] down gave → AreSomeOf IsGiven (brought cfg down) gave
+all_given cfg down gave m = subst (λ (os : List (List ℕ)). AreSomeOf IsGiven (brought cfg os) gave) (sym m.is) m.given
+
+module _ (laws : SessionLaws) (cfg : Cfg) (fine : IsConfigured cfg) {since : Beginning} (end : Role) (w : World) (h : SessionsJoined since cfg end w) where
+  given_from : (n m : ℕ) (gave : List Gave) → AreSomeOf IsGiven (brought cfg (h.links.far.down m)) gave → meets end n w.transcript ≡ Some m → AreSomeOf IsGiven (came_in (session_at end n w.transcript)) gave
+  given_from n m gave given told =
+      let met = meets_begun laws cfg fine end w h n m told in
+      let begins = all_some (IsInOrder h.links.near h.links.far) (λ (p : Meeting). (p.near ≡ n) × (p.far ≡ m)) (IsPrefix (h.links.near.up n) (h.links.far.down m))
+      (λ (p : Meeting) order is. subst (λ (k : ℕ). IsPrefix (h.links.near.up k) (h.links.far.down m)) is.0 (subst (λ (k : ℕ). IsPrefix (h.links.near.up p.near) (h.links.far.down k)) is.1 order.back))
+      h.links.met (known_sessions MetAreInOrder laws.order cfg fine end h.links h.reach) met.has_met in
+      begin_given cfg (came_in (session_at end n w.transcript)) (h.links.near.up n) (h.links.far.down m) gave (h.near.sessions n met.near.0 met.near.1).beside begins given
+
+  ungiven_from : (n : ℕ) → meets end n w.transcript ≡ None → came_in (session_at end n w.transcript) ≡ []
+  ungiven_from n unmet = elim (which_session h.links.near.begun n) [
+    | inl never ↦ ap came_in (unbegun_nothing cfg end w h n never)
+    | inr begun ↦ some_of_none (λ (x y : Came). x ≡ y) (came_in (session_at end n w.transcript)) (subst (λ (os : List (List ℕ)). AreTold (came_in (session_at end n w.transcript)) (brought cfg os)) (nothing_up cfg end w h n unmet) (h.near.sessions n begun.0 begun.1).beside)
+  ]
+
+module _ (laws : SessionLaws) (cfg : Cfg) (fine : IsConfigured cfg) (begin : World) (events : List Event) (w : World)
+    (r : RunGoes both_down cfg from_nothing (λ (n : ℕ). gave_in cfg Dte n events begin) (λ (n : ℕ). gave_in cfg Dce n events begin) w) where
+  met_given : (end : Role) (n m : ℕ) → meets end n w.transcript ≡ Some m → AreSomeOf IsGiven (came_in (session_at end n w.transcript)) (gave_in cfg (other end) m events begin)
+  unfolding sessions_swapped
+  met_given Dte n m told = given_from laws cfg fine Dte w r.joined n m (gave_in cfg Dce m events begin) (all_given cfg (r.joined.links.far.down m) (gave_in cfg Dce m events begin) (r.far m)) told
+  met_given Dce n m told =
+      given_from laws cfg fine Dce (swapped w) (sessions_swapped cfg Dte w r.joined) n m (gave_in cfg Dte m events begin) (all_given cfg (r.joined.links.near.down m) (gave_in cfg Dte m events begin) (r.near m)) told
+
+  unmet_untold : (end : Role) (n : ℕ) → meets end n w.transcript ≡ None → came_in (session_at end n w.transcript) ≡ []
+  unmet_untold Dte n none = ungiven_from laws cfg fine Dte w r.joined n none
+  unmet_untold Dce n none = ungiven_from laws cfg fine Dce (swapped w) (sessions_swapped cfg Dte w r.joined) n none
+
+pub beside_given : SessionLaws → ConnectKeeps → ThroughoutAlong BesideIsGiven
+beside_given laws keeps cfg fine begin is events octets =
+    let r = throughout_goes laws keeps cfg fine begin is events octets in
+    let w = run cfg events begin in
+    record { met = met_given laws cfg (is_configured cfg fine) begin events w r; unmet = unmet_untold laws cfg (is_configured cfg fine) begin events w r }
+
+-- ---- of what is told as confirmed so many messages were handed up
+
+module _ (laws : SessionLaws) (cfg : Cfg) (k : ℕ) (name : Name) where
+  abbrev counted_at_end : Role → List OwnMove → ℕ
+  counted_at_end end moves = counted_in (layer_of cfg end) k name moves (started (goes_up (layer_of cfg end)))
+
+  pair_confirms : (end : Role) (n m : ℕ) (trace : List Done) → PairIsInOrder cfg end trace n m → counted_at_end end (own_in end n trace) ≤ up_of k name (here_in (other end) (pair_ends cfg end n m trace))
+  pair_confirms Dte n m trace order =
+      subst (λ (l : List OwnMove). counted_at_end Dte l ≤ up_of k name (pair_ends cfg Dte n m trace).far) (moves_of_pair (numbers n m) Dte trace)
+      (confirms cfg.long_data cfg.channels laws.behind (laws.layers_acknowledged cfg.long_data cfg.channels) k name Dte (pair_at Dte n m trace) order)
+  pair_confirms Dce n m trace order =
+      subst (λ (l : List OwnMove). counted_at_end Dce l ≤ up_of k name (pair_ends cfg Dce n m trace).near) (moves_of_pair (numbers m n) Dce trace)
+      (confirms cfg.long_data cfg.channels laws.behind (laws.layers_acknowledged cfg.long_data cfg.channels) k name Dce (pair_at Dce n m trace) order)
+
+  own_confirms : (end : Role) (n m : ℕ) (trace : List Done) → PairIsInOrder cfg end trace n m → counted_at_end end (own_in end n trace) ≤ up_of k name (own cfg (other end) m trace)
+  own_confirms end n m trace order = subst (λ (e : layer.End). counted_at_end end (own_in end n trace) ≤ up_of k name e) (there_is laws cfg end n m trace) (pair_confirms end n m trace order)
+
+module _ (laws : SessionLaws) (cfg : Cfg) (fine : IsConfigured cfg) {since : Beginning} (end : Role) (w : World) (h : SessionsJoined since cfg end w) where
+  confirmed_from : (n m : ℕ) → meets end n w.transcript ≡ Some m → (k : ℕ) (name : Name)
+      → confirmed_in k name (session_at end n w.transcript) ≤ asked_among (messages_in (under k name (handed_in (other end) m w))).up
+  confirmed_from n m told k name =
+      let met = meets_begun laws cfg fine end w h n m told in
+      let counts = h.near.confirmed n k name in
+      let order = met_in_order cfg end h.trace h.links.met n m h.pairs met.has_met in
+      let confirms = own_confirms laws cfg k name end n m h.trace order in
+      let there : up_of k name (own cfg (other end) m h.trace) ≡ asked_among (messages_in (under k name (handed_in (other end) m w))).up =
+      ap (λ (es : List Entry). asked_among (messages_in (under k name es)).up) (h.far.sessions m met.far.0 met.far.1).entries in
+      omega (arith, counts, confirms, there)
+
+  unconfirmed_from : (n : ℕ) → meets end n w.transcript ≡ None → (k : ℕ) (name : Name) → confirmed_in k name (session_at end n w.transcript) ≡ 0
+  unconfirmed_from n unmet k name =
+      let counts = h.near.confirmed n k name in
+      let none = none_counted (layer_of cfg end) k name (own_in end n h.trace) (started (goes_up (layer_of cfg end))) (h.near.alone n (nothing_up cfg end w h n unmet)) in
+      omega (arith, counts, none)
+
+module _ (laws : SessionLaws) (cfg : Cfg) (fine : IsConfigured cfg) {since : Beginning} (w : World) (h : SessionsJoined since cfg Dte w) where
+  met_confirmed : (end : Role) (n m : ℕ) → meets end n w.transcript ≡ Some m → (k : ℕ) (name : Name)
+      → confirmed_in k name (session_at end n w.transcript) ≤ asked_among (messages_in (under k name (handed_in (other end) m w))).up
+  met_confirmed Dte n m told = confirmed_from laws cfg fine Dte w h n m told
+  met_confirmed Dce n m told = confirmed_from laws cfg fine Dce (swapped w) (sessions_swapped cfg Dte w h) n m told
+
+  unmet_confirmed : (end : Role) (n : ℕ) → meets end n w.transcript ≡ None → (k : ℕ) (name : Name) → confirmed_in k name (session_at end n w.transcript) ≡ 0
+  unmet_confirmed Dte n none = unconfirmed_from laws cfg fine Dte w h n none
+  unmet_confirmed Dce n none = unconfirmed_from laws cfg fine Dce (swapped w) (sessions_swapped cfg Dte w h) n none
+
+pub are_confirmed : SessionLaws → (cfg : Cfg) → IsConfigured cfg → {since : Beginning} (w : World) → SessionsJoined since cfg Dte w → ConfirmedAreHandedUp cfg w
+are_confirmed laws cfg fine w h = record { met = met_confirmed laws cfg fine w h; unmet = unmet_confirmed laws cfg fine w h }

@@ -1,32 +1,36 @@
 -- Over set-up and re-set-up no error of procedure is ever put on the line, or told to a user.
 use Rattle.std.proofs.Common.{◌≡◌, ℕ, zero, suc, List, [], ◌∷◌, Result, Ok, Contains, sym, subst, arith, ◌≤◌, ◌<◌, ◌⊎◌, inl, inr}
+use Rattle.std.proofs.lemmas.List.Elements.{All-nil}
 use Rattle.x25_bits.specs.declared.role.Role.{Role}
+use Rattle.x25_bits.specs.declared.role.Role.TheVariants.{Dte, Dce}
 use Rattle.x25_frame.specs.Frame.{PlainFrame, info, frmr}
-use Rattle.x25_frame.specs.Spelling.{spelling_of}
+use Rattle.x25_frame.specs.Spelling.{spelling_of, information_of}
 use Rattle.x25_frame.specs.Reading.{frame_of}
 use Rattle.x25_frame.specs.laws.ReadingLaw.{ReadsSpelled}
 use Rattle.x25_frame.specs.declared.error.FrameError.{FrameError}
 use Rattle.x25_packet.specs.Packet.{PlainPacket}
 use Rattle.x25_packet.specs.declared.error.PacketError.{PacketError}
 use Rattle.x25_line.specs.laws.StationClaims.{NoFrmr, IsWhole, AreWhole}
-use Rattle.x25_layer.specs.laws.Quiet.{AreQuiet, AreNoFaults}
-use Rattle.x25_station.specs.Config.{longest_packet}
-use Rattle.x25_world.specs.World.{OnTap, World, swapped}
-use Rattle.x25_world.proofs.Growing.{read_by, all_read, as_read, first_read, rest_read, AllAreOctets, AreOnTap}
-use Rattle.x25_bits.specs.declared.role.Role.TheVariants.{Dte, Dce}
 use Rattle.x25_line.specs.laws.Sessions.{Sessions}
 use Rattle.x25_line.specs.laws.SessionClaims.{OnlyBegunHaveLists, NoSessionSendsFrmr, AllSessionsSendWhole}
+use Rattle.x25_layer.specs.laws.Quiet.{AreQuiet, AreNoFaults}
+use Rattle.x25_station.specs.Config.{longest_packet}
 use Rattle.x25_station.specs.declared.config.Cfg.{Cfg}
 use Rattle.x25_station.specs.Entry.{layer_notices}
+use Rattle.x25_station.specs.laws.ReadLaw.{AreOctets}
+use Rattle.x25_world.specs.World.{OnTap, World, swapped}
 use Rattle.x25_world.specs.laws.Claims.{IsQuietRead, IsQuietFrame, IsQuietTap, HasNoProcedureError, entries_at}
+use Rattle.x25_world.specs.laws.LawsBelow.{SessionLaws}
+use Rattle.x25_world.specs.laws.TapOctets.{AreOfFrame, AreOfFrames, IsTapOfOctets}
+use Rattle.x25_world.proofs.Growing.{read_by, all_read, as_read, first_read, rest_read, AllAreOctets, AreOnTap, octets_in}
 use Rattle.x25_world.proofs.Known.{IsConfigured}
 use Rattle.x25_world.proofs.sessions.SessionTrace.{own}
 use Rattle.x25_world.proofs.sessions.SessionReaches.{Beginning, known_sessions}
 use Rattle.x25_world.proofs.sessions.SessionJoined.{SessionsJoined, sessions_swapped, links_swapped}
-use Rattle.x25_world.specs.laws.LawsBelow.{SessionLaws}
 use Rattle.x25_world.proofs.sessions.SessionKnown.{own_quiet}
 use Rattle.x25_world.proofs.sessions.claims.SessionLawful.{which_session}
 use Rattle.x25_world.proofs.sessions.acts.SessionRequests.{session_pair}
+use Rattle.x25_world.proofs.FrameOctets.{spelled_of_frame}
 
 -- ---- packets
 
@@ -118,3 +122,27 @@ module _ (laws : SessionLaws) (cfg : Cfg) (fine : IsConfigured cfg) where
       told : (end : Role) → AreNoFaults (layer_notices (entries_at end w.transcript))
       told Dte = h.near.no_fault
       told Dce = h.far.no_fault
+
+-- ---- all that is ever put on the line is octets, at most as many as a frame has
+
+-- a frame that was sent, and the others, of which none is FRMR
+frame_octets : (given : List (List ℕ)) → ((octets : List ℕ) → Contains given octets → AreOctets octets) → (f : PlainFrame) (fs : List PlainFrame) → IsWhole longest_packet given f → NoFrmr (f ∷ fs)
+    → AreOctets (information_of f) × NoFrmr fs
+frame_octets given holds (info ns nr p x) fs whole none = (holds x whole.packet, none)
+frame_octets given holds (frmr f why) fs whole none = absurd none
+frame_octets given holds f fs whole none = (All-nil (λ octet. octet < 256), none)
+
+tap_octets : (given : List (List ℕ)) → ((octets : List ℕ) → Contains given octets → AreOctets octets) → (tap : List OnTap) (fs : List PlainFrame) → AreOnTap tap fs → AreWhole longest_packet given fs → NoFrmr fs → AreOfFrames tap
+tap_octets given holds [] [] on whole none = tt
+tap_octets given holds (t ∷ tap) (f ∷ fs) on whole none =
+    let here = frame_octets given holds f fs whole.0 none in (
+      subst AreOfFrame (sym on.0) (spelled_of_frame t.from f whole.0.in_range whole.0.carries whole.0.within here.0),
+      tap_octets given holds tap fs on.1 whole.1 here.1,
+    )
+tap_octets given holds tap fs on whole none = absurd on
+
+pub is_of_octets : (laws : SessionLaws) (cfg : Cfg) (fine : IsConfigured cfg) {since : Beginning} (w : World) → SessionsJoined since cfg Dte w → IsTapOfOctets cfg w
+is_of_octets laws cfg fine w h =
+    let whole = known_sessions AllSessionsSendWhole laws.whole cfg fine Dte h.links h.reach in
+    tap_octets whole.given (λ octets there. held_of_given laws cfg fine AreOctets (λ down ps quiet reads all. octets_in down all) w h octets (whole.handed_down octets there)) w.tap h.links.sent h.tap whole.whole
+    (known_sessions NoSessionSendsFrmr laws.no_frmr cfg fine Dte h.links h.reach)

@@ -3,8 +3,8 @@ use Rattle.x25_world.specs.World.{run}
 use Rattle.x25_world.specs.Healing.{healing, RestShows, ArrivesByHealing, RestShowsAll}
 use Rattle.x25_world.specs.laws.SessionClaims.{SessionsKeepOrder}
 use Rattle.x25_world.specs.code.FitsHealing.{most_times, telling}
-use Rattle.x25_world.proofs.WorldLemmas.{all_of_sessions}
-use Rattle.x25_world.proofs.HealingSchedule.{run_append, tells_nothing}
+use Rattle.x25_world.proofs.WorldLemmas.{run_append, all_of_sessions}
+use Rattle.x25_world.proofs.HealingSchedule.{tells_nothing}
 use Rattle.x25_world.proofs.HealingRounds.{holds_healed}
 use Rattle.x25_world.proofs.world.World.heal.Goals as goal
 

@@ -1,0 +1,99 @@
+-- What is seen of a command that a station accepts, and of a firing of its timer T1.
+use Rattle.std.proofs.Common.{◌≡◌, ◌+◌, ◌==◌, nat_lt, List, Bool, true, false, if◌then◌else◌, Option, None, refl, sym, ap, subst}
+use Rattle.x25_packet.specs.Packet.{PlainPacket}
+use Rattle.x25_given.specs.Given.{PlainGiven}
+use Rattle.x25_link.specs.declared.phase.Phase.{Phase}
+use Rattle.x25_link.specs.declared.phase.Phase.TheVariants.{Down, Waiting, Up, Closed}
+use Rattle.x25_link.specs.declared.phase.Reason.TheVariants.{Retries}
+use Rattle.x25_link.specs.Outgoing.{waits}
+use Rattle.x25_link.specs.Station.{Settings as LinkSettings, LinkStation, is_up, with_near}
+use Rattle.x25_link.specs.Hearing.{quiet, leaves}
+use Rattle.x25_link.specs.Link.{alone, closed_by, asks_again, timer_step, connect_refusal, relink_refusal}
+use Rattle.x25_circuit.specs.Calling.{Sends}
+use Rattle.x25_layer.specs.Layer.{Layer}
+use Rattle.x25_layer.specs.Calls.{LayerRequest, Asks, LayerOutcome, Accepted, Declined, layer_outcome}
+use Rattle.x25_layer.specs.Rounds.{Refuses, went}
+use Rattle.x25_layer.specs.declared.error.LayerError.TheVariants as layer_error
+use Rattle.x25_station.specs.declared.error.StationError.{StationError}
+use Rattle.x25_station.specs.declared.error.StationError.TheVariants as error
+use Rattle.x25_station.specs.Config.{Settings, layer_settings, link_settings}
+use Rattle.x25_station.specs.Command.{may_ask}
+use Rattle.x25_station.specs.Entry.{StationEntry}
+use Rattle.x25_station.specs.Giving.{suits, is_taken, view_given, not_taken}
+use Rattle.x25_station.specs.Station.{Station, view_of}
+use Rattle.x25_station.specs.Step.{Step, Outcome, Did, Refused, requests, did, entries_of_outcome, gave, gives, where_asked}
+
+abbrev step_in : Step → Outcome → Step
+step_in k (Did step) = step
+step_in k (Refused e) = k
+
+refused_did : {A : Type 0} (e : StationError) (step : Step) → Refused e ≡ Did step → A
+refused_did e step is = absurd (subst (λ (o : Outcome). elim o as (λ _. Type 0) [ Did x ↦ ⊥ | Refused y ↦ Unit {0} ]) is tt)
+
+-- what something is given beside is no message
+pub suits_asks : (wide : Bool) (g : PlainGiven) (request : LayerRequest) → suits g request ≡ true → may_ask wide request ≡ true
+suits_asks wide g (Asks h (Sends marks user)) is = absurd (cc)
+suits_asks wide g (Asks h request) is = refl
+suits_asks wide g request is = refl
+
+-- What is seen of a command that is accepted: the link is up, what is given is taken, and the layer accepts it.
+pub record IsGranted (up taken : Bool) (o : LayerOutcome) (told : List StationEntry) (step : Step) : Type 0 where
+  pub is_up : up ≡ true
+  pub is_taken : taken ≡ true
+  pub next : Layer
+  pub own : Option PlainPacket
+  pub accepted : o ≡ Accepted next own
+  pub entries : step.entries ≡ told
+
+entries_did : (step next : Step) → Did next ≡ Did step → step.entries ≡ next.entries
+entries_did step next is = ap (λ (o : Outcome). (step_in next o).entries) (sym is)
+
+pub did_granted : (c : Settings) (s : Station) (request : LayerRequest) (step : Step) → requests c s request ≡ Did step
+    → (let o = layer_outcome (layer_settings c) (waits s.link.outgoing == 256) s.layer request in IsGranted (is_up s.link.phase) (may_ask c.wide request) o (entries_of_outcome (layer_settings c) s.layer request o) step)
+did_granted c s request step is = by (is_up s.link.phase) (may_ask c.wide request) (layer_outcome (layer_settings c) (waits s.link.outgoing == 256) s.layer request) is
+  where
+    entries : LayerOutcome → List StationEntry
+    entries o = entries_of_outcome (layer_settings c) s.layer request o
+
+    by : (up may : Bool) (o : LayerOutcome) → where_asked may (did c (alone s.link) (entries o) (if up then went (view_of (link_settings c) s.link) (layer_settings c) o else Refuses layer_error.NotUp)) ≡ Did step → IsGranted up may o (entries o) step
+    by true true (Accepted next own) is = record { is_up = refl; is_taken = refl; next = next; own = own; accepted = refl; entries = entries_did step _ is }
+    by true true (Declined e) is = refused_did (error.Layer e) step is
+    by false true o is = refused_did (error.Layer layer_error.NotUp) step is
+    by true false (Accepted next own) is = refused_did not_taken step is
+    by true false (Declined e) is = refused_did (error.Layer e) step is
+    by false false o is = refused_did (error.Layer layer_error.NotUp) step is
+
+pub gave_granted : (c : Settings) (s : Station) (g : PlainGiven) (request : LayerRequest) (step : Step) → gives c s g request ≡ Did step
+    → (let o = layer_outcome (layer_settings c) (waits s.link.outgoing == 256) s.layer request in IsGranted (is_up s.link.phase) (is_taken c g request) o (entries_of_outcome (layer_settings c) s.layer request o) step)
+gave_granted c s g request step is = by (is_up s.link.phase) (is_taken c g request) (layer_outcome (layer_settings c) (waits s.link.outgoing == 256) s.layer request) is
+  where
+    entries : LayerOutcome → List StationEntry
+    entries o = entries_of_outcome (layer_settings c) s.layer request o
+
+    by : (up taken : Bool) (o : LayerOutcome) → gave c g taken (alone s.link) (entries o) (if up then went (view_given (link_settings c) g s.link) (layer_settings c) o else Refuses layer_error.NotUp) ≡ Did step → IsGranted up taken o (entries o) step
+    by true true (Accepted next own) is = record { is_up = refl; is_taken = refl; next = next; own = own; accepted = refl; entries = entries_did step _ is }
+    by true false (Accepted next own) is = refused_did not_taken step is
+    by true taken (Declined e) is = refused_did (error.Layer e) step is
+    by false taken o is = refused_did (error.Layer layer_error.NotUp) step is
+
+-- ---- of the link
+
+-- connect is accepted in Down alone
+pub connects_in_down : (p : Phase) → connect_refusal p ≡ None → p ≡ Down
+connects_in_down Down is = refl
+connects_in_down p is = absurd (cc)
+
+-- relink is accepted in Up alone
+pub relinks_in_up : (p : Phase) → relink_refusal p ≡ None → is_up p ≡ true
+relinks_in_up Down is = absurd (cc)
+relinks_in_up Waiting is = absurd (cc)
+relinks_in_up Up is = refl
+relinks_in_up Closed is = absurd (cc)
+
+-- a firing of T1 hands nothing up and notes no LinkUp
+pub timer_silent : (c : LinkSettings) (s : LinkStation) → ((timer_step c s).packet ≡ None) × ((timer_step c s).notes.up ≡ false)
+timer_silent c s = by (nat_lt s.tries c.retries)
+  where
+    by : (b : Bool) → let k = closed_by c.window (if b then quiet (asks_again s.phase (with_near (alone s) (record s { tries = s.tries + 1 }))) else leaves Retries (alone s)) in (k.packet ≡ None) × (k.notes.up ≡ false)
+    by true = (refl, refl)
+    by false = (refl, refl)
