@@ -296,9 +296,8 @@ impl Set {
     {
         if !gone(false, self.role, &self.spots, &self.way, packet, next) {
             self.give_up();
-            return Told::Nothing;
-        }
-        if next.is_empty() {
+            Told::Nothing
+        } else if next.is_empty() {
             self.is_unexplained(packet, next)
         } else {
             self.is_explained(packet, next)
