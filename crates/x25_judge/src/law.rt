@@ -1,5 +1,5 @@
 //! What a verdict means: no end that keeps the rules is told of by a rule of order, and where nothing is told order is
-//! kept, as long as there is room for the places of an end. Each law is the contract of a function that does nothing.
+//! kept, as long as there is room for its places. Each law is the contract of a function that does nothing.
 ghost use Rattle.x25_frame.specs.laws.ReadingLaw.{ReadsSpelled, ReadsWhatIsSpelled};
 ghost use Rattle.x25_judge.specs.laws.VerdictClaims.{GuiltyAreTold, JudgedFinalsAreTold, JudgedSendingsAreTold};
 ghost use Rattle.x25_judge.specs.laws.VerdictClaims.{ToldAreGuilty};
@@ -25,8 +25,8 @@ pub fn set_ups_begin()
 /// told of by no rule of order of the link layer: an N(R) that acknowledges what was never sent or falls, other octets
 /// in an I frame that goes again, more than seven I frames unacknowledged. That holds whatever frames the other end
 /// sends, whether it keeps any rule or not, whatever of them comes, is heard or taken, and whichever of its lines are
-/// damaged, from a set-up on to the next frame without a number. Of octets of it that pass the check and are no frame
-/// it says nothing, and no law here does.
+/// damaged, from a set-up on to the next frame without a number. Nothing comes behind which 64 more lines of the other
+/// end were shown. Of octets of it that pass the check and are no frame it says nothing, and no law here does.
 pub fn innocents_stay_untold()
     ensures { NoInnocentIsAccused }
 {}
@@ -40,7 +40,8 @@ pub fn sessions_stay_untold()
 {}
 
 /// A station of ours is such an end: whatever frames the other end sends, and whatever the line does, no rule of order
-/// is told of a frame of it, in a trace taken in front of it, from a set-up on to the next frame without a number.
+/// is told of a frame of it, in a trace taken in front of it, from a set-up on to the next frame without a number. Of
+/// any 64 lines of the other end nothing is between the trace and the station behind one of them.
 pub fn stations_stay_untold()
     ensures { NoStationIsAccused }
 {
@@ -48,10 +49,10 @@ pub fn stations_stay_untold()
     innocents_stay_untold();
 }
 
-/// From a set-up on to the next frame without a number, of a trace taken in front of a station: as long as no line is
-/// damaged and neither a rule nor manners are told of either end, what the station handed up is a beginning of what the
-/// I frames of the other end carry, each number once. That end may be any, and anything may be lost or damaged between
-/// the trace and the station.
+/// From a set-up on to the next frame without a number, of a trace taken in front of a station: as long as there is
+/// room, no line is damaged and neither a rule nor manners are told of either end, what the station handed up is a
+/// beginning of what the I frames of the other end carry, each number once. That end may be any, and anything may be
+/// lost or damaged between the trace and the station.
 pub fn silence_means_order()
     ensures { SilenceMeansOrder }
 {

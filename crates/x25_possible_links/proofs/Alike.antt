@@ -1,9 +1,9 @@
 -- Places of an end that are all of a kind, as either end sends.
 use Rattle.std.proofs.Common.{◌≡◌, ◌⊎◌, inl, inr, ℕ, ◌≤◌, ◌==◌, Bool, true, false, List, [], ◌∷◌, ◌++◌, drop, length, flat_map}
-use Rattle.std.proofs.Common.{Some, None, Option, refl, sym, ◌∙◌, subst, if◌then◌else◌}
+use Rattle.std.proofs.Common.{Some, None, Option, refl, sym, ap, map, ◌∙◌, subst, if◌then◌else◌}
 use Rattle.std.proofs.lemmas.Bool.{both_ways, cond_both}
 use Rattle.x25_possible.specs.laws.Possible.{IsIn, Place}
-use Rattle.x25_possible_links.specs.code.Steps.{grow_all, latest, least, sends_to, sent_to, set_as, shift_all, shifted_to, shown_to}
+use Rattle.x25_possible_links.specs.code.Steps.{came, grow_all, latest, least, sends_to, sent_to, set_as, shifted, shown_to}
 use Rattle.x25_possible_links.specs.code.Steps.{shows_to, standing, Stepped, telling, trimmed, unexplained, walk_all}
 use Rattle.x25_possible_links.specs.laws.Places.{settle}
 use Rattle.x25_possible_links.specs.laws.Places as place
@@ -14,8 +14,8 @@ use Rattle.x25_possible_links.specs.declared.set.LinkSet.{LinkSet}
 use Rattle.x25_possible_links.specs.declared.set.Told.TheVariants.{Broken, Nothing}
 use Rattle.x25_possible_links.specs.declared.spots.Spot.{Spot}
 use Rattle.x25_possible_links.specs.declared.stand.Stand.{Stand}
-use Rattle.x25_possible_links.proofs.Covering.{behind_other, behind_own, hurried_shows, least_is, moved, moved_is, other_adds}
-use Rattle.x25_possible_links.proofs.Covering.{own_adds, shift_adds, shows_by}
+use Rattle.x25_possible_links.proofs.Covering.{behind_other, behind_own, hastened_shows, least_is, lost_blind, moved_is, other_adds}
+use Rattle.x25_possible_links.proofs.Covering.{own_adds, shows_by}
 use Rattle.x25_possible_links.proofs.Lists.{from_all, from_map}
 use Rattle.x25_possible_links.proofs.SetLemmas.{unexplained_told}
 use Rattle.x25_possible_links.proofs.StepLemmas.{placed}
@@ -24,37 +24,27 @@ abbrev pub AllAre : (Place Stand Frame → Type 0) → LinkSet → Type 0
 AllAre P set = (q : Spot) → IsIn q set.spots.items → P (placed set.way.items q)
 
 module _ (P : Place Stand Frame → Type 0) where
-  shifted_all : (way : List Frame) (qs new : List Spot) (n : ℕ) → ((q : Spot) → IsIn q qs → n ≤ q.at) → shift_all n qs [] ≡ Some new
-      → ((q : Spot) → IsIn q qs → P (placed way q)) → (q : Spot) → IsIn q new → P (placed (drop n way) q)
-  shifted_all way qs new n far e all q is = from ((shift_adds way qs new n e).from q is)
-    where
-      one : (p : Spot) → IsIn p qs → IsIn (placed (drop n way) q) (moved n way p) → P (placed (drop n way) q)
-      one p there (inl same) = subst P (sym (same ∙ moved_is n way p (far p there))) (all p there)
-      one p there (inr h) = absurd h
-
-      from : IsIn q [] ⊎ IsIn (placed (drop n way) q) (flat_map (moved n way) qs) → P (placed (drop n way) q)
-      from (inl h) = absurd h
-      from (inr h) = let g = from_all (moved n way) qs (placed (drop n way) q) h in one g.0 g.1 g.2
+  shifted_all : (way : List Frame) (qs : List Spot) (n : ℕ) → ((q : Spot) → IsIn q qs → n ≤ q.at)
+      → ((q : Spot) → IsIn q qs → P (placed way q)) → (q : Spot) → IsIn q (map (shifted n) qs) → P (placed (drop n way) q)
+  shifted_all way qs n far all q is =
+      let g = from_map (shifted n) qs q is in
+      subst P (sym (ap (placed (drop n way)) g.2 ∙ moved_is n way g.0 (far g.0 g.1))) (all g.0 g.1)
 
   trim_all : (set : LinkSet) (way : List Frame) (qs : List Spot) → ((q : Spot) → IsIn q qs → P (placed way q))
       → AllAre P (trimmed (set_as set way qs))
   trim_all set way qs all = go (least qs (length way) == 0)
     where
-      shift : (o : Option (List Spot)) → shift_all (least qs (length way)) qs [] ≡ o
-          → AllAre P (shifted_to (least qs (length way)) o (set_as set way qs))
-      shift None e = all
-      shift (Some new) e = shifted_all way qs new (least qs (length way)) (λ q is. least_is qs (length way) q is) e all
+      n : ℕ
+      n = least qs (length way)
 
-      go : (b : Bool)
-          → AllAre P (if b then set_as set way qs
-          else shifted_to (least qs (length way)) (shift_all (least qs (length way)) qs []) (set_as set way qs))
+      go : (b : Bool) → AllAre P (if b then set_as set way qs else set_as set (drop n way) (map (shifted n) qs))
       go true = all
-      go false = shift (shift_all (least qs (length way)) qs []) refl
+      go false = shifted_all way qs n (λ q is. least_is qs (length way) q is) all
 
 module _ (P Q : Place Stand Frame → Type 0) (set : LinkSet) (x : Frame) (are : AllAre P set) where
   -- the other end sends
   module _ (each : (p : Place Stand Frame) → P p → Q (place.shown x p)) where
-    grown_all : (qs : List Spot) → grow_all (length set.way.items) (set.way.items ++ x ∷ []) set.spots.items [] ≡ Some qs
+    grown_all : (qs : List Spot) → grow_all (length set.way.items) (set.way.items ++ x ∷ []) set.spots.items ≡ Some qs
         → (q : Spot) → IsIn q qs → Q (placed (set.way.items ++ x ∷ []) q)
     grown_all qs e q is = from ((other_adds set.way.items set.spots.items qs x e).from q is)
       where
@@ -69,17 +59,17 @@ module _ (P Q : Place Stand Frame → Type 0) (set : LinkSet) (x : Frame) (are :
         from (inr h) =
             let g = from_all (behind_other x set.way.items) set.spots.items (placed (set.way.items ++ x ∷ []) q) h in one g.0 g.1 g.2
 
-    shown_by : (o : Option (List Spot)) → grow_all (length set.way.items) (set.way.items ++ x ∷ []) set.spots.items [] ≡ o
+    shown_by : (o : Option (List Spot)) → grow_all (length set.way.items) (set.way.items ++ x ∷ []) set.spots.items ≡ o
         → (shown_to set (set.way.items ++ x ∷ []) o).is_blind ≡ false → AllAre Q (shown_to set (set.way.items ++ x ∷ []) o)
-    shown_by None e some = absurd (both_ways true some refl)
+    shown_by None e some = absurd (both_ways _ some (lost_blind (set_as set (set.way.items ++ x ∷ []) set.spots.items) (came set)))
     shown_by (Some qs) e some = trim_all Q set (set.way.items ++ x ∷ []) qs (grown_all qs e)
 
     pub shown_all : (shows_to x set).is_blind ≡ false → AllAre Q (shows_to x set)
     shown_all some = go (length set.way.items == 128) some
       where
         go : (full : Bool) → (shows_by full x set).is_blind ≡ false → AllAre Q (shows_by full x set)
-        go true h = absurd (both_ways _ h (hurried_shows set x))
-        go false h = shown_by (grow_all (length set.way.items) (set.way.items ++ x ∷ []) set.spots.items []) refl h
+        go true h = absurd (both_ways _ h (hastened_shows set x))
+        go false h = shown_by (grow_all (length set.way.items) (set.way.items ++ x ∷ []) set.spots.items) refl h
 
   -- the end sends: there is a place from which it may
   pub record HaveGone (now : LinkSet) : Type 0 where
@@ -134,7 +124,7 @@ module _ (P Q : Place Stand Frame → Type 0) (set : LinkSet) (x : Frame) (are :
 
     sent_by : (o : Option (List Spot)) → walk_all Right x set.way.items set.spots.items [] ≡ o
         → (sent_to x o set).set.is_blind ≡ false → (sent_to x o set).told ≡ Nothing → HaveGone (sent_to x o set).set
-    sent_by None e some told = absurd (both_ways true some refl)
+    sent_by None e some told = absurd (both_ways _ some (lost_blind set (came set)))
     sent_by (Some qs) e some told = go (length qs == 0) refl told
       where
         go : (b : Bool) → (length qs == 0) ≡ b → (stepped b qs).told ≡ Nothing → HaveGone (stepped b qs).set

@@ -1,18 +1,18 @@
 -- A set of places has one for each place of a run, step by step.
-use Rattle.std.proofs.Common.{Bool, true, false, ◌≡◌, ◌⊎◌, inl, inr, ℕ, ◌+◌, ◌-◌, ◌<◌, ◌≤◌, ◌==◌, nat_le, nat_lt}
+use Rattle.std.proofs.Common.{Bool, true, false, ◌≡◌, inl, inr, ℕ, ◌+◌, ◌-◌, ◌<◌, ◌≤◌, ◌==◌, nat_le, nat_lt}
 use Rattle.std.proofs.Common.{List, [], ◌∷◌, ◌++◌, map, drop, length, refl, sym, ap, subst, ◌∙◌, Option, Some, None, arith}
-use Rattle.std.proofs.Common.{flat_map, if◌then◌else◌, le_trans, take}
-use Rattle.std.proofs.lemmas.Bool.{both_ways, leb-true, ltb-false, eqb-true}
-use Rattle.std.proofs.lemmas.List.{drop-drop, drop-append-le}
+use Rattle.std.proofs.Common.{flat_map, if◌then◌else◌, le_trans, take, drop_of_length-le}
+use Rattle.std.proofs.lemmas.Bool.{both_ways, leb-true, le-leb, ltb-false, eqb-true}
+use Rattle.std.proofs.lemmas.List.{drop-drop, drop-append-le, length-drop, length-take, take-append-drop}
 use Rattle.std.proofs.lemmas.Option.{none-some}
 use Rattle.x25_possible.specs.laws.Possible.{IsIn, Place, at}
 use Rattle.x25_possible_links.specs.laws.Link.{State, At, MaySend, MayTake}
 use Rattle.x25_possible_links.specs.laws.Places.{settled, settle}
 use Rattle.x25_possible_links.specs.laws.Places as place
-use Rattle.x25_possible_links.specs.code.Steps.{astray, broken, broken_by, extended, grow_all, grows, hurried, hurried_to}
-use Rattle.x25_possible_links.specs.code.Steps.{hurry_all, latest, least, sends_to, sent_to, set_as, settles, shift_all}
-use Rattle.x25_possible_links.specs.code.Steps.{shift_at, shifted_to, shown_to, shows_to, skipped_by, spot_at, standing, Stepped}
-use Rattle.x25_possible_links.specs.code.Steps.{telling, trimmed, unexplained, unexplained_as, walk_all, walks}
+use Rattle.x25_possible_links.specs.code.Steps.{astray, best, broken, broken_by, came, extended, grow_all, grown, hastened, hurried}
+use Rattle.x25_possible_links.specs.code.Steps.{latest, least, lost, rushed, sends_to, sent_to, set_as, shifted, shown_to, shows_to}
+use Rattle.x25_possible_links.specs.code.Steps.{skipped_by, spot_at, standing, Stepped, telling, trimmed, unexplained}
+use Rattle.x25_possible_links.specs.code.Steps.{unexplained_as, walk_all, walks}
 use Rattle.x25_possible_links.specs.declared.frame.Frame.{Frame}
 use Rattle.x25_possible_links.specs.declared.frame.Frame.TheVariants.{Ua}
 use Rattle.x25_possible_links.specs.declared.link.Mode.TheVariants.{Right, Skipping, Wrong}
@@ -22,11 +22,11 @@ use Rattle.x25_possible_links.specs.declared.spots.Spot.{Spot}
 use Rattle.x25_possible_links.specs.declared.stand.Stand.{Stand}
 use Rattle.x25_possible_links.specs.declared.stand.Stand.TheVariants.{Free}
 use Rattle.x25_possible_links.proofs.LoopLemmas.{least_most}
-use Rattle.x25_possible_links.proofs.Stands.{Below, below_on}
-use Rattle.x25_possible_links.proofs.Leads.{HoldsAt, holds_shown, holds_takes, holds_settled}
-use Rattle.x25_possible_links.proofs.Exactly.{sends_held}
+use Rattle.x25_possible_links.proofs.Stands.{Below, below_free, below_on}
+use Rattle.x25_possible_links.proofs.Leads.{HoldsAt, holds_freed, holds_rushed, holds_shown, holds_takes, holds_settled}
+use Rattle.x25_possible_links.proofs.Exactly.{sends_held, strays_held}
 use Rattle.x25_possible_links.proofs.Lists.{in_map, in_all}
-use Rattle.x25_possible_links.proofs.StepLemmas.{Adds, adds_all, adds_kept, adds_settled, adds_walks, placed}
+use Rattle.x25_possible_links.proofs.StepLemmas.{Adds, adds_all, adds_each, adds_walks, best_is, holds_from, placed}
 
 -- one of these places covers this one
 abbrev pub HasIn : List Spot → List Frame → State → List Frame → Type 0
@@ -82,24 +82,22 @@ own_in way qs new x s r end g may e =
 abbrev pub behind_other : Frame → List Frame → Spot → List (Place Stand Frame)
 behind_other x way q = settled q.stand (drop q.at way ++ x ∷ []) ∷ []
 
-pub grows_adds : (way : List Frame) (x : Frame) (q : Spot) (out new : List Spot) (b : Bool) → nat_le q.at (length way) ≡ b
-    → (if b then settles q.at (drop q.at (way ++ x ∷ [])) q.stand out else None) ≡ Some new
-    → Adds (way ++ x ∷ []) out new (behind_other x way q)
-grows_adds way x q out new false e h = absurd (none-some new h)
-grows_adds way x q out new true e h =
-    subst (λ w. Adds (way ++ x ∷ []) out new (settled q.stand w ∷ []))
-    (drop-append-le q.at way (x ∷ []) (leb-true q.at (length way) e))
-    (adds_settled (way ++ x ∷ []) q.at (drop q.at (way ++ x ∷ [])) q.stand out new refl h)
-
-pub other_adds : (way : List Frame) (qs new : List Spot) (x : Frame)
-    → grow_all (length way) (way ++ x ∷ []) qs [] ≡ Some new
+pub other_adds : (way : List Frame) (qs new : List Spot) (x : Frame) → grow_all (length way) (way ++ x ∷ []) qs ≡ Some new
     → Adds (way ++ x ∷ []) [] new (flat_map (behind_other x way) qs)
 other_adds way qs new x e =
-    adds_all (way ++ x ∷ []) (grows (length way) (way ++ x ∷ [])) (behind_other x way)
-    (λ q out now h. grows_adds way x q out now (nat_le q.at (length way)) refl h) qs [] new e
+    adds_each (way ++ x ∷ []) (grown (length way) (way ++ x ∷ [])) (λ q. settled q.stand (drop q.at way ++ x ∷ []))
+    (λ q r h. grown_is q r (nat_le q.at (length way)) refl h) qs new e
+  where
+    grown_is : (q r : Spot) (b : Bool) → nat_le q.at (length way) ≡ b
+        → (if b then best q.at (drop q.at (way ++ x ∷ [])) q.stand else None) ≡ Some r
+        → placed (way ++ x ∷ []) r ≡ settled q.stand (drop q.at way ++ x ∷ [])
+    grown_is q r false k h = absurd (none-some r h)
+    grown_is q r true k h =
+        best_is (way ++ x ∷ []) q.at (drop q.at (way ++ x ∷ [])) q.stand r refl h
+        ∙ ap (settled q.stand) (drop-append-le q.at way (x ∷ []) (leb-true q.at (length way) k))
 
 pub other_in : (way : List Frame) (qs new : List Spot) (x : Frame) (s : State) (end : List Frame) → HasIn qs way s end
-    → grow_all (length way) (way ++ x ∷ []) qs [] ≡ Some new → HasIn new (way ++ x ∷ []) s (end ++ x ∷ [])
+    → grow_all (length way) (way ++ x ∷ []) qs ≡ Some new → HasIn new (way ++ x ∷ []) s (end ++ x ∷ [])
 other_in way qs new x s end g e =
     (other_adds way qs new x e).holds (settled g.0.stand (drop g.0.at way ++ x ∷ []))
     (in_all (behind_other x way) qs g.0 (settled g.0.stand (drop g.0.at way ++ x ∷ [])) g.1 (inl refl)) s (end ++ x ∷ [])
@@ -119,43 +117,81 @@ least_is (p ∷ qs) n q (inl e) =
     low false h = ltb-false p.at n h
 least_is (p ∷ qs) n q (inr is) = least_is qs (if nat_lt p.at n then p.at else n) q is
 
-abbrev pub moved : ℕ → List Frame → Spot → List (Place Stand Frame)
-moved n way q = placed (drop n way) (spot_at (q.at - n) q.stand) ∷ []
-
-pub moved_is : (n : ℕ) (way : List Frame) (q : Spot) → n ≤ q.at → placed (drop n way) (spot_at (q.at - n) q.stand) ≡ placed way q
+pub moved_is : (n : ℕ) (way : List Frame) (q : Spot) → n ≤ q.at → placed (drop n way) (shifted n q) ≡ placed way q
 moved_is n way q h = ap (at q.stand) (drop-drop (q.at - n) n way ∙ ap (λ m. drop m way) (far h))
   where
     far : n ≤ q.at → n + (q.at - n) ≡ q.at
     far h = omega (arith, h)
 
-pub shift_adds : (way : List Frame) (qs new : List Spot) (n : ℕ) → shift_all n qs [] ≡ Some new
-    → Adds (drop n way) [] new (flat_map (moved n way) qs)
-shift_adds way qs new n e =
-    adds_all (drop n way) (shift_at n) (moved n way)
-    (λ q out now h. adds_kept (drop n way) (spot_at (q.at - n) q.stand) out now h) qs [] new e
-
-pub shift_in : (way : List Frame) (qs new : List Spot) (n : ℕ) (s : State) (end : List Frame)
-    → ((q : Spot) → IsIn q qs → n ≤ q.at) → HasIn qs way s end → shift_all n qs [] ≡ Some new → HasIn new (drop n way) s end
-shift_in way qs new n s end below g e =
-    let p = placed (drop n way) (spot_at (g.0.at - n) g.0.stand) in
-    (shift_adds way qs new n e).holds p (in_all (moved n way) qs g.0 p g.1 (inl refl)) s end
-    (subst (λ r. HoldsAt r.state r.way s end) (sym (moved_is n way g.0 (below g.0 g.1))) g.2)
+pub shift_in : (way : List Frame) (qs : List Spot) (n : ℕ) (s : State) (end : List Frame) → ((q : Spot) → IsIn q qs → n ≤ q.at)
+    → HasIn qs way s end → HasIn (map (shifted n) qs) (drop n way) s end
+shift_in way qs n s end below g = (
+  shifted n g.0,
+  in_map (shifted n) qs g.0 g.1,
+  subst (λ (p : Place Stand Frame). HoldsAt p.state p.way s end) (sym (moved_is n way g.0 (below g.0 g.1))) g.2,
+)
 
 pub trim_has : (set : LinkSet) (way : List Frame) (qs : List Spot) (s : State) (end : List Frame) → HasIn qs way s end
     → Has (trimmed (set_as set way qs)) s end
 trim_has set way qs s end g = go (least qs (length way) == 0)
   where
-    shift : (o : Option (List Spot)) → shift_all (least qs (length way)) qs [] ≡ o
-        → Has (shifted_to (least qs (length way)) o (set_as set way qs)) s end
-    shift None e = g
-    shift (Some new) e =
-        shift_in way qs new (least qs (length way)) s end (λ q is. least_is qs (length way) q is) g e
+    n : ℕ
+    n = least qs (length way)
 
-    go : (b : Bool)
-        → Has (if b then set_as set way qs
-        else shifted_to (least qs (length way)) (shift_all (least qs (length way)) qs []) (set_as set way qs)) s end
+    go : (b : Bool) → Has (if b then set_as set way qs else set_as set (drop n way) (map (shifted n) qs)) s end
     go true = g
-    go false = shift (shift_all (least qs (length way)) qs []) refl
+    go false = shift_in way qs n s end (λ q is. least_is qs (length way) q is) g
+
+-- it may be anywhere from where the least has come on
+free_at : (qs : List Spot) (way : List Frame) (n : ℕ) (s : State) (end : List Frame) → HasIn qs way s end
+    → HoldsAt Free (drop (least qs n) way) s end
+free_at qs way n s end g =
+    holds_from (least qs n) g.0.at way g.0.stand Free s end (least_is qs n g.0 g.1) (below_free g.0.stand) g.2
+
+-- ---- where the older half counts as come
+
+hasten : (way : List Frame) (q : Spot) (s : State) (end : List Frame) → length way ≡ 128 → length end < 64
+    → HoldsAt q.stand (drop q.at way) s end
+    → HoldsAt (rushed (drop q.at (take 64 way)) q.stand) (drop (q.at - 64) (drop 64 way)) s end
+hasten way q s end full few h = go (nat_le q.at 64) refl
+  where
+    half : length (drop 64 way) ≡ 64
+    half = let l = length-drop 64 way in omega (arith, l, full)
+
+    front : length (take 64 way) ≡ 64
+    front = let l = length-take 64 way in omega (arith, l, full)
+
+    within : q.at ≤ 64 → drop q.at way ≡ drop q.at (take 64 way) ++ drop 64 way
+    within less =
+        ap (drop q.at) (sym (take-append-drop 64 way)) ∙ drop-append-le q.at (take 64 way) (drop 64 way) (subst (λ n. q.at ≤ n) (sym front) less)
+
+    none_taken : q.at ≤ 64 → q.at - 64 ≡ 0
+    none_taken less = omega (arith, less)
+
+    far : (q.at ≤ 64 → ⊥) → 64 + (q.at - 64) ≡ q.at
+    far more = omega (arith, more)
+
+    go : (b : Bool) → nat_le q.at 64 ≡ b
+        → HoldsAt (rushed (drop q.at (take 64 way)) q.stand) (drop (q.at - 64) (drop 64 way)) s end
+    go true e =
+        let less = leb-true q.at 64 e in
+        subst (λ n. HoldsAt (rushed (drop q.at (take 64 way)) q.stand) (drop n (drop 64 way)) s end) (sym (none_taken less))
+        (holds_rushed (drop 64 way) (drop q.at (take 64 way)) q.stand s end (subst (λ n. length end < n) (sym half) few)
+        (subst (λ w. HoldsAt q.stand w s end) (within less) h))
+    go false e =
+        let more : (q.at ≤ 64 → ⊥) = λ less. both_ways (nat_le q.at 64) e (le-leb q.at 64 less) in
+        subst (λ w. HoldsAt (rushed w q.stand) (drop (q.at - 64) (drop 64 way)) s end)
+        (sym (drop_of_length-le (take 64 way) (let m = more in omega (arith, m, front))))
+        (holds_freed (drop (q.at - 64) (drop 64 way)) q.stand s end
+        (subst (λ w. HoldsAt q.stand w s end) (sym (drop-drop (q.at - 64) 64 way ∙ ap (λ n. drop n way) (far more))) h))
+
+hastened_has : (set : LinkSet) (s : State) (end : List Frame) → length set.way.items ≡ 128 → length end < 64 → Has set s end
+    → Has (hastened set) s end
+hastened_has set s end full few g = (
+  hurried 64 (take 64 set.way.items) g.0,
+  in_map (hurried 64 (take 64 set.way.items)) set.spots.items g.0 g.1,
+  hasten set.way.items g.0 s end full few g.2,
+)
 
 -- ---- a set
 
@@ -172,34 +208,33 @@ stepped b x set qs = if b then unexplained x set else telling Nothing (standing 
 
 -- ---- where there was no room once
 
-shifted_blind : (set : LinkSet) (n : ℕ) (o : Option (List Spot)) → (shifted_to n o set).is_blind ≡ set.is_blind
-shifted_blind set n None = refl
-shifted_blind set n (Some qs) = refl
-
 trimmed_blind : (set : LinkSet) → (trimmed set).is_blind ≡ set.is_blind
-trimmed_blind set = go (least set.spots.items (length set.way.items) == 0)
+trimmed_blind set = go (came set == 0)
   where
     n : ℕ
-    n = least set.spots.items (length set.way.items)
+    n = came set
 
-    go : (b : Bool) → (if b then set else shifted_to n (shift_all n set.spots.items []) set).is_blind ≡ set.is_blind
+    go : (b : Bool) → (if b then set else set_as set (drop n set.way.items) (map (shifted n) set.spots.items)).is_blind ≡ set.is_blind
     go true = refl
-    go false = shifted_blind set n (shift_all n set.spots.items [])
+    go false = refl
 
 standing_blind : (set : LinkSet) (qs : List Spot) → (standing qs set).is_blind ≡ set.is_blind
 standing_blind set qs = trimmed_blind (set_as set set.way.items qs)
 
+pub lost_blind : (set : LinkSet) (n : ℕ) → (lost n set).is_blind ≡ true
+lost_blind set n = standing_blind (record set { is_blind = true }) (spot_at n Free ∷ [])
+
 broken_blind : (set : LinkSet) (o : Option (List Spot)) → set.is_blind ≡ true → (broken_by o set).is_blind ≡ true
-broken_blind set None e = refl
+broken_blind set None e = lost_blind set (came set)
 broken_blind set (Some qs) e = go (length qs == 0)
   where
-    go : (b : Bool) → (if b then astray set else standing qs set).is_blind ≡ true
-    go true = standing_blind set (spot_at (least set.spots.items (length set.way.items)) Free ∷ []) ∙ e
+    go : (b : Bool) → (if b then astray (came set) set else standing qs set).is_blind ≡ true
+    go true = standing_blind set (spot_at (came set) Free ∷ []) ∙ e
     go false = standing_blind set qs ∙ e
 
 skipped_blind : (set : LinkSet) (stand : Stand) (x : Frame) (o : Option (List Spot)) → set.is_blind ≡ true
     → (skipped_by o stand x set).set.is_blind ≡ true
-skipped_blind set stand x None e = refl
+skipped_blind set stand x None e = lost_blind set (came set)
 skipped_blind set stand x (Some qs) e = go (length qs == 0)
   where
     go : (b : Bool)
@@ -213,7 +248,7 @@ unexplained_blind set stand Ua e = e
 unexplained_blind set stand x e = skipped_blind set stand x (walk_all Skipping x set.way.items set.spots.items []) e
 
 sent_blind : (set : LinkSet) (x : Frame) (o : Option (List Spot)) → set.is_blind ≡ true → (sent_to x o set).set.is_blind ≡ true
-sent_blind set x None e = refl
+sent_blind set x None e = lost_blind set (came set)
 sent_blind set x (Some qs) e = go (length qs == 0)
   where
     go : (b : Bool) → (stepped b x set qs).set.is_blind ≡ true
@@ -225,39 +260,39 @@ blind_sends set x e = sent_blind set x (walk_all Right x set.way.items set.spots
 
 shown_blind : (set : LinkSet) (way : List Frame) (o : Option (List Spot)) → set.is_blind ≡ true
     → (shown_to set way o).is_blind ≡ true
-shown_blind set way None e = refl
+shown_blind set way None e = lost_blind (set_as set way set.spots.items) (came set)
 shown_blind set way (Some qs) e = trimmed_blind (set_as set way qs) ∙ e
 
 extended_blind : (set : LinkSet) (x : Frame) → set.is_blind ≡ true → (extended x set).is_blind ≡ true
 extended_blind set x e =
-    shown_blind set (set.way.items ++ x ∷ []) (grow_all (length set.way.items) (set.way.items ++ x ∷ []) set.spots.items []) e
+    shown_blind set (set.way.items ++ x ∷ []) (grow_all (length set.way.items) (set.way.items ++ x ∷ []) set.spots.items) e
 
-hurried_blind : (set : LinkSet) (o : Option (List Spot)) → (hurried_to o set).is_blind ≡ true
-hurried_blind set None = refl
-hurried_blind set (Some qs) = refl
-
-pub hurried_shows : (set : LinkSet) (x : Frame) → (extended x (hurried set)).is_blind ≡ true
-hurried_shows set x =
-    extended_blind (hurried set) x (hurried_blind set (hurry_all 64 (take 64 set.way.items) set.spots.items []))
+pub hastened_shows : (set : LinkSet) (x : Frame) → (extended x (hastened set)).is_blind ≡ true
+hastened_shows set x = extended_blind (hastened set) x refl
 
 -- with a way that is full or not
 abbrev pub shows_by : Bool → Frame → LinkSet → LinkSet
-shows_by full x set = extended x (if full then hurried set else set)
+shows_by full x set = extended x (if full then hastened set else set)
 
 pub blind_shows : (set : LinkSet) (x : Frame) → set.is_blind ≡ true → (shows_to x set).is_blind ≡ true
 blind_shows set x e = go (length set.way.items == 128)
   where
     go : (full : Bool) → (shows_by full x set).is_blind ≡ true
-    go true = hurried_shows set x
+    go true = hastened_shows set x
     go false = extended_blind set x e
 
 -- ---- a frame of each
 
 module _ (set : LinkSet) (x : Frame) (s r : State) (end : List Frame) (may : MaySend s end x r) (has : Has set s end) where
-  sent_has : (o : Option (List Spot)) → walk_all Right x set.way.items set.spots.items [] ≡ o
-      → (sent_to x o set).set.is_blind ≡ false → Has (sent_to x o set).set r end
-  sent_has None e some = absurd (both_ways true some refl)
-  sent_has (Some qs) e some = go (length qs == 0) refl
+  sent_has : (o : Option (List Spot)) → walk_all Right x set.way.items set.spots.items [] ≡ o → Has (sent_to x o set).set r end
+  sent_has None e =
+      trim_has (record set { is_blind = true }) set.way.items (spot_at (came set) Free ∷ []) r end (
+        spot_at (came set) Free,
+        inl refl,
+        strays_held (drop (came set) set.way.items) s r end x
+            (free_at set.spots.items set.way.items (length set.way.items) s end has) may,
+      )
+  sent_has (Some qs) e = go (length qs == 0) refl
     where
       now : HasIn qs set.way.items r end
       now = own_in set.way.items set.spots.items qs x s r end has may e
@@ -278,27 +313,38 @@ module _ (set : LinkSet) (x : Frame) (s r : State) (end : List Frame) (may : May
       go true k = absurd (none_has set.way.items qs r end now k)
       go false k = refl
 
-  -- the end sends what it may: there is a place for it, where there is room, and nothing is told
-  pub has_sent : set.is_blind ≡ false → (sends_to x set).set.is_blind ≡ false → Has (sends_to x set).set r end
-  has_sent sees some = sent_has (walk_all Right x set.way.items set.spots.items []) refl some
+  -- the end sends what it may: there is a place for it, and nothing is told
+  pub has_sent : Has (sends_to x set).set r end
+  has_sent = sent_has (walk_all Right x set.way.items set.spots.items []) refl
 
   pub is_untold : (sends_to x set).told ≡ Nothing
   is_untold = sent_untold (walk_all Right x set.way.items set.spots.items []) refl
 
-module _ (set : LinkSet) (x : Frame) (s : State) (end : List Frame) (has : Has set s end) where
-  shown_has : (o : Option (List Spot))
-      → grow_all (length set.way.items) (set.way.items ++ x ∷ []) set.spots.items [] ≡ o
-      → (shown_to set (set.way.items ++ x ∷ []) o).is_blind ≡ false
-      → Has (shown_to set (set.way.items ++ x ∷ []) o) s (end ++ x ∷ [])
-  shown_has None e some = absurd (both_ways true some refl)
-  shown_has (Some qs) e some =
-      trim_has set (set.way.items ++ x ∷ []) qs s (end ++ x ∷ [])
-      (other_in set.way.items set.spots.items qs x s end has e)
+module _ (x : Frame) (s : State) (end : List Frame) where
+  extended_has : (set : LinkSet) → Has set s end → Has (extended x set) s (end ++ x ∷ [])
+  extended_has set has = go (grow_all (length set.way.items) (set.way.items ++ x ∷ []) set.spots.items) refl
+    where
+      n : ℕ
+      n = came set
+
+      go : (o : Option (List Spot)) → grow_all (length set.way.items) (set.way.items ++ x ∷ []) set.spots.items ≡ o
+          → Has (shown_to set (set.way.items ++ x ∷ []) o) s (end ++ x ∷ [])
+      go None e =
+          trim_has (record set { is_blind = true }) (set.way.items ++ x ∷ []) (spot_at n Free ∷ []) s (end ++ x ∷ []) (
+            spot_at n Free,
+            inl refl,
+            subst (λ w. HoldsAt Free w s (end ++ x ∷ []))
+                (sym (drop-append-le n set.way.items (x ∷ []) (least_most set.spots.items (length set.way.items))))
+                (holds_shown Free (drop n set.way.items) s end x (free_at set.spots.items set.way.items (length set.way.items) s end has)),
+          )
+      go (Some qs) e =
+          trim_has set (set.way.items ++ x ∷ []) qs s (end ++ x ∷ [])
+          (other_in set.way.items set.spots.items qs x s end has e)
 
   -- the other end sends one
-  pub has_shown : set.is_blind ≡ false → (shows_to x set).is_blind ≡ false → Has (shows_to x set) s (end ++ x ∷ [])
-  has_shown sees some = go (length set.way.items == 128) some
+  pub has_shown : (set : LinkSet) → length end < 64 → Has set s end → Has (shows_to x set) s (end ++ x ∷ [])
+  has_shown set few has = go (length set.way.items == 128) refl
     where
-      go : (full : Bool) → (shows_by full x set).is_blind ≡ false → Has (shows_by full x set) s (end ++ x ∷ [])
-      go true h = absurd (both_ways _ h (hurried_shows set x))
-      go false h = shown_has (grow_all (length set.way.items) (set.way.items ++ x ∷ []) set.spots.items []) refl h
+      go : (full : Bool) → (length set.way.items == 128) ≡ full → Has (shows_by full x set) s (end ++ x ∷ [])
+      go true e = extended_has (hastened set) (hastened_has set s end (eqb-true (length set.way.items) 128 e) few has)
+      go false e = extended_has set has

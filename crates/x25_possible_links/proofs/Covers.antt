@@ -1,20 +1,14 @@
 -- From which places an end comes to a place of a run, or to a better one.
-use Rattle.std.proofs.Common.{◌≡◌, ◌⊎◌, inl, inr, refl, sym, ap, subst, ◌∙◌, Option, Some, None, Bool, true, false, List, [], ◌∷◌, ◌++◌, ℕ}
-use Rattle.std.proofs.Common.{◌+◌, ◌-◌, ◌==◌, ◌||◌, not, ◌≤◌, arith, if◌then◌else◌}
-use Rattle.std.proofs.lemmas.Bool.{both_ways}
-use Rattle.std.proofs.lemmas.Option.{none-some, same_Some, cond_some}
-use Rattle.x25_possible.specs.Channel.{nth}
-use Rattle.x25_possible.specs.laws.Possible.{IsIn, Place, at}
-use Rattle.x25_possible_links.specs.laws.Link.{State, At, Owes, MayTake, passes, hears, begins, owes, fresh, asked, owed, is_asking, may_answer}
-use Rattle.x25_possible_links.specs.laws.Link.{counted, may_count, counts, declines, heard, sends_as}
-use Rattle.x25_possible_links.specs.laws.Places.{number_of, least_of, sends, onward, upward, first, goes, answered, answers}
+use Rattle.std.proofs.Common.{◌≡◌, true, List, [], ◌∷◌, ◌++◌}
+use Rattle.x25_possible.specs.laws.Possible.{IsIn}
+use Rattle.x25_possible_links.specs.laws.Link.{State, At, Owes, MayTake, passes, hears, begins, owes, fresh, owed, may_answer}
+use Rattle.x25_possible_links.specs.laws.Link.{heard}
+use Rattle.x25_possible_links.specs.laws.Places.{onward}
 use Rattle.x25_possible_links.specs.declared.frame.Frame.{Frame}
-use Rattle.x25_possible_links.specs.declared.frame.Frame.TheVariants.{Info, Ready, Sabm, Disc, Ua, Dm, Frmr, Unread, Before}
-use Rattle.x25_possible_links.specs.declared.stand.Numbers.{Numbers}
 use Rattle.x25_possible_links.specs.declared.stand.Stand.{Stand}
 use Rattle.x25_possible_links.specs.declared.stand.Stand.TheVariants.{Out, Asking, Up, Free}
-use Rattle.x25_possible_links.proofs.Stands.{AreBelow, Below, below_self, below_free, below_on, heard_below, heard_none, onward_up, onward_both}
-use Rattle.x25_possible_links.proofs.Stands.{below_onward, declines_both, sends_more, SendsToo}
+use Rattle.x25_possible_links.proofs.Stands.{Below, below_self, below_on, heard_below, onward_both}
+use Rattle.x25_possible_links.proofs.Stands.{below_onward}
 
 -- From a stand, with such a way, it comes to this place of a run, or to a better stand there.
 pub data Covers : Stand → List Frame → State → List Frame → Type 0 where

@@ -1,13 +1,12 @@
 -- The places of an end of a link tell exactly.
-use Rattle.std.proofs.Common.{◌≡◌, ◌⊎◌, inl, inr, refl, sym, ap, subst, ◌∙◌, Option, Some, None, Bool, true, false, List, [], ◌∷◌, ◌++◌, ℕ}
-use Rattle.std.proofs.Common.{◌+◌, ◌-◌, ◌==◌, ◌||◌, ◌&&◌, not, ◌≤◌, ◌<◌, arith, if◌then◌else◌, map, flat_map, nat_lt, nat_le}
+use Rattle.std.proofs.Common.{◌≡◌, ◌⊎◌, inl, inr, refl, sym, ap, subst, Option, Some, None, Bool, true, false, List, [], ◌∷◌, ◌++◌, ℕ}
+use Rattle.std.proofs.Common.{◌+◌, ◌==◌, ◌<◌, arith, if◌then◌else◌, flat_map}
 use Rattle.std.proofs.lemmas.Bool.{both_ways, and_parts, lt-ltb, eqb-true}
 use Rattle.std.proofs.lemmas.Option.{none-some, same_Some, cond_some}
-use Rattle.x25_possible.specs.Channel.{nth}
-use Rattle.x25_possible.specs.laws.Possible.{IsIn, IsUnexplained, Item, Own, Other, Place, at, Stands, Begins, Sends, Shows, Takes}
+use Rattle.x25_possible.specs.laws.Possible.{IsIn, Item, Own, Other, Place, at, Stands, Begins, Sends, Shows, Takes}
 use Rattle.x25_possible_links.specs.laws.Link.{State, At, Owes, MaySend, sends, answers, answers_before, was_any, was_none, MayTake, passes, hears}
-use Rattle.x25_possible_links.specs.laws.Link.{begins, owes, fresh, asked, owed, is_asking, may_answer, link_rules}
-use Rattle.x25_possible_links.specs.laws.Link.{counted, may_count, may_number, may_acknowledge, told_to, sent_to, counts, declines, heard, sends_as}
+use Rattle.x25_possible_links.specs.laws.Link.{begins, owes, fresh, asked, owed, may_answer, link_rules}
+use Rattle.x25_possible_links.specs.laws.Link.{counted, may_count, may_number, may_acknowledge, told_to, counts, declines, sends_as}
 use Rattle.x25_possible_links.specs.laws.Places.{number_of, least_of, onward, upward, first, goes, answered, walks, is_plain, settled, settle, shown, places}
 use Rattle.x25_possible_links.specs.laws.Places as place
 use Rattle.x25_possible_links.specs.laws.Links.{TellsExactly}
@@ -17,10 +16,10 @@ use Rattle.x25_possible_links.specs.declared.stand.Numbers.{Numbers}
 use Rattle.x25_possible_links.specs.declared.stand.Stand.{Stand}
 use Rattle.x25_possible_links.specs.declared.stand.Stand.TheVariants.{Out, Asking, Up, Free}
 use Rattle.x25_possible_links.proofs.Lists.{in_left, in_right, in_either, in_all, from_all, none_in, in_map, from_map}
-use Rattle.x25_possible_links.proofs.Stands.{AreBelow, Below, below_self, sends_more, Acknowledges, acknowledges, IsNumbered, is_numbered}
-use Rattle.x25_possible_links.proofs.Covers.{Covers, Here, covers_less}
+use Rattle.x25_possible_links.proofs.Stands.{Below, below_self, below_free, sends_more, Acknowledges, acknowledges, IsNumbered, is_numbered}
+use Rattle.x25_possible_links.proofs.Covers.{Covers, Here, covers_less, covers_over}
 use Rattle.x25_possible_links.proofs.Sends.{IsCovered, asked_more, goes_covers, answers_covers, before_covers}
-use Rattle.x25_possible_links.proofs.Leads.{Leads, Stays, Steps, Holds, HoldsAt, holds_shown, holds_takes, holds_settled, leads_sends}
+use Rattle.x25_possible_links.proofs.Leads.{Leads, Stays, Steps, HoldsAt, holds_shown, holds_takes, holds_settled, leads_sends}
 use Rattle.x25_possible_links.proofs.Leads.{onward_may, stays_at, front_of}
 
 -- ---- octets that spell no frame
@@ -147,9 +146,9 @@ sent_covers u v _ _ way _ k (was_none s _) = self_any u v s s way k (below_self 
 abbrev pub HoldsIn : List (Place Stand Frame) → State → List Frame → Type 0
 HoldsIn qs s way = (q : Place Stand Frame) × IsIn q qs × HoldsAt q.state q.way s way
 
--- where a frame may be sent as x, as z
-Covering : Stand → List Frame → Frame → Frame → Type 0
-Covering u v x z = (s r : State) (way : List Frame) → Covers u v s way → MaySend s way x r → IsCovered (walks z (at u v)) r way
+-- where a frame may be sent, one of these places is behind it
+Covering : Stand → List Frame → Frame → List (Place Stand Frame) → Type 0
+Covering u v x ps = (s r : State) (way : List Frame) → Covers u v s way → MaySend s way x r → IsCovered ps r way
 
 before_stays : (u : Stand) (v : List Frame) (g : Stand) (way : List Frame) (c : Stand) (end rest : List Frame) → way ≡ Before ∷ rest
     → Leads g way c end → Covers u v (At c) end → Covers u v (At g) way
@@ -162,8 +161,8 @@ before_stays u v _ _ c end rest e (Steps g x way _ _ p l) k = absurd (not_plain 
     not_plain (Up j) h = both_ways false refl h
     not_plain Free h = both_ways false refl h
 
-holds_sends : (u : Stand) (v : List Frame) (s r : State) (way : List Frame) (x z : Frame) → Covering u v x z
-    → ((y : Frame) → x ≡ Unread → Covering u v y z) → HoldsAt u v s way → MaySend s way x r → HoldsIn (walks z (at u v)) r way
+holds_sends : (u : Stand) (v : List Frame) (s r : State) (way : List Frame) (x : Frame) (z : List (Place Stand Frame))
+    → Covering u v x z → ((y : Frame) → x ≡ Unread → Covering u v y z) → HoldsAt u v s way → MaySend s way x r → HoldsIn z r way
 unfolding Covering
 holds_sends u v _ _ way x z cover any h (sends s r _ _ n t e) =
     let first = sends_more n t s h.good way x r h.below e in
@@ -194,8 +193,27 @@ pub sends_held : (u : Stand) (v : List Frame) (s r : State) (way : List Frame) (
     → HoldsIn (walks x (at u v)) r way
 unfolding Covering
 sends_held u v s r way x h may =
-    holds_sends u v s r way x x (λ p q w k m. sent_covers u v p q w x k m)
+    holds_sends u v s r way x (walks x (at u v)) (λ p q w k m. sent_covers u v p q w x k m)
     (λ y e p q w k m. subst (λ z. IsCovered (walks z (at u v)) q w) (sym e) (any_covers u v p q w y k m)) h may
+
+-- one that may be anywhere may be so behind any frame
+free_sends : (v : List Frame) (s r : State) (way : List Frame) (x : Frame) → Covers Free v s way → MaySend s way x r → Covers Free v r way
+free_sends v _ _ way x k (sends s r _ _ n t e) = covers_over Free Free v (At s) way r k (below_free r)
+free_sends v _ _ way _ k (answers r _) = covers_over Free Free v (Owes r) way r k (below_free r)
+free_sends v _ _ _ _ k (answers_before s r rest is) = covers_over Free Free v (At s) (Before ∷ rest) r k (below_free r)
+free_sends v _ _ way _ k (was_any s r _ y may) = free_sends v s r way y k may
+free_sends v _ _ way _ k (was_none s _) = k
+
+pub strays_held : (v : List Frame) (s r : State) (way : List Frame) (x : Frame) → HoldsAt Free v s way → MaySend s way x r
+    → HoldsAt Free v r way
+unfolding Covering
+strays_held v s r way x h may =
+    only (holds_sends Free v s r way x (at Free v ∷ []) (λ p q w k m. (at Free v, inl refl, free_sends v p q w x k m))
+    (λ y e p q w k m. (at Free v, inl refl, free_sends v p q w y k m)) h may)
+  where
+    only : HoldsIn (at Free v ∷ []) r way → HoldsAt Free v r way
+    only (q, inl e, k) = subst (λ (p : Place Stand Frame). HoldsAt p.state p.way r way) e k
+    only (q, inr n, k) = absurd n
 
 module _ (begun : List Stand) where
   covered : (tape : List (Item Frame)) (s : State) (way : List Frame) → Stands (link_rules begun) tape s way

@@ -1,19 +1,20 @@
 -- What an end makes the best of at once.
-use Rattle.std.proofs.Common.{◌≡◌, ◌⊎◌, inl, inr, refl, sym, ap, subst, ◌∙◌, Option, Some, None, Bool, true, false, List, [], ◌∷◌, ◌++◌, ℕ}
-use Rattle.std.proofs.Common.{◌+◌, ◌-◌, ◌==◌, ◌||◌, not, ◌≤◌, arith, if◌then◌else◌}
-use Rattle.std.proofs.lemmas.Bool.{both_ways}
+use Rattle.std.proofs.Common.{◌≡◌, inl, inr, refl, sym, ap, subst, ◌∙◌, Some, None, Bool, true, false, List, [], ◌∷◌, ◌++◌, ℕ}
+use Rattle.std.proofs.Common.{◌||◌, not, ◌<◌, ◌≤◌, arith, if◌then◌else◌, length, suc}
+use Rattle.std.proofs.lemmas.Bool.{both_ways, cond_both}
 use Rattle.std.proofs.lemmas.Option.{none-some, same_Some, cond_some}
-use Rattle.x25_possible.specs.laws.Possible.{IsIn, Place, at}
-use Rattle.x25_possible_links.specs.laws.Link.{State, At, Owes, MayTake, passes, hears, begins, owes, fresh, asked, owed, is_asking, has_ua, may_answer}
-use Rattle.x25_possible_links.specs.laws.Link.{counted, may_count, counts, declines, heard, sends_as}
+use Rattle.x25_possible.specs.laws.Possible.{IsIn, at}
+use Rattle.x25_possible_links.specs.laws.Link.{State, At, Owes, MayTake, passes, hears, begins, owes, fresh, owed, is_asking, has_ua, may_answer}
+use Rattle.x25_possible_links.specs.laws.Link.{may_count, counts, declines, heard}
 use Rattle.x25_possible_links.specs.laws.Places.{number_of, least_of, sends, onward, is_plain, settled}
+use Rattle.x25_possible_links.specs.code.Steps.{is_large, pressed, rushed}
 use Rattle.x25_possible_links.specs.declared.frame.Frame.{Frame}
-use Rattle.x25_possible_links.specs.declared.frame.Frame.TheVariants.{Info, Ready, Sabm, Disc, Ua, Dm, Frmr, Unread, Before}
+use Rattle.x25_possible_links.specs.declared.frame.Frame.TheVariants.{Info, Ready, Sabm, Disc, Ua, Dm, Frmr, Unread}
 use Rattle.x25_possible_links.specs.declared.stand.Numbers.{Numbers}
 use Rattle.x25_possible_links.specs.declared.stand.Stand.{Stand}
 use Rattle.x25_possible_links.specs.declared.stand.Stand.TheVariants.{Out, Asking, Up, Free}
-use Rattle.x25_possible_links.proofs.Stands.{Below, below_self, below_on, heard_below, onward_up, onward_both, counts_more}
-use Rattle.x25_possible_links.proofs.Covers.{Covers, Here, Asked, Later, Begins, covers_takes, covers_shown, owes_take_nothing as takes_at}
+use Rattle.x25_possible_links.proofs.Stands.{Below, below_self, below_free, below_on, heard_below, onward_up, onward_both, counts_more}
+use Rattle.x25_possible_links.proofs.Covers.{Covers, Here, Asked, Later, Begins, covers_more, covers_takes, covers_shown, owes_take_nothing as takes_at}
 use Rattle.x25_possible_links.proofs.Sends.{asked_more, counted_at, swaps}
 
 -- by what it makes the best of at once it comes from one place to another
@@ -395,3 +396,88 @@ holds_settled (x ∷ v) u s way h = go (is_plain u x) refl (holds_settled v (onw
         → HoldsAt (if b then settled (onward u x) v else at u (x ∷ v)).state (if b then settled (onward u x) v else at u (x ∷ v)).way s way
     go true e rest = rest (holds_step u x v s way e h)
     go false e rest = h
+
+-- ---- what is longer on the way than it can be to the end
+
+module _ (v : List Frame) (s : State) (end : List Frame) where
+  presses : (u : Stand) (x : Frame) → Covers (onward u x) v s end → Covers (pressed u x) v s end
+  presses Out x k = k
+  presses Asking x k =
+      cond_both (may_answer x) Free Asking (λ w. Covers w v s end) (λ _. covers_more Asking Free v s end k tt) (λ _. k)
+  presses (Up j) x k = k
+  presses Free x k = k
+
+  presses_begun : (x : Frame) → may_answer x ≡ true → Covers fresh v s end → Covers (pressed Asking x) v s end
+  presses_begun x a k = subst (λ b. Covers (if b then Free else Asking) v s end) (sym a) (covers_more fresh Free v s end k tt)
+
+  freed : (u : Stand) → Covers u v s end → Covers (if is_large u then Free else u) v s end
+  freed u k = cond_both (is_large u) Free u (λ w. Covers w v s end) (λ _. covers_more u Free v s end k (below_free u)) (λ _. k)
+
+not_shorter : (x : Frame) (v front : List Frame) → front ≡ x ∷ v → length front < length v → ⊥
+not_shorter x v front e few = absurd (no (length v) (subst (λ (w : List Frame). length w < length v) e few))
+  where
+    no : (n : ℕ) → suc n < n → ⊥
+    no n h = omega (arith, h)
+
+pressed_on : (u : Stand) (front : List Frame) (s : State) (end : List Frame) (x : Frame) (v : List Frame) → front ≡ x ∷ v
+    → length end < length v → Covers u front s end → Covers (pressed u x) v s end
+pressed_on _ _ _ _ x v e few (Here s u front b) = absurd (not_shorter x v front e few)
+pressed_on _ _ _ _ x v e few (Asked s u r y way b is) = absurd (same (length v) (subst (λ (w : List Frame). length w < length v) (ap tail_of e) few))
+  where
+    same : (n : ℕ) → n < n → ⊥
+    same n h = omega (arith, h)
+pressed_on _ _ _ end x v e few (Later u y way s _ k) =
+    presses v s end u x
+    (subst (λ z. Covers (onward u z) v s end) (ap (front_of y) e) (subst (λ w. Covers (onward u y) w s end) (ap tail_of e) k))
+pressed_on _ _ _ end x v e few (Begins y way s _ a k) =
+    presses_begun v s end x (subst (λ z. may_answer z ≡ true) (ap (front_of y) e) a)
+    (subst (λ w. Covers fresh w s end) (ap tail_of e) k)
+
+rushed_free : (front : List Frame) → rushed front Free ≡ Free
+rushed_free [] = refl
+rushed_free (x ∷ front) = rushed_free front
+
+leads_short : (u : Stand) (way : List Frame) (t : Stand) (end : List Frame) → Leads u way t end → length end ≤ length way
+leads_short _ _ _ _ (Stays u way) = omega arith
+leads_short _ _ t end (Steps u x way _ _ e h) = let less = leads_short (onward u x) way t end h in omega (arith, less)
+
+module _ (rest : List Frame) where
+  longer : (front : List Frame) (n : ℕ) → n < length rest → n < length (front ++ rest)
+  longer [] n few = few
+  longer (x ∷ front) n few = let more = longer front n few in omega (arith, more)
+
+  rushed_covers : (front : List Frame) (u : Stand) (s : State) (end : List Frame) → length end < length rest
+      → Covers u (front ++ rest) s end → Covers (rushed front u) rest s end
+  rushed_covers [] u s end few k = freed rest s end u k
+  rushed_covers (x ∷ front) u s end few k =
+      cond_both (is_large u) Free (rushed front (pressed u x)) (λ w. Covers w rest s end)
+      (λ _. subst (λ w. Covers w rest s end) (rushed_free front)
+      (rushed_covers front Free s end few
+      (pressed_on Free (x ∷ front ++ rest) s end x (front ++ rest) refl (longer front (length end) few)
+      (covers_more u Free (x ∷ front ++ rest) s end k (below_free u)))))
+      (λ _. rushed_covers front (pressed u x) s end few
+      (pressed_on u (x ∷ front ++ rest) s end x (front ++ rest) refl (longer front (length end) few) k))
+
+  pub holds_rushed : (front : List Frame) (u : Stand) (s : State) (end : List Frame) → length end < length rest
+      → HoldsAt u (front ++ rest) s end → HoldsAt (rushed front u) rest s end
+  holds_rushed front u (At s) end few h =
+      let short = leads_short h.good end h.stand h.end h.leads in record {
+        good = h.good;
+        below = h.below;
+        stand = h.stand;
+        end = h.end;
+        leads = h.leads;
+        covers = rushed_covers front u (At h.stand) h.end (omega (arith, short, few)) h.covers;
+      }
+  holds_rushed front u (Owes r) end few h = rushed_covers front u (Owes r) end few h
+
+  pub holds_freed : (u : Stand) (s : State) (end : List Frame) → HoldsAt u rest s end → HoldsAt (if is_large u then Free else u) rest s end
+  holds_freed u (At s) end h = record {
+    good = h.good;
+    below = h.below;
+    stand = h.stand;
+    end = h.end;
+    leads = h.leads;
+    covers = freed rest (At h.stand) h.end u h.covers;
+  }
+  holds_freed u (Owes r) end h = freed rest (Owes r) end u h

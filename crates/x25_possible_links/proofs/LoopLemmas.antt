@@ -1,19 +1,17 @@
 -- Loops over a list of places, one by one.
-use Rattle.std.proofs.Common.{Bool, true, false, ◌≡◌, ℕ, suc, ◌+◌, ◌-◌, ◌<◌, ◌≤◌, ◌&&◌, ◌||◌, not, nat_le, nat_lt, if◌then◌else◌}
-use Rattle.std.proofs.Common.{List, [], ◌∷◌, drop, length, get_or, sym, ap, ◌∙◌, Option, Some, None, arith, refl, subst}
+use Rattle.std.proofs.Common.{Bool, true, false, ◌≡◌, ℕ, suc, ◌+◌, ◌<◌, ◌≤◌, nat_lt, if◌then◌else◌}
+use Rattle.std.proofs.Common.{List, [], ◌∷◌, drop, length, get_or, map, set, sym, ap, ◌∙◌, Option, Some, None, arith, refl, zero}
 use Rattle.std.proofs.Common.{drop_of_length-le}
 use Rattle.std.proofs.Math.Seq.{drop-cons}
 use Rattle.std.proofs.lemmas.Bool.{ltb-true}
-use Rattle.x25_possible_links.specs.laws.Link.{fresh, is_asking}
 use Rattle.x25_possible_links.specs.laws.Places.{is_plain, onward, upward}
-use Rattle.x25_possible_links.specs.code.Steps.{all_of, and_then, made, kept, spot_at, is_large, settles, goes, first_of, answered, answers, is_below, is_covered, least, moves}
-use Rattle.x25_possible_links.specs.code.Steps.{come, gone, passed}
+use Rattle.x25_possible_links.specs.code.Steps.{all_of, and_then, come, each_of, first_of, goes, gone, is_large, least, made, moves}
+use Rattle.x25_possible_links.specs.code.Steps.{passed, pressed, rushed, best, settles, spot_at, with_first}
 use Rattle.x25_possible_links.specs.declared.frame.Frame.{Frame}
-use Rattle.x25_possible_links.specs.declared.frame.Frame.TheVariants.{Info, Ready, Sabm, Disc, Ua, Dm, Frmr, Unread, Before}
 use Rattle.x25_possible_links.specs.declared.link.Mode.{Mode}
 use Rattle.x25_possible_links.specs.declared.spots.Spot.{Spot}
 use Rattle.x25_possible_links.specs.declared.stand.Stand.{Stand}
-use Rattle.x25_possible_links.specs.declared.stand.Stand.TheVariants.{Out, Asking, Up, Free}
+use Rattle.x25_possible_links.specs.declared.stand.Stand.TheVariants.{Free}
 
 -- the one that is looked at, and the rest
 pub here : {X : Type 0} (xs : List X) (i : ℕ) (d : X) → i < length xs → drop i xs ≡ get_or xs i d ∷ drop (i + 1) xs
@@ -59,12 +57,80 @@ made_some b new o e ok = sym e ∙ ap (λ c. made c new) ok
 pub made_none : (b : Bool) (new : List Spot) (o : Option (List Spot)) → made b new ≡ o → b ≡ false → o ≡ None
 made_none b new o e not_ok = sym e ∙ ap (λ c. made c new) not_ok
 
+-- ---- a list that is changed in place, from the front
+
+-- those from a place on are changed
+abbrev pub left_mapped : (Spot → Spot) → ℕ → List Spot → List Spot
+left_mapped f zero qs = map f qs
+left_mapped f (suc n) [] = []
+left_mapped f (suc n) (q ∷ qs) = q ∷ left_mapped f n qs
+
+-- or there is none for one of them
+abbrev pub left_of : (Spot → Option Spot) → ℕ → List Spot → Option (List Spot)
+left_of f zero qs = each_of f qs
+left_of f (suc n) [] = Some []
+left_of f (suc n) (q ∷ qs) = with_first (Some q) (left_of f n qs)
+
+mapped_next : (f : Spot → Spot) (n : ℕ) (qs : List Spot) (d : Spot) → n < length qs
+    → left_mapped f (suc n) (set qs n (f (get_or qs n d))) ≡ left_mapped f n qs
+mapped_next f n [] d low = absurd (omega (arith, low))
+mapped_next f zero (q ∷ qs) d low = refl
+mapped_next f (suc n) (q ∷ qs) d low = ap (λ l. q ∷ l) (mapped_next f n qs d (omega (arith, low)))
+
+one_on : (n : ℕ) → n + 1 ≡ suc n
+one_on n = omega arith
+
+pub mapped_more : (f : Spot → Spot) (n : ℕ) (qs all : List Spot) (d new : Spot) → n < length qs → new ≡ f (get_or qs n d)
+    → left_mapped f n qs ≡ map f all → left_mapped f (n + 1) (set qs n new) ≡ map f all
+mapped_more f n qs all d new low e h =
+    ap (λ q. left_mapped f (n + 1) (set qs n q)) e ∙ ap (λ k. left_mapped f k (set qs n (f (get_or qs n d)))) (one_on n)
+    ∙ mapped_next f n qs d low ∙ h
+
+pub mapped_all : (f : Spot → Spot) (n : ℕ) (qs all : List Spot) → length qs ≤ n → left_mapped f n qs ≡ map f all → qs ≡ map f all
+mapped_all f n qs all few h = sym (same n qs few) ∙ h
+  where
+    same : (n : ℕ) (qs : List Spot) → length qs ≤ n → left_mapped f n qs ≡ qs
+    same zero [] few = refl
+    same zero (q ∷ qs) few = absurd (omega (arith, few))
+    same (suc n) [] few = refl
+    same (suc n) (q ∷ qs) few = ap (λ l. q ∷ l) (same n qs (omega (arith, few)))
+
+each_next : (f : Spot → Option Spot) (n : ℕ) (qs : List Spot) (d new : Spot) → n < length qs → Some new ≡ f (get_or qs n d)
+    → left_of f (suc n) (set qs n new) ≡ left_of f n qs
+each_next f n [] d new low e = absurd (omega (arith, low))
+each_next f zero (q ∷ qs) d new low e = ap (λ o. with_first o (each_of f qs)) e
+each_next f (suc n) (q ∷ qs) d new low e = ap (with_first (Some q)) (each_next f n qs d new (omega (arith, low)) e)
+
+pub each_more : (f : Spot → Option Spot) (n : ℕ) (qs all : List Spot) (d new : Spot) → n < length qs → Some new ≡ f (get_or qs n d)
+    → left_of f n qs ≡ each_of f all → left_of f (n + 1) (set qs n new) ≡ each_of f all
+each_more f n qs all d new low e h =
+    ap (λ k. left_of f k (set qs n new)) (one_on n) ∙ each_next f n qs d new low e ∙ h
+
+pub each_none : (f : Spot → Option Spot) (n : ℕ) (qs all : List Spot) (d : Spot) → n < length qs → None ≡ f (get_or qs n d)
+    → left_of f n qs ≡ each_of f all → None ≡ each_of f all
+each_none f n qs all d low e h = none n qs low e ∙ h
+  where
+    none : (n : ℕ) (qs : List Spot) → n < length qs → None ≡ f (get_or qs n d) → None ≡ left_of f n qs
+    none n [] low e = absurd (omega (arith, low))
+    none zero (q ∷ qs) low e = ap (λ o. with_first o (each_of f qs)) e
+    none (suc n) (q ∷ qs) low e = ap (with_first (Some q)) (none n qs (omega (arith, low)) e)
+
+pub each_all : (f : Spot → Option Spot) (n : ℕ) (qs all : List Spot) → length qs ≤ n → left_of f n qs ≡ each_of f all
+    → Some qs ≡ each_of f all
+each_all f n qs all few h = sym (same n qs few) ∙ h
+  where
+    same : (n : ℕ) (qs : List Spot) → length qs ≤ n → left_of f n qs ≡ Some qs
+    same zero [] few = refl
+    same zero (q ∷ qs) few = absurd (omega (arith, few))
+    same (suc n) [] few = refl
+    same (suc n) (q ∷ qs) few = ap (with_first (Some q)) (same n qs (omega (arith, few)))
+
 -- ---- a stand with a number that is too large, and a place in which a frame may be sent
 
-pub settles_large : (n : ℕ) (way : List Frame) (s : Stand) (out : List Spot) → is_large s ≡ true → None ≡ settles n way s out
-settles_large n [] s out large = sym (ap (λ b. if b then None else kept (spot_at n s) out) large)
-settles_large n (x ∷ rest) s out large =
-    sym (ap (λ b. if b then None else if is_plain s x then settles (n + 1) rest (onward s x) out else kept (spot_at n s) out) large)
+pub best_large : (n : ℕ) (way : List Frame) (s : Stand) → is_large s ≡ true → None ≡ best n way s
+best_large n [] s large = sym (ap (λ b. if b then None else Some (spot_at n s)) large)
+best_large n (x ∷ rest) s large =
+    sym (ap (λ b. if b then None else if is_plain s x then best (n + 1) rest (onward s x) else Some (spot_at n s)) large)
 
 module _ (mode : Mode) (x : Frame) (way : List Frame) (n : ℕ) (s : Stand) (out : List Spot) where
   pub goes_large : (rest : List Frame) → is_large s ≡ true → None ≡ goes mode x way n rest s out
@@ -95,6 +161,10 @@ least_most (q ∷ qs) n = go (nat_lt q.at n) refl (λ m. least_most qs m)
 pub come_large : (way : List Frame) (s : Stand) → is_large s ≡ true → Free ≡ come way s
 come_large [] s large = sym (ap (λ b. if b then Free else s) large)
 come_large (x ∷ way) s large = sym (ap (λ b. if b then Free else come way (upward s x)) large)
+
+pub rushed_large : (way : List Frame) (s : Stand) → is_large s ≡ true → Free ≡ rushed way s
+rushed_large [] s large = sym (ap (λ b. if b then Free else s) large)
+rushed_large (x ∷ way) s large = sym (ap (λ b. if b then Free else rushed way (pressed s x)) large)
 
 pub gone_large : (way : List Frame) (s : Stand) → is_large s ≡ true → Free ≡ gone way s
 gone_large [] s large = sym (ap (λ b. if b then Free else s) large)

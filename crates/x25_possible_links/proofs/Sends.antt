@@ -1,20 +1,19 @@
 -- What an end sends, of the places that it may be in.
-use Rattle.std.proofs.Common.{◌≡◌, ◌⊎◌, inl, inr, refl, sym, ap, subst, ◌∙◌, Option, Some, None, Bool, true, false, List, [], ◌∷◌, ◌++◌, ℕ, length}
-use Rattle.std.proofs.Common.{◌+◌, ◌-◌, ◌==◌, ◌||◌, not, ◌≤◌, arith, if◌then◌else◌}
+use Rattle.std.proofs.Common.{◌≡◌, inl, inr, refl, sym, ap, subst, ◌∙◌, Option, Some, None, Bool, true, false, List, [], ◌∷◌, ℕ, length}
+use Rattle.std.proofs.Common.{◌||◌, not, ◌≤◌, arith, if◌then◌else◌}
 use Rattle.std.proofs.lemmas.Bool.{both_ways}
 use Rattle.std.proofs.lemmas.Option.{none-some, same_Some, cond_some}
-use Rattle.x25_possible.specs.Channel.{nth}
 use Rattle.x25_possible.specs.laws.Possible.{IsIn, Place, at}
 use Rattle.x25_possible_links.specs.laws.Link.{State, At, Owes, fresh, asked, owed, is_asking, has_ua, may_answer}
 use Rattle.x25_possible_links.specs.laws.Link.{counted, may_count, counts, declines, heard, sends_as}
 use Rattle.x25_possible_links.specs.laws.Places.{number_of, least_of, sends, onward, upward, first, goes, answered, answers}
 use Rattle.x25_possible_links.specs.declared.frame.Frame.{Frame}
-use Rattle.x25_possible_links.specs.declared.frame.Frame.TheVariants.{Info, Ready, Sabm, Disc, Ua, Dm, Frmr, Unread, Before}
+use Rattle.x25_possible_links.specs.declared.frame.Frame.TheVariants.{Info, Ready, Sabm, Disc, Dm, Frmr, Unread, Before}
 use Rattle.x25_possible_links.specs.declared.stand.Numbers.{Numbers}
 use Rattle.x25_possible_links.specs.declared.stand.Stand.{Stand}
 use Rattle.x25_possible_links.specs.declared.stand.Stand.TheVariants.{Out, Asking, Up, Free}
 use Rattle.x25_possible_links.proofs.Stands.{Below, below_self, below_free, onward_up, onward_both, declines_both, sends_more, counts_more}
-use Rattle.x25_possible_links.proofs.Covers.{Covers, Here, Asked, Later, Begins, covers_over, covers_more, covers_less}
+use Rattle.x25_possible_links.proofs.Covers.{Covers, Here, Asked, Later, Begins, covers_over, covers_more}
 
 -- a place of the run is covered by one of these
 abbrev pub IsCovered : List (Place Stand Frame) → State → List Frame → Type 0

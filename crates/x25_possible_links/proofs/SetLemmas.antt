@@ -1,19 +1,16 @@
--- A set of places tells, as long as there is room.
-use Rattle.std.proofs.Common.{Bool, true, false, ◌≡◌, ◌⊎◌, inl, inr, ℕ, ◌+◌, ◌-◌, ◌<◌, ◌≤◌, ◌==◌, ◌&&◌, not, nat_le, nat_lt}
+-- What a set of places tells over a tape.
+use Rattle.std.proofs.Common.{Bool, true, false, ◌≡◌, ◌⊎◌, inl, inr, ℕ, ◌≤◌, ◌==◌}
 use Rattle.std.proofs.Common.{List, [], ◌∷◌, ◌++◌, map, drop, length, refl, sym, ap, subst, ◌∙◌, Option, Some, None, arith}
-use Rattle.std.proofs.Common.{flat_map, if◌then◌else◌, le_trans}
-use Rattle.std.proofs.lemmas.Bool.{and_parts, both_ways, leb-true, ltb-false, eqb-true, not-true}
-use Rattle.std.proofs.lemmas.List.{drop-drop, drop-append-le}
-use Rattle.std.proofs.lemmas.Option.{none-some, same_Some}
-use Rattle.x25_possible.specs.laws.Possible.{IsIn, IsUnexplained, Item, Own, Other, Place, at, Stands, Begins, Sends, Shows, Takes}
+use Rattle.std.proofs.Common.{flat_map, if◌then◌else◌}
+use Rattle.std.proofs.lemmas.Bool.{both_ways, eqb-true}
+use Rattle.x25_possible.specs.laws.Possible.{IsIn, IsUnexplained, Item, Own, Other, Place, Stands, Begins, Sends, Shows, Takes}
 use Rattle.x25_possible_links.specs.laws.Link.{State, At, link_rules}
 use Rattle.x25_possible_links.specs.laws.Places.{settled, settle}
 use Rattle.x25_possible_links.specs.laws.Places as place
-use Rattle.x25_possible_links.specs.laws.Sets.{GuiltyAreTold, InnocentsStayUntold}
-use Rattle.x25_possible_links.specs.code.Steps.{begun_as, broken, grow_all, grows, least, played, sends_to, sent_to, set_as}
-use Rattle.x25_possible_links.specs.code.Steps.{latest, skipped_by, standing, telling, unexplained, unexplained_as}
-use Rattle.x25_possible_links.specs.code.Steps.{settles, shift_all, shift_at, shifted_to, shown_to, spot_at, Stepped, trimmed, walk_all}
-use Rattle.x25_possible_links.specs.code.Steps.{shows_to, walks}
+use Rattle.x25_possible_links.specs.laws.Sets.{GuiltyAreTold, InnocentsStayUntold, IsTimely}
+use Rattle.x25_possible_links.specs.code.Steps.{begun_as, broken, came, grow_all, latest, least, played, sends_to, sent_to, set_as}
+use Rattle.x25_possible_links.specs.code.Steps.{shifted, shown_to, shows_to, skipped_by, spot_at, standing, Stepped, telling, trimmed}
+use Rattle.x25_possible_links.specs.code.Steps.{unexplained, unexplained_as, walk_all}
 use Rattle.x25_possible_links.specs.declared.frame.Frame.{Frame}
 use Rattle.x25_possible_links.specs.declared.frame.Frame.TheVariants.{Ua}
 use Rattle.x25_possible_links.specs.declared.link.Mode.TheVariants.{Right, Skipping}
@@ -22,14 +19,15 @@ use Rattle.x25_possible_links.specs.declared.set.Told.{Told}
 use Rattle.x25_possible_links.specs.declared.set.Told.TheVariants.{Nothing, Skips, Broken}
 use Rattle.x25_possible_links.specs.declared.spots.Spot.{Spot}
 use Rattle.x25_possible_links.specs.declared.stand.Stand.{Stand}
-use Rattle.x25_possible_links.proofs.Covering.{behind_own, behind_other, blind_sends, blind_shows, grows_adds, hurried_shows}
-use Rattle.x25_possible_links.proofs.Covering.{least_is, moved, moved_is, shows_by}
+use Rattle.x25_possible_links.proofs.Covering.{behind_own, behind_other, blind_sends, blind_shows, Has, has_sent, has_shown, has_taken}
+use Rattle.x25_possible_links.proofs.Covering.{hastened_shows, is_untold, least_is, lost_blind, moved_is, other_adds, own_adds, shift_in}
+use Rattle.x25_possible_links.proofs.Covering.{shows_by}
 use Rattle.x25_possible_links.proofs.Stands.{below_self}
 use Rattle.x25_possible_links.proofs.Covers.{Here}
 use Rattle.x25_possible_links.proofs.Leads.{HoldsAt, holds_shown, holds_takes, holds_settled, stays_at}
 use Rattle.x25_possible_links.proofs.Exactly.{HoldsIn, sends_held, settled_stand, walks_stand}
 use Rattle.x25_possible_links.proofs.Lists.{in_map, from_map, in_all, from_all}
-use Rattle.x25_possible_links.proofs.StepLemmas.{Adds, adds_all, adds_kept, adds_settled, adds_walks, placed}
+use Rattle.x25_possible_links.proofs.StepLemmas.{Adds, placed}
 
 -- its places are such as a run comes to, and there is one for each run
 record Fits (begun : List Stand) (tape : List (Item Frame)) (way : List Frame) (qs : List Spot) : Type 0 where
@@ -116,7 +114,7 @@ own_fits begun tape way qs new x fits e = record {
 }
   where
     adds : Adds way [] new (flat_map (behind_own x way) qs)
-    adds = adds_all way (walks Right x way) (behind_own x way) (λ q out now h. adds_walks x way q out now h) qs [] new e
+    adds = own_adds way qs new x e
 
 -- ---- as the other end sends one
 
@@ -151,7 +149,7 @@ other_holds begun tape way qs x _ _ _ e fits (Shows tape' s end y h) =
     )
 
 other_fits : (begun : List Stand) (tape : List (Item Frame)) (way : List Frame) (qs new : List Spot) (x : Frame)
-    → Fits begun tape way qs → grow_all (length way) (way ++ x ∷ []) qs [] ≡ Some new
+    → Fits begun tape way qs → grow_all (length way) (way ++ x ∷ []) qs ≡ Some new
     → Fits begun (Other x ∷ tape) (way ++ x ∷ []) new
 other_fits begun tape way qs new x fits e = record {
   stands = λ q is.
@@ -166,9 +164,7 @@ other_fits begun tape way qs new x fits e = record {
 }
   where
     adds : Adds (way ++ x ∷ []) [] new (flat_map (behind_other x way) qs)
-    adds =
-        adds_all (way ++ x ∷ []) (grows (length way) (way ++ x ∷ [])) (behind_other x way)
-        (λ q out now h. grows_adds way x q out now (nat_le q.at (length way)) refl h) qs [] new e
+    adds = other_adds way qs new x e
 
     only : (q : Spot) (p : Place Stand Frame) → IsIn p (behind_other x way q) → p ≡ settled q.stand (drop q.at way ++ x ∷ [])
     only q p (inl same) = same
@@ -176,28 +172,15 @@ other_fits begun tape way qs new x fits e = record {
 
 -- ---- with less on the way
 
-shift_fits : (begun : List Stand) (tape : List (Item Frame)) (way : List Frame) (qs new : List Spot) (n : ℕ)
-    → ((q : Spot) → IsIn q qs → n ≤ q.at) → Fits begun tape way qs → shift_all n qs [] ≡ Some new → Fits begun tape (drop n way) new
-shift_fits begun tape way qs new n below fits e = record {
+shift_fits : (begun : List Stand) (tape : List (Item Frame)) (way : List Frame) (qs : List Spot) (n : ℕ)
+    → ((q : Spot) → IsIn q qs → n ≤ q.at) → Fits begun tape way qs → Fits begun tape (drop n way) (map (shifted n) qs)
+shift_fits begun tape way qs n below fits = record {
   stands = λ q is.
-      let g = from_all (moved n way) qs (placed (drop n way) q) (from_added (drop n way) new (flat_map (moved n way) qs) adds q is) in
-      subst (λ p. Stands (link_rules begun) tape (At p.state) p.way)
-      (sym (only g.0 (placed (drop n way) q) g.2 ∙ moved_is n way g.0 (below g.0 g.1))) (fits.stands g.0 g.1);
-  holds = λ s end h.
-      let g = fits.holds s end h in
-      let p = placed (drop n way) (spot_at (g.0.at - n) g.0.stand) in
-      holds_by (drop n way) new (flat_map (moved n way) qs) adds p (in_all (moved n way) qs g.0 p g.1 (inl refl)) s end
-      (subst (λ r. HoldsAt r.state r.way s end) (sym (moved_is n way g.0 (below g.0 g.1))) g.2);
+      let g = from_map (shifted n) qs q is in
+      subst (λ (p : Place Stand Frame). Stands (link_rules begun) tape (At p.state) p.way)
+      (sym (ap (placed (drop n way)) g.2 ∙ moved_is n way g.0 (below g.0 g.1))) (fits.stands g.0 g.1);
+  holds = λ s end h. shift_in way qs n s end below (fits.holds s end h);
 }
-  where
-    adds : Adds (drop n way) [] new (flat_map (moved n way) qs)
-    adds =
-        adds_all (drop n way) (shift_at n) (moved n way)
-        (λ q out now h. adds_kept (drop n way) (spot_at (q.at - n) q.stand) out now h) qs [] new e
-
-    only : (q : Spot) (p : Place Stand Frame) → IsIn p (moved n way q) → p ≡ placed (drop n way) (spot_at (q.at - n) q.stand)
-    only q p (inl same) = same
-    only q p (inr h) = absurd h
 
 abbrev FitsSet : List Stand → List (Item Frame) → LinkSet → Type 0
 FitsSet begun tape s = Fits begun tape s.way.items s.spots.items
@@ -206,17 +189,12 @@ trim_fits : (begun : List Stand) (tape : List (Item Frame)) (set : LinkSet) (way
     → FitsSet begun tape (trimmed (set_as set way qs))
 trim_fits begun tape set way qs fits = go (least qs (length way) == 0)
   where
-    shift : (o : Option (List Spot)) → shift_all (least qs (length way)) qs [] ≡ o
-        → FitsSet begun tape (shifted_to (least qs (length way)) o (set_as set way qs))
-    shift None e = fits
-    shift (Some new) e =
-        shift_fits begun tape way qs new (least qs (length way)) (λ q is. least_is qs (length way) q is) fits e
+    n : ℕ
+    n = least qs (length way)
 
-    go : (b : Bool)
-        → FitsSet begun tape (if b then set_as set way qs
-        else shifted_to (least qs (length way)) (shift_all (least qs (length way)) qs []) (set_as set way qs))
+    go : (b : Bool) → FitsSet begun tape (if b then set_as set way qs else set_as set (drop n way) (map (shifted n) qs))
     go true = fits
-    go false = shift (shift_all (least qs (length way)) qs []) refl
+    go false = shift_fits begun tape way qs n (λ q is. least_is qs (length way) q is) fits
 
 -- ---- over a tape
 
@@ -251,7 +229,7 @@ stepped b x set qs =
 sent_fits : (begun : List Stand) (tape : List (Item Frame)) (set : LinkSet) (x : Frame) (s : State) (end : List Frame)
     (o : Option (List Spot)) → walk_all Right x set.way.items set.spots.items [] ≡ o → (sent_to x o set).set.is_blind ≡ false → FitsSet begun tape set
     → Stands (link_rules begun) (Own x ∷ tape) s end → FitsSet begun (Own x ∷ tape) (sent_to x o set).set
-sent_fits begun tape set x s end None e some fits h = absurd (both_ways true some refl)
+sent_fits begun tape set x s end None e some fits h = absurd (both_ways _ some (lost_blind set (came set)))
 sent_fits begun tape set x s end (Some qs) e some fits h = go (length qs == 0) refl
   where
     now : Fits begun (Own x ∷ tape) set.way.items qs
@@ -263,10 +241,11 @@ sent_fits begun tape set x s end (Some qs) e some fits h = go (length qs == 0) r
     go false k = trim_fits begun (Own x ∷ tape) set set.way.items qs now
 
 shown_fits : (begun : List Stand) (tape : List (Item Frame)) (set : LinkSet) (x : Frame) (o : Option (List Spot))
-    → grow_all (length set.way.items) (set.way.items ++ x ∷ []) set.spots.items [] ≡ o
+    → grow_all (length set.way.items) (set.way.items ++ x ∷ []) set.spots.items ≡ o
     → (shown_to set (set.way.items ++ x ∷ []) o).is_blind ≡ false → FitsSet begun tape set
     → FitsSet begun (Other x ∷ tape) (shown_to set (set.way.items ++ x ∷ []) o)
-shown_fits begun tape set x None e some fits = absurd (both_ways true some refl)
+shown_fits begun tape set x None e some fits =
+    absurd (both_ways _ some (lost_blind (set_as set (set.way.items ++ x ∷ []) set.spots.items) (came set)))
 shown_fits begun tape set x (Some qs) e some fits =
     trim_fits begun (Other x ∷ tape) set (set.way.items ++ x ∷ []) qs (other_fits begun tape set.way.items set.spots.items qs x fits e)
 
@@ -290,9 +269,9 @@ own_step begun tape set x s end fits h sees =
 
 other_step : (begun : List Stand) (tape : List (Item Frame)) (set : LinkSet) (x : Frame) (full : Bool) → FitsSet begun tape set
     → (shows_by full x set).is_blind ≡ false → FitsSet begun (Other x ∷ tape) (shows_by full x set)
-other_step begun tape set x true fits sees = absurd (both_ways _ sees (hurried_shows set x))
+other_step begun tape set x true fits sees = absurd (both_ways _ sees (hastened_shows set x))
 other_step begun tape set x false fits sees =
-    shown_fits begun tape set x (grow_all (length set.way.items) (set.way.items ++ x ∷ []) set.spots.items []) refl sees fits
+    shown_fits begun tape set x (grow_all (length set.way.items) (set.way.items ++ x ∷ []) set.spots.items) refl sees fits
 
 -- there was room up to then
 saw : (b c : Bool) → (b ≡ true → c ≡ true) → c ≡ false → b ≡ false
@@ -346,30 +325,53 @@ told_as stand x set = skipped_told stand x set (walk_all Skipping x set.way.item
 pub unexplained_told : (x : Frame) (set : LinkSet) → (unexplained x set).told ≡ Nothing → ⊥
 unexplained_told x set = is_something (unexplained x set).told (told_as (latest set.spots.items set.way.items) x set)
 
+-- a run in which nothing comes late has its place
+pub has_played : (begun : List Stand) (tape : List (Item Frame)) (s : State) (way : List Frame)
+    (run : Stands (link_rules begun) tape s way) → IsTimely run → Has (played (begun_as begun) tape) s way
+has_played begun _ _ _ (Begins s b) timely = nothing_holds begun [] s [] refl (Begins s b)
+has_played begun _ _ _ (Sends tape s r way x may run) timely =
+    has_sent (played (begun_as begun) tape) x s r way may (has_played begun tape s way run timely)
+has_played begun _ _ _ (Shows tape s way x run) timely =
+    has_shown x s way (played (begun_as begun) tape) timely.0 (has_played begun tape s way run timely.1)
+has_played begun _ _ _ (Takes tape s r way x may run) timely =
+    let set = played (begun_as begun) tape in
+    has_taken set.spots.items set.way.items s r x way (has_played begun tape s (x ∷ way) run timely) may
+
+timely_untold : (begun : List Stand) (items tape : List (Item Frame)) (x : Frame) (s : State) (way : List Frame) → items ≡ Own x ∷ tape
+    → (run : Stands (link_rules begun) items s way) → IsTimely run → (sends_to x (played (begun_as begun) tape)).told ≡ Nothing
+timely_untold begun _ tape x _ _ e (Begins s b) timely = absurd (no_item x tape e)
+timely_untold begun _ tape x _ _ e (Shows tape' s way y run) timely = absurd (not_own x y tape' tape e)
+timely_untold begun _ tape x _ _ e (Takes tape' s r way y may run) timely = timely_untold begun tape' tape x s (y ∷ way) e run timely
+timely_untold begun _ tape x _ _ e (Sends tape' s r way y may run) timely =
+    let same = own_is x y tape tape' e in
+    subst (λ z. (sends_to z (played (begun_as begun) tape)).told ≡ Nothing) same.0
+    (subst (λ t. (sends_to y (played (begun_as begun) t)).told ≡ Nothing) same.1
+    (is_untold (played (begun_as begun) tape') y s r way may (has_played begun tape' s way run timely)))
+
 untold : (begun : List Stand) (tape : List (Item Frame)) (set : LinkSet) (x : Frame) (s : State) (end : List Frame)
     (o : Option (List Spot)) → walk_all Right x set.way.items set.spots.items [] ≡ o → FitsSet begun tape set
     → Stands (link_rules begun) (Own x ∷ tape) s end → (sent_to x o set).told ≡ Nothing
 untold begun tape set x s end None e fits h = refl
 untold begun tape set x s end (Some qs) e fits h = go (length qs == 0) refl
   where
-    go : (b : Bool) → (length qs == 0) ≡ b
-        → (stepped b x set qs).told ≡ Nothing
+    go : (b : Bool) → (length qs == 0) ≡ b → (stepped b x set qs).told ≡ Nothing
     go true k =
         absurd (none_left begun (Own x ∷ tape) set.way.items qs s end
         (own_fits begun tape set.way.items set.spots.items qs x fits e) h k)
     go false k = refl
 
 pub innocents_stay_untold : InnocentsStayUntold
-innocents_stay_untold begun tape x s end h sees =
+innocents_stay_untold begun tape x s way run (inl timely) = timely_untold begun (Own x ∷ tape) tape x s way refl run timely
+innocents_stay_untold begun tape x s way run (inr sees) =
     let set = played (begun_as begun) tape in
-    let g = before_own begun (Own x ∷ tape) tape x s end refl h in
-    untold begun tape set x s end (walk_all Right x set.way.items set.spots.items []) refl
-    (played_fits begun tape g.0 g.1 g.2 sees) h
+    let g = before_own begun (Own x ∷ tape) tape x s way refl run in
+    untold begun tape set x s way (walk_all Right x set.way.items set.spots.items []) refl
+    (played_fits begun tape g.0 g.1 g.2 sees) run
 
 told : (begun : List Stand) (tape : List (Item Frame)) (set : LinkSet) (x : Frame) (o : Option (List Spot))
     → walk_all Right x set.way.items set.spots.items [] ≡ o → (sent_to x o set).set.is_blind ≡ false → FitsSet begun tape set
     → IsUnexplained (link_rules begun) (Own x ∷ tape) → (sent_to x o set).told ≡ Nothing → ⊥
-told begun tape set x None e some fits none = absurd (both_ways true some refl)
+told begun tape set x None e some fits none = absurd (both_ways _ some (lost_blind set (came set)))
 told begun tape set x (Some []) e some fits none = unexplained_told x set
 told begun tape set x (Some (q ∷ qs)) e some fits none =
     let now = own_fits begun tape set.way.items set.spots.items (q ∷ qs) x fits e in

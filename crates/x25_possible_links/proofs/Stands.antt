@@ -1,15 +1,14 @@
 -- Which stands of an end may do all that another may.
-use Rattle.std.proofs.Common.{◌≡◌, refl, sym, ap, ap₂, subst, ◌∙◌, Option, Some, None, Bool, true, false, List, [], ◌∷◌, ℕ}
-use Rattle.std.proofs.Common.{◌+◌, ◌-◌, ◌%◌, ◌≤◌, ◌<◌, arith, nat_le, nat_lt, ◌==◌, ◌&&◌, ◌||◌, not, if◌then◌else◌, inl, inr}
+use Rattle.std.proofs.Common.{◌≡◌, refl, sym, ap, ap₂, subst, ◌∙◌, Option, Some, None, Bool, true, false, List, ℕ}
+use Rattle.std.proofs.Common.{◌+◌, ◌-◌, ◌%◌, ◌≤◌, ◌<◌, arith, nat_le, nat_lt, ◌==◌, ◌&&◌, ◌||◌, not, if◌then◌else◌}
 use Rattle.std.proofs.lemmas.Bool.{both_ways, and_parts, and_from, eqb-true, leb-true, ltb-true, ltb-false, eq-eqb, le-leb, lt-ltb}
 use Rattle.std.proofs.lemmas.Option.{none-some, same_Some, cond_some}
 use Rattle.x25_possible.specs.Channel.{nth}
-use Rattle.x25_possible.specs.laws.Possible.{IsIn}
-use Rattle.x25_possible_links.specs.laws.Link.{fresh, may_acknowledge, may_number, told_to, sent_to, counted, may_count, is_asking, has_ua}
-use Rattle.x25_possible_links.specs.laws.Link.{asks, declines, counts, sends_as, heard, asked, owed}
+use Rattle.x25_possible_links.specs.laws.Link.{may_acknowledge, may_number, told_to, sent_to, counted, may_count, is_asking, has_ua}
+use Rattle.x25_possible_links.specs.laws.Link.{asks, declines, counts, sends_as, heard}
 use Rattle.x25_possible_links.specs.laws.Places.{number_of, least_of, sends, onward}
 use Rattle.x25_possible_links.specs.declared.frame.Frame.{Frame}
-use Rattle.x25_possible_links.specs.declared.frame.Frame.TheVariants.{Info, Ready, Sabm, Disc, Ua, Dm, Frmr, Unread, Before}
+use Rattle.x25_possible_links.specs.declared.frame.Frame.TheVariants.{Info, Ready, Sabm, Disc, Dm, Frmr, Unread}
 use Rattle.x25_possible_links.specs.declared.stand.Numbers.{Numbers}
 use Rattle.x25_possible_links.specs.declared.stand.Stand.{Stand}
 use Rattle.x25_possible_links.specs.declared.stand.Stand.TheVariants.{Out, Asking, Up, Free}

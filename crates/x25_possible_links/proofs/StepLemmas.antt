@@ -1,6 +1,6 @@
 -- Lists of places, as their definition has them, and the places that are told by.
-use Rattle.std.proofs.Common.{Bool, true, false, ◌≡◌, ◌⊎◌, inl, inr, ℕ, zero, suc, ◌+◌, ◌-◌, ◌<◌, ◌≤◌, ◌==◌, ◌&&◌, ◌||◌, nat_le}
-use Rattle.std.proofs.Common.{List, [], ◌∷◌, ◌++◌, map, drop, length, refl, sym, ap, ap₂, subst, ◌∙◌, Option, Some, None, arith}
+use Rattle.std.proofs.Common.{Bool, true, false, ◌≡◌, ◌⊎◌, inl, inr, ℕ, zero, suc, ◌+◌, ◌-◌, ◌≤◌, ◌==◌, ◌&&◌, ◌||◌, nat_le}
+use Rattle.std.proofs.Common.{List, [], ◌∷◌, ◌++◌, map, drop, length, refl, sym, ap, subst, ◌∙◌, Option, Some, None, arith}
 use Rattle.std.proofs.Common.{flat_map, if◌then◌else◌}
 use Rattle.std.proofs.lemmas.Bool.{and_parts, both_ways, eqb-true, leb-true}
 use Rattle.std.proofs.lemmas.List.{drop-drop}
@@ -10,8 +10,8 @@ use Rattle.x25_possible.specs.laws.Possible.{Place, at, IsIn}
 use Rattle.x25_possible_links.specs.laws.Link.{State, At, Owes, fresh, is_asking}
 use Rattle.x25_possible_links.specs.laws.Places.{is_plain, onward, upward, sends, settled, settle, first}
 use Rattle.x25_possible_links.specs.laws.Places as place
-use Rattle.x25_possible_links.specs.code.Steps.{all_of, and_then, kept, spot_at, is_large, settles, goes, first_of, answered, answers, any_frame}
-use Rattle.x25_possible_links.specs.code.Steps.{walks, is_below, is_covered, numbers_below}
+use Rattle.x25_possible_links.specs.code.Steps.{all_of, and_then, answered, answers, best, each_of, first_of, goes, is_below}
+use Rattle.x25_possible_links.specs.code.Steps.{is_covered, is_large, kept, kept_by, numbers_below, settles, spot_at, walks, with_first}
 use Rattle.x25_possible_links.specs.declared.frame.Frame.{Frame}
 use Rattle.x25_possible_links.specs.declared.frame.Frame.TheVariants.{Info, Ready, Sabm, Disc, Ua, Dm, Frmr, Unread, Before}
 use Rattle.x25_possible_links.specs.declared.link.Mode.TheVariants.{Right}
@@ -20,9 +20,9 @@ use Rattle.x25_possible_links.specs.declared.stand.Numbers.{Numbers}
 use Rattle.x25_possible_links.specs.declared.stand.Stand.{Stand}
 use Rattle.x25_possible_links.specs.declared.stand.Stand.TheVariants.{Out, Asking, Up, Free}
 use Rattle.x25_possible_links.proofs.Lists.{in_left, in_right, in_either}
-use Rattle.x25_possible_links.proofs.Stands.{AreBelow, Below, below_self, below_onward}
+use Rattle.x25_possible_links.proofs.Stands.{AreBelow, Below, below_onward}
 use Rattle.x25_possible_links.proofs.Covers.{Covers, Later, covers_more}
-use Rattle.x25_possible_links.proofs.Leads.{Holds, HoldsAt}
+use Rattle.x25_possible_links.proofs.Leads.{HoldsAt}
 
 -- ---- one stands for all that another does
 
@@ -76,7 +76,7 @@ covers_from (suc d) n way s u of end b k = go (drop n way) refl (λ x rest h. co
         Later u x rest of end
         (subst (λ w. Covers (onward u x) w of end) (next_drop n way x rest e) (more x rest (below_onward s u x b)))
 
-holds_from : (n m : ℕ) (way : List Frame) (s u : Stand) (of : State) (end : List Frame) → n ≤ m → Below s u
+pub holds_from : (n m : ℕ) (way : List Frame) (s u : Stand) (of : State) (end : List Frame) → n ≤ m → Below s u
     → HoldsAt s (drop m way) of end → HoldsAt u (drop n way) of end
 holds_from n m way s u (At r) end less b h = record {
   good = h.good;
@@ -156,7 +156,7 @@ held_there way spot (q ∷ qs) h = go (nat_le q.at spot.at && is_below spot.stan
         )
     go false e rest g of end k = let r = rest g of end k in (r.0, inr r.1, r.2)
 
-pub adds_kept : (way : List Frame) (spot : Spot) (out new : List Spot) → kept spot out ≡ Some new → Adds way out new (placed way spot ∷ [])
+adds_kept : (way : List Frame) (spot : Spot) (out new : List Spot) → kept spot out ≡ Some new → Adds way out new (placed way spot ∷ [])
 adds_kept way spot out new h = go (is_covered spot out) refl h
   where
     is_one : (p : Place Stand Frame) → IsIn p (placed way spot ∷ []) → p ≡ placed way spot
@@ -198,33 +198,34 @@ adds_kept way spot out new h = go (is_covered spot out) refl h
 
 -- ---- all that one comes to
 
-adds_at : (way : List Frame) (n : ℕ) (rest : List Frame) (s : Stand) (out new : List Spot) → drop n way ≡ rest
-    → kept (spot_at n s) out ≡ Some new → Adds way out new (at s rest ∷ [])
-adds_at way n rest s out new e h =
-    subst (λ w. Adds way out new (at s w ∷ [])) e (adds_kept way (spot_at n s) out new h)
-
-pub adds_settled : (way : List Frame) (n : ℕ) (rest : List Frame) (s : Stand) (out new : List Spot) → drop n way ≡ rest
-    → settles n rest s out ≡ Some new → Adds way out new (settled s rest ∷ [])
-adds_settled way n [] s out new e h = go (is_large s) h
+pub best_is : (way : List Frame) (n : ℕ) (rest : List Frame) (s : Stand) (q : Spot) → drop n way ≡ rest → best n rest s ≡ Some q
+    → placed way q ≡ settled s rest
+best_is way n [] s q e h = go (is_large s) h
   where
-    go : (b : Bool) → (if b then None else kept (spot_at n s) out) ≡ Some new → Adds way out new (at s [] ∷ [])
-    go true g = absurd (none-some new g)
-    go false g = adds_at way n [] s out new e g
-adds_settled way n (x ∷ rest) s out new e h =
-    large (is_large s) h (λ g. adds_settled way (n + 1) rest (onward s x) out new (next_drop n way x rest e) g)
+    go : (b : Bool) → (if b then None else Some (spot_at n s)) ≡ Some q → placed way q ≡ at s []
+    go true g = absurd (none-some q g)
+    go false g = subst (λ p. placed way p ≡ at s []) (same_Some (spot_at n s) q g) (ap (at s) e)
+best_is way n (x ∷ rest) s q e h =
+    large (is_large s) h (λ g. best_is way (n + 1) rest (onward s x) q (next_drop n way x rest e) g)
   where
-    plain : (b : Bool) → (if b then settles (n + 1) rest (onward s x) out else kept (spot_at n s) out) ≡ Some new
-        → (settles (n + 1) rest (onward s x) out ≡ Some new → Adds way out new (settled (onward s x) rest ∷ []))
-        → Adds way out new ((if b then settled (onward s x) rest else at s (x ∷ rest)) ∷ [])
+    plain : (b : Bool) → (if b then best (n + 1) rest (onward s x) else Some (spot_at n s)) ≡ Some q
+        → (best (n + 1) rest (onward s x) ≡ Some q → placed way q ≡ settled (onward s x) rest)
+        → placed way q ≡ (if b then settled (onward s x) rest else at s (x ∷ rest))
     plain true g more = more g
-    plain false g more = adds_at way n (x ∷ rest) s out new e g
+    plain false g more = subst (λ p. placed way p ≡ at s (x ∷ rest)) (same_Some (spot_at n s) q g) (ap (at s) e)
 
-    large : (b : Bool)
-        → (if b then None else if is_plain s x then settles (n + 1) rest (onward s x) out else kept (spot_at n s) out) ≡ Some new
-        → (settles (n + 1) rest (onward s x) out ≡ Some new → Adds way out new (settled (onward s x) rest ∷ []))
-        → Adds way out new (settled s (x ∷ rest) ∷ [])
-    large true g more = absurd (none-some new g)
+    large : (b : Bool) → (if b then None else if is_plain s x then best (n + 1) rest (onward s x) else Some (spot_at n s)) ≡ Some q
+        → (best (n + 1) rest (onward s x) ≡ Some q → placed way q ≡ settled (onward s x) rest) → placed way q ≡ settled s (x ∷ rest)
+    large true g more = absurd (none-some q g)
     large false g more = plain (is_plain s x) g more
+
+adds_settled : (way : List Frame) (n : ℕ) (rest : List Frame) (s : Stand) (out new : List Spot) → drop n way ≡ rest
+    → settles n rest s out ≡ Some new → Adds way out new (settled s rest ∷ [])
+adds_settled way n rest s out new e h = go (best n rest s) refl h
+  where
+    go : (o : Option Spot) → best n rest s ≡ o → kept_by o out ≡ Some new → Adds way out new (settled s rest ∷ [])
+    go None k g = absurd (none-some new g)
+    go (Some q) k g = subst (λ p. Adds way out new (p ∷ [])) (best_is way n rest s q e k) (adds_kept way q out new g)
 
 adds_here : (way : List Frame) (n : ℕ) (rest : List Frame) (s : Stand) (out new : List Spot) → drop n way ≡ rest
     → settles n (drop n way) s out ≡ Some new → Adds way out new (settled s rest ∷ [])
@@ -333,3 +334,41 @@ adds_all way step g each [] out new h = adds_nothing way out new h
 adds_all way step g each (q ∷ qs) out new h =
     adds_then way (step q out) (all_of step qs) out new (g q) (flat_map g qs) (λ mid k. each q out mid k)
     (λ mid k. adds_all way step g each qs mid new k) h
+
+-- ---- each in its place
+
+adds_front : (way : List Frame) (r : Spot) (rs : List Spot) (p : Place Stand Frame) (ps : List (Place Stand Frame)) → placed way r ≡ p
+    → Adds way [] rs ps → Adds way [] (r ∷ rs) (p ∷ ps)
+adds_front way r rs p ps same rest = record {
+  from = λ q is. first q is;
+  keeps = λ q is. absurd is;
+  holds = λ m is of end h. each m is of end h;
+}
+  where
+    behind : (q : Spot) → IsIn q [] ⊎ IsIn (placed way q) ps → IsIn q [] ⊎ IsIn (placed way q) (p ∷ ps)
+    behind q (inl h) = inl h
+    behind q (inr h) = inr (inr h)
+
+    first : (q : Spot) → IsIn q (r ∷ rs) → IsIn q [] ⊎ IsIn (placed way q) (p ∷ ps)
+    first q (inl e) = inr (inl (ap (placed way) e ∙ same))
+    first q (inr is) = behind q (rest.from q is)
+
+    each : (m : Place Stand Frame) → IsIn m (p ∷ ps) → (of : State) (end : List Frame) → HoldsAt m.state m.way of end
+        → (q : Spot) × IsIn q (r ∷ rs) × HoldsAt q.stand (drop q.at way) of end
+    each m (inl e) of end h = (r, inl refl, subst (λ (w : Place Stand Frame). HoldsAt w.state w.way of end) (e ∙ sym same) h)
+    each m (inr is) of end h = let g = rest.holds m is of end h in (g.0, inr g.1, g.2)
+
+pub adds_each : (way : List Frame) (f : Spot → Option Spot) (g : Spot → Place Stand Frame)
+    → ((q r : Spot) → f q ≡ Some r → placed way r ≡ g q) → (qs new : List Spot) → each_of f qs ≡ Some new
+    → Adds way [] new (flat_map (λ q. g q ∷ []) qs)
+adds_each way f g is [] new h = adds_nothing way [] new h
+adds_each way f g is (q ∷ qs) new h = go (f q) refl (each_of f qs) h (λ rs k. adds_each way f g is qs rs k)
+  where
+    go : (o : Option Spot) → f q ≡ o → (rest : Option (List Spot)) → with_first o rest ≡ Some new
+        → ((rs : List Spot) → rest ≡ Some rs → Adds way [] rs (flat_map (λ p. g p ∷ []) qs))
+        → Adds way [] new (g q ∷ flat_map (λ p. g p ∷ []) qs)
+    go None e rest k more = absurd (none-some new k)
+    go (Some r) e None k more = absurd (none-some new k)
+    go (Some r) e (Some rs) k more =
+        subst (λ xs. Adds way [] xs (g q ∷ flat_map (λ p. g p ∷ []) qs)) (same_Some (r ∷ rs) new k)
+        (adds_front way r rs (g q) (flat_map (λ p. g p ∷ []) qs) (is q r e) (more rs refl))

@@ -20,7 +20,7 @@ pub fn rows_are_told()
     ensures new { NewIsFree }
 {}
 
-/// No rule is told of an end that keeps the rules, as long as there is room.
+/// No rule is told of an end that keeps the rules, with room, or where nothing comes behind which 64 frames were sent.
 pub fn innocents_stay_untold()
     ensures { InnocentsStayUntold }
 {}

@@ -225,6 +225,23 @@ pub(crate) fn upward(stand: Stand, frame: Frame) -> Stand
     }
 }
 
+/// Whatever it makes of what comes: UA may be passed over.
+pub(crate) fn pressed(stand: Stand, frame: Frame) -> Stand
+    requires { IsSmall stand }
+    ensures { result ≡ steps.pressed stand frame }
+{
+    match stand {
+        Stand::Asking => {
+            if may_answer(frame) {
+                Stand::Free
+            } else {
+                Stand::Asking
+            }
+        }
+        _ => onward(stand, frame),
+    }
+}
+
 /// Whether it loses nothing by making the best of it at once.
 pub(crate) fn is_plain(stand: Stand, frame: Frame) -> bool
     ensures { result ≡ places.is_plain stand frame }

@@ -4,7 +4,9 @@ ghost use Rattle.x25_possible_links.specs.code.Steps as definition;
 
 use crate::frame::Frame;
 use crate::link::{Mode, is_sure};
-use crate::spots::{Spot, Spots, agree, grown, hurried, latest, least, plainest, shifted, walked};
+use crate::spots::{
+    Spot, Spots, agree, grow_all, hurry_all, latest, least, plainest, shift_all, walk_all,
+};
 use crate::stand::Stand;
 use arrayvec::ArrayVec;
 
@@ -16,7 +18,7 @@ const HALF: usize = 64;
 pub struct LinkSet {
     pub way: ArrayVec<Frame, 128>,
     pub spots: Spots,
-    /// There was no room once: nothing is claimed of what is told.
+    /// There was no room once: less is known than the rules say, and less is told.
     pub is_blind: bool,
 }
 
@@ -137,19 +139,18 @@ impl LinkSet {
         has_request(self.way.as_slice()) || has_all(self.way.as_slice())
     }
 
+    /// Whether SABM or DISC may wait for it.
+    pub fn has_request(&self) -> bool
+        ensures { result ≡ definition.has_request self.now.way.items }
+    {
+        has_request(self.way.as_slice())
+    }
+
     /// Whether what it may answer is shown: nothing of before may come.
     pub fn is_followed(&self) -> bool
         ensures { result ≡ definition.is_followed self.now }
     {
         has_all(self.way.as_slice())
-    }
-
-    /// There is no room: nothing is known.
-    fn lose(&mut self)
-        ensures { self.new ≡ definition.blind }
-    {
-        *self = LinkSet::new();
-        self.is_blind = true;
     }
 
     /// Takes what has come to all places off the way.
@@ -160,35 +161,20 @@ impl LinkSet {
         if count == 0 {
             return;
         }
-        match shifted(count, self.spots.as_slice()) {
-            None => {}
-            Some(spots) => {
-                let (_, rest) = self.way.as_slice().split_at(count);
-                let mut way = ArrayVec::new();
-                let _ = way.try_extend_from_slice(rest);
-                self.way = way;
-                self.spots = spots;
-            }
-        }
+        shift_all(count, self.spots.as_mut_slice());
+        let _ = self.way.drain(..count);
     }
 
     /// The older half of a way that is full counts as come.
     fn hurry(&mut self)
         requires { length self.old.way.items ≡ 128 }
-        ensures set { self.new ≡ definition.hurried self.old }
+        ensures set { self.new ≡ definition.hastened self.old }
         ensures room { length self.new.way.items < 128 }
     {
-        let (front, rest) = self.way.as_slice().split_at(HALF);
-        match hurried(HALF, self.spots.as_slice(), front) {
-            None => self.lose(),
-            Some(spots) => {
-                let mut way = ArrayVec::new();
-                let _ = way.try_extend_from_slice(rest);
-                self.way = way;
-                self.spots = spots;
-                self.is_blind = true;
-            }
-        }
+        let (front, _) = self.way.as_slice().split_at(HALF);
+        hurry_all(HALF, front, self.spots.as_mut_slice());
+        let _ = self.way.drain(..HALF);
+        self.is_blind = true;
     }
 
     /// In these places.
@@ -199,11 +185,10 @@ impl LinkSet {
         self.trim();
     }
 
-    /// It may be anywhere from where the least has come on.
-    fn strays(&mut self)
-        ensures { self.new ≡ definition.astray self.old }
+    /// It may be anywhere from there on.
+    fn strays(&mut self, at: usize)
+        ensures { self.new ≡ definition.astray at self.old }
     {
-        let at = least(self.spots.as_slice(), self.way.len());
         let mut spots = Spots::new();
         spots.push(Spot {
             stand: Stand::Free,
@@ -212,22 +197,40 @@ impl LinkSet {
         self.stands(spots);
     }
 
+    /// There is no room: it may be anywhere from there on.
+    fn lose(&mut self, at: usize)
+        ensures { self.new ≡ definition.lost at self.old }
+    {
+        self.is_blind = true;
+        self.strays(at);
+    }
+
+    /// How much of the way has come to all places.
+    fn came(&self) -> usize
+        ensures { result ≡ definition.came self.now }
+    {
+        least(self.spots.as_slice(), self.way.len())
+    }
+
     /// Numbers go on from a frame that breaks a rule; where none do, nothing is known.
     fn breaks(&mut self, frame: Frame)
         ensures { self.new ≡ definition.broken frame self.old }
     {
-        match walked(
+        let mut spots = Spots::new();
+        if !walk_all(
             Mode::Wrong,
             frame,
             self.spots.as_slice(),
             self.way.as_slice(),
+            &mut spots,
         ) {
-            None => self.lose(),
-            Some(spots) => if spots.is_empty() {
-                self.strays();
-            } else {
-                self.stands(spots);
-            },
+            let at = self.came();
+            self.lose(at);
+        } else if spots.is_empty() {
+            let at = self.came();
+            self.strays(at);
+        } else {
+            self.stands(spots);
         }
     }
 
@@ -240,23 +243,23 @@ impl LinkSet {
         if matches!(frame, Frame::Ua) {
             return Told::Broken(stand);
         }
-        match walked(
+        let mut spots = Spots::new();
+        if !walk_all(
             Mode::Skipping,
             frame,
             self.spots.as_slice(),
             self.way.as_slice(),
+            &mut spots,
         ) {
-            None => {
-                self.lose();
-                Told::Broken(stand)
-            }
-            Some(spots) => if spots.is_empty() {
-                self.breaks(frame);
-                Told::Broken(stand)
-            } else {
-                self.stands(spots);
-                Told::Skips(stand)
-            },
+            let at = self.came();
+            self.lose(at);
+            Told::Broken(stand)
+        } else if spots.is_empty() {
+            self.breaks(frame);
+            Told::Broken(stand)
+        } else {
+            self.stands(spots);
+            Told::Skips(stand)
         }
     }
 
@@ -265,22 +268,22 @@ impl LinkSet {
         ensures set { self.new ≡ (definition.sends_to frame self.old).set }
         ensures told { result ≡ (definition.sends_to frame self.old).told }
     {
-        match walked(
+        let mut spots = Spots::new();
+        if !walk_all(
             Mode::Right,
             frame,
             self.spots.as_slice(),
             self.way.as_slice(),
+            &mut spots,
         ) {
-            None => {
-                self.lose();
-                Told::Nothing
-            }
-            Some(spots) => if spots.is_empty() {
-                self.is_unexplained(frame)
-            } else {
-                self.stands(spots);
-                Told::Nothing
-            },
+            let at = self.came();
+            self.lose(at);
+            Told::Nothing
+        } else if spots.is_empty() {
+            self.is_unexplained(frame)
+        } else {
+            self.stands(spots);
+            Told::Nothing
         }
     }
 
@@ -289,14 +292,13 @@ impl LinkSet {
         requires { length self.old.way.items < 128 }
         ensures { self.new ≡ definition.extended frame self.old }
     {
+        let at = self.came();
         let last = self.way.len();
         self.way.push(frame);
-        match grown(self.spots.as_slice(), last, self.way.as_slice()) {
-            None => self.lose(),
-            Some(spots) => {
-                self.spots = spots;
-                self.trim();
-            }
+        if grow_all(self.spots.as_mut_slice(), last, self.way.as_slice()) {
+            self.trim();
+        } else {
+            self.lose(at);
         }
     }
 

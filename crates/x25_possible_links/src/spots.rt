@@ -1,10 +1,10 @@
 //! The places in which an end may be, in a fixed room: each with how much of what is on the way has come.
-ghost use Rattle.std.specs.Prelude.{◌≡◌, None, [], drop, true};
+ghost use Rattle.std.specs.Prelude.{◌≡◌, drop, map};
 ghost use Rattle.x25_possible_links.specs.code.Steps as definition;
 
 use crate::frame::Frame;
 use crate::link::{
-    FRESH, Mode, is_asking, is_below, is_large, is_plain, moves, onward, passed, upward,
+    FRESH, Mode, is_asking, is_below, is_large, is_plain, moves, onward, passed, pressed, upward,
 };
 use crate::stand::Stand;
 use arrayvec::ArrayVec;
@@ -44,17 +44,27 @@ fn keep(out: &mut Spots, spot: Spot) -> bool
     true
 }
 
+/// Where it is once it has made the best of what it loses nothing by; None where a number is too large.
+fn best(stand: Stand, at: usize, way: &[Frame]) -> Option<Spot>
+    ensures { result ≡ definition.best at (drop at way.now) stand }
+{
+    if is_large(stand) {
+        return None;
+    }
+    if at >= way.len() || !is_plain(stand, way[at]) {
+        return Some(Spot { stand, at });
+    }
+    best(onward(stand, way[at]), at + 1, way)
+}
+
 /// Adds a stand, once it has made the best of what it loses nothing by. False: no room.
 fn settle(stand: Stand, at: usize, way: &[Frame], out: &mut Spots) -> bool
     ensures { definition.made result out.new.items ≡ definition.settles at (drop at way.now) stand out.old.items }
 {
-    if is_large(stand) {
-        return false;
+    match best(stand, at, way) {
+        None => false,
+        Some(spot) => keep(out, spot),
     }
-    if at >= way.len() || !is_plain(stand, way[at]) {
-        return keep(out, Spot { stand, at });
-    }
-    settle(onward(stand, way[at]), at + 1, way, out)
 }
 
 /// Adds the first place from there on in which it may send a frame. False: no room.
@@ -132,7 +142,14 @@ fn walks(mode: Mode, frame: Frame, spot: Spot, way: &[Frame], out: &mut Spots) -
     }
 }
 
-fn walk_all(mode: Mode, frame: Frame, spots: &[Spot], way: &[Frame], out: &mut Spots) -> bool
+/// Adds where they are behind a frame that the end sends. False: no room.
+pub(crate) fn walk_all(
+    mode: Mode,
+    frame: Frame,
+    spots: &[Spot],
+    way: &[Frame],
+    out: &mut Spots,
+) -> bool
     ensures { definition.made result out.new.items ≡ definition.walk_all mode frame way.now spots.now out.old.items }
 {
     for spot in spots {
@@ -143,47 +160,46 @@ fn walk_all(mode: Mode, frame: Frame, spots: &[Spot], way: &[Frame], out: &mut S
     true
 }
 
-/// Adds one, once it has made the best of what it loses nothing by, with one frame more on the way than `last`. False:
-/// no room.
-fn grows(spot: Spot, last: usize, way: &[Frame], out: &mut Spots) -> bool
-    ensures { definition.made result out.new.items ≡ definition.grows last way.now spot out.old.items }
+/// At its best, with one frame more on the way than `last`.
+fn grown(spot: Spot, last: usize, way: &[Frame]) -> Option<Spot>
+    ensures { result ≡ definition.grown last way.now spot }
 {
-    spot.at <= last && settle(spot.stand, spot.at, way, out)
+    if spot.at <= last {
+        best(spot.stand, spot.at, way)
+    } else {
+        None
+    }
 }
 
-fn grow_all(spots: &[Spot], last: usize, way: &[Frame], out: &mut Spots) -> bool
-    ensures { definition.made result out.new.items ≡ definition.grow_all last way.now spots.now out.old.items }
+/// Each at its best, with one frame more on the way than `last`. False: a number is too large.
+pub(crate) fn grow_all(spots: &mut [Spot], last: usize, way: &[Frame]) -> bool
+    ensures { definition.made result spots.new ≡ definition.grow_all last way.now spots.old }
 {
-    for spot in spots {
-        if !grows(*spot, last, way, out) {
-            return false;
+    for spot in spots.iter_mut() {
+        match grown(*spot, last, way) {
+            None => return false,
+            Some(next) => *spot = next,
         }
     }
     true
 }
 
-/// Adds one, with so much of the way taken off. False: no room.
-fn shift(count: usize, spot: Spot, out: &mut Spots) -> bool
-    ensures { definition.made result out.new.items ≡ definition.shift_at count spot out.old.items }
+fn shifted(count: usize, spot: Spot) -> Spot
+    ensures { result ≡ definition.shifted count spot }
 {
-    keep(
-        out,
-        Spot {
-            stand: spot.stand,
-            at: spot.at.saturating_sub(count),
-        },
-    )
+    Spot {
+        stand: spot.stand,
+        at: spot.at.saturating_sub(count),
+    }
 }
 
-fn shift_all(count: usize, spots: &[Spot], out: &mut Spots) -> bool
-    ensures { definition.made result out.new.items ≡ definition.shift_all count spots.now out.old.items }
+/// So much of the way is taken off.
+pub(crate) fn shift_all(count: usize, spots: &mut [Spot])
+    ensures { spots.new ≡ map (definition.shifted count) spots.old }
 {
-    for spot in spots {
-        if !shift(count, *spot, out) {
-            return false;
-        }
+    for spot in spots.iter_mut() {
+        *spot = shifted(count, *spot);
     }
-    true
 }
 
 /// How much of the way has come to each of them.
@@ -197,42 +213,6 @@ pub(crate) fn least(spots: &[Spot], most: usize) -> usize
         }
     }
     least
-}
-
-// ---- a new list; None: no room
-
-pub(crate) fn walked(mode: Mode, frame: Frame, spots: &[Spot], way: &[Frame]) -> Option<Spots>
-    ensures { definition.listed result ≡ definition.walk_all mode frame way.now spots.now [] }
-{
-    let mut out = Spots::new();
-    if walk_all(mode, frame, spots, way, &mut out) {
-        Some(out)
-    } else {
-        None
-    }
-}
-
-/// With the last frame behind so many.
-pub(crate) fn grown(spots: &[Spot], last: usize, way: &[Frame]) -> Option<Spots>
-    ensures { definition.listed result ≡ definition.grow_all last way.now spots.now [] }
-{
-    let mut out = Spots::new();
-    if grow_all(spots, last, way, &mut out) {
-        Some(out)
-    } else {
-        None
-    }
-}
-
-pub(crate) fn shifted(count: usize, spots: &[Spot]) -> Option<Spots>
-    ensures { definition.listed result ≡ definition.shift_all count spots.now [] }
-{
-    let mut out = Spots::new();
-    if shift_all(count, spots, &mut out) {
-        Some(out)
-    } else {
-        None
-    }
 }
 
 // ---- where they stand once all has come
@@ -250,40 +230,34 @@ fn come(stand: Stand, at: usize, way: &[Frame]) -> Stand
     come(upward(stand, way[at]), at + 1, way)
 }
 
-/// Adds one to which so many have come, the front of the way. False: no room.
-fn hurry(count: usize, spot: Spot, front: &[Frame], out: &mut Spots) -> bool
-    ensures { definition.made result out.new.items ≡ definition.hurry_at count front.now spot out.old.items }
+/// Where it stands once all has come, whatever it made of it.
+fn rushed(stand: Stand, at: usize, front: &[Frame]) -> Stand
+    ensures { result ≡ definition.rushed (drop at front.now) stand }
 {
-    keep(
-        out,
-        Spot {
-            stand: come(spot.stand, spot.at, front),
-            at: spot.at.saturating_sub(count),
-        },
-    )
-}
-
-fn hurry_all(count: usize, spots: &[Spot], front: &[Frame], out: &mut Spots) -> bool
-    ensures { definition.made result out.new.items
-        ≡ definition.hurry_all count front.now spots.now out.old.items }
-{
-    for spot in spots {
-        if !hurry(count, *spot, front, out) {
-            return false;
-        }
+    if is_large(stand) {
+        return Stand::Free;
     }
-    true
+    if at >= front.len() {
+        return stand;
+    }
+    rushed(pressed(stand, front[at]), at + 1, front)
 }
 
-/// A new list, where so many have come to all; None: no room.
-pub(crate) fn hurried(count: usize, spots: &[Spot], front: &[Frame]) -> Option<Spots>
-    ensures { definition.listed result ≡ definition.hurry_all count front.now spots.now [] }
+fn hurried(count: usize, front: &[Frame], spot: Spot) -> Spot
+    ensures { result ≡ definition.hurried count front.now spot }
 {
-    let mut out = Spots::new();
-    if hurry_all(count, spots, front, &mut out) {
-        Some(out)
-    } else {
-        None
+    Spot {
+        stand: rushed(spot.stand, spot.at, front),
+        at: spot.at.saturating_sub(count),
+    }
+}
+
+/// So many have come to all, the front of the way.
+pub(crate) fn hurry_all(count: usize, front: &[Frame], spots: &mut [Spot])
+    ensures { spots.new ≡ map (definition.hurried count front.now) spots.old }
+{
+    for spot in spots.iter_mut() {
+        *spot = hurried(count, front, *spot);
     }
 }
 

@@ -102,6 +102,27 @@ fn tells_behind_a_long_way(rt: HostRuntime) {
     assert!(rt; matches!(set.sends(Frame::Ready(3)), Told::Broken(_)));
 }
 
+/// An end that awaits UA may have missed one that counts as come, so nothing is known of it.
+#[test]
+fn may_miss_its_answer(rt: HostRuntime) {
+    let mut set = behind(b">S<U");
+    for _ in 0..128 {
+        set.shows(Frame::Ready(0));
+    }
+    assert!(rt; set.is_blind && !set.is_known());
+    assert!(rt; matches!(set.sends(Frame::Sabm), Told::Nothing));
+    assert!(rt; set.is_known());
+}
+
+/// Where there is no room for its places it may be anywhere, and what is on the way is.
+#[test]
+fn keeps_the_way_without_room(rt: HostRuntime) {
+    let mut set = behind(b">S<U0>b<S>XXXXXXXXX");
+    assert!(rt; set.is_blind && !set.is_known());
+    assert!(rt; set.has_request() && set.is_followed());
+    assert!(rt; matches!(set.sends(Frame::Ua), Told::Nothing));
+}
+
 /// The set behind a tape.
 fn behind(tape: &[u8]) -> LinkSet {
     let mut set = LinkSet::new();

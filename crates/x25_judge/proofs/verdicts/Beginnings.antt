@@ -31,7 +31,7 @@ use Rattle.x25_possible_links.specs.laws.Link.{At, Owes, State, asks, fresh, has
 use Rattle.x25_possible_links.specs.laws.Link.{answers, begins, owes, passes, sends}
 use Rattle.x25_possible_links.specs.laws.Places.{first, is_plain, onward, settled, upward}
 use Rattle.x25_possible_links.specs.laws.Places as place
-use Rattle.x25_possible_links.specs.code.Steps.{is_below, numbers_below, sends_to, set_as, set_of, shows_to, spot_at, trimmed}
+use Rattle.x25_possible_links.specs.code.Steps.{hastened, is_below, numbers_below, sends_to, set_as, shows_to, spot_at, trimmed}
 use Rattle.x25_possible_links.specs.declared.frame.Frame.{Frame}
 use Rattle.x25_possible_links.specs.declared.frame.Frame.TheVariants.{Before, Disc, Info, Ready, Sabm, Ua, Unread}
 use Rattle.x25_possible_links.specs.declared.set.LinkSet.{LinkSet}
@@ -45,7 +45,7 @@ use Rattle.x25_possible_links.proofs.Alike.{AllAre, sent_all, shown_all, ua_told
 use Rattle.x25_possible_links.proofs.Stands.{AreBelow, Below, below_on, below_self}
 use Rattle.x25_possible_links.proofs.Covers.{Covers, Here, Asked, Later, Begins}
 use Rattle.x25_possible_links.proofs.Leads.{HoldsAt, Leads, Stays, Steps}
-use Rattle.x25_possible_links.proofs.Covering.{Has, HasIn, blind_sends, blind_shows, has_less, has_sent, has_shown, has_taken, hurried_shows, shows_by, trim_has}
+use Rattle.x25_possible_links.proofs.Covering.{Has, HasIn, blind_sends, blind_shows, has_less, has_sent, has_shown, has_taken, shows_by, trim_has}
 use Rattle.x25_judge.proofs.verdicts.Lines.{Goes, goes, next_goes, other_twice}
 use Rattle.x25_judge.proofs.verdicts.Minded.{before}
 use Rattle.x25_judge.proofs.verdicts.Octets.{HasRoom, each_room, keeps_room}
@@ -149,21 +149,18 @@ asks_alone Asking = refl
 asks_alone (Up k) = refl
 asks_alone Free = refl
 
+abbrev set_in : List Frame → List Spot → Bool → LinkSet
+set_in way qs b = record { way = record { items = way }; spots = record { items = qs }; is_blind = b }
+
 abbrev Asks : LinkSet → Type 0
-Asks s = (sends_to Sabm s).set.is_blind ≡ false → Has (sends_to Sabm s).set (At Asking) []
+Asks s = Has (sends_to Sabm s).set (At Asking) []
 
-asks_in : (way : List Frame) (qs : List Spot) → Asks (set_of way qs)
-asks_in way [] room =
-    let s = trimmed (set_as (set_of way []) way (spot_at (length way) Free ∷ [])) in
-    has_less s.spots.items s.way.items Free Asking [] (trim_has (set_of way []) way (spot_at (length way) Free ∷ []) (At Free) [] (free_in (length way) way)) tt
-asks_in way (q ∷ qs) room =
-    has_sent (set_of way (q ∷ qs)) Sabm (At q.stand) (At Asking) [] (sends q.stand Asking [] Sabm 0 0 (asks_alone q.stand)) (first_in q qs way) refl room
-
-any_asks : (way : List Frame) (qs : List Spot) (b : Bool) → Asks (record { way = record { items = way }; spots = record { items = qs }; is_blind = b })
-any_asks way qs true room =
-    let s : LinkSet = record { way = record { items = way }; spots = record { items = qs }; is_blind = true } in
-    absurd (both_ways (sends_to Sabm s).set.is_blind room (blind_sends s Sabm refl))
-any_asks way qs false room = asks_in way qs room
+asks_in : (way : List Frame) (qs : List Spot) (b : Bool) → Asks (set_in way qs b)
+asks_in way [] b =
+    let s = trimmed (set_as (set_in way [] b) way (spot_at (length way) Free ∷ [])) in
+    has_less s.spots.items s.way.items Free Asking [] (trim_has (set_in way [] b) way (spot_at (length way) Free ∷ []) (At Free) [] (free_in (length way) way)) tt
+asks_in way (q ∷ qs) b =
+    has_sent (set_in way (q ∷ qs) b) Sabm (At q.stand) (At Asking) [] (sends q.stand Asking [] Sabm 0 0 (asks_alone q.stand)) (first_in q qs way)
 
 -- ---- what was blind stays so
 
@@ -179,13 +176,12 @@ sent_sees x s room = saw s.is_blind (sends_to x s).set.is_blind (blind_sends s x
 
 -- ---- the end that asks
 
-asker : (s : LinkSet) → (shows_to Ua (sends_to Sabm s).set).is_blind ≡ false → Has (shows_to Ua (sends_to Sabm s).set) (At fresh) []
-asker s room =
+asker : (s : LinkSet) → Has (shows_to Ua (sends_to Sabm s).set) (At fresh) []
+asker s =
     let mid = (sends_to Sabm s).set in
-    let sees = shown_sees Ua mid room in
     let last = shows_to Ua mid in
     has_taken last.spots.items last.way.items (At Asking) (At fresh) Ua []
-    (has_shown mid Ua (At Asking) [] (any_asks s.way.items s.spots.items s.is_blind sees) sees room) (begins Ua refl)
+    (has_shown Ua (At Asking) [] mid (omega arith) (asks_in s.way.items s.spots.items s.is_blind)) (begins Ua refl)
 
 -- ---- the end that answers
 
@@ -202,37 +198,30 @@ IsToldUnasked s = (stand : Stand) × ((sends_to Ua s).told ≡ Broken stand)
 not_told : (s : LinkSet) → (IsToldUnasked s → ⊥) → (sends_to Ua s).told ≡ Nothing
 not_told s untold = elim (ua_told s) [ inl e ↦ e | inr h ↦ absurd (untold h) ]
 
-none_answers : (s : LinkSet) → s.is_blind ≡ false → s.spots.items ≡ [] → IsToldUnasked s
-none_answers s sees none = subst (λ (b : Bool). IsToldUnasked (record { way = s.way; spots = s.spots; is_blind = b })) (sym sees)
-    (subst (λ (qs : List Spot). IsToldUnasked (record { way = s.way; spots = record { items = qs }; is_blind = false })) (sym none) (Free, refl))
+none_answers : (s : LinkSet) → s.spots.items ≡ [] → IsToldUnasked s
+none_answers s none = subst (λ (qs : List Spot). IsToldUnasked (set_in s.way.items qs s.is_blind)) (sym none) (Free, refl)
 
-trimmed_none : (way : List Frame) → (trimmed (set_of way [])).spots.items ≡ []
-trimmed_none way = cond_both (length way == 0) (set_of way []) (set_of (drop (length way) way) []) (λ (s : LinkSet). s.spots.items ≡ []) (λ _. refl) (λ _. refl)
+trimmed_none : (s : LinkSet) (way : List Frame) → (trimmed (set_as s way [])).spots.items ≡ []
+trimmed_none s way =
+    cond_both (length way == 0) (set_as s way []) (set_as s (drop (length way) way) []) (λ (t : LinkSet). t.spots.items ≡ []) (λ _. refl) (λ _. refl)
 
-none_shown : (way : List Frame) → (shows_to Sabm (set_of way [])).is_blind ≡ false → (shows_to Sabm (set_of way [])).spots.items ≡ []
-none_shown way room = go (length way == 128) room
+none_shown : (way : List Frame) (b : Bool) → (shows_to Sabm (set_in way [] b)).spots.items ≡ []
+none_shown way b = go (length way == 128)
   where
-    go : (full : Bool) → (shows_by full Sabm (set_of way [])).is_blind ≡ false → (shows_by full Sabm (set_of way [])).spots.items ≡ []
-    go true h = absurd (both_ways _ h (hurried_shows (set_of way []) Sabm))
-    go false h = trimmed_none (way ++ Sabm ∷ [])
+    go : (full : Bool) → (shows_by full Sabm (set_in way [] b)).spots.items ≡ []
+    go true = trimmed_none (hastened (set_in way [] b)) (drop 64 way ++ Sabm ∷ [])
+    go false = trimmed_none (set_in way [] b) (way ++ Sabm ∷ [])
 
 abbrev Answers : LinkSet → Type 0
-Answers s = (sends_to Ua (shows_to Sabm s)).set.is_blind ≡ false → (IsToldUnasked (shows_to Sabm s) → ⊥) → Has (sends_to Ua (shows_to Sabm s)).set (At fresh) []
+Answers s = (IsToldUnasked (shows_to Sabm s) → ⊥) → Has (sends_to Ua (shows_to Sabm s)).set (At fresh) []
 
-answers_in : (way : List Frame) (qs : List Spot) (b : Bool) → Answers (record { way = record { items = way }; spots = record { items = qs }; is_blind = b })
-answers_in way qs true room untold =
-    let s : LinkSet = record { way = record { items = way }; spots = record { items = qs }; is_blind = true } in
-    absurd (both_ways true (shown_sees Sabm s (sent_sees Ua (shows_to Sabm s) room)) refl)
-answers_in way [] false room untold =
-    let mid = shows_to Sabm (set_of way []) in
-    let sees = sent_sees Ua mid room in
-    absurd (untold (none_answers mid sees (none_shown way sees)))
-answers_in way (q ∷ qs) false room untold =
-    let mid = shows_to Sabm (set_of way (q ∷ qs)) in
-    let sees = sent_sees Ua mid room in
-    let shown = has_shown (set_of way (q ∷ qs)) Sabm (At q.stand) [] (first_in q qs way) refl sees in
+answers_in : (way : List Frame) (qs : List Spot) (b : Bool) → Answers (set_in way qs b)
+answers_in way [] b untold = absurd (untold (none_answers (shows_to Sabm (set_in way [] b)) (none_shown way b)))
+answers_in way (q ∷ qs) b untold =
+    let mid = shows_to Sabm (set_in way (q ∷ qs) b) in
+    let shown = has_shown Sabm (At q.stand) [] (set_in way (q ∷ qs) b) (omega arith) (first_in q qs way) in
     has_sent mid Ua (Owes fresh) (At fresh) [] (answers fresh [])
-    (has_taken mid.spots.items mid.way.items (At q.stand) (Owes fresh) Sabm [] shown (owes q.stand fresh Sabm (owed_first q.stand))) sees room
+    (has_taken mid.spots.items mid.way.items (At q.stand) (Owes fresh) Sabm [] shown (owes q.stand fresh Sabm (owed_first q.stand)))
 
 answerer : (s : LinkSet) → Answers s
 answerer s = answers_in s.way.items s.spots.items s.is_blind
@@ -444,13 +433,12 @@ ua_other : (j : Judge) (from : Role) (f : Bool) → (seen_by j from (ua f)).othe
 unfolding links.shown
 ua_other j from f = ap (λ (e : End). shows_to Ua e.set) (opposite_is from j)
 
-begun_by : (j : Judge) (r : Role) (s : LinkSet) → (own_of r j).set ≡ s → (s.is_blind ≡ false → Has s (At fresh) [])
-    → (s.is_blind ≡ false → IsNew s) → (own_of r j).set.is_blind ≡ false → HasRoom (own_of r j).held → IsBegun j r
+begun_by : (j : Judge) (r : Role) (s : LinkSet) → (own_of r j).set ≡ s → Has s (At fresh) [] → (s.is_blind ≡ false → IsNew s)
+    → (own_of r j).set.is_blind ≡ false → HasRoom (own_of r j).held → IsBegun j r
 begun_by j r s e h new sees room = record {
-  up = subst (λ (t : LinkSet). begins_anywhere t.way.items t.spots.items ≡ true) (sym e) (has_begins s (h (ap (λ (t : LinkSet). t.is_blind) (sym e) ∙ sees)));
+  up = subst (λ (t : LinkSet). begins_anywhere t.way.items t.spots.items ≡ true) (sym e) (has_begins s h);
   new = subst (λ (t : LinkSet). are_new t.way.items t.spots.items ≡ true) (sym e)
       (all_new s.way.items s.spots.items (new (ap (λ (t : LinkSet). t.is_blind) (sym e) ∙ sees)));
-  room = sees;
   octets = room.octets;
   known = room.known;
 }
@@ -562,13 +550,13 @@ begin_both j from end asks accepts asked accepted p f stays first second asks_we
     by_asker : has_answer (own_of from j).set.way.items ≡ false → (own_of from j2).set.is_blind ≡ false → IsBegun j2 from
     by_asker free sees =
         let set = (own_of from j).set in
-        begun_by j2 from _ asked_is (λ s. asker set s)
+        begun_by j2 from _ asked_is (asker set)
         (λ s. asker_new set free (sabm_told j from p asks_well) (shown_sees Ua (sends_to Sabm set).set s) s) sees (still from)
 
     by_answerer : has_number (own_of (other from) j).set.way.items ≡ false → (own_of (other from) j2).set.is_blind ≡ false → IsBegun j2 (other from)
     by_answerer free sees =
         let set = (own_of (other from) j).set in
-        begun_by j2 (other from) _ answered_is (λ s. answerer set s untold)
+        begun_by j2 (other from) _ answered_is (answerer set untold)
         (λ s.
         let mid = sent_sees Ua (shows_to Sabm set) s in
         answerer_new set free mid s (not_told (shows_to Sabm set) untold)) sees (still (other from))

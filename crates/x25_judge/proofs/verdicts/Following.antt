@@ -1,5 +1,5 @@
 -- An end that keeps the rules of docs/PEER.md, beside the places in which the judge has it.
-use Rattle.std.proofs.Common.{◌≡◌, ◌⊎◌, inl, inr, ℕ, ◌+◌, ◌-◌, ◌%◌, ◌≤◌, ◌==◌, arith, max, Bool, true, false, List, [], ◌∷◌, ◌++◌, length, Some, None, refl, sym, ap, ◌∙◌, subst}
+use Rattle.std.proofs.Common.{◌≡◌, ◌⊎◌, inl, inr, ℕ, ◌+◌, ◌%◌, ◌≤◌, ◌==◌, arith, max, Bool, true, false, List, [], ◌∷◌, ◌++◌, length, suc, Option, Some, None, refl, sym, ap, ◌∙◌, subst}
 use Rattle.std.specs.Prelude.{not, ◌&&◌, ◌||◌, nat_le, nat_lt, if◌then◌else◌}
 use Rattle.std.proofs.lemmas.Bool.{and_from, both_ways, cond-true, eq-eqb, eqb-true, le-leb, lt-ltb}
 use Rattle.x25_frame.specs.Frame.{PlainFrame, info, rr, rnr, rej, sabm, disc, ua, dm, frmr}
@@ -9,6 +9,7 @@ use Rattle.x25_line.specs.laws.PeerSessions as session
 use Rattle.x25_line.specs.laws.PeerSessions.{In}
 use Rattle.x25_judge.specs.Links.{shown}
 use Rattle.x25_judge.specs.laws.Keeping.{MaySend}
+use Rattle.x25_judge.specs.laws.Session.{Way}
 use Rattle.x25_judge.specs.laws.Sessions.{MaySay, HaveNoUa, IsUa, declined, numbered, asks, asks_again, closes, declines, rejects, takes_disc, takes_sabm, waits_on}
 use Rattle.x25_possible.specs.laws.Possible.{IsIn}
 use Rattle.x25_possible_links.specs.laws.Link.{State, At, Owes, passes, owes, fresh, has_ua, is_asking, is_ua, may_acknowledge, may_number, sends_as}
@@ -35,46 +36,41 @@ stand_of session.In p = Up (numbers_of p)
 abbrev pub IsSeen : Frame → PlainFrame → Type 0
 IsSeen y f = ((d : Bool) × (y ≡ shown f d)) ⊎ (y ≡ Unread)
 
--- these frames, and more that can't be read
-pub data Means : List Frame → List PlainFrame → Type 0 where
-  empty : Means [] []
-  next : (y : Frame) (f : PlainFrame) (end : List Frame) (way : List PlainFrame) → IsSeen y f → Means end way
-      → Means (y ∷ end) (f ∷ way)
-  lost : (end : List Frame) (way : List PlainFrame) → Means end way → Means (Unread ∷ end) way
+-- and damaged octets can't be read
+abbrev pub IsPart : Frame → Option PlainFrame → Type 0
+IsPart y None = y ≡ Unread
+IsPart y (Some f) = IsSeen y f
 
-pub means_on : (end more : List Frame) (way rest : List PlainFrame) → Means end way → Means more rest
-    → Means (end ++ more) (way ++ rest)
-means_on _ more _ rest empty m = m
-means_on _ more _ rest (next y f end way is h) m =
-    next y f (end ++ more) (way ++ rest) is (means_on end more way rest h m)
-means_on _ more way rest (lost end _ h) m = lost (end ++ more) (way ++ rest) (means_on end more way rest h m)
+abbrev pub Means : List Frame → Way → Type 0
+Means [] [] = Unit {0}
+Means (y ∷ end) (f ∷ way) = IsPart y f × Means end way
+Means end way = ⊥
 
-pub means_one : (y : Frame) (f : PlainFrame) → IsSeen y f → Means (y ∷ []) (f ∷ [])
-means_one y f is = next y f [] [] is empty
+pub means_on : (end : List Frame) (way : Way) (y : Frame) (f : Option PlainFrame) → IsPart y f → Means end way
+    → Means (end ++ y ∷ []) (way ++ f ∷ [])
+means_on [] [] y f is m = (is, tt)
+means_on [] (g ∷ way) y f is m = absurd m
+means_on (z ∷ end) [] y f is m = absurd m
+means_on (z ∷ end) (g ∷ way) y f is m = (m.0, means_on end way y f is m.1)
 
--- what is in front, once what is no frame was passed over
-pub record Front (set : LinkSet) (s : Stand) (f : PlainFrame) (way : List PlainFrame) : Type 0 where
+pub means_same : (end : List Frame) (way : Way) → Means end way → length end ≡ length way
+means_same [] [] m = refl
+means_same [] (g ∷ way) m = absurd m
+means_same (z ∷ end) [] m = absurd m
+means_same (z ∷ end) (g ∷ way) m = ap suc (means_same end way m.1)
+
+-- what is in front
+pub record Front (set : LinkSet) (s : Stand) (f : Option PlainFrame) (way : Way) : Type 0 where
   pub first : Frame
   pub rest : List Frame
-  pub is : IsSeen first f
+  pub is : IsPart first f
   pub has : Has set (At s) (first ∷ rest)
   pub means : Means rest way
 
-HasFront : LinkSet → Stand → List PlainFrame → Type 0
-HasFront set s [] = Unit {0}
-HasFront set s (f ∷ way) = Front set s f way
-
-fronts : (set : LinkSet) (s : Stand) (end : List Frame) (way : List PlainFrame) → Has set (At s) end → Means end way → HasFront set s way
-unfolding HasFront
-fronts set s _ _ has empty = tt
-fronts set s _ _ has (next y f end way is m) = record { first = y; rest = end; is = is; has = has; means = m }
-fronts set s _ way has (lost end _ m) =
-    fronts set s end way (has_taken set.spots.items set.way.items (At s) (At s) Unread end has (passes s Unread)) m
-
-pub front : (set : LinkSet) (s : Stand) (end : List Frame) (f : PlainFrame) (way : List PlainFrame) → Has set (At s) end
+pub front : (set : LinkSet) (s : Stand) (end : List Frame) (f : Option PlainFrame) (way : Way) → Has set (At s) end
     → Means end (f ∷ way) → Front set s f way
-unfolding HasFront
-front set s end f way has m = fronts set s end (f ∷ way) has m
+front set s [] f way has m = absurd m
+front set s (y ∷ end) f way has m = record { first = y; rest = end; is = m.0; has = has; means = m.1 }
 
 -- no UA is among them
 not_ua : (y : Frame) (f : PlainFrame) → IsSeen y f → is_ua (shown f false) ≡ false → is_ua y ≡ false
@@ -102,11 +98,13 @@ is_no_ua (ua f) none = absurd (none tt)
 is_no_ua (dm f) none = refl
 is_no_ua (frmr f why) none = refl
 
-no_ua : (end : List Frame) (way : List PlainFrame) → Means end way → HaveNoUa way → has_ua end ≡ false
-no_ua _ _ empty h = refl
-no_ua _ _ (next y f end way is m) h =
-    ap (λ b. b || has_ua end) (not_ua y f is (is_no_ua f h.0)) ∙ no_ua end way m h.1
-no_ua _ way (lost end _ m) h = no_ua end way m h
+no_ua : (end : List Frame) (way : Way) → Means end way → HaveNoUa way → has_ua end ≡ false
+no_ua [] [] m h = refl
+no_ua [] (g ∷ way) m h = absurd m
+no_ua (y ∷ end) [] m h = absurd m
+no_ua (y ∷ end) (None ∷ way) m h = ap (λ b. b || has_ua end) (ap is_ua m.0) ∙ no_ua end way m.1 h
+no_ua (y ∷ end) (Some f ∷ way) m h =
+    ap (λ b. b || has_ua end) (not_ua y f m.0 (is_no_ua f h.0)) ∙ no_ua end way m.1 h.1
 
 -- ---- numbers
 
@@ -178,7 +176,7 @@ counts p q end frame d may same = absurd may
 -- ---- what it sends
 
 -- where it stands before it sends this, once it has taken what it answers
-pub record Says (set : LinkSet) (x : Frame) (stand : session.Stand) (p : Peer) (way : List PlainFrame) : Type 0 where
+pub record Says (set : LinkSet) (x : Frame) (stand : session.Stand) (p : Peer) (way : Way) : Type 0 where
   pub state : State
   pub end : List Frame
   pub has : Has set state end
@@ -186,16 +184,16 @@ pub record Says (set : LinkSet) (x : Frame) (stand : session.Stand) (p : Peer) (
   pub means : Means end way
 
 module _ (set : LinkSet) where
-  sends_it : (s : Stand) (end : List Frame) (x : Frame) (n t : ℕ) (stand : session.Stand) (p : Peer) (way : List PlainFrame)
+  sends_it : (s : Stand) (end : List Frame) (x : Frame) (n t : ℕ) (stand : session.Stand) (p : Peer) (way : Way)
       → Has set (At s) end → Means end way → sends_as n t s end x ≡ Some (stand_of stand p) → Says set x stand p way
   sends_it s end x n t stand p way has m e =
       record { state = At s; end = end; has = has; may = link.sends s (stand_of stand p) end x n t e; means = m }
 
-  answers_it : (s : Stand) (end : List Frame) (f : PlainFrame) (rest : List PlainFrame) (stand : session.Stand) (p : Peer)
-      → ((y : Frame) → IsSeen y f → IsIn (stand_of stand p) (link.owed s y)) → Has set (At s) end → Means end (f ∷ rest)
+  answers_it : (s : Stand) (end : List Frame) (f : PlainFrame) (rest : Way) (stand : session.Stand) (p : Peer)
+      → ((y : Frame) → IsSeen y f → IsIn (stand_of stand p) (link.owed s y)) → Has set (At s) end → Means end (Some f ∷ rest)
       → Says set Ua stand p rest
   answers_it s end f rest stand p owed has m =
-      let g = front set s end f rest has m in record {
+      let g = front set s end (Some f) rest has m in record {
         state = Owes (stand_of stand p);
         end = g.rest;
         has = has_taken set.spots.items set.way.items (At s) (Owes (stand_of stand p)) g.first g.rest g.has
@@ -244,7 +242,7 @@ module _ (set : LinkSet) where
       go true = refl
       go false = ap (λ c. if not c then Some Asking else None) e
 
-  pub says : (stand next : session.Stand) (p q : Peer) (way rest : List PlainFrame) (end : List Frame) (frame : PlainFrame) (d : Bool)
+  pub says : (stand next : session.Stand) (p q : Peer) (way rest : Way) (end : List Frame) (frame : PlainFrame) (d : Bool)
       → Has set (At (stand_of stand p)) end → Means end way → MaySay stand p way frame next q rest
       → (stand ≡ In → IsSame p frame d) → Says set (shown frame d) next q rest
   unfolding shown

@@ -1,5 +1,5 @@
 -- What no run of an end that keeps the rules explains is told, and the first rule of order is told of that alone.
-use Rattle.std.proofs.Common.{◌≡◌, ℕ, Bool, true, false, [], ◌∷◌, None, refl, sym, ap, ◌∙◌, subst}
+use Rattle.std.proofs.Common.{◌≡◌, ℕ, Bool, true, false, [], ◌∷◌, inr, None, refl, sym, ap, ◌∙◌, subst}
 use Rattle.std.specs.Prelude.{is_some}
 use Rattle.std.proofs.lemmas.Bool.{both_ways, cond_both}
 use Rattle.x25_bits.specs.declared.role.Role.{Role}
@@ -144,7 +144,7 @@ told_are_guilty of j tape s way line octets frame is h shows order = λ r end ru
     (none_of_order of j frame
     (seen_fair of j frame
     (ap (λ t. t.told) (told_is of j tape (links.shown frame (differs (own_of of j).held frame)) is)
-    ∙ sets.innocents_stay_untold (Free ∷ []) tape (links.shown frame (differs (own_of of j).held frame)) r end run room))) order
+    ∙ sets.innocents_stay_untold (Free ∷ []) tape (links.shown frame (differs (own_of of j).held frame)) r end run (inr room)))) order
   where
     room : (played (begun_as (Free ∷ [])) tape).is_blind ≡ false
     room = let e = is_played of j tape is in sym (ap (λ (m : LinkSet). m.is_blind) e.0) ∙ e.1

@@ -1,6 +1,6 @@
 -- No rule of order is told of an end that keeps the rules.
-use Rattle.std.proofs.Common.{◌≡◌, ◌⊎◌, inl, inr, ℕ, ◌+◌, ◌-◌, ◌%◌, ◌<◌, ◌≤◌, ◌==◌, arith, max, Bool, true, false, suc, List, [], ◌∷◌, ◌++◌, length, drop, refl, sym, ap, ◌∙◌, subst}
-use Rattle.std.specs.Prelude.{not, ◌&&◌, ◌||◌, if◌then◌else◌, Ok}
+use Rattle.std.proofs.Common.{◌≡◌, ◌⊎◌, inl, inr, ℕ, ◌+◌, ◌%◌, ◌<◌, ◌≤◌, ◌==◌, arith, max, Bool, true, false, suc, List, [], ◌∷◌, ◌++◌, length, drop, refl, sym, ap, ◌∙◌, subst}
+use Rattle.std.specs.Prelude.{not, ◌&&◌, ◌||◌, if◌then◌else◌, Ok, Option, Some, None}
 use Rattle.std.proofs.lemmas.Bool.{both_ways, cases_eq, eq-eqb}
 use Rattle.x25_bits.specs.declared.role.Role.{Role}
 use Rattle.x25_bits.specs.declared.role.Role.TheVariants.{Dte, Dce}
@@ -23,7 +23,7 @@ use Rattle.x25_judge.specs.declared.judge.Judge.{Judge}
 use Rattle.x25_judge.specs.declared.links.End.{End}
 use Rattle.x25_judge.specs.laws.Keeping as keeping
 use Rattle.x25_judge.specs.laws.Keeping.{MaySend, MayBe}
-use Rattle.x25_judge.specs.laws.Session.{begins_anywhere, begins_there, comes, IsBegun, IsDamaged, Shows, is_of_order}
+use Rattle.x25_judge.specs.laws.Session.{begins_anywhere, begins_there, comes, IsBegun, IsDamaged, IsTimely, Shows, Way, is_of_order}
 use Rattle.x25_judge.specs.laws.Sessions as sessions
 use Rattle.x25_judge.specs.laws.Sessions.{MaySay, MayStand, declined, numbered, asks, asks_again, closes, declines, rejects, takes_disc, takes_sabm, waits_on}
 use Rattle.x25_judge.specs.laws.VerdictClaims.{NoInnocentIsAccused, NoSessionIsAccused}
@@ -45,11 +45,11 @@ use Rattle.x25_possible_links.proofs.Stands.{AreBelow, Below, below_self}
 use Rattle.x25_possible_links.proofs.Covers.{Covers, Here, Asked, Later, Begins}
 use Rattle.x25_possible_links.proofs.Leads.{Leads, Stays, Steps, HoldsAt, stays_at}
 use Rattle.x25_possible_links.proofs.StepLemmas.{below_is}
-use Rattle.x25_possible_links.proofs.Covering.{Has, has_taken, has_less, has_sent, has_shown, is_untold, blind_sends, blind_shows}
+use Rattle.x25_possible_links.proofs.Covering.{Has, has_taken, has_less, has_sent, has_shown, is_untold}
 use Rattle.x25_judge.proofs.verdicts.Lines.{goes, past, told_of_order}
 use Rattle.x25_judge.proofs.verdicts.Manners.{minds_fair}
 use Rattle.x25_judge.proofs.verdicts.Octets.{HasSent, HasRoom, IsHeld, bare_held, begun_held, each_room, held_less, held_more, keeps_room, not_each, pushed_held, same_octets, sent_held}
-use Rattle.x25_judge.proofs.verdicts.Following.{IsSame, IsSeen, Means, Says, empty, front, lost, means_on, means_one, numbers_of, says, stand_of}
+use Rattle.x25_judge.proofs.verdicts.Following.{IsPart, IsSame, IsSeen, Means, Says, front, means_on, means_same, numbers_of, says, stand_of}
 
 -- ---- what comes
 
@@ -250,21 +250,12 @@ up_has_sent set k end g = (
 
 -- ---- the end, beside the places in which it is had
 
-pub record Follows (set : LinkSet) (held : Held) (stand : session.Stand) (p : Peer) (way : List PlainFrame) : Type 0 where
-  pub sees : set.is_blind ≡ false
+pub record Follows (set : LinkSet) (held : Held) (stand : session.Stand) (p : Peer) (way : Way) : Type 0 where
   pub end : List Frame
   pub has : Has set (At (stand_of stand p)) end
   pub means : Means end way
   pub room : HasRoom held
   pub octets : stand ≡ In → IsHeld held p.given p.sent
-
--- or there was no room
-abbrev pub May : LinkSet → Held → session.Stand → Peer → List PlainFrame → Type 0
-May set held stand p way = (set.is_blind ≡ true) ⊎ Follows set held stand p way
-
-either_way : (b : Bool) → (b ≡ true) ⊎ (b ≡ false)
-either_way true = inl refl
-either_way false = inr refl
 
 IsSession : session.Stand → Type 0
 IsSession session.In = Unit {0}
@@ -340,7 +331,7 @@ counted_held held p q (rnr command nr pf) may is = bare_sent held p q (rnr comma
 counted_held held p q (rej command nr pf) may is = bare_sent held p q (rej command nr pf) may.0 (bare_held held (rej command nr pf) tt) may.2 is
 counted_held held p q frame may is = absurd may
 
-said_held : (held : Held) (stand next : session.Stand) (p q : Peer) (way rest : List PlainFrame) (frame : PlainFrame)
+said_held : (held : Held) (stand next : session.Stand) (p q : Peer) (way rest : Way) (frame : PlainFrame)
     → MaySay stand p way frame next q rest → HasRoom held → (stand ≡ In → IsHeld held p.given p.sent) → next ≡ In
     → IsHeld (keeps held frame) q.given q.sent
 said_held held stand _ p q way _ frame (numbered _ _ is may) room was now = counted_held held p q frame may (was is)
@@ -380,7 +371,7 @@ lost_counted qs held p q (rej command nr pf) may at is =
     subst (λ (r : Peer). IsHeld (forgets_each qs held) r.given r.sent) (sym may.2) (held_less qs held p.given p.sent is)
 lost_counted qs held p q frame may at is = absurd may
 
-lost_held : (set : LinkSet) (held : Held) (stand next : session.Stand) (p q : Peer) (way rest : List PlainFrame) (end : List Frame)
+lost_held : (set : LinkSet) (held : Held) (stand next : session.Stand) (p q : Peer) (way rest : Way) (end : List Frame)
     (frame : PlainFrame) → MaySay stand p way frame next q rest → Has set (At (stand_of stand p)) end → HasRoom held
     → (stand ≡ In → IsHeld held p.given p.sent) → next ≡ In → IsHeld (forgets_each set.spots.items held) q.given q.sent
 lost_held set held stand _ p q way _ end frame (numbered _ _ is may) has room was now =
@@ -398,141 +389,113 @@ lost_held set held stand _ p _ way _ end _ (waits_on b f rest waits is) has room
 
 -- ---- one line
 
-module _ (set : LinkSet) (held : Held) (stand : session.Stand) (p : Peer) (way : List PlainFrame) (h : Follows set held stand p way) where
-  said : (next : session.Stand) (q : Peer) (rest : List PlainFrame) (frame : PlainFrame) → MaySay stand p way frame next q rest
+module _ (set : LinkSet) (held : Held) (stand : session.Stand) (p : Peer) (way : Way) (h : Follows set held stand p way) where
+  said : (next : session.Stand) (q : Peer) (rest : Way) (frame : PlainFrame) → MaySay stand p way frame next q rest
       → Says set (shown frame (differs held frame)) next q rest
   said next q rest frame may =
       says set stand next p q way rest h.end frame (differs held frame) h.has h.means may
       (λ is. same_by_held held p frame (h.octets is))
 
-  pub says_untold : (next : session.Stand) (q : Peer) (rest : List PlainFrame) (frame : PlainFrame)
+  pub says_untold : (next : session.Stand) (q : Peer) (rest : Way) (frame : PlainFrame)
       → MaySay stand p way frame next q rest → (sends_to (shown frame (differs held frame)) set).told ≡ Nothing
   says_untold next q rest frame may =
       let s = said next q rest frame may in
       is_untold set (shown frame (differs held frame)) s.state (At (stand_of next q)) s.end s.may s.has
 
-  pub says_on : (next : session.Stand) (q : Peer) (rest : List PlainFrame) (frame : PlainFrame) → MaySay stand p way frame next q rest
-      → May (sends_to (shown frame (differs held frame)) set).set (keeps held frame) next q rest
-  says_on next q rest frame may = go (either_way (sends_to (shown frame (differs held frame)) set).set.is_blind)
-    where
-      go : ((sends_to (shown frame (differs held frame)) set).set.is_blind ≡ true)
-          ⊎ ((sends_to (shown frame (differs held frame)) set).set.is_blind ≡ false)
-          → May (sends_to (shown frame (differs held frame)) set).set (keeps held frame) next q rest
-      go (inl e) = inl e
-      go (inr e) =
-          let s = said next q rest frame may in
-          inr (record {
-            sees = e;
-            end = s.end;
-            has = has_sent set (shown frame (differs held frame)) s.state (At (stand_of next q)) s.end s.may s.has h.sees e;
-            means = s.means;
-            room = keeps_room held frame h.room;
-            octets = said_held held stand next p q way rest frame may h.room h.octets;
-          })
+  pub says_on : (next : session.Stand) (q : Peer) (rest : Way) (frame : PlainFrame) → MaySay stand p way frame next q rest
+      → Follows (sends_to (shown frame (differs held frame)) set).set (keeps held frame) next q rest
+  says_on next q rest frame may =
+      let s = said next q rest frame may in record {
+        end = s.end;
+        has = has_sent set (shown frame (differs held frame)) s.state (At (stand_of next q)) s.end s.may s.has;
+        means = s.means;
+        room = keeps_room held frame h.room;
+        octets = said_held held stand next p q way rest frame may h.room h.octets;
+      }
 
-  garbled : (next : session.Stand) (q : Peer) (rest : List PlainFrame) (state : State) (end : List Frame)
+  garbled : (next : session.Stand) (q : Peer) (rest : Way) (state : State) (end : List Frame)
       → link.MaySend state end Unread (At (stand_of next q)) → Has set state end → Means end rest
       → (next ≡ In → IsHeld (forgets_each set.spots.items held) q.given q.sent)
-      → May (sends_to Unread set).set (forgets_each set.spots.items held) next q rest
-  garbled next q rest state end may has means is = go (either_way (sends_to Unread set).set.is_blind)
-    where
-      go : ((sends_to Unread set).set.is_blind ≡ true) ⊎ ((sends_to Unread set).set.is_blind ≡ false)
-          → May (sends_to Unread set).set (forgets_each set.spots.items held) next q rest
-      go (inl e) = inl e
-      go (inr e) = inr (record {
-        sees = e;
-        end = end;
-        has = has_sent set Unread state (At (stand_of next q)) end may has h.sees e;
-        means = means;
-        room = each_room set.spots.items held h.room;
-        octets = is;
-      })
+      → Follows (sends_to Unread set).set (forgets_each set.spots.items held) next q rest
+  garbled next q rest state end may has means is = record {
+    end = end;
+    has = has_sent set Unread state (At (stand_of next q)) end may has;
+    means = means;
+    room = each_room set.spots.items held h.room;
+    octets = is;
+  }
 
-  pub garbles_on : (next : session.Stand) (q : Peer) (rest : List PlainFrame) (frame : PlainFrame) → MaySay stand p way frame next q rest
-      → May (sends_to Unread set).set (forgets_each set.spots.items held) next q rest
+  pub garbles_on : (next : session.Stand) (q : Peer) (rest : Way) (frame : PlainFrame) → MaySay stand p way frame next q rest
+      → Follows (sends_to Unread set).set (forgets_each set.spots.items held) next q rest
   garbles_on next q rest frame may =
       let s = says set stand next p q way rest h.end frame false h.has h.means may (λ is. same_anyhow p frame) in
       garbled next q rest s.state s.end (link.was_any s.state (At (stand_of next q)) s.end (shown frame false) s.may) s.has s.means
       (lost_held set held stand next p q way rest h.end frame may h.has h.room h.octets)
 
-  pub noise_on : May (sends_to Unread set).set (forgets_each set.spots.items held) stand p way
+  pub noise_on : Follows (sends_to Unread set).set (forgets_each set.spots.items held) stand p way
   noise_on =
       garbled stand p way (At (stand_of stand p)) h.end (link.was_none (stand_of stand p) h.end) h.has h.means
       (λ is. held_less set.spots.items held p.given p.sent (h.octets is))
 
   -- the other end sends
-  pub shown_on : (y : Frame) (more : List PlainFrame) → Means (y ∷ []) more → May (shows_to y set) held stand p (way ++ more)
-  shown_on y more m = go (either_way (shows_to y set).is_blind)
-    where
-      go : ((shows_to y set).is_blind ≡ true) ⊎ ((shows_to y set).is_blind ≡ false) → May (shows_to y set) held stand p (way ++ more)
-      go (inl e) = inl e
-      go (inr e) = inr (record {
-        sees = e;
-        end = h.end ++ y ∷ [];
-        has = has_shown set y (At (stand_of stand p)) h.end h.has h.sees e;
-        means = means_on h.end (y ∷ []) way more h.means m;
-        room = h.room;
-        octets = h.octets;
-      })
+  pub shown_on : (y : Frame) (what : Option PlainFrame) → IsPart y what → IsTimely way
+      → Follows (shows_to y set) held stand p (way ++ what ∷ [])
+  shown_on y what is timely = record {
+    end = h.end ++ y ∷ [];
+    has = has_shown y (At (stand_of stand p)) h.end set (subst (λ n. n < 64) (sym (means_same h.end way h.means)) timely) h.has;
+    means = means_on h.end way y what is h.means;
+    room = h.room;
+    octets = h.octets;
+  }
 
 -- ---- without a line
 
-left : (set : LinkSet) (held : Held) (stand : session.Stand) (p : Peer) (way : List PlainFrame) → May set held stand p way
-    → May set held session.Out p way
-left set held stand p way (inl e) = inl e
-left set held stand p way (inr h) = inr (record {
-  sees = h.sees;
+left : (set : LinkSet) (held : Held) (stand : session.Stand) (p : Peer) (way : Way) → Follows set held stand p way
+    → Follows set held session.Out p way
+left set held stand p way h = record {
   end = h.end;
   has = has_less set.spots.items set.way.items (stand_of stand p) Out h.end h.has tt;
   means = h.means;
   room = h.room;
   octets = λ is. absurd (not_out is);
-})
+}
 
-handed : (set : LinkSet) (held : Held) (stand : session.Stand) (p : Peer) (way : List PlainFrame) (packet : List ℕ)
-    → May set held stand p way → May set held stand (record p { given = p.given ++ packet ∷ [] }) way
-handed set held stand p way packet (inl e) = inl e
-handed set held stand p way packet (inr h) = inr (record {
-  sees = h.sees;
+handed : (set : LinkSet) (held : Held) (stand : session.Stand) (p : Peer) (way : Way) (packet : List ℕ)
+    → Follows set held stand p way → Follows set held stand (record p { given = p.given ++ packet ∷ [] }) way
+handed set held stand p way packet h = record {
   end = h.end;
   has = subst (λ s. Has set (At s) h.end) (same stand) h.has;
   means = h.means;
   room = h.room;
   octets = λ is. pushed_held held p.given packet p.sent (h.octets is);
-})
+}
   where
     same : (s : session.Stand) → stand_of s p ≡ stand_of s (record p { given = p.given ++ packet ∷ [] })
     same session.Out = refl
     same session.Asking = refl
     same session.In = refl
 
-passed : (set : LinkSet) (held : Held) (stand : session.Stand) (p : Peer) (f : PlainFrame) (way : List PlainFrame)
-    → May set held stand p (f ∷ way) → May set held stand p way
-passed set held stand p f way (inl e) = inl e
-passed set held stand p f way (inr h) =
-    let g = front set (stand_of stand p) h.end f way h.has h.means in
-    inr (record {
-      sees = h.sees;
+passed : (set : LinkSet) (held : Held) (stand : session.Stand) (p : Peer) (what : Option PlainFrame) (way : Way)
+    → Follows set held stand p (what ∷ way) → Follows set held stand p way
+passed set held stand p what way h =
+    let g = front set (stand_of stand p) h.end what way h.has h.means in record {
       end = g.rest;
       has = passes_it set p g.rest (stand_of stand p) g.first g.has;
       means = g.means;
       room = h.room;
       octets = h.octets;
-    })
+    }
 
-came : (set : LinkSet) (held : Held) (p q : Peer) (f : PlainFrame) (way : List PlainFrame) → MayHear p (Ok f) q
-    → May set held In p (f ∷ way) → May set held In q way
-came set held p q f way may (inl e) = inl e
-came set held p q f way may (inr h) =
-    let g = front set (Up (numbers_of p)) h.end f way h.has h.means in
-    inr (record {
-      sees = h.sees;
+came : (set : LinkSet) (held : Held) (p q : Peer) (f : PlainFrame) (way : Way) → MayHear p (Ok f) q
+    → Follows set held In p (Some f ∷ way) → Follows set held In q way
+came set held p q f way may h =
+    let g = front set (Up (numbers_of p)) h.end (Some f) way h.has h.means in record {
       end = g.rest;
       has = heard_has set p g.rest q g.first f g.is may g.has;
       means = g.means;
       room = h.room;
       octets = λ is. given_same f may (h.octets refl);
-    })
+    }
   where
     taking_same : (b : Bool) (x : List ℕ) (r : Peer) → IsHeld held r.given r.sent → IsHeld held (taking b x r).given (taking b x r).sent
     taking_same true x r is = is
@@ -554,19 +517,16 @@ came set held p q f way may (inr h) =
     given_same (rej command nr pf) may is = by (hearing may.0 nr p) may.1 (hearing_same may.0 nr p is)
     given_same f may is = by p may is
 
-accepted : (set : LinkSet) (held : Held) (p : Peer) (f : Bool) (way : List PlainFrame) → May set held session.Asking p (ua f ∷ way)
-    → May set held In fresh_peer way
-accepted set held p f way (inl e) = inl e
-accepted set held p f way (inr h) =
-    let g = front set Asking h.end (ua f) way h.has h.means in
-    inr (record {
-      sees = h.sees;
+accepted : (set : LinkSet) (held : Held) (p : Peer) (f : Bool) (way : Way) → Follows set held session.Asking p (Some (ua f) ∷ way)
+    → Follows set held In fresh_peer way
+accepted set held p f way h =
+    let g = front set Asking h.end (Some (ua f)) way h.has h.means in record {
       end = g.rest;
       has = accepted_has set p g.rest g.first f g.is g.has;
       means = g.means;
       room = h.room;
       octets = λ is. begun_held held [] h.room.octets h.room.known;
-    })
+    }
 
 -- ---- what a line makes of the ends
 
@@ -621,21 +581,18 @@ lost_end Dce j line octets broken =
 
 -- ---- and of what is known of them
 
-abbrev MayOf : End → session.Stand → Peer → List PlainFrame → Type 0
-MayOf e stand p way = May e.set e.held stand p way
+abbrev FollowsOf : End → session.Stand → Peer → Way → Type 0
+FollowsOf e stand p way = Follows e.set e.held stand p way
 
-by_parts : (set : LinkSet) (held : Held) (e : End) (stand : session.Stand) (p : Peer) (way : List PlainFrame) → e.set ≡ set
-    → e.held ≡ held → May set held stand p way → MayOf e stand p way
+by_parts : (set : LinkSet) (held : Held) (e : End) (stand : session.Stand) (p : Peer) (way : Way) → e.set ≡ set
+    → e.held ≡ held → Follows set held stand p way → FollowsOf e stand p way
 by_parts set held e stand p way a b h =
-    subst (λ (s : LinkSet). May s e.held stand p way) (sym a) (subst (λ (x : Held). May set x stand p way) (sym b) h)
+    subst (λ (s : LinkSet). Follows s e.held stand p way) (sym a) (subst (λ (x : Held). Follows set x stand p way) (sym b) h)
 
-step_says : (from : Role) (j : Judge) (stand next : session.Stand) (p q : Peer) (way rest : List PlainFrame)
-    (line octets : List ℕ) (frame : PlainFrame) → Shows line from octets frame → MaySay stand p way frame next q rest
-    → MayOf (own_of from j) stand p way → MayOf (own_of from (answer_to j line).next) next q rest
-step_says from j stand next p q way rest line octets frame shows may (inl e) =
-    let g = sent_end from j line octets frame shows in
-    inl (ap (λ (s : LinkSet). s.is_blind) g.places ∙ blind_sends (own_of from j).set (shown frame (differs (own_of from j).held frame)) e)
-step_says from j stand next p q way rest line octets frame shows may (inr h) =
+step_says : (from : Role) (j : Judge) (stand next : session.Stand) (p q : Peer) (way rest : Way) (line octets : List ℕ)
+    (frame : PlainFrame) → Shows line from octets frame → MaySay stand p way frame next q rest
+    → FollowsOf (own_of from j) stand p way → FollowsOf (own_of from (answer_to j line).next) next q rest
+step_says from j stand next p q way rest line octets frame shows may h =
     let g = sent_end from j line octets frame shows in
     let x = shown frame (differs (own_of from j).held frame) in
     let told = says_untold (own_of from j).set (own_of from j).held stand p way h next q rest frame may in
@@ -643,35 +600,31 @@ step_says from j stand next p q way rest line octets frame shows may (inr h) =
     g.places (g.octets ∙ ap (λ t. keeps (held_by t (own_of from j).held) frame) told)
     (says_on (own_of from j).set (own_of from j).held stand p way h next q rest frame may)
 
-step_shown : (from : Role) (j : Judge) (stand : session.Stand) (p : Peer) (way more : List PlainFrame) (y : Frame) (e : End)
-    → IsShown (own_of from j).set (own_of from j).held y e → Means (y ∷ []) more → MayOf (own_of from j) stand p way
-    → MayOf e stand p (way ++ more)
-step_shown from j stand p way more y e g m (inl b) = inl (ap (λ (s : LinkSet). s.is_blind) g.places ∙ blind_shows (own_of from j).set y b)
-step_shown from j stand p way more y e g m (inr h) =
-    by_parts (shows_to y (own_of from j).set) (own_of from j).held e stand p (way ++ more) g.places g.octets
-    (shown_on (own_of from j).set (own_of from j).held stand p way h y more m)
+step_shown : (from : Role) (j : Judge) (stand : session.Stand) (p : Peer) (way : Way) (what : Option PlainFrame) (y : Frame) (e : End)
+    → IsShown (own_of from j).set (own_of from j).held y e → IsPart y what → IsTimely way → FollowsOf (own_of from j) stand p way
+    → FollowsOf e stand p (way ++ what ∷ [])
+step_shown from j stand p way what y e g is timely h =
+    by_parts (shows_to y (own_of from j).set) (own_of from j).held e stand p (way ++ what ∷ []) g.places g.octets
+    (shown_on (own_of from j).set (own_of from j).held stand p way h y what is timely)
 
-step_missed : (from : Role) (j : Judge) (stand next : session.Stand) (p q : Peer) (way rest : List PlainFrame) (e : End)
+step_missed : (from : Role) (j : Judge) (next : session.Stand) (q : Peer) (rest : Way) (e : End)
     → IsMissed (own_of from j).set (own_of from j).held e
-    → (Follows (own_of from j).set (own_of from j).held stand p way
-    → May (sends_to Unread (own_of from j).set).set (forgets_each (own_of from j).set.spots.items (own_of from j).held) next q rest)
-    → MayOf (own_of from j) stand p way → MayOf e next q rest
-step_missed from j stand next p q way rest e g on (inl b) =
-    inl (ap (λ (s : LinkSet). s.is_blind) g.places ∙ blind_sends (own_of from j).set Unread b)
-step_missed from j stand next p q way rest e g on (inr h) =
+    → Follows (sends_to Unread (own_of from j).set).set (forgets_each (own_of from j).set.spots.items (own_of from j).held) next q rest
+    → FollowsOf e next q rest
+step_missed from j next q rest e g h =
     by_parts (sends_to Unread (own_of from j).set).set (forgets_each (own_of from j).set.spots.items (own_of from j).held) e next q rest
-    g.places g.octets (on h)
+    g.places g.octets h
 
-on_none : (way : List PlainFrame) → way ++ [] ≡ way
-on_none [] = refl
-on_none (f ∷ way) = ap (λ rest. f ∷ rest) (on_none way)
+is_lost : (what : Option PlainFrame) → IsPart Unread what
+is_lost None = refl
+is_lost (Some f) = inr refl
 
-step_lost : (from : Role) (j : Judge) (stand : session.Stand) (p : Peer) (way : List PlainFrame) (line octets : List ℕ)
-    → IsDamaged line (other from) octets → MayOf (own_of from j) stand p way
-    → MayOf (own_of from (answer_to j line).next) stand p way
-step_lost from j stand p way line octets broken h =
-    subst (λ w. MayOf (own_of from (answer_to j line).next) stand p w) (on_none way)
-    (step_shown from j stand p way [] Unread (own_of from (answer_to j line).next) (lost_end from j line octets broken) (lost [] [] empty) h)
+step_lost : (from : Role) (j : Judge) (stand : session.Stand) (p : Peer) (way : Way) (line octets : List ℕ) (what : Option PlainFrame)
+    → IsDamaged line (other from) octets → IsTimely way → FollowsOf (own_of from j) stand p way
+    → FollowsOf (own_of from (answer_to j line).next) stand p (way ++ what ∷ [])
+step_lost from j stand p way line octets what broken timely h =
+    step_shown from j stand p way what Unread (own_of from (answer_to j line).next) (lost_end from j line octets broken)
+    (is_lost what) timely h
 
 -- ---- the laws
 
@@ -681,11 +634,10 @@ pub seen_fair : (from : Role) (j : Judge) (frame : PlainFrame)
 seen_fair from j frame e =
     minds_fair j.window _ _ frame _ (ap (λ t. is_of_order (rule_of t (shown frame (differs (own_of from j).held frame)))) e)
 
-told_nothing : (from : Role) (j : Judge) (stand next : session.Stand) (p q : Peer) (way rest : List PlainFrame) (frame : PlainFrame)
-    → (own_of from j).set.is_blind ≡ false → MaySay stand p way frame next q rest → MayOf (own_of from j) stand p way
+told_nothing : (from : Role) (j : Judge) (stand next : session.Stand) (p q : Peer) (way rest : Way) (frame : PlainFrame)
+    → MaySay stand p way frame next q rest → FollowsOf (own_of from j) stand p way
     → (sends_to (shown frame (differs (own_of from j).held frame)) (own_of from j).set).told ≡ Nothing
-told_nothing from j stand next p q way rest frame room may (inl e) = absurd (both_ways (own_of from j).set.is_blind room e)
-told_nothing from j stand next p q way rest frame room may (inr h) =
+told_nothing from j stand next p q way rest frame may h =
     says_untold (own_of from j).set (own_of from j).held stand p way h next q rest frame may
 
 pub none_of_order : (from : Role) (j : Judge) (frame : PlainFrame) → is_of_order (seen_by j from frame).seen.rule ≡ false
@@ -718,71 +670,64 @@ has_fresh way (q ∷ qs) e = go (begins_there way q) refl e (has_fresh way qs)
         (q, inl refl, stays_at q.stand (drop q.at way) fresh fresh [] (below_self fresh) (comes_to (drop q.at way) q.stand b))
     go false b h rest = let g = rest h in (g.0, inr g.1, g.2)
 
-begun : (from : Role) (j : Judge) → IsBegun j from → MayOf (own_of from j) In fresh_peer []
-begun from j h = inr (record {
-  sees = h.room;
+begun : (from : Role) (j : Judge) → IsBegun j from → FollowsOf (own_of from j) In fresh_peer []
+begun from j h = record {
   end = [];
   has = has_fresh (own_of from j).set.way.items (own_of from j).set.spots.items h.up;
-  means = empty;
+  means = tt;
   room = record { octets = h.octets; known = h.known };
   octets = λ is. begun_held (own_of from j).held [] h.octets h.known;
-})
+}
 
-beside : (from : Role) (j : Judge) (p : Peer) (way : List PlainFrame) → MayBe from j p way → MayOf (own_of from j) In p way
+beside : (from : Role) (j : Judge) (p : Peer) (way : Way) → MayBe from j p way → FollowsOf (own_of from j) In p way
 beside from _ _ _ (keeping.Begins j up) = begun from j (up from)
 beside from _ _ way (keeping.HandsDown j p _ packet h) =
     handed (own_of from j).set (own_of from j).held In p way packet (beside from j p way h)
 beside from _ _ way (keeping.Sends j p q _ line octets frame shows may h) =
-    step_says from j In In p q way way line octets frame shows (numbered frame q refl may)
-    (beside from j p way h)
-beside from _ p _ (keeping.Shown j _ way line octets frame shows is h) =
-    step_shown from j In p way (frame ∷ []) _ _ (shown_end from j line octets frame shows)
-    (means_one _ frame (inl (differs (own_of (other from) j).held frame, refl))) (beside from j p way h)
+    step_says from j In In p q way way line octets frame shows (numbered frame q refl may) (beside from j p way h)
+beside from _ p _ (keeping.Shown j _ way line octets frame shows is timely h) =
+    step_shown from j In p way (Some frame) _ _ (shown_end from j line octets frame shows)
+    (inl (differs (own_of (other from) j).held frame, refl)) timely (beside from j p way h)
 beside from _ _ way (keeping.Garbles j p q _ line octets frame broken may h) =
-    step_missed from j In In p q way way _ (missed_end from j line octets broken)
-    (λ f. garbles_on (own_of from j).set (own_of from j).held In p way f In q way frame (numbered frame q refl may))
-    (beside from j p way h)
+    step_missed from j In q way _ (missed_end from j line octets broken)
+    (garbles_on (own_of from j).set (own_of from j).held In p way (beside from j p way h) In q way frame (numbered frame q refl may))
 beside from _ p way (keeping.Noises j _ _ line octets broken h) =
-    step_missed from j In In p p way way _ (missed_end from j line octets broken)
-    (λ f. noise_on (own_of from j).set (own_of from j).held In p way f) (beside from j p way h)
-beside from _ p way (keeping.Fails j _ _ line octets broken h) =
-    step_lost from j In p way line octets broken (beside from j p way h)
-beside from _ p _ (keeping.Garbled j _ way line octets frame broken h) =
-    step_shown from j In p way (frame ∷ []) Unread _ (lost_end from j line octets broken)
-    (means_one Unread frame (inr refl)) (beside from j p way h)
+    step_missed from j In p way _ (missed_end from j line octets broken)
+    (noise_on (own_of from j).set (own_of from j).held In p way (beside from j p way h))
+beside from _ p _ (keeping.Fails j _ way line octets what broken timely h) =
+    step_lost from j In p way line octets what broken timely (beside from j p way h)
 beside from j _ way (keeping.Comes _ p q frame _ may h) =
-    came (own_of from j).set (own_of from j).held p q frame way may (beside from j p (frame ∷ way) h)
+    came (own_of from j).set (own_of from j).held p q frame way may (beside from j p (Some frame ∷ way) h)
+beside from j p way (keeping.Fades _ _ _ h) =
+    passed (own_of from j).set (own_of from j).held In p None way (beside from j p (None ∷ way) h)
 
 pub no_innocent_is_accused : NoInnocentIsAccused
-no_innocent_is_accused from j p q way line octets frame may room shows sends_it =
+no_innocent_is_accused from j p q way line octets frame may shows sends_it =
     none_of_order from j frame
-    (seen_fair from j frame
-    (told_nothing from j In In p q way way frame room (numbered frame q refl sends_it) (beside from j p way may)))
+    (seen_fair from j frame (told_nothing from j In In p q way way frame (numbered frame q refl sends_it) (beside from j p way may)))
 
-nothing : (from : Role) (window : ℕ) (reading : Reading)
-    (strictness : Strictness)
-    → MayOf (own_of from (judge_begins window reading strictness)) session.Out fresh_peer []
+nothing : (from : Role) (window : ℕ) (reading : Reading) (strictness : Strictness)
+    → FollowsOf (own_of from (judge_begins window reading strictness)) session.Out fresh_peer []
 unfolding no_octets
 nothing from window reading strictness = go from
   where
     at_first : Follows unknown none_held session.Out fresh_peer []
     at_first = record {
-      sees = refl;
       end = [];
       has = has_less unknown.spots.items unknown.way.items Free Out []
           (has_taken unknown.spots.items unknown.way.items (At Free) (At Free) Before []
           (_, inl refl, stays_at Free (Before ∷ []) Free Free (Before ∷ []) tt (Here Free Free (Before ∷ []) tt)) (passes Free Before)) tt;
-      means = empty;
+      means = tt;
       room = record { octets = refl; known = refl };
       octets = λ is. absurd (not_out is);
     }
 
-    go : (from : Role) → MayOf (own_of from (judge_begins window reading strictness)) session.Out fresh_peer []
-    go Dte = inr at_first
-    go Dce = inr at_first
+    go : (from : Role) → FollowsOf (own_of from (judge_begins window reading strictness)) session.Out fresh_peer []
+    go Dte = at_first
+    go Dce = at_first
 
-standing : (from : Role) (j : Judge) (stand : session.Stand) (p : Peer) (way : List PlainFrame) → MayStand from j stand p way
-    → MayOf (own_of from j) stand p way
+standing : (from : Role) (j : Judge) (stand : session.Stand) (p : Peer) (way : Way) → MayStand from j stand p way
+    → FollowsOf (own_of from j) stand p way
 standing from _ _ _ _ (sessions.Starts window reading strictness) = nothing from window reading strictness
 standing from _ stand _ way (sessions.HandsDown j _ p _ packet h) =
     handed (own_of from j).set (own_of from j).held stand p way packet (standing from j stand p way h)
@@ -790,28 +735,25 @@ standing from j _ p way (sessions.Leaves _ stand _ _ h) =
     left (own_of from j).set (own_of from j).held stand p way (standing from j stand p way h)
 standing from _ _ _ _ (sessions.Says j stand next p q way rest line octets frame shows may h) =
     step_says from j stand next p q way rest line octets frame shows may (standing from j stand p way h)
-standing from _ stand p _ (sessions.Shown j _ _ way line octets frame shows h) =
-    step_shown from j stand p way (frame ∷ []) _ _ (shown_end from j line octets frame shows)
-    (means_one _ frame (inl (differs (own_of (other from) j).held frame, refl))) (standing from j stand p way h)
+standing from _ stand p _ (sessions.Shown j _ _ way line octets frame shows timely h) =
+    step_shown from j stand p way (Some frame) _ _ (shown_end from j line octets frame shows)
+    (inl (differs (own_of (other from) j).held frame, refl)) timely (standing from j stand p way h)
 standing from _ _ _ _ (sessions.Garbles j stand next p q way rest line octets frame broken may h) =
-    step_missed from j stand next p q way rest _ (missed_end from j line octets broken)
-    (λ f. garbles_on (own_of from j).set (own_of from j).held stand p way f next q rest frame may) (standing from j stand p way h)
+    step_missed from j next q rest _ (missed_end from j line octets broken)
+    (garbles_on (own_of from j).set (own_of from j).held stand p way (standing from j stand p way h) next q rest frame may)
 standing from _ stand p way (sessions.Noises j _ _ _ line octets broken h) =
-    step_missed from j stand stand p p way way _ (missed_end from j line octets broken)
-    (λ f. noise_on (own_of from j).set (own_of from j).held stand p way f) (standing from j stand p way h)
-standing from _ stand p way (sessions.Fails j _ _ _ line octets broken h) =
-    step_lost from j stand p way line octets broken (standing from j stand p way h)
-standing from _ stand p _ (sessions.Garbled j _ _ way line octets frame broken h) =
-    step_shown from j stand p way (frame ∷ []) Unread _ (lost_end from j line octets broken)
-    (means_one Unread frame (inr refl)) (standing from j stand p way h)
-standing from j stand p way (sessions.Passes _ _ _ frame _ h) =
-    passed (own_of from j).set (own_of from j).held stand p frame way (standing from j stand p (frame ∷ way) h)
+    step_missed from j stand p way _ (missed_end from j line octets broken)
+    (noise_on (own_of from j).set (own_of from j).held stand p way (standing from j stand p way h))
+standing from _ stand p _ (sessions.Fails j _ _ way line octets what broken timely h) =
+    step_lost from j stand p way line octets what broken timely (standing from j stand p way h)
+standing from j stand p way (sessions.Passes _ _ _ what _ h) =
+    passed (own_of from j).set (own_of from j).held stand p what way (standing from j stand p (what ∷ way) h)
 standing from j _ _ way (sessions.Comes _ p q frame _ may h) =
-    came (own_of from j).set (own_of from j).held p q frame way may (standing from j In p (frame ∷ way) h)
+    came (own_of from j).set (own_of from j).held p q frame way may (standing from j In p (Some frame ∷ way) h)
 standing from j _ _ way (sessions.TakesUa _ p f _ h) =
-    accepted (own_of from j).set (own_of from j).held p f way (standing from j session.Asking p (ua f ∷ way) h)
+    accepted (own_of from j).set (own_of from j).held p f way (standing from j session.Asking p (Some (ua f) ∷ way) h)
 
 pub no_session_is_accused : NoSessionIsAccused
-no_session_is_accused from j stand next p q way rest line octets frame may room shows says_it =
+no_session_is_accused from j stand next p q way rest line octets frame may shows says_it =
     none_of_order from j frame
-    (seen_fair from j frame (told_nothing from j stand next p q way rest frame room says_it (standing from j stand p way may)))
+    (seen_fair from j frame (told_nothing from j stand next p q way rest frame says_it (standing from j stand p way may)))

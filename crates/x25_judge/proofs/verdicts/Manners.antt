@@ -1,10 +1,10 @@
 -- Manners tell no rule of order, and nothing of what is told of the link.
-use Rattle.std.proofs.Common.{◌≡◌, ℕ, ◌<◌, ◌≤◌, ◌-◌, ◌%◌, ◌==◌, Bool, true, false, Option, Some, None, refl, arith}
+use Rattle.std.proofs.Common.{◌≡◌, ℕ, ◌<◌, ◌≤◌, ◌%◌, ◌==◌, Bool, true, false, Option, Some, None, refl, arith}
 use Rattle.std.specs.Prelude.{is_some, not, nat_lt, nat_le, ◌&&◌, ◌||◌, if◌then◌else◌}
 use Rattle.std.proofs.lemmas.Bool.{and_parts, leb-true, ltb-true}
 use Rattle.x25_frame.specs.Frame.{PlainFrame, info, rr, rnr, rej, sabm, disc, ua, dm, frmr}
 use Rattle.x25_judge.specs.Links.{accepts, answers, asks, begins, bits, by_other, by_own, counts_in, hears}
-use Rattle.x25_judge.specs.Links.{minded_as, minded_by, minds, ready_minded, place_in, reject_minded, rejects, sends_back, skipped_by}
+use Rattle.x25_judge.specs.Links.{minded_as, minded_by, minds, ready_minded, place_in, reject_minded, sends_back, skipped_by}
 use Rattle.x25_judge.specs.Manners as manners
 use Rattle.x25_judge.specs.Rule.{first, is_of_manners}
 use Rattle.x25_judge.specs.declared.links.Minding.{Minding}

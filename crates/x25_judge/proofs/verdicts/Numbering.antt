@@ -117,7 +117,7 @@ module _ (from : Role) (j : Judge) (lines : List (List ℕ)) (e : Has from j lin
 
 has : ReadsWhatIsSpelled → (from : Role) (j : Judge) (lines : List (List ℕ)) → IsUntold from j lines → (own_of from j).set.is_blind ≡ false
     → Has from j lines
-has reads from j lines (Begins k up) room = record { k = no_numbers; given = []; carries = Nothing; knows = begun_knows j from (up from) }
+has reads from j lines (Begins k up) room = record { k = no_numbers; given = []; carries = Nothing; knows = begun_knows j from (up from) room }
 has reads from k all (Says j lines line octets frame shows is quiet q) room =
     let own = own_line from j line octets frame shows is quiet room in
     let spelled = (reads from n1 frame octets shows.low).0 shows.reads in

@@ -27,7 +27,7 @@ use Rattle.x25_judge.specs.declared.judge.Judge.{Judge}
 use Rattle.x25_judge.specs.declared.links.End.{End}
 use Rattle.x25_judge.specs.laws.Keeping.{MaySend}
 use Rattle.x25_judge.specs.laws.Session.{are_new, comes, is_new, IsBegun, Shows, IsNumbered}
-use Rattle.x25_judge.specs.laws.Watching.{Watched, more, IsSilent, Begins, Acts, Says, Comes, Fails}
+use Rattle.x25_judge.specs.laws.Watching.{Watched, more, IsSilent, Begins, Acts, Rests, Says, Comes, Fails}
 use Rattle.x25_judge.specs.laws.VerdictClaims.{SilenceMeansOrder, SilenceMeansRules}
 use Rattle.x25_judge.specs.laws.Explaining.{IsQuiet, Starts, Follows, IsKept, Fresh, HandsDown, Sends, Hears}
 use Rattle.x25_possible.specs.Channel.{nth}
@@ -92,9 +92,10 @@ each_new way (p ∷ qs) e q (inl same) =
 each_new way (p ∷ qs) e q (inr is) =
     let a = and_parts (is_new (comes (drop p.at way) p.stand)) (are_new way qs) e in each_new way qs a.1 q is
 
-pub begun_knows : (j : Judge) (from : Role) → IsBegun j from → KnowsOf (own_of from j) no_numbers []
-begun_knows j from b = record {
-  sees = b.room;
+pub begun_knows : (j : Judge) (from : Role) → IsBegun j from → (own_of from j).set.is_blind ≡ false
+    → KnowsOf (own_of from j) no_numbers []
+begun_knows j from b room = record {
+  sees = room;
   within = each_new (own_of from j).set.way.items (own_of from j).set.spots.items b.new;
   all = refl;
   octets = begun_held (own_of from j).held [] b.octets b.known;
@@ -533,10 +534,12 @@ record Explained (c : Settings) (w : Watched) : Type 0 where
 explained : ReadsWhatIsSpelled → (c : Settings) → c.longest ≡ n1 → (w : Watched) → IsSilent c w
     → (own_of (other c.role) w.judge).set.is_blind ≡ false → Explained c w
 explained reads c longest w (Begins j up small) room =
-    record { p = fresh_peer; silent = tape.Begins; given = refl; knows = begun_knows j (other c.role) (up (other c.role)) }
+    record { p = fresh_peer; silent = tape.Begins; given = refl; knows = begun_knows j (other c.role) (up (other c.role)) room }
 explained reads c longest w (Acts v act h) room =
     let e = explained reads c longest v h room in
     record { p = e.p; silent = tape.Acts (joined v e.p) act e.silent; given = e.given; knows = e.knows }
+explained reads c longest w (Rests v front rear h) room =
+    let e = explained reads c longest v h room in record { p = e.p; silent = e.silent; given = e.given; knows = e.knows }
 explained reads c longest w (Says v line octets frame rest front shows is untold h) room =
     let here = subst (λ r. Shows line r octets frame) (sym (other_twice c.role)) shows in
     let e = explained reads c longest v h (other_line (other c.role) v.judge line octets frame here room).sees in
@@ -548,7 +551,7 @@ explained reads c longest w (Says v line octets frame rest front shows is untold
       knows = subst (λ x. Explains (own_of (other c.role) (answer_to v.judge line).next) (notes x e.p)) (sym read)
           (noted_line (other c.role) v.judge line octets frame e.p here is room e.knows);
     }
-explained reads c longest w (Comes v line octets frame shows is quiet h) room =
+explained reads c longest w (Comes v line octets frame shows is quiet lags h) room =
     let own = own_line (other c.role) v.judge line octets frame shows is quiet room in
     let e = explained reads c longest v h own.sees in
     let read : frame_of (other c.role) c.longest octets ≡ Ok frame = ap (λ n. frame_of (other c.role) n octets) longest ∙ shows.reads in
@@ -559,7 +562,7 @@ explained reads c longest w (Comes v line octets frame shows is quiet h) room =
       given = x.shown ∙ ap (more frame) e.given;
       knows = x.knows;
     }
-explained reads c longest w (Fails v line octets damage broken quiet h) room = absurd damage
+explained reads c longest w (Fails v line octets damage broken quiet lags h) room = absurd damage
 
 pub silence_means_order : ReadsWhatIsSpelled → OnAnySilentTape KeepsOrder → SilenceMeansOrder
 silence_means_order reads order c low high longest w silent room once =
@@ -620,7 +623,7 @@ either Dce Dce = inl refl
 
 kept : ReadsWhatIsSpelled → (from : Role) (j : Judge) (lines : List (List ℕ)) → IsQuiet j lines → (own_of from j).set.is_blind ≡ false
     → Kept from j lines
-kept reads from j lines (Starts k up small) room = record { p = fresh_peer; kept = Fresh; knows = begun_knows j from (up from) }
+kept reads from j lines (Starts k up small) room = record { p = fresh_peer; kept = Fresh; knows = begun_knows j from (up from) room }
 kept reads from k all (Follows j lines line end octets frame shows is quiet h) room =
     let so_far : ((own_of from j).set.is_blind ≡ false → Kept from j lines) = λ sees. kept reads from j lines h sees in
     elim (either from end) [

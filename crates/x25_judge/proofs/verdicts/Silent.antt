@@ -1,6 +1,6 @@
 -- Places of an end each of which stands no better than one session, in which all is heard and taken as it is shown: what
 -- it sends with a number is what the session allows.
-use Rattle.std.proofs.Common.{◌≡◌, inl, inr, ◌+◌, arith, Bool, true, false, List, [], ◌∷◌, ◌++◌, Some, None, Option, refl, sym, ap, ◌∙◌, subst}
+use Rattle.std.proofs.Common.{◌≡◌, inl, inr, arith, Bool, true, false, List, [], ◌∷◌, ◌++◌, Some, None, Option, refl, sym, ap, ◌∙◌, subst}
 use Rattle.std.specs.Prelude.{if◌then◌else◌}
 use Rattle.std.proofs.lemmas.Bool.{both_ways, cond_both}
 use Rattle.std.proofs.lemmas.Option.{none-some, cond_some}

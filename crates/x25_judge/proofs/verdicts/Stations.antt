@@ -1,5 +1,6 @@
 -- A station of ours keeps the rules, whatever the other end and the line do.
-use Rattle.std.proofs.Common.{◌≡◌, ℕ, ◌+◌, ◌≤◌, List, [], ◌∷◌, ◌++◌, inl, length, Bool, true, false, Some, Result, Ok, Err, refl, sym, ap, ◌∙◌, subst, arith}
+use Rattle.std.proofs.Common.{◌≡◌, ℕ, ◌+◌, ◌<◌, ◌≤◌, le_trans, List, [], ◌∷◌, ◌++◌, inl, length, Bool, true, false, Option, Some, None, Result, Ok, Err, refl, sym, ap, ◌∙◌, subst, arith}
+use Rattle.std.proofs.lemmas.List.{length-append}
 use Rattle.std.specs.List.{slice_get}
 use Rattle.std.proofs.lemmas.Option.{same_Some, slice_get_within}
 use Rattle.x25_decode.specs.Decoding.{n1}
@@ -20,21 +21,23 @@ use Rattle.x25_line.proofs.StationRuns.{noted_before}
 use Rattle.x25_line.proofs.StationSays.{MayDo}
 use Rattle.x25_line.proofs.StationSends.{AllWithin, within_push, item_at}
 use Rattle.x25_judge.specs.declared.judge.Judge.{Judge}
-use Rattle.x25_judge.specs.laws.Keeping.{MaySend, MayBe, Begins as first, Sends, Shown, Fails as Missed}
+use Rattle.x25_judge.specs.laws.Keeping.{MayBe, Begins as first, Sends, Shown, Fails as Missed}
+use Rattle.x25_judge.specs.laws.Session.{Way}
 use Rattle.x25_judge.specs.laws.VerdictClaims.{NoInnocentIsAccused, NoStationIsAccused}
-use Rattle.x25_judge.specs.laws.Watching.{Watched, our_end, IsAny, Begins, Acts, Says, Comes, Fails}
-use Rattle.x25_judge.proofs.verdicts.Lag.{Did, did_nothing, was_given, said, freed, comes_behind, front, OnLine, empty, one_more, one_more_damaged, one_lost, one_damaged, taken}
+use Rattle.x25_judge.specs.laws.Watching.{Watched, our_end, IsAny, Begins, Acts, Rests, Says, Comes, Fails}
+use Rattle.x25_judge.proofs.verdicts.Lag.{Did, did_nothing, was_given, said, freed, comes_behind, front, at_front, OnLine, empty, one_more, one_more_damaged, one_lost, one_damaged, taken, all_lost}
 
-module _ (c : Settings) (longest : c.longest ≡ n1) (j : Judge) where
+module _ (c : Settings) (longest : c.longest ≡ n1) (j : Judge) (since : ℕ) where
   -- the trace, and how far the end is ahead of it
   pub record OnTrace (os : List (List ℕ)) (p : Peer) (out : List (List ℕ)) : Type 0 where
     pub before : Peer
-    pub way : List PlainFrame
+    pub way : Way
     pub may : MayBe c.role j before way
-    pub left : List PlainFrame
+    pub left : Way
     pub did : Did c.role before way p left out
     pub line : OnLine (other c.role) left os
     pub within : AllWithin c.longest p.given
+    pub few : length way ≤ since
 
   room : (p : Peer) (n : ℕ) (packet : List ℕ) → slice_get p.given n ≡ Some packet → AllWithin c.longest p.given → length packet ≤ 65536
   room p n packet is within =
@@ -55,7 +58,7 @@ module _ (c : Settings) (longest : c.longest ≡ n1) (j : Judge) where
   same_given p q (Err BadAddress) may = ap (λ (z : Peer). z.given) may
   same_given p q (Err e) may = absurd may.0
 
-  sends : (before p q : Peer) (way left : List PlainFrame) (out : List (List ℕ)) (octets : List ℕ) (r : Result PlainFrame FrameError) → frame_of c.role n1 octets ≡ r → once.MaySend ⊥ p r q → q.sent ≤ p.sent + 1
+  sends : (before p q : Peer) (way left : Way) (out : List (List ℕ)) (octets : List ℕ) (r : Result PlainFrame FrameError) → frame_of c.role n1 octets ≡ r → once.MaySend ⊥ p r q → q.sent ≤ p.sent + 1
       → AllWithin c.longest p.given → Did c.role before way p left out → Did c.role before way q left (out ++ octets ∷ [])
   sends before p q way left out octets (Ok (info ns nr pf x)) read may next within d =
       let number = may.2 in
@@ -80,6 +83,7 @@ module _ (c : Settings) (longest : c.longest ≡ n1) (j : Judge) where
       did = was_given p h.left out packet h.did;
       line = h.line;
       within = within_push c.longest p.given packet h.within short;
+      few = h.few;
     };
     sends = λ os p q out octets may next h. record {
       before = h.before;
@@ -89,6 +93,7 @@ module _ (c : Settings) (longest : c.longest ≡ n1) (j : Judge) where
       did = sends h.before p q h.way h.left out octets (frame_of c.role n1 octets) refl (subst (λ (n : ℕ). once.MaySend ⊥ p (frame_of c.role n octets) q) longest may) next h.within h.did;
       line = h.line;
       within = subst (AllWithin c.longest) (sym (same_given p q (frame_of c.role c.longest octets) may)) h.within;
+      few = h.few;
     };
     hears = λ o os p q out may h.
         (let t = taken c.role h.before p h.way h.left o (o ∷ os) os out refl h.line h.did in
@@ -100,8 +105,9 @@ module _ (c : Settings) (longest : c.longest ≡ n1) (j : Judge) where
           did = t.did q (subst (λ (n : ℕ). MayHear p (frame_of (other c.role) n o) q) longest may);
           line = t.on_line;
           within = subst (AllWithin c.longest) (sym (heard_given p q (frame_of (other c.role) c.longest o) may)) h.within;
+          few = h.few;
         });
-    loses = λ os p out i h. record { before = h.before; way = h.way; may = h.may; left = h.left; did = h.did; line = one_lost (other c.role) h.left os i h.line; within = h.within };
+    loses = λ os p out i h. record { before = h.before; way = h.way; may = h.may; left = h.left; did = h.did; line = one_lost (other c.role) h.left os i h.line; within = h.within; few = h.few };
     damages = λ os p out i octets visible h. record {
       before = h.before;
       way = h.way;
@@ -110,6 +116,7 @@ module _ (c : Settings) (longest : c.longest ≡ n1) (j : Judge) where
       did = h.did;
       line = one_damaged (other c.role) h.left os i octets visible h.line;
       within = h.within;
+      few = h.few;
     };
     faultless = λ o os p out ending h never. never;
   }
@@ -133,20 +140,26 @@ module _ (c : Settings) (longest : c.longest ≡ n1) (j : Judge) where
 
 -- ---- traces
 
+timely : (way : Way) (since : ℕ) → length way ≤ since → since < 64 → length way < 64
+timely way since few less = omega (arith, few, less)
+
+one_longer : (way : Way) (what : Option PlainFrame) (since : ℕ) → length way ≤ since → length (way ++ what ∷ []) ≤ since + 1
+one_longer way what since few = let e = length-append way (what ∷ []) in omega (arith, e, few)
+
 module _ (c : Settings) (high : c.window ≤ 7) (longest : c.longest ≡ n1) (reads : ReadsSpelled) (laws : Laws) (hands : EachEventHandsOne) where
   abbrev Watches : Watched → Type 0
-  Watches w = Seen c ⊥ (OnTrace c longest w.judge) (our_end w)
+  Watches w = Seen c ⊥ (OnTrace c longest w.judge w.since) (our_end w)
 
   -- the same station, and more of the trace
-  moved : (w : Watched) (h : Watches w) (judge : Judge) (shown out back : List (List ℕ)) → OnTrace c longest judge back h.peer out → Watches (record { judge = judge; near = w.near; shown = shown; out = out; back = back })
-  moved w h judge shown out back reached =
+  moved : (w : Watched) (h : Watches w) (judge : Judge) (shown out back : List (List ℕ)) (since : ℕ) → OnTrace c longest judge since back h.peer out → Watches (record { judge = judge; near = w.near; shown = shown; out = out; back = back; since = since })
+  moved w h judge shown out back since reached =
       record { peer = h.peer; reached = reached; fits = h.fits; room = h.room; told = h.told; within = h.within; down = h.down; up = h.up; fine = λ never. absurd never }
 
   watched : (w : Watched) → IsAny c w → w.near.came_up ≡ false → Watches w
   watched w (Begins j up any) once =
       record {
         peer = fresh_peer;
-        reached = record { before = fresh_peer; way = []; may = first j up; left = []; did = did_nothing; line = empty; within = tt };
+        reached = record { before = fresh_peer; way = []; may = first j up; left = []; did = did_nothing; line = empty; within = tt; few = omega arith };
         fits = inl (record { up = refl; sound = record { place_low = omega arith; place_high = omega arith; sent_high = omega arith; room = omega arith }; same = refl });
         room = omega arith;
         told = omega arith;
@@ -157,45 +170,61 @@ module _ (c : Settings) (high : c.window ≤ 7) (longest : c.longest ≡ n1) (re
       }
   watched w (Acts v act h) once =
       let one : HandsOne act (our_end v) (acts c act (our_end v)) = hands c c (Near act) (our_end v) in
-      let k = peer_acts c high reads laws ⊥ (OnTrace c longest v.judge) (trace_may c longest v.judge) act (our_end v)
+      let k = peer_acts c high reads laws ⊥ (OnTrace c longest v.judge v.since) (trace_may c longest v.judge v.since) act (our_end v)
       (watched v h (noted_before act v.near.came_up (acts c act (our_end v)).near.came_up one.came_up once)) once in
       record { peer = k.peer; reached = k.reached; fits = k.fits; room = k.room; told = k.told; within = k.within; down = k.down; up = k.up; fine = k.fine }
+  watched w (Rests v out back h) once =
+      let k = watched v h once in
+      let r = k.reached in
+      moved v k v.judge v.shown v.out v.back 0
+      (record {
+        before = k.peer;
+        way = [];
+        may = all_lost c.role (other c.role) v.judge k.peer r.left v.back back r.line (at_front c.role v.judge r.before r.way k.peer r.left v.out out r.did r.may);
+        left = [];
+        did = subst (λ (o : List (List ℕ)). Did c.role k.peer [] k.peer [] o) (sym out) did_nothing;
+        line = subst (λ (o : List (List ℕ)). OnLine (other c.role) [] o) (sym back) empty;
+        within = r.within;
+        few = omega arith;
+      })
   watched w (Says v line octets frame rest out shows is passes h) once =
       let k = watched v h once in
       let r = k.reached in
       let f = front c.role v.judge r.before r.way octets frame shows.reads is r.may k.peer r.left v.out rest out r.did in
-      moved v k w.judge v.shown rest v.back
-      (record { before = f.after; way = f.on_way; may = Sends v.judge f.before f.after f.on_way line octets frame shows f.sends f.may; left = r.left; did = f.did; line = r.line; within = r.within })
-  watched w (Comes v line octets frame shows is passes h) once =
+      moved v k w.judge v.shown rest v.back v.since
+      (record { before = f.after; way = f.on_way; may = Sends v.judge f.before f.after f.on_way line octets frame shows f.sends f.may; left = r.left; did = f.did; line = r.line; within = r.within; few = le_trans f.few r.few })
+  watched w (Comes v line octets frame shows is passes lags h) once =
       let k = watched v h once in
       let r = k.reached in
-      moved v k w.judge w.shown v.out (v.back ++ octets ∷ [])
+      moved v k w.judge w.shown v.out (v.back ++ octets ∷ []) (v.since + 1)
       (record {
         before = r.before;
-        way = r.way ++ frame ∷ [];
-        may = Shown v.judge r.before r.way line octets frame shows is r.may;
-        left = r.left ++ frame ∷ [];
-        did = comes_behind c.role r.before r.way k.peer r.left v.out frame r.did;
+        way = r.way ++ Some frame ∷ [];
+        may = Shown v.judge r.before r.way line octets frame shows is (timely r.way v.since r.few lags) r.may;
+        left = r.left ++ Some frame ∷ [];
+        did = comes_behind c.role r.before r.way k.peer r.left v.out (Some frame) r.did;
         line = one_more (other c.role) r.left v.back frame octets shows.reads r.line;
         within = r.within;
+        few = one_longer r.way (Some frame) v.since r.few;
       })
-  watched w (Fails v line octets damage broken passes h) once =
+  watched w (Fails v line octets damage broken passes lags h) once =
       let k = watched v h once in
       let r = k.reached in
-      moved v k w.judge v.shown v.out (v.back ++ octets ∷ [])
+      moved v k w.judge v.shown v.out (v.back ++ octets ∷ []) (v.since + 1)
       (record {
         before = r.before;
-        way = r.way;
-        may = Missed v.judge r.before r.way line octets broken r.may;
-        left = r.left;
-        did = r.did;
+        way = r.way ++ None ∷ [];
+        may = Missed v.judge r.before r.way line octets None broken (timely r.way v.since r.few lags) r.may;
+        left = r.left ++ None ∷ [];
+        did = comes_behind c.role r.before r.way k.peer r.left v.out None r.did;
         line = one_more_damaged (other c.role) r.left v.back octets broken.visible r.line;
         within = r.within;
+        few = one_longer r.way None v.since r.few;
       })
 
 pub no_station_is_accused : ReadsSpelled → Laws → EachEventHandsOne → NoInnocentIsAccused → NoStationIsAccused
-no_station_is_accused reads laws hands innocent c high longest w any room once line octets frame rest out shows is =
+no_station_is_accused reads laws hands innocent c high longest w any once line octets frame rest out shows is =
     let k = watched c high longest reads laws hands w any once in
     let r = k.reached in
     let f = front c.role w.judge r.before r.way octets frame shows.reads is r.may k.peer r.left w.out rest out r.did in
-    innocent c.role w.judge f.before f.after f.on_way line octets frame f.may room shows f.sends
+    innocent c.role w.judge f.before f.after f.on_way line octets frame f.may shows f.sends

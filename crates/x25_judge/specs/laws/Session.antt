@@ -46,7 +46,6 @@ are_new way (q ∷ qs) = is_new (comes (drop q.at way) q.stand) && are_new way q
 pub record IsBegun (j : Judge) (from : Role) : Type 0 where
   pub up : begins_anywhere (own_of from j).set.way.items (own_of from j).set.spots.items ≡ true
   pub new : are_new (own_of from j).set.way.items (own_of from j).set.spots.items ≡ true
-  pub room : (own_of from j).set.is_blind ≡ false
   pub octets : length (own_of from j).held.octets ≡ 8
   pub known : length (own_of from j).held.known ≡ 8
 
@@ -88,6 +87,15 @@ IsNumbered (rr command nr pf) = Unit {0}
 IsNumbered (rnr command nr pf) = Unit {0}
 IsNumbered (rej command nr pf) = Unit {0}
 IsNumbered frame = ⊥
+
+-- ---- what is on the way to an end, front first: frames, and damaged octets, which say nothing
+
+abbrev pub Way : Type 0
+Way = List (Option PlainFrame)
+
+-- nothing comes behind which 64 lines more were shown
+abbrev pub IsTimely : Way → Type 0
+IsTimely way = length way < 64
 
 -- it is a response with F=1, but for UA
 abbrev pub is_final : PlainFrame → Bool

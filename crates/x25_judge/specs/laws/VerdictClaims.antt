@@ -25,30 +25,28 @@ use Rattle.x25_judge.specs.laws.Explaining.{IsQuiet, IsKept, IsUntold, Carries}
 use Rattle.x25_judge.specs.laws.Keeping.{MaySend, MayBe}
 use Rattle.x25_judge.specs.laws.Sessions.{MaySay, MayStand}
 use Rattle.x25_judge.specs.laws.Session.{IsBegun, Shows, IsNumbered, has_answer, has_number, is_final, is_of_order}
-use Rattle.x25_judge.specs.laws.Session.{is_up, rule_of}
+use Rattle.x25_judge.specs.laws.Session.{is_up, rule_of, Way}
 use Rattle.x25_judge.specs.laws.Tapes.{IsTape}
 use Rattle.x25_judge.specs.laws.Watching.{Watched, IsSilent, IsAny}
 use Rattle.x25_packet_judge.specs.Numbers.{apart}
 
--- no rule of order is told of what an end sends that keeps the rules, where there is room
+-- no rule of order is told of what an end sends that keeps the rules
 abbrev pub NoInnocentIsAccused : Type 0
 NoInnocentIsAccused =
-    (from : Role) (j : Judge) (p q : Peer) (way : List PlainFrame) (line octets : List ℕ) (frame : PlainFrame)
-    → MayBe from j p way → (own_of from j).set.is_blind ≡ false → Shows line from octets frame → MaySend p frame q
-    → is_of_order (rule_of j from frame) ≡ false
+    (from : Role) (j : Judge) (p q : Peer) (way : Way) (line octets : List ℕ) (frame : PlainFrame) → MayBe from j p way
+    → Shows line from octets frame → MaySend p frame q → is_of_order (rule_of j from frame) ≡ false
 
 -- nor over any number of set-ups
 abbrev pub NoSessionIsAccused : Type 0
 NoSessionIsAccused =
-    (from : Role) (j : Judge) (stand next : Stand) (p q : Peer) (way rest : List PlainFrame) (line octets : List ℕ)
-    (frame : PlainFrame) → MayStand from j stand p way → (own_of from j).set.is_blind ≡ false
-    → Shows line from octets frame → MaySay stand p way frame next q rest → is_of_order (rule_of j from frame) ≡ false
+    (from : Role) (j : Judge) (stand next : Stand) (p q : Peer) (way rest : Way) (line octets : List ℕ)
+    (frame : PlainFrame) → MayStand from j stand p way → Shows line from octets frame
+    → MaySay stand p way frame next q rest → is_of_order (rule_of j from frame) ≡ false
 
 -- nor of a station of ours, whatever the other end and the line do, as long as it isn't set up anew
 abbrev pub NoStationIsAccused : Type 0
 NoStationIsAccused =
-    (c : Settings) → c.window ≤ 7 → c.longest ≡ n1 → (w : Watched) → IsAny c w
-    → (own_of c.role w.judge).set.is_blind ≡ false → w.near.came_up ≡ false
+    (c : Settings) → c.window ≤ 7 → c.longest ≡ n1 → (w : Watched) → IsAny c w → w.near.came_up ≡ false
     → (line octets : List ℕ) (frame : PlainFrame) (rest : List (List ℕ)) → w.out ≡ octets ∷ rest
     → Shows line c.role octets frame → IsNumbered frame → is_of_order (rule_of w.judge c.role frame) ≡ false
 

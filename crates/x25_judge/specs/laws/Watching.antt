@@ -1,5 +1,5 @@
 -- A trace taken in front of a station, beside an end that may be any, line by line.
-use Rattle.std.specs.Prelude.{◌≡◌, ℕ, ◌%◌, ◌==◌, ◌≤◌, false, List, [], ◌∷◌, ◌++◌, length, if◌then◌else◌}
+use Rattle.std.specs.Prelude.{◌≡◌, ℕ, ◌+◌, ◌%◌, ◌==◌, ◌<◌, ◌≤◌, false, List, [], ◌∷◌, ◌++◌, length, if◌then◌else◌}
 use Rattle.x25_frame.specs.Frame.{PlainFrame, info}
 use Rattle.x25_judge.specs.Judge.{answer_to}
 use Rattle.x25_judge.specs.declared.judge.Judge.{Judge}
@@ -8,23 +8,24 @@ use Rattle.x25_link.specs.Hearing.{other}
 use Rattle.x25_link.specs.Station.{Settings}
 use Rattle.x25_judge.specs.laws.Session.{IsSetUp, Shows, IsDamaged, IsNumbered}
 
--- The judge, the station, what the I frames of the other end carried, each number once, and the octets between the tape
--- and the station, front first.
+-- The judge, the station, what the I frames of the other end carried, each number once, the octets between the tape and
+-- the station, front first, and how many of the other end were shown since there were none.
 pub record Watched : Type 0 where
   pub judge : Judge
   pub near : StationEnd
   pub shown : List (List ℕ)
   pub out : List (List ℕ)
   pub back : List (List ℕ)
+  pub since : ℕ
 
 abbrev pub watched_from : Judge → Watched
-watched_from j = record { judge = j; near = fresh_station; shown = []; out = []; back = [] }
+watched_from j = record { judge = j; near = fresh_station; shown = []; out = []; back = []; since = 0 }
 
 abbrev pub our_end : Watched → Stations
 our_end w = record { near = w.near; far = fresh_station; out = w.out; back = w.back; sent = [] }
 
 abbrev pub acted : Watched → Stations → Watched
-acted w v = record { judge = w.judge; near = v.near; shown = w.shown; out = v.out; back = v.back }
+acted w v = record w { near = v.near; out = v.out; back = v.back }
 
 -- the next number for the first time
 abbrev pub more : PlainFrame → List (List ℕ) → List (List ℕ)
@@ -32,39 +33,44 @@ more (info ns nr pf packet) shown = if ns == length shown % 8 then shown ++ pack
 more frame shown = shown
 
 -- from a judge on that may begin it, and each of its lines as `Passes` has it; where `Damage` holds, lines of the other
--- end may be damaged
-pub data IsWatched (MayBegin : Judge → Type 0) (Passes : Judge → List ℕ → Type 0) (Damage : Type 0) (c : Settings)
-    : Watched → Type 0 where
+-- end may be damaged, and where `MayLag` does of how many there were, one more may be shown
+pub data IsWatched (MayBegin : Judge → Type 0) (Passes : Judge → List ℕ → Type 0) (Damage : Type 0)
+    (MayLag : ℕ → Type 0) (c : Settings) : Watched → Type 0 where
   -- the trace has shown a set-up
-  Begins : (j : Judge) → IsSetUp j → MayBegin j → IsWatched MayBegin Passes Damage c (watched_from j)
+  Begins : (j : Judge) → IsSetUp j → MayBegin j → IsWatched MayBegin Passes Damage MayLag c (watched_from j)
   -- the station acts; or octets are lost or damaged between the tape and the station
-  Acts : (w : Watched) (act : Act) → IsWatched MayBegin Passes Damage c w
-      → IsWatched MayBegin Passes Damage c (acted w (acts c act (our_end w)))
+  Acts : (w : Watched) (act : Act) → IsWatched MayBegin Passes Damage MayLag c w
+      → IsWatched MayBegin Passes Damage MayLag c (acted w (acts c act (our_end w)))
+  -- nothing is between the tape and the station
+  Rests : (w : Watched) → w.out ≡ [] → w.back ≡ [] → IsWatched MayBegin Passes Damage MayLag c w
+      → IsWatched MayBegin Passes Damage MayLag c (record w { since = 0 })
   -- octets of the station are on the tape
   Says : (w : Watched) (line octets : List ℕ) (frame : PlainFrame) (rest : List (List ℕ)) → w.out ≡ octets ∷ rest
       → Shows line c.role octets frame → IsNumbered frame → Passes w.judge line
-      → IsWatched MayBegin Passes Damage c w
-      → IsWatched MayBegin Passes Damage c (record w { judge = (answer_to w.judge line).next; out = rest })
+      → IsWatched MayBegin Passes Damage MayLag c w
+      → IsWatched MayBegin Passes Damage MayLag c (record w { judge = (answer_to w.judge line).next; out = rest })
   -- octets of the other end are
   Comes : (w : Watched) (line octets : List ℕ) (frame : PlainFrame) → Shows line (other c.role) octets frame
-      → IsNumbered frame → Passes w.judge line → IsWatched MayBegin Passes Damage c w
-      → IsWatched MayBegin Passes Damage c (record w {
+      → IsNumbered frame → Passes w.judge line → MayLag w.since → IsWatched MayBegin Passes Damage MayLag c w
+      → IsWatched MayBegin Passes Damage MayLag c (record w {
         judge = (answer_to w.judge line).next;
         shown = more frame w.shown;
         back = w.back ++ octets ∷ [];
+        since = w.since + 1;
       })
   -- they are, and are damaged
   Fails : (w : Watched) (line octets : List ℕ) → Damage → IsDamaged line (other c.role) octets → Passes w.judge line
-      → IsWatched MayBegin Passes Damage c w
-      → IsWatched MayBegin Passes Damage c (record w {
+      → MayLag w.since → IsWatched MayBegin Passes Damage MayLag c w
+      → IsWatched MayBegin Passes Damage MayLag c (record w {
         judge = (answer_to w.judge line).next;
         back = w.back ++ octets ∷ [];
+        since = w.since + 1;
       })
 
 -- nothing is told of either end, no line is damaged, and at most seven I frames may be unacknowledged
 abbrev pub IsSilent : Settings → Watched → Type 0
-IsSilent = IsWatched (λ j. j.window ≤ 7) (λ j line. (answer_to j line).is_faulty ≡ false) ⊥
+IsSilent = IsWatched (λ j. j.window ≤ 7) (λ j line. (answer_to j line).is_faulty ≡ false) ⊥ (λ n. Unit {0})
 
--- whatever is told
+-- Whatever is told. Of any 64 lines of the other end nothing is between the tape and the station behind one of them.
 abbrev pub IsAny : Settings → Watched → Type 0
-IsAny = IsWatched (λ j. Unit {0}) (λ j line. Unit {0}) (Unit {0})
+IsAny = IsWatched (λ j. Unit {0}) (λ j line. Unit {0}) (Unit {0}) (λ n. n < 64)

@@ -2,10 +2,9 @@
 -- 16 places: None where there is no room, or a number is too large.
 use Rattle.std.specs.Prelude.{ℕ, ◌+◌, ◌-◌, ◌^◌, ◌<◌, ◌==◌, nat_lt, nat_le, Bool, true, false, not, ◌&&◌, ◌||◌}
 use Rattle.std.specs.Prelude.{if◌then◌else◌, List, [], ◌∷◌, ◌++◌, length, drop, take, map, Option, Some, None}
-use Rattle.arrayvec.specs.ArrayVec.{ArrayVec}
 use Rattle.x25_possible.specs.laws.Possible.{Item, Own, Other}
 use Rattle.x25_possible.specs.Channel.{nth}
-use Rattle.x25_possible_links.specs.laws.Link.{counts, fresh, is_asking}
+use Rattle.x25_possible_links.specs.laws.Link.{counts, fresh, is_asking, may_answer}
 use Rattle.x25_possible_links.specs.laws.Places.{is_plain, least_of, number_of, onward, sends, upward}
 use Rattle.x25_possible_links.specs.declared.frame.Frame.{Frame}
 use Rattle.x25_possible_links.specs.declared.frame.Frame.TheVariants.{Info, Ready, Sabm, Disc, Ua, Unread, Before}
@@ -98,10 +97,6 @@ kept spot out =
 abbrev pub made : Bool → List Spot → Option (List Spot)
 made b out = if b then Some out else None
 
-abbrev pub listed : Option (ArrayVec Spot) → Option (List Spot)
-listed None = None
-listed (Some v) = Some v.items
-
 abbrev pub and_then : Option (List Spot) → (List Spot → Option (List Spot)) → Option (List Spot)
 and_then None f = None
 and_then (Some out) f = f out
@@ -109,12 +104,18 @@ and_then (Some out) f = f out
 abbrev pub spot_at : ℕ → Stand → Spot
 spot_at n s = record { stand = s; at = n }
 
--- with so much of the way in front of it
+-- with so much of the way in front of it: it makes the best of what it loses nothing by
+abbrev pub best : ℕ → List Frame → Stand → Option Spot
+best n [] s = if is_large s then None else Some (spot_at n s)
+best n (x ∷ rest) s =
+    if is_large s then None else if is_plain s x then best (n + 1) rest (onward s x) else Some (spot_at n s)
+
+abbrev pub kept_by : Option Spot → List Spot → Option (List Spot)
+kept_by None out = None
+kept_by (Some spot) out = kept spot out
+
 abbrev pub settles : ℕ → List Frame → Stand → List Spot → Option (List Spot)
-settles n [] s out = if is_large s then None else kept (spot_at n s) out
-settles n (x ∷ rest) s out =
-    if is_large s then None
-    else if is_plain s x then settles (n + 1) rest (onward s x) out else kept (spot_at n s) out
+settles n way s out = kept_by (best n way s) out
 
 -- of each of these
 abbrev pub all_of : (Spot → List Spot → Option (List Spot)) → List Spot → List Spot → Option (List Spot)
@@ -167,12 +168,18 @@ abbrev pub come : List Frame → Stand → Stand
 come [] s = if is_large s then Free else s
 come (x ∷ way) s = if is_large s then Free else come way (upward s x)
 
--- where so many have come, the front of the way
-abbrev pub hurry_at : ℕ → List Frame → Spot → List Spot → Option (List Spot)
-hurry_at n front q out = kept (spot_at (q.at - n) (come (drop q.at front) q.stand)) out
+-- whatever it makes of what comes: UA may be passed over
+abbrev pub pressed : Stand → Frame → Stand
+pressed Asking x = if may_answer x then Free else Asking
+pressed s x = onward s x
 
-abbrev pub hurry_all : ℕ → List Frame → List Spot → List Spot → Option (List Spot)
-hurry_all n front qs out = all_of (hurry_at n front) qs out
+abbrev pub rushed : List Frame → Stand → Stand
+rushed [] s = if is_large s then Free else s
+rushed (x ∷ way) s = if is_large s then Free else rushed way (pressed s x)
+
+-- where so many have come, the front of the way
+abbrev pub hurried : ℕ → List Frame → Spot → Spot
+hurried n front q = spot_at (q.at - n) (rushed (drop q.at front) q.stand)
 
 -- past what comes, where octets that spell no frame were none
 abbrev pub passed : Stand → Frame → Stand
@@ -207,17 +214,23 @@ agree n way (q ∷ qs) = has_sent n (come (drop q.at way) q.stand) && agree n wa
 
 -- ---- as the other end sends one, and where less is on the way
 
-abbrev pub grows : ℕ → List Frame → Spot → List Spot → Option (List Spot)
-grows last way q out = if nat_le q.at last then settles q.at (drop q.at way) q.stand out else None
+abbrev pub grown : ℕ → List Frame → Spot → Option Spot
+grown last way q = if nat_le q.at last then best q.at (drop q.at way) q.stand else None
 
-abbrev pub grow_all : ℕ → List Frame → List Spot → List Spot → Option (List Spot)
-grow_all last way qs out = all_of (grows last way) qs out
+abbrev pub with_first : Option Spot → Option (List Spot) → Option (List Spot)
+with_first None o = None
+with_first (Some q) None = None
+with_first (Some q) (Some qs) = Some (q ∷ qs)
 
-abbrev pub shift_at : ℕ → Spot → List Spot → Option (List Spot)
-shift_at n q out = kept (spot_at (q.at - n) q.stand) out
+abbrev pub each_of : (Spot → Option Spot) → List Spot → Option (List Spot)
+each_of f [] = Some []
+each_of f (q ∷ qs) = with_first (f q) (each_of f qs)
 
-abbrev pub shift_all : ℕ → List Spot → List Spot → Option (List Spot)
-shift_all n qs out = all_of (shift_at n) qs out
+abbrev pub grow_all : ℕ → List Frame → List Spot → Option (List Spot)
+grow_all last way qs = each_of (grown last way) qs
+
+abbrev pub shifted : ℕ → Spot → Spot
+shifted n q = spot_at (q.at - n) q.stand
 
 abbrev pub least : List Spot → ℕ → ℕ
 least [] n = n
@@ -235,10 +248,6 @@ set_as s way spots = record { way = record { items = way }; spots = record { ite
 abbrev pub unknown : LinkSet
 unknown = set_of (Before ∷ []) (spot_at 0 Free ∷ [])
 
--- where there was no room once, nothing is claimed of what is told
-abbrev pub blind : LinkSet
-blind = record { way = unknown.way; spots = unknown.spots; is_blind = true }
-
 abbrev pub is_free : Stand → Bool
 is_free Free = true
 is_free s = false
@@ -250,15 +259,15 @@ are_known (q ∷ qs) = not (is_free q.stand) && are_known qs
 abbrev pub is_known : LinkSet → Bool
 is_known s = are_known s.spots.items
 
-abbrev pub shifted_to : ℕ → Option (List Spot) → LinkSet → LinkSet
-shifted_to n None s = s
-shifted_to n (Some qs) s = set_as s (drop n s.way.items) qs
+-- how much has come to all
+abbrev pub came : LinkSet → ℕ
+came s = least s.spots.items (length s.way.items)
 
 abbrev pub trimmed_by : ℕ → LinkSet → LinkSet
-trimmed_by n s = if n == 0 then s else shifted_to n (shift_all n s.spots.items []) s
+trimmed_by n s = if n == 0 then s else set_as s (drop n s.way.items) (map (shifted n) s.spots.items)
 
 abbrev pub trimmed : LinkSet → LinkSet
-trimmed s = trimmed_by (least s.spots.items (length s.way.items)) s
+trimmed s = trimmed_by (came s) s
 
 -- how much on the way can't be read
 abbrev pub unread : List Frame → ℕ
@@ -307,20 +316,24 @@ telling told s = record { set = s; told = told }
 abbrev pub standing : List Spot → LinkSet → LinkSet
 standing qs s = trimmed (set_as s s.way.items qs)
 
--- it may be anywhere from where the least has come on
-abbrev pub astray : LinkSet → LinkSet
-astray s = standing (spot_at (least s.spots.items (length s.way.items)) Free ∷ []) s
+-- it may be anywhere from there on
+abbrev pub astray : ℕ → LinkSet → LinkSet
+astray n s = standing (spot_at n Free ∷ []) s
+
+-- there is no room
+abbrev pub lost : ℕ → LinkSet → LinkSet
+lost n s = astray n (record s { is_blind = true })
 
 abbrev pub broken_by : Option (List Spot) → LinkSet → LinkSet
-broken_by None s = blind
-broken_by (Some qs) s = if length qs == 0 then astray s else standing qs s
+broken_by None s = lost (came s) s
+broken_by (Some qs) s = if length qs == 0 then astray (came s) s else standing qs s
 
 -- numbers go on from a frame that breaks a rule; where none do, nothing is known
 abbrev pub broken : Frame → LinkSet → LinkSet
 broken x s = broken_by (walk_all Wrong x s.way.items s.spots.items []) s
 
 abbrev pub skipped_by : Option (List Spot) → Stand → Frame → LinkSet → Stepped
-skipped_by None stand x s = telling (Broken stand) blind
+skipped_by None stand x s = telling (Broken stand) (lost (came s) s)
 skipped_by (Some qs) stand x s =
     if length qs == 0 then telling (Broken stand) (broken x s) else telling (Skips stand) (standing qs s)
 
@@ -333,7 +346,7 @@ abbrev pub unexplained : Frame → LinkSet → Stepped
 unexplained x s = unexplained_as (latest s.spots.items s.way.items) x s
 
 abbrev pub sent_to : Frame → Option (List Spot) → LinkSet → Stepped
-sent_to x None s = telling Nothing blind
+sent_to x None s = telling Nothing (lost (came s) s)
 sent_to x (Some qs) s = if length qs == 0 then unexplained x s else telling Nothing (standing qs s)
 
 -- the end sends a frame
@@ -341,25 +354,24 @@ abbrev pub sends_to : Frame → LinkSet → Stepped
 sends_to x s = sent_to x (walk_all Right x s.way.items s.spots.items []) s
 
 abbrev pub shown_to : LinkSet → List Frame → Option (List Spot) → LinkSet
-shown_to s way None = blind
+shown_to s way None = lost (came s) (set_as s way s.spots.items)
 shown_to s way (Some qs) = trimmed (set_as s way qs)
 
 abbrev pub extended : Frame → LinkSet → LinkSet
 extended x s =
-    shown_to s (s.way.items ++ x ∷ []) (grow_all (length s.way.items) (s.way.items ++ x ∷ []) s.spots.items [])
-
-abbrev pub hurried_to : Option (List Spot) → LinkSet → LinkSet
-hurried_to None s = blind
-hurried_to (Some qs) s =
-    record { way = record { items = drop 64 s.way.items }; spots = record { items = qs }; is_blind = true }
+    shown_to s (s.way.items ++ x ∷ []) (grow_all (length s.way.items) (s.way.items ++ x ∷ []) s.spots.items)
 
 -- the older half of a way that is full counts as come
-abbrev pub hurried : LinkSet → LinkSet
-hurried s = hurried_to (hurry_all 64 (take 64 s.way.items) s.spots.items []) s
+abbrev pub hastened : LinkSet → LinkSet
+hastened s = record {
+  way = record { items = drop 64 s.way.items };
+  spots = record { items = map (hurried 64 (take 64 s.way.items)) s.spots.items };
+  is_blind = true;
+}
 
 -- the other end sends one
 abbrev pub shows_to : Frame → LinkSet → LinkSet
-shows_to x s = extended x (if length s.way.items == 128 then hurried s else s)
+shows_to x s = extended x (if length s.way.items == 128 then hastened s else s)
 
 -- ---- over a tape, latest first
 

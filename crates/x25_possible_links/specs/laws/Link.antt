@@ -1,7 +1,7 @@
 -- The rules of an end of a link, as LAPB modulo 8 has them (ITU-T X.25 (10/96), sections 2.3.4, 2.4.4 and 2.4.5), and
 -- docs/PEER.md in words. Numbers are whole, and those of frames are these modulo 8.
-use Rattle.std.specs.Prelude.{◌≡◌, ℕ, ◌+◌, ◌-◌, ◌%◌, ◌==◌, nat_lt, nat_le, Bool, true, false, not, ◌&&◌, ◌||◌}
-use Rattle.std.specs.Prelude.{if◌then◌else◌, List, [], ◌∷◌, ◌++◌, Option, Some, None}
+use Rattle.std.specs.Prelude.{◌≡◌, ℕ, ◌+◌, ◌%◌, ◌==◌, nat_lt, nat_le, Bool, true, false, not, ◌&&◌, ◌||◌}
+use Rattle.std.specs.Prelude.{if◌then◌else◌, List, [], ◌∷◌, Option, Some, None}
 use Rattle.x25_possible.specs.Channel.{nth}
 use Rattle.x25_possible.specs.laws.Possible.{Rules, IsIn}
 use Rattle.x25_possible_links.specs.declared.frame.Frame.{Frame}

@@ -4,11 +4,10 @@ use Rattle.std.specs.Prelude.{ℕ, ◌-◌, Bool, true, false, if◌then◌else�
 use Rattle.std.specs.Prelude.{Some, None}
 use Rattle.x25_possible.specs.Channel.{nth}
 use Rattle.x25_possible.specs.laws.Possible.{Item, Own, Other, Place, at}
-use Rattle.x25_possible_links.specs.laws.Link.{asked, fresh, heard, is_asking, may_answer, sends_as}
+use Rattle.x25_possible_links.specs.laws.Link.{fresh, heard, is_asking, may_answer, sends_as}
 use Rattle.x25_possible_links.specs.declared.frame.Frame.{Frame}
 use Rattle.x25_possible_links.specs.declared.frame.Frame.TheVariants.{Info, Ready, Sabm, Disc, Ua, Dm, Frmr, Unread}
 use Rattle.x25_possible_links.specs.declared.frame.Frame.TheVariants.{Before}
-use Rattle.x25_possible_links.specs.declared.stand.Numbers.{Numbers}
 use Rattle.x25_possible_links.specs.declared.stand.Stand.{Stand}
 use Rattle.x25_possible_links.specs.declared.stand.Stand.TheVariants.{Out, Asking, Up, Free}
 

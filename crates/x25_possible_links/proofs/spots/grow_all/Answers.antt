@@ -1,21 +1,19 @@
-use Rattle.std.proofs.Common.{arith}
-use Rattle.x25_possible_links.specs.code.Steps.{grows}
-use Rattle.x25_possible_links.proofs.LoopLemmas.{next_made, not_made, all_made}
+use Rattle.std.proofs.Common.{arith, sym, ◌∙◌}
+use Rattle.x25_possible_links.specs.code.Steps.{grown}
+use Rattle.x25_possible_links.proofs.LoopLemmas.{each_more, each_none, each_all}
 use Rattle.x25_possible_links.proofs.spots.grow_all.Goals as goal
+
+pub returns-in-None : goal.returns-in-None
+returns-in-None c =
+    each_none (grown c.args.last c.args.way.now) c.loop-spot.spot-index c.loop-spot.spots c.args.spots.now _ (omega arith)
+    (sym c.in-None.is ∙ c.grown.ensures) c.loop-spot.invariant
 
 pub loop-spot-preserved : goal.loop-spot-preserved
 loop-spot-preserved c =
-    next_made (grows c.args.last c.args.way.now) c.args.spots.now c.loop-spot.spot-index _
-    c.args.out.now.items c.loop-spot.out.items c.grows.new.out.items c.grows.result c.loop-spot-test.true c.loop-spot.invariant
-    c.grows.ensures c.if-not-grows.false
-
-pub returns-then-not-grows : goal.returns-then-not-grows
-returns-then-not-grows c =
-    not_made (grows c.args.last c.args.way.now) c.args.spots.now c.loop-spot.spot-index _
-    c.args.out.now.items c.loop-spot.out.items c.grows.new.out.items c.grows.result c.loop-spot-test.true c.loop-spot.invariant
-    c.grows.ensures c.if-not-grows.true
+    each_more (grown c.args.last c.args.way.now) c.loop-spot.spot-index c.loop-spot.spots c.args.spots.now _ c.in-Some.next
+    (omega arith) (sym c.in-Some.is ∙ c.grown.ensures) c.loop-spot.invariant
 
 pub returns : goal.returns
 returns c =
-    all_made (grows c.args.last c.args.way.now) c.args.spots.now c.loop-spot.spot-index
-    c.args.out.now.items c.loop-spot.out.items (omega (arith, c.loop-spot-test.false)) c.loop-spot.invariant
+    each_all (grown c.args.last c.args.way.now) c.loop-spot.spot-index c.loop-spot.spots c.args.spots.now (omega arith)
+    c.loop-spot.invariant

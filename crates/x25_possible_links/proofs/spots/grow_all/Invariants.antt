@@ -1,7 +1,7 @@
-use Rattle.std.proofs.Common.{◌≡◌, drop}
-use Rattle.x25_possible_links.specs.code.Steps.{all_of, grows}
+use Rattle.std.proofs.Common.{◌≡◌}
+use Rattle.x25_possible_links.specs.code.Steps.{each_of, grown}
+use Rattle.x25_possible_links.proofs.LoopLemmas.{left_of}
 use Rattle.x25_possible_links.proofs.spots.grow_all.Given as goal
 
 abbrev pub invariant-loop-spot : goal.invariant-loop-spot
-invariant-loop-spot l =
-    all_of (grows l.last l.way) (drop l.spot-index l.spots) l.out.items ≡ all_of (grows l.last l.way) l.spots l.fn.out.items
+invariant-loop-spot l = left_of (grown l.last l.way) l.spot-index l.spots ≡ each_of (grown l.last l.way) l.fn.spots
