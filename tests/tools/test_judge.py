@@ -64,7 +64,8 @@ class Cases(unittest.TestCase):
 
     def setUp(self):
         page = support.read("docs", "JUDGE.md").decode()
-        told = [re.findall(r"^- `([^`]+)`", part, re.MULTILINE) for part in re.findall(r"(?:^- `.*\n(?:  .*\n)*)+", page, re.MULTILINE)]
+        lists = re.findall(r"(?:^- `.*\n(?:  .*\n)*)+", page, re.MULTILINE)
+        told = [re.findall("`([^`]+)`", "".join(re.findall(r"^- (`[^`]+`(?:, `[^`]+`)*)", part, re.MULTILINE))) for part in lists]
         self.rules, self.manners, self.notes = ([re.sub(r" \d+$", "", text) for text in texts] for texts in told)
         self.cases = {case.name: case for case in golden.cases(golden.chosen(["judge"])[0])}
 

@@ -223,9 +223,6 @@ hears t to nr b = record {
 abbrev pub sends_back : LinkSet → ℕ → Minding → Minding
 sends_back to nr b = record b { other = manners.sent_back (apart (place_in (numbers to)).next nr) b.other }
 
-abbrev pub info_minded : ℕ → Sent → LinkSet → ℕ → ℕ → Bool → Minding → Minding
-info_minded window t to ns nr p b = hears t to nr (counts window t ns p (asks p b))
-
 abbrev pub ready_minded : Sent → LinkSet → Bool → ℕ → Bool → Minding → Minding
 ready_minded t to command nr pf b =
     if pf && not command then sends_back to nr (hears t to nr (bits command pf t.facts.is_known b))
@@ -242,7 +239,7 @@ abbrev pub accepts : Bool → Bool → Minding → Minding
 accepts f is_shown b = if is_some b.seen.rule then b else answers f is_shown (begins b)
 
 unfoldable pub minds : ℕ → Sent → LinkSet → PlainFrame → Minding → Minding
-minds window t to (info ns nr p octets) b = info_minded window t to ns nr p b
+minds window t to (info ns nr p octets) b = hears t to nr (counts window t ns p (asks p b))
 minds window t to (rr command nr pf) b = ready_minded t to command nr pf b
 minds window t to (rnr command nr pf) b = ready_minded t to command nr pf b
 minds window t to (rej command nr pf) b = reject_minded t to command nr pf b

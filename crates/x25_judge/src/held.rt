@@ -64,14 +64,7 @@ impl Held {
                 let at = usize::from(ns.get()) % NUMBERS;
                 self.known[at] && self.slots[at].as_slice() == *info
             }
-            Frame::Rr { .. }
-            | Frame::Rnr { .. }
-            | Frame::Rej { .. }
-            | Frame::Sabm { .. }
-            | Frame::Disc { .. }
-            | Frame::Ua { .. }
-            | Frame::Dm { .. }
-            | Frame::Frmr { .. } => false,
+            _ => false,
         }
     }
 
@@ -85,14 +78,7 @@ impl Held {
                 let at = usize::from(ns.get()) % NUMBERS;
                 self.known[at] && !(self.slots[at].as_slice() == *info)
             }
-            Frame::Rr { .. }
-            | Frame::Rnr { .. }
-            | Frame::Rej { .. }
-            | Frame::Sabm { .. }
-            | Frame::Disc { .. }
-            | Frame::Ua { .. }
-            | Frame::Dm { .. }
-            | Frame::Frmr { .. } => false,
+            _ => false,
         }
     }
 

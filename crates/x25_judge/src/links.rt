@@ -353,13 +353,13 @@ fn is_differing(rule: Option<Rule>) -> bool
 fn minded(
     window: u8,
     k: Numbers,
-    sent: Sent,
+    sent: &Sent,
     ns: u8,
     p: bool,
     differs: bool,
     manners: Manners,
 ) -> Minded
-    ensures { result ≡ definition.minded_by window k sent ns p differs manners }
+    ensures { result ≡ definition.minded_by window k sent.now ns p differs manners }
 {
     match sent.told {
         Told::Broken(_) => again(sent.is_same || differs, manners),
@@ -448,8 +448,8 @@ impl Minding {
     }
 
     /// The N(S) of an I frame.
-    fn counts(self, window: u8, sent: Sent, ns: u8, p: bool) -> Minding
-        ensures { result ≡ definition.counts window sent ns p self }
+    fn counts(self, window: u8, sent: &Sent, ns: u8, p: bool) -> Minding
+        ensures { result ≡ definition.counts window sent.now ns p self }
     {
         match sent.facts.stand {
             Stand::Up(k) => self.by_own(minded(
@@ -466,8 +466,8 @@ impl Minding {
     }
 
     /// An N(R), to an end that may be in these places.
-    fn hears(self, sent: Sent, to: &LinkSet, nr: u8) -> Minding
-        ensures { result ≡ definition.hears sent to.now nr self }
+    fn hears(self, sent: &Sent, to: &LinkSet, nr: u8) -> Minding
+        ensures { result ≡ definition.hears sent.now to.now nr self }
     {
         let note = if sent.takes_unread {
             heard_note(sent.facts.stand, nr, place(to).next)
@@ -491,16 +491,9 @@ impl Minding {
         }
     }
 
-    /// An I frame.
-    fn info(self, window: u8, sent: Sent, to: &LinkSet, ns: u8, nr: u8, p: bool) -> Minding
-        ensures { result ≡ definition.info_minded window sent to.now ns nr p self }
-    {
-        self.asks(p).counts(window, sent, ns, p).hears(sent, to, nr)
-    }
-
     /// RR or RNR.
-    fn ready(self, sent: Sent, to: &LinkSet, command: bool, nr: u8, pf: bool) -> Minding
-        ensures { result ≡ definition.ready_minded sent to.now command nr pf self }
+    fn ready(self, sent: &Sent, to: &LinkSet, command: bool, nr: u8, pf: bool) -> Minding
+        ensures { result ≡ definition.ready_minded sent.now to.now command nr pf self }
     {
         let both = self
             .bits(command, pf, sent.facts.is_known)
@@ -519,8 +512,8 @@ impl Minding {
     }
 
     /// REJ.
-    fn reject(self, sent: Sent, to: &LinkSet, command: bool, nr: u8, pf: bool) -> Minding
-        ensures { result ≡ definition.reject_minded sent to.now command nr pf self }
+    fn reject(self, sent: &Sent, to: &LinkSet, command: bool, nr: u8, pf: bool) -> Minding
+        ensures { result ≡ definition.reject_minded sent.now to.now command nr pf self }
     {
         self.bits(command, pf, sent.facts.is_known)
             .hears(sent, to, nr)
@@ -541,11 +534,14 @@ impl Minding {
 
     /// A frame, to an end that may be in these places.
     #[tactic(auto, unfolding(crate::specs::Links::minds))]
-    fn minds(self, window: u8, sent: Sent, to: &LinkSet, frame: &Frame) -> Minding
-        ensures { result ≡ definition.minds window sent to.now (plain frame.now) self }
+    fn minds(self, window: u8, sent: &Sent, to: &LinkSet, frame: &Frame) -> Minding
+        ensures { result ≡ definition.minds window sent.now to.now (plain frame.now) self }
     {
         match frame {
-            Frame::I { ns, nr, p, .. } => self.info(window, sent, to, ns.get(), nr.get(), *p),
+            Frame::I { ns, nr, p, .. } => self
+                .asks(*p)
+                .counts(window, sent, ns.get(), *p)
+                .hears(sent, to, nr.get()),
             Frame::Rr { command, nr, pf } | Frame::Rnr { command, nr, pf } => {
                 self.ready(sent, to, *command, nr.get(), *pf)
             }
@@ -586,7 +582,7 @@ pub(crate) fn sees(own: &mut End, other: &mut End, window: u8, frame: &Frame) ->
         other: other.manners,
         seen,
     };
-    let both = both.minds(window, sent, &other.set, frame);
+    let both = both.minds(window, &sent, &other.set, frame);
     own.manners = both.own;
     other.manners = both.other;
     both.seen

@@ -34,12 +34,7 @@ impl Rule {
             Rule::NoPoll | Rule::RejectAgain | Rule::Skips { .. } | Rule::Repeats { .. } => true,
             Rule::OverWindow { window } => window < 7,
             Rule::Packet { rule } => rule.is_of_manners(),
-            Rule::NoFrame
-            | Rule::UaUnasked
-            | Rule::NotUp
-            | Rule::Unsent { .. }
-            | Rule::Falls { .. }
-            | Rule::Differs => false,
+            _ => false,
         }
     }
 }

@@ -1,5 +1,5 @@
 mod ListLemmas
-pub mod SlotLemmas
+mod ChannelsLemmas
 mod TellingLemmas
 mod BookLemmas
 mod TapeLemmas

@@ -1,5 +1,6 @@
 -- A list whose elements are changed one after another, from the front.
 use Rattle.std.proofs.Common.{◌≡◌, ℕ, zero, suc, ◌+◌, ◌<◌, ◌≤◌, List, [], ◌∷◌, ◌++◌, length, map, slice_set, slice_index_or, take, drop, refl, sym, ap, ◌∙◌, arith, append-nil}
+use Rattle.std.proofs.lemmas.List.{take_all, drop_all}
 
 -- those from a place on changed
 abbrev pub left_mapped : {A : Type 0} → (A → A) → ℕ → List A → List A
@@ -23,18 +24,6 @@ all_mapped f zero [] few = refl
 all_mapped f zero (x ∷ xs) few = absurd (omega (arith, few))
 all_mapped f (suc n) [] few = refl
 all_mapped f (suc n) (x ∷ xs) few = ap (λ l. x ∷ l) (all_mapped f n xs (omega (arith, few)))
-
-take_all : {A : Type 0} (n : ℕ) (xs : List A) → length xs ≤ n → take n xs ≡ xs
-take_all zero [] few = refl
-take_all zero (x ∷ xs) few = absurd (omega (arith, few))
-take_all (suc n) [] few = refl
-take_all (suc n) (x ∷ xs) few = ap (λ l. x ∷ l) (take_all n xs (omega (arith, few)))
-
-drop_all : {A : Type 0} (n : ℕ) (xs : List A) → length xs ≤ n → drop n xs ≡ []
-drop_all zero [] few = refl
-drop_all zero (x ∷ xs) few = absurd (omega (arith, few))
-drop_all (suc n) [] few = refl
-drop_all (suc n) (x ∷ xs) few = drop_all n xs (omega (arith, few))
 
 -- what was changed is written back to the vector
 pub written_back : {A : Type 0} (f : A → A) (n len : ℕ) (xs old : List A) → left_mapped f n xs ≡ map f old → length xs ≤ n → length old ≤ len → length xs ≡ length old → take len (xs ++ drop (length xs) old) ≡ map f old

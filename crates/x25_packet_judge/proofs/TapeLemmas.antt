@@ -1,18 +1,18 @@
 -- What is told of an end, packet by packet and over whole tapes, by the laws of its sets.
 use Rattle.std.proofs.Common.{◌≡◌, ◌∙◌, ℕ, Bool, true, false, List, [], ◌∷◌, Some, refl, sym, ap}
 use Rattle.std.proofs.lemmas.Bool.{both_ways}
-use Rattle.std.specs.Prelude.{◌||◌, ◌&&◌, is_some, if◌then◌else◌, length, not}
+use Rattle.std.specs.Prelude.{◌||◌, ◌&&◌, is_some, if◌then◌else◌, not}
 use Rattle.x25_bits.specs.declared.role.Role.{Role}
 use Rattle.x25_bits.specs.declared.role.Role.TheVariants.{Dte, Dce}
 use Rattle.x25_packet.specs.Packet.{PlainPacket}
-use Rattle.x25_packet_judge.specs.Book.{takes}
+use Rattle.x25_packet_judge.specs.Book.{is_of_all, is_restart, takes}
 use Rattle.x25_packet_judge.specs.Channel.{any_channel, rule_of}
 use Rattle.x25_packet_judge.specs.Item.{item_of}
 use Rattle.x25_packet_judge.specs.PacketRule.{is_order}
 use Rattle.x25_packet_judge.specs.declared.book.Book.{Book}
 use Rattle.x25_packet_judge.specs.declared.packet_rule.PacketRule.TheVariants.{RestartAwaited}
-use Rattle.x25_packet_judge.specs.laws.BookClaims.{asked_of, awaits, behind_all, behind_item, end_of, is_manners, is_of_all, is_on}
-use Rattle.x25_packet_judge.specs.laws.BookClaims.{is_quiet, is_restart, moved, of_restarts, refuses, seen_by, set_of, tape_of_restarts, tape_on, rule_told}
+use Rattle.x25_packet_judge.specs.laws.BookClaims.{asked_of, awaits, behind_all, behind_item, end_of, is_manners, is_on}
+use Rattle.x25_packet_judge.specs.laws.BookClaims.{is_quiet, moved, of_restarts, refuses, seen_by, set_of, tape_of_restarts, tape_on, rule_told}
 use Rattle.x25_packet_judge.specs.laws.BookClaims.{BooksTellExactly, InnocentTapesStayUntold, IsBehind, MaySend, Spoken}
 use Rattle.x25_packet_judge.proofs.BookLemmas.{books_follow_tapes, judged_so, told_is}
 use Rattle.x25_packet_judge.proofs.TellingLemmas.{broken, polite, rude, unbroken, untold}
@@ -26,12 +26,12 @@ use Rattle.x25_possible.specs.declared.set.Told.{Told}
 module _ (sets : SendsExactly) where
   calm : (from : Role) (channel : ℕ) (packet : PlainPacket) (b : Book) → awaits from packet b ≡ false
       → rule_told from channel packet b ≡ rule_of (sends_to (item_of packet) (asked_of from channel packet b)).told (item_of packet)
-  calm from channel packet b is = told_is (λ s x. sets.unknown s x) from channel packet b (is_of_all packet) refl
+  calm from channel packet b is = told_is from channel packet b (λ s x. sets.unknown s x) (is_of_all packet) refl
       ∙ ap (λ e. if e then Some RestartAwaited else rule_of (sends_to (item_of packet) (asked_of from channel packet b)).told (item_of packet)) is
 
   early : (from : Role) (channel : ℕ) (packet : PlainPacket) (b : Book) → awaits from packet b ≡ true
       → rule_told from channel packet b ≡ Some RestartAwaited
-  early from channel packet b is = told_is (λ s x. sets.unknown s x) from channel packet b (is_of_all packet) refl
+  early from channel packet b is = told_is from channel packet b (λ s x. sets.unknown s x) (is_of_all packet) refl
       ∙ ap (λ e. if e then Some RestartAwaited else rule_of (sends_to (item_of packet) (asked_of from channel packet b)).told (item_of packet)) is
 
   -- Elsewhere is refused by the set of restarts
@@ -79,10 +79,6 @@ module _ (sets : SendsExactly) where
 -- ---- whole tapes
 
 module _ (from : Role) (channel : ℕ) (tape restarts : List (Item Packet)) (b : Book) (begun : IsBehind from channel tape restarts b) where
-  its_size : (ps : List Spoken) → length (behind_all ps b).channels ≡ 4096
-  its_size [] = begun.size
-  its_size (p ∷ ps) = books_follow_tapes.size (behind_all ps b) p.from p.channel p.packet ∙ its_size ps
-
   loud : (ps : List Spoken) (role : Role) → is_quiet role (behind_all ps b) ≡ false
   loud [] Dte = begun.dte
   loud [] Dce = begun.dce
@@ -100,7 +96,7 @@ module _ (from : Role) (channel : ℕ) (tape restarts : List (Item Packet)) (b :
   its_set : (ps : List Spoken) → set_of from channel (behind_all ps b) ≡ behind from (tape_on from channel ps tape)
   its_set [] = begun.set
   its_set (p ∷ ps) =
-      books_follow_tapes.channels (behind_all ps b) from p.from channel p.channel p.packet (its_size ps)
+      books_follow_tapes.channels (behind_all ps b) from p.from channel p.channel p.packet
       ∙ ap (λ s. if is_on channel p.channel p.packet then behind_item (seen_by from p.from (item_of p.packet)) s else s) (its_set ps)
       ∙ if_on (is_on channel p.channel p.packet) (seen_by from p.from (item_of p.packet)) (tape_on from channel ps tape)
 

@@ -1,7 +1,7 @@
 -- What is told of a packet, by the set of its sender.
 use Rattle.std.proofs.Common.{◌≡◌, ◌∙◌, ℕ, Bool, true, false, Option, Some, None, refl, sym, ap}
 use Rattle.std.proofs.lemmas.Bool.{both_ways, cond_both}
-use Rattle.std.specs.Prelude.{◌-◌, ◌%◌, ◌==◌, is_some, not, ◌&&◌, ◌||◌, nat_lt, nat_le, unwrap_or}
+use Rattle.std.specs.Prelude.{◌-◌, ◌%◌, ◌==◌, is_some, not, ◌&&◌, ◌||◌, if◌then◌else◌, nat_lt, nat_le, unwrap_or}
 use Rattle.x25_bits.specs.declared.role.Role.{Role}
 use Rattle.x25_bits.specs.declared.role.Role.TheVariants.{Dte, Dce}
 use Rattle.x25_packet_judge.specs.Channel as channels
@@ -12,11 +12,10 @@ use Rattle.x25_packet_judge.specs.Reason as reason
 use Rattle.x25_packet_judge.specs.declared.channel.Channel.{Channel}
 use Rattle.x25_packet_judge.specs.declared.channel.Finding.{Finding}
 use Rattle.x25_packet_judge.specs.declared.packet_rule.PacketRule.{PacketRule}
-use Rattle.x25_packet_judge.specs.declared.packet_rule.PacketRule.TheVariants.{PacketUnsent}
-use Rattle.x25_packet_judge.specs.declared.packet_rule.PacketRule.TheVariants.{NoCall}
+use Rattle.x25_packet_judge.specs.declared.packet_rule.PacketRule.TheVariants.{ClearAwaited, NoCall, PacketUnsent, ResetAwaited, RestartAwaited}
 use Rattle.x25_packet_judge.specs.laws.BookClaims.{end_of, is_manners, seen_by, behind_item}
 use Rattle.x25_possible.specs.laws.Sets.{IsBroken, IsRude, IsUntold}
-use Rattle.x25_possible.specs.code.Steps.{is_known, sends_to}
+use Rattle.x25_possible.specs.code.Steps.{begun, is_known, sends_to, shows_to}
 use Rattle.x25_possible.specs.declared.packet.Packet.{Packet}
 use Rattle.x25_possible.specs.declared.packet.Packet.TheVariants.{Call, Accept, Clear, ClearConf, Reset, ResetConf}
 use Rattle.x25_possible.specs.declared.packet.Packet.TheVariants.{Restart, RestartConf, Data, Rr, Rnr, Interrupt}
@@ -64,6 +63,23 @@ follows_is k ps size = cond_both (not (ps == k.sent % 8)) _ _ (λ r. is_of_manne
     (λ _. cond_both (nat_le 7 (k.sent - k.acked)) _ _ (λ r. is_of_manners r ≡ false) (λ _. refl)
     (λ _. cond_both (nat_lt 0 k.most && nat_lt k.most size) _ _ (λ r. is_of_manners r ≡ false) (λ _. refl) (λ _. refl)))
 
+either : (b : Bool) (r s : PacketRule) → is_of_manners r ≡ false → is_of_manners s ≡ false → is_of_manners (if b then r else s) ≡ false
+either true r s h i = h
+either false r s h i = i
+
+module _ (x : Packet) (rule : PacketRule) (h : is_of_manners rule ≡ false) where
+  in_restart : is_of_manners (reason.in_restart x rule) ≡ false
+  in_restart = either (reason.confirms_restart x) _ _ refl h
+
+  in_clear : is_of_manners (reason.in_clear x rule) ≡ false
+  in_clear = either (reason.confirms_clear x) _ _ refl in_restart
+
+  out_of_call : is_of_manners (reason.out_of_call x rule) ≡ false
+  out_of_call = either (reason.calls x) _ _ refl (either (reason.accepts x) _ _ refl in_clear)
+
+  in_reset : is_of_manners (reason.in_reset x rule) ≡ false
+  in_reset = either (reason.confirms_reset x) _ _ refl out_of_call
+
 in_call : (k : Talk) (x : Packet) → is_of_manners (reason.in_call k x) ≡ false
 in_call k (Data q m ps pr size) = strays_are (apart pr (k.told % 8)) (k.taken - k.told) k (reason.follows k ps size) (follows_is k ps size)
 in_call k (Rr pr) = strays_are (apart pr (k.told % 8)) (k.taken - k.told) k (PacketUnsent 0) refl
@@ -80,81 +96,17 @@ in_call k Restart = refl
 in_call k RestartConf = refl
 in_call k Elsewhere = refl
 
-out_of_call : (x : Packet) (rule : PacketRule) → is_of_manners rule ≡ false → is_of_manners (reason.out_of_call x rule) ≡ false
-out_of_call (Data q m ps pr size) rule h = h
-out_of_call (Rr pr) rule h = h
-out_of_call (Rnr pr) rule h = h
-out_of_call Interrupt rule h = h
-out_of_call InterruptConf rule h = h
-out_of_call (Call terms) rule h = refl
-out_of_call (Accept said) rule h = refl
-out_of_call Clear rule h = h
-out_of_call ClearConf rule h = refl
-out_of_call Reset rule h = h
-out_of_call ResetConf rule h = h
-out_of_call Restart rule h = h
-out_of_call RestartConf rule h = refl
-out_of_call Elsewhere rule h = h
-
-in_reset : (x : Packet) → is_of_manners (reason.in_reset x) ≡ false
-in_reset (Data q m ps pr size) = refl
-in_reset (Rr pr) = refl
-in_reset (Rnr pr) = refl
-in_reset Interrupt = refl
-in_reset InterruptConf = refl
-in_reset (Call terms) = refl
-in_reset (Accept said) = refl
-in_reset Clear = refl
-in_reset ClearConf = refl
-in_reset Reset = refl
-in_reset ResetConf = refl
-in_reset Restart = refl
-in_reset RestartConf = refl
-in_reset Elsewhere = refl
-
-in_clear : (x : Packet) → is_of_manners (reason.in_clear x) ≡ false
-in_clear (Data q m ps pr size) = refl
-in_clear (Rr pr) = refl
-in_clear (Rnr pr) = refl
-in_clear Interrupt = refl
-in_clear InterruptConf = refl
-in_clear (Call terms) = refl
-in_clear (Accept said) = refl
-in_clear Clear = refl
-in_clear ClearConf = refl
-in_clear Reset = refl
-in_clear ResetConf = refl
-in_clear Restart = refl
-in_clear RestartConf = refl
-in_clear Elsewhere = refl
-
-in_restart : (x : Packet) → is_of_manners (reason.in_restart x) ≡ false
-in_restart (Data q m ps pr size) = refl
-in_restart (Rr pr) = refl
-in_restart (Rnr pr) = refl
-in_restart Interrupt = refl
-in_restart InterruptConf = refl
-in_restart (Call terms) = refl
-in_restart (Accept said) = refl
-in_restart Clear = refl
-in_restart ClearConf = refl
-in_restart Reset = refl
-in_restart ResetConf = refl
-in_restart Restart = refl
-in_restart RestartConf = refl
-in_restart Elsewhere = refl
-
 reasons_are : (s : Phase) (x : Packet) → is_of_manners (reason.reason s x) ≡ false
 reasons_are (Talks k) x = in_call k x
 reasons_are Idle x = out_of_call x NoCall refl
 reasons_are (Calls terms) x = out_of_call x NoCall refl
 reasons_are (WasCalled terms) x = out_of_call x NoCall refl
 reasons_are Free x = out_of_call x NoCall refl
-reasons_are (Resets limits) x = in_reset x
+reasons_are (Resets limits) x = in_reset x ResetAwaited refl
 reasons_are (WasReset limits) x = out_of_call x NoCall refl
-reasons_are Clears x = in_clear x
+reasons_are Clears x = in_clear x ClearAwaited refl
 reasons_are WasCleared x = out_of_call x NoCall refl
-reasons_are Restarts x = in_restart x
+reasons_are Restarts x = in_restart x RestartAwaited refl
 reasons_are WasRestarted x = out_of_call x NoCall refl
 
 -- ---- by what is told of a set
@@ -193,23 +145,28 @@ ends_move Dte Dce x c = refl
 ends_move Dce Dte x c = refl
 ends_move Dce Dce x c = refl
 
-pub found_is : (from : Role) (x : Packet) (c : Channel) → (channels.takes from x c).finding ≡ (sent x (end_of from c)).finding
-found_is Dte x c = refl
-found_is Dce x c = refl
+-- where both ends have restarted a packet of another channel changes nothing
+stays : (s : Set) → s ≡ begun s.role → (sends_to Elsewhere s).set ≡ s
+stays s e = ap (λ t. (sends_to Elsewhere t).set) e ∙ sym e
 
-noted_is : (role : Role) (b : Bool) (c : Channel) → end_of role (channels.noted b c) ≡ end_of role c
-noted_is Dte b c = refl
-noted_is Dce b c = refl
+waits : (s : Set) → s ≡ begun s.role → shows_to Elsewhere s ≡ s
+waits s e = ap (shows_to Elsewhere) e ∙ sym e
 
-marked_ends : (role : Role) (g : Finding) (c : Channel) → end_of role (channels.marked g c).channel ≡ end_of role c
-marked_ends role g c = cond_both (not g.is_judged) _ _ (λ (f : channels.Found). end_of role f.channel ≡ end_of role c)
-    (λ _. noted_is role true c)
-    (λ _. cond_both (channels.is_known c) _ _ (λ (d : Channel). end_of role d ≡ end_of role c) (λ _. noted_is role false c) (λ _. refl))
+module _ (c : Channel) (d : c.dte ≡ begun c.dte.role) (e : c.dce ≡ begun c.dce.role) where
+  pub passes : (from : Role) → c ≡ (channels.takes from Elsewhere c).channel
+  passes Dte = sym (ap (λ (s : Set). record { dte = s; dce = shows_to Elsewhere c.dce; is_noted = c.is_noted }) (stays c.dte d)
+      ∙ ap (λ (s : Set). record { dte = c.dte; dce = s; is_noted = c.is_noted }) (waits c.dce e))
+  passes Dce = sym (ap (λ (s : Set). record { dte = s; dce = (sends_to Elsewhere c.dce).set; is_noted = c.is_noted }) (waits c.dte d)
+      ∙ ap (λ (s : Set). record { dte = c.dte; dce = s; is_noted = c.is_noted }) (stays c.dce e))
+
+  pub not_early : (from : Role) → false ≡ channels.is_early from c
+  not_early Dte = sym (ap (λ s. is_order (rule_of (sends_to Elsewhere s).told Elsewhere)) d)
+  not_early Dce = sym (ap (λ s. is_order (rule_of (sends_to Elsewhere s).told Elsewhere)) e)
 
 pub judged_ends : (role from : Role) (x : Packet) (c : Channel)
     → end_of role (channels.judges from x c).channel ≡ behind_item (seen_by role from x) (end_of role c)
 unfolding channels.judges
-judged_ends role from x c = marked_ends role (channels.takes from x c).finding (channels.takes from x c).channel ∙ ends_move role from x c
+judged_ends role from x c = ends_move role from x c
 
 -- nothing is told where it isn't judged
 abbrev Unknown : Packet → Set → Type 0
@@ -219,7 +176,7 @@ none_of : (r : Option PacketRule) → is_some r ≡ false → None ≡ r
 none_of None h = refl
 none_of (Some rule) h = absurd (both_ways true h refl)
 
-neither : (a b : Bool) → (a || b) ≡ false → a ≡ false
+pub neither : (a b : Bool) → (a || b) ≡ false → a ≡ false
 neither true b h = h
 neither false b h = refl
 
@@ -229,28 +186,21 @@ none_known : (x : Packet) (s : Set) → Unknown x s → (known : Bool) → is_kn
 none_known x s unknown true is h = none_of _ (neither _ _ h)
 none_known x s unknown false is h = sym (ap (λ (t : Told). rule_of t x) (unknown is))
 
-not_true : (b : Bool) → not b ≡ true → b ≡ false
-not_true true h = absurd (both_ways false refl h)
-not_true false h = refl
+marked_judged : (g h : Finding) (b : Bool) → h.is_judged ≡ false → g.is_judged ≡ b → (if b then g else h).is_judged ≡ b
+marked_judged g h true none is = is
+marked_judged g h false none is = none
 
-marked_judged : (g : Finding) (c : Channel) → (channels.marked g c).finding.is_judged ≡ g.is_judged
-marked_judged g c = cond_both (not g.is_judged) _ _ (λ (f : channels.Found). f.finding.is_judged ≡ g.is_judged)
-    (λ h. sym (not_true g.is_judged h)) (λ _. refl)
-
-marked_rule : (g : Finding) (c : Channel) → (g.is_judged ≡ false → None ≡ g.rule) → (channels.marked g c).finding.rule ≡ g.rule
-marked_rule g c none = cond_both (not g.is_judged) _ _ (λ (f : channels.Found). f.finding.rule ≡ g.rule)
-    (λ h. none (not_true g.is_judged h)) (λ _. refl)
+marked_rule : (g h : Finding) (b : Bool) → h.rule ≡ None → (b ≡ false → None ≡ g.rule) → (if b then g else h).rule ≡ g.rule
+marked_rule g h true none is = refl
+marked_rule g h false none is = none ∙ is refl
 
 pub judged_rule : (from : Role) (x : Packet) (c : Channel) → Unknown x (end_of from c)
     → (channels.judges from x c).finding.rule ≡ rule_of (sends_to x (end_of from c)).told x
 unfolding channels.judges
 judged_rule from x c unknown =
-    marked_rule (channels.takes from x c).finding (channels.takes from x c).channel
-    (λ h. none_known x (end_of from c) unknown _ refl (sym (ap (λ (f : Finding). f.is_judged) (found_is from x c)) ∙ h)
-    ∙ sym (ap (λ (f : Finding). f.rule) (found_is from x c)))
-    ∙ ap (λ (f : Finding). f.rule) (found_is from x c)
+    marked_rule (channels.takes from x c).finding (channels.passed (channels.takes from x c).channel).finding _ refl (none_known x (end_of from c) unknown _ refl)
 
 pub judged_is : (from : Role) (x : Packet) (c : Channel)
     → (channels.judges from x c).finding.is_judged ≡ (sent x (end_of from c)).finding.is_judged
 unfolding channels.judges
-judged_is from x c = marked_judged (channels.takes from x c).finding (channels.takes from x c).channel ∙ ap (λ (f : Finding). f.is_judged) (found_is from x c)
+judged_is from x c = marked_judged (channels.takes from x c).finding (channels.passed (channels.takes from x c).channel).finding _ refl refl

@@ -1,9 +1,8 @@
 -- The packet layers of both ends and all their channels, and what a frame changes and breaks. ITU-T X.25 (10/96),
 -- sections 3 and 4.
 use Rattle.std.specs.Prelude.{ℕ, ◌/◌, ◌%◌, ◌==◌, Bool, true, false, ◌&&◌, ◌||◌, if◌then◌else◌, List, [], ◌∷◌}
-use Rattle.std.specs.Prelude.{slice_set, Option, Some, None, Result, Ok, Err}
+use Rattle.std.specs.Prelude.{Option, Some, None, Result, Ok, Err}
 use Rattle.x25_bits.specs.declared.role.Role.{Role}
-use Rattle.x25_bits.specs.declared.role.Role.TheVariants.{Dte, Dce}
 use Rattle.x25_frame.specs.Frame.{PlainFrame, info, rr, rnr, rej, sabm, disc, ua, dm, frmr}
 use Rattle.x25_packet.specs.Packet.{PlainPacket, restart, restart_conf}
 use Rattle.x25_packet.specs.Reading.{channel_in, packet_of}
@@ -11,18 +10,20 @@ use Rattle.x25_packet.specs.Spelling.{longest_user}
 use Rattle.x25_packet.specs.declared.error.PacketError.{PacketError}
 use Rattle.x25_decode.specs.declared.answer.Reading.{Reading}
 use Rattle.x25_packet_judge.specs.Channel as channels
-use Rattle.x25_packet_judge.specs.Channels.{all_alike, all_lost, all_take, channel_of}
+use Rattle.x25_packet_judge.specs.Channel.{by_end}
+use Rattle.x25_packet_judge.specs.Channels.{all_alike, all_happens, channel_of, put}
 use Rattle.x25_packet_judge.specs.Item.{item_of}
 use Rattle.x25_packet_judge.specs.Layer.{unseen}
 use Rattle.x25_packet_judge.specs.Layers as layers
 use Rattle.x25_packet_judge.specs.declared.book.Book.{Book}
 use Rattle.x25_packet_judge.specs.declared.book.Verdict.{Verdict}
 use Rattle.x25_packet_judge.specs.declared.channel.Channel.{Channel}
+use Rattle.x25_packet_judge.specs.declared.channel.Event.TheVariants.{Sends, Loss}
 use Rattle.x25_packet_judge.specs.declared.channel.Finding.{Finding}
 use Rattle.x25_packet_judge.specs.declared.layers.Layers.{Layers}
 use Rattle.x25_packet_judge.specs.declared.packet_rule.PacketRule.TheVariants.{NoPacket, RestartAwaited}
 use Rattle.x25_possible.specs.declared.packet.Packet.{Packet as Item}
-use Rattle.x25_possible.specs.declared.packet.Packet.TheVariants.{Elsewhere, Restart, RestartConf}
+use Rattle.x25_possible.specs.declared.packet.Packet.TheVariants.{Elsewhere}
 use Rattle.x25_wide.specs.Packet as wide_packet
 use Rattle.x25_wide.specs.Packet.{PlainKind, PlainWide}
 use Rattle.x25_wide.specs.Reading.{wide_of}
@@ -40,25 +41,14 @@ empty = record {
 -- ---- parts: the end that sends comes first
 
 abbrev pub layers_of : Role → Book → Layers
-layers_of Dte b = record { own = b.dte; other = b.dce }
-layers_of Dce b = record { own = b.dce; other = b.dte }
+layers_of from b = record { own = by_end from b.dte b.dce; other = by_end from b.dce b.dte }
 
 abbrev pub keeps : Role → Layers → Book → Book
-keeps Dte t b = record { dte = t.own; dce = t.other; restarts = b.restarts; channels = b.channels }
-keeps Dce t b = record { dte = t.other; dce = t.own; restarts = b.restarts; channels = b.channels }
-
--- of restarts, and of all channels
-abbrev pub fills : Channel → Channel → Book → Book
-fills c d b = record { dte = b.dte; dce = b.dce; restarts = c; channels = all_alike d }
+keeps from t b = record b { dte = by_end from t.own t.other; dce = by_end from t.other t.own }
 
 -- packets of an end were missed, of any channels
 abbrev pub forgets : Book → Book
-forgets b = record {
-  dte = b.dte;
-  dce = b.dce;
-  restarts = channels.lost b.restarts;
-  channels = all_lost b.channels;
-}
+forgets b = record b { restarts = channels.lost b.restarts; channels = all_happens Loss b.channels }
 
 -- ---- a packet
 
@@ -85,21 +75,15 @@ verdict_of channel f = record {
 }
 
 abbrev pub puts : ℕ → channels.Found → Book → Seen
-puts channel f b = seen (record {
-  dte = b.dte;
-  dce = b.dce;
-  restarts = b.restarts;
-  channels = slice_set b.channels (channel % 4096) f.channel;
-}) (verdict_of channel f.finding)
+puts channel f b = seen (record b { channels = put channel f.channel b.channels }) (verdict_of channel f.finding)
 
 -- a packet of a channel, before which RESTART may have to be answered
 abbrev pub told_early : Bool → Seen → Seen
-told_early is_early s = if is_early
-    then seen s.book (record { rule = Some RestartAwaited; unjudged = None; is_judged = true })
-    else s
+told_early is_early s = seen s.book
+    (if is_early then record { rule = Some RestartAwaited; unjudged = None; is_judged = true } else s.verdict)
 
 abbrev pub with_restarts : Channel → Book → Book
-with_restarts c b = record { dte = b.dte; dce = b.dce; restarts = c; channels = b.channels }
+with_restarts c b = record b { restarts = c }
 
 abbrev pub judges : Role → ℕ → Item → Book → Seen
 judges from channel x b = told_early (channels.is_early from b.restarts)
@@ -109,24 +93,32 @@ judges from channel x b = told_early (channels.is_early from b.restarts)
 -- where nothing was sent since the set-up, the packet layer may go on from before it
 abbrev pub follows : Role → ℕ → Item → Bool → Book → Seen
 follows from channel x is_first b =
-    judges from channel x (if is_first then with_restarts channels.any_channel b else b)
+    judges from channel x (with_restarts (if is_first then channels.any_channel else b.restarts) b)
 
 -- RESTART and its confirmation are packets of all channels; of RESTART itself no rule is told
-abbrev pub restarts_as : Bool → channels.Found → List Channel → Book → Seen
-restarts_as is_judged f cs b = seen (record { dte = b.dte; dce = b.dce; restarts = f.channel; channels = cs })
-    (record { rule = f.finding.rule; unjudged = None; is_judged = is_judged || f.finding.is_judged })
-
 abbrev pub restarts : Role → Item → Bool → Book → Seen
-restarts from x is_judged b = restarts_as is_judged (channels.takes from x b.restarts)
-    (all_take from x b.channels) b
+restarts from x is_judged b = let f = channels.takes from x b.restarts in
+    seen (record b { restarts = f.channel; channels = all_happens (Sends from x) b.channels })
+    (record { rule = f.finding.rule; unjudged = None; is_judged = is_judged || f.finding.is_judged })
 
 abbrev pub spoken : Role → Book → Book
 spoken from b = keeps from (layers.speaks (layers_of from b)) b
 
+abbrev pub is_restart : PlainPacket → Bool
+is_restart (restart cause diagnostic) = true
+is_restart packet = false
+
+abbrev pub is_confirmation : PlainPacket → Bool
+is_confirmation restart_conf = true
+is_confirmation packet = false
+
+abbrev pub is_of_all : PlainPacket → Bool
+is_of_all packet = is_restart packet || is_confirmation packet
+
 unfoldable pub takes : Role → ℕ → PlainPacket → Book → Seen
-takes from channel (restart cause diagnostic) b = restarts from Restart true (spoken from b)
-takes from channel restart_conf b = restarts from RestartConf false (spoken from b)
-takes from channel packet b = follows from channel (item_of packet) (layers_of from b).own.is_quiet (spoken from b)
+takes from channel packet b =
+    if is_of_all packet then restarts from (item_of packet) (is_restart packet) (spoken from b)
+    else follows from channel (item_of packet) (layers_of from b).own.is_quiet (spoken from b)
 
 -- octets that spell none: nothing may be said of any channel where they name none
 abbrev pub misses_on : ℕ → Book → Seen
@@ -214,14 +206,15 @@ sends_info from reading ns nr octets is_broken b =
 
 -- both packet layers begin anew; a call that was up may go on
 unfoldable pub begins : Role → Layers → Book → Book
-begins from t b = keeps from t (fills channels.begun_channel channels.ready_channel b)
+begins from t b =
+    keeps from t (record b { restarts = channels.begun_channel; channels = all_alike channels.ready_channel })
 
 -- UA; behind frames of the other end, which is up, it comes again
 unfoldable pub accepts : Role → Layers → Book → Book
 accepts from t b = if t.other.is_fresh then begins from (layers.accepts t) b else keeps from (layers.accepts t) b
 
 unfoldable pub accepts_if : Role → Bool → Layers → Book → Book
-accepts_if from is_broken t b = if is_broken && layers.is_unasked t then b else accepts from t b
+accepts_if from is_broken t b = if is_broken && t.own.asked == 0 then b else accepts from t b
 
 -- by whether it breaks a rule of the link layer
 unfoldable pub sees : Role → Reading → PlainFrame → Bool → Book → Seen
@@ -231,8 +224,8 @@ sees from reading (rnr command nr pf) is_broken b = quiet (hears from nr b)
 sees from reading (rej command nr pf) is_broken b = quiet (hears from nr b)
 sees from reading (sabm p) is_broken b = quiet (begins from (layers.asks (layers_of from b)) b)
 sees from reading (ua f) is_broken b = quiet (accepts_if from is_broken (layers_of from b) b)
-sees from reading (dm f) is_broken b = quiet (keeps from (layers.declines (layers_of from b)) b)
-sees from reading (disc p) is_broken b = quiet (keeps from (layers.leaves (layers_of from b)) b)
+sees from reading (dm f) is_broken b = quiet (keeps from (layers.answers (layers_of from b)) b)
+sees from reading (disc p) is_broken b = quiet (keeps from (layers.asks_more (layers_of from b)) b)
 sees from reading (frmr f why) is_broken b = quiet b
 
 -- octets that are no frame

@@ -5,6 +5,8 @@ use Rattle.x25_bits.specs.declared.role.Role.TheVariants.{Dte, Dce}
 use Rattle.x25_packet_judge.specs.PacketRule.{is_order}
 use Rattle.x25_packet_judge.specs.Reason.{manners, reason}
 use Rattle.x25_packet_judge.specs.declared.channel.Channel.{Channel}
+use Rattle.x25_packet_judge.specs.declared.channel.Event.{Event}
+use Rattle.x25_packet_judge.specs.declared.channel.Event.TheVariants.{Sends, Loss}
 use Rattle.x25_packet_judge.specs.declared.channel.Finding.{Finding}
 use Rattle.x25_packet_judge.specs.declared.packet_rule.PacketRule.{PacketRule}
 use Rattle.x25_possible.specs.code.Steps as sets
@@ -28,6 +30,11 @@ ready_channel = record { dte = sets.ready Dte; dce = sets.ready Dce; is_noted = 
 -- packets of both ends weren't seen
 abbrev pub lost : Channel → Channel
 lost c = record { dte = sets.lost c.dte; dce = sets.lost c.dce; is_noted = false }
+
+-- of both ends what is of this one
+abbrev pub by_end : {A : Type 0} → Role → A → A → A
+by_end Dte dte dce = dte
+by_end Dce dte dce = dce
 
 abbrev pub rule_of : Told → Packet → Option PacketRule
 rule_of Nothing x = None
@@ -59,14 +66,18 @@ pub record Found : Type 0 where
   pub finding : Finding
 
 abbrev pub takes : Role → Packet → Channel → Found
-takes Dte x c = record {
-  channel = record { dte = (sent x c.dte).set; dce = sets.shows_to x c.dce; is_noted = c.is_noted };
-  finding = (sent x c.dte).finding;
+takes from x c = record {
+  channel = record c {
+    dte = by_end from (sent x c.dte).set (sets.shows_to x c.dte);
+    dce = by_end from (sets.shows_to x c.dce) (sent x c.dce).set;
+  };
+  finding = (sent x (by_end from c.dte c.dce)).finding;
 }
-takes Dce x c = record {
-  channel = record { dte = sets.shows_to x c.dte; dce = (sent x c.dce).set; is_noted = c.is_noted };
-  finding = (sent x c.dce).finding;
-}
+
+-- of all channels
+abbrev pub happens : Event → Channel → Channel
+happens (Sends from x) c = (takes from x c).channel
+happens Loss c = lost c
 
 -- ---- what isn't judged is noted once, until both ends are known
 
@@ -74,7 +85,7 @@ abbrev pub is_known : Channel → Bool
 is_known c = sets.is_known c.dte && sets.is_known c.dce
 
 abbrev pub noted : Bool → Channel → Channel
-noted is_noted c = record { dte = c.dte; dce = c.dce; is_noted = is_noted }
+noted is_noted c = record c { is_noted = is_noted }
 
 abbrev pub passed : Channel → Found
 passed c = record {
@@ -83,15 +94,17 @@ passed c = record {
 }
 
 abbrev pub marked : Finding → Channel → Found
-marked g c =
-    if not g.is_judged then passed c else record { channel = if is_known c then noted false c else c; finding = g }
+marked g c = record {
+  channel = noted (if g.is_judged then c.is_noted && not (is_known c) else true) c;
+  finding = if g.is_judged then g else (passed c).finding;
+}
 
 unfoldable pub judges : Role → Packet → Channel → Found
 judges from x c = marked (takes from x c).finding (takes from x c).channel
 
 -- one that isn't read
 abbrev pub doubted : Channel → Channel
-doubted c = record { dte = sets.doubted c.dte; dce = sets.doubted c.dce; is_noted = c.is_noted }
+doubted c = record c { dte = sets.doubted c.dte; dce = sets.doubted c.dce }
 
 abbrev pub misses : Channel → Found
 misses c = passed (doubted c)

@@ -1,20 +1,29 @@
--- All channels, 0 to 4,095.
-use Rattle.std.specs.Prelude.{ℕ, ◌%◌, List, map, replicate, slice_index_or}
-use Rattle.x25_bits.specs.declared.role.Role.{Role}
-use Rattle.x25_packet_judge.specs.Channel.{any_channel, lost, takes}
+-- The logical channels: those that were seen since all began anew, and what each of the others is as.
+use Rattle.std.specs.Prelude.{ℕ, suc, ◌-◌, ◌%◌, List, [], ◌++◌, length, map, replicate, Option, Some, None, unwrap_or}
+use Rattle.std.specs.Prelude.{slice_index_or, slice_set}
+use Rattle.std.specs.Option.{option_map}
+use Rattle.x25_packet_judge.specs.Channel.{happens}
 use Rattle.x25_packet_judge.specs.declared.channel.Channel.{Channel}
-use Rattle.x25_possible.specs.declared.packet.Packet.{Packet}
+use Rattle.x25_packet_judge.specs.declared.channel.Event.{Event}
 
-unfoldable pub all_alike : Channel → List Channel
-all_alike c = replicate 4096 c
+pub record Channels : Type 0 where
+  pub seen : List (Option Channel)
+  pub usual : Channel
 
-abbrev pub channel_of : ℕ → List Channel → Channel
-channel_of channel cs = slice_index_or cs (channel % 4096) any_channel
+abbrev pub all_alike : Channel → Channels
+all_alike c = record { seen = []; usual = c }
 
--- a packet of all
-abbrev pub all_take : Role → Packet → List Channel → List Channel
-all_take from x cs = map (λ c. (takes from x c).channel) cs
+-- numbers are 0 to 4,095
+abbrev pub channel_of : ℕ → Channels → Channel
+channel_of n cs = unwrap_or (slice_index_or cs.seen (n % 4096) None) cs.usual
 
--- packets were missed, of any
-abbrev pub all_lost : List Channel → List Channel
-all_lost cs = map lost cs
+-- with a place for this number
+abbrev pub padded : ℕ → List (Option Channel) → List (Option Channel)
+padded n seen = seen ++ replicate (suc n - length seen) None
+
+abbrev pub put : ℕ → Channel → Channels → Channels
+put n c cs = record { seen = slice_set (padded (n % 4096) cs.seen) (n % 4096) (Some c); usual = cs.usual }
+
+-- to all of them
+abbrev pub all_happens : Event → Channels → Channels
+all_happens e cs = record { seen = map (option_map (happens e)) cs.seen; usual = happens e cs.usual }

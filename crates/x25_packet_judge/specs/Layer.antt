@@ -20,41 +20,17 @@ is_followed Unseen = false
 is_followed Dropped = false
 is_followed Followed = true
 
--- nothing is known but how many SABMs and DISCs of the other end may be answered
-abbrev pub unknown : ℕ → Layer
-unknown asked = record {
-  track = Unseen;
-  is_fresh = false;
-  next = 0;
-  acked = 0;
-  asked = asked;
-  is_quiet = false;
-}
-
+-- nothing is known
 abbrev pub unseen : Layer
-unseen = unknown 0
+unseen = record { track = Unseen; is_fresh = false; next = 0; acked = 0; asked = 0; is_quiet = false }
 
 -- the link is set up
 abbrev pub begun : ℕ → Layer
-begun asked = record {
-  track = Followed;
-  is_fresh = true;
-  next = 0;
-  acked = 0;
-  asked = asked;
-  is_quiet = true;
-}
+begun asked = record unseen { track = Followed; is_fresh = true; asked = asked; is_quiet = true }
 
 -- packets are followed from an N(R) of the other end on: it has taken none from there on
 abbrev pub found_at : ℕ → Layer → Layer
-found_at number l = record {
-  track = Followed;
-  is_fresh = false;
-  next = number;
-  acked = number;
-  asked = l.asked;
-  is_quiet = false;
-}
+found_at number l = record unseen { track = Followed; next = number; acked = number; asked = l.asked }
 
 -- not all packets were seen
 abbrev pub lost : Layer → Layer

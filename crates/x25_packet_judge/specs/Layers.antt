@@ -1,7 +1,7 @@
 -- The packet layers of both ends, as the frames of the link show them. When packets are followed is profile.
 use Rattle.std.specs.Prelude.{ℕ, ◌+◌, ◌==◌, nat_lt, Bool, not, ◌&&◌, ◌||◌, if◌then◌else◌, min}
-use Rattle.x25_packet_judge.specs.Layer.{is_unseen, is_dropped, is_followed, begun, found_at, lost}
-use Rattle.x25_packet_judge.specs.Layer.{set_up_again, worn, late, with_asked, with_acked, moved, spoken}
+use Rattle.x25_packet_judge.specs.Layer.{is_unseen, is_dropped, is_followed, begun, found_at, lost, set_up_again, worn}
+use Rattle.x25_packet_judge.specs.Layer.{late, with_asked, with_acked, moved, spoken}
 use Rattle.x25_packet_judge.specs.Numbers.{apart, less}
 use Rattle.x25_packet_judge.specs.declared.layer.Layer.{Layer}
 use Rattle.x25_packet_judge.specs.declared.layers.Layers.{Layers}
@@ -56,21 +56,8 @@ moves number t = if is_next number t then with_own (moved t.own) t else t
 abbrev pub asks : Layers → Layers
 asks t = begins t.own.asked (asks_more t)
 
-abbrev pub accepts_late : Layers → Layers
-accepts_late t = with_own (late t.own) t
-
 abbrev pub accepts : Layers → Layers
-accepts t = if t.other.is_fresh then begins (less t.own.asked) t else accepts_late t
-
--- a UA that nothing asked for
-abbrev pub is_unasked : Layers → Bool
-is_unasked t = t.own.asked == 0
-
-abbrev pub declines : Layers → Layers
-declines t = answers t
-
-abbrev pub leaves : Layers → Layers
-leaves t = asks_more t
+accepts t = if t.other.is_fresh then begins (less t.own.asked) t else with_own (late t.own) t
 
 -- octets that spell none may have been UA, where one was asked for
 abbrev pub misses : Layers → Layers

@@ -8,5 +8,4 @@ pub mod Channels
 pub mod Layer
 pub mod Layers
 pub mod Book
-pub mod code
 pub mod laws

@@ -1,7 +1,7 @@
 -- Which rule a packet breaks that no state of its sender allows, by the state that has taken most, and which manners.
 -- ITU-T X.25 (10/96), sections 3.3, 4.1, 4.3 and 4.4.
-use Rattle.std.specs.Prelude.{ℕ, ◌-◌, ◌%◌, ◌==◌, nat_lt, nat_le, not, ◌&&◌, if◌then◌else◌, Option, Some, None}
-use Rattle.std.specs.Prelude.{unwrap_or}
+use Rattle.std.specs.Prelude.{ℕ, ◌-◌, ◌%◌, ◌==◌, nat_lt, nat_le, not, ◌&&◌, Bool, true, false, if◌then◌else◌, Option}
+use Rattle.std.specs.Prelude.{Some, None, unwrap_or}
 use Rattle.x25_packet_judge.specs.Numbers.{apart}
 use Rattle.x25_packet_judge.specs.declared.packet_rule.PacketRule.{PacketRule}
 use Rattle.x25_packet_judge.specs.declared.packet_rule.PacketRule.TheVariants.{RestartAwaited, RestartUnasked}
@@ -19,6 +19,40 @@ use Rattle.x25_possible.specs.declared.phase.Phase.{Phase}
 use Rattle.x25_possible.specs.declared.phase.Phase.TheVariants.{Talks, Resets, Clears}
 use Rattle.x25_possible.specs.declared.phase.Phase.TheVariants.{Restarts}
 use Rattle.x25_possible.specs.declared.phase.Talk.{Talk}
+
+-- ---- what breaks a rule of its own wherever it isn't allowed, and any other packet
+
+abbrev pub confirms_restart : Packet → Bool
+confirms_restart RestartConf = true
+confirms_restart x = false
+
+abbrev pub confirms_clear : Packet → Bool
+confirms_clear ClearConf = true
+confirms_clear x = false
+
+abbrev pub confirms_reset : Packet → Bool
+confirms_reset ResetConf = true
+confirms_reset x = false
+
+abbrev pub calls : Packet → Bool
+calls (Call terms) = true
+calls x = false
+
+abbrev pub accepts : Packet → Bool
+accepts (Accept said) = true
+accepts x = false
+
+abbrev pub in_restart : Packet → PacketRule → PacketRule
+in_restart x rule = if confirms_restart x then RestartUnasked else rule
+
+abbrev pub in_clear : Packet → PacketRule → PacketRule
+in_clear x rule = if confirms_clear x then ClearUnasked else in_restart x rule
+
+abbrev pub out_of_call : Packet → PacketRule → PacketRule
+out_of_call x rule = if calls x then CallAgain else if accepts x then AcceptUnasked else in_clear x rule
+
+abbrev pub in_reset : Packet → PacketRule → PacketRule
+in_reset x rule = if confirms_reset x then ResetUnasked else out_of_call x rule
 
 -- ---- in a call
 
@@ -48,40 +82,13 @@ in_call k (Rr pr) = unwrap_or (acknowledges k pr) (PacketUnsent 0)
 in_call k (Rnr pr) = unwrap_or (acknowledges k pr) (PacketUnsent 0)
 in_call k Interrupt = InterruptAgain
 in_call k InterruptConf = InterruptUnasked
-in_call k (Call terms) = CallAgain
-in_call k (Accept said) = AcceptUnasked
-in_call k ResetConf = ResetUnasked
-in_call k ClearConf = ClearUnasked
-in_call k RestartConf = RestartUnasked
-in_call k x = NoCall
-
--- ---- elsewhere: what belongs to a call breaks this rule
-
-abbrev pub out_of_call : Packet → PacketRule → PacketRule
-out_of_call (Call terms) rule = CallAgain
-out_of_call (Accept said) rule = AcceptUnasked
-out_of_call ClearConf rule = ClearUnasked
-out_of_call RestartConf rule = RestartUnasked
-out_of_call x rule = rule
-
-abbrev pub in_reset : Packet → PacketRule
-in_reset ResetConf = ResetUnasked
-in_reset x = out_of_call x ResetAwaited
-
-abbrev pub in_clear : Packet → PacketRule
-in_clear ClearConf = ClearUnasked
-in_clear RestartConf = RestartUnasked
-in_clear x = ClearAwaited
-
-abbrev pub in_restart : Packet → PacketRule
-in_restart RestartConf = RestartUnasked
-in_restart x = RestartAwaited
+in_call k x = in_reset x NoCall
 
 abbrev pub reason : Phase → Packet → PacketRule
 reason (Talks k) x = in_call k x
-reason (Resets limits) x = in_reset x
-reason Clears x = in_clear x
-reason Restarts x = in_restart x
+reason (Resets limits) x = in_reset x ResetAwaited
+reason Clears x = in_clear x ClearAwaited
+reason Restarts x = in_restart x RestartAwaited
 reason s x = out_of_call x NoCall
 
 -- ---- manners: the window of the call, and full packets where the message goes on

@@ -5,7 +5,7 @@ ghost use Rattle.x25_packet.specs.Packet.{plain};
 ghost use Rattle.x25_packet_judge.specs.Book as definition;
 ghost use Rattle.x25_wide.specs.Reading.{wide_of};
 
-use crate::channel::{Channel, Finding};
+use crate::channel::{Channel, Event, Finding};
 use crate::channels::Channels;
 use crate::item::item_of;
 use crate::layer::Layer;
@@ -181,7 +181,7 @@ impl Book {
         ensures verdict { result ≡ (definition.restarts from item is_judged self.old).verdict }
     {
         let finding = self.restarts.takes(from, item);
-        self.channels.take(from, item);
+        self.channels.happens(Event::Sends(from, item));
         Verdict {
             rule: finding.rule,
             unjudged: None,
@@ -190,7 +190,7 @@ impl Book {
     }
 
     /// A packet; what is told of it is answered.
-    #[tactic(auto, unfolding(crate::specs::Book::takes))]
+    #[tactic(auto, unfolding(crate::specs::Book::takes, crate::specs::Item::item_of))]
     fn takes(&mut self, from: Role, channel: u16, packet: &Packet) -> Verdict
         ensures book { self.new ≡ (definition.takes from channel (plain packet.now) self.old).book }
         ensures verdict { result ≡ (definition.takes from channel (plain packet.now) self.old).verdict }
@@ -200,22 +200,7 @@ impl Book {
         match packet {
             Packet::Restart { .. } => self.restarts(from, Item::Restart, true),
             Packet::RestartConf => self.restarts(from, Item::RestartConf, false),
-            Packet::Call { .. }
-            | Packet::Accept { .. }
-            | Packet::Clear { .. }
-            | Packet::ClearConf { .. }
-            | Packet::Data { .. }
-            | Packet::Rr { .. }
-            | Packet::Rnr { .. }
-            | Packet::Interrupt { .. }
-            | Packet::InterruptConf { .. }
-            | Packet::Reset { .. }
-            | Packet::ResetConf { .. } => self.follows(
-                from,
-                channel,
-                item_of(packet),
-                layers.own.is_quiet,
-            ),
+            _ => self.follows(from, channel, item_of(packet), layers.own.is_quiet),
         }
     }
 
@@ -224,7 +209,7 @@ impl Book {
         ensures { self.new ≡ definition.forgets self.old }
     {
         self.restarts.lose();
-        self.channels.lose();
+        self.channels.happens(Event::Loss);
     }
 
     /// Octets that spell no packet: nothing may be said of any channel where they name none.
@@ -346,7 +331,7 @@ impl Book {
         ensures { self.new ≡ definition.accepts_if from is_broken (definition.layers_of from self.old) self.old }
     {
         let layers = self.layers(from);
-        if is_broken && layers.is_unasked() {
+        if is_broken && layers.own.asked == 0 {
             return;
         }
         self.accepts(from, layers);
@@ -404,11 +389,11 @@ impl Book {
                 passed(None)
             }
             Frame::Dm { .. } => {
-                self.keep(from, self.layers(from).declines());
+                self.keep(from, self.layers(from).answers());
                 passed(None)
             }
             Frame::Disc { .. } => {
-                self.keep(from, self.layers(from).leaves());
+                self.keep(from, self.layers(from).asks_more());
                 passed(None)
             }
             Frame::Frmr { .. } => passed(None),

@@ -1,12 +1,13 @@
 //! Both ends of a logical channel, as the sets of states in which they may be.
-ghost use Rattle.std.specs.Prelude.{◌≡◌};
+ghost use Rattle.std.specs.Prelude.{◌≡◌, true};
 ghost use Rattle.x25_packet_judge.specs.Channel as definition;
+ghost use Rattle.x25_possible.specs.code.Steps.{begun};
 ghost use Rattle.x25_possible.specs.declared.packet.Packet.TheVariants.{Elsewhere};
 
 use crate::packet_rule::{PacketRule, is_order};
 use crate::reason::{manners, reason};
 use x25_bits::Role;
-use x25_possible::{Packet, Set, Told};
+use x25_possible::{Packet, Phase, Set, Told};
 
 /// Both ends of a channel, or of all that were never seen.
 #[derive(Drop)]
@@ -15,6 +16,13 @@ pub(crate) struct Channel {
     pub(crate) dce: Set,
     /// It was noted that one of them isn't known.
     pub(crate) is_noted: bool,
+}
+
+/// What happens to all channels: an end sends a packet; or packets of both weren't seen.
+#[derive(Clone, Copy)]
+pub(crate) enum Event {
+    Sends(Role, Packet),
+    Loss,
 }
 
 /// What is told of a packet, whether it was judged, and whether it is to be noted that it wasn't.
@@ -32,6 +40,19 @@ fn rule_of(told: Told, packet: Packet) -> Option<PacketRule>
         Told::Nothing => None,
         Told::Rude(phase) => Some(manners(phase)),
         Told::Broken(phase) => Some(reason(phase, packet)),
+    }
+}
+
+/// Whether an end has surely restarted, and nothing is on the way to it.
+fn is_begun(set: &Set) -> bool
+    ensures { result ≡ true → set.now ≡ begun set.now.role }
+{
+    match set.spots.as_slice() {
+        [spot] => matches!(spot.phase, Phase::Idle)
+            && spot.at == 0
+            && set.way.is_empty()
+            && set.is_known(),
+        _ => false,
     }
 }
 
@@ -122,12 +143,27 @@ impl Channel {
         }
     }
 
+    pub(crate) fn happens(&mut self, event: Event)
+        ensures { self.new ≡ definition.happens event self.old }
+    {
+        match event {
+            Event::Sends(from, packet) => {
+                self.takes(from, packet);
+            }
+            Event::Loss => self.lose(),
+        }
+    }
+
     /// An end sends a packet on another channel; whether its RESTART, or that of the other end, is to be answered
     /// first.
     pub(crate) fn passes_over(&mut self, from: Role) -> bool
         ensures channel { self.new ≡ (definition.takes from Elsewhere self.old).channel }
         ensures early { result ≡ definition.is_early from self.old }
     {
+        // It changes nothing then: most packets of a trace go so.
+        if is_begun(&self.dte) && is_begun(&self.dce) {
+            return false;
+        }
         is_order(self.takes(from, Packet::Elsewhere).rule)
     }
 
@@ -159,9 +195,7 @@ impl Channel {
         if !finding.is_judged {
             return self.passes();
         }
-        if self.is_known() {
-            self.is_noted = false;
-        }
+        self.is_noted = self.is_noted && !self.is_known();
         finding
     }
 

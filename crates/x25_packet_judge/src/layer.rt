@@ -42,25 +42,18 @@ impl Track {
 }
 
 impl Layer {
-    /// Nothing is known but how many SABMs and DISCs of the other end may be answered.
-    pub(crate) fn unknown(asked: u8) -> Layer
-        ensures { result ≡ definition.unknown asked }
+    /// Nothing is known.
+    pub(crate) fn unseen() -> Layer
+        ensures { result ≡ definition.unseen }
     {
         Layer {
             track: Track::Unseen,
             is_fresh: false,
             next: 0,
             acked: 0,
-            asked,
+            asked: 0,
             is_quiet: false,
         }
-    }
-
-    /// Nothing is known.
-    pub(crate) fn unseen() -> Layer
-        ensures { result ≡ definition.unseen }
-    {
-        Layer::unknown(0)
     }
 
     /// The link is set up.
@@ -70,10 +63,9 @@ impl Layer {
         Layer {
             track: Track::Followed,
             is_fresh: true,
-            next: 0,
-            acked: 0,
             asked,
             is_quiet: true,
+            ..Layer::unseen()
         }
     }
 
@@ -83,11 +75,10 @@ impl Layer {
     {
         Layer {
             track: Track::Followed,
-            is_fresh: false,
             next: number,
             acked: number,
             asked: self.asked,
-            is_quiet: false,
+            ..Layer::unseen()
         }
     }
 

@@ -45,13 +45,15 @@ impl Layers {
             .with_own(Layer::begun(asked))
     }
 
-    fn asks_more(self) -> Layers
+    /// SABM or DISC asks for UA or DM.
+    pub(crate) fn asks_more(self) -> Layers
         ensures { result ≡ definition.asks_more self }
     {
         self.with_other(self.other.with_asked(self.other.asked.saturating_add(1)))
     }
 
-    fn answers(self) -> Layers
+    /// The end sends DM.
+    pub(crate) fn answers(self) -> Layers
         ensures { result ≡ definition.answers self }
     {
         self.with_own(self.own.with_asked(less(self.own.asked)))
@@ -119,43 +121,15 @@ impl Layers {
         self.asks_more().begins(self.own.asked)
     }
 
-    /// The end sends UA again, behind frames that the other end sent since it is up.
-    fn accepts_late(self) -> Layers
-        ensures { result ≡ definition.accepts_late self }
-    {
-        self.with_own(self.own.late())
-    }
-
-    /// The end sends UA.
+    /// The end sends UA, which comes again behind frames that the other end sent since it is up.
     pub(crate) fn accepts(self) -> Layers
         ensures { result ≡ definition.accepts self }
     {
         if self.other.is_fresh {
             self.begins(less(self.own.asked))
         } else {
-            self.accepts_late()
+            self.with_own(self.own.late())
         }
-    }
-
-    /// Whether a UA was asked for by nothing.
-    pub(crate) fn is_unasked(self) -> bool
-        ensures { result ≡ definition.is_unasked self }
-    {
-        self.own.asked == 0
-    }
-
-    /// The end sends DM.
-    pub(crate) fn declines(self) -> Layers
-        ensures { result ≡ definition.declines self }
-    {
-        self.answers()
-    }
-
-    /// The end sends DISC.
-    pub(crate) fn leaves(self) -> Layers
-        ensures { result ≡ definition.leaves self }
-    {
-        self.asks_more()
     }
 
     /// The first end sends octets that are no frame: they may have been UA, where one was asked for.

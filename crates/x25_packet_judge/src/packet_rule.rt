@@ -39,23 +39,7 @@ impl PacketRule {
         match self {
             PacketRule::OverPackets { window } => window < 7,
             PacketRule::NotFull { .. } => true,
-            PacketRule::NoPacket
-            | PacketRule::RestartAwaited
-            | PacketRule::RestartUnasked
-            | PacketRule::ClearAwaited
-            | PacketRule::ClearUnasked
-            | PacketRule::CallAgain
-            | PacketRule::AcceptUnasked
-            | PacketRule::NoCall
-            | PacketRule::ResetAwaited
-            | PacketRule::ResetUnasked
-            | PacketRule::PacketUnsent { .. }
-            | PacketRule::PacketFalls { .. }
-            | PacketRule::PacketSkips { .. }
-            | PacketRule::InterruptAgain
-            | PacketRule::InterruptUnasked
-            | PacketRule::TooManyOctets { .. }
-            | PacketRule::QualifierChanges => false,
+            _ => false,
         }
     }
 }

@@ -50,19 +50,7 @@ fn number(rule: PacketRule) -> Option<u16>
         PacketRule::OverPackets { window } => Some(u16::from(window)),
         PacketRule::TooManyOctets { most } => Some(most),
         PacketRule::NotFull { size } => Some(size),
-        PacketRule::NoPacket
-        | PacketRule::RestartAwaited
-        | PacketRule::RestartUnasked
-        | PacketRule::ClearAwaited
-        | PacketRule::ClearUnasked
-        | PacketRule::CallAgain
-        | PacketRule::AcceptUnasked
-        | PacketRule::NoCall
-        | PacketRule::ResetAwaited
-        | PacketRule::ResetUnasked
-        | PacketRule::InterruptAgain
-        | PacketRule::InterruptUnasked
-        | PacketRule::QualifierChanges => None,
+        _ => None,
     }
 }
 

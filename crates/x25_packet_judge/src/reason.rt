@@ -41,16 +41,55 @@ fn follows(talk: Talk, ps: u8, size: u16) -> PacketRule
     }
 }
 
+/// While its RESTART waits: what isn't its confirmation breaks `rule`.
+fn in_restart(packet: Packet, rule: PacketRule) -> PacketRule
+    ensures { result ≡ definition.in_restart packet rule }
+{
+    if matches!(packet, Packet::RestartConf) {
+        PacketRule::RestartUnasked
+    } else {
+        rule
+    }
+}
+
+/// The same while its CLEAR waits.
+fn in_clear(packet: Packet, rule: PacketRule) -> PacketRule
+    ensures { result ≡ definition.in_clear packet rule }
+{
+    if matches!(packet, Packet::ClearConf) {
+        PacketRule::ClearUnasked
+    } else {
+        in_restart(packet, rule)
+    }
+}
+
+/// The same where there is no call.
+fn out_of_call(packet: Packet, rule: PacketRule) -> PacketRule
+    ensures { result ≡ definition.out_of_call packet rule }
+{
+    match packet {
+        Packet::Call(_) => PacketRule::CallAgain,
+        Packet::Accept(_) => PacketRule::AcceptUnasked,
+        _ => in_clear(packet, rule),
+    }
+}
+
+/// The same while its RESET waits.
+fn in_reset(packet: Packet, rule: PacketRule) -> PacketRule
+    ensures { result ≡ definition.in_reset packet rule }
+{
+    if matches!(packet, Packet::ResetConf) {
+        PacketRule::ResetUnasked
+    } else {
+        out_of_call(packet, rule)
+    }
+}
+
 /// In a call.
 fn in_call(talk: Talk, packet: Packet) -> PacketRule
     ensures { result ≡ definition.in_call talk packet }
 {
     match packet {
-        Packet::Call(_) => PacketRule::CallAgain,
-        Packet::Accept(_) => PacketRule::AcceptUnasked,
-        Packet::ClearConf => PacketRule::ClearUnasked,
-        Packet::RestartConf => PacketRule::RestartUnasked,
-        Packet::ResetConf => PacketRule::ResetUnasked,
         Packet::Interrupt => PacketRule::InterruptAgain,
         Packet::InterruptConf => PacketRule::InterruptUnasked,
         Packet::Data { ps, pr, size, .. } => acknowledges(talk, pr).unwrap_or(follows(
@@ -59,62 +98,7 @@ fn in_call(talk: Talk, packet: Packet) -> PacketRule
         Packet::Rr(pr) | Packet::Rnr(pr) => acknowledges(talk, pr).unwrap_or(
             PacketRule::PacketUnsent { most: 0 },
         ),
-        Packet::Clear | Packet::Reset | Packet::Restart | Packet::Elsewhere => PacketRule::NoCall,
-    }
-}
-
-/// Without one, or while it is reset: what it breaks that belongs to a call is `rule`.
-fn out_of_call(packet: Packet, rule: PacketRule) -> PacketRule
-    ensures { result ≡ definition.out_of_call packet rule }
-{
-    match packet {
-        Packet::Call(_) => PacketRule::CallAgain,
-        Packet::Accept(_) => PacketRule::AcceptUnasked,
-        Packet::ClearConf => PacketRule::ClearUnasked,
-        Packet::RestartConf => PacketRule::RestartUnasked,
-        Packet::Clear
-        | Packet::Reset
-        | Packet::ResetConf
-        | Packet::Restart
-        | Packet::Data { .. }
-        | Packet::Rr(_)
-        | Packet::Rnr(_)
-        | Packet::Interrupt
-        | Packet::InterruptConf
-        | Packet::Elsewhere => rule,
-    }
-}
-
-/// While its RESET waits.
-fn in_reset(packet: Packet) -> PacketRule
-    ensures { result ≡ definition.in_reset packet }
-{
-    if matches!(packet, Packet::ResetConf) {
-        PacketRule::ResetUnasked
-    } else {
-        out_of_call(packet, PacketRule::ResetAwaited)
-    }
-}
-
-/// While its CLEAR waits.
-fn in_clear(packet: Packet) -> PacketRule
-    ensures { result ≡ definition.in_clear packet }
-{
-    match packet {
-        Packet::ClearConf => PacketRule::ClearUnasked,
-        Packet::RestartConf => PacketRule::RestartUnasked,
-        _ => PacketRule::ClearAwaited,
-    }
-}
-
-/// While its RESTART waits.
-fn in_restart(packet: Packet) -> PacketRule
-    ensures { result ≡ definition.in_restart packet }
-{
-    if matches!(packet, Packet::RestartConf) {
-        PacketRule::RestartUnasked
-    } else {
-        PacketRule::RestartAwaited
+        _ => in_reset(packet, PacketRule::NoCall),
     }
 }
 
@@ -124,16 +108,10 @@ pub(crate) fn reason(phase: Phase, packet: Packet) -> PacketRule
 {
     match phase {
         Phase::Talks(talk) => in_call(talk, packet),
-        Phase::Resets(_) => in_reset(packet),
-        Phase::Clears => in_clear(packet),
-        Phase::Restarts => in_restart(packet),
-        Phase::Idle
-        | Phase::Calls(_)
-        | Phase::WasCalled(_)
-        | Phase::Free
-        | Phase::WasReset(_)
-        | Phase::WasCleared
-        | Phase::WasRestarted => out_of_call(packet, PacketRule::NoCall),
+        Phase::Resets(_) => in_reset(packet, PacketRule::ResetAwaited),
+        Phase::Clears => in_clear(packet, PacketRule::ClearAwaited),
+        Phase::Restarts => in_restart(packet, PacketRule::RestartAwaited),
+        _ => out_of_call(packet, PacketRule::NoCall),
     }
 }
 

@@ -202,48 +202,44 @@ impl Set {
         self.knowledge = Knowledge::Blind;
     }
 
-    fn take(&mut self, spots: Spots)
-        ensures { self.new ≡ definition.standing self.old.role self.old.way.items spots.items self.old.knowledge }
+    fn take(&mut self, spots: &Spots)
+        ensures { self.new ≡ definition.standing self.old.role self.old.way.items spots.now.items self.old.knowledge }
     {
-        self.spots = spots;
+        self.spots.clear();
+        let _ = self.spots.try_extend_from_slice(spots.as_slice());
     }
 
-    /// Where all have come to the end of the way, nothing is on it.
-    fn trim(&mut self)
+    /// Where all have come to the end of the way, nothing is on it. `next` is overwritten.
+    fn trim(&mut self, next: &mut Spots)
         ensures { self.new ≡ definition.trimmed self.old }
     {
-        if self.is_awaiting() && are_at_end(&self.spots, self.way.len()) {
-            match anew(&self.spots) {
-                None => {}
-                Some(spots) => {
-                    self.spots = spots;
-                    self.way.clear();
-                }
-            }
+        if self.is_awaiting()
+            && are_at_end(&self.spots, self.way.len())
+            && anew(&self.spots, next)
+        {
+            self.take(next);
+            self.way.clear();
         }
     }
 
     /// Behind a packet that no state allows: numbers go on from it, or nothing is known.
-    fn breaks(&mut self, packet: Packet)
+    fn breaks(&mut self, packet: Packet, next: &mut Spots)
         ensures { self.new ≡ definition.breaks packet self.old }
     {
-        match gone(true, self.role, &self.spots, &self.way, packet) {
-            None => self.lose(),
-            Some(spots) => if spots.is_empty() {
-                self.lose()
-            } else {
-                self.take(spots)
-            },
+        if gone(true, self.role, &self.spots, &self.way, packet, next) && !next.is_empty() {
+            self.take(next);
+        } else {
+            self.lose();
         }
     }
 
-    fn is_unexplained(&mut self, packet: Packet) -> Told
+    fn is_unexplained(&mut self, packet: Packet, next: &mut Spots) -> Told
         ensures set { self.new ≡ (definition.unexplained packet self.old).set }
         ensures told { result ≡ (definition.unexplained packet self.old).told }
     {
         if self.is_known() {
             let phase = latest(self.spots.as_slice());
-            self.breaks(packet);
+            self.breaks(packet, next);
             Told::Broken(phase)
         } else {
             self.lose();
@@ -251,9 +247,9 @@ impl Set {
         }
     }
 
-    fn is_explained(&mut self, packet: Packet, spots: Spots) -> Told
-        ensures set { self.new ≡ (definition.explained packet spots.items self.old).set }
-        ensures told { result ≡ (definition.explained packet spots.items self.old).told }
+    fn is_explained(&mut self, packet: Packet, spots: &Spots) -> Told
+        ensures set { self.new ≡ (definition.explained packet spots.now.items self.old).set }
+        ensures told { result ≡ (definition.explained packet spots.now.items self.old).told }
     {
         if self.is_known() {
             let found = rude(self.spots.as_slice(), packet);
@@ -269,8 +265,8 @@ impl Set {
     }
 
     /// The end may be anywhere on the way, and a packet says where it is behind it.
-    fn locates(&mut self, packet: Packet, spots: Spots)
-        ensures { self.new ≡ definition.located packet spots.items self.old }
+    fn locates(&mut self, packet: Packet, spots: &mut Spots)
+        ensures { self.new ≡ definition.located packet spots.old.items self.old }
     {
         self.knowledge = if makes_known(self.knowledge, packet, spots.as_slice()) {
             Knowledge::Known
@@ -278,39 +274,33 @@ impl Set {
             Knowledge::Likely
         };
         self.take(spots);
-        self.trim();
+        self.trim(spots);
     }
 
     /// A packet of an end that may be anywhere on the way.
-    fn finds(&mut self, packet: Packet)
+    fn finds(&mut self, packet: Packet, next: &mut Spots)
         ensures { self.new ≡ definition.finds packet self.old }
     {
         if !self.is_lost() || !may_find(self.knowledge, packet) {
             return;
         }
-        match found_all(self.role, &self.way, packet) {
-            None => {}
-            Some(spots) => if !spots.is_empty() {
-                self.locates(packet, spots);
-            },
+        if found_all(self.role, &self.way, packet, next) && !next.is_empty() {
+            self.locates(packet, next);
         }
     }
 
     /// As `sends`, with what came left on the way.
-    fn goes(&mut self, packet: Packet) -> Told
+    fn goes(&mut self, packet: Packet, next: &mut Spots) -> Told
         ensures set { self.new ≡ (definition.sent packet self.old).set }
         ensures told { result ≡ (definition.sent packet self.old).told }
     {
-        match gone(false, self.role, &self.spots, &self.way, packet) {
-            None => {
-                self.give_up();
-                Told::Nothing
-            }
-            Some(spots) => if spots.is_empty() {
-                self.is_unexplained(packet)
-            } else {
-                self.is_explained(packet, spots)
-            },
+        if !gone(false, self.role, &self.spots, &self.way, packet, next) {
+            self.give_up();
+            Told::Nothing
+        } else if next.is_empty() {
+            self.is_unexplained(packet, next)
+        } else {
+            self.is_explained(packet, next)
         }
     }
 
@@ -319,12 +309,13 @@ impl Set {
         ensures set { self.new ≡ (definition.sends_to packet self.old).set }
         ensures told { result ≡ (definition.sends_to packet self.old).told }
     {
+        let mut next = Spots::new();
         if self.is_blind() {
-            self.finds(packet);
+            self.finds(packet, &mut next);
             return Told::Nothing;
         }
-        let told = self.goes(packet);
-        self.trim();
+        let told = self.goes(packet, &mut next);
+        self.trim(&mut next);
         told
     }
 
@@ -343,7 +334,7 @@ impl Set {
     }
 
     /// As `shows`, with what came left on the way.
-    fn grows(&mut self, packet: Packet)
+    fn grows(&mut self, packet: Packet, next: &mut Spots)
         ensures { self.new ≡ definition.shown packet self.old }
     {
         if self.way.is_full() {
@@ -353,14 +344,13 @@ impl Set {
         let is_known = self.is_known() || are_answered(self.role, self.spots.as_slice(), packet);
         let last = self.way.len();
         self.way.push(packet);
-        match grown(self.role, &self.spots, last, &self.way) {
-            None => self.give_up(),
-            Some(spots) => {
-                self.spots = spots;
-                if is_known {
-                    self.knowledge = Knowledge::Known;
-                }
-            }
+        if !grown(self.role, &self.spots, last, &self.way, next) {
+            self.give_up();
+            return;
+        }
+        self.take(next);
+        if is_known {
+            self.knowledge = Knowledge::Known;
         }
     }
 
@@ -372,7 +362,8 @@ impl Set {
             self.awaits(packet);
             return;
         }
-        self.grows(packet);
-        self.trim();
+        let mut next = Spots::new();
+        self.grows(packet, &mut next);
+        self.trim(&mut next);
     }
 }

@@ -222,7 +222,7 @@ fn anew_all(spots: &[Spot], out: &mut Spots) -> bool
     true
 }
 
-// ---- a new list; None: no room
+// ---- a new list. False: no room
 
 pub(crate) fn gone(
     breaks: bool,
@@ -230,23 +230,13 @@ pub(crate) fn gone(
     spots: &Spots,
     way: &ArrayVec<Packet, 16>,
     packet: Packet,
-) -> Option<Spots>
-    ensures { definition.listed result
+    out: &mut Spots,
+) -> bool
+    ensures { definition.made result out.new.items
         ≡ definition.go_all breaks role way.now.items packet spots.now.items [] }
 {
-    let mut out = Spots::new();
-    if go_all(
-        breaks,
-        role,
-        spots.as_slice(),
-        way.as_slice(),
-        packet,
-        &mut out,
-    ) {
-        Some(out)
-    } else {
-        None
-    }
+    out.clear();
+    go_all(breaks, role, spots.as_slice(), way.as_slice(), packet, out)
 }
 
 /// With `last` in front of the last packet on the way.
@@ -255,38 +245,33 @@ pub(crate) fn grown(
     spots: &Spots,
     last: usize,
     way: &ArrayVec<Packet, 16>,
-) -> Option<Spots>
-    ensures { definition.listed result ≡ definition.grow_all role last way.now.items spots.now.items [] }
+    out: &mut Spots,
+) -> bool
+    ensures { definition.made result out.new.items
+        ≡ definition.grow_all role last way.now.items spots.now.items [] }
 {
-    let mut out = Spots::new();
-    if grow_all(role, spots.as_slice(), last, way.as_slice(), &mut out) {
-        Some(out)
-    } else {
-        None
-    }
+    out.clear();
+    grow_all(role, spots.as_slice(), last, way.as_slice(), out)
 }
 
-pub(crate) fn anew(spots: &Spots) -> Option<Spots>
-    ensures { definition.listed result ≡ definition.anew spots.now.items [] }
+pub(crate) fn anew(spots: &Spots, out: &mut Spots) -> bool
+    ensures { definition.made result out.new.items ≡ definition.anew spots.now.items [] }
 {
-    let mut out = Spots::new();
-    if anew_all(spots.as_slice(), &mut out) {
-        Some(out)
-    } else {
-        None
-    }
+    out.clear();
+    anew_all(spots.as_slice(), out)
 }
 
 /// Where an end is behind a packet that may have been anywhere on the way.
-pub(crate) fn found_all(role: Role, way: &ArrayVec<Packet, 16>, packet: Packet) -> Option<Spots>
-    ensures { definition.listed result ≡ definition.found_from role None 0 way.now.items packet [] }
+pub(crate) fn found_all(
+    role: Role,
+    way: &ArrayVec<Packet, 16>,
+    packet: Packet,
+    out: &mut Spots,
+) -> bool
+    ensures { definition.made result out.new.items ≡ definition.found_from role None 0 way.now.items packet [] }
 {
-    let mut out = Spots::new();
-    if find(role, None, 0, way.as_slice(), packet, &mut out) {
-        Some(out)
-    } else {
-        None
-    }
+    out.clear();
+    find(role, None, 0, way.as_slice(), packet, out)
 }
 
 /// Whether each has come to the end of the way.

@@ -1,12 +1,11 @@
 -- What is told of an end by a book, packet by packet, and what a book is behind the packets of both ends.
 use Rattle.std.specs.Prelude.{◌≡◌, ℕ, ◌%◌, ◌==◌, Bool, true, false, not, ◌&&◌, ◌||◌, if◌then◌else◌, List, [], ◌∷◌}
-use Rattle.std.specs.Prelude.{length}
 use Rattle.std.specs.Prelude.{Option, Some, None, is_some}
 use Rattle.x25_bits.specs.declared.role.Role.{Role}
 use Rattle.x25_bits.specs.declared.role.Role.TheVariants.{Dte, Dce}
 use Rattle.x25_packet.specs.Packet.{PlainPacket, restart, restart_conf}
-use Rattle.x25_packet_judge.specs.Book.{begins, layers_of, takes}
-use Rattle.x25_packet_judge.specs.Channel.{any_channel, rule_of}
+use Rattle.x25_packet_judge.specs.Book.{begins, is_of_all, is_restart, layers_of, takes}
+use Rattle.x25_packet_judge.specs.Channel.{any_channel, by_end, rule_of}
 use Rattle.x25_packet_judge.specs.Channels.{channel_of}
 use Rattle.x25_packet_judge.specs.Item.{item_of}
 use Rattle.x25_packet_judge.specs.PacketRule.{is_of_manners, is_order}
@@ -29,21 +28,10 @@ use Rattle.x25_possible.specs.declared.spots.Spot.{Spot}
 -- ---- the sets of an end
 
 abbrev pub end_of : Role → Channel → Set
-end_of Dte c = c.dte
-end_of Dce c = c.dce
+end_of role c = by_end role c.dte c.dce
 
 abbrev pub set_of : Role → ℕ → Book → Set
 set_of role channel b = end_of role (channel_of channel b.channels)
-
--- RESTART and its confirmation are of all channels
-abbrev pub is_of_all : PlainPacket → Bool
-is_of_all (restart cause diagnostic) = true
-is_of_all restart_conf = true
-is_of_all packet = false
-
-abbrev pub is_restart : PlainPacket → Bool
-is_restart (restart cause diagnostic) = true
-is_restart packet = false
 
 -- the set that a packet is judged by
 abbrev pub asked_of : Role → ℕ → PlainPacket → Book → Set
@@ -123,15 +111,13 @@ of_restarts packet = if is_of_all packet then item_of packet else Elsewhere
 
 -- Of each end and channel the book has the set that its own tape gives, whatever goes on other channels.
 pub record BooksFollowTapes : Type 0 where
-  pub channels : (b : Book) (role from : Role) (channel of : ℕ) (packet : PlainPacket) → length b.channels ≡ 4096
+  pub channels : (b : Book) (role from : Role) (channel of : ℕ) (packet : PlainPacket)
       → set_of role channel (takes from of packet b).book
       ≡ (if is_on channel of packet then behind_item (seen_by role from (item_of packet)) (set_of role channel b)
       else set_of role channel b)
   pub restarts : (b : Book) (role from : Role) (of : ℕ) (packet : PlainPacket) → is_quiet from b ≡ false
       → end_of role (takes from of packet b).book.restarts
       ≡ behind_item (seen_by role from (of_restarts packet)) (end_of role b.restarts)
-  pub size : (b : Book) (from : Role) (of : ℕ) (packet : PlainPacket)
-      → length (takes from of packet b).book.channels ≡ length b.channels
   pub spoken : (b : Book) (role from : Role) (of : ℕ) (packet : PlainPacket) → is_quiet role b ≡ false
       → is_quiet role (takes from of packet b).book ≡ false
 
@@ -159,7 +145,6 @@ tape_of_restarts role (p ∷ ps) tape = seen_by role p.from (of_restarts p.packe
 
 -- Since an end was restarted these packets were seen, on a channel and of restarts, and both ends have sent one.
 pub record IsBehind (role : Role) (channel : ℕ) (tape restarts : List (Item Packet)) (b : Book) : Type 0 where
-  pub size : length b.channels ≡ 4096
   pub dte : is_quiet Dte b ≡ false
   pub dce : is_quiet Dce b ≡ false
   pub set : set_of role channel b ≡ behind role tape

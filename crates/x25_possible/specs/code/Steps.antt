@@ -2,7 +2,6 @@
 -- than eight states: None where there is no room, or a number is too large.
 use Rattle.std.specs.Prelude.{ℕ, ◌+◌, ◌==◌, nat_lt, nat_le, Bool, true, false, not, ◌&&◌, ◌||◌, if◌then◌else◌}
 use Rattle.std.specs.Prelude.{List, [], ◌∷◌, ◌++◌, length, drop, Option, Some, None}
-use Rattle.arrayvec.specs.ArrayVec.{ArrayVec}
 use Rattle.x25_bits.specs.declared.role.Role.{Role}
 use Rattle.x25_bits.specs.declared.role.Role.TheVariants.{Dte, Dce}
 use Rattle.x25_possible.specs.Channel.{at_once, dropped, found, goes_on, is_polite, sends, takes}
@@ -48,10 +47,6 @@ kept spot out = if is_there spot out then Some out else if length out == 8 then 
 -- a list that was made, where there was room
 abbrev pub made : Bool → List Spot → Option (List Spot)
 made b out = if b then Some out else None
-
-abbrev pub listed : Option (ArrayVec Spot) → Option (List Spot)
-listed None = None
-listed (Some v) = Some v.items
 
 abbrev pub and_then : Option (List Spot) → (List Spot → Option (List Spot)) → Option (List Spot)
 and_then None f = None

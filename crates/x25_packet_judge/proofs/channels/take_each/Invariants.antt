@@ -1,8 +1,0 @@
-use Rattle.std.proofs.Common.{◌≡◌, map}
-use Rattle.x25_packet_judge.specs.code.Slots.{slot_takes}
-use Rattle.x25_packet_judge.proofs.ListLemmas.{left_mapped}
-use Rattle.x25_packet_judge.proofs.channels.take_each.Given as goal
-
--- those in front are changed
-abbrev pub invariant-loop-slot : goal.invariant-loop-slot
-invariant-loop-slot l = left_mapped (slot_takes l.begun l.turn l.usual l.from l.packet) l.slot-index l.slot-items ≡ map (slot_takes l.begun l.turn l.usual l.from l.packet) l.initial.slot-items
