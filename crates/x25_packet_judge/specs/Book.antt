@@ -60,6 +60,10 @@ forgets b = record {
   channels = all_lost b.channels;
 }
 
+-- frames weren't seen, of either end
+abbrev pub passes_gap : Book → Book
+passes_gap b = forgets (record { dte = unseen; dce = unseen; restarts = b.restarts; channels = b.channels })
+
 -- ---- a packet
 
 -- behind a frame, with what is told of its packet

@@ -130,6 +130,13 @@ impl LinkSet {
         unread(self.way.as_slice())
     }
 
+    /// Whether SABM or DISC may wait for its answer.
+    pub fn has_request(&self) -> bool
+        ensures { result ≡ definition.has_request self.now.way.items }
+    {
+        has_request(self.way.as_slice())
+    }
+
     /// Whether UA of it is judged: SABM or DISC may wait for it, or all that waits is shown.
     pub fn judges_answer(&self) -> bool
         ensures { result ≡ definition.judges_answer self.now }
