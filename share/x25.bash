@@ -17,7 +17,8 @@ _x25() {
             sim:*) words="--tap --events --down --loose --long --say-sizes --wide --k --n2 --channels --help" ;;
             station:station) words="dte dce --help" ;;
             station:*) words="--long --say-sizes --wide --k --n2 --channels --incoming --outgoing --clock --t1 --t3 --t20 --t21 --t22 --t23 --help" ;;
-            judge:*) words="--k --long --loose --wide --manners --strict --help" ;;
+            judge:--at) words="line dte dce either" ;;
+            judge:*) words="--k --at --long --loose --wide --manners --strict --help" ;;
             deframe:deframe) words="dte dce --help" ;;
             deframe:*) words="--help" ;;
             decode:*) words="--long --loose --wide --help" ;;

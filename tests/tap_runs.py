@@ -14,7 +14,7 @@ import sys
 import runs
 
 import judge_runs
-from x25tools import judging, losses, pcap2x25, simruns  # where runs finds it
+from x25tools import judging, losses, pcap2x25, simruns, x25lines  # where runs finds it
 from x25tools.drawing import DAMAGED
 
 LOST = 0.15
@@ -56,7 +56,7 @@ def with_gaps(dice, frames):
     for frame in frames:
         if left == 0 and dice.chance(0.03):
             left = 1 + dice.below(12)
-            yield judging.GAP
+            yield f"{frame[0]} {x25lines.GAP}"
         if left:
             left -= 1
         else:

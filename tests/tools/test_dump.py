@@ -14,7 +14,7 @@ from support import ToolCase
 
 import golden
 from x25tools import messages, x25names
-from x25tools.pcap2x25 import LACKS
+from x25tools.x25lines import LACKS
 from x25tools.x25lines import fcs
 
 CALL, DATA = bytes.fromhex("10010b43123456700041"), bytes.fromhex("1001006869")
@@ -142,9 +142,9 @@ class Joining(unittest.TestCase):
         restart = "I cmd P=0 S=1 R=0 | RESTART cause=0 diag=0"
         for is_made_up in False, True:
             line = messages.Messages(0, is_made_up)
-            frames = [f"> {data(0, 'a', 1)}", LACKS, f"> {data(0, 'b')}", "< RR rsp F=0 R=1", f"> {restart}", f"> {data(2, 'c', 0, 2)}"]
+            frames = [f"> {data(0, 'a', 1)}", "< ..", f"> {data(0, 'b')}", "< RR rsp F=0 R=1", f"> {restart}", f"> {data(2, 'c', 0, 2)}"]
             found = line.take([("", frame) for frame in frames])
-            self.assertEqual([it[1:4] for it in found], [(">", 1, "message broken off by missing frames"), ("", None, LACKS), (">", 1, unsure), (">", 2, "message")])
+            self.assertEqual([it[1:4] for it in found], [(">", 1, "message broken off by missing frames"), ("", None, f"# {LACKS}"), (">", 1, unsure), (">", 2, "message")])
 
     def test_an_acknowledgement_of_what_was_not_sent_tells_nothing(self):
         frames = (">", data(0, "a")), ("<", "RR rsp F=0 R=5"), ("<", "RR rsp F=0 R=1"), ("<", "RR rsp F=0 R=0"), (">", data(1, "b"))

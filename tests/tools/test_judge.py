@@ -80,10 +80,12 @@ class Cases(unittest.TestCase):
         self.assertGreater(len(self.rules), 20)
         broken, ill = self.broken(" ! ", self.rules), self.broken(" ~ manners: ", self.manners)
         for name, case in self.cases.items():
-            is_strict = "--strict" in case.words and re.search(rb"^# .* [1-9]\d* not judged$", case.output, re.MULTILINE)
+            is_strict = "--strict" in case.words and re.search(rb"^# .* [1-9]\d* not judged$|^[<>] \.\.$| in doubt$", case.output, re.MULTILINE)
+            doubts = len(re.findall(rb" (?:!|~)\? ", case.output))
             counts = broken[name] or ("--manners" in case.words and ill[name]) or is_strict or b"\n? 60\n" in b"\n" + case.output
             self.assertEqual(case.status, 1 if counts else 0, name)
-            self.assertTrue(case.output.endswith(b"# told: %d rules, %d manners\n" % (len(broken[name]), len(ill[name]))), name)
+            more = b", %d in doubt" % doubts if doubts else b""
+            self.assertTrue(case.output.endswith(b"# told: %d rules, %d manners%s\n" % (len(broken[name]), len(ill[name]), more)), name)
 
     def test_each_of_manners_counts_with_a_word_for_it(self):
         ill = self.broken(" ~ manners: ", self.manners)
@@ -118,6 +120,23 @@ class Forms(support.ToolCase):
             self.assertEqual(self.judged(wide, "--wide", *judge_words), told, f"seed {seed}")
             self.assertEqual(self.judged(trace, "--wide", *judge_words), told, f"seed {seed}")
         self.assertGreater(changed, RUNS // 20)
+
+
+@support.needs_program
+class Missing(support.ToolCase):
+    def test_any_one_i_frame(self):
+        """Nothing is told where a gap stands for it, and nothing without doubt where the trace may lack any frame."""
+        lines = support.read("examples", "exchange.trace").splitlines()
+        places = [place for place, line in enumerate(lines) if len(line) > 8 and not int(line[4:6], 16) & 1]
+        self.assertGreater(len(places), 9)
+        for place in places:
+            gap, doubts = [*lines[:place], lines[place][:1] + b" .."], 0
+            for words, given in ([], gap), (["--at", "either"], gap[:-1]):
+                trace = b"\n".join([*given, *lines[place + 1 :], b""])
+                done = subprocess.run([PROGRAM, "judge", *words], input=trace, stdout=subprocess.PIPE, timeout=60)
+                self.assertEqual((done.returncode, b" ! " in done.stdout), (0, False), done.stdout)
+                doubts += done.stdout.count(b" !? ")
+            self.assertGreater(doubts, 0)
 
 
 @support.needs_program

@@ -81,10 +81,10 @@ class Lacking(ToolCase):
         self.assertEqual(self.judged(capture([*SET_UP, command(">", 0x0D)]), status=1)[0], [" ! dte: no frame of LAPB has these octets (2.3.5.4)"])
 
     def test_the_far_ends_ua_may_have_been_lost(self):
-        told, _ = self.judged(capture(UNANSWERED), "--at", "line", status=1)
-        self.assertEqual(told, [" ! dce: no I frame, RR, RNR or REJ while the link isn't up (2.4.4.2)"])
+        not_up = "dce: no I frame, RR, RNR or REJ while the link isn't up (2.4.4.2)"
+        self.assertEqual(self.judged(capture(UNANSWERED), "--at", "line", status=1)[0], [f" ! {not_up}"])
         for at in ["--at", "dte"], []:
-            self.assertEqual(self.judged(capture(UNANSWERED), *at), ([], "# told: 0 rules, 0 manners"))
+            self.assertEqual(self.judged(capture(UNANSWERED), *at), ([f" !? {not_up}{LACKING}"], "# told: 0 rules, 0 manners, 1 in doubt"))
             self.assertEqual([line.partition(" frames")[0] for line in self.counts], ["# dte: 4", "# dce: 5"])
         self.assertEqual(len(self.judged(capture(UNANSWERED), "--at", "dce", status=1)[0]), 1)
 
@@ -235,13 +235,13 @@ class Circuits(ToolCase):
         self.assertTrue(lines[-4].endswith("< RR ch=9 R=3 ! dce: P(R) acknowledges what was never sent (4.4.1.3): at most 1"), lines)
         self.assertEqual(lines[-3:-1], ["# dte channel 1: 2 packets, 1 judged, 1 not judged", "# dce channel 9: 2 packets, 1 judged, 1 not judged"])
 
-    def test_a_gap_is_shown_and_has_a_number_in_a_trace(self):
+    def test_a_gap_is_shown_and_stands_in_a_trace(self):
         ways = [(True, self.CALL), (False, self.ACCEPTED), (True, self.DATA), (True, self.DATA), (False, bytes.fromhex("100141"))]
         lines = self.judged(ways, 1, lost=[2])
-        self.assertEqual([line for line in lines if "lacks" in line], ["4.000000000 # the capture lacks frames here"])
+        self.assertEqual([line for line in lines if "lacks" in line], ["4.000000000 > ..  (the capture lacks frames here)"])
         self.assertIn("lacks", lines[2])
         shown = support.run("pcap2x25.py", given=self.captured).stdout.decode()
-        self.assertEqual([line[4:6] for line in shown.splitlines()], ["00", "20", "24", "62"])
+        self.assertEqual([line[:4] + line[4:6] for line in shown.splitlines()], ["> 0100", "< 0320", "> ..", "> 0122", "< 0342"])
 
     def test_behind_a_gap_the_channel_is_not_known(self):
         ways = [(True, self.CALL), (False, self.ACCEPTED), *[(True, bytes([0x10, 1, number << 1, 0x41])) for number in (0, 1, 2)], (False, bytes([0x10, 1, 0x61]))]

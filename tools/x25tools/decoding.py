@@ -149,7 +149,8 @@ class Decoder:
 
     def last_lines(self) -> list[str]:
         """What the task writes once there is no line more."""
-        return [] if self._child is None else last_lines(self._child)
+        self._child = self._child or self._begun()
+        return last_lines(self._child)
 
     def _begun(self) -> Child:
         if self._program is None:

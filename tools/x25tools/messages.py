@@ -9,8 +9,7 @@ import functools
 import re
 from typing import Iterable, Optional, Sequence
 
-from x25tools.pcap2x25 import LACKS
-from x25tools.x25lines import OTHER
+from x25tools.x25lines import LACKS, OTHER, is_gap
 
 # The numbers of a frame: N(S) of an I frame, and N(R) of that and of RR, RNR and REJ.
 NUMBERED = re.compile("[<>] (?:I cmd P=[01] S=([0-7])|(?:RR|RNR|REJ) (?:cmd|rsp) [PF]=[01]) R=([0-7])")
@@ -166,7 +165,7 @@ class Messages:
     def take(self, frames: Iterable[tuple[str, str]]) -> list[Message]:
         """Takes some frames, each its time and its text by `x25 decode`; answers the messages that they complete."""
         for self._time, text in frames:
-            if text == LACKS:
+            if is_gap(text):
                 self._pass_gap()
                 continue
             frame, _, packet = text.partition(" | ")
@@ -202,7 +201,7 @@ class Messages:
         self._ways = {way: Way() for way in OTHER}
         for way in OTHER:
             self._lose(way, "missing frames")
-        self._complete("", None, LACKS)
+        self._complete("", None, f"# {LACKS}")
 
     def _lose(self, direction: str, why: str) -> None:
         """Breaks off what an end had begun, the rest of which may come."""

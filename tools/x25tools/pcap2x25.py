@@ -24,7 +24,8 @@ the DTE, and of LLC the one that is seen first. --dte names the DTE of lapbether
 One connection is written: the first, or the one that --connection names by its number in --list. All frames of LAPB are one
 connection, those of lapbether another; each two ends (addresses and ports) of XOT are one, each two stations of LLC.
 
-Of a frame of LAPB that was captured in part nothing is known: its line has no octets.
+Of a frame of LAPB that was captured in part nothing is known: its line has no octets. Where frames of an end aren't there, as TCP or
+the capture says, a line `> ..` or `< ..` stands for them.
 
 Exit status: 0; 1 where nothing was found, something was left out, or no frame reads so (--swap, --fcs, --no-fcs), which standard error
 names; 2 for bad words or bad input. Traffic that is no X.25 is passed over, and told where nothing was found. Before bad input is told, the lines of all
@@ -47,11 +48,8 @@ LAPB_WITH_DIRECTION, SITA = 207, 196
 SITA_HEADER, SITA_RECEIVED, SITA_NO_PROTOCOL, SITA_LAPB = 5, 1, 0, 1
 # Commands of the DTE and responses of the DCE have the address B.
 ADDRESS = {">": 0x01, "<": 0x03}
-# A line between those of a connection says that frames of it aren't there, any number of either end's; and these are the octets of a frame of
-# which nothing is known.
-GAP, UNREAD = "\n", b""
-# What is shown of a gap.
-LACKS = "# the capture lacks frames here"
+# These are the octets of a frame of which nothing is known.
+UNREAD = b""
 # The connections, the times and the lines of some frames.
 Found = tuple[list["Connection"], list[int], list[str]]
 # A list of connections isn't kept without bound.
@@ -59,25 +57,19 @@ MOST_CONNECTIONS = 65_536
 
 
 class Connection:
-    """What two ends sent each other: its number from 1, its name, how many frames there were each way, and whether they are made up; and how often
-    packets are missing, for each of which a number is left out where frames are made up."""
+    """What two ends sent each other: its number from 1, its name, how many frames there were each way, and whether they are made up."""
 
     def __init__(self, number: int, name: str | None, is_made_up: bool) -> None:
         self.number = number
         self.name = name
         self.is_made_up = is_made_up
         self.sent = dict.fromkeys(OTHER, 0)
-        self.missed = dict.fromkeys(OTHER, 0)
 
     def __eq__(self, other: object) -> bool:
         return isinstance(other, Connection) and self.number == other.number
 
     def __hash__(self) -> int:
         return self.number
-
-    def counted(self, direction: str) -> int:
-        """The number of the next frame of a direction that is made up."""
-        return self.sent[direction] + self.missed[direction]
 
     def row(self) -> str:
         """The line of a list of connections."""
@@ -256,7 +248,8 @@ class Converter:
         self.notes["frame that the program which captured dropped"] += dropped
         for key, connection in self._connections.items():
             if not connection.is_made_up:
-                self._add(key, key, True, None)
+                for is_of_dte in True, False:
+                    self._add(key, key, is_of_dte, None)
 
     def _add_packet(self, name: str, is_of_dte: bool, packet: bytes | None) -> None:
         """Adds the packet of a connection without frames of LAPB; None is a gap."""
@@ -272,14 +265,13 @@ class Converter:
         connection = self._connections.get(key)
         if octets is None:
             if connection is not None:
-                connection.missed[direction] += 1
-                self._add_line(connection, GAP)
+                self._add_line(connection, f"{direction} {x25lines.GAP}\n")
             return
         connection = connection or self._begun(key, name, is_made_up)
         if connection is not None:
             connection.name = name
             if is_made_up:
-                octets = bytes((ADDRESS[direction], (connection.counted(OTHER[direction]) << 5 | connection.counted(direction) << 1 & 0x0E) & 0xFF)) + octets
+                octets = bytes((ADDRESS[direction], (connection.sent[OTHER[direction]] << 5 | connection.sent[direction] << 1 & 0x0E) & 0xFF)) + octets
                 octets += x25lines.fcs(octets)
             connection.sent[direction] += 1
             self._add_line(connection, f"{direction} {octets.hex()}\n")
@@ -346,13 +338,6 @@ def words() -> argparse.Namespace:
     return parser.parse_args()
 
 
-def without_gaps(connections: list[Connection], times: list[int], lines: list[str]) -> Found:
-    """The connections, the times and the lines of a block, without those that say that frames aren't there."""
-    if GAP not in lines:
-        return connections, times, lines
-    return picked((connections, times, lines), [line != GAP for line in lines])
-
-
 def picked(found: Found, are_picked: list[bool]) -> Found:
     """The connections, the times and the lines of those frames that are picked."""
     connections, times, lines = found
@@ -375,8 +360,7 @@ def write_list(converter: Converter, blocks: Iterable[list[captures.Record]]) ->
 def lines_of(converter: Converter, file: x25lines.Readable, options: argparse.Namespace) -> Iterator[tuple[list[int], list[str]]]:
     """Yields the times and the lines of the connection that is wanted, or of the first, those of each block at once."""
     wanted = options.connection or 1
-    for block in converter.blocks(captures.blocks(file, converter.notes)):
-        connections, times, lines = without_gaps(*block)
+    for connections, times, lines in converter.blocks(captures.blocks(file, converter.notes)):
         are_wanted = [connection.number == wanted for connection in connections]
         yield list(itertools.compress(times, are_wanted)), list(itertools.compress(lines, are_wanted))
     if 0 < len(converter.connections()) < wanted:

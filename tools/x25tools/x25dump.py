@@ -21,10 +21,10 @@ their packets are.
               the rules of the packet layer alone; not of lines of `x25 decode`. At the end it says how many frames and packets
               there were, and how many of them were judged
   --at        says where a capture was made: `dte` or `dce`, in front of that end, so that of the other one's frames those are
-              missing that the line lost; or on the `line`, and it has all frames. Where nothing is said a capture may lack any
-              frame. What such frames would explain stands after ` !? ` and ` ~? manners: `, and makes the status 1 with
+              missing that the line lost; or on the `line`, and it has all frames. At `either`, or where nothing is said, a capture
+              may lack any frame. What such frames would explain stands after ` !? ` and ` ~? manners: `, and makes the status 1 with
               --strict alone; so does what --swap, --fcs or --no-fcs would explain. After frames that the capture says are
-              missing, which a comment shows, both ends are judged anew; nothing is judged of a link modulo 128. Lines of a
+              missing, which `> ..` or `< ..` shows, both ends are judged anew; nothing is judged of a link modulo 128. Lines of a
               trace are all that was on the line, where nothing is said
   --strict, --manners
               make the status 1 too where a frame or a packet wasn't judged, or where manners were broken
@@ -57,7 +57,7 @@ from typing import Callable, Iterable, Iterator, TextIO
 from x25tools import captures, decoding, judging, pcap2x25, x25lines, x25names
 from x25tools.ahead import ahead
 from x25tools.messages import KEPT, Message, Messages, all_dumped
-from x25tools.pcap2x25 import GAP, LACKS, Connection
+from x25tools.pcap2x25 import Connection
 from x25tools.x25lines import BadInput
 
 RED, BLUE, GREEN, GREY, PLAIN = "\x1b[31m", "\x1b[34m", "\x1b[32m", "\x1b[90m", "\x1b[0m"
@@ -71,9 +71,9 @@ LONG_DATA, FOLDED = re.compile("(?<==)[0-9a-f]{66,}"), 48
 PACKET_AT = len("> I cmd P=0 S=0 R=0 | ")
 # What stands before what is told of a frame, or noted.
 RULES, NOTES = (judging.RULE, judging.IN_DOUBT[judging.RULE]), (judging.IN_DOUBT[judging.MANNERS], " ~ ")
-# Texts without any of these letters are shown as they are. Others may be refusals, or have rules, notes, or numbers that x25names has words for: `diag=`,
-# `why=`, and `fac=`, which stands after `calling=` or in an ACCEPT.
-SIGNS = "!?~gyE"
+# Texts without any of these are shown as they are. Others may be refusals or gaps, or have rules, notes, or numbers that x25names has words for:
+# `diag=`, `why=`, and `fac=`, which stands after `calling=` or in an ACCEPT.
+SIGNS = *"!?~gyE", x25lines.GAP
 # Something to show: see `Reader`; and what puts a text into a colour.
 Thing = tuple[str, Connection, str]
 Paint = Callable[[str, str], str]
@@ -112,15 +112,7 @@ class Reader:
                 self.status = max(self.status, found)
                 continue
             connections, times, asked = found
-            yield list(zip(map(self._time, times), connections, self._texts(asked, connections)))
-
-    def _texts(self, asked: str, connections: list[Connection]) -> list[str]:
-        """The texts of the lines of frames, and of gaps."""
-        if isinstance(self._decoder, judging.Judge) or GAP * 2 not in GAP + asked:
-            return self._decoder.texts(asked, connections)
-        lines = asked.splitlines(True)
-        texts = iter(self._decoder.texts("".join([line for line in lines if line != GAP])))
-        return [LACKS if line == GAP else next(texts) for line in lines]
+            yield list(zip(map(self._time, times), connections, self._decoder.texts(asked, connections)))
 
     def _found(self, file: x25lines.Readable) -> Iterator[tuple[list[Connection], list[int], str] | int]:
         """Yields the connections, the times and the text of the lines of the frames of a capture, in blocks, and at the end the status."""
@@ -134,7 +126,7 @@ class Reader:
             yield connections, times, "".join(lines)
         if 0 < len(converter.connections()) < (wanted or 1):
             raise BadInput(f"there are {len(converter.connections())} connections, and no number {wanted}")
-        if self._options.at and captures.DROPPED in converter.notes and not all(it.is_made_up for it in converter.connections()):
+        if self._options.at not in (None, "either") and captures.DROPPED in converter.notes and not all(it.is_made_up for it in converter.connections()):
             x25lines.warn("so --at doesn't hold: what was dropped may explain what is told")
         yield converter.tell()
 
@@ -240,7 +232,7 @@ class Lines:
                     self._named.add(connection.number)
                     if connection.name is not None:
                         lines.append(self._paint(GREY, f"connection {connection.number}: {connection.name}"))
-            if is_made_up and text != LACKS:
+            if is_made_up and not x25lines.is_gap(text):
                 text = text[:2] + text[PACKET_AT:]
             if not has_plain_texts:
                 text = self._text(text)
@@ -305,7 +297,7 @@ class Joined:
         for connection, things in itertools.groupby(block, key=CONNECTION):
             if connection not in self._lines:
                 self._lines[connection] = Messages(is_made_up=connection.is_made_up)
-            frames = [(time, text) for time, _, text in things if text[:1] in x25lines.OTHER or text == LACKS]
+            frames = [(time, text) for time, _, text in things if text[:1] in x25lines.OTHER]
             lines += self._rows(connection, self._lines[connection].take(frames))
         return lines
 
@@ -351,7 +343,7 @@ class Statistic:
     def take(self, block: list[Thing]) -> list[str]:
         """Counts the frames of a block; shows nothing."""
         for connection, things in itertools.groupby(block, key=CONNECTION):
-            frames = [it for it in things if it[2][:1] in x25lines.OTHER]
+            frames = [it for it in things if it[2][:1] in x25lines.OTHER and not x25lines.is_gap(it[2])]
             if not frames:
                 continue
             self._names[connection.number] = connection.name
@@ -458,7 +450,7 @@ def asked(options: argparse.Namespace, file: x25lines.Readable) -> decoding.Deco
     """What is asked for the text of a frame. Lines of a trace are all that was on the line, where nothing else is said."""
     if not options.judge:
         return decoding.Decoder(options.x25, reading(options))
-    return judging.Judge(options.x25, ["--k", str(options.k)], reading(options), options.at or (None if captures.is_capture(file) else "line"))
+    return judging.Judge(options.x25, ["--k", str(options.k)], reading(options), options.at or ("either" if captures.is_capture(file) else "line"))
 
 
 def show(view: Lines | Joined | Statistic, blocks: Iterable[list[Thing]], out: TextIO) -> None:

@@ -1,7 +1,8 @@
 """Lines of a trace, as `x25 decode` reads them, and what the scripts of this folder share.
 
 A line is `> HEX` (from the DTE to the DCE) or `< HEX` (from the DCE to the DTE), the octets of a frame with its frame check
-sequence, perhaps with the time in seconds and a tab before that; or it is empty, or a comment, which begins with `#`. It may end
+sequence, perhaps with the time in seconds and a tab before that; or `> ..` or `< ..`, where frames of that end may be missing; or it is empty, or a
+comment, which begins with `#`. It may end
 with a carriage return. docs/FORMATS.md describes all these.
 """
 
@@ -39,6 +40,8 @@ PIECE = 65_536
 
 # The other direction of each.
 OTHER = {">": "<", "<": ">"}
+# What stands after the direction, in place of octets, where any number of that end's frames may be missing; and what that is in words.
+GAP, LACKS = "..", "the capture lacks frames here"
 
 TIME = re.compile(r"([0-9]{1,10})(?:\.([0-9]{1,9}))?")
 FRAME_LINE = re.compile(rb"(?:([0-9]{1,10}(?:\.[0-9]{1,9})?)\t)?([<>]) ([0-9a-fA-F]*)")
@@ -112,6 +115,11 @@ def moment(nanoseconds: int | None) -> str:
         return seconds(nanoseconds)
     whole, part = divmod(nanoseconds, NANOSECONDS)
     return f"{_second(whole)}.{part // 1_000_000:03}"
+
+
+def is_gap(text: str) -> bool:
+    """True for the line of a gap, and for the answer to it."""
+    return text[2:] == GAP and text[:1] in OTHER
 
 
 def is_passed_over(line: bytes) -> bool:

@@ -4,7 +4,7 @@ from __future__ import annotations
 
 import re
 
-from x25tools import facilities
+from x25tools import facilities, x25lines
 
 ORIGINATED = "DTE originated"
 CLEARING = {
@@ -143,6 +143,8 @@ def words(text: str) -> str:
         said.append(_diagnostic(int(found[1])))
     elif "SABME cmd" in text:
         said.append(EXTENDED)
+    elif text[2:] == x25lines.GAP:
+        said.append(x25lines.LACKS)
     elif "why=" in text and (found := FRAME_REFUSED.match(text)):
         said.append(_grounds(bytes.fromhex(found[1])))
     if " A=1 " in text:

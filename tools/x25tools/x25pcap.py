@@ -41,18 +41,23 @@ def packet(frame: x25lines.FrameLine) -> tuple[bytes, int]:
     return bytes([first, 0, 0, 0, NO_PROTOCOL]) + frame.octets, flags | error
 
 
-def convert(file: x25lines.Readable, out: BinaryIO) -> None:
-    """Writes a packet for each frame line of a file, those of a block of lines at once."""
-    writer = captures.Writer(out, SITA)
+def convert(file: x25lines.Readable, out: BinaryIO) -> int:
+    """Writes a packet for each frame line of a file, those of a block of lines at once; answers the status."""
+    writer, gaps = captures.Writer(out, SITA), 0
     for first, lines in x25lines.blocks_of_lines(file):
         for number, line in enumerate(lines, first):
             frame = x25lines.frame_line(line)
             if frame is not None:
                 octets, flags = packet(frame)
                 writer.packet(octets, number * MILLISECOND if frame.time is None else frame.time, flags)
+            elif x25lines.is_gap(line.rpartition(b"\t")[2].decode("latin-1")):
+                gaps += 1
             elif not (x25lines.is_passed_over(line) or x25lines.ENTRY_LINE.fullmatch(line) or x25lines.REFUSAL_LINE.fullmatch(line)):
                 raise BadInput(f"line {number} is no line of a trace or a run: {x25lines.shown(line)}")
         out.flush()
+    if gaps:
+        x25lines.warn(f"left out: gap, which such a capture can't have ({gaps})")
+    return 1 if gaps else 0
 
 
 def main() -> int:
@@ -66,8 +71,6 @@ def main() -> int:
         if captures.is_capture(file):
             raise BadInput("this is a capture already; pcap2x25.py makes lines of one")
         if options.output is None:
-            convert(file, sys.stdout.buffer)
-        else:
-            with open(options.output, "wb") as out:
-                convert(file, out)
-    return 0
+            return convert(file, sys.stdout.buffer)
+        with open(options.output, "wb") as out:
+            return convert(file, out)

@@ -13,10 +13,14 @@ use Rattle.x25_decode.specs.code.LooseStream as decoding
 use Rattle.x25_io.specs.Loose.{asked_text}
 use Rattle.x25_io.specs.code.Runs.{OfInput, Program}
 use Rattle.x25_io.specs.code.Written.{AppendsPrefix}
-use Rattle.x25_judge.specs.Judge.{begins}
+use Rattle.x25_judge.specs.Judge.{begins_at}
 use Rattle.x25_judge.specs.code.Stream as judging
+use Rattle.x25_judge.specs.declared.doubt.At as judge
+use Rattle.x25_judge.specs.declared.doubt.At.TheVariants as judge_at
 use Rattle.x25_pipe.specs.code.Stream as piping
 use Rattle.x25_pipe.specs.code.TimedStream.{timed_program}
+use Rattle.x25_settings.specs.declared.options.At.{At}
+use Rattle.x25_settings.specs.declared.options.At.TheVariants as at
 use Rattle.x25_settings.specs.declared.options.End.{End}
 use Rattle.x25_settings.specs.declared.options.End.TheVariants.{Dte, Dce}
 use Rattle.x25_settings.specs.declared.options.GivenTimes.{GivenTimes}
@@ -45,6 +49,12 @@ settings_in s incoming outgoing = record {
 abbrev pub role_in : End → Role
 role_in Dte = role.Dte
 role_in Dce = role.Dce
+
+abbrev pub at_in : At → judge.At
+at_in at.Line = judge_at.Line
+at_in at.Dte = judge_at.Dte
+at_in at.Dce = judge_at.Dce
+at_in at.Either = judge_at.Either
 
 -- what is told beside entries and refusals
 abbrev pub shown_in : Simulation → Shown
@@ -81,7 +91,7 @@ program_of Vectors = record {
 }
 program_of (Sim s) = simulating.program (settings_in s.station 0 0) s.down (shown_in s) s.loose
 program_of (Station p) = place_program p
-program_of (Judge g) = judging.program g.loose (begins g.k (record { long = g.long; wide = g.wide })
+program_of (Judge g) = judging.program g.loose (begins_at (at_in g.at) g.k (record { long = g.long; wide = g.wide })
     (record { unjudged = g.strict; manners = g.manners }))
 program_of (Deframe end) = deframing.program (role_in end)
 program_of (Frame loose) = framing.program loose

@@ -1,7 +1,7 @@
 //! What each task does, over any reader and writer.
 ghost use Rattle.std.specs.Prelude.{◌≡◌, true, IsErrOf, OnOk};
 ghost use Rattle.x25.specs.Tasks.{WritesScript, is_plain, place_program, program_of, role_in, settings_in, shown_in};
-ghost use Rattle.x25.specs.Tasks.{times_in};
+ghost use Rattle.x25.specs.Tasks.{at_in, times_in};
 ghost use Rattle.x25_io.specs.Loose.{asked_text};
 ghost use Rattle.x25_io.specs.code.Runs.{OfInput, Runs};
 ghost use Rattle.x25_settings.specs.Words.{AreInRange};
@@ -12,9 +12,9 @@ use std::alloc::Global;
 use x25_bit_line::{deframe, frame};
 use x25_decode::{Reading, decode_lines, vectors};
 use x25_io::{Fault, Sink, Source};
-use x25_judge::{Strictness, judge_lines};
+use x25_judge::{At, Strictness, judge_lines};
 use x25_pipe::{Role, Times, station, timed_station};
-use x25_settings::{End, GivenTimes, Place, Simulation, StationOptions, Task};
+use x25_settings::{At as Where, End, GivenTimes, Place, Simulation, StationOptions, Task};
 use x25_sim::{Cfg, Ranges, Reporter, Shown, sim};
 
 /// The settings of a station with so many one-way channels, as the words of the command line say the rest.
@@ -32,6 +32,18 @@ fn settings_of(options: StationOptions, incoming: u16, outgoing: u16) -> Cfg
         long_data: options.long,
         say_sizes: options.say_sizes,
         wide: options.wide,
+    }
+}
+
+/// Where a trace was made.
+fn at_of(at: Where) -> At
+    ensures { result ≡ at_in at }
+{
+    match at {
+        Where::Line => At::Line,
+        Where::Dte => At::Dte,
+        Where::Dce => At::Dce,
+        Where::Either => At::Either,
     }
 }
 
@@ -146,6 +158,7 @@ pub(crate) fn perform<P: Reporter, R: Source, W: Sink>(
         Task::Vectors => vectors(alloc, writer),
         Task::Judge(judging) => judge_lines(
             alloc,
+            at_of(judging.at),
             judging.k,
             Reading {
                 long: judging.long,

@@ -1,6 +1,6 @@
 -- Lines of a trace, one after another.
 use Rattle.std.proofs.Common.{◌≡◌, ◌∙◌, ◌<◌, ◌≤◌, ◌||◌, ℕ, Bool, true, false, not, List, [], ◌∷◌, ◌++◌, length, Some, None, Result, Ok, Err, ap, sym, refl, arith, nat_le, le-leb}
-use Rattle.std.specs.Prelude.{OnOk}
+use Rattle.std.specs.Prelude.{OnOk, ◌&&◌, is_some}
 use Rattle.std.specs.List.{flat_map}
 use Rattle.std.proofs.lemmas.Bool.Decides.{nat_tests}
 use Rattle.std.proofs.Math.Bool.{and-true, or-false}
@@ -8,7 +8,7 @@ use Rattle.x25_bits.specs.Stuffing.{framed}
 use Rattle.x25_bits.specs.declared.role.Role.{Role}
 use Rattle.x25_io.specs.HeldLine.{most_line}
 use Rattle.x25_io.specs.Lines.{lines_of}
-use Rattle.x25_decode.specs.Decoding.{is_refused, sent_in}
+use Rattle.x25_decode.specs.Decoding.{gap_in, is_refused, sent_in}
 use Rattle.x25_bit_line.specs.Framing.{begins_by_mark, framed_bits, is_wrong, line_bits, sent_bits}
 
 -- ---- one line
@@ -30,21 +30,25 @@ pub stays_right : {T E : Type 0} (r : Result T E) (line : List ℕ) (from : Role
 stays_right (Ok x) line from octets before e = sym (ap (λ b. before || b) (right_frame line from octets e) ∙ or-false before)
 stays_right (Err x) line from octets before e = tt
 
-pub wrong_by_mark : (line : List ℕ) → sent_in line ≡ None → length line ≤ most_line → is_wrong line ≡ not (begins_by_mark line)
+neither : (a b : Bool) → not a && not b ≡ not (a || b)
+neither true b = refl
+neither false b = refl
+
+pub wrong_by_mark : (line : List ℕ) → sent_in line ≡ None → length line ≤ most_line → is_wrong line ≡ not (is_some (gap_in line) || begins_by_mark line)
 unfolding is_wrong is_refused
 wrong_by_mark line e short =
     let test : nat_le (length line) most_line ≡ true = le-leb (length line) most_line short in
-    rw (e, test, and-true) refl
+    rw (e, test, and-true) (neither (is_some (gap_in line)) (begins_by_mark line))
 
-long_wrong : (line : List ℕ) → sent_in line ≡ None → nat_le (length line) most_line ≡ false → (b : Bool) → begins_by_mark line ≡ b → is_wrong line ≡ true
+long_wrong : (line : List ℕ) → sent_in line ≡ None → gap_in line ≡ None → nat_le (length line) most_line ≡ false → (b : Bool) → begins_by_mark line ≡ b → is_wrong line ≡ true
 unfolding is_wrong is_refused
-long_wrong line e test true is = rw (e, test, is) refl
-long_wrong line e test false is = rw (e, test, is) refl
+long_wrong line e gap test true is = rw (e, gap, test, is) refl
+long_wrong line e gap test false is = rw (e, gap, test, is) refl
 
-pub long_is_wrong : (line : List ℕ) → sent_in line ≡ None → most_line < length line → is_wrong line ≡ true
-long_is_wrong line none big =
+pub long_is_wrong : (line : List ℕ) → sent_in line ≡ None → gap_in line ≡ None → most_line < length line → is_wrong line ≡ true
+long_is_wrong line none gap big =
     let test : nat_le (length line) most_line ≡ false = grind (arith, nat_tests) in
-    long_wrong line none test (begins_by_mark line) refl
+    long_wrong line none gap test (begins_by_mark line) refl
 
 -- ---- lines of a text
 

@@ -4,7 +4,7 @@ ghost use Rattle.x25_bit_line.specs.Framing.{begins_by_mark};
 
 use crate::line_bits::LineBits;
 use std::alloc::{AllocError, Global};
-use x25_decode::{long_lines_send_nothing, read_sent};
+use x25_decode::{long_lines_send_nothing, read_gap, read_sent};
 use x25_io::{Fault, LineTaker, Output, Sink};
 use x25_text::MOST_OCTETS;
 
@@ -29,10 +29,11 @@ pub(crate) struct FrameSender {
 
 impl FrameSender {
     ghost use Rattle.std.specs.Prelude.{◌≡◌, ◌≤◌, ◌||◌, not, [], true, false, ℕ, Bool, List, Option, IfOk, OnOk};
-    ghost use Rattle.std.specs.Prelude.{IsErrOf, MatchResult, length};
+    ghost use Rattle.std.specs.Prelude.{IsErrOf, MatchResult, is_some, length};
     ghost use Rattle.std.specs.Io.KnownBytes.{Appends};
     ghost use Rattle.x25_bits.specs.Found.{octets_of};
     ghost use Rattle.x25_bits.specs.Stuffing.{filled};
+    ghost use Rattle.x25_decode.specs.Decoding.{gap_in};
     ghost use Rattle.x25_io.specs.HeldLine.{most_line};
     ghost use Rattle.x25_io.specs.code.MarksFaults.{MarksFaults};
     ghost use Rattle.x25_io.specs.code.Written.{AppendsPrefix, Tells};
@@ -70,13 +71,14 @@ impl FrameSender {
         Ok(self.output.flush(writer)?)
     }
 
-    /// Passes over a line that is none of a trace: where it is no comment, it is refused.
+    /// Passes over a line without octets: where it is neither a gap nor a comment, it is refused.
     fn pass_over(&mut self, line: &[u8])
         ensures bits { self.new.bits ≡ self.old.bits }
         ensures output { self.new.output ≡ self.old.output }
-        ensures wrong { self.new.is_wrong ≡ (self.old.is_wrong || not (begins_by_mark line.now)) }
+        ensures wrong { self.new.is_wrong
+            ≡ (self.old.is_wrong || not (is_some (gap_in line.now) || begins_by_mark line.now)) }
     {
-        if is_comment(line) {
+        if read_gap(line).is_some() || is_comment(line) {
             return;
         }
         self.is_wrong = true;

@@ -15,7 +15,7 @@ use Rattle.x25_io.specs.code.Written.{AppendsPrefix, Tells, TellsMore}
 use Rattle.x25_io.proofs.LooseLemmas.{long_asked, long_carried}
 use Rattle.x25_io.proofs.TakerLemmas.{between}
 use Rattle.x25_io.proofs.ToldLemmas.{none_told, part_of_all, prefix_more, told_prefix}
-use Rattle.x25_decode.specs.Decoding.{answer_to, is_refused, sent_in}
+use Rattle.x25_decode.specs.Decoding.{answer_to, gap_in, is_refused, sent_in}
 use Rattle.x25_decode.specs.LooseDecoder.{answer_loosely, answer_to_asked, refuses_asked, refuses_loosely, loose_output}
 use Rattle.x25_decode.specs.code.LooseStream.{DecodesLines, WritesLines}
 use Rattle.x25_decode.specs.declared.answer.Reading.{Reading}
@@ -23,22 +23,22 @@ use Rattle.x25_decode.specs.declared.loose_decoder.LooseDecoder.{LooseDecoder}
 
 -- ---- a line that is too long
 
-no_answer : (reading : Reading) (line : List ℕ) → sent_in line ≡ None → answer_to reading line ≡ codes "? 60\n"
+no_answer : (reading : Reading) (line : List ℕ) → sent_in line ≡ None → gap_in line ≡ None → answer_to reading line ≡ codes "? 60\n"
 unfolding answer_to
-no_answer reading line none = rw none refl
+no_answer reading line none gap = rw (none, gap) refl
 
-no_sense : (line : List ℕ) → sent_in line ≡ None → is_refused line ≡ true
+no_sense : (line : List ℕ) → sent_in line ≡ None → gap_in line ≡ None → is_refused line ≡ true
 unfolding is_refused
-no_sense line none = rw none refl
+no_sense line none gap = rw (none, gap) refl
 
-pub long_answer : (reading : Reading) (line : List ℕ) → most_line < length line → sent_in line ≡ None → answer_loosely reading line ≡ codes "? 60\n"
+pub long_answer : (reading : Reading) (line : List ℕ) → most_line < length line → sent_in line ≡ None → gap_in line ≡ None → answer_loosely reading line ≡ codes "? 60\n"
 unfolding answer_loosely
-long_answer reading line long none = ap (λ t. t ++ answer_to_asked reading (asked true line)) (long_carried true line long)
-    ∙ ap (answer_to_asked reading) (long_asked true line long) ∙ no_answer reading line none
+long_answer reading line long none gap = ap (λ t. t ++ answer_to_asked reading (asked true line)) (long_carried true line long)
+    ∙ ap (answer_to_asked reading) (long_asked true line long) ∙ no_answer reading line none gap
 
-pub long_refused : (line : List ℕ) → most_line < length line → sent_in line ≡ None → refuses_loosely line ≡ true
+pub long_refused : (line : List ℕ) → most_line < length line → sent_in line ≡ None → gap_in line ≡ None → refuses_loosely line ≡ true
 unfolding refuses_loosely
-long_refused line long none = ap refuses_asked (long_asked true line long) ∙ no_sense line none
+long_refused line long none gap = ap refuses_asked (long_asked true line long) ∙ no_sense line none gap
 
 -- ---- a line in parts
 

@@ -1,8 +1,9 @@
 -- What `decode` writes, as a function of what it reads (profile).
-use Rattle.std.specs.Prelude.{ℕ, ◌==◌, nat_le, Bool, not, List, [], ◌∷◌, ◌++◌, length, codes, if◌then◌else◌, Option}
-use Rattle.std.specs.Prelude.{Some, None, is_some, option_map, option_and_then}
+use Rattle.std.specs.Prelude.{ℕ, ◌==◌, nat_le, Bool, not, ◌||◌, List, [], ◌∷◌, ◌++◌, length, codes, if◌then◌else◌}
+use Rattle.std.specs.Prelude.{Option, Some, None, is_some, option_map, option_and_then}
 use Rattle.std.specs.List.{flat_map, list_any}
 use Rattle.std.specs.Result.{result_ok}
+use Rattle.std.specs.Str.{bytes_eq}
 use Rattle.hex.specs.Hex.{decode_of}
 use Rattle.x25_bits.specs.declared.role.Role.{Role}
 use Rattle.x25_bits.specs.declared.role.Role.TheVariants.{Dte, Dce}
@@ -32,6 +33,11 @@ sent_in (mark ∷ space ∷ digits) = if space == 32
     then option_and_then (λ from. option_map (λ octets. (from, octets)) (octets_in digits)) (sender_of mark)
     else None
 
+-- the end of which any number of frames may be missing, where a line is a gap: a mark, a space and two points
+abbrev pub gap_in : List ℕ → Option Role
+gap_in line = if bytes_eq line (codes "> ..") then Some Dte
+    else if bytes_eq line (codes "< ..") then Some Dce else None
+
 -- the most octets of information in an I frame
 abbrev pub n1 : ℕ
 n1 = 4099
@@ -42,17 +48,22 @@ line_text reading from octets =
     if reading.wide then wide_reading_text reading.long from octets (frame_of from n1 octets)
     else reading_text reading.long (frame_of from n1 octets)
 
-abbrev pub sent_text : Reading → Option (Role × List ℕ) → List ℕ
-sent_text reading None = codes "? 60"
-sent_text reading (Some sent) = mark_of sent.0 ++ line_text reading sent.0 sent.1
+-- a gap is its own answer
+abbrev pub gap_text : Option Role → List ℕ
+gap_text None = codes "? 60"
+gap_text (Some from) = mark_of from ++ codes ".."
+
+abbrev pub sent_text : Reading → Option Role → Option (Role × List ℕ) → List ℕ
+sent_text reading gap None = gap_text gap
+sent_text reading gap (Some sent) = mark_of sent.0 ++ line_text reading sent.0 sent.1
 
 -- the line that answers a line
 unfoldable pub answer_to : Reading → List ℕ → List ℕ
-answer_to reading line = sent_text reading (sent_in line) ++ codes "\n"
+answer_to reading line = sent_text reading (gap_in line) (sent_in line) ++ codes "\n"
 
 -- the line is none of these
 unfoldable pub is_refused : List ℕ → Bool
-is_refused line = not (is_some (sent_in line))
+is_refused line = not (is_some (sent_in line) || is_some (gap_in line))
 
 -- the text that answers the octets read
 abbrev pub output_of : Reading → List ℕ → List ℕ

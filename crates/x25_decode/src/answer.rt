@@ -1,9 +1,9 @@
 //! What answers a line.
-ghost use Rattle.std.specs.Prelude.{◌≡◌, ◌+◌, ◌*◌, ◌≤◌, ◌++◌, Some, None, false, codes, length, take, IfSome};
-ghost use Rattle.std.specs.Prelude.{MatchOption};
+ghost use Rattle.std.specs.Prelude.{◌≡◌, ◌+◌, ◌*◌, ◌≤◌, ◌++◌, Some, None, false, codes, length, not, take};
+ghost use Rattle.std.specs.Prelude.{IfSome, MatchOption, is_some};
 ghost use Rattle.x25_frame.specs.Reading.{frame_of};
-ghost use Rattle.x25_decode.specs.Decoding.{answer_to, is_refused, line_text, mark_of, n1, octets_in, sender_of};
-ghost use Rattle.x25_decode.specs.Decoding.{sent_in, sent_text};
+ghost use Rattle.x25_decode.specs.Decoding.{answer_to, gap_in, gap_text, is_refused, line_text, mark_of, n1};
+ghost use Rattle.x25_decode.specs.Decoding.{octets_in, sender_of, sent_in};
 ghost use Rattle.x25_decode.specs.code.Front.{StandsInFront};
 ghost use Rattle.x25_text.specs.FrameText.{reading_text};
 ghost use Rattle.x25_text.specs.WideFrameText.{wide_reading_text};
@@ -85,6 +85,33 @@ pub fn read_sent(line: &[u8], octets: &mut [u8]) -> Option<(Role, usize)>
     }
 }
 
+/// The end of which frames may be missing, where a line says that there is a gap.
+pub fn read_gap(line: &[u8]) -> Option<Role>
+    ensures { result ≡ gap_in line.now }
+{
+    if line == b"> ..".as_slice() {
+        Some(Role::Dte)
+    } else if line == b"< ..".as_slice() {
+        Some(Role::Dce)
+    } else {
+        None
+    }
+}
+
+/// Appends the line that answers one without octets, a gap by itself, and says whether that line was refused.
+pub fn push_gap(gap: Option<Role>, text: &mut Text) -> bool
+    requires { length text.old + 6 ≤ ROOM }
+    ensures text { text.new ≡ text.old ++ (gap_text gap ++ codes "\n") }
+    ensures refused { result ≡ not (is_some gap) }
+{
+    match gap {
+        Some(Role::Dte) => text.push(b"> ..\n"),
+        Some(Role::Dce) => text.push(b"< ..\n"),
+        None => text.push(b"? 60\n"),
+    }
+    gap.is_none()
+}
+
 /// Appends what the octets read as, with packets in the form that a station writes.
 fn push_written(long: bool, from: Role, octets: &[u8], text: &mut Text)
     requires room { length text.old + MOST_TEXT ≤ ROOM }
@@ -130,7 +157,7 @@ fn push_line(reading: Reading, from: Role, octets: &[u8], text: &mut Text)
 fn push_answer(reading: Reading, from: Role, octets: &[u8], text: &mut Text)
     requires few { length octets.now ≤ MOST_OCTETS }
     requires room { length text.old + MOST_ANSWER ≤ ROOM }
-    ensures { text.new ≡ text.old ++ (sent_text reading (Some (from, octets.now)) ++ codes "\n") }
+    ensures { text.new ≡ text.old ++ (mark_of from ++ line_text reading from octets.now ++ codes "\n") }
 {
     text.push(mark(from));
     push_line(reading, from, octets, text);
@@ -152,10 +179,7 @@ pub fn answer(reading: Reading, line: &[u8], octets: &mut [u8], text: &mut Text)
             push_answer(reading, from, &octets[..count], text);
             false
         }
-        None => {
-            text.push(b"? 60\n");
-            true
-        }
+        None => push_gap(read_gap(line), text),
     }
 }
 

@@ -10,7 +10,7 @@ mod law;
 mod loose_decoder;
 mod test_vectors;
 
-pub use answer::{Reading, mark, read_sent};
+pub use answer::{Reading, mark, push_gap, read_gap, read_sent};
 pub use decoding::decode_lines;
 pub use law::long_lines_send_nothing;
 pub use test_vectors::{vectors, vectors_hold};

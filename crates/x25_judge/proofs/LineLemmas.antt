@@ -1,13 +1,13 @@
 -- The answers to lines, one after another.
 use Rattle.std.proofs.Common.{◌≡◌, ◌∙◌, ◌<◌, ◌||◌, ℕ, Bool, true, false, List, [], ◌∷◌, ◌++◌, Option, None, Result, length, codes, append_assoc, ap, sym, subst, refl}
 use Rattle.std.specs.Prelude.{MatchResult}
-use Rattle.x25_decode.specs.Decoding.{sent_in}
+use Rattle.x25_decode.specs.Decoding.{gap_in, sent_in}
 use Rattle.x25_io.specs.HeldLine.{most_line}
 use Rattle.x25_io.specs.Loose.{asked, carried}
 use Rattle.x25_io.specs.code.Written.{AppendsPrefix, Tells}
 use Rattle.x25_io.proofs.LooseLemmas.{long_asked, long_carried}
 use Rattle.x25_judge.specs.Answerer.{reply, reply_to, text_of, has_fault}
-use Rattle.x25_judge.specs.Judge.{answer_to, counts_text, sent_of}
+use Rattle.x25_judge.specs.Judge.{answer_to, counts_text, gap_of, sent_of}
 use Rattle.x25_judge.specs.declared.judge.Judge.{Judge}
 
 module _ (loose : Bool) (j : Judge) where
@@ -45,9 +45,9 @@ module _ (loose : Bool) (j : Judge) where
   unfolding reply
   long_reply line long = rw (long_asked loose line long, long_carried loose line long) refl
 
-pub long_answer : (j : Judge) (line : List ℕ) → sent_in line ≡ None → answer_to j line ≡ record { next = j; text = codes "? 60\n"; is_faulty = true; counts = true }
+pub long_answer : (j : Judge) (line : List ℕ) → sent_in line ≡ None → gap_in line ≡ None → answer_to j line ≡ gap_of j None
 unfolding answer_to
-long_answer j line none = ap (sent_of j) none
+long_answer j line none gap = ap (sent_of j (gap_in line)) none ∙ ap (gap_of j) gap
 
 -- the second part behind the first
 pub told_behind : {T E : Type 0} (r : Result T E) (old next : Option (List ℕ)) (waits told head more all : List ℕ) → all ≡ head ++ more

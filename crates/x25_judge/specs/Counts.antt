@@ -31,13 +31,14 @@ counted channel is_judged counts = slice_set counts (channel % 4096)
     (more channel is_judged (slice_index_or counts (channel % 4096) none))
 
 abbrev pub no_tally : Tally
-no_tally = record { rules = 0; manners = 0 }
+no_tally = record { rules = 0; manners = 0; doubts = 0 }
 
--- one more of each that is broken
-abbrev pub tallied : Bool → Bool → Tally → Tally
-tallied is_rule is_manners t = record {
+-- one more of each that is broken, or one more that is in doubt
+abbrev pub tallied : Bool → Bool → Bool → Tally → Tally
+tallied in_doubt is_rule is_manners t = if in_doubt then record t { doubts = grown t.doubts } else record {
   rules = if is_rule then grown t.rules else t.rules;
   manners = if is_manners then grown t.manners else t.manners;
+  doubts = t.doubts;
 }
 
 -- ---- text
@@ -64,7 +65,10 @@ packets_line from c = if c.seen == 0 then [] else channel_of from c ++ counted_t
 abbrev pub end_text : Role → Count → List Count → List ℕ
 end_text from frames packets = frames_line from frames ++ flat_map (packets_line from) packets
 
+abbrev pub doubts_text : ℕ → List ℕ
+doubts_text count = if count == 0 then [] else codes ", " ++ number_text count ++ codes " in doubt"
+
 -- the line on all that was told
 abbrev pub tally_line : Tally → List ℕ
 tally_line t = codes "# told: " ++ number_text t.rules ++ codes " rules, " ++ number_text t.manners
-    ++ codes " manners\n"
+    ++ codes " manners" ++ doubts_text t.doubts ++ codes "\n"

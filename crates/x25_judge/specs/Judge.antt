@@ -4,7 +4,7 @@ use Rattle.std.specs.Prelude.{ℕ, Bool, true, false, not, ◌&&◌, ◌||◌, L
 use Rattle.std.specs.Prelude.{Some, None, is_some, Result, Ok, Err}
 use Rattle.x25_bits.specs.declared.role.Role.{Role}
 use Rattle.x25_bits.specs.declared.role.Role.TheVariants.{Dte, Dce}
-use Rattle.x25_decode.specs.Decoding.{line_text, mark_of, n1, sent_in}
+use Rattle.x25_decode.specs.Decoding.{gap_in, gap_text, line_text, mark_of, n1, sent_in}
 use Rattle.x25_decode.specs.declared.answer.Reading.{Reading}
 use Rattle.x25_frame.specs.Frame.{PlainFrame, info}
 use Rattle.x25_frame.specs.Reading.{frame_of}
@@ -13,14 +13,22 @@ use Rattle.x25_frame.specs.declared.error.FrameError.TheVariants.{Short, BadFcs,
 use Rattle.x25_frame.specs.declared.error.FrameError.TheVariants.{TooLong}
 use Rattle.x25_packet_judge.specs.Book as book
 use Rattle.x25_judge.specs.Counts.{counted, end_text, more, no_counts, no_tally, none, tallied, tally_line}
+use Rattle.x25_judge.specs.Doubt.{explains_told, lack}
+use Rattle.x25_judge.specs.Held.{forgets_all}
+use Rattle.x25_judge.specs.Manners.{none as no_manners}
 use Rattle.x25_judge.specs.Links.{Both, Missed, no_end, sees, misses}
 use Rattle.x25_judge.specs.Note.{first_note, note_text, unjudged_note}
 use Rattle.x25_judge.specs.Rule.{breaks_manners, breaks_order, first, is_of_manners}
 use Rattle.x25_judge.specs.RuleText.{rule_text}
 use Rattle.x25_packet.specs.Reading.{channel_in}
+use Rattle.x25_possible_links.specs.code.Steps.{is_followed, is_known, unknown}
 use Rattle.x25_packet_judge.specs.declared.book.Book.{Book}
 use Rattle.x25_packet_judge.specs.declared.book.Verdict.{Verdict}
 use Rattle.x25_judge.specs.declared.counts.Count.{Count}
+use Rattle.x25_judge.specs.declared.doubt.At.{At}
+use Rattle.x25_judge.specs.declared.doubt.At.TheVariants.{Line}
+use Rattle.x25_judge.specs.declared.doubt.Lack.{Lack}
+use Rattle.x25_judge.specs.declared.doubt.Lack.TheVariants.{Any}
 use Rattle.x25_judge.specs.declared.judge.Judge.{Judge}
 use Rattle.x25_judge.specs.declared.judge.Remark.{Remark}
 use Rattle.x25_judge.specs.declared.links.End.{End}
@@ -31,7 +39,7 @@ use Rattle.x25_judge.specs.declared.note.Note.{Note}
 use Rattle.x25_judge.specs.declared.rule.Rule.{Rule}
 use Rattle.x25_judge.specs.declared.rule.Rule.TheVariants.{NoFrame, Packet}
 
--- before anything was sent: k, how octets are read, and what counts beside a broken rule
+-- before anything was sent: k, how octets are read, and what counts beside a broken rule; of a trace of all frames
 abbrev pub begins : ℕ → Reading → Strictness → Judge
 begins window reading strictness = record {
   window = window;
@@ -45,7 +53,13 @@ begins window reading strictness = record {
   dte_packets = no_counts;
   dce_packets = no_counts;
   told = no_tally;
+  at = Line;
+  has_gap = false;
 }
+
+-- of a trace that was made at a place
+abbrev pub begins_at : At → ℕ → Reading → Strictness → Judge
+begins_at at window reading strictness = record (begins window reading strictness) { at = at }
 
 -- ---- a frame
 
@@ -110,8 +124,26 @@ pub record Answer : Type 0 where
   pub is_faulty : Bool
   pub counts : Bool
 
-abbrev pub sign_of : Rule → List ℕ
-sign_of rule = if is_of_manners rule then codes " ~ manners: " else codes " ! "
+-- ---- what may be missing
+
+-- it is known where an end stands, and nothing of before may come to it
+abbrev pub is_settled : End → Bool
+is_settled e = is_known e.set && is_followed e.set
+
+-- after a gap any frames may be missing, until both ends are settled
+abbrev pub lack_of : Judge → Role → Lack
+lack_of j from =
+    if j.has_gap && not (is_settled j.dte && is_settled j.dce) then Any else lack j.at from (own_of from j).set
+
+-- ---- what is told
+
+abbrev pub sign_of : Bool → Rule → List ℕ
+sign_of in_doubt rule =
+    if in_doubt then (if is_of_manners rule then codes " ~? manners: " else codes " !? ")
+    else (if is_of_manners rule then codes " ~ manners: " else codes " ! ")
+
+abbrev pub doubt_text : Bool → List ℕ
+doubt_text in_doubt = if in_doubt then codes ", or the capture lacks frames" else []
 
 abbrev pub end_of : Role → List ℕ
 end_of Dte = codes "dte: "
@@ -121,13 +153,13 @@ abbrev pub noted_text : Option Note → List ℕ
 noted_text None = []
 noted_text (Some note) = codes " ~ note: " ++ note_text note
 
-abbrev pub broken_text : Role → Rule → List ℕ
-broken_text from rule = sign_of rule ++ end_of from ++ rule_text rule
+abbrev pub broken_text : Role → Bool → Rule → List ℕ
+broken_text from in_doubt rule = sign_of in_doubt rule ++ end_of from ++ rule_text rule ++ doubt_text in_doubt
 
 -- what is noted is told where no rule is broken
-abbrev pub remark_text : Role → Option Rule → Option Note → List ℕ
-remark_text from None note = noted_text note
-remark_text from (Some rule) _ = broken_text from rule
+abbrev pub remark_text : Role → Bool → Option Rule → Option Note → List ℕ
+remark_text from in_doubt None note = noted_text note
+remark_text from in_doubt (Some rule) _ = broken_text from in_doubt rule
 
 -- octets that aren't damaged and spell no frame count against their sender
 abbrev pub no_frame : FrameError → Option Rule
@@ -142,20 +174,27 @@ no_frame TooLong = Some NoFrame
 abbrev pub is_open : Strictness → Remark → Bool
 is_open s r = s.unjudged && not r.is_judged
 
-abbrev pub counts_by : Strictness → Remark → Bool
-counts_by s r = breaks_order r.rule || (s.manners && breaks_manners r.rule) || is_open s r
+abbrev pub breaks_by : Strictness → Option Rule → Bool
+breaks_by s rule = breaks_order rule || (s.manners && breaks_manners rule)
+
+-- what is in doubt counts where what isn't judged does
+abbrev pub counts_by : Strictness → Bool → Remark → Bool
+counts_by s in_doubt r = ((not in_doubt || s.unjudged) && breaks_by s r.rule) || is_open s r
 
 -- one more rule, or one more of manners, that was told
-abbrev pub tallies : Option Rule → Judge → Judge
-tallies rule j = record j { told = tallied (breaks_order rule) (breaks_manners rule) j.told }
+abbrev pub tallies : Bool → Option Rule → Judge → Judge
+tallies in_doubt rule j = record j { told = tallied in_doubt (breaks_order rule) (breaks_manners rule) j.told }
+
+abbrev pub told_as : Judge → Role → List ℕ → Bool → Remark → Judge → Answer
+told_as j from octets in_doubt r next = record {
+  next = tallies in_doubt r.rule next;
+  text = mark_of from ++ line_text j.reading from octets ++ remark_text from in_doubt r.rule r.note ++ codes "\n";
+  is_faulty = is_some r.rule || is_open j.strictness r;
+  counts = counts_by j.strictness in_doubt r;
+}
 
 abbrev pub told_of : Judge → Role → List ℕ → Remark → Judge → Answer
-told_of j from octets r next = record {
-  next = tallies r.rule next;
-  text = mark_of from ++ line_text j.reading from octets ++ remark_text from r.rule r.note ++ codes "\n";
-  is_faulty = is_some r.rule || is_open j.strictness r;
-  counts = counts_by j.strictness r;
-}
+told_of j from octets r next = told_as j from octets (explains_told (lack_of j from) r.rule) r next
 
 -- a frame, as it is seen by the link layer and by the packet layer
 abbrev pub remark_by : PlainFrame → Seen → Verdict → Remark
@@ -199,13 +238,34 @@ read_of j from octets (Ok frame) = told_frame j from octets frame (seen_by j fro
 read_of j from octets (Err e) =
     told_of j from octets (remark_missed e (missed_by j from)) (next_missed from e (missed_by j from) j)
 
--- a line that is none of a trace counts
-abbrev pub sent_of : Judge → Option (Role × List ℕ) → Answer
-sent_of j None = record { next = j; text = codes "? 60\n"; is_faulty = true; counts = true }
-sent_of j (Some sent) = read_of j sent.0 sent.1 (frame_of sent.0 n1 sent.1)
+-- ---- a gap: any number of frames may be missing
+
+abbrev pub forgotten : End → End
+forgotten e = record { set = unknown; held = forgets_all e.held; manners = no_manners }
+
+-- nothing is known of either end any more, but which packets may be on the way; and counts go on
+abbrev pub past_gap : Judge → Judge
+past_gap j =
+    record j { dte = forgotten j.dte; dce = forgotten j.dce; book = book.passes_gap j.book; has_gap = true }
+
+-- What is missing isn't judged; and a line that is none of a trace counts.
+abbrev pub gap_of : Judge → Option Role → Answer
+gap_of j None = record { next = j; text = gap_text None ++ codes "\n"; is_faulty = true; counts = true }
+gap_of j (Some from) = record {
+  next = past_gap j;
+  text = gap_text (Some from) ++ codes "\n";
+  is_faulty = j.strictness.unjudged;
+  counts = j.strictness.unjudged;
+}
+
+-- ---- a line of a trace
+
+abbrev pub sent_of : Judge → Option Role → Option (Role × List ℕ) → Answer
+sent_of j gap None = gap_of j gap
+sent_of j gap (Some sent) = read_of j sent.0 sent.1 (frame_of sent.0 n1 sent.1)
 
 unfoldable pub answer_to : Judge → List ℕ → Answer
-answer_to j line = sent_of j (sent_in line)
+answer_to j line = sent_of j (gap_in line) (sent_in line)
 
 -- ---- lines
 

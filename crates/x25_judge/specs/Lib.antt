@@ -1,4 +1,5 @@
 pub mod Note
+pub mod Doubt
 pub mod Held
 pub mod Counts
 pub mod Rule

@@ -1,6 +1,7 @@
 //! Lines answered as they come.
 ghost use Rattle.std.specs.Prelude.{length};
 
+use crate::doubt::At;
 use crate::judge::{Judge, MOST_ANSWER, Strictness};
 use std::alloc::{AllocError, Global};
 use x25_decode::{Reading, long_lines_send_nothing};
@@ -26,24 +27,25 @@ impl Answerer {
     ghost use Rattle.x25_io.specs.HeldLine.{most_line};
     ghost use Rattle.x25_io.specs.code.Written.{AppendsPrefix, Tells, TellsMore};
     ghost use Rattle.x25_judge.specs.Answerer.{reply};
-    ghost use Rattle.x25_judge.specs.Judge.{answer_to, begins, counts_text};
+    ghost use Rattle.x25_judge.specs.Judge.{answer_to, begins_at, counts_text};
 
     /// Nothing waits.
     pub(crate) fn new(
         alloc: Global,
+        at: At,
         window: u8,
         reading: Reading,
         strictness: Strictness,
         loose: bool,
     ) -> Result<Answerer, AllocError>
         ensures loose { IfOk result (λ a. a.loose ≡ loose) }
-        ensures judge { IfOk result (λ a. a.judge ≡ begins window reading strictness) }
+        ensures judge { IfOk result (λ a. a.judge ≡ begins_at at window reading strictness) }
         ensures empty { IfOk result (λ a. a.output ≡ []) }
         ensures faultless { IfOk result (λ a. a.is_faulty ≡ false) }
     {
         let answer = Text::new(alloc)?;
         let output = Output::new(alloc)?;
-        let judge = Judge::new(alloc, window, reading, strictness)?;
+        let judge = Judge::new(alloc, at, window, reading, strictness)?;
         Ok(Answerer {
             octets: [0; MOST_OCTETS],
             answer,

@@ -53,11 +53,12 @@ impl Count {
     }
 }
 
-/// How many frames broke a rule, and how many one of manners.
+/// How many frames broke a rule, how many one of manners, and of how many a frame that is missing may explain that.
 #[derive(Clone, Copy)]
 pub(crate) struct Tally {
     pub(crate) rules: u64,
     pub(crate) manners: u64,
+    pub(crate) doubts: u64,
 }
 
 impl Tally {
@@ -68,14 +69,22 @@ impl Tally {
         Tally {
             rules: 0,
             manners: 0,
+            doubts: 0,
         }
     }
 
-    /// One more of each that is broken.
-    pub(crate) fn more(self, is_rule: bool, is_manners: bool) -> Tally
-        ensures { result ≡ definition.tallied is_rule is_manners self }
+    /// One more of each that is broken, or one more that is in doubt.
+    pub(crate) fn more(self, in_doubt: bool, is_rule: bool, is_manners: bool) -> Tally
+        ensures { result ≡ definition.tallied in_doubt is_rule is_manners self }
     {
+        if in_doubt {
+            return Tally {
+                doubts: self.doubts.saturating_add(1),
+                ..self
+            };
+        }
         Tally {
+            doubts: self.doubts,
             rules: if is_rule {
                 self.rules.saturating_add(1)
             } else {
@@ -268,6 +277,20 @@ pub(crate) fn tell_end<W: Sink>(
     tell_packets(from, packets.as_slice(), output, writer)
 }
 
+/// Appends how much is in doubt, where anything is.
+fn push_doubts(count: u64, text: &mut Text)
+    requires { length text.old + 40 ≤ ROOM }
+    ensures text { text.new ≡ text.old ++ definition.doubts_text count }
+    ensures size { length text.new ≤ length text.old + 40 }
+{
+    if count == 0 {
+        return;
+    }
+    text.push(b", ");
+    push_count(count, text);
+    text.push(b" in doubt");
+}
+
 /// Appends the line on what was told.
 fn push_tally(tally: Tally, text: &mut Text)
     requires { length text.old + MOST_COUNT ≤ ROOM }
@@ -277,7 +300,9 @@ fn push_tally(tally: Tally, text: &mut Text)
     push_count(tally.rules, text);
     text.push(b" rules, ");
     push_count(tally.manners, text);
-    text.push(b" manners\n");
+    text.push(b" manners");
+    push_doubts(tally.doubts, text);
+    text.push(b"\n");
 }
 
 /// Tells how many rules were broken, and how many manners.

@@ -9,29 +9,34 @@ ghost use Rattle.x25_frame.specs.Reading.{frame_of};
 ghost use Rattle.x25_text.specs.FrameText.{frame_text, reading_text};
 ghost use Rattle.x25_text.specs.WideFrameText.{wide_frame_text, wide_reading_text};
 ghost use Rattle.x25_frame.specs.Frame.{plain};
-ghost use Rattle.x25_judge.specs.Judge.{all_told, answer_to, begins, behind, broken_text, counts_carried};
-ghost use Rattle.x25_judge.specs.Judge.{counts_frame, end_of, ends_text};
+ghost use Rattle.x25_judge.specs.Judge.{all_told, answer_to, begins_at, behind, breaks_by, broken_text};
+ghost use Rattle.x25_judge.specs.Judge.{counts_carried, doubt_text, is_settled, lack_of};
+ghost use Rattle.x25_judge.specs.Judge.{counts_frame, end_of, ends_text, forgotten, gap_of, past_gap};
 ghost use Rattle.x25_judge.specs.Judge.{book_by, counts_by, counts_packet, counts_text, covers, missed_by, next_by};
 ghost use Rattle.x25_judge.specs.Judge.{next_missed, no_frame, read_of, noted_text, remark_missed, remark_of};
 ghost use Rattle.x25_judge.specs.Judge.{remark_text, seen_by, sign_of, tallies};
 
 use crate::counts::{Count, Counts, Tally, tell_end, tell_tally};
+use crate::doubt::{At, Lack};
 use crate::links::{End, Seen, misses, sees};
+use crate::manners::Manners;
 use crate::note::{MOST_NOTE, Note, first_note, push_note, unjudged_note};
 use crate::rule::{Rule, breaks_manners, breaks_order, first};
 use crate::rule_text::{MOST_RULE, push_rule};
 use std::alloc::{AllocError, Global};
-use x25_decode::{Reading, read_sent};
+use x25_decode::{Reading, push_gap, read_gap, read_sent};
 use x25_frame::{Frame, FrameError, N1, Role, decode};
 use x25_io::{Failed, Output, Sink};
 use x25_packet::channel;
 use x25_packet_judge::{Book, PacketRule};
+use x25_possible_links::LinkSet;
 use x25_text::{
     MOST_OCTETS, MOST_TEXT, ROOM, Text, push_fault, push_frame, push_other_frame, push_wide_frame,
 };
 
-/// The most characters of the rule that a frame breaks, and of the end in front of it; no note has as many.
-const MOST_REMARK: usize = MOST_RULE + 17;
+/// The most characters of the rule that a frame breaks, of the end in front of it, and of what it says of a frame that
+/// is missing; no note has as many.
+const MOST_REMARK: usize = MOST_RULE + 47;
 
 /// The most characters of an answer, with its mark, a space and its line feed.
 pub(crate) const MOST_ANSWER: usize = MOST_TEXT + MOST_REMARK + 3;
@@ -39,7 +44,7 @@ pub(crate) const MOST_ANSWER: usize = MOST_TEXT + MOST_REMARK + 3;
 /// What makes the status 1, beside a broken rule and a line that is refused.
 #[derive(Clone, Copy)]
 pub struct Strictness {
-    /// A frame or a packet that isn't judged.
+    /// A frame or a packet that isn't judged, and a rule that frames would explain which may be missing.
     pub unjudged: bool,
     /// Broken manners.
     pub manners: bool,
@@ -59,6 +64,8 @@ pub(crate) struct Judge {
     pub(crate) dte_packets: Counts,
     pub(crate) dce_packets: Counts,
     pub(crate) told: Tally,
+    pub(crate) at: At,
+    pub(crate) has_gap: bool,
 }
 
 /// The rule that a frame breaks, what is noted of it, and whether all of it was judged.
@@ -139,29 +146,47 @@ fn push_missed(reading: Reading, from: Role, octets: &[u8], error: FrameError, t
     }
 }
 
-/// Appends the rule that was broken, where one was, or what is noted, and a line feed; whether that counts is answered.
-fn tell(from: Role, strictness: Strictness, remark: Remark, text: &mut Text) -> bool
-    requires { length text.old + (MOST_REMARK + 1) ≤ ROOM }
-    ensures text { text.new ≡ text.old ++ (remark_text from remark.rule remark.note ++ codes "\n") }
-    ensures counts { result ≡ counts_by strictness remark }
+/// Whether a broken rule counts.
+fn breaks(strictness: Strictness, rule: Option<Rule>) -> bool
+    ensures { result ≡ breaks_by strictness rule }
 {
-    push_remark(from, remark, text);
+    breaks_order(rule) || (strictness.manners && breaks_manners(rule))
+}
+
+/// Appends the rule that was broken, where one was, or what is noted, and a line feed; whether that counts is answered.
+fn tell(from: Role, strictness: Strictness, in_doubt: bool, remark: Remark, text: &mut Text) -> bool
+    requires { length text.old + (MOST_REMARK + 1) ≤ ROOM }
+    ensures text { text.new ≡ text.old ++ (remark_text from in_doubt remark.rule remark.note ++ codes "\n") }
+    ensures counts { result ≡ counts_by strictness in_doubt remark }
+{
+    push_remark(from, in_doubt, remark, text);
     text.push(b"\n");
-    breaks_order(remark.rule)
-        || ((strictness.manners && breaks_manners(remark.rule))
-            || (strictness.unjudged && !remark.is_judged))
+    ((!in_doubt || strictness.unjudged) && breaks(strictness, remark.rule))
+        || (strictness.unjudged && !remark.is_judged)
 }
 
 /// Appends what stands before the end that broke a rule.
-fn push_sign(rule: Rule, text: &mut Text)
-    requires { length text.old + 12 ≤ ROOM }
-    ensures text { text.new ≡ text.old ++ sign_of rule }
-    ensures size { length text.new ≤ length text.old + 12 }
+fn push_sign(in_doubt: bool, rule: Rule, text: &mut Text)
+    requires { length text.old + 13 ≤ ROOM }
+    ensures text { text.new ≡ text.old ++ sign_of in_doubt rule }
+    ensures size { length text.new ≤ length text.old + 13 }
 {
-    if rule.is_of_manners() {
-        text.push(b" ~ manners: ");
-    } else {
-        text.push(b" ! ");
+    match (in_doubt, rule.is_of_manners()) {
+        (true, true) => text.push(b" ~? manners: "),
+        (true, false) => text.push(b" !? "),
+        (false, true) => text.push(b" ~ manners: "),
+        (false, false) => text.push(b" ! "),
+    }
+}
+
+/// Appends what is said where a frame that is missing may explain it.
+fn push_doubt(in_doubt: bool, text: &mut Text)
+    requires { length text.old + 29 ≤ ROOM }
+    ensures text { text.new ≡ text.old ++ doubt_text in_doubt }
+    ensures size { length text.new ≤ length text.old + 29 }
+{
+    if in_doubt {
+        text.push(b", or the capture lacks frames");
     }
 }
 
@@ -178,24 +203,25 @@ fn push_end(from: Role, text: &mut Text)
 }
 
 /// Appends the end and the rule that it broke.
-fn push_broken(from: Role, rule: Rule, text: &mut Text)
+fn push_broken(from: Role, in_doubt: bool, rule: Rule, text: &mut Text)
     requires { length text.old + MOST_REMARK ≤ ROOM }
-    ensures text { text.new ≡ text.old ++ broken_text from rule }
+    ensures text { text.new ≡ text.old ++ broken_text from in_doubt rule }
     ensures size { length text.new ≤ length text.old + MOST_REMARK }
 {
-    push_sign(rule, text);
+    push_sign(in_doubt, rule, text);
     push_end(from, text);
     push_rule(rule, text);
+    push_doubt(in_doubt, text);
 }
 
 /// Appends the end and the rule that it broke, or else what is noted.
-fn push_remark(from: Role, remark: Remark, text: &mut Text)
+fn push_remark(from: Role, in_doubt: bool, remark: Remark, text: &mut Text)
     requires { length text.old + MOST_REMARK ≤ ROOM }
-    ensures text { text.new ≡ text.old ++ remark_text from remark.rule remark.note }
+    ensures text { text.new ≡ text.old ++ remark_text from in_doubt remark.rule remark.note }
     ensures size { length text.new ≤ length text.old + MOST_REMARK }
 {
     match remark.rule {
-        Some(rule) => push_broken(from, rule, text),
+        Some(rule) => push_broken(from, in_doubt, rule, text),
         None => push_noted(remark.note, text),
     }
 }
@@ -213,15 +239,32 @@ fn push_noted(note: Option<Note>, text: &mut Text)
     push_note(note, text);
 }
 
+/// Whether it is known where an end stands, and nothing of before may come to it.
+fn is_settled(end: &End) -> bool
+    ensures { result ≡ is_settled end.now }
+{
+    end.set.is_known() && end.set.is_followed()
+}
+
+/// Nothing is known of an end any more.
+fn forget(end: &mut End)
+    ensures { end.new ≡ forgotten end.old }
+{
+    end.set = LinkSet::new();
+    end.held.forget_all();
+    end.manners = Manners::new();
+}
+
 impl Judge {
     /// Nothing was sent.
     pub(crate) fn new(
         alloc: Global,
+        at: At,
         window: u8,
         reading: Reading,
         strictness: Strictness,
     ) -> Result<Judge, AllocError>
-        ensures { IfOk result (λ judge. judge ≡ begins window reading strictness) }
+        ensures { IfOk result (λ judge. judge ≡ begins_at at window reading strictness) }
     {
         let dte = End::new(alloc)?;
         let dce = End::new(alloc)?;
@@ -240,6 +283,8 @@ impl Judge {
             dte_packets,
             dce_packets,
             told: Tally::none(),
+            at,
+            has_gap: false,
         })
     }
 
@@ -281,10 +326,25 @@ impl Judge {
     }
 
     /// Counts what is told.
-    fn tally(&mut self, rule: Option<Rule>)
-        ensures { self.new ≡ tallies rule self.old }
+    fn tally(&mut self, in_doubt: bool, rule: Option<Rule>)
+        ensures { self.new ≡ tallies in_doubt rule self.old }
     {
-        self.told = self.told.more(breaks_order(rule), breaks_manners(rule));
+        self.told = self
+            .told
+            .more(in_doubt, breaks_order(rule), breaks_manners(rule));
+    }
+
+    /// Which frames may be missing that would explain what is told of an end.
+    fn lack(&self, from: Role) -> Lack
+        ensures { result ≡ lack_of self.now from }
+    {
+        if self.has_gap && !(is_settled(&self.dte) && is_settled(&self.dce)) {
+            return Lack::Any;
+        }
+        match from {
+            Role::Dte => self.at.lack(from, &self.dte.set),
+            Role::Dce => self.at.lack(from, &self.dce.set),
+        }
     }
 
     /// What the link layer says of a frame.
@@ -355,6 +415,7 @@ impl Judge {
         ensures counts { result ≡ (read_of self.old from octets.now (frame_of from n1 octets.now)).counts }
     {
         let strictness = self.strictness;
+        let lack = self.lack(from);
         match from {
             Role::Dte => text.push(b"> "),
             Role::Dce => text.push(b"< "),
@@ -363,14 +424,43 @@ impl Judge {
             Ok(frame) => {
                 push_seen(self.reading, &frame, text);
                 let remark = self.sees(from, &frame);
-                self.tally(remark.rule);
-                tell(from, strictness, remark, text)
+                let in_doubt = lack.explains_told(remark.rule);
+                self.tally(in_doubt, remark.rule);
+                tell(from, strictness, in_doubt, remark, text)
             }
             Err(error) => {
                 push_missed(self.reading, from, octets, error, text);
                 let remark = self.misses(from, error);
-                self.tally(remark.rule);
-                tell(from, strictness, remark, text)
+                let in_doubt = lack.explains_told(remark.rule);
+                self.tally(in_doubt, remark.rule);
+                tell(from, strictness, in_doubt, remark, text)
+            }
+        }
+    }
+
+    /// Any number of frames may be missing.
+    fn forget(&mut self)
+        ensures { self.new ≡ past_gap self.old }
+    {
+        forget(&mut self.dte);
+        forget(&mut self.dce);
+        self.book.passes_gap();
+        self.has_gap = true;
+    }
+
+    /// Appends the line that answers one without octets, a gap or none of a trace; whether it counts is answered.
+    fn pass_gap(&mut self, gap: Option<Role>, text: &mut Text) -> bool
+        requires { length text.old + 6 ≤ ROOM }
+        ensures text { text.new ≡ text.old ++ (gap_of self.old gap).text }
+        ensures next { self.new ≡ (gap_of self.old gap).next }
+        ensures counts { result ≡ (gap_of self.old gap).counts }
+    {
+        push_gap(gap, text);
+        match gap {
+            None => true,
+            Some(_) => {
+                self.forget();
+                self.strictness.unjudged
             }
         }
     }
@@ -424,10 +514,7 @@ impl Judge {
     {
         match read_sent(line, octets) {
             Some((from, count)) => self.read(from, &octets[..count], text),
-            None => {
-                text.push(b"? 60\n");
-                true
-            }
+            None => self.pass_gap(read_gap(line), text),
         }
     }
 }

@@ -1,10 +1,11 @@
 //! A trace judged line by line.
 ghost use Rattle.std.specs.Prelude.{◌≡◌, IsErrOf};
 ghost use Rattle.x25_io.specs.code.Runs.{Runs};
-ghost use Rattle.x25_judge.specs.Judge.{begins};
+ghost use Rattle.x25_judge.specs.Judge.{begins_at};
 ghost use Rattle.x25_judge.specs.code.Stream.{program};
 
 use crate::answerer::Answerer;
+use crate::doubt::At;
 use crate::judge::Strictness;
 use std::alloc::Global;
 use x25_decode::Reading;
@@ -19,14 +20,17 @@ use x25_io::{Fault, HeldLine, LineByLine, Piece, Sink, Source, take_text};
 /// With `loose` a time and its tab may stand before a line, and go before its answer; an empty line and a comment,
 /// which begins with `#`, are their own answers; and a carriage return at the end of a line is left out.
 ///
-/// The trace has what both ends sent, in the order in which it passed. At most `window` I frames may be unacknowledged;
-/// of data packets on a channel as many as its call and the acceptance say. `reading` says how octets are read: with
-/// `wide` a packet in any form is judged as the one that a station takes it for. At most one line is held, and after
-/// each read the answers to the lines that have ended are written. The buffers are made first: `NoMemory` comes with
-/// nothing read and nothing written. A reader is called at most 2^64 - 1 times; the clauses on the text speak of inputs
-/// of fewer octets than that. Profile.
+/// The trace was made `at` a place, and has what both ends sent, in the order in which it passed there. A gap, `> ..`
+/// or `< ..`, stands for any number of frames. A rule that frames would explain which may be missing has a mark, and
+/// makes the status 1 where what isn't judged does. At most `window` I frames may be unacknowledged; of data packets
+/// on a channel as many as its call and the acceptance say. `reading` says how octets are read: with `wide` a packet
+/// in any form is judged as the one that a station takes it for. At most one line is held, and after each read the
+/// answers to the lines that have ended are written. The buffers are made first: `NoMemory` comes with nothing read
+/// and nothing written. A reader is called at most 2^64 - 1 times; the clauses on the text speak of inputs of fewer
+/// octets than that. Profile.
 pub fn judge_lines<R: Source, W: Sink>(
     alloc: Global,
+    at: At,
     window: u8,
     reading: Reading,
     strictness: Strictness,
@@ -34,13 +38,13 @@ pub fn judge_lines<R: Source, W: Sink>(
     reader: &mut R,
     writer: &mut W,
 ) -> Result<u8, Fault>
-    ensures runs { Runs R.Source W.Sink (program loose (begins window reading strictness)) reader.old reader.new
+    ensures runs { Runs R.Source W.Sink (program loose (begins_at at window reading strictness)) reader.old reader.new
         writer.old writer.new result }
     ensures memory { IsErrOf result Fault.NoMemory → (reader.new ≡ reader.old) × (writer.new ≡ writer.old) }
 {
     let piece = Piece::new(alloc)?;
     let held = HeldLine::new(alloc)?;
-    let answerer = Answerer::new(alloc, window, reading, strictness, loose)?;
+    let answerer = Answerer::new(alloc, at, window, reading, strictness, loose)?;
     let lines = LineByLine::new(held, answerer);
     take_text(lines, piece, reader, writer)
 }

@@ -6,6 +6,7 @@
 
 mod answerer;
 mod counts;
+mod doubt;
 mod held;
 mod judge;
 mod judging;
@@ -16,6 +17,7 @@ mod note;
 mod rule;
 mod rule_text;
 
+pub use doubt::At;
 pub use judge::Strictness;
 pub use judging::judge_lines;
 pub use law::{

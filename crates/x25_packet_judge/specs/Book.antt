@@ -50,6 +50,10 @@ keeps from t b = record b { dte = by_end from t.own t.other; dce = by_end from t
 abbrev pub forgets : Book → Book
 forgets b = record b { restarts = channels.lost b.restarts; channels = all_happens Loss b.channels }
 
+-- frames weren't seen, of either end
+abbrev pub passes_gap : Book → Book
+passes_gap b = forgets (record { dte = unseen; dce = unseen; restarts = b.restarts; channels = b.channels })
+
 -- ---- a packet
 
 -- behind a frame, with what is told of its packet

@@ -212,6 +212,15 @@ impl Book {
         self.channels.happens(Event::Loss);
     }
 
+    /// Frames of either end weren't seen, any number of them.
+    pub fn passes_gap(&mut self)
+        ensures { self.new ≡ definition.passes_gap self.old }
+    {
+        self.dte = Layer::unseen();
+        self.dce = Layer::unseen();
+        self.forget();
+    }
+
     /// Octets that spell no packet: nothing may be said of any channel where they name none.
     fn misses_on(&mut self, channel: u16) -> Verdict
         ensures book { self.new ≡ (definition.misses_on channel self.old).book }

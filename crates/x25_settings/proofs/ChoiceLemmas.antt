@@ -1,10 +1,12 @@
 -- The words behind a command, one after another.
-use Rattle.std.proofs.Common.{◌≡◌, ◌∙◌, ◌≤◌, ◌<◌, ℕ, Bool, true, false, List, [], ◌∷◌, Option, Some, None, ap, refl, sym, subst, arith, decimal}
+use Rattle.std.proofs.Common.{◌≡◌, ◌∙◌, ◌≤◌, ◌<◌, ℕ, Bool, true, false, List, [], ◌∷◌, Option, Some, None, ap, refl, sym, subst, arith, codes, decimal}
 use Rattle.std.specs.Prelude.{cond, option_and_then, is_some, unwrap_or, IfSome}
 use Rattle.std.specs.List.{find, flat_map}
 use Rattle.std.specs.Str.{bytes_eq}
 use Rattle.std.proofs.lemmas.Option.{same_Some}
 use Rattle.std.proofs.lemmas.Slice.Eq.{bytes_eq-Decides}
+use Rattle.x25_settings.specs.declared.options.At.{At}
+use Rattle.x25_settings.specs.declared.options.At.TheVariants as at
 use Rattle.x25_settings.specs.declared.options.Chosen.{Chosen}
 use Rattle.x25_settings.specs.declared.options.Flag.{Flag}
 use Rattle.x25_settings.specs.declared.options.Flag.TheVariants.{Clock, Down, Events, Long, Loose, Manners, SaySizes, Tap, Strict, Wide}
@@ -12,8 +14,8 @@ use Rattle.x25_settings.specs.declared.options.Kind.{Kind}
 use Rattle.x25_settings.specs.declared.options.Kind.TheVariants.{Decode, Sim, Station, Judge, Frame}
 use Rattle.x25_settings.specs.declared.options.Numbered.{Numbered}
 use Rattle.x25_settings.specs.declared.options.Numbered.TheVariants.{Window, Tries, Channels, Incoming, Outgoing, T1, T3, T20, T21, T22, T23}
-use Rattle.x25_settings.specs.Options.Choosing.{number_in, flags, flag_in, numbers, numbered_in, put_flag, put_fresh, put_read, put_text, put_number, chosen_in}
-use Rattle.x25_settings.specs.Options.{Choice, flag, number, flag_word, word_of, least_of, most_of, words_of, nothing, chosen_flag, with_flag, chosen_number, with_number, takes, has, IsInRange, IsOpen, Leads, settled, Choose, AreInRange}
+use Rattle.x25_settings.specs.Options.Choosing.{at_in, number_in, flags, flag_in, numbers, numbered_in, places, put_flag, put_fresh, put_read, put_text, put_number, put_pair, put_place, chosen_in}
+use Rattle.x25_settings.specs.Options.{Choice, flag, number, place, at_word, flag_word, word_of, least_of, most_of, words_of, nothing, chosen_flag, with_flag, chosen_number, with_number, takes, has, has_place, IsInRange, IsOpen, Leads, settled, Choose, AreInRange}
 use Rattle.x25_settings.proofs.NumberLemmas.{number_found, number_read}
 
 -- ---- a word among some
@@ -53,6 +55,25 @@ no_flag T20 = refl
 no_flag T21 = refl
 no_flag T22 = refl
 no_flag T23 = refl
+
+no_place : (x : Numbered) → bytes_eq (word_of x) (codes "--at") ≡ false
+no_place Window = refl
+no_place Tries = refl
+no_place Channels = refl
+no_place Incoming = refl
+no_place Outgoing = refl
+no_place T1 = refl
+no_place T3 = refl
+no_place T20 = refl
+no_place T21 = refl
+no_place T22 = refl
+no_place T23 = refl
+
+is_place : (x : At) → at_in (at_word x) ≡ Some x
+is_place at.Line = refl
+is_place at.Dte = refl
+is_place at.Dce = refl
+is_place at.Either = refl
 
 is_numbered : (x : Numbered) → numbered_in (word_of x) ≡ Some x
 is_numbered Window = refl
@@ -100,7 +121,7 @@ module _ (kind : Kind) where
 
   -- an option that is one word, or one with the next
   abbrev step : Chosen → List ℕ → List ℕ → List (List ℕ) → Option Flag → Option Chosen
-  step c word text rest o = cond (is_some o) (read_on (text ∷ rest) (option_and_then (put_flag kind c) o)) (read_on rest (put_number kind c word text))
+  step c word text rest o = cond (is_some o) (read_on (text ∷ rest) (option_and_then (put_flag kind c) o)) (read_on rest (put_pair kind c word text))
 
   reads_flag : (c : Chosen) (word : List ℕ) (x : Flag) (rest : List (List ℕ)) → flag_in word ≡ Some x → chosen_in kind c (word ∷ rest) ≡ read_on rest (put_flag kind c x)
   unfolding chosen_in
@@ -111,10 +132,10 @@ module _ (kind : Kind) where
       alone (Some c) = refl
   reads_flag c word x (text ∷ rest) is = ap (step c word text rest) is
 
-  reads_number : (c : Chosen) (word text : List ℕ) (rest : List (List ℕ)) → flag_in word ≡ None
-      → chosen_in kind c (word ∷ text ∷ rest) ≡ read_on rest (put_number kind c word text)
+  reads_pair : (c : Chosen) (word text : List ℕ) (rest : List (List ℕ)) → flag_in word ≡ None
+      → chosen_in kind c (word ∷ text ∷ rest) ≡ read_on rest (put_pair kind c word text)
   unfolding chosen_in
-  reads_number c word text rest is = ap (step c word text rest) is
+  reads_pair c word text rest is = ap (step c word text rest) is
 
   reads_alone : (c : Chosen) (word : List ℕ) → flag_in word ≡ None → chosen_in kind c (word ∷ []) ≡ None
   unfolding chosen_in
@@ -124,12 +145,12 @@ module _ (kind : Kind) where
     pub flag_on : (x : Flag) → flag_in word ≡ Some x → o ≡ put_flag kind c x → chosen_in kind c words ≡ option_and_then (λ c. chosen_in kind c behind) o
     flag_on x is e = ap (chosen_in kind c) split ∙ reads_flag c word x behind is ∙ ap (read_on behind) (sym e)
 
-    pub number_alone : behind ≡ [] → flag_in word ≡ None → chosen_in kind c words ≡ None
-    number_alone none is = ap (chosen_in kind c) (split ∙ ap (λ ws. word ∷ ws) none) ∙ reads_alone c word is
+    pub pair_alone : behind ≡ [] → flag_in word ≡ None → chosen_in kind c words ≡ None
+    pair_alone none is = ap (chosen_in kind c) (split ∙ ap (λ ws. word ∷ ws) none) ∙ reads_alone c word is
 
-    pub number_on : (text : List ℕ) (rest : List (List ℕ)) → behind ≡ text ∷ rest → flag_in word ≡ None → o ≡ put_number kind c word text
+    pub pair_on : (text : List ℕ) (rest : List (List ℕ)) → behind ≡ text ∷ rest → flag_in word ≡ None → o ≡ put_pair kind c word text
         → chosen_in kind c words ≡ option_and_then (λ c. chosen_in kind c rest) o
-    number_on text rest more is e = ap (chosen_in kind c) (split ∙ ap (λ ws. word ∷ ws) more) ∙ reads_number c word text rest is ∙ ap (read_on rest) (sym e)
+    pair_on text rest more is e = ap (chosen_in kind c) (split ∙ ap (λ ws. word ∷ ws) more) ∙ reads_pair c word text rest is ∙ ap (read_on rest) (sym e)
 
   pub nothing_left : (c : Chosen) (words : List (List ℕ)) → words ≡ [] → chosen_in kind c words ≡ Some c
   unfolding chosen_in
@@ -202,6 +223,46 @@ module _ (kind : Kind) where
         (taken.is_open, subst (λ (s : Chosen). Leads kind s found.0 end) taken.gives found.2),
       )
 
+  -- where a trace was made
+  record Places (c d : Chosen) (text : List ℕ) : Type 0 where
+    value : At
+    text_is : text ≡ at_word value
+    is_open : IsOpen kind c (place value)
+    gives : d ≡ record c { at = Some value }
+
+  place_found : (c d : Chosen) (text : List ℕ) → put_place kind c (at_in text) ≡ Some d → Places c d text
+  place_found c d text e = by_place (at_in text) refl e
+    where
+      by_place : (o : Option At) → at_in text ≡ o → put_place kind c o ≡ Some d → Places c d text
+      by_place None is e = absurd (cc)
+      by_place (Some x) is e = go (has_place kind) c.at refl refl e
+        where
+          go : (has : Bool) (before : Option At) → has_place kind ≡ has → c.at ≡ before
+              → cond has (cond (is_some before) None (Some (record c { at = Some x }))) None ≡ Some d → Places c d text
+          go true None there fresh e = record {
+            value = x;
+            text_is = word_found at_word text places x is;
+            is_open = (there, fresh);
+            gives = sym (same_Some _ _ e);
+          }
+          go true (Some y) there fresh e = absurd (cc)
+          go false before there fresh e = absurd (cc)
+
+  behind_place : (c d end : Chosen) (word text : List ℕ) (rest : List (List ℕ)) → word ≡ codes "--at" → put_place kind c (at_in text) ≡ Some d → Found d rest end → Found c (word ∷ text ∷ rest) end
+  behind_place c d end word text rest is put found =
+      let taken = place_found c d text put in (
+        place taken.value ∷ found.0,
+        ap (λ w. w ∷ text ∷ rest) is ∙ ap (λ t. codes "--at" ∷ t ∷ rest) taken.text_is ∙ ap (λ ws. codes "--at" ∷ at_word taken.value ∷ ws) found.1,
+        (taken.is_open, subst (λ (s : Chosen). Leads kind s found.0 end) taken.gives found.2),
+      )
+
+  behind_pair : (c d end : Chosen) (word text : List ℕ) (rest : List (List ℕ)) → put_pair kind c word text ≡ Some d → Found d rest end → Found c (word ∷ text ∷ rest) end
+  behind_pair c d end word text rest put found = go (bytes_eq word (codes "--at")) refl put
+    where
+      go : (b : Bool) → bytes_eq word (codes "--at") ≡ b → cond b (put_place kind c (at_in text)) (put_number kind c word text) ≡ Some d → Found c (word ∷ text ∷ rest) end
+      go true is put = behind_place c d end word text rest ((bytes_eq-Decides word (codes "--at")).0 is) put found
+      go false is put = behind_number c d end word text rest put found
+
   -- what is known of the words behind
   abbrev Finds : List (List ℕ) → Chosen → Type 0
   Finds words end = (c : Chosen) → chosen_in kind c words ≡ Some end → Found c words end
@@ -211,10 +272,10 @@ module _ (kind : Kind) where
   finds_flag c end word x rest is next None put e = absurd (cc)
   finds_flag c end word x rest is next (Some d) put e = behind_flag c d end word x rest is put (next d e)
 
-  finds_number : (c end : Chosen) (word text : List ℕ) (rest : List (List ℕ)) → Finds rest end
-      → (o : Option Chosen) → put_number kind c word text ≡ o → read_on rest o ≡ Some end → Found c (word ∷ text ∷ rest) end
-  finds_number c end word text rest next None put e = absurd (cc)
-  finds_number c end word text rest next (Some d) put e = behind_number c d end word text rest put (next d e)
+  finds_pair : (c end : Chosen) (word text : List ℕ) (rest : List (List ℕ)) → Finds rest end
+      → (o : Option Chosen) → put_pair kind c word text ≡ o → read_on rest o ≡ Some end → Found c (word ∷ text ∷ rest) end
+  finds_pair c end word text rest next None put e = absurd (cc)
+  finds_pair c end word text rest next (Some d) put e = behind_pair c d end word text rest put (next d e)
 
   finds_alone : (c end : Chosen) (word : List ℕ) → Finds [] end → (o : Option Flag) → flag_in word ≡ o → chosen_in kind c (word ∷ []) ≡ Some end → Found c (word ∷ []) end
   finds_alone c end word next (Some x) is e = finds_flag c end word x [] is next (put_flag kind c x) refl (sym (reads_flag c word x [] is) ∙ e)
@@ -223,7 +284,7 @@ module _ (kind : Kind) where
   finds_more : (c end : Chosen) (word text : List ℕ) (rest : List (List ℕ)) → Finds (text ∷ rest) end → Finds rest end
       → (o : Option Flag) → flag_in word ≡ o → chosen_in kind c (word ∷ text ∷ rest) ≡ Some end → Found c (word ∷ text ∷ rest) end
   finds_more c end word text rest next after (Some x) is e = finds_flag c end word x (text ∷ rest) is next (put_flag kind c x) refl (sym (reads_flag c word x (text ∷ rest) is) ∙ e)
-  finds_more c end word text rest next after None is e = finds_number c end word text rest after (put_number kind c word text) refl (sym (reads_number c word text rest is) ∙ e)
+  finds_more c end word text rest next after None is e = finds_pair c end word text rest after (put_pair kind c word text) refl (sym (reads_pair c word text rest is) ∙ e)
 
   finds : (words : List (List ℕ)) (end : Chosen) → Finds words end
   finds [] end c e = ([], refl, same_Some _ _ (sym e ∙ nothing_left c [] refl))
@@ -251,9 +312,16 @@ module _ (kind : Kind) where
       ∙ ap (λ b. read_on (flat_map words_of choices) (cond b None (Some (with_flag c x)))) h.0.1
       ∙ read_again choices (with_flag c x) end h.1
   read_again (number x n ∷ choices) c end h =
-      reads_number c (word_of x) (decimal n) (flat_map words_of choices) (no_flag x)
+      reads_pair c (word_of x) (decimal n) (flat_map words_of choices) (no_flag x)
+      ∙ ap (λ b. read_on (flat_map words_of choices) (cond b (put_place kind c (at_in (decimal n))) (put_number kind c (word_of x) (decimal n)))) (no_place x)
       ∙ ap (read_on (flat_map words_of choices)) (puts_number c x n h.0)
       ∙ read_again choices (with_number c x n) end h.1
+  read_again (place x ∷ choices) c end h =
+      reads_pair c (codes "--at") (at_word x) (flat_map words_of choices) refl
+      ∙ ap (λ o. read_on (flat_map words_of choices) (put_place kind c o)) (is_place x)
+      ∙ ap (λ b. read_on (flat_map words_of choices) (cond b (cond (is_some c.at) None (Some (record c { at = Some x }))) None)) h.0.0
+      ∙ ap (λ o. read_on (flat_map words_of choices) (cond (is_some o) None (Some (record c { at = Some x })))) h.0.1
+      ∙ read_again choices (record c { at = Some x }) end h.1
 
   pub read : (words : List (List ℕ)) (end : Chosen) → Choose kind words end → chosen_in kind nothing words ≡ Some end
   read words end h = ap (chosen_in kind nothing) h.1 ∙ read_again h.0 nothing end h.2
@@ -294,6 +362,8 @@ module _ (kind : Kind) where
   keeps [] c end kept e = subst IsKept (sym e) kept
   keeps (flag x ∷ choices) c end kept h = keeps choices (with_flag c x) end (flag_keeps x c kept) h.1
   keeps (number x n ∷ choices) c end kept h = keeps choices (with_number c x n) end (number_keeps x n c h.0.2 kept) h.1
+  keeps (place x ∷ choices) c end kept h =
+      keeps choices (record c { at = Some x }) end (record { k = kept.k; n2 = kept.n2; channels = kept.channels }) h.1
 
   pub in_range : (words : List (List ℕ)) (c : Chosen) → Choose kind words c → AreInRange kind (settled c)
   in_range words c h =

@@ -7,6 +7,8 @@ use Rattle.x25_settings.specs.declared.options.Simulation.{Simulation}
 use Rattle.x25_settings.specs.declared.options.StationOptions.{StationOptions}
 use Rattle.x25_settings.specs.declared.options.End.{End}
 use Rattle.x25_settings.specs.declared.options.End.TheVariants.{Dte, Dce}
+use Rattle.x25_settings.specs.declared.options.At.{At}
+use Rattle.x25_settings.specs.declared.options.At.TheVariants as at
 use Rattle.x25_settings.specs.declared.options.Judging.{Judging}
 use Rattle.x25_settings.specs.declared.options.Place.{Place}
 use Rattle.x25_settings.specs.declared.options.GivenTimes.{GivenTimes}
@@ -81,6 +83,10 @@ has Judge Window = true
 has Judge option = false
 has Frame option = false
 
+abbrev pub has_place : Kind → Bool
+has_place Judge = true
+has_place kind = false
+
 -- the least that it may be: of channels that are one-way none; a time of 0 is for ever
 abbrev pub least_of : Numbered → ℕ
 least_of Window = 1
@@ -98,14 +104,22 @@ most_of kind Incoming = 4095
 most_of kind Outgoing = 4095
 most_of kind time = 86400000
 
--- an option, with its number where it has one
+abbrev pub at_word : At → List ℕ
+at_word at.Line = codes "line"
+at_word at.Dte = codes "dte"
+at_word at.Dce = codes "dce"
+at_word at.Either = codes "either"
+
+-- an option, with its number where it has one; or where a trace was made
 pub data Choice : Type 0 where
   flag : Flag → Choice
   number : Numbered → ℕ → Choice
+  place : At → Choice
 
 abbrev pub words_of : Choice → List (List ℕ)
 words_of (flag x) = flag_word x ∷ []
 words_of (number x n) = word_of x ∷ decimal n ∷ []
+words_of (place x) = codes "--at" ∷ at_word x ∷ []
 
 abbrev pub no_times : GivenTimes
 no_times = record { t1 = None; t3 = None; t20 = None; t21 = None; t22 = None; t23 = None }
@@ -128,6 +142,7 @@ nothing = record {
   incoming = None;
   outgoing = None;
   times = no_times;
+  at = None;
 }
 
 abbrev pub chosen_number : Chosen → Numbered → Option ℕ
@@ -183,6 +198,7 @@ with_number c T23 n = record c { times = record c.times { t23 = Some n } }
 abbrev pub with_choice : Chosen → Choice → Chosen
 with_choice c (flag x) = with_flag c x
 with_choice c (number x n) = with_number c x n
+with_choice c (place x) = record c { at = Some x }
 
 abbrev pub IsInRange : Kind → Numbered → ℕ → Type 0
 IsInRange kind x n = (least_of x ≤ n) × (n ≤ most_of kind x)
@@ -191,6 +207,7 @@ IsInRange kind x n = (least_of x ≤ n) × (n ≤ most_of kind x)
 abbrev pub IsOpen : Kind → Chosen → Choice → Type 0
 IsOpen kind c (flag x) = (takes kind x ≡ true) × (chosen_flag c x ≡ false)
 IsOpen kind c (number x n) = (has kind x ≡ true) × (chosen_number c x ≡ None) × IsInRange kind x n
+IsOpen kind c (place x) = (has_place kind ≡ true) × (c.at ≡ None)
 
 -- one after another, each once, in any order
 abbrev pub Leads : Kind → Chosen → List Choice → Chosen → Type 0
@@ -240,6 +257,7 @@ judged c = record {
   strict = c.strict;
   wide = c.wide;
   k = unwrap_or c.k 7;
+  at = unwrap_or c.at at.Line;
 }
 
 -- these words choose this behind a command

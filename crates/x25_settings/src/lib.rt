@@ -5,5 +5,5 @@ mod options;
 mod parser;
 mod words;
 
-pub use options::{Decoding, End, GivenTimes, Judging, Place, Simulation, StationOptions};
+pub use options::{At, Decoding, End, GivenTimes, Judging, Place, Simulation, StationOptions};
 pub use words::{SettingsError, Task, settings};

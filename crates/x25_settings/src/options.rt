@@ -2,13 +2,13 @@
 ghost use Rattle.std.specs.Prelude.{◌≡◌, ◌≤◌, ◌<◌, ◌↔◌, ◌∷◌, [], IfSome, MatchOption, IsTrue, decimal, is_some};
 ghost use Rattle.std.specs.Prelude.{map, length};
 ghost use Rattle.std.specs.Str.{bytes_eq};
-ghost use Rattle.x25_settings.specs.Options.Choosing.{chosen_in, end_in, flag_in, number_in, numbered_in, put_flag};
-ghost use Rattle.x25_settings.specs.Options.Choosing.{put_number, read_decoding, read_framing};
-ghost use Rattle.x25_settings.specs.Options.Choosing.{read_judging as judging_in};
+ghost use Rattle.x25_settings.specs.Options.Choosing.{at_in, chosen_in, end_in, flag_in, number_in, numbered_in};
+ghost use Rattle.x25_settings.specs.Options.Choosing.{put_flag, put_number, put_pair, put_place};
+ghost use Rattle.x25_settings.specs.Options.Choosing.{read_decoding, read_framing, read_judging as judging_in};
 ghost use Rattle.x25_settings.specs.Options.Choosing.{read_place as place_in, read_simulation as simulation_in};
-ghost use Rattle.x25_settings.specs.Options.{chosen_number, clock_of, fits_together as together, has, has_times};
+ghost use Rattle.x25_settings.specs.Options.{chosen_number, clock_of, fits_together as together, has, has_place};
 ghost use Rattle.x25_settings.specs.declared.options.Kind.TheVariants.{Station};
-ghost use Rattle.x25_settings.specs.Options.{least_of, most_of, nothing, settled, takes, with_number};
+ghost use Rattle.x25_settings.specs.Options.{has_times, least_of, most_of, nothing, settled, takes, with_number};
 
 use itoa::Buffer;
 use std::convert::AsStr;
@@ -88,6 +88,15 @@ pub struct Place {
     pub clock: Option<GivenTimes>,
 }
 
+/// Where a trace was made: on the line, in front of an end, or at an end that isn't known.
+#[derive(Clone, Copy, Debug, PartialEq, Eq)]
+pub enum At {
+    Line,
+    Dte,
+    Dce,
+    Either,
+}
+
 /// What `judge` is run with.
 #[derive(Clone, Copy, Debug, PartialEq, Eq)]
 pub struct Judging {
@@ -103,6 +112,8 @@ pub struct Judging {
     pub wide: bool,
     /// The window of the link, 1 to 7.
     pub k: u8,
+    /// Where the trace was made.
+    pub at: At,
 }
 
 /// The commands that have options.
@@ -177,6 +188,13 @@ impl Kind {
             Numbered::Tries | Numbered::Channels => matches!(self, Kind::Sim | Kind::Station),
             _ => matches!(self, Kind::Station),
         }
+    }
+
+    /// Whether it is told where a trace was made.
+    fn has_place(self) -> bool
+        ensures { result ≡ has_place self }
+    {
+        matches!(self, Kind::Judge)
     }
 }
 
@@ -267,6 +285,7 @@ struct Chosen {
     incoming: Option<u16>,
     outgoing: Option<u16>,
     times: GivenTimes,
+    at: Option<At>,
 }
 
 pub(crate) fn is(text: &str, word: &str) -> bool
@@ -340,6 +359,22 @@ pub(crate) fn end_word(word: &str) -> Option<End>
         Some(End::Dte)
     } else if is(word, "dce") {
         Some(End::Dce)
+    } else {
+        None
+    }
+}
+
+fn at_option(word: &str) -> Option<At>
+    ensures { result ≡ at_in word.now }
+{
+    if is(word, "line") {
+        Some(At::Line)
+    } else if is(word, "dte") {
+        Some(At::Dte)
+    } else if is(word, "dce") {
+        Some(At::Dce)
+    } else if is(word, "either") {
+        Some(At::Either)
     } else {
         None
     }
@@ -503,6 +538,32 @@ impl Chosen {
         }
     }
 
+    /// With the place of a trace, where it wasn't chosen before.
+    fn with_place(self, kind: Kind, text: &str) -> Option<Chosen>
+        ensures { result ≡ put_place kind self (at_in text.now) }
+    {
+        let at = at_option(text)?;
+        if kind.has_place() && self.at.is_none() {
+            Some(Chosen {
+                at: Some(at),
+                ..self
+            })
+        } else {
+            None
+        }
+    }
+
+    /// With an option of a command and the word behind it.
+    fn with_pair(self, kind: Kind, word: &str, text: &str) -> Option<Chosen>
+        ensures { result ≡ put_pair kind self word.now text.now }
+    {
+        if is(word, "--at") {
+            self.with_place(kind, text)
+        } else {
+            self.with_number(kind, word, text)
+        }
+    }
+
     /// The defaults for the rest.
     fn with_defaults(self) -> StationOptions
         ensures { result ≡ settled self }
@@ -576,6 +637,7 @@ fn choose<S: AsStr>(kind: Kind, words: &[S]) -> Option<Chosen>
             t22: None,
             t23: None,
         },
+        at: None,
     };
     let mut rest = words;
     while let Some((word, after)) = split_word(rest) {
@@ -584,7 +646,7 @@ fn choose<S: AsStr>(kind: Kind, words: &[S]) -> Option<Chosen>
             rest = after;
         } else {
             let (text, after) = split_word(after)?;
-            chosen = chosen.with_number(kind, word, text)?;
+            chosen = chosen.with_pair(kind, word, text)?;
             rest = after;
         }
     }
@@ -637,6 +699,7 @@ pub(crate) fn read_judging<S: AsStr>(words: &[S]) -> Option<Judging>
         strict: chosen.strict,
         wide: chosen.wide,
         k: rest.k,
+        at: chosen.at.unwrap_or(At::Line),
     })
 }
 

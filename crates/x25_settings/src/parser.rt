@@ -12,6 +12,8 @@ enum Word {
     Number(Kind, Numbered, &'static str),
     /// The word for an end, and its help.
     End(&'static str),
+    /// The option with the place of a trace, and its help.
+    At(&'static str),
 }
 
 /// A command, with the words in the order in which its help has them.
@@ -202,13 +204,14 @@ static COMMANDS: [Row; 7] = [
         ),
         words: &[
             WINDOW,
+            Word::At("Where the trace was made, which may lack what the line lost before"),
             LONG,
             LOOSE,
             WIDE,
             Word::Flag("manners", "Answer status 1 too where manners were broken"),
             Word::Flag(
                 "strict",
-                "Answer status 1 too where a frame or a packet wasn't judged",
+                "Answer status 1 too where something wasn't judged, or missing frames may explain a rule",
             ),
         ],
     },
@@ -234,6 +237,9 @@ static COMMANDS: [Row; 7] = [
 
 /// The words for an end.
 const ENDS: &[&str] = &["dte", "dce"];
+
+/// The words for the place of a trace, the default first.
+const PLACES: &[&str] = &["line", "dte", "dce", "either"];
 
 /// An option with a number; one that the end decides else is a time of a clock.
 fn number_option<'a>(alloc: Global, kind: Kind, option: Numbered) -> Result<Arg<'a>, AllocError> {
@@ -262,6 +268,14 @@ impl Word {
                 Arg::new(alloc, "END")
                     .required(true)
                     .value_parser(ENDS)
+                    .help(help),
+            ),
+            Word::At(help) => Ok(
+                Arg::new(alloc, "at")
+                    .long("at")
+                    .value_name("PLACE")
+                    .value_parser(PLACES)
+                    .default_value("line")
                     .help(help),
             ),
         }

@@ -1,6 +1,6 @@
 use std::test::Fail;
 use x25_settings::{
-    Decoding, End, GivenTimes, Judging, Place, SettingsError, Simulation, StationOptions, Task,
+    At, Decoding, End, GivenTimes, Judging, Place, SettingsError, Simulation, StationOptions, Task,
     settings,
 };
 
@@ -28,7 +28,15 @@ const PLAIN_JUDGING: Judging = Judging {
     strict: false,
     wide: false,
     k: 7,
+    at: At::Line,
 };
+
+fn judging_at(at: At) -> Task {
+    Task::Judge(Judging {
+        at,
+        ..PLAIN_JUDGING
+    })
+}
 
 fn simulation(down: bool, tap: bool, station: StationOptions) -> Task {
     Task::Sim(Simulation {
@@ -68,7 +76,7 @@ fn timed(end: End, times: GivenTimes) -> Task {
 
 #[test]
 fn takes_plain_words_alone(rt: HostRuntime) {
-    let plain: [(&[&str], Task); 35] = [
+    let plain: [(&[&str], Task); 39] = [
         (&["decode"], Task::Decode(PLAIN_DECODING)),
         (
             &["decode", "--long"],
@@ -228,6 +236,17 @@ fn takes_plain_words_alone(rt: HostRuntime) {
                 ..PLAIN_JUDGING
             }),
         ),
+        (
+            &["judge", "--at", "either", "--strict"],
+            Task::Judge(Judging {
+                strict: true,
+                at: At::Either,
+                ..PLAIN_JUDGING
+            }),
+        ),
+        (&["judge", "--at", "dte"], judging_at(At::Dte)),
+        (&["judge", "--at", "dce"], judging_at(At::Dce)),
+        (&["judge", "--at", "line"], judging_at(At::Line)),
         (&["station", "dte"], place(End::Dte, DEFAULTS)),
         (
             &["station", "dte", "--say-sizes"],
@@ -341,7 +360,7 @@ fn takes_plain_words_alone(rt: HostRuntime) {
 
 #[test]
 fn takes_no_other_words(rt: HostRuntime) {
-    let others: [&[&str]; 74] = [
+    let others: [&[&str]; 81] = [
         &[],
         &["dec"],
         &["decode", "decode"],
@@ -400,6 +419,13 @@ fn takes_no_other_words(rt: HostRuntime) {
         &["judge", "--down"],
         &["judge", "--say-sizes"],
         &["judge", "--wide", "--wide"],
+        &["judge", "--at"],
+        &["judge", "--at", "DTE"],
+        &["judge", "--at", "dte", "--at", "dte"],
+        &["decode", "--at", "line"],
+        &["sim", "--at", "line"],
+        &["station", "dte", "--at", "dte"],
+        &["frame", "--at", "line"],
         &["sim", "--strict"],
         &["sim", "--manners"],
         &["station", "dte", "--manners"],
@@ -492,13 +518,15 @@ x25 sim --tap < examples/call.script | grep '^[<>]' | x25 decode\n";
 const JUDGE: &str =
     "Answer lines of a trace of both ends as `decode` does, in its place, and say which end broke which rule\n\n\
 Usage: x25 judge [OPTIONS] [FILE]\n\nOptions:\n      \
---k <N>    The window of the link: 1 to 7 [default: 7]\n      \
---long     Take up to 128 octets of user data in a CALL, in place of 16\n      \
---loose    Read a time and a tab before a line, comments (#), empty lines and CR LF too\n      \
---wide     Read packets in all the forms that X.25 lets equipment send, and mark those by `~ wide`\n      \
---manners  Answer status 1 too where manners were broken\n      \
---strict   Answer status 1 too where a frame or a packet wasn't judged\n  \
--h, --help     Print help\n\nExamples:\n  x25 judge < examples/exchange.trace\n  \
+--k <N>       The window of the link: 1 to 7 [default: 7]\n      \
+--at <PLACE>  Where the trace was made, which may lack what the line lost before \
+[default: line] [possible values: line, dte, dce, either]\n      \
+--long        Take up to 128 octets of user data in a CALL, in place of 16\n      \
+--loose       Read a time and a tab before a line, comments (#), empty lines and CR LF too\n      \
+--wide        Read packets in all the forms that X.25 lets equipment send, and mark those by `~ wide`\n      \
+--manners     Answer status 1 too where manners were broken\n      \
+--strict      Answer status 1 too where something wasn't judged, or missing frames may explain a rule\n  \
+-h, --help        Print help\n\nExamples:\n  x25 judge < examples/exchange.trace\n  \
 x25 sim --tap < examples/losses.script | grep '^[<>]' | x25 judge\n";
 
 #[test]

@@ -4,14 +4,14 @@ use Rattle.std.specs.Prelude.{nat_le, not, ◌&&◌, ◌||◌, if◌then◌else�
 use Rattle.std.proofs.lemmas.Bool.{both_ways, and_from, cond_both, eq-eqb, le-leb, or_parts}
 use Rattle.x25_bits.specs.declared.role.Role.{Role}
 use Rattle.x25_bits.specs.declared.role.Role.TheVariants.{Dte, Dce}
-use Rattle.x25_decode.specs.Decoding.{n1, sent_in}
+use Rattle.x25_decode.specs.Decoding.{gap_in, n1, sent_in}
 use Rattle.x25_decode.specs.declared.answer.Reading.{Reading}
 use Rattle.x25_frame.specs.Frame.{PlainFrame, sabm, ua}
 use Rattle.x25_frame.specs.Reading.{frame_of}
 use Rattle.x25_frame.specs.declared.error.FrameError.{FrameError}
 use Rattle.x25_link.specs.Hearing.{other}
 use Rattle.x25_judge.specs.Held.{Held, no_octets}
-use Rattle.x25_judge.specs.Judge.{all_told, answer_to, begins as judge_begins, book_by, missed_by, next_missed, no_frame, other_of, own_of, read_of, seen_by, sent_of, tallies}
+use Rattle.x25_judge.specs.Judge.{all_told, answer_to, begins as judge_begins, book_by, gap_of, missed_by, next_missed, no_frame, other_of, own_of, past_gap, read_of, seen_by, sent_of, tallies}
 use Rattle.x25_judge.specs.Links as links
 use Rattle.x25_judge.specs.Manners as manners
 use Rattle.x25_judge.specs.Rule.{first as first_rule}
@@ -469,26 +469,31 @@ goes_stay j k from frame g stays =
     (subst RoomOf (sym g.own) (keeps_room _ frame (told_room _ (own_of from j).held (stays from))))
     (subst RoomOf (sym g.opposite) (subst RoomOf (sym (opposite_is from j)) (stays (other from))))
 
-missed_stay : (j : Judge) (from : Role) (e : FrameError) → AreRoomy j → AreRoomy (tallies (no_frame e) (next_missed from e (missed_by j from) j))
-missed_stay j Dte e stays =
-    by_roles Dte (tallies (no_frame e) (next_missed Dte e (missed_by j Dte) j)) RoomOf (each_room j.dte.set.spots.items j.dte.held (stays Dte)) (stays Dce)
-missed_stay j Dce e stays =
-    by_roles Dce (tallies (no_frame e) (next_missed Dce e (missed_by j Dce) j)) RoomOf (each_room j.dce.set.spots.items j.dce.held (stays Dce)) (stays Dte)
+missed_stay : (j : Judge) (from : Role) (e : FrameError) (in_doubt : Bool) → AreRoomy j → AreRoomy (tallies in_doubt (no_frame e) (next_missed from e (missed_by j from) j))
+missed_stay j Dte e in_doubt stays =
+    by_roles Dte (tallies in_doubt (no_frame e) (next_missed Dte e (missed_by j Dte) j)) RoomOf (each_room j.dte.set.spots.items j.dte.held (stays Dte)) (stays Dce)
+missed_stay j Dce e in_doubt stays =
+    by_roles Dce (tallies in_doubt (no_frame e) (next_missed Dce e (missed_by j Dce) j)) RoomOf (each_room j.dce.set.spots.items j.dce.held (stays Dce)) (stays Dte)
 
 read_stays : (j : Judge) (from : Role) (octets : List ℕ) (r : Result PlainFrame FrameError) → AreRoomy j → AreRoomy (read_of j from octets r).next
 read_stays j from octets (Ok frame) h =
     let t = seen_by j from frame in
     let s = book_by j from frame t in
-    goes_stay j _ from frame (next_goes from j frame t s (all_told t.seen.rule s.verdict.rule)) h
-read_stays j from octets (Err e) h = missed_stay j from e h
+    goes_stay j _ from frame (next_goes from j frame t s _ (all_told t.seen.rule s.verdict.rule)) h
+read_stays j from octets (Err e) h = missed_stay j from e _ h
 
-sent_stays : (j : Judge) (s : Option (Role × List ℕ)) → AreRoomy j → AreRoomy (sent_of j s).next
-sent_stays j None h = h
-sent_stays j (Some (from, octets)) h = read_stays j from octets (frame_of from n1 octets) h
+gap_stays : (j : Judge) (gap : Option Role) → AreRoomy j → AreRoomy (gap_of j gap).next
+gap_stays j None h = h
+gap_stays j (Some from) h =
+    by_roles Dte (past_gap j) RoomOf (record { octets = (h Dte).octets; known = refl }) (record { octets = (h Dce).octets; known = refl })
+
+sent_stays : (j : Judge) (gap : Option Role) (s : Option (Role × List ℕ)) → AreRoomy j → AreRoomy (sent_of j gap s).next
+sent_stays j gap None h = gap_stays j gap h
+sent_stays j gap (Some (from, octets)) h = read_stays j from octets (frame_of from n1 octets) h
 
 line_stays : (j : Judge) (line : List ℕ) → AreRoomy j → AreRoomy (answer_to j line).next
 unfolding answer_to
-line_stays j line h = sent_stays j (sent_in line) h
+line_stays j line h = sent_stays j (gap_in line) (sent_in line) h
 
 lines_stay : (j : Judge) (lines : List (List ℕ)) → AreRoomy j → AreRoomy (after j lines)
 lines_stay j [] h = h

@@ -17,7 +17,7 @@ use Rattle.x25_judge.specs.declared.judge.Judge.{Judge}
 use Rattle.x25_judge.specs.declared.rule.Rule.{Rule}
 use Rattle.x25_judge.specs.declared.rule.Rule.TheVariants.{Packet}
 use Rattle.x25_judge.specs.laws.Session.{Shows, IsDamaged, is_of_order}
-use Rattle.x25_decode.specs.Decoding.{n1}
+use Rattle.x25_decode.specs.Decoding.{gap_in, n1}
 use Rattle.x25_frame.specs.Reading.{frame_of}
 use Rattle.x25_frame.specs.declared.error.FrameError.{FrameError}
 use Rattle.x25_frame.specs.declared.error.FrameError.TheVariants.{Short, BadFcs}
@@ -33,7 +33,7 @@ pub answered : (j : Judge) (line : List ℕ) (from : Role) (octets : List ℕ) (
     → answer_to j line ≡ told_frame j from octets frame (seen_by j from frame)
 unfolding answer_to
 answered j line from octets frame shows =
-    ap (λ (s : Option (Role × List ℕ)). sent_of j s) shows.spells ∙ ap (λ r. read_of j from octets r) shows.reads
+    ap (λ (s : Option (Role × List ℕ)). sent_of j (gap_in line) s) shows.spells ∙ ap (λ r. read_of j from octets r) shows.reads
 
 -- ---- the judge behind it
 
@@ -62,13 +62,13 @@ carried_any from (ua f) is_again is_judged j P h g = h
 carried_any from (dm f) is_again is_judged j P h g = h
 carried_any from (frmr f why) is_again is_judged j P h g = h
 
-pub next_goes : (from : Role) (j : Judge) (frame : PlainFrame) (t : Both) (s : book.Seen) (rule : Option Rule)
-    → Goes j (tallies rule (next_by from frame t s j)) from t
-next_goes Dte j frame t s rule =
-    carried_any Dte frame t.seen.is_again s.verdict.is_judged _ (λ k. Goes j (tallies rule k) Dte t)
+pub next_goes : (from : Role) (j : Judge) (frame : PlainFrame) (t : Both) (s : book.Seen) (in_doubt : Bool) (rule : Option Rule)
+    → Goes j (tallies in_doubt rule (next_by from frame t s j)) from t
+next_goes Dte j frame t s in_doubt rule =
+    carried_any Dte frame t.seen.is_again s.verdict.is_judged _ (λ k. Goes j (tallies in_doubt rule k) Dte t)
     (record { own = refl; opposite = refl; window = refl }) (λ c. record { own = refl; opposite = refl; window = refl })
-next_goes Dce j frame t s rule =
-    carried_any Dce frame t.seen.is_again s.verdict.is_judged _ (λ k. Goes j (tallies rule k) Dce t)
+next_goes Dce j frame t s in_doubt rule =
+    carried_any Dce frame t.seen.is_again s.verdict.is_judged _ (λ k. Goes j (tallies in_doubt rule k) Dce t)
     (record { own = refl; opposite = refl; window = refl }) (λ c. record { own = refl; opposite = refl; window = refl })
 
 pub goes : (j : Judge) (line : List ℕ) (from : Role) (octets : List ℕ) (frame : PlainFrame) → Shows line from octets frame
@@ -77,7 +77,7 @@ goes j line from octets frame shows =
     let t = seen_by j from frame in
     let s = book.sees from j.reading frame (breaks_order t.seen.rule) j.book in
     subst (λ (a : Answer). Goes j a.next from t) (sym (answered j line from octets frame shows))
-    (next_goes from j frame t s (all_told t.seen.rule s.verdict.rule))
+    (next_goes from j frame t s _ (all_told t.seen.rule s.verdict.rule))
 
 -- ---- the judge behind octets that are damaged
 
@@ -86,10 +86,10 @@ pub record Past (j k : Judge) (from : Role) : Type 0 where
   pub opposite : own_of (other from) k ≡ (missed_by j from).other
   pub window : k.window ≡ j.window
 
-next_past : (from : Role) (e : FrameError) (j : Judge)
-    → Past j (tallies (no_frame e) (next_missed from e (missed_by j from) j)) from
-next_past Dte e j = record { own = refl; opposite = refl; window = refl }
-next_past Dce e j = record { own = refl; opposite = refl; window = refl }
+next_past : (from : Role) (e : FrameError) (in_doubt : Bool) (j : Judge)
+    → Past j (tallies in_doubt (no_frame e) (next_missed from e (missed_by j from) j)) from
+next_past Dte e in_doubt j = record { own = refl; opposite = refl; window = refl }
+next_past Dce e in_doubt j = record { own = refl; opposite = refl; window = refl }
 
 pub past : (j : Judge) (line : List ℕ) (from : Role) (octets : List ℕ) → IsDamaged line from octets → Past j (answer_to j line).next from
 unfolding answer_to
@@ -99,8 +99,8 @@ past j line from octets broken =
     read : (e : FrameError) → frame_of from n1 octets ≡ Err e → Past j (answer_to j line).next from
     read e is =
         subst (λ (a : Answer). Past j a.next from)
-        (sym (ap (λ (s : Option (Role × List ℕ)). sent_of j s) broken.spells ∙ ap (λ r. read_of j from octets r) is))
-        (next_past from e j)
+        (sym (ap (λ (s : Option (Role × List ℕ)). sent_of j (gap_in line) s) broken.spells ∙ ap (λ r. read_of j from octets r) is))
+        (next_past from e _ j)
 
 -- ---- what is told
 

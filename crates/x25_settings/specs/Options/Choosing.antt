@@ -4,6 +4,8 @@ use Rattle.std.specs.Prelude.{if◌then◌else◌, option_map, option_and_then, 
 use Rattle.std.specs.List.{find}
 use Rattle.std.specs.Str.{bytes_eq}
 use Rattle.std.specs.Str.Parse.{digits_value}
+use Rattle.x25_settings.specs.declared.options.At.{At}
+use Rattle.x25_settings.specs.declared.options.At.TheVariants as at
 use Rattle.x25_settings.specs.declared.options.Chosen.{Chosen}
 use Rattle.x25_settings.specs.declared.options.Decoding.{Decoding}
 use Rattle.x25_settings.specs.declared.options.End.{End}
@@ -21,7 +23,8 @@ use Rattle.x25_settings.specs.declared.options.Place.{Place}
 use Rattle.x25_settings.specs.declared.options.Simulation.{Simulation}
 use Rattle.x25_settings.specs.declared.words.Task.{Task}
 use Rattle.x25_settings.specs.declared.words.Task.TheVariants.{Decode, Vectors, Sim, Station, Judge, Deframe, Frame}
-use Rattle.x25_settings.specs.Options.{chosen_flag, chosen_number, decoded, end_word, fits_together, flag_word, has}
+use Rattle.x25_settings.specs.Options.{at_word, chosen_flag, chosen_number, decoded, end_word, fits_together}
+use Rattle.x25_settings.specs.Options.{flag_word, has, has_place}
 use Rattle.x25_settings.specs.Options.{judged, least_of, most_of, nothing, placed, simulated, takes, with_flag}
 use Rattle.x25_settings.specs.Options.{with_number, word_of}
 
@@ -64,12 +67,29 @@ put_text kind c text (Some x) = if has kind x then put_read c x (number_in (leas
 abbrev pub put_number : Kind → Chosen → List ℕ → List ℕ → Option Chosen
 put_number kind c word text = put_text kind c text (numbered_in word)
 
+abbrev pub places : List At
+places = at.Line ∷ at.Dte ∷ at.Dce ∷ at.Either ∷ []
+
+abbrev pub at_in : List ℕ → Option At
+at_in word = find (λ x. bytes_eq word (at_word x)) places
+
+-- where a trace was made
+abbrev pub put_place : Kind → Chosen → Option At → Option Chosen
+put_place kind c None = None
+put_place kind c (Some x) =
+    if has_place kind then (if is_some c.at then None else Some (record c { at = Some x })) else None
+
+-- an option and the word behind it
+abbrev pub put_pair : Kind → Chosen → List ℕ → List ℕ → Option Chosen
+put_pair kind c word text =
+    if bytes_eq word (codes "--at") then put_place kind c (at_in text) else put_number kind c word text
+
 unfoldable pub chosen_in : Kind → Chosen → List (List ℕ) → Option Chosen
 chosen_in kind c [] = Some c
 chosen_in kind c (word ∷ []) = put_word kind c word
 chosen_in kind c (word ∷ text ∷ rest) = if is_some (flag_in word)
     then option_and_then (λ c. chosen_in kind c (text ∷ rest)) (put_word kind c word)
-    else option_and_then (λ c. chosen_in kind c rest) (put_number kind c word text)
+    else option_and_then (λ c. chosen_in kind c rest) (put_pair kind c word text)
 
 -- the words behind a command
 abbrev pub read_simulation : List (List ℕ) → Option Simulation

@@ -75,7 +75,7 @@ pub returns-in-Vectors-clause-claims : goal.returns-in-Vectors-clause-claims
 returns-in-Vectors-clause-claims g c = rw c.in-Vectors.is (nothing c.vectors.result _)
 
 pub returns-in-Judge-clause-runs : goal.returns-in-Judge-clause-runs
-returns-in-Judge-clause-runs g c = rw c.in-Judge.is c.judge_lines.ensures.runs
+returns-in-Judge-clause-runs g c = rw c.in-Judge.is (rw c.at_of.ensures at c.judge_lines.ensures.runs)
 
 pub returns-in-Judge-clause-claims : goal.returns-in-Judge-clause-claims
 returns-in-Judge-clause-claims g c = rw c.in-Judge.is (nothing c.judge_lines.result _)

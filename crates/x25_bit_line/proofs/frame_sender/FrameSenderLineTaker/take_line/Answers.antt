@@ -25,6 +25,6 @@ returns-in-Some-clause-on g c = λ setting old first lines input line h.
 pub returns-in-None-clause-on : goal.returns-in-None-clause-on
 returns-in-None-clause-on g c = λ setting old first lines input line h.
     let long = subst (λ o. MatchOption o (most_line < length first) (λ held. (held.now ≡ first) × (length first ≤ most_line))) c.in-None.is line in
-    let none = c.long_lines_send_nothing.ensures first long in
+    let none = c.long_lines_send_nothing.ensures.sent first long in
     line_taken old _ _ input c.args.self.now _ first lines h (sends_nothing old _ _ _ h.bits (line_bits first) (sends_none first none) h.sends)
-    (sym (ap (λ b. c.args.self.now.is_wrong || b) (long_is_wrong first none long) ∙ or-true c.args.self.now.is_wrong))
+    (sym (ap (λ b. c.args.self.now.is_wrong || b) (long_is_wrong first none (c.long_lines_send_nothing.ensures.gap first long) long) ∙ or-true c.args.self.now.is_wrong))

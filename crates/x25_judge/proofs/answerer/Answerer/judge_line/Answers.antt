@@ -24,14 +24,14 @@ pub returns-in-None-clause-text : goal.returns-in-None-clause-text
 returns-in-None-clause-text c = λ first line.
     let long = subst (λ o. MatchOption o (most_line < length first) (λ held. (held.now ≡ first) × (length first ≤ most_line))) c.in-None.is line in
     c.push.ensures.text ∙ ap (λ t. t ++ codes "? 60\n") c.clear.ensures
-    ∙ sym (ap (λ (a : Answer). a.text) (long_answer c.args.self.now.judge first (c.long_lines_send_nothing.ensures first long)))
+    ∙ sym (ap (λ (a : Answer). a.text) (long_answer c.args.self.now.judge first (c.long_lines_send_nothing.ensures.sent first long) (c.long_lines_send_nothing.ensures.gap first long)))
 
 pub returns-in-None-clause-next : goal.returns-in-None-clause-next
 returns-in-None-clause-next c = λ first line.
     let long = subst (λ o. MatchOption o (most_line < length first) (λ held. (held.now ≡ first) × (length first ≤ most_line))) c.in-None.is line in
-    sym (ap (λ (a : Answer). a.next) (long_answer c.args.self.now.judge first (c.long_lines_send_nothing.ensures first long)))
+    sym (ap (λ (a : Answer). a.next) (long_answer c.args.self.now.judge first (c.long_lines_send_nothing.ensures.sent first long) (c.long_lines_send_nothing.ensures.gap first long)))
 
 pub returns-in-None-clause-counts : goal.returns-in-None-clause-counts
 returns-in-None-clause-counts c = λ first line.
     let long = subst (λ o. MatchOption o (most_line < length first) (λ held. (held.now ≡ first) × (length first ≤ most_line))) c.in-None.is line in
-    sym (ap (λ (a : Answer). a.counts) (long_answer c.args.self.now.judge first (c.long_lines_send_nothing.ensures first long)))
+    sym (ap (λ (a : Answer). a.counts) (long_answer c.args.self.now.judge first (c.long_lines_send_nothing.ensures.sent first long) (c.long_lines_send_nothing.ensures.gap first long)))

@@ -1,0 +1,39 @@
+-- Which frames a trace may lack, and what they would explain of what is told (profile).
+use Rattle.std.specs.Prelude.{Bool, true, false, if◌then◌else◌, Option, Some, None}
+use Rattle.x25_bits.specs.declared.role.Role.{Role}
+use Rattle.x25_bits.specs.declared.role.Role.TheVariants.{Dte, Dce}
+use Rattle.x25_judge.specs.Rule.{is_of_manners}
+use Rattle.x25_judge.specs.declared.doubt.At.{At}
+use Rattle.x25_judge.specs.declared.doubt.At.TheVariants as at
+use Rattle.x25_judge.specs.declared.doubt.Lack.{Lack}
+use Rattle.x25_judge.specs.declared.doubt.Lack.TheVariants.{Nothing, Lost, Any}
+use Rattle.x25_judge.specs.declared.rule.Rule.{Rule}
+use Rattle.x25_judge.specs.declared.rule.Rule.TheVariants.{NoFrame, Differs}
+use Rattle.x25_possible_links.specs.code.Steps.{has_request}
+use Rattle.x25_possible_links.specs.declared.set.LinkSet.{LinkSet}
+
+-- of the far end; where SABM or DISC waits for it, its UA may have been lost
+abbrev pub lost : LinkSet → Lack
+lost s = if has_request s.way.items then Any else Lost
+
+-- In front of an end all is there that it sent, and all that came to it.
+abbrev pub lack : At → Role → LinkSet → Lack
+lack at.Line from s = Nothing
+lack at.Dte Dte s = Nothing
+lack at.Dte Dce s = lost s
+lack at.Dce Dte s = lost s
+lack at.Dce Dce s = Nothing
+lack at.Either from s = Any
+
+-- No frame that is missing makes a frame of octets that spell none. A number behind I frames that the line lost is a
+-- new one.
+abbrev pub explains : Lack → Rule → Bool
+explains Nothing rule = false
+explains Lost Differs = true
+explains Lost rule = is_of_manners rule
+explains Any NoFrame = false
+explains Any rule = true
+
+abbrev pub explains_told : Lack → Option Rule → Bool
+explains_told which None = false
+explains_told which (Some rule) = explains which rule

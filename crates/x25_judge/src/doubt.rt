@@ -1,0 +1,76 @@
+//! Which frames a trace may lack, and what they would explain of what is told.
+ghost use Rattle.std.specs.Prelude.{◌≡◌};
+ghost use Rattle.x25_judge.specs.Doubt as definition;
+
+use crate::rule::Rule;
+use x25_frame::Role;
+use x25_possible_links::LinkSet;
+
+/// Where a trace was made: what the line lost before that place isn't in it.
+#[derive(Clone, Copy, Debug, PartialEq, Eq)]
+pub enum At {
+    /// On the line: it has all that both ends sent.
+    Line,
+    /// In front of the DTE: it has all that the DTE sent, and all that came to it.
+    Dte,
+    /// In front of the DCE.
+    Dce,
+    /// At either end, or anywhere: any frame may be missing.
+    Either,
+}
+
+/// Which frames may be missing that would explain what is told of an end.
+#[derive(Clone, Copy)]
+pub(crate) enum Lack {
+    Nothing,
+    /// Those of the end that the line lost, which goes on as if they were there.
+    Lost,
+    Any,
+}
+
+/// Of the far end; where SABM or DISC waits for it, its UA may have been lost.
+fn lost(far: &LinkSet) -> Lack
+    ensures { result ≡ definition.lost far.now }
+{
+    if far.has_request() {
+        Lack::Any
+    } else {
+        Lack::Lost
+    }
+}
+
+impl At {
+    /// Which frames of an end may be missing, with the places in which that may be.
+    pub(crate) fn lack(self, from: Role, own: &LinkSet) -> Lack
+        ensures { result ≡ definition.lack self from own.now }
+    {
+        match (self, from) {
+            (At::Line, _) | (At::Dte, Role::Dte) | (At::Dce, Role::Dce) => Lack::Nothing,
+            (At::Dte, Role::Dce) | (At::Dce, Role::Dte) => lost(own),
+            (At::Either, _) => Lack::Any,
+        }
+    }
+}
+
+impl Lack {
+    /// Whether they would explain that a rule is told.
+    fn explains(self, rule: Rule) -> bool
+        ensures { result ≡ definition.explains self rule }
+    {
+        match (self, rule) {
+            (Lack::Nothing, _) | (Lack::Any, Rule::NoFrame) => false,
+            (Lack::Any, _) | (Lack::Lost, Rule::Differs) => true,
+            (Lack::Lost, _) => rule.is_of_manners(),
+        }
+    }
+
+    /// The same, where one is told.
+    pub(crate) fn explains_told(self, rule: Option<Rule>) -> bool
+        ensures { result ≡ definition.explains_told self rule }
+    {
+        match rule {
+            Some(rule) => self.explains(rule),
+            None => false,
+        }
+    }
+}
