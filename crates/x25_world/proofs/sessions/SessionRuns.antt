@@ -12,7 +12,7 @@ use Rattle.x25_station.specs.Station.{new_station}
 use Rattle.x25_station.specs.laws.KeepLaw.{ConnectKeeps}
 use Rattle.x25_world.specs.declared.error.WorldError.{WorldError}
 use Rattle.x25_world.specs.World.{AtEnd, World, swapped, WorldOutcome, Happened, Declined, swapped_back, Act, Commands, Receives, Fires, Loses, Damages, acts, Event, happens, refusal_of, after, run, start, connected, established}
-use Rattle.x25_world.specs.laws.Claims.{ActsInOctets, AreInOctets, IsBeginning, IsNoConnect, NoneConnects}
+use Rattle.x25_world.specs.laws.Claims.{ActsInOctets, AreInOctets, IsBeginning, IsUpAtMostOnce, UntilSecondUp, IsNoConnect, NoneConnects}
 use Rattle.x25_world.specs.laws.Sessions.{Progress, progress_at, last_session}
 use Rattle.x25_world.specs.laws.WindowGoes.{both_put, two_links}
 use Rattle.x25_world.specs.laws.SessionClaims.{Throughout, ThroughoutAlong}
@@ -266,6 +266,14 @@ throughout_goes laws keeps cfg fine begin is events octets =
 
 pub throughout_joined : (laws : SessionLaws) → ConnectKeeps → Throughout (λ (cfg : Cfg) (w : World). SessionsJoined both_down cfg Dte w)
 throughout_joined laws keeps cfg fine begin is events octets = (throughout_goes laws keeps cfg fine begin is events octets).joined
+
+-- so what follows of what is kept holds there
+pub throughout : (laws : SessionLaws) → ConnectKeeps → (Holds : Cfg → World → Type 0) → ((cfg : Cfg) → IsConfigured cfg → (w : World) → SessionsJoined both_down cfg Dte w → Holds cfg w) → Throughout Holds
+throughout laws keeps Holds holds cfg fine begin is events octets = holds cfg (is_configured cfg fine) (run cfg events begin) (throughout_joined laws keeps cfg fine begin is events octets)
+
+pub until_second : (laws : SessionLaws) → ConnectKeeps → (Holds : Cfg → World → Type 0) → ((cfg : Cfg) → IsConfigured cfg → (w : World) → SessionsJoined both_down cfg Dte w → IsUpAtMostOnce cfg w → Holds cfg w)
+    → UntilSecondUp Holds
+until_second laws keeps Holds holds cfg fine begin is events octets once = throughout laws keeps (λ (c : Cfg) (w : World). IsUpAtMostOnce c w → Holds c w) holds cfg fine begin is events octets once
 
 -- at each world of a run from a link just set up, after which, where `asks` is false, no `connect` is accepted
 pub set_up_throughout : (laws : SessionLaws) → ConnectKeeps → (asks : Bool) (cfg : Cfg) → config_refusal cfg ≡ None → (events : List Event) → AreInOctets events
