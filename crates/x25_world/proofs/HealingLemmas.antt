@@ -255,15 +255,12 @@ module _ (laws : SessionLaws) (keeps : ConnectKeeps) where
       shown : EachRestShows (c_of cfg) (d_of cfg) h.links
       shown = known_sessions EachRestShows law cfg (is_configured cfg fine) Dte h.links h.reach
 
-      near_rests : (s : LinkStation) → s ≡ h.links.near.station → is_up s.phase ≡ true → timer_runs s.phase s ≡ false → IsAtRest s
-      near_rests s same up stopped = subst IsAtRest (sym same) (shown.near (subst (λ (x : LinkStation). is_up x.phase ≡ true) same up) (subst (λ (x : LinkStation). timer_runs x.phase x ≡ false) same stopped)).0
-
-      far_rests : (s : LinkStation) → s ≡ h.links.far.station → is_up s.phase ≡ true → timer_runs s.phase s ≡ false → IsAtRest s
-      far_rests s same up stopped = subst IsAtRest (sym same) (shown.far (subst (λ (x : LinkStation). is_up x.phase ≡ true) same up) (subst (λ (x : LinkStation). timer_runs x.phase x ≡ false) same stopped)).0
+      rests : (s t : LinkStation) → s ≡ t → (is_up t.phase ≡ true → timer_runs t.phase t ≡ false → IsAtRest t) → is_up s.phase ≡ true → timer_runs s.phase s ≡ false → IsAtRest s
+      rests s t same there = subst (λ (x : LinkStation). is_up x.phase ≡ true → timer_runs x.phase x ≡ false → IsAtRest x) (sym same) there
 
       at_rest : (end : Role) → StopsAtRest (station_at end w)
-      at_rest Dte up stopped = near_rests w.near.link (sym h.near.link) up stopped
-      at_rest Dce up stopped = far_rests w.far.link (sym h.far.link) up stopped
+      at_rest Dte up stopped = rests w.near.link h.links.near.station (sym h.near.link) (λ on off. (shown.near on off).0) up stopped
+      at_rest Dce up stopped = rests w.far.link h.links.far.station (sym h.far.link) (λ on off. (shown.far on off).0) up stopped
 
       idle : (a b : Bool) → a ≡ true → b ≡ true → (a && b) ≡ true
       idle true true is too = refl

@@ -2,7 +2,6 @@ pub mod OneLink
 pub mod Known
 pub mod Growing
 pub mod Established
-pub mod Headline
 pub mod Continues
 pub mod EndContinues
 pub mod sessions

@@ -16,8 +16,8 @@ use Rattle.x25_world.specs.laws.WindowGoes.{AsksAll, all_at, IsBehindWorld, Goes
 use Rattle.x25_world.proofs.Known.{IsConfigured}
 use Rattle.x25_line.proofs.sessions.SessionsForgotten.{runs_alike}
 use Rattle.x25_world.proofs.OneLink.{IsLike, AreAlike, like_lasts, run_append}
-use Rattle.x25_world.proofs.sessions.SessionReaches.{Beginning, both_down, set_up, at_event, SessionsReach, joined_at}
-use Rattle.x25_world.proofs.sessions.SessionJoined.{SessionsJoined}
+use Rattle.x25_world.proofs.sessions.SessionReaches.{Beginning, both_down, set_up, at_event, joined_at}
+use Rattle.x25_world.proofs.sessions.SessionJoined.{SessionsJoined, retold}
 use Rattle.x25_world.specs.laws.LawsBelow.{SessionLaws}
 use Rattle.x25_world.proofs.sessions.SessionRuns.{event_joined, established_joined, set_up_alike, down_at_none, not_set_up}
 use Rattle.x25_world.proofs.SetUpOnce.{ups_are_begun, not_anew}
@@ -28,23 +28,6 @@ machine_append c d [] ys s l = refl
 machine_append c d (x ∷ xs) ys s l = machine_append c d xs ys (line.happens c d x s) (machine_happens c d x s l)
 
 -- ---- one event
-
--- the same world, with its run told otherwise
-abbrev retold : {since told : Beginning} (cfg : Cfg) (w : World) (h : SessionsJoined since cfg Dte w) → SessionsReach told cfg Dte h.links → SessionsJoined told cfg Dte w
-retold cfg w h reach = record {
-  links = h.links;
-  trace = h.trace;
-  reach = reach;
-  near = h.near;
-  far = h.far;
-  out = h.out;
-  back = h.back;
-  tap = h.tap;
-  octets = h.octets;
-  pairs = h.pairs;
-  near_hears = h.near_hears;
-  far_hears = h.far_hears;
-}
 
 abbrev links_in : Beginning → Sessions → Sessions
 links_in (at_event before e) v = before
@@ -71,7 +54,7 @@ pub record Next (cfg : Cfg) (w : World) (v : Sessions) (e : Event) : Type 0 wher
 module _ (laws : SessionLaws) (cfg : Cfg) (fine : IsConfigured cfg) where
   pub next : (w : World) (h : SessionsJoined both_down cfg Dte w) (e : Event) → ActsInOctets e.act → Next cfg w h.links e
   next w h e octets =
-      let within : SessionsJoined (at_event h.links e) cfg Dte w = retold cfg w h (record {
+      let within : SessionsJoined (at_event h.links e) cfg Dte w = retold cfg Dte w h (record {
         events = h.reach.events;
         timely = h.reach.timely;
         run = h.reach.run;
@@ -81,7 +64,7 @@ module _ (laws : SessionLaws) (cfg : Cfg) (fine : IsConfigured cfg) where
       let j = (event_joined laws cfg fine e.at e.act w (λ before x is. sym (ap (λ (b : Beginning). event_in b e) is)) octets (λ free. event_is_none false h.links e free) within).joined in
       let g = j.reach.grown h.links e refl in
       record {
-        joined = retold cfg (after w (happens cfg w e)) j (record {
+        joined = retold cfg Dte (after w (happens cfg w e)) j (record {
           events = j.reach.events;
           timely = j.reach.timely;
           run = j.reach.run;

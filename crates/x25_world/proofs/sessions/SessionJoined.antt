@@ -108,6 +108,27 @@ pub record SessionsJoined (since : Beginning) (cfg : Cfg) (end : Role) (w : Worl
   pub near_hears : (n : ℕ) → Hears (λ (n m : ℕ). HasMet n m links.met) n (links.near.up n) (meets end n w.transcript)
   pub far_hears : (n : ℕ) → Hears (λ (n m : ℕ). HasMet m n links.met) n (links.far.up n) (meets (other end) n w.transcript)
 
+-- the same, with this left on the line to the near end, and its run told otherwise
+abbrev pub relined : {since told : Beginning} (cfg : Cfg) (end : Role) (w : World) (h : SessionsJoined since cfg end w) (es : List links.Entry) (left : List (List ℕ)) → octets_of es ≡ left
+    → SessionsReach told cfg end (record h.links { back = es }) → SessionsJoined told cfg end (record w { back = left })
+relined cfg end w h es left same reach = record {
+  links = record h.links { back = es };
+  trace = h.trace;
+  reach = reach;
+  near = h.near;
+  far = h.far;
+  out = h.out;
+  back = same;
+  tap = h.tap;
+  octets = h.octets;
+  pairs = h.pairs;
+  near_hears = h.near_hears;
+  far_hears = h.far_hears;
+}
+
+abbrev pub retold : {since told : Beginning} (cfg : Cfg) (end : Role) (w : World) (h : SessionsJoined since cfg end w) → SessionsReach told cfg end h.links → SessionsJoined told cfg end w
+retold cfg end w h reach = relined cfg end w h h.links.back w.back h.back reach
+
 -- ---- a step of the near end
 
 -- It leads here from these links, and the near end is handed down more in its sessions, with what its user gave.

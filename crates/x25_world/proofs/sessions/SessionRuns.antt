@@ -12,7 +12,7 @@ use Rattle.x25_station.specs.Station.{new_station}
 use Rattle.x25_station.specs.laws.KeepLaw.{ConnectKeeps}
 use Rattle.x25_world.specs.declared.error.WorldError.{WorldError}
 use Rattle.x25_world.specs.World.{AtEnd, World, swapped, WorldOutcome, Happened, Declined, swapped_back, Act, Commands, Receives, Fires, Loses, Damages, acts, Event, happens, refusal_of, after, run, start, connected, established}
-use Rattle.x25_world.specs.laws.Claims.{ActsInOctets, AreInOctets, IsBeginning, IsNoConnect, NoneConnects}
+use Rattle.x25_world.specs.laws.Claims.{ActsInOctets, AreInOctets, IsBeginning, IsUpAtMostOnce, UntilSecondUp, IsNoConnect, NoneConnects}
 use Rattle.x25_world.specs.laws.Sessions.{Progress, progress_at, last_session}
 use Rattle.x25_world.specs.laws.WindowGoes.{both_put, two_links}
 use Rattle.x25_world.specs.laws.SessionClaims.{Throughout, ThroughoutAlong}
@@ -24,7 +24,7 @@ use Rattle.x25_world.proofs.OneLink.{AreAlike}
 use Rattle.x25_world.proofs.sessions.SessionReaches.{Beginning, both_down, set_up, at_event, IsAt}
 use Rattle.x25_world.proofs.sessions.SessionTrace.{layer_of}
 use Rattle.x25_world.proofs.sessions.SessionBeside.{MoreIs, none_more, more_again, said_channel}
-use Rattle.x25_world.proofs.sessions.SessionJoined.{IsEnd, SessionsJoined, Goes, gave_none, sessions_swapped}
+use Rattle.x25_world.proofs.sessions.SessionJoined.{IsEnd, SessionsJoined, retold, Goes, gave_none, sessions_swapped}
 use Rattle.x25_world.specs.laws.LawsBelow.{SessionLaws}
 use Rattle.x25_world.proofs.sessions.acts.SessionLines.{lost_joined, damaged_joined}
 use Rattle.x25_world.proofs.sessions.acts.SessionTimers.{fired_joined, connects_joined, connects_alone_joined, disconnects_joined, probes_joined, relinks_joined}
@@ -218,30 +218,17 @@ module _ (laws : SessionLaws) (cfg : Cfg) (fine : IsConfigured cfg) where
   set_up_joined : (asks : Bool) → ConnectKeeps → SessionsJoined (set_up asks) cfg Dte (established cfg)
   set_up_joined asks keeps =
       let h = established_joined keeps in
-      record {
-        links = h.links;
-        trace = h.trace;
-        reach = record {
-          events = h.reach.events;
-          timely = h.reach.timely;
-          run = h.reach.run;
-          one_link = λ a is. record {
-            stations = two_links cfg;
-            reach = record { events = both_put; unasked = λ free. (tt, (tt, tt)); run = refl };
-            alike = set_up_alike keeps;
-          };
-          grown = λ before e is. absurd (set_up_at_none asks before e is);
+      retold cfg Dte (established cfg) h (record {
+        events = h.reach.events;
+        timely = h.reach.timely;
+        run = h.reach.run;
+        one_link = λ a is. record {
+          stations = two_links cfg;
+          reach = record { events = both_put; unasked = λ free. (tt, (tt, tt)); run = refl };
+          alike = set_up_alike keeps;
         };
-        near = h.near;
-        far = h.far;
-        out = h.out;
-        back = h.back;
-        tap = h.tap;
-        octets = h.octets;
-        pairs = h.pairs;
-        near_hears = h.near_hears;
-        far_hears = h.far_hears;
-      }
+        grown = λ before e is. absurd (set_up_at_none asks before e is);
+      })
 
 -- at any beginning
 begin_goes : (laws : SessionLaws) → ConnectKeeps → (cfg : Cfg) (fine : IsConfigured cfg) (begin : World) → IsBeginning cfg begin → RunGoes both_down cfg from_nothing gave_none gave_none begin
@@ -266,6 +253,14 @@ throughout_goes laws keeps cfg fine begin is events octets =
 
 pub throughout_joined : (laws : SessionLaws) → ConnectKeeps → Throughout (λ (cfg : Cfg) (w : World). SessionsJoined both_down cfg Dte w)
 throughout_joined laws keeps cfg fine begin is events octets = (throughout_goes laws keeps cfg fine begin is events octets).joined
+
+-- so what follows of what is kept holds there
+pub throughout : (laws : SessionLaws) → ConnectKeeps → (Holds : Cfg → World → Type 0) → ((cfg : Cfg) → IsConfigured cfg → (w : World) → SessionsJoined both_down cfg Dte w → Holds cfg w) → Throughout Holds
+throughout laws keeps Holds holds cfg fine begin is events octets = holds cfg (is_configured cfg fine) (run cfg events begin) (throughout_joined laws keeps cfg fine begin is events octets)
+
+pub until_second : (laws : SessionLaws) → ConnectKeeps → (Holds : Cfg → World → Type 0) → ((cfg : Cfg) → IsConfigured cfg → (w : World) → SessionsJoined both_down cfg Dte w → IsUpAtMostOnce cfg w → Holds cfg w)
+    → UntilSecondUp Holds
+until_second laws keeps Holds holds cfg fine begin is events octets once = throughout laws keeps (λ (c : Cfg) (w : World). IsUpAtMostOnce c w → Holds c w) holds cfg fine begin is events octets once
 
 -- at each world of a run from a link just set up, after which, where `asks` is false, no `connect` is accepted
 pub set_up_throughout : (laws : SessionLaws) → ConnectKeeps → (asks : Bool) (cfg : Cfg) → config_refusal cfg ≡ None → (events : List Event) → AreInOctets events

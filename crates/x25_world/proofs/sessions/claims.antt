@@ -4,4 +4,3 @@ pub mod SessionLawful
 pub mod SessionArrives
 pub mod SessionWaits
 pub mod SessionQuiet
-pub mod SessionHeadline

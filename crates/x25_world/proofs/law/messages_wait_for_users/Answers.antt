@@ -1,13 +1,16 @@
-use Rattle.x25_world.proofs.sessions.claims.SessionWaits.{throughout_closed, throughout_wait, pulls_leave_none, throughout_unpulled}
+use Rattle.x25_world.specs.laws.WaitClaims.{ClosedKeepNone, MessagesWaitForUsers, UnpulledWaitForUsers}
+use Rattle.x25_world.proofs.sessions.SessionRuns.{throughout}
+use Rattle.x25_world.proofs.sessions.claims.SessionWaits.{closed_keep, messages_wait, pulls_leave_none, unpulled_wait}
 use Rattle.x25_world.proofs.law.messages_wait_for_users.Goals as goal
 
 pub returns : goal.returns
 returns c =
     let laws = c.laws_below.ensures in
+    let keeps = laws.stations.connect_keeps in
     let layers = c.messages_wait_for_users.ensures in
     record {
-      closed = throughout_closed laws layers.closed laws.stations.connect_keeps;
-      waits = throughout_wait laws layers.apart layers.still laws.stations.connect_keeps;
+      closed = throughout laws keeps ClosedKeepNone (λ cfg fine w h. closed_keep laws layers.closed cfg fine w h);
+      waits = throughout laws keeps MessagesWaitForUsers (λ cfg fine w h. messages_wait laws layers.apart layers.still cfg fine w h);
       left = pulls_leave_none layers.left;
-      unpulled = throughout_unpulled laws layers.apart layers.restarting laws.stations.connect_keeps;
+      unpulled = throughout laws keeps UnpulledWaitForUsers (λ cfg fine w h. unpulled_wait laws layers.apart layers.restarting cfg fine w h);
     }

@@ -1,6 +1,13 @@
-use Rattle.x25_world.proofs.sessions.claims.SessionHeadline.{throughout_in_step, throughout_lawful, throughout_named, throughout_arrives, throughout_unmet, throughout_stand, throughout_quiet, throughout_octets, throughout_confirmed}
+use Rattle.x25_world.specs.laws.Claims.{HasNoProcedureError}
+use Rattle.x25_world.specs.laws.SessionClaims.{MeetInStep, AreLawfulWhereMet, AreNamedInSessions, UnmetAreToldNothing, OpenStretchesMeet, AllArrive}
+use Rattle.x25_world.specs.laws.ConfirmedClaims.{ConfirmedAreHandedUp}
+use Rattle.x25_world.specs.laws.TapOctets.{IsTapOfOctets}
+use Rattle.x25_world.proofs.sessions.SessionRuns.{throughout}
 use Rattle.x25_world.proofs.sessions.SessionsAlong.{sessions_stay}
-use Rattle.x25_world.proofs.sessions.claims.SessionLawful.{beside_given}
+use Rattle.x25_world.proofs.sessions.claims.SessionMeets.{meet_in_step}
+use Rattle.x25_world.proofs.sessions.claims.SessionLawful.{are_lawful, unmet_told_nothing, are_named, beside_given, are_confirmed}
+use Rattle.x25_world.proofs.sessions.claims.SessionArrives.{open_stretches_meet, all_arrive}
+use Rattle.x25_world.proofs.sessions.claims.SessionQuiet.{has_no_error, is_of_octets}
 use Rattle.x25_world.proofs.law.stations_meet_in_sessions.Goals as goal
 
 pub returns : goal.returns
@@ -8,15 +15,15 @@ returns c =
     let laws = c.laws_below.ensures in
     let keeps = laws.stations.connect_keeps in
     record {
-      step = throughout_in_step laws keeps;
-      lawful = throughout_lawful laws keeps;
-      named = throughout_named laws keeps;
-      arrives = throughout_arrives laws keeps;
-      unmet = throughout_unmet laws keeps;
-      stand = throughout_stand laws keeps;
-      quiet = throughout_quiet laws keeps;
-      octets = throughout_octets laws keeps;
+      step = throughout laws keeps MeetInStep (λ cfg fine w h. meet_in_step laws cfg fine w h);
+      lawful = throughout laws keeps AreLawfulWhereMet (λ cfg fine w h. are_lawful laws cfg fine w h);
+      named = throughout laws keeps AreNamedInSessions (λ cfg fine w h. are_named laws cfg fine w h);
+      arrives = throughout laws keeps AllArrive (λ cfg fine w h. all_arrive laws cfg fine w h);
+      unmet = throughout laws keeps UnmetAreToldNothing (λ cfg fine w h. unmet_told_nothing laws cfg fine w h);
+      stand = throughout laws keeps OpenStretchesMeet (λ cfg fine w h. open_stretches_meet laws cfg fine w h);
+      quiet = throughout laws keeps HasNoProcedureError (λ cfg fine w h. has_no_error laws cfg fine w h);
+      octets = throughout laws keeps IsTapOfOctets (λ cfg fine w h. is_of_octets laws cfg fine w h);
       window = sessions_stay laws keeps laws.machine;
       beside = beside_given laws keeps;
-      confirmed = throughout_confirmed laws keeps;
+      confirmed = throughout laws keeps ConfirmedAreHandedUp (λ cfg fine w h. are_confirmed laws cfg fine w h);
     }

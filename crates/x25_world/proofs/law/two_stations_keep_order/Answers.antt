@@ -1,4 +1,12 @@
-use Rattle.x25_world.proofs.Headline.{is_set_up, always_lawful, always_named, always_arrives, always_quiet, always_in_window, up_once}
+use Rattle.std.proofs.Common.{false}
+use Rattle.x25_world.specs.World.{run, established}
+use Rattle.x25_world.specs.laws.Claims.{IsLawful, IsNamed, ArrivesAll, HasNoProcedureError}
+use Rattle.x25_world.proofs.Known.{is_configured}
+use Rattle.x25_world.proofs.Established.{set_up_accepted}
+use Rattle.x25_world.proofs.SetUpOnce.{lawful_once, named_once, arrives_once, is_up_once}
+use Rattle.x25_world.proofs.WindowRuns.{stays_in_window}
+use Rattle.x25_world.proofs.sessions.SessionRuns.{until_second, set_up_throughout}
+use Rattle.x25_world.proofs.sessions.claims.SessionQuiet.{has_no_error}
 use Rattle.x25_world.proofs.law.two_stations_keep_order.Goals as goal
 
 pub returns : goal.returns
@@ -7,11 +15,12 @@ returns c =
     let keeps = laws.stations.connect_keeps in
     let links = c.links_keep_order.ensures in
     record {
-      set_up = is_set_up laws keeps;
-      lawful = always_lawful laws keeps;
-      named = always_named laws keeps;
-      arrives = always_arrives laws keeps;
-      quiet = always_quiet laws keeps;
-      window = always_in_window laws keeps links.window links.before;
-      up_once = up_once laws keeps links.once;
+      set_up = λ cfg. set_up_accepted laws.stations cfg;
+      lawful = until_second laws keeps IsLawful (λ cfg fine w h once. lawful_once laws cfg fine w h once);
+      named = until_second laws keeps IsNamed (λ cfg fine w h once. named_once laws cfg fine w h once);
+      arrives = until_second laws keeps ArrivesAll (λ cfg fine w h once. arrives_once laws cfg fine w h once);
+      quiet = until_second laws keeps HasNoProcedureError (λ cfg fine w h once. has_no_error laws cfg fine w h);
+      window = λ cfg fine events octets once. stays_in_window laws keeps links.window links.before cfg (is_configured cfg fine) events octets once;
+      up_once = λ cfg fine events octets none.
+          is_up_once links.once cfg (is_configured cfg fine) (run cfg events (established cfg)) (set_up_throughout laws keeps false cfg fine events octets (λ free. none));
     }

@@ -10,30 +10,13 @@ use Rattle.x25_world.specs.World.{World, Happened, Declined, Loses, Damages, on_
 use Rattle.x25_world.specs.declared.error.WorldError.TheVariants as error
 use Rattle.x25_line.proofs.sessions.SessionsForgotten.{octets_removed, octets_replaced}
 use Rattle.x25_world.proofs.sessions.SessionReaches.{Beginning, SessionsReach, IsAt, may_ask, sessions_act}
-use Rattle.x25_world.proofs.sessions.SessionJoined.{SessionsJoined, Goes, gave_none, stays}
+use Rattle.x25_world.proofs.sessions.SessionJoined.{SessionsJoined, Goes, gave_none, stays, relined}
 use Rattle.x25_world.proofs.sessions.SessionBeside.{none_more}
 
 -- other octets are left on the line
 left_joined : {since : Beginning} (cfg : Cfg) (end : Role) (w : World) (h : SessionsJoined since cfg end w) (es : List links.Entry) (left : List (List ℕ)) → octets_of es ≡ left → SessionsReach since cfg end (record h.links { back = es })
     → Goes since cfg end h.links gave_none (on_line w left)
-left_joined cfg end w h es left same reach = record {
-  joined = record {
-    links = record h.links { back = es };
-    trace = h.trace;
-    reach = reach;
-    near = h.near;
-    far = h.far;
-    out = h.out;
-    back = same;
-    tap = h.tap;
-    octets = h.octets;
-    pairs = h.pairs;
-    near_hears = h.near_hears;
-    far_hears = h.far_hears;
-  };
-  down = λ n. none_more cfg (h.links.near.down n) (h.links.near.down n) [] refl;
-  far = refl;
-}
+left_joined cfg end w h es left same reach = record { joined = relined cfg end w h es left same reach; down = λ n. none_more cfg (h.links.near.down n) (h.links.near.down n) [] refl; far = refl }
 
 pub lost_joined : {since : Beginning} (cfg : Cfg) (end : Role) (w : World) (h : SessionsJoined since cfg end w) (place : ℕ) → IsAt since end (Loses place) → Goes since cfg end h.links gave_none (after w (lost w place))
 lost_joined {since} cfg end w h place is_at = by (nat_lt place (length w.back))

@@ -30,19 +30,16 @@ use Rattle.x25_station.specs.Entry.{StationEntry}
 use Rattle.x25_station.specs.Station.{Station, all_put, view_of}
 use Rattle.x25_station.specs.Step.{did, requests}
 use Rattle.x25_station.specs.Station.Told.{stretch}
-use Rattle.x25_station.specs.laws.KeepLaw.{ConnectKeeps}
-use Rattle.x25_world.specs.World.{World, swapped, WorldOutcome, Happened, Declined, of_station, swapped_back, after, run}
+use Rattle.x25_world.specs.World.{World, swapped, WorldOutcome, Happened, Declined, of_station, swapped_back, after}
 use Rattle.x25_world.specs.laws.Sessions.{last_session, handed_in}
-use Rattle.x25_world.specs.laws.SessionClaims.{Throughout}
 use Rattle.x25_world.specs.laws.WaitClaims.{WaitsForUser, Arrived, NotReady, MessagesWaitForUsers, ClosedKeepNone, PullsLeaveNone, UnpulledWaitForUsers}
 use Rattle.x25_world.specs.laws.LawsBelow.{SessionLaws}
-use Rattle.x25_world.proofs.Known.{IsConfigured, is_configured, both_true, true_false}
+use Rattle.x25_world.proofs.Known.{IsConfigured, both_true, true_false}
 use Rattle.x25_world.proofs.Growing.{all_read, as_read, as_many}
 use Rattle.x25_world.proofs.sessions.SessionTrace.{layer_of, Done, own}
 use Rattle.x25_world.proofs.sessions.SessionReaches.{Beginning, known_sessions}
 use Rattle.x25_world.proofs.sessions.SessionJoined.{PairIsInOrder, SessionsJoined, sessions_swapped}
 use Rattle.x25_world.proofs.sessions.SessionKnown.{some_map, met_in_order, of_either}
-use Rattle.x25_world.proofs.sessions.SessionRuns.{throughout_joined}
 use Rattle.x25_world.proofs.sessions.acts.SessionRequests.{session_pair}
 use Rattle.x25_world.proofs.sessions.claims.SessionArrives.{stretch_of, name_if, open_if, meet_from, latest_near, latest_far}
 
@@ -263,15 +260,3 @@ pulls_leave_none law cfg w Dce idle ready = by (of_station (settings_from Dce cf
         → link.is_idle (after w (swapped_back o)).far.link ≡ true → (after w (swapped_back o)).far.layer.restarting ≡ false → PullsNone (layer_of cfg Dce) (after w (swapped_back o)).far.layer
     by (Happened v) left = left
     by (Declined e) left = left
-
-pub throughout_closed : SessionLaws → LayersKeepNone → ConnectKeeps → Throughout ClosedKeepNone
-throughout_closed laws closed_law keeps cfg fine begin which events octets =
-    closed_keep laws closed_law cfg (is_configured cfg fine) (run cfg events begin) (throughout_joined laws keeps cfg fine begin which events octets)
-
-pub throughout_wait : SessionLaws → LayersWait → StillPullsNone → ConnectKeeps → Throughout MessagesWaitForUsers
-throughout_wait laws waits_law still_law keeps cfg fine begin which events octets =
-    messages_wait laws waits_law still_law cfg (is_configured cfg fine) (run cfg events begin) (throughout_joined laws keeps cfg fine begin which events octets)
-
-pub throughout_unpulled : SessionLaws → LayersWait → LayersOpenNone → ConnectKeeps → Throughout UnpulledWaitForUsers
-throughout_unpulled laws waits_law shut_law keeps cfg fine begin which events octets =
-    unpulled_wait laws waits_law shut_law cfg (is_configured cfg fine) (run cfg events begin) (throughout_joined laws keeps cfg fine begin which events octets)
