@@ -9,12 +9,13 @@
  *
  * Each answers 0 where it did what it was asked, and else one of the numbers below: then the station is as before, nothing is
  * answered, and timer T1 goes on, or is off. (After X25_NO_COMMAND, X25_IN_USE of x25_new, and X25_BAD_PARAMETER of x25_time, the
- * last answer stands.) Each may answer X25_NO_STATION and X25_NO_MEMORY; what else one answers stands beside it.
+ * last answer stands.) Each may answer X25_NO_STATION. X25_NO_MEMORY is of x25_new, x25_call, x25_accept, x25_send, their forms
+ * with more, x25_clear_with, x25_command, x25_receive_all, x25_set_times and x25_entry alone. What else one answers stands beside it.
  *
  * An answer has at most 24 frames of at most 4,103 octets, and 4 events, of which one has at most 65,535 octets; that of
- * x25_receive_all has as many for each frame that was taken. Its memory is set aside before anything happens: reading it takes
- * none, but for x25_entry. A new station takes less than 400 kB, with 4,095 channels less than 3 MB; one with all that may wait on
- * 16 channels less than 10 MB.
+ * x25_receive_all has as many for each frame that was taken. Its memory is made with the station, and that of a channel with its
+ * first call: what comes takes none, and reading it none but for x25_entry. A new station takes less than 410 kB, with 4,095 channels
+ * less than 3 MB; one with all that may wait on 16 channels less than 11 MB.
  *
  * What the library can't see, and the program has to keep:
  * - An x25_station that holds a station isn't copied, only the library reads and writes its fields, and it is in one call at
@@ -250,11 +251,11 @@ uint32_t x25_not_ready(x25_station *station, uint16_t channel);
 uint32_t x25_pull(x25_station *station);
 /* Timer T1 fired. 11. */
 uint32_t x25_t1(x25_station *station);
-/* The octets of a frame came, as they stand between the flags, frame check sequence included. */
+/* The octets of a frame came, as they stand between the flags, frame check sequence included. They are taken, whatever they are. */
 uint32_t x25_receive(x25_station *station, const uint8_t *octets, size_t octets_count);
-/* Several frames came, one behind another: each is received as by x25_receive, up to one that is refused. octets are those of all,
-   and counts says how many each has. How many were taken is written to taken; what is answered to all of these is one answer, and
-   the station is as they left it. A refusal is that of the next frame: 34 where its octets aren't there. */
+/* Several frames came, one behind another: each is received as by x25_receive. octets are those of all, and counts says how many
+   each has. How many were taken is written to taken; what is answered to all of these is one answer, and the station is as they
+   left it. 34 where the octets of the next aren't there; X25_NO_MEMORY where it is refused for what was answered to those before. */
 uint32_t x25_receive_all(x25_station *station, const uint8_t *octets, size_t octets_count, const size_t *counts, size_t counts_count,
                          size_t *taken);
 /* Sends a message of at most 65,535 octets on a channel, with or without the qualifier. 9, 40, 42, 30, 32, 31. */

@@ -5,7 +5,7 @@
 
 The program `x25`, where its Nth allocation is refused, has to write a beginning of what the case wants, say `no memory` on standard error
 and end with status 3, where `decode` and `deframe` write nothing; or, where it can do without, as where a list that was filled is made smaller, to do
-all that the case wants. The player `x25_refusals` plays scripts at links, stations and worlds, and makes a call that was refused again: it
+all that the case wants. The player `x25_refusals` plays scripts at stations and worlds, and makes a call that was refused again: it
 has to print all that it prints where none is refused, beside which call it was, and end with status 0. Which calls met how many refusals is
 said, and which met none.
 

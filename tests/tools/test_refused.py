@@ -34,16 +34,16 @@ class Refused(unittest.TestCase):
 @needs_compiler
 class Played(unittest.TestCase):
     # The calls of these scripts that meet a refusal; and those whose contracts say that none for want of memory comes.
+    ASKING = ("Call)", "Call) with sizes", "Accept)", "Accept) with sizes", "With)", "Send)")
     MET = {
-        "Link::new",
-        *(f"Station::{call}" for call in ("new", "receive")),
+        "Station::new",
         *(f"World::{call}" for call in ("start", "establish", "step(Connect)", "step(Deliver)", "step(Damage)", "heal")),
-        *(f"{call}({asked}" for call in ("Station::command", "World::step") for asked in ("Call)", "Call) with sizes", "With)", "Send)", "Interrupt)")),
+        *(f"{call}({asked}" for call in ("Station::command", "World::step") for asked in ASKING),
     }
     PROMISED = {
-        *(f"Link::{call}" for call in ("put", "connect", "disconnect", "probe", "relink", "take", "t1")),
-        "Station::connect",
-        "Station::command(Pull)",
+        *(f"Station::{call}" for call in ("connect", "receive", "t1")),
+        *(f"Station::command({asked})" for asked in
+          ("Clear", "Interrupt", "Reset", "Ready", "NotReady", "Restart", "Pull", "Disconnect", "Probe", "Relink")),
         "World::step(Lose)",
     }
 

@@ -16,10 +16,12 @@ use Rattle.x25_station.specs.laws.TimerLaw.{Event, outcome, is_firing}
 use Rattle.x25_clock.specs.declared.clock.Clock.{Clock}
 use Rattle.x25_clock.specs.Clock.{seen}
 use Rattle.x25_clock.specs.laws.ClockLaw.{comes}
+use Rattle.x25_c.specs.declared.happening.Happening as code
+use Rattle.x25_c.specs.declared.happening.Happening.TheVariants as variant
 use Rattle.x25_c.specs.declared.held.Held.{Held}
 use Rattle.x25_c.specs.Clocked.{Heeds}
 use Rattle.x25_c.specs.Happening.{and_rest, rest_of, timer_of_rest}
-use Rattle.x25_c.specs.code.Happens.{Happens, IsTimer, PullsBehind}
+use Rattle.x25_c.specs.code.Happens.{Happens, IsTimer, PullsBehind, event_of}
 
 abbrev accepted : Result Unit StationError
 accepted = Ok tt
@@ -69,6 +71,11 @@ pub heeds_as : (old new : Held) (event : Event) (come : Bool) (after : Option Cl
 heeds_as old new event come after now clock same c s heeds =
     subst (λ n. Heeds n (seen c s new.step (comes event)) old.clock after) now (subst (λ v. Heeds new.time (seen c s new.step (comes event)) v after) clock (subst (λ b. Heeds new.time (seen c s new.step b) new.clock after) same heeds))
 
+-- at what may be refused no octets come
+pub asks_or_fires : (h : code.Happening) → false ≡ comes (event_of h)
+asks_or_fires (variant.Asks command) = refl
+asks_or_fires variant.Fires = refl
+
 -- ---- an event that was refused
 
 module _ (old new : Held) (e : StationError) (waits : Bool) (c : Settings) where
@@ -106,11 +113,6 @@ is_refused old new e event end waits refused stays empty timer now unheeded = re
   heeded = tt;
   unheeded = unheeded;
 }
-
--- want of memory is in place of each refusal
-pub no_memory : (o : Outcome) → Refuses {T = Unit} (Err error.NoMemory) o
-no_memory (Did step) = refl
-no_memory (Refused e) = inr refl
 
 -- an event of a station that stands for what another stood for
 module _ (old mid new : Held) (event : Event) (now : mid.time ≡ old.time) (clock : mid.clock ≡ old.clock) where

@@ -4,17 +4,14 @@ use Rattle.std.specs.Prelude.{Result, Ok, Err, OnOk, is_err, sum}
 use Rattle.std.proofs.lemmas.List.{append-nil, map-append}
 use Rattle.std.proofs.lemmas.List.Sums.{sum_by_more}
 use Rattle.x25_station.specs.code.PlainEntry.{plain_entry}
-use Rattle.x25_station.specs.Error.{number_of}
-use Rattle.x25_station.specs.declared.error.StationError.TheVariants as error
-use Rattle.x25_station.specs.declared.error.StationError.{StationError}
 use Rattle.x25_station.specs.declared.timer.Timer.TheVariants.{GoesOn}
 use Rattle.x25_station.specs.code.FitsStation.{FitsStation, FitsStill, IsEmpty}
-use Rattle.x25_station.specs.laws.TimerLaw.{Comes, outcome}
+use Rattle.x25_station.specs.laws.TimerLaw.{Comes}
 use Rattle.x25_c.specs.declared.held.Held.{Held}
 use Rattle.x25_c.specs.Held.{Whole, IsAlone, whole_of, part_before, part_of, and_then, no_answer}
 use Rattle.x25_c.specs.code.Happens.{Happens}
 use Rattle.x25_c.specs.code.Receives.{IsClocked, Received, ReceivesAll, frame_at}
-use Rattle.x25_c.proofs.HappenLemmas.{from_still, no_memory}
+use Rattle.x25_c.proofs.HappenLemmas.{from_still}
 
 -- nothing was answered yet
 pub nothing_yet : (h : Held) → IsAlone h → IsEmpty h.step → h.step.timer ≡ GoesOn → whole_of h ≡ no_answer
@@ -86,33 +83,13 @@ module _ (octets counts : List ℕ) (place at : ℕ) (old self : Held) (there : 
     subst (Received octets counts place old self) (sym same) before,
     (λ c s fits. subst (λ v. FitsStation c v s) (sym station) fits),
     end,
-    inr (there, inr (error.NoMemory, refl, (λ c s fits. no_memory (outcome c s (Comes (frame_at octets counts place)))))),
+    inr (there, inr refl),
     clocked,
     passed,
   )
-
-  -- it is refused
-  pub ends_refused : (kept new last : Held) (e : StationError) (number : ℕ) → whole_of kept ≡ whole_of self → part_of kept.step ≡ no_answer → kept.station ≡ self.station → kept.end ≡ self.end
-      → Happens kept new (Err e) (Comes (frame_at octets counts place)) → new.earlier ≡ kept.earlier → number ≡ number_of e → last.station ≡ new.station → last.end ≡ new.end → last.earlier ≡ new.earlier
-      → part_of last.step ≡ no_answer → IsClocked self kept → IsClocked new last → last.passed ≡ None → ReceivesAll octets counts old last place number
-  unfolding ReceivesAll
-  ends_refused kept new last e number same none station end happens earlier is_number last_station last_end last_earlier last_none kept_clocked last_clocked passed =
-      let whole : whole_of last ≡ whole_of self = sym (earlier_is last last_none) ∙ ap part_before (last_earlier ∙ earlier) ∙ earlier_is kept none ∙ same in (
-        self,
-        subst (Received octets counts place old self) (sym whole) before,
-        (λ c s fits. subst (λ v. FitsStation c v s) (sym last_station) (happens.stays c s (subst (λ v. FitsStation c v s) (sym station) fits))),
-        last_end ∙ happens.end ∙ end,
-        inr (there, inr (e, is_number, (λ c s fits. happens.refused c s (subst (λ v. FitsStation c v s) (sym station) fits)))),
-        record { clock = last_clocked.clock ∙ happens.unheeded ∙ kept_clocked.clock; time = last_clocked.time ∙ happens.time ∙ kept_clocked.time },
-        passed,
-      )
 
 -- all were taken
 pub ends_all : (octets counts : List ℕ) (place : ℕ) (old self : Held) → place ≡ length counts → Received octets counts place old self (whole_of self) → self.passed ≡ None → ReceivesAll octets counts old self (length counts) 0
 unfolding ReceivesAll
 ends_all octets counts place old self all before passed =
     (self, subst (λ n. Received octets counts n old self (whole_of self)) all before, (λ c s fits. fits), refl, inl (refl, refl, refl), record { clock = refl; time = refl }, passed)
-
--- a step without octets and entries, and T1 goes on
-pub is_none : (h : Held) → IsEmpty h.step → h.step.timer ≡ GoesOn → part_of h.step ≡ no_answer
-is_none h empty timer = rw (empty.frames, empty.entries, timer) refl

@@ -2,16 +2,11 @@
 ghost use Rattle.std.specs.Prelude.{◌≡◌, ◌++◌, option_copied, slice_get};
 ghost use Rattle.x25_c.specs.Held.{timer_then};
 
-use std::alloc::Global;
 use x25_station::Timer;
 
 /// What is in place `i` of two lists.
-pub(crate) fn in_both<'a, T>(
-    first: &'a Vec<T, Global>,
-    second: &'a Vec<T, Global>,
-    i: usize,
-) -> Option<&'a T>
-    ensures { option_copied result ≡ slice_get (first.now.items ++ second.now.items) i }
+pub(crate) fn in_both<'a, T>(first: &'a [T], second: &'a [T], i: usize) -> Option<&'a T>
+    ensures { option_copied result ≡ slice_get (first.now ++ second.now) i }
 {
     if i < first.len() {
         first.get(i)

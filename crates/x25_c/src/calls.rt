@@ -325,25 +325,25 @@ pub extern "C" fn x25_t1(alloc: Global, slot: &mut Slot) -> u32
 
 /// Takes the octets of a frame that came, frame check sequence included, and pulls behind it.
 ///
-/// 16 where the slot holds no station, else as `Station::receive`. The station is as before then.
+/// 16 where the slot holds no station, and nothing else.
 #[unsafe(no_mangle)]
 pub extern "C" fn x25_receive(alloc: Global, slot: &mut Slot, octets: &[u8]) -> u32
-    ensures { Answers slot.old.handle.held slot.new.handle.held result (Comes octets.now) }
+    ensures answers { Answers slot.old.handle.held slot.new.handle.held result (Comes octets.now) }
+    ensures taken { IfSome slot.old.handle.held (λ h. result ≡ 0) }
 {
     let Some(mut held) = slot.take(alloc) else {
         return NO_STATION;
     };
-    let answer = held.happen(Happening::Comes(octets));
+    held.receive(octets);
     slot.put(held);
-    number_of(answer)
+    0
 }
 
-/// Receives frames, one behind another, as `x25_receive` does each, up to one that is refused: `octets` are those of
-/// all, and `counts` says how many each has. `taken` becomes how many were taken, and what is answered to all of them
-/// is one answer.
+/// Receives frames, one behind another, as `x25_receive` does each: `octets` are those of all, and `counts` says how
+/// many each has. `taken` becomes how many were taken, and what is answered to all of them is one answer.
 ///
-/// 16 where the slot holds no station, 34 where the octets of the next aren't there, else as `Station::receive`; the
-/// station is as those that were taken left it.
+/// 16 where the slot holds no station, 34 where the octets of the next aren't there, and else 70 alone, for what was
+/// answered to those before; the station is as those that were taken left it.
 #[unsafe(no_mangle)]
 pub extern "C" fn x25_receive_all(
     alloc: Global,

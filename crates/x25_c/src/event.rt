@@ -142,7 +142,7 @@ impl Event {
         match asked {
             Asked::Call { user, params, .. } => Event {
                 sizes: Sizes::of(*params),
-                count: user.len(),
+                count: user.as_slice().len(),
                 ..Event::under(CALL_ASKED, channel, name)
             },
             Asked::Accept { params } => Event {
@@ -157,11 +157,11 @@ impl Event {
             Asked::Send { q, user } => Event {
                 q: q.q,
                 d: q.d,
-                count: user.len(),
+                count: user.as_slice().len(),
                 ..Event::under(SEND_ASKED, channel, name)
             },
             Asked::Interrupt { user } => Event {
-                count: user.len(),
+                count: user.as_slice().len(),
                 ..Event::under(INTERRUPT_ASKED, channel, name)
             },
             Asked::Reset { cause, diagnostic } => Event {
@@ -181,7 +181,7 @@ impl Event {
         match told {
             Told::Incoming { user, params, .. } => Event {
                 sizes: Sizes::of(*params),
-                count: user.len(),
+                count: user.as_slice().len(),
                 ..Event::under(INCOMING, channel, name)
             },
             Told::Connected { params } => Event {
@@ -208,7 +208,7 @@ impl Event {
                 ..Event::under(MESSAGE, channel, name)
             },
             Told::Interrupted { user } => Event {
-                count: user.len(),
+                count: user.as_slice().len(),
                 ..Event::under(INTERRUPT, channel, name)
             },
             Told::InterruptDone => Event::on(INTERRUPT_DONE, channel),
@@ -259,7 +259,7 @@ impl Event {
                 ..Event::alone(FAULT)
             },
             Entry::Beside { channel, user, .. } => Event {
-                count: user.len(),
+                count: user.as_slice().len(),
                 ..Event::on(BESIDE, *channel)
             },
             Entry::Confirmed {

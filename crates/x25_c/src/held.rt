@@ -1,5 +1,5 @@
 //! A station, and what it last answered.
-ghost use Rattle.std.specs.Prelude.{◌≡◌, ◌≤◌, ◌+◌, [], None, IfOk, OnErr, OnOk, length, slice_get, unwrap_or};
+ghost use Rattle.std.specs.Prelude.{◌≡◌, ◌≤◌, ◌+◌, [], None, Ok, IfOk, OnErr, OnOk, length, slice_get, unwrap_or};
 ghost use Rattle.std.specs.Option.{option_map};
 ghost use Rattle.x25_bits.specs.declared.role.Role.{Role};
 ghost use Rattle.x25_console.specs.Commands.{command_asked};
@@ -8,7 +8,7 @@ ghost use Rattle.x25_script.specs.ScriptLine.{plain_command};
 ghost use Rattle.x25_station.specs.declared.config.Cfg.{Cfg};
 ghost use Rattle.x25_station.specs.Config.{settings_from};
 ghost use Rattle.x25_station.specs.Station.{new_station};
-ghost use Rattle.x25_station.specs.laws.TimerLaw.{Asks, Event};
+ghost use Rattle.x25_station.specs.laws.TimerLaw.{Asks, Comes, Event};
 ghost use Rattle.x25_station.specs.code.FitsStation.{FitsStation, FitsStill, IsEmpty};
 ghost use Rattle.x25_c.specs.Held.{channel_of, entries_of, frames_of, in_place, lines_of, no_answer, part_of};
 ghost use Rattle.x25_c.specs.Held.{timer_of, whole_of, IsAlone};
@@ -19,7 +19,7 @@ ghost use Rattle.x25_c.specs.code.Receives.{ReceivesAll};
 
 use crate::answers::{in_both, then};
 use crate::clocked::{Passed, heed, take_due};
-use crate::earlier::{Earlier, append_copies};
+use crate::earlier::{Earlier, append_copies, move_entries};
 use crate::happening::{Happening, happen};
 use crate::item::Item;
 use crate::numbers::{BAD_PARAMETER, NO_MEMORY};
@@ -28,7 +28,7 @@ use std::mem::replace;
 use x25_clock::{Clock, Due, Times};
 use x25_console::{read_user, station_command};
 use x25_script::{Command, HexDigits, ScriptTaker, read_command};
-use x25_station::{Entry, Role, Station, StationError, Step, Timer};
+use x25_station::{Entries, Entry, Role, Station, StationError, Step, Timer};
 use x25_text::Text;
 use x25_transcript::entry_line;
 
@@ -109,22 +109,38 @@ impl Held {
         ensures earlier { self.new.earlier ≡ self.old.earlier }
         ensures passed { self.new.passed ≡ self.old.passed }
     {
-        let has_come = event.has_come();
         self.waits = false;
         match happen(&mut self.station, event, &mut self.step) {
             Ok(()) => {
                 self.pull();
-                heed(
-                    &mut self.clock,
-                    self.time,
-                    &self.station,
-                    &self.step,
-                    has_come,
-                );
+                heed(&mut self.clock, self.time, &self.station, &self.step, false);
                 Ok(())
             }
             Err(error) => Err(error),
         }
+    }
+
+    /// Takes octets that came, and pulls behind it.
+    #[inline(always)]
+    pub(crate) fn receive(&mut self, octets: &[u8])
+        ensures happens { Happens self.old self.new (Ok tt) (Comes octets.now) }
+        ensures alone { IsAlone self.new }
+        ensures passed { self.new.passed ≡ None }
+    {
+        self.begin();
+        self.take(octets);
+    }
+
+    // The same behind what was answered before.
+    #[inline(always)]
+    fn take(&mut self, octets: &[u8])
+        ensures happens { Happens self.old self.new (Ok tt) (Comes octets.now) }
+        ensures earlier { self.new.earlier ≡ self.old.earlier }
+        ensures passed { self.new.passed ≡ self.old.passed }
+    {
+        self.station.receive(octets, &mut self.step);
+        self.pull();
+        heed(&mut self.clock, self.time, &self.station, &self.step, true);
     }
 
     // Refuses for want of memory.
@@ -174,7 +190,7 @@ impl Held {
         ensures time { self.new.time ≡ self.old.time }
         ensures passed { self.new.passed ≡ self.old.passed }
     {
-        self.earlier.entries.append(&mut self.step.entries)?;
+        move_entries(&mut self.earlier.entries, &mut self.step.entries)?;
         append_copies(&mut self.earlier.frames, self.step.frames.as_slice())?;
         self.step.frames.clear();
         self.earlier.timer = then(self.earlier.timer, self.step.timer);
@@ -182,10 +198,11 @@ impl Held {
         Ok(())
     }
 
-    /// Receives frames one behind another, the octets of all, of which each has so many, up to one that is refused.
-    /// Answers how many were taken, and the number of the refusal, 0 where there is none.
+    /// Receives frames one behind another, the octets of all, of which each has so many. Answers how many were taken,
+    /// and the number of a refusal, 0 where all were.
     ///
-    /// 34 where the octets of the next aren't there, 70, and else as `Station::receive`.
+    /// 34 where the octets of the next aren't there, and 70 where memory is refused for what was answered to those
+    /// before.
     pub(crate) fn receive_all(&mut self, octets: &[u8], counts: &[usize]) -> (usize, u32)
         ensures { ReceivesAll octets.now counts.now self.old self.new result.0 result.1 }
     {
@@ -201,13 +218,8 @@ impl Held {
             if self.keep().is_err() {
                 return (place, NO_MEMORY);
             }
-            match self.go_on(Happening::Comes(&octets[at..at + count])) {
-                Ok(()) => at += count,
-                Err(error) => {
-                    self.step.timer = Timer::GoesOn;
-                    return (place, u32::from(error.number()));
-                }
-            }
+            self.take(&octets[at..at + count]);
+            at += count;
         }
         (counts.len(), 0)
     }
@@ -220,7 +232,8 @@ impl Held {
     {
         let mut clock = Clock::new(alloc, times, self.station.channels())?;
         // It heeds the step of the last answer, as if that had no entries and T1 began there where it runs.
-        let entries = replace(&mut self.step.entries, Vec::new(alloc));
+        let none = Entries::new(alloc)?;
+        let entries = replace(&mut self.step.entries, none);
         let timer = self.step.timer;
         self.step.timer = Timer::Off;
         if self.station.timer_runs() {
@@ -313,7 +326,11 @@ impl Held {
         if i == count {
             return Some(Item::Timer(self.timer()));
         }
-        match in_both(&self.earlier.entries, &self.step.entries, i) {
+        match in_both(
+            self.earlier.entries.as_slice(),
+            self.step.entries.as_slice(),
+            i,
+        ) {
             Some(entry) => Some(Item::Entry(entry)),
             None => None,
         }
@@ -347,7 +364,7 @@ impl Held {
     pub(crate) fn channel(&self) -> u16
         ensures { result ≡ channel_of self.now }
     {
-        match self.step.entries.first() {
+        match self.step.entries.as_slice().first() {
             Some(Entry::OnChannel { channel, .. }) => *channel,
             _ => 0,
         }
@@ -357,7 +374,11 @@ impl Held {
     pub(crate) fn line(&self, alloc: Global, i: usize) -> Result<Option<Text>, AllocError>
         ensures { IfOk result (λ line. unwrap_or line [] ≡ in_place (lines_of self.now) i) }
     {
-        match in_both(&self.earlier.entries, &self.step.entries, i) {
+        match in_both(
+            self.earlier.entries.as_slice(),
+            self.step.entries.as_slice(),
+            i,
+        ) {
             Some(entry) => Ok(Some(entry_line(alloc, self.end, entry)?)),
             None => Ok(None),
         }

@@ -66,13 +66,13 @@ impl<'a> Item<'a> {
                     said: Said::Asked(Asked::Call { called, .. }),
                     ..
                 },
-            ) => copy(called.as_bytes(), room),
+            ) => copy(called.as_slice(), room),
             Item::Entry(
                 Entry::OnChannel {
                     said: Said::Told(Told::Incoming { called, .. }),
                     ..
                 },
-            ) => copy_figures(called, room),
+            ) => copy_figures(called.as_slice(), room),
             _ => copy(&[], room),
         }
     }
@@ -88,13 +88,13 @@ impl<'a> Item<'a> {
                     said: Said::Asked(Asked::Call { calling, .. }),
                     ..
                 },
-            ) => copy(calling.as_bytes(), room),
+            ) => copy(calling.as_slice(), room),
             Item::Entry(
                 Entry::OnChannel {
                     said: Said::Told(Told::Incoming { calling, .. }),
                     ..
                 },
-            ) => copy_figures(calling, room),
+            ) => copy_figures(calling.as_slice(), room),
             _ => copy(&[], room),
         }
     }
@@ -104,7 +104,7 @@ impl<'a> Item<'a> {
         ensures { result.now ≡ facilities_at (plain_item self.now) }
     {
         match self {
-            Item::Entry(Entry::Beside { facilities, .. }) => facilities,
+            Item::Entry(Entry::Beside { facilities, .. }) => facilities.as_slice(),
             _ => &[],
         }
     }
@@ -122,7 +122,7 @@ fn user_of(entry: &Entry) -> &[u8]
             said: Said::Told(told),
             ..
         } => user_told(told),
-        Entry::Beside { user, .. } => user,
+        Entry::Beside { user, .. } => user.as_slice(),
         _ => &[],
     }
 }
@@ -131,7 +131,8 @@ fn user_asked(asked: &Asked) -> &[u8]
     ensures { result.now ≡ asked_user (plain_asked asked.now) }
 {
     match asked {
-        Asked::Call { user, .. } | Asked::Send { user, .. } | Asked::Interrupt { user } => user,
+        Asked::Call { user, .. } | Asked::Interrupt { user } => user.as_slice(),
+        Asked::Send { user, .. } => user.as_slice(),
         _ => &[],
     }
 }
@@ -140,7 +141,7 @@ fn user_told(told: &Told) -> &[u8]
     ensures { result.now ≡ told_user (plain_told told.now) }
 {
     match told {
-        Told::Incoming { user, .. } | Told::Interrupted { user } => user,
+        Told::Incoming { user, .. } | Told::Interrupted { user } => user.as_slice(),
         Told::Delivered(message) => message.user.as_slice(),
         _ => &[],
     }

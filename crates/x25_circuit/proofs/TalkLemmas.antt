@@ -1,4 +1,5 @@
 -- What a circuit's variables stand for after a small change.
+use Rattle.std.proofs.Props.{props}
 use Rattle.std.proofs.Common.{◌≡◌, ℕ, ◌+◌, ◌≤◌, Bool, true, false, IsTrue, if◌then◌else◌, List, [], ◌++◌, drop, length, refl, sym, ap, subst, ◌∙◌, ◌==◌, ◌%◌, nat_le, Option, Some, None}
 use Rattle.x25_window.specs.code.Modulo.{resolved}
 use Rattle.x25_window.specs.Receiver.{FitsTaken}
@@ -11,6 +12,7 @@ use Rattle.x25_circuit.specs.declared.transfer.Transfer.{Transfer}
 use Rattle.x25_circuit.specs.declared.queue.Queue.{Queue}
 use Rattle.x25_circuit.specs.Message.{Piece, piece_of, piece_ground, ground_of, Partial, no_part, joining, wholes, cut_all, asked_in}
 use Rattle.x25_circuit.specs.code.PartialMessage.{ShownPartial}
+use Rattle.x25_circuit.specs.code.CallMemory.{has_memory}
 use Rattle.x25_circuit.specs.Queue.{waiting}
 use Rattle.x25_circuit.specs.Hearing.{data_ground, number_ground}
 use Rattle.x25_circuit.proofs.MessageLemmas.{wholes_all}
@@ -20,9 +22,9 @@ use Rattle.x25_circuit.specs.code.FitsNumbers.{FitsNumbers}
 use Rattle.x25_circuit.specs.code.Fits.{FitsTalk, first_ground}
 use Rattle.x25_circuit.specs.code.FitsCircuit.{FitsCircuit}
 
-pub with_transfer : (c : Settings) (v : code.Circuit) (x : Circuit) (u : Transfer) (t : Talk) → FitsCircuit c v x → FitsTalk (outgoing x).size u t
-    → FitsCircuit c (record v { transfer = u }) (record x { talk = t })
-with_transfer c v x u t fits talk = record {
+pub with_transfer : (c : Settings) (v : code.Circuit) (x : Circuit) (u : Transfer) (made : has_memory v.state ≡ true → u.partial.made ≡ true) (t : Talk) → FitsCircuit c v x
+    → FitsTalk (outgoing x).size u t → FitsCircuit c (record v { transfer = u; made = made }) (record x { talk = t })
+with_transfer c v x u made t fits talk = record {
   role = fits.role;
   long_data = fits.long_data;
   state = fits.state;
@@ -34,8 +36,19 @@ with_transfer c v x u t fits talk = record {
 }
 
 -- a transfer that was left as it is
-pub same_transfer : (c : Settings) (v : code.Circuit) (x : Circuit) (u : Transfer) → FitsCircuit c v x → u ≡ v.transfer → FitsCircuit c (record v { transfer = u }) x
-same_transfer c v x u fits same = with_transfer c v x u x.talk fits (subst (λ (w : Transfer). FitsTalk (outgoing x).size w x.talk) (sym same) fits.talk)
+pub same_transfer : (c : Settings) (v : code.Circuit) (x : Circuit) (u : Transfer) (made : has_memory v.state ≡ true → u.partial.made ≡ true) → FitsCircuit c v x → u ≡ v.transfer
+    → FitsCircuit c (record v { transfer = u; made = made }) x
+same_transfer c v x u made fits same = with_transfer c v x u made x.talk fits (subst (λ (w : Transfer). FitsTalk (outgoing x).size w x.talk) (sym same) fits.talk)
+
+-- a circuit of which the transfer was left as it is
+pub kept_circuit : (v : code.Circuit) (u : Transfer) (made : has_memory v.state ≡ true → u.partial.made ≡ true) → u ≡ v.transfer → ◌≡◌ {A = code.Circuit} (record v { transfer = u; made = made }) v
+kept_circuit v u made same = subst (λ (w : Transfer). (kept : has_memory v.state ≡ true → w.partial.made ≡ true) → ◌≡◌ {A = code.Circuit} (record v { transfer = w; made = kept }) v) (sym same) here made
+  where
+    once : IsProp (has_memory v.state ≡ true → v.transfer.partial.made ≡ true)
+    once = hlevel props
+
+    here : (kept : has_memory v.state ≡ true → v.transfer.partial.made ≡ true) → ◌≡◌ {A = code.Circuit} (record v { made = kept }) v
+    here kept = ap (λ (k : has_memory v.state ≡ true → v.transfer.partial.made ≡ true). record v { made = k }) (once kept v.made)
 
 pub own_fits : (size : ℕ) (v : Transfer) (t : Talk) (b : Bool) → FitsTalk size v t → FitsTalk size (record v { own_ready = b }) (with_own b t)
 own_fits size v t b fits = record { numbers = fits.numbers; taken = fits.taken; rest = fits.rest; part = fits.part; short = fits.short; unconfirmed = fits.unconfirmed; int_out = fits.int_out; peer_ready = fits.peer_ready; own_ready = refl }
@@ -59,7 +72,7 @@ pub acked_fits : (size : ℕ) (v : Transfer) (t : Talk) (sender : Held Bool) (n 
     → unconfirmed ≡ asked_in (drop n (t.sent ++ t.rest)) → FitsTalk size (record v { sender = sender; unconfirmed = unconfirmed }) (with_acked n t)
 acked_fits size v t sender n unconfirmed fits numbers asked = record { numbers = numbers; taken = fits.taken; rest = fits.rest; part = fits.part; short = fits.short; unconfirmed = asked; int_out = fits.int_out; peer_ready = fits.peer_ready; own_ready = fits.own_ready }
 
--- memory that is set aside is no part of what is stood for
+-- whether memory is made is no part of what is stood for
 pub partial_fits : (size : ℕ) (v : Transfer) (t : Talk) (p : ShownPartial) → FitsTalk size v t → p.part ≡ v.partial.part → FitsTalk size (record v { partial = p }) t
 partial_fits size v t p fits same = record { numbers = fits.numbers; taken = fits.taken; rest = fits.rest; part = same ∙ fits.part; short = subst (λ (j : Partial). length j.user ≤ 65535) (sym same) fits.short; unconfirmed = fits.unconfirmed; int_out = fits.int_out; peer_ready = fits.peer_ready; own_ready = fits.own_ready }
 

@@ -1,5 +1,5 @@
 -- What the user asks, as a value alone, and what the circuit answers.
-use Rattle.std.specs.Prelude.{◌≡◌, Bool, true, false, Option, Some, None, Result, Ok, Err, MatchResult}
+use Rattle.std.specs.Prelude.{◌≡◌, Bool, true, false, not, Option, Some, None, Result, Ok, Err, MatchResult}
 use denote.Ref.{Bor}
 use Rattle.x25_packet.specs.declared.packet.Packet.{Packet}
 use Rattle.x25_circuit.specs.declared.circuit.Circuit as circuit_code
@@ -12,7 +12,7 @@ use Rattle.x25_circuit.specs.declared.request.Request.TheVariants as code
 use Rattle.x25_circuit.specs.Circuit.{Settings, Circuit}
 use Rattle.x25_circuit.specs.Calling.{Outcome, Done, Refused, Request, Calls, Accepts, Clears, Sends, Interrupts}
 use Rattle.x25_circuit.specs.Calling.{Resets, SaysReady, SaysNotReady, outcome}
-use Rattle.x25_circuit.specs.code.FitsCircuit.{FitsCircuit}
+use Rattle.x25_circuit.specs.code.FitsCircuit.{FitsCircuit, made_of}
 use Rattle.x25_circuit.specs.code.Replies.{plain_sent}
 
 -- where there is one
@@ -56,12 +56,22 @@ abbrev pub MayPut : Request → Option Packet → Type 0
 MayPut (Sends q user) packet = packet ≡ None
 MayPut request packet = Unit {0}
 
--- of which a circuit takes a copy
-abbrev pub is_message : Request → Bool
-is_message (Sends q user) = true
-is_message request = false
+-- whether a circuit asks for memory for it: a message is copied, and a call and an acceptance make the memory of
+-- messages that come, where that isn't made yet
+abbrev pub asks_memory : circuit_code.Circuit → Request → Bool
+asks_memory v (Sends q user) = true
+asks_memory v (Calls called calling user proposal) = not (made_of v)
+asks_memory v (Accepts answer) = not (made_of v)
+asks_memory v request = false
 
--- where 70 may be answered: for a message, in place of its acceptance
+-- whether any circuit does
+abbrev pub may_ask_memory : Request → Bool
+may_ask_memory (Sends q user) = true
+may_ask_memory (Calls called calling user proposal) = true
+may_ask_memory (Accepts answer) = true
+may_ask_memory request = false
+
+-- where 70 may be answered: where memory is asked for, in place of acceptance
 pub record MayLack (v : circuit_code.Circuit) (request : Request) : Type 0 where
-  pub message : is_message request ≡ true
+  pub asks : asks_memory v request ≡ true
   pub accepted : (c : Settings) (x : Circuit) → FitsCircuit c v x → refusal_of (outcome c x request) ≡ None

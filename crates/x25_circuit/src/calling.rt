@@ -9,7 +9,7 @@ ghost use Rattle.x25_circuit.specs.Params.{may_answer};
 ghost use Rattle.x25_circuit.specs.Calling.{outcome, Refused, Calls, Accepts, Clears, may_call, call_in, accept_in};
 ghost use Rattle.x25_circuit.specs.Calling.{is_address_text};
 ghost use Rattle.x25_circuit.specs.Request.{plain_answer, params_answered, refusal_of};
-ghost use Rattle.x25_circuit.specs.code.FitsCircuit.{FitsCircuit, SendsBy};
+ghost use Rattle.x25_circuit.specs.code.FitsCircuit.{FitsCircuit, SendsBy, BeginsBy};
 
 use crate::circuit::Circuit;
 use crate::error::CircuitError;
@@ -72,7 +72,7 @@ impl Circuit {
     /// which what isn't the default stands, and with `says_all` what is. ITU-T X.25 (10/96), section 6.12.
     ///
     /// 30 WrongState outside of p1, then 34 BadParameter where an address, the user data, a size or a window is none of
-    /// these.
+    /// these, and else 70 alone.
     pub(crate) fn call<'a>(
         &mut self,
         called: &str,
@@ -80,10 +80,11 @@ impl Circuit {
         user: &'a [u8],
         proposal: &Proposal,
     ) -> Result<Packet<'a>, CircuitError>
-        ensures { SendsBy self.old self.new result
+        ensures { BeginsBy self.old self.new result
             (λ c x. outcome c x (Calls called.now calling.now user.now proposal.now)) }
     {
         let fields = self.call_fields(called, calling, user, proposal.params())?;
+        self.transfer.make()?;
         self.enter(State::Calling, fields.flow, true);
         Ok(Packet::Call {
             channel: 1,
@@ -132,15 +133,16 @@ impl Circuit {
     /// default, or else with those that it proposes. It answers CALL ACCEPTED, in which what isn't as proposed stands,
     /// and with `says_all` what is. ITU-T X.25 (10/96), section 6.12.
     ///
-    /// 30 WrongState where no call came, then 34 BadParameter where a value is out of this range.
+    /// 30 WrongState where no call came, then 34 BadParameter where a value is out of this range, and else 70 alone.
     pub(crate) fn accept<'a>(
         &mut self,
         answer: Option<&Proposal>,
     ) -> Result<Packet<'a>, CircuitError>
-        ensures { SendsBy self.old self.new result (λ c x. outcome c x (Accepts (plain_answer answer.entry))) }
+        ensures { BeginsBy self.old self.new result (λ c x. outcome c x (Accepts (plain_answer answer.entry))) }
     {
         let proposed = self.flow.params;
         let flow = self.accepted(answer)?;
+        self.transfer.make()?;
         self.enter(State::Open, flow, false);
         match answer {
             Some(answer) => Ok(Packet::Accept {

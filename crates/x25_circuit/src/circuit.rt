@@ -1,11 +1,11 @@
-ghost use Rattle.std.specs.Prelude.{◌≡◌, ℕ, ◌+◌, ◌<◌, ◌≤◌, false, length, min, max, IfOk, IfErr, OnOk, OnErr};
+ghost use Rattle.std.specs.Prelude.{◌≡◌, ℕ, ◌<◌, ◌≤◌, true, false, length, IfOk, IfErr};
 ghost use Rattle.x25_circuit.specs.declared.state.State.{State};
 ghost use Rattle.x25_circuit.specs.Awaits.{awaited_in};
-ghost use Rattle.x25_circuit.specs.Message.{no_part, joining};
 ghost use Rattle.x25_circuit.specs.Params.{default_params};
 ghost use Rattle.x25_circuit.specs.Calling.{pulled, pulls_nothing};
 ghost use Rattle.x25_circuit.specs.Circuit.{Settings, begun, entered, forgotten, zeroed, is_free, is_open, waits};
 ghost use Rattle.x25_circuit.specs.Circuit.{message_room, unconfirmed, outgoing, incoming};
+ghost use Rattle.x25_circuit.specs.code.CallMemory.{has_memory};
 ghost use Rattle.x25_circuit.specs.Circuit.{Circuit as Channel};
 
 use crate::awaits::Awaits;
@@ -34,11 +34,12 @@ pub struct Circuit {
     pub(crate) flow: FlowControl,
     pub(crate) calls: bool,
     pub(crate) transfer: Transfer,
+    ghost made: { has_memory state ≡ true → transfer.partial.made ≡ true },
 }
 
 impl Circuit {
-    ghost use Rattle.x25_circuit.specs.code.FitsCircuit.{FitsCircuit, KeepsCounts, kept_of};
-    ghost use Rattle.x25_circuit.specs.code.FitsCircuit.{room_of, clears_of, resets_of, waits_of};
+    ghost use Rattle.x25_circuit.specs.code.FitsCircuit.{FitsCircuit, KeepsCounts};
+    ghost use Rattle.x25_circuit.specs.code.FitsCircuit.{made_of, clears_of, resets_of, waits_of};
 
     /// A channel that was never used: p1. With `long_data` a call has at most 128 octets of user data (profile), else
     /// at most 16.
@@ -46,6 +47,7 @@ impl Circuit {
     /// 70 alone.
     pub fn with(alloc: Global, role: Role, long_data: bool) -> Result<Circuit, CircuitError>
         ensures fits { IfOk result (λ v. FitsCircuit (record { role = role; long_data = long_data }) v begun) }
+        ensures made { IfOk result (λ v. made_of v ≡ false) }
         ensures err { IfErr result (λ e. e ≡ CircuitError.NoMemory) }
     {
         let transfer = Transfer::new(alloc)?;
@@ -74,7 +76,6 @@ impl Circuit {
     /// Sets both counts to 0.
     pub fn zero(&mut self)
         ensures fits { (c : Settings) (x : Channel) → FitsCircuit c self.old x → FitsCircuit c self.new (zeroed x) }
-        ensures room { room_of self.old ≤ room_of self.new }
     {
         self.clears = 0;
         self.resets = 0;
@@ -83,7 +84,6 @@ impl Circuit {
     /// Goes to p1, with everything dropped, no packet and no notice. The counts are as they were.
     pub fn forget(&mut self)
         ensures fits { (c : Settings) (x : Channel) → FitsCircuit c self.old x → FitsCircuit c self.new (forgotten x) }
-        ensures room { room_of self.old ≤ room_of self.new }
     {
         self.end_call(State::Free);
     }
@@ -177,61 +177,14 @@ impl Circuit {
         usize::from(self.transfer.unconfirmed)
     }
 
-    /// How many octets have come of the message of which some packets came, at most 65,535; 0 where there is none.
-    pub fn octets_joined(&self) -> usize
-        ensures value { (c : Settings) (x : Channel) → FitsCircuit c self.now x
-            → result ≡ length (joining no_part x.talk.taken).user }
-        ensures short { result ≤ 65535 }
-    {
-        self.transfer.partial.len()
-    }
-
-    /// How many octets of memory are kept for the message of which some packets came: for these octets, and for those
-    /// for which memory is set aside. They are 69,631 at most, those of the longest message and of one packet more.
-    pub fn octets_kept(&self) -> usize
-        ensures value { result ≡ kept_of self.now }
-        ensures least { (c : Settings) (x : Channel) → FitsCircuit c self.now x
-            → length (joining no_part x.talk.taken).user + room_of self.now ≤ result }
-        ensures most { result ≤ 69631 }
-    {
-        self.transfer.partial.octets_kept()
-    }
-
-    /// Sets memory aside for one `packet` with at most `count` octets of user data, or one `undecoded`, but for no more
-    /// than the 4,096 octets of the longest data packet.
-    ///
-    /// 70 alone.
-    pub fn reserve(&mut self, count: usize) -> Result<(), CircuitError>
-        ensures fits { (c : Settings) (x : Channel) → FitsCircuit c self.old x → FitsCircuit c self.new x }
-        ensures ok { OnOk result (min count 4096 ≤ room_of self.new) }
-        ensures clears { clears_of self.new ≡ clears_of self.old }
-        ensures resets { resets_of self.new ≡ resets_of self.old }
-        ensures waits { waits_of self.new ≡ waits_of self.old }
-        ensures grows { room_of self.old ≤ room_of self.new }
-        ensures most { room_of self.new ≤ max (room_of self.old) 4096 }
-        ensures missing { OnErr result (room_of self.old < min count 4096) }
-        ensures err { IfErr result (λ e. e ≡ CircuitError.NoMemory) }
-        ensures unchanged { OnErr result (self.new ≡ self.old) }
-    {
-        self.transfer.partial.reserve(count)?;
-        Ok(())
-    }
-
-    /// Keeps the memory of a message that was read, for one that comes or is sent later. It is let go of where it is
-    /// for more than 4,096 octets, and where two are kept. The circuit is as before.
-    pub fn keep(&mut self, memory: Vec<u8>)
-        ensures { self.new ≡ self.old }
-    {
-        self.transfer.partial.keep(memory);
-    }
-
     /// Goes to this state, with these packet sizes and windows, and nothing kept.
     pub(crate) fn enter(&mut self, state: State, flow: FlowControl, calls: bool)
+        requires { has_memory state ≡ true → made_of self.old ≡ true }
         ensures fits { (c : Settings) (x : Channel) → FitsCircuit c self.old x
             → FitsCircuit c self.new (entered x state flow.params calls) }
-        ensures kept { self.new
-            ≡ record self.old { state = state; flow = flow; calls = calls; transfer = self.new.transfer } }
-        ensures room { room_of self.old ≤ room_of self.new }
+        ensures role { self.new.role ≡ self.old.role }
+        ensures made { made_of self.new ≡ made_of self.old }
+        ensures keeps { KeepsCounts self.old self.new }
     {
         self.state = state;
         self.flow = flow;
@@ -241,6 +194,7 @@ impl Circuit {
 
     /// Goes to this state, in which there is no call.
     pub(crate) fn end_call(&mut self, state: State)
+        requires { has_memory state ≡ false }
         ensures fits { (c : Settings) (x : Channel) → FitsCircuit c self.old x
             → FitsCircuit c self.new (entered x state default_params false) }
         ensures role { self.new.role ≡ self.old.role }
@@ -251,6 +205,7 @@ impl Circuit {
 
     /// Goes to this state, in which the call goes on with nothing kept.
     pub(crate) fn begin_stretch(&mut self, state: State)
+        requires { has_memory state ≡ true → made_of self.old ≡ true }
         ensures fits { (c : Settings) (x : Channel) → FitsCircuit c self.old x
             → FitsCircuit c self.new (entered x state x.params x.calls) }
         ensures role { self.new.role ≡ self.old.role }

@@ -1,15 +1,15 @@
 //! Clears and resets: those that errors of procedure cause, and those that are done. ITU-T X.25 (10/96), sections 4.1.7
 //! to
 //! 4.1.9, 4.4.3 and Annex C.
-ghost use Rattle.std.specs.Prelude.{◌≡◌, ◌≢◌, ℕ, suc, ◌^◌, ◌-◌, ◌<◌, ◌≤◌, None, Some, [], ◌∷◌};
+ghost use Rattle.std.specs.Prelude.{◌≡◌, ◌≢◌, ℕ, suc, ◌^◌, ◌-◌, ◌<◌, true, None, Some, [], ◌∷◌};
 ghost use Rattle.x25_circuit.specs.Circuit.{Settings};
 ghost use Rattle.x25_circuit.specs.Circuit.{Circuit as Channel};
 ghost use Rattle.x25_circuit.specs.Notice.{reset_done};
 ghost use Rattle.x25_circuit.specs.Hearing.{cause_at, diagnostic_in, clears_for, resets_for, unexpected, clears_to};
 ghost use Rattle.x25_circuit.specs.Hearing.{resets_to, row_clear, row_clear_conf, row_reset, row_reset_conf};
 ghost use Rattle.x25_circuit.specs.Hearing.{row_undecoded, undecoded, cause_of};
-ghost use Rattle.x25_circuit.specs.code.FitsCircuit.{FitsCircuit, room_of, clears_of, resets_of};
-ghost use Rattle.x25_circuit.specs.code.Replies.{Says, IsSendable, RepliesBy, plain_owed};
+ghost use Rattle.x25_circuit.specs.code.FitsCircuit.{FitsCircuit, made_of, clears_of, resets_of};
+ghost use Rattle.x25_circuit.specs.code.Replies.{Says, IsSendable, RepliesBy, handed_over, plain_owed};
 
 use crate::circuit::Circuit;
 use crate::codes::{
@@ -83,6 +83,7 @@ impl Circuit {
 
     /// Resets the call for an error of procedure.
     pub(crate) fn reset_for<'a>(&mut self, diagnostic: u8) -> Reply<'a>
+        requires { made_of self.old ≡ true }
         ensures { RepliesBy self.old self.new result (λ c x. resets_for c x diagnostic) }
     {
         self.begin_stretch(State::Resetting);
@@ -110,7 +111,6 @@ impl Circuit {
         requires { clears_of self.old < 2 ^ 64 - 1 }
         ensures fits { (c : Settings) (x : Channel) → FitsCircuit c self.old x
             → FitsCircuit c self.new (clears_to x None []).next }
-        ensures room { room_of self.old ≤ room_of self.new }
     {
         self.end_call(State::Free);
         self.clears += 1;
@@ -119,10 +119,10 @@ impl Circuit {
 
     // A reset is done.
     fn be_reset(&mut self)
-        requires { resets_of self.old < 2 ^ 64 - 1 }
+        requires made { made_of self.old ≡ true }
+        requires left { resets_of self.old < 2 ^ 64 - 1 }
         ensures fits { (c : Settings) (x : Channel) → FitsCircuit c self.old x
             → FitsCircuit c self.new (resets_to x None []).next }
-        ensures room { room_of self.old ≤ room_of self.new }
     {
         self.begin_stretch(State::Open);
         self.resets += 1;
@@ -130,12 +130,13 @@ impl Circuit {
 
     // This end's reset is done: it isn't confirmed, by whatever packet it was.
     fn end_reset<'a>(&mut self) -> Reply<'a>
-        requires { resets_of self.old < 2 ^ 64 - 1 }
+        requires made { made_of self.old ≡ true }
+        requires left { resets_of self.old < 2 ^ 64 - 1 }
         ensures next { (c : Settings) (x : Channel) → FitsCircuit c self.old x
             → FitsCircuit c self.new (resets_to x None (reset_done ∷ [])).next }
         ensures says { Says result None (reset_done ∷ []) }
         ensures range { IsSendable (plain_owed result.packet) }
-        ensures room { room_of self.old ≤ room_of self.new }
+        ensures handed { handed_over result.notice ≡ 0 }
     {
         self.be_reset();
         Reply::tells(Notice::ResetDone)

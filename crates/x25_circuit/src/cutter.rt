@@ -1,7 +1,8 @@
 ghost use Rattle.std.specs.Prelude.{◌≡◌, ◌<◌, ◌≤◌, [], ◌∷◌, length, true, false, vec_capacity, IfSome, IfNone};
+ghost use Rattle.std.specs.Prelude.{IfOk, OnErr, max};
 
-use crate::message::Message;
-use std::alloc::Global;
+use crate::sent::Sent;
+use std::alloc::{AllocError, Global};
 use std::marker::Model;
 use std::mem;
 use x25_packet::Marks;
@@ -67,11 +68,11 @@ impl Cutter {
     }
 
     /// Begins to cut this message.
-    pub fn load(&mut self, message: Message)
+    pub fn load(&mut self, message: Sent)
         ensures { self.new.left ≡ message ∷ [] }
     {
-        self.q = message.q;
-        self.user = message.user.into_vec();
+        self.q = message.marks();
+        self.user = message.into_vec();
         self.lent = 0;
         self.start = 0;
         self.is_cut = false;
@@ -110,9 +111,24 @@ impl Cutter {
         }
     }
 
-    /// Memory of a message that was cut to its end, for one of so many octets and for 4,096 at most, where it is. The
-    /// packet cut last isn't lent any more then.
-    pub fn spent_memory(&mut self, count: usize) -> Option<Vec<u8>>
+    /// Memory for a message of so many octets: that of one that was cut to its end, of which the packet cut last isn't
+    /// lent any more then, or else new. Err: no memory.
+    pub fn memory(&mut self, count: usize) -> Result<Vec<u8>, AllocError>
+        ensures left { self.new.left ≡ self.old.left }
+        ensures unchanged { OnErr result (self.new ≡ self.old) }
+        ensures empty { IfOk result (λ memory. memory.items ≡ []) }
+        ensures room { IfOk result (λ memory. count ≤ vec_capacity memory) }
+        ensures most { IfOk result (λ memory. vec_capacity memory ≤ max count 4096) }
+    {
+        match self.spent_memory(count) {
+            Some(memory) => Ok(memory),
+            None => Vec::with_capacity(self.alloc, count),
+        }
+    }
+
+    // Memory of a message that was cut to its end, for one of so many octets and for 4,096 at most, where it is. The
+    // packet cut last isn't lent any more then.
+    fn spent_memory(&mut self, count: usize) -> Option<Vec<u8>>
         ensures left { self.new.left ≡ self.old.left }
         ensures none { IfNone result (self.new ≡ self.old) }
         ensures empty { IfSome result (λ memory. memory.items ≡ []) }

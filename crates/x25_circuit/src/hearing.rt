@@ -1,6 +1,6 @@
 //! Packets that come. ITU-T X.25 (10/96), sections 4.3.7 and 4.4.1, and Annex C.
 ghost use Rattle.std.specs.Prelude.{◌≡◌, ℕ, ◌+◌, ◌-◌, ◌^◌, ◌<◌, ◌≤◌, length, [], ◌∷◌, Some, None, true, false};
-ghost use Rattle.std.specs.Prelude.{option_to_list, IfNone, IsOk};
+ghost use Rattle.std.specs.Prelude.{option_to_list};
 ghost use Rattle.x25_packet.specs.Packet.{plain, user_data};
 ghost use Rattle.x25_packet.specs.Spelling.{HasChannel, IsInRange};
 ghost use Rattle.x25_circuit.specs.Circuit.{Settings};
@@ -10,21 +10,23 @@ ghost use Rattle.x25_circuit.specs.Notice.{deliveries};
 ghost use Rattle.x25_circuit.specs.code.Fits.{first_ground};
 ghost use Rattle.x25_circuit.specs.Hearing.{resets_for, unless, number_ground, hears_status, confirms, takes, row_open};
 ghost use Rattle.x25_circuit.specs.Hearing.{row_data, status, answers};
-ghost use Rattle.x25_circuit.specs.code.FitsCircuit.{FitsCircuit, room_of, user_octets, clears_of, resets_of};
-ghost use Rattle.x25_circuit.specs.code.Replies.{Says, IsSendable, RepliesBy, RepliesOrLacks};
+ghost use Rattle.x25_circuit.specs.code.FitsCircuit.{FitsCircuit, made_of, clears_of, resets_of};
+ghost use Rattle.x25_circuit.specs.code.Replies.{Says, IsSendable, RepliesBy, RepliesWith, handed_over};
 ghost use Rattle.x25_circuit.specs.code.Replies.{packet_owed, plain_owed, plain_notices};
+ghost use Rattle.x25_circuit.specs.code.PartialMessage.{spares};
 
 use crate::circuit::Circuit;
 use crate::codes::{INVALID_PR, NO_INTERRUPT};
-use crate::error::CircuitError;
 use crate::message::Message;
 use crate::notice::{Notice, Reply};
+use crate::octets::Octets;
 use crate::owed::Owed;
 use crate::state::State;
 use x25_packet::{Marks, Packet, Seq};
 
 fn delivered<'a>(message: Option<Message>) -> Option<Notice<'a>>
-    ensures { plain_notices result ≡ deliveries (option_to_list message) }
+    ensures notices { plain_notices result ≡ deliveries (option_to_list message) }
+    ensures handed { handed_over result ≡ length (option_to_list message) }
 {
     match message {
         Some(message) => Some(Notice::Delivered(message)),
@@ -50,6 +52,7 @@ impl Circuit {
     // RR or RNR.
     #[inline(always)]
     fn hear_status<'a>(&mut self, pr: Seq, is_ready: bool) -> Reply<'a>
+        requires { made_of self.old ≡ true }
         ensures { RepliesBy self.old self.new result
             (λ c x. unless c x (number_ground x.talk pr.number) (hears_status x x.talk is_ready pr.number)) }
     {
@@ -62,6 +65,7 @@ impl Circuit {
 
     // INTERRUPT CONFIRMATION.
     fn hear_interrupt_conf<'a>(&mut self) -> Reply<'a>
+        requires { made_of self.old ≡ true }
         ensures { RepliesBy self.old self.new result (λ c x. confirms c x x.talk self.old.transfer.interrupt_out) }
     {
         if !self.transfer.interrupt_out {
@@ -73,6 +77,7 @@ impl Circuit {
 
     // A data packet that is refused, whatever its P(R): that is the first ground.
     fn refuse<'a>(&mut self, pr: Seq, diagnostic: u8) -> Reply<'a>
+        requires { made_of self.old ≡ true }
         ensures { RepliesBy self.old self.new result
             (λ c x. resets_for c x (first_ground x.talk pr.number diagnostic)) }
     {
@@ -83,24 +88,26 @@ impl Circuit {
     }
 
     // A data packet that isn't refused, but perhaps for its P(R).
-    fn join<'a>(&mut self, q: Marks, m: bool, ps: Seq, pr: Seq, user: &[u8]) -> Reply<'a>
+    fn join<'a>(
+        &mut self,
+        q: Marks,
+        m: bool,
+        ps: Seq,
+        pr: Seq,
+        user: &[u8],
+        spare: &mut Option<Octets>,
+    ) -> Reply<'a>
+        requires made { made_of self.old ≡ true }
         requires wanted { ps.number ≡ self.old.transfer.receiver.number }
-        requires room { length user.now ≤ room_of self.old }
+        requires spare { spares spare.old ≡ 1 }
         requires short { length self.old.transfer.partial.part.user + length user.now ≤ 65535 }
-        ensures next { (c : Settings) (x : Channel) → FitsCircuit c self.old x
-            → FitsCircuit c self.new (unless c x (number_ground x.talk pr.number)
-            (takes x x.talk pr.number (piece_of q m user.now))).next }
-        ensures says { (c : Settings) (x : Channel) → FitsCircuit c self.old x →
-            Says result (unless c x (number_ground x.talk pr.number)
-            (takes x x.talk pr.number (piece_of q m user.now))).owed
-            (unless c x (number_ground x.talk pr.number) (takes x x.talk pr.number (piece_of q m user.now))).notices }
-        ensures range { IsSendable (plain_owed result.packet) }
-        ensures room { IfNone result.packet (room_of self.old ≤ room_of self.new) }
+        ensures { RepliesWith self.old self.new result (spares spare.new)
+            (λ c x. unless c x (number_ground x.talk pr.number) (takes x x.talk pr.number (piece_of q m user.now))) }
     {
         if !self.transfer.ack(pr) {
             return self.reset_for(INVALID_PR);
         }
-        let message = self.transfer.take(ps, q, m, user);
+        let message = self.transfer.take(ps, q, m, user, spare);
         let owed = self.status();
         Reply {
             packet: Some(owed),
@@ -117,25 +124,27 @@ impl Circuit {
         ps: Seq,
         pr: Seq,
         user: &[u8],
-    ) -> Result<Reply<'a>, CircuitError>
-        ensures { RepliesOrLacks self.old self.new result (length user.now)
+        spare: &mut Option<Octets>,
+    ) -> Reply<'a>
+        requires made { made_of self.old ≡ true }
+        requires spare { spares spare.old ≡ 1 }
+        ensures { RepliesWith self.old self.new result (spares spare.new)
             (λ c x. row_open c x x.talk (user_data 1 q m ps.number pr.number user.now)) }
     {
         match self
             .transfer
             .ground(self.incoming().size, ps, q.q, user.len())
         {
-            Some(diagnostic) => Ok(self.refuse(pr, diagnostic)),
-            None => {
-                self.transfer.partial.reserve(user.len())?;
-                Ok(self.join(q, m, ps, pr, user))
-            }
+            Some(diagnostic) => self.refuse(pr, diagnostic),
+            None => self.join(q, m, ps, pr, user, spare),
         }
     }
 
     // A packet of data transfer, in p4 with d1.
-    fn hear_open<'a>(&mut self, packet: &Packet<'a>) -> Result<Reply<'a>, CircuitError>
-        ensures { RepliesOrLacks self.old self.new result (length (user_octets (plain packet.now)))
+    fn hear_open<'a>(&mut self, packet: &Packet<'a>, spare: &mut Option<Octets>) -> Reply<'a>
+        requires made { made_of self.old ≡ true }
+        requires spare { spares spare.old ≡ 1 }
+        ensures { RepliesWith self.old self.new result (spares spare.new)
             (λ c x. row_open c x x.talk (plain packet.now)) }
     {
         match packet {
@@ -146,40 +155,42 @@ impl Circuit {
                 pr,
                 user,
                 ..
-            } => self.hear_data(*marks, *m, *ps, *pr, user),
-            Packet::Rr { pr, .. } => Ok(self.hear_status(*pr, true)),
-            Packet::Rnr { pr, .. } => Ok(self.hear_status(*pr, false)),
-            Packet::Interrupt { user, .. } => Ok(Reply::both(
+            } => self.hear_data(*marks, *m, *ps, *pr, user, spare),
+            Packet::Rr { pr, .. } => self.hear_status(*pr, true),
+            Packet::Rnr { pr, .. } => self.hear_status(*pr, false),
+            Packet::Interrupt { user, .. } => Reply::both(
                 Owed::InterruptConf,
                 Notice::Interrupted { user },
-            )),
-            Packet::InterruptConf { .. } => Ok(self.hear_interrupt_conf()),
-            _ => Ok(Reply::nothing()),
+            ),
+            Packet::InterruptConf { .. } => self.hear_interrupt_conf(),
+            _ => Reply::nothing(),
         }
     }
 
     // A packet of data transfer.
-    fn hear_transfer<'a>(&mut self, packet: &Packet<'a>) -> Result<Reply<'a>, CircuitError>
-        ensures { RepliesOrLacks self.old self.new result (length (user_octets (plain packet.now)))
+    fn hear_transfer<'a>(&mut self, packet: &Packet<'a>, spare: &mut Option<Octets>) -> Reply<'a>
+        requires spare { spares spare.old ≡ 1 }
+        ensures { RepliesWith self.old self.new result (spares spare.new)
             (λ c x. row_data c x self.old.state (plain packet.now)) }
     {
         match self.state {
-            State::Open => self.hear_open(packet),
-            State::Resetting | State::Clearing => Ok(Reply::nothing()),
-            _ => Ok(self.unexpected()),
+            State::Open => self.hear_open(packet, spare),
+            State::Resetting | State::Clearing => Reply::nothing(),
+            _ => self.unexpected(),
         }
     }
 
     /// Takes a packet that came for this channel, and answers the packet to send and what is reported to the user, by
     /// the table of the circuit. The channel that the packet names isn't looked at.
     ///
-    /// 70 alone, and only for a data packet for which `reserve` set no memory aside. What it set aside stays where no
-    /// packet is to be sent.
-    pub fn packet<'a>(&mut self, packet: &Packet<'a>) -> Result<Reply<'a>, CircuitError>
+    /// It takes no memory: a message is handed over with the memory that it came in, and what comes next comes in the
+    /// spare memory, which is left where none is handed over.
+    pub fn packet<'a>(&mut self, packet: &Packet<'a>, spare: &mut Option<Octets>) -> Reply<'a>
         requires kind { HasChannel (plain packet.now) }
         requires clears { clears_of self.old < 2 ^ 64 - 1 }
         requires resets { resets_of self.old < 2 ^ 64 - 1 }
-        ensures { RepliesOrLacks self.old self.new result (length (user_octets (plain packet.now)))
+        requires spare { spares spare.old ≡ 1 }
+        ensures { RepliesWith self.old self.new result (spares spare.new)
             (λ c x. answers c x (plain packet.now)) }
     {
         match packet {
@@ -189,25 +200,25 @@ impl Circuit {
                 facilities,
                 user,
                 ..
-            } => Ok(self.hear_call(called, calling, facilities.as_slice(), user)),
-            Packet::Accept { facilities, .. } => Ok(self.hear_accept(facilities.as_slice())),
+            } => self.hear_call(called, calling, facilities.as_slice(), user),
+            Packet::Accept { facilities, .. } => self.hear_accept(facilities.as_slice()),
             Packet::Clear {
                 cause,
                 diagnostic,
                 ..
-            } => Ok(self.hear_clear(*cause, *diagnostic)),
-            Packet::ClearConf { .. } => Ok(self.hear_clear_conf()),
+            } => self.hear_clear(*cause, *diagnostic),
+            Packet::ClearConf { .. } => self.hear_clear_conf(),
             Packet::Reset {
                 cause,
                 diagnostic,
                 ..
-            } => Ok(self.hear_reset(*cause, *diagnostic)),
-            Packet::ResetConf { .. } => Ok(self.hear_reset_conf()),
+            } => self.hear_reset(*cause, *diagnostic),
+            Packet::ResetConf { .. } => self.hear_reset_conf(),
             Packet::Data { .. }
             | Packet::Rr { .. }
             | Packet::Rnr { .. }
             | Packet::Interrupt { .. }
-            | Packet::InterruptConf { .. } => self.hear_transfer(packet),
+            | Packet::InterruptConf { .. } => self.hear_transfer(packet, spare),
             Packet::Restart { .. } | Packet::RestartConf => unreachable!(),
         }
     }

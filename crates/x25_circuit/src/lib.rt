@@ -21,6 +21,7 @@ mod proposal;
 mod pulling;
 mod queue;
 mod request;
+mod sent;
 mod setting_up;
 mod state;
 mod talking;

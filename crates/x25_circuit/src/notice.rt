@@ -60,11 +60,13 @@ pub struct Reply<'a> {
 
 impl<'a> Reply<'a> {
     ghost use Rattle.x25_circuit.specs.code.Replies.{Says, IsSendable, packet_owed, plain_notice, plain_owed};
+    ghost use Rattle.x25_circuit.specs.code.Replies.{handed_by, handed_over};
 
     /// Nothing is sent or reported.
     pub(crate) fn nothing() -> Reply<'a>
         ensures says { Says result None [] }
         ensures range { IsSendable (plain_owed result.packet) }
+        ensures handed { handed_over result.notice ≡ 0 }
     {
         Reply {
             packet: None,
@@ -77,6 +79,7 @@ impl<'a> Reply<'a> {
     pub(crate) fn tells(notice: Notice<'a>) -> Reply<'a>
         ensures says { Says result None (plain_notice notice.entry ∷ []) }
         ensures range { IsSendable (plain_owed result.packet) }
+        ensures handed { handed_over result.notice ≡ handed_by notice.entry }
     {
         Reply {
             packet: None,
@@ -89,6 +92,7 @@ impl<'a> Reply<'a> {
     pub(crate) fn owes(packet: Owed) -> Reply<'a>
         ensures says { Says result (Some (packet_owed 1 packet)) [] }
         ensures range { IsInRange 128 (packet_owed 1 packet) → IsSendable (plain_owed result.packet) }
+        ensures handed { handed_over result.notice ≡ 0 }
     {
         Reply {
             packet: Some(packet),
@@ -101,6 +105,7 @@ impl<'a> Reply<'a> {
     pub(crate) fn both(packet: Owed, notice: Notice<'a>) -> Reply<'a>
         ensures says { Says result (Some (packet_owed 1 packet)) (plain_notice notice.entry ∷ []) }
         ensures range { IsInRange 128 (packet_owed 1 packet) → IsSendable (plain_owed result.packet) }
+        ensures handed { handed_over result.notice ≡ handed_by notice.entry }
     {
         Reply {
             packet: Some(packet),

@@ -1,42 +1,43 @@
-ghost use Rattle.std.specs.Prelude.{◌≡◌, ◌≤◌, length, vec_len, vec_capacity};
+ghost use Rattle.std.specs.Prelude.{◌≡◌, ◌+◌, ◌≤◌, ◌++◌, [], length, IfOk};
 
+use std::alloc::{AllocError, Global};
 use std::marker::Model;
+use x25_bits::append_octets;
 
 /// The most octets of a message (profile).
 pub const LONGEST_MESSAGE: usize = 65_535;
 
-/// The octets of a message, in memory for at most 69,631, those of one packet more. Contracts see the list of them.
+/// The octets of a message, in memory for 65,535, those of the longest one. Contracts see the list of them.
 #[derive(Debug, Drop)]
 pub struct Octets {
     octets: Vec<u8>,
 }
 
 impl Model for Octets {
-    ghost use Rattle.std.specs.Prelude.{ℕ, ◌≤◌, List, vec_len, vec_capacity};
+    ghost use Rattle.std.specs.Prelude.{◌≡◌, ℕ, ◌≤◌, List, vec_len, vec_capacity};
 
     ghost Value = { List ℕ };
 
     ghost view = { λ o. o.octets.items };
 
-    ghost invariant = { λ o. (vec_len o.octets ≤ 65535) × (vec_capacity o.octets ≤ 69631) };
+    ghost invariant = { λ o. (vec_len o.octets ≤ 65535) × (vec_capacity o.octets ≡ 65535) };
 }
 
 impl Octets {
-    /// The octets of this list. It takes no memory.
-    pub fn of(octets: Vec<u8>) -> Octets
-        requires short { vec_len octets ≤ 65535 }
-        requires memory { vec_capacity octets ≤ 69631 }
-        ensures { result ≡ octets.items }
+    /// No octets. Err: no memory.
+    pub fn new(alloc: Global) -> Result<Octets, AllocError>
+        ensures { IfOk result (λ octets. octets ≡ []) }
     {
-        Octets { octets }
+        let octets = Vec::with_capacity(alloc, LONGEST_MESSAGE)?;
+        Ok(Octets { octets })
     }
 
-    /// The list of the octets. It takes no memory.
-    pub fn into_vec(self) -> Vec<u8>
-        ensures items { result.items ≡ self }
-        ensures memory { vec_capacity result ≤ 69631 }
+    /// How many octets there are.
+    pub(crate) fn len(&self) -> usize
+        ensures value { result ≡ length self.now }
+        ensures short { result ≤ 65535 }
     {
-        self.octets
+        self.octets.len()
     }
 
     /// Lends the octets.
@@ -45,5 +46,29 @@ impl Octets {
         ensures short { length result.now ≤ 65535 }
     {
         self.octets.as_slice()
+    }
+
+    /// These octets, in place of those that there are. It takes no memory.
+    pub fn set(&mut self, octets: &[u8])
+        requires { length octets.now ≤ 65535 }
+        ensures { self.new ≡ octets.now }
+    {
+        self.clear();
+        self.append(octets);
+    }
+
+    /// These octets, behind those that there are. It takes no memory.
+    pub(crate) fn append(&mut self, more: &[u8])
+        requires { length self.old + length more.now ≤ 65535 }
+        ensures { self.new ≡ self.old ++ more.now }
+    {
+        append_octets(&mut self.octets, more);
+    }
+
+    /// Drops the octets, and keeps their memory.
+    pub(crate) fn clear(&mut self)
+        ensures { self.new ≡ [] }
+    {
+        self.octets.clear();
     }
 }

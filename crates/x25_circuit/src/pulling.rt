@@ -7,7 +7,7 @@ ghost use Rattle.x25_circuit.specs.Circuit.{Circuit as Channel};
 ghost use Rattle.x25_circuit.specs.Calling.{pulled};
 ghost use Rattle.x25_circuit.specs.code.DataPacket.{plain_data, plain_pulled};
 ghost use Rattle.x25_circuit.specs.code.Replies.{IsSendable};
-ghost use Rattle.x25_circuit.specs.code.FitsCircuit.{FitsCircuit, room_of, clears_of, resets_of};
+ghost use Rattle.x25_circuit.specs.code.FitsCircuit.{FitsCircuit, clears_of, resets_of};
 ghost use Rattle.x25_circuit.specs.Pulling.{packet_with, EndsPulled};
 
 use crate::circuit::Circuit;
@@ -62,7 +62,6 @@ impl Circuit {
         ensures packet { (c : Settings) (x : Channel) → FitsCircuit c self.old x
             → packet_with result self.new.transfer.queue.cutter.lent ≡ (pulled c x).packet }
         ensures short { IfSome result (λ header. length self.new.transfer.queue.cutter.lent ≤ 4096) }
-        ensures room { room_of self.old ≤ room_of self.new }
         ensures clears { clears_of self.new ≡ clears_of self.old }
         ensures resets { resets_of self.new ≡ resets_of self.old }
     {

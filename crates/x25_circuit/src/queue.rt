@@ -1,8 +1,8 @@
-ghost use Rattle.std.specs.Prelude.{◌≡◌, ℕ, ◌+◌, ◌<◌, ◌≤◌, [], ◌∷◌, ◌++◌, length, IfOk, IfSome, IfNone, true, false};
-ghost use Rattle.std.specs.Prelude.{vec_capacity};
+ghost use Rattle.std.specs.Prelude.{◌≡◌, ℕ, ◌+◌, ◌<◌, ◌≤◌, [], ◌∷◌, ◌++◌, length, IfOk, OnErr, IfSome};
+ghost use Rattle.std.specs.Prelude.{IfNone, true, false, max, vec_capacity};
 
 use crate::cutter::{Cut, Cutter};
-use crate::message::Message;
+use crate::sent::Sent;
 use circular_buffer::HeapCircularBuffer;
 use std::alloc::{AllocError, Global};
 
@@ -13,7 +13,7 @@ pub const PLACES: usize = 8;
 #[derive(Drop)]
 pub struct Queue {
     pub cutter: Cutter,
-    pub ring: HeapCircularBuffer<Message>,
+    pub ring: HeapCircularBuffer<Sent>,
     ghost places: { ring.capacity ≡ 8 },
     ghost few: { length cutter.left + length ring.items ≤ 8 },
 }
@@ -45,7 +45,7 @@ impl Queue {
     }
 
     /// Lets a message wait behind the others, of which there are fewer than 8.
-    pub fn push(&mut self, message: Message)
+    pub fn push(&mut self, message: Sent)
         requires { length (waiting self.old) < 8 }
         ensures { waiting self.new ≡ waiting self.old ++ message ∷ [] }
     {
@@ -92,16 +92,16 @@ impl Queue {
         Some(self.cutter.cut(size))
     }
 
-    /// Memory of a message that was cut to its end, for one of so many octets and for 4,096 at most, where it is. The
-    /// packet cut last isn't lent any more then.
-    pub fn spent_memory(&mut self, count: usize) -> Option<Vec<u8>>
+    /// Memory for a message of so many octets: that of one that was cut to its end, of which the packet cut last isn't
+    /// lent any more then, or else new. Err: no memory.
+    pub fn memory(&mut self, count: usize) -> Result<Vec<u8>, AllocError>
         ensures same { waiting self.new ≡ waiting self.old }
-        ensures none { IfNone result (self.new ≡ self.old) }
-        ensures empty { IfSome result (λ memory. memory.items ≡ []) }
-        ensures room { IfSome result (λ memory. count ≤ vec_capacity memory) }
-        ensures few { IfSome result (λ memory. vec_capacity memory ≤ 4096) }
+        ensures unchanged { OnErr result (self.new ≡ self.old) }
+        ensures empty { IfOk result (λ memory. memory.items ≡ []) }
+        ensures room { IfOk result (λ memory. count ≤ vec_capacity memory) }
+        ensures most { IfOk result (λ memory. vec_capacity memory ≤ max count 4096) }
     {
-        self.cutter.spent_memory(count)
+        self.cutter.memory(count)
     }
 
     /// The user data of the packet cut last.

@@ -11,7 +11,7 @@ ghost use Rattle.x25_circuit.specs.Circuit.{Circuit as Channel};
 ghost use Rattle.x25_circuit.specs.Calling.{outcome, Refused, Accepts, clear_in, send_in, interrupt_in, reset_in};
 ghost use Rattle.x25_circuit.specs.Calling.{ready_in};
 ghost use Rattle.x25_circuit.specs.Cause.{may_clear_for, may_reset_for};
-ghost use Rattle.x25_circuit.specs.code.FitsCircuit.{FitsCircuit, Sends, room_of, clears_of, resets_of};
+ghost use Rattle.x25_circuit.specs.code.FitsCircuit.{FitsCircuit, Sends, clears_of, resets_of};
 ghost use Rattle.x25_circuit.specs.Queue.{waiting};
 ghost use Rattle.x25_circuit.specs.Request.{plain_answer, plain_request, refusal_of, with_packet, AnswersRequest};
 ghost use Rattle.x25_circuit.specs.Request.{MayPut, MayLack};
@@ -78,7 +78,8 @@ impl Circuit {
     /// digits, the user data is more than 16 octets (128 where it may be long), a packet size isn't 4 to 12 or a window
     /// isn't 1 to 7, of an acceptance 34 where a value isn't from the proposed one to the default, and of a clear or a
     /// reset 34 where the cause is none that the user of this end may give. Else 70 alone, and that for a message,
-    /// which is copied. The circuit is as before then. No request changes a count.
+    /// which is copied, and for a call and an acceptance, where the circuit had no call yet for which the memory of
+    /// messages that come was made. The circuit is as before then. No request changes a count.
     #[inline(always)]
     pub fn ask<'a>(&mut self, request: Request<'a>) -> Result<Option<Packet<'a>>, CircuitError>
         ensures outcome { (c : Settings) (x : Channel) → FitsCircuit c self.old x
@@ -86,7 +87,6 @@ impl Circuit {
         ensures range { IfOk result (λ packet. IsSendable (plain_sent packet)) }
         ensures control { IfOk result (λ packet. IsControl (plain_sent packet)) }
         ensures at_once { IfOk result (λ packet. MayPut (plain_request request.entry) packet) }
-        ensures room { room_of self.old ≤ room_of self.new }
         ensures clears { clears_of self.new ≡ clears_of self.old }
         ensures resets { resets_of self.new ≡ resets_of self.old }
         ensures unchanged { OnErr result (self.new ≡ self.old) }

@@ -1,8 +1,9 @@
 //! CALL and CALL ACCEPTED. ITU-T X.25 (10/96), sections 4.1.2 to 4.1.6.
-ghost use Rattle.std.specs.Prelude.{◌≡◌};
+ghost use Rattle.std.specs.Prelude.{◌≡◌, true};
 ghost use Rattle.x25_circuit.specs.Notice.{incoming};
 ghost use Rattle.x25_circuit.specs.Params.{said_in};
-ghost use Rattle.x25_circuit.specs.code.Replies.{RepliesBy, plain_notice};
+ghost use Rattle.x25_circuit.specs.code.FitsCircuit.{made_of};
+ghost use Rattle.x25_circuit.specs.code.Replies.{RepliesBy, handed_by, plain_notice};
 ghost use Rattle.x25_circuit.specs.Hearing.{collides, connects, request_in, row_call, row_accept};
 
 use crate::circuit::Circuit;
@@ -47,6 +48,7 @@ impl Circuit {
         user: &'a [u8],
         flow: FlowControl,
     ) -> Reply<'a>
+        requires { made_of self.old ≡ true }
         ensures { RepliesBy self.old self.new result
             (λ c x. collides c.role x (record {
               called = called.now;
@@ -85,6 +87,7 @@ impl Circuit {
 impl Circuit {
     // The other end accepted the call.
     fn connect<'a>(&mut self, facilities: &[u8]) -> Reply<'a>
+        requires { made_of self.old ≡ true }
         ensures { RepliesBy self.old self.new result (λ c x. connects c x (said_in x.params facilities.now)) }
     {
         let answer = self.flow.said(facilities).params;
@@ -99,8 +102,9 @@ impl Circuit {
 }
 
 fn incoming<'a>(called: &Digits, calling: &Digits, user: &'a [u8], params: Params) -> Notice<'a>
-    ensures { plain_notice result
+    ensures notice { plain_notice result
         ≡ incoming (record { called = called.now; calling = calling.now; user = user.now; params = params }) }
+    ensures handed { handed_by result ≡ 0 }
 {
     Notice::Incoming {
         called: called.copied(),

@@ -10,6 +10,7 @@ ghost use Rattle.x25_circuit.specs.Circuit.{Talk, silent};
 ghost use Rattle.x25_circuit.specs.Queue.{waiting};
 ghost use Rattle.x25_circuit.specs.code.Changes.{with_acked, with_taken, with_rest, with_interrupt, with_peer};
 ghost use Rattle.x25_circuit.specs.code.Changes.{with_own, with_sent};
+ghost use Rattle.x25_circuit.specs.code.PartialMessage.{spares};
 
 use crate::codes::INVALID_PS;
 use crate::error::CircuitError;
@@ -17,6 +18,7 @@ use crate::message::Message;
 use crate::octets::Octets;
 use crate::partial::PartialMessage;
 use crate::queue::Queue;
+use crate::sent::Sent;
 use crate::terms::Terms;
 use std::alloc::{AllocError, Global};
 use x25_bits::{Seq, with_octets};
@@ -86,6 +88,7 @@ impl Transfer {
     /// Nothing was sent or taken, nothing waits, and both ends are ready. 70 alone.
     pub fn new(alloc: Global) -> Result<Transfer, CircuitError>
         ensures fits { (size : ℕ) → IfOk result (λ t. FitsTalk size t silent) }
+        ensures made { IfOk result (λ t. t.partial.made ≡ false) }
         ensures err { IfErr result (λ e. e ≡ CircuitError.NoMemory) }
     {
         let Some(sender) = Sender::new(alloc, PACKETS)? else {
@@ -104,10 +107,20 @@ impl Transfer {
         })
     }
 
-    /// Drops everything. Memory that was set aside is kept.
+    /// Makes the memory of the message in part, where there is none. Err: no memory; all is as it was then.
+    pub fn make(&mut self) -> Result<(), AllocError>
+        ensures fits { (size : ℕ) (t : Talk) → FitsTalk size self.old t → FitsTalk size self.new t }
+        ensures made { OnOk result (self.new.partial.made ≡ true) }
+        ensures missing { OnErr result (self.old.partial.made ≡ false) }
+        ensures unchanged { OnErr result (self.new ≡ self.old) }
+    {
+        self.partial.make()
+    }
+
+    /// Drops everything, and keeps the memory of the message in part.
     pub fn clear(&mut self)
         ensures fits { (size other : ℕ) (t : Talk) → FitsTalk size self.old t → FitsTalk other self.new silent }
-        ensures room { self.old.partial.room ≤ self.new.partial.room }
+        ensures made { self.new.partial.made ≡ self.old.partial.made }
     {
         self.sender.clear();
         self.receiver.clear();
@@ -156,20 +169,31 @@ impl Transfer {
         self.partial.ground(size, count, q)
     }
 
-    /// Takes a data packet that isn't refused, and gives the message that ends with it, if one does.
+    /// Takes a data packet that isn't refused, and gives the message that ends with it, if one does: the next comes in
+    /// the spare memory then.
     #[inline(always)]
-    pub fn take(&mut self, ps: Seq, q: Marks, m: bool, user: &[u8]) -> Option<Message>
+    pub fn take(
+        &mut self,
+        ps: Seq,
+        q: Marks,
+        m: bool,
+        user: &[u8],
+        spare: &mut Option<Octets>,
+    ) -> Option<Message>
         requires wanted { ps.number ≡ self.old.receiver.number }
-        requires room { length user.now ≤ self.old.partial.room }
+        requires made { self.old.partial.made ≡ true }
+        requires spare { spares spare.old ≡ 1 }
         requires short { length self.old.partial.part.user + length user.now ≤ 65535 }
         ensures fits { (size : ℕ) (t : Talk) → FitsTalk size self.old t
             → FitsTalk size self.new (with_taken (piece_of q m user.now) t) }
         ensures message { (size : ℕ) (t : Talk) → FitsTalk size self.old t
             → option_to_list result ≡ completed (joining no_part t.taken) (piece_of q m user.now) }
         ensures queue { self.new.queue ≡ self.old.queue }
+        ensures made { self.new.partial.made ≡ true }
+        ensures spare { spares spare.new + length (option_to_list result) ≡ 1 }
     {
         self.receiver.accept(ps);
-        self.partial.join(q, m, user)
+        self.partial.join(q, m, user, spare)
     }
 
     /// Lets a copy of a message wait. Err: no memory; all is as it was then.
@@ -178,29 +202,13 @@ impl Transfer {
         requires short { length user.now ≤ 65535 }
         ensures fits { (size : ℕ) (t : Talk) → FitsTalk size self.old t
             → OnOk result (FitsTalk size self.new (with_rest (t.rest ++ cut size q user.now) t)) }
-        ensures room { self.old.partial.room ≤ self.new.partial.room }
+        ensures partial { self.new.partial ≡ self.old.partial }
         ensures unchanged { OnErr result (self.new ≡ self.old) }
     {
-        let memory = self.memory(user.len())?;
-        let user = Octets::of(with_octets(memory, user));
-        self.queue.push(Message { q, user });
+        let memory = self.queue.memory(user.len())?;
+        self.queue.push(Sent::of(q, with_octets(memory, user)));
         self.unconfirmed = self.unconfirmed.saturating_add(u8::from(q.d));
         Ok(())
-    }
-
-    // Memory for a message of so many octets: that of one that was cut to its end or read, or else new.
-    fn memory(&mut self, count: usize) -> Result<Vec<u8>, AllocError>
-        ensures others { self.new ≡ record self.old { queue = self.new.queue } }
-        ensures waiting { waiting self.new.queue ≡ waiting self.old.queue }
-        ensures unchanged { OnErr result (self.new ≡ self.old) }
-        ensures empty { IfOk result (λ memory. memory.items ≡ []) }
-        ensures room { IfOk result (λ memory. count ≤ vec_capacity memory) }
-        ensures most { IfOk result (λ memory. vec_capacity memory ≤ max count 4096) }
-    {
-        match self.queue.spent_memory(count) {
-            Some(memory) => Ok(memory),
-            None => self.partial.memory(count),
-        }
     }
 
     /// Sends the next data packet, where the other end is ready, the window is open and a message waits. Its user data
@@ -211,7 +219,7 @@ impl Transfer {
         ensures none { (t : Talk) → FitsTalk terms.size self.old t → IfNone result (FitsTalk terms.size self.new t) }
         ensures short { IfSome result (λ header. length self.new.queue.cutter.lent ≤ terms.size) }
         ensures held { (t : Talk) → FitsTalk terms.size self.old t → IfNone result (IsHeld terms.window t) }
-        ensures room { self.old.partial.room ≤ self.new.partial.room }
+        ensures partial { self.new.partial ≡ self.old.partial }
     {
         if !self.peer_ready || self.sender.unacked() >= terms.window {
             return None;

@@ -5,7 +5,7 @@ ghost use Rattle.x25_packet.specs.Packet.{plain};
 ghost use Rattle.x25_packet.specs.Spelling.{HasChannel};
 
 use std::alloc::Global;
-use x25_circuit::{Circuit, CircuitError, Reply, Request, Role};
+use x25_circuit::{Circuit, CircuitError, Octets, Reply, Request, Role};
 use x25_packet::{Packet, PacketError};
 
 // A value in a place of its own: a body that holds the box lets go of it by one call, and not of each part of the
@@ -36,13 +36,22 @@ fn is_of_channel(packet: &Packet) -> bool
     }
 }
 
+/// Spare memory for a message.
+pub fn spare(alloc: Global) -> Result<Option<Octets>, CircuitError> {
+    Ok(Some(Octets::new(alloc)?))
+}
+
 /// A packet of a channel comes.
-pub fn hear<'a>(circuit: &mut Circuit, packet: &Packet<'a>) -> Result<Reply<'a>, CircuitError> {
+pub fn hear<'a>(
+    circuit: &mut Circuit,
+    packet: &Packet<'a>,
+    spare: &mut Option<Octets>,
+) -> Result<Reply<'a>, CircuitError> {
     let (clears, resets) = circuit.counts();
-    if clears == u64::MAX || resets == u64::MAX || !is_of_channel(packet) {
+    if clears == u64::MAX || resets == u64::MAX || !is_of_channel(packet) || spare.is_none() {
         return Err(CircuitError::WrongState);
     }
-    Ok(circuit.packet(packet)?)
+    Ok(circuit.packet(packet, spare))
 }
 
 /// Octets come that are too few for a packet.

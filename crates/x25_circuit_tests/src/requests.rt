@@ -1,6 +1,6 @@
 //! The calls of the user in one, and why they would be refused.
 
-use crate::calls::{ask, circuit, hear};
+use crate::calls::{ask, circuit, hear, spare};
 use std::alloc::Global;
 use x25_circuit::{Circuit, CircuitError, Params, Proposal, Request, Role};
 use x25_packet::{FacilityField, Marks, Packet};
@@ -112,12 +112,12 @@ pub fn acceptance() -> Packet<'static> {
 }
 
 // Brings a circuit in p1 to the place of a number in a row.
-fn goes_to(circuit: &mut Circuit, place: usize) -> Result<(), CircuitError> {
+fn goes_to(circuit: &mut Circuit, alloc: Global, place: usize) -> Result<(), CircuitError> {
     if place > 0 {
         ask(circuit, Proposals::new().request(0))?;
     }
     if place > 1 {
-        hear(circuit, &acceptance())?;
+        hear(circuit, &acceptance(), &mut spare(alloc)?)?;
     }
     Ok(())
 }
@@ -141,7 +141,7 @@ fn refusals(circuit: &mut Circuit, index: usize) -> (u8, u8) {
 
 fn refusals_at(alloc: Global, place: usize, index: usize) -> Result<(u8, u8), CircuitError> {
     let mut circuit = circuit(alloc, Role::Dte)?;
-    goes_to(&mut circuit, place)?;
+    goes_to(&mut circuit, alloc, place)?;
     Ok(refusals(&mut circuit, index))
 }
 
@@ -172,7 +172,7 @@ static CAUSES: [(u8, [bool; 4]); 10] = [
 // The packet of a request of an open circuit, where it isn't refused: its cause and its diagnostic.
 fn sent(alloc: Global, role: Role, request: Request<'_>) -> Option<(u8, u8)> {
     let mut circuit = circuit(alloc, role).ok()?;
-    goes_to(&mut circuit, 2).ok()?;
+    goes_to(&mut circuit, alloc, 2).ok()?;
     match circuit.ask(request) {
         Ok(
             Some(

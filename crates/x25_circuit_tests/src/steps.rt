@@ -1,9 +1,9 @@
 //! What a circuit answers, and what it says of itself then; `tests/golden` has the packets of whole calls.
 
-use crate::calls::{ask, circuit, hear, hear_too_few};
+use crate::calls::{ask, circuit, hear, hear_too_few, spare};
 use crate::requests::{Proposals, acceptance};
 use std::alloc::Global;
-use x25_circuit::{Circuit, CircuitError, Notice, Owed, Params, Reply, Role};
+use x25_circuit::{Circuit, CircuitError, Message, Notice, Octets, Owed, Params, Reply, Role};
 use x25_packet::{Marks, Packet, Seq};
 
 /// What happens to a circuit.
@@ -31,8 +31,8 @@ enum Act {
 type Answer = (u8, Option<(Marks, usize)>, Option<(u8, usize)>);
 
 /// What a circuit says: how often it was cleared and reset, whether it is free and is open, how many messages wait, how
-/// many more it takes, how many aren't confirmed, and how many octets came of one in part.
-type Says = (u64, u64, bool, bool, usize, usize, usize, usize);
+/// many more it takes, and how many aren't confirmed.
+type Says = (u64, u64, bool, bool, usize, usize, usize);
 
 type Row = (Act, Answer, Says);
 
@@ -42,20 +42,18 @@ const QUALIFIED: Marks = Marks { q: true, d: false };
 
 const ASKING: Marks = Marks { q: true, d: true };
 
-const FREE: Says = (0, 0, true, false, 0, 0, 0, 0);
+const FREE: Says = (0, 0, true, false, 0, 0, 0);
 
-const OPEN: Says = (0, 0, false, true, 0, 8, 0, 0);
+const OPEN: Says = (0, 0, false, true, 0, 8, 0);
 
-const HAS_128_OCTETS: Says = (0, 0, false, true, 0, 8, 0, 128);
+const ONE_WAITS: Says = (0, 0, false, true, 1, 7, 0);
 
-const ONE_WAITS: Says = (0, 0, false, true, 1, 7, 0, 0);
+const TWO_WAIT: Says = (0, 0, false, true, 2, 6, 0);
 
-const TWO_WAIT: Says = (0, 0, false, true, 2, 6, 0, 0);
-
-const CLEARED: Says = (1, 0, true, false, 0, 0, 0, 0);
+const CLEARED: Says = (1, 0, true, false, 0, 0, 0);
 
 /// In no state of these.
-const BETWEEN: Says = (0, 0, false, false, 0, 0, 0, 0);
+const BETWEEN: Says = (0, 0, false, false, 0, 0, 0);
 
 const CALL: Answer = (0, None, Some((0x0B, 0)));
 
@@ -85,7 +83,7 @@ static IN_A_CALL: [Row; 15] = [
     (
         Act::Data(0, 0, true, QUALIFIED, 128),
         (0, None, Some((0x21, 0))),
-        HAS_128_OCTETS,
+        OPEN,
     ),
     (
         Act::Data(1, 0, false, ASKING, 2),
@@ -116,7 +114,7 @@ static REPEATED: [Row; 4] = [
     (
         Act::Data(0, 0, true, QUALIFIED, 128),
         (0, None, Some((0x21, 0))),
-        HAS_128_OCTETS,
+        OPEN,
     ),
     (Act::Data(0, 0, true, QUALIFIED, 128), RESET_FOR_PS, BETWEEN),
 ];
@@ -127,8 +125,8 @@ static BETWEEN_CALLS: [Row; 8] = [
     (Act::Zero, NOTHING, FREE),
     (Act::Ask(CLEARS), (30, None, None), FREE),
     (Act::Clear, (0, None, Some((0x17, 0))), CLEARED),
-    (Act::Ask(CALLS), CALL, (1, 0, false, false, 0, 0, 0, 0)),
-    (Act::CallAccepted, NOTHING, (1, 0, false, true, 0, 8, 0, 0)),
+    (Act::Ask(CALLS), CALL, (1, 0, false, false, 0, 0, 0)),
+    (Act::CallAccepted, NOTHING, (1, 0, false, true, 0, 8, 0)),
     (Act::Forget, NOTHING, CLEARED),
 ];
 
@@ -136,55 +134,62 @@ static BETWEEN_CALLS: [Row; 8] = [
 static CONFIRMED: [Row; 17] = [
     (Act::Ask(CALLS), CALL, BETWEEN),
     (Act::CallAccepted, NOTHING, OPEN),
-    (Act::Ask(ASKS), NOTHING, (0, 0, false, true, 1, 7, 1, 0)),
-    (Act::Ask(SENDS), NOTHING, (0, 0, false, true, 2, 6, 1, 0)),
-    (Act::Ask(ASKS), NOTHING, (0, 0, false, true, 3, 5, 2, 0)),
+    (Act::Ask(ASKS), NOTHING, (0, 0, false, true, 1, 7, 1)),
+    (Act::Ask(SENDS), NOTHING, (0, 0, false, true, 2, 6, 1)),
+    (Act::Ask(ASKS), NOTHING, (0, 0, false, true, 3, 5, 2)),
     (
         Act::Pull,
         (0, None, Some((0x00, 0))),
-        (0, 0, false, true, 2, 6, 2, 0),
+        (0, 0, false, true, 2, 6, 2),
     ),
     (
         Act::Pull,
         (0, None, Some((0x02, 0))),
-        (0, 0, false, true, 1, 7, 2, 0),
+        (0, 0, false, true, 1, 7, 2),
     ),
-    (Act::Rr(1), NOTHING, (0, 0, false, true, 1, 7, 1, 0)),
+    (Act::Rr(1), NOTHING, (0, 0, false, true, 1, 7, 1)),
     (
         Act::Pull,
         (0, None, Some((0x04, 0))),
-        (0, 0, false, true, 0, 8, 1, 0),
+        (0, 0, false, true, 0, 8, 1),
     ),
-    (Act::Rr(2), NOTHING, (0, 0, false, true, 0, 8, 1, 0)),
+    (Act::Rr(2), NOTHING, (0, 0, false, true, 0, 8, 1)),
     (Act::Rr(3), NOTHING, OPEN),
-    (Act::Ask(ASKS), NOTHING, (0, 0, false, true, 1, 7, 1, 0)),
+    (Act::Ask(ASKS), NOTHING, (0, 0, false, true, 1, 7, 1)),
     (Act::Ask(RESETS), (0, None, Some((0x1B, 0))), BETWEEN),
-    (
-        Act::ResetConfirmed,
-        NOTHING,
-        (0, 1, false, true, 0, 8, 0, 0),
-    ),
-    (Act::Ask(ASKS), NOTHING, (0, 1, false, true, 1, 7, 1, 0)),
+    (Act::ResetConfirmed, NOTHING, (0, 1, false, true, 0, 8, 0)),
+    (Act::Ask(ASKS), NOTHING, (0, 1, false, true, 1, 7, 1)),
     (
         Act::Pull,
         (0, None, Some((0x00, 0))),
-        (0, 1, false, true, 0, 8, 1, 0),
+        (0, 1, false, true, 0, 8, 1),
     ),
     (Act::Clear, (0, None, Some((0x17, 0))), CLEARED),
 ];
 
-static JOINED: [Row; 4] = [
+// A full packet, an empty one and the last of one message, and the first of another.
+static JOINED: [Row; 6] = [
     (Act::Ask(CALLS), CALL, BETWEEN),
     (Act::CallAccepted, NOTHING, OPEN),
     (
         Act::Data(0, 0, true, PLAIN, 128),
         (0, None, Some((0x21, 0))),
-        HAS_128_OCTETS,
+        OPEN,
     ),
     (
         Act::Data(1, 0, true, PLAIN, 0),
         (0, None, Some((0x41, 0))),
-        HAS_128_OCTETS,
+        OPEN,
+    ),
+    (
+        Act::Data(2, 0, false, PLAIN, 1),
+        (0, Some((PLAIN, 129)), Some((0x61, 0))),
+        OPEN,
+    ),
+    (
+        Act::Data(3, 0, false, PLAIN, 3),
+        (0, Some((PLAIN, 3)), Some((0x81, 0))),
+        OPEN,
     ),
 ];
 
@@ -243,13 +248,31 @@ fn replied(reply: &Reply) -> Answer {
     (number, message, shape_of(&reply.packet))
 }
 
-fn heard(circuit: &mut Circuit, packet: &Packet) -> Result<Answer, CircuitError> {
-    let reply = hear(circuit, packet)?;
-    Ok(replied(&reply))
+// The memory of a message that was handed over.
+fn memory_of(notice: Option<Notice>) -> Option<Octets> {
+    match notice {
+        Some(Notice::Delivered(Message { user, .. })) => Some(user),
+        _ => None,
+    }
+}
+
+// The memory of a message that is handed over is spare then.
+fn heard(
+    circuit: &mut Circuit,
+    spare: &mut Option<Octets>,
+    packet: &Packet,
+) -> Result<Answer, CircuitError> {
+    let reply = hear(circuit, packet, spare)?;
+    let answer = replied(&reply);
+    if spare.is_none() {
+        *spare = memory_of(reply.notice);
+    }
+    Ok(answer)
 }
 
 fn heard_data(
     circuit: &mut Circuit,
+    spare: &mut Option<Octets>,
     alloc: Global,
     (ps, pr): (u8, u8),
     (m, marks): (bool, Marks),
@@ -258,6 +281,7 @@ fn heard_data(
     let user = vec![in alloc; 0u8; count]?;
     heard(
         circuit,
+        spare,
         &Packet::Data {
             channel: 1,
             marks,
@@ -282,15 +306,21 @@ const CLEAR: Packet<'static> = Packet::Clear {
     diagnostic: 0,
 };
 
-fn happens(circuit: &mut Circuit, alloc: Global, act: Act) -> Result<Answer, CircuitError> {
+fn happens(
+    circuit: &mut Circuit,
+    spare: &mut Option<Octets>,
+    alloc: Global,
+    act: Act,
+) -> Result<Answer, CircuitError> {
     match act {
         Act::Ask(index) => Ok(asked(circuit, index)),
-        Act::CallAccepted => heard(circuit, &acceptance()),
-        Act::Clear => heard(circuit, &CLEAR),
-        Act::ResetConfirmed => heard(circuit, &Packet::ResetConf { channel: 1 }),
+        Act::CallAccepted => heard(circuit, spare, &acceptance()),
+        Act::Clear => heard(circuit, spare, &CLEAR),
+        Act::ResetConfirmed => heard(circuit, spare, &Packet::ResetConf { channel: 1 }),
         Act::TooFewOctets => Ok(replied(&hear_too_few(circuit))),
         Act::Data(ps, pr, m, marks, count) => heard_data(
             circuit,
+            spare,
             alloc,
             (ps, pr),
             (m, marks),
@@ -298,6 +328,7 @@ fn happens(circuit: &mut Circuit, alloc: Global, act: Act) -> Result<Answer, Cir
         ),
         Act::Rr(pr) => heard(
             circuit,
+            spare,
             &Packet::Rr {
                 channel: 1,
                 pr: Seq::modulo(pr),
@@ -305,6 +336,7 @@ fn happens(circuit: &mut Circuit, alloc: Global, act: Act) -> Result<Answer, Cir
         ),
         Act::Rnr(pr) => heard(
             circuit,
+            spare,
             &Packet::Rnr {
                 channel: 1,
                 pr: Seq::modulo(pr),
@@ -332,14 +364,19 @@ fn says(circuit: &Circuit) -> Says {
         circuit.waits(),
         circuit.room(),
         circuit.unconfirmed(),
-        circuit.octets_joined(),
     )
 }
 
-// The first row in which something else comes of what happens.
-fn odd_row(circuit: &mut Circuit, alloc: Global, rows: &[Row]) -> Option<usize> {
+// The first row in which something else comes of what happens, or no memory is spare behind it.
+fn odd_row(
+    circuit: &mut Circuit,
+    spare: &mut Option<Octets>,
+    alloc: Global,
+    rows: &[Row],
+) -> Option<usize> {
     for (place, &(act, answer, wanted)) in rows.iter().enumerate() {
-        if happens(circuit, alloc, act) != Ok(answer) || says(circuit) != wanted {
+        let found = happens(circuit, spare, alloc, act);
+        if found != Ok(answer) || says(circuit) != wanted || spare.is_none() {
             return Some(place);
         }
     }
@@ -348,7 +385,7 @@ fn odd_row(circuit: &mut Circuit, alloc: Global, rows: &[Row]) -> Option<usize> 
 
 fn odd_row_of(alloc: Global, rows: &[Row]) -> Result<Option<usize>, CircuitError> {
     let mut circuit = circuit(alloc, Role::Dte)?;
-    Ok(odd_row(&mut circuit, alloc, rows))
+    Ok(odd_row(&mut circuit, &mut spare(alloc)?, alloc, rows))
 }
 
 #[test]
@@ -359,26 +396,34 @@ fn packets_of_data_transfer_are_answered(rt: HostRuntime) {
 }
 
 #[test]
+fn a_message_comes_in_parts(rt: HostRuntime) {
+    assert_eq!(rt; odd_row_of(rt.alloc(), JOINED.as_slice()), Ok(None));
+}
+
+#[test]
 fn a_circuit_counts_clears(rt: HostRuntime) {
     assert_eq!(rt; odd_row_of(rt.alloc(), BETWEEN_CALLS.as_slice()), Ok(None));
 }
 
-/// The parameters, the first row that differs, and how many octets are joined and kept behind all rows.
-type Joined = (Params, Option<usize>, usize, usize);
-
-// Behind a full packet and an empty one of the same message.
-fn joins(circuit: &mut Circuit, alloc: Global) -> Joined {
-    let params = circuit.params();
-    let odd = odd_row(circuit, alloc, JOINED.as_slice());
-    (params, odd, circuit.octets_joined(), circuit.octets_kept())
-}
-
-fn joined(alloc: Global) -> Result<Joined, CircuitError> {
-    let mut circuit = circuit(alloc, Role::Dte)?;
-    Ok(joins(&mut circuit, alloc))
+fn params(alloc: Global) -> Result<Params, CircuitError> {
+    Ok(circuit(alloc, Role::Dte)?.params())
 }
 
 #[test]
-fn memory_of_a_message_in_part_is_kept(rt: HostRuntime) {
-    assert_eq!(rt; joined(rt.alloc()), Ok((Params::default(), None, 128, 128)));
+fn a_free_circuit_has_the_defaults(rt: HostRuntime) {
+    assert_eq!(rt; params(rt.alloc()), Ok(Params::default()));
+}
+
+/// The octets of a message, those set in their place, and how many there are behind them.
+fn set(alloc: Global) -> Result<(bool, bool), CircuitError> {
+    let mut octets = Octets::new(alloc)?;
+    let is_empty = octets.as_slice().is_empty();
+    octets.set(b"first");
+    octets.set(b"last");
+    Ok((is_empty, octets.as_slice() == b"last".as_slice()))
+}
+
+#[test]
+fn octets_are_set_in_place_of_others(rt: HostRuntime) {
+    assert_eq!(rt; set(rt.alloc()), Ok((true, true)));
 }

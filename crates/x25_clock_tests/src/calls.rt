@@ -46,8 +46,8 @@ pub fn fire(station: &mut Station, out: &mut Step) -> Result<(), StationError> {
     station.t1(out)
 }
 
-pub fn receive(station: &mut Station, octets: &[u8], out: &mut Step) -> Result<(), StationError> {
-    station.receive(octets, out)
+pub fn receive(station: &mut Station, octets: &[u8], out: &mut Step) {
+    station.receive(octets, out);
 }
 
 pub fn heed(clock: &mut Clock, now: u64, station: &Station, step: &Step, has_come: bool) {

@@ -54,7 +54,10 @@ impl From<AllocError> for Trouble {
 
 fn happen(station: &mut Station, event: Event<'_>, step: &mut Step) -> Result<(), StationError> {
     match event {
-        Event::Frame(octets) => station.receive(octets, step),
+        Event::Frame(octets) => {
+            station.receive(octets, step);
+            Ok(())
+        }
         Event::Fired => station.t1(step),
         Event::Asked(command) => station.command(command, step),
     }

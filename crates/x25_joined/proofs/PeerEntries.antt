@@ -11,7 +11,7 @@ use Rattle.x25_given.specs.Given.{PlainGiven}
 use Rattle.x25_layer.specs.Layer.{LayerSettings, Layer, LayerNotice, LayerAnswer, on_channel, restarted, restart_done, layer_fault}
 use Rattle.x25_layer.specs.Calls as asked
 use Rattle.x25_layer.specs.Calls.{LayerRequest, LayerOutcome, Accepted, Declined, layer_outcome}
-use Rattle.x25_layer.specs.Room.{named_by}
+use Rattle.x25_station.specs.Confirming.{named_by}
 use Rattle.x25_layer.specs.Rounds.{LinkView, Answered, Went, Refuses, calls}
 use Rattle.x25_layer.specs.laws.Transcript.{Entry}
 use Rattle.x25_layer.specs.laws.TwoLayers.{entries_asked}

@@ -9,9 +9,9 @@ use Rattle.x25_circuit.specs.declared.circuit.Circuit as circuit_code
 use Rattle.x25_circuit.specs.declared.error.CircuitError.{CircuitError}
 use Rattle.x25_circuit.specs.declared.error.CircuitError.TheVariants as circuit_error
 use Rattle.x25_circuit.specs.Circuit.{Circuit}
-use Rattle.x25_circuit.specs.Calling.{Outcome, Done, Refused, Request, Calls, outcome}
+use Rattle.x25_circuit.specs.Calling.{Outcome, Done, Refused, Request, Calls, Accepts, Clears, Sends, Interrupts, Resets, SaysReady, SaysNotReady, outcome}
 use Rattle.x25_circuit.specs.code.Replies.{plain_sent}
-use Rattle.x25_circuit.specs.Request.{refusal_of, AnswersRequest}
+use Rattle.x25_circuit.specs.Request.{refusal_of, asks_memory, may_ask_memory, AnswersRequest}
 use Rattle.x25_circuit.specs.code.FitsCircuit.{FitsCircuit}
 use Rattle.x25_layer.specs.Ranges.{is_number}
 use Rattle.x25_layer.specs.declared.layer.Layer as code
@@ -51,6 +51,18 @@ pub record IsLike (v v₂ : code.Layer) : Type 0 where
   pub ranges : v₂.ranges ≡ v.ranges
   pub restarting : v₂.restarting ≡ v.restarting
   pub restarts : v₂.restarts ≡ v.restarts
+
+-- a layer whose circuits are as they were too
+pub layer_same : (c : LayerSettings) (v v₂ : code.Layer) (l : Layer) → IsLike v v₂ → v₂.circuits.items ≡ v.circuits.items → FitsLayer c v l → FitsLayer c v₂ l
+layer_same c v v₂ l like items fits = record {
+  role = like.role ∙ fits.role;
+  long_data = like.long_data ∙ fits.long_data;
+  ranges = like.ranges ∙ fits.ranges;
+  channels = ap (λ (vs : List circuit_code.Circuit). length vs) items ∙ fits.channels;
+  restarting = like.restarting ∙ fits.restarting;
+  restarts = like.restarts ∙ fits.restarts;
+  circuits = subst (λ (vs : List circuit_code.Circuit). FitsCircuits c vs l.circuits) (sym items) fits.circuits;
+}
 
 pub layer_put : (c : LayerSettings) (v v₂ : code.Layer) (l : Layer) (h : ℕ) (i : ℕ) (y : circuit_code.Circuit) (next : Circuit) → FitsLayer c v l → suc i ≡ h → IsLike v v₂ → v₂.circuits.items ≡ set v.circuits.items i y
     → FitsCircuit c.circuit y next → FitsLayer c v₂ (with_circuit l h next)
@@ -221,9 +233,20 @@ pub may_lack : (b : Bool) (count n : ℕ) → n < count → MayLack b count n
 may_lack true count n lacks = tt
 may_lack false count n lacks = lacks
 
-pub may_copy : (b : Bool) (count n : ℕ) → b ≡ true → MayLack b count n
-may_copy true count n copies = tt
-may_copy false count n copies = absurd (cc)
+pub may_ask : (b : Bool) (count n : ℕ) → b ≡ true → MayLack b count n
+may_ask true count n asks = tt
+may_ask false count n asks = absurd (cc)
+
+-- what one circuit asks memory for
+pub asks_some : (v : circuit_code.Circuit) (request : Request) → asks_memory v request ≡ true → may_ask_memory request ≡ true
+asks_some v (Sends q user) asks = refl
+asks_some v (Calls called calling user proposal) asks = refl
+asks_some v (Accepts answer) asks = refl
+asks_some v (Clears cause diagnostic) asks = absurd (cc)
+asks_some v (Interrupts user) asks = absurd (cc)
+asks_some v (Resets cause diagnostic) asks = absurd (cc)
+asks_some v SaysReady asks = absurd (cc)
+asks_some v SaysNotReady asks = absurd (cc)
 
 -- ---- a refusal that is known before anything is done
 
@@ -236,5 +259,4 @@ refuses_all T g v below e count copied said named is = record {
   link_stays = λ x fits. fits;
   longest = refl;
   missing = λ none. absurd (named (err_is e error.NoMemory none));
-  room = λ h len has. has;
 }

@@ -1,18 +1,15 @@
 -- A layer's circuits, one by one.
 use Rattle.std.proofs.Common.{◌≡◌, ◌⊎◌, inl, inr, ℕ, zero, suc, ◌+◌, ◌-◌, ◌^◌, ◌<◌, ◌≤◌, List, [], ◌∷◌, ◌++◌, length, Option, Some, None, Bool, true, false, slice_get, set, take, if◌then◌else◌, refl, sym, ap, subst, ◌∙◌, arith, IfSome, IfNone, MatchOption, Bor, Result, Ok, Err, OnErr, drop, get_or, not, ◌&&◌, ◌||◌, ◌==◌, eq-eqb}
-use Rattle.std.specs.Result.{is_err}
 use Rattle.std.proofs.lemmas.Option.{none-some, same_Some, slice_get_within, slice_get-get_or}
 use Rattle.std.proofs.lemmas.List.{append-nil, take_all}
 use Rattle.std.proofs.lemmas.Bool.{eqb-true}
 use Rattle.x25_circuit.specs.declared.circuit.Circuit as circuit_code
-use Rattle.x25_circuit.specs.declared.owed.Owed.{Owed}
-use Rattle.x25_circuit.specs.code.Replies.{plain_owed}
 use Rattle.x25_circuit.specs.Circuit.{Circuit, is_open, waits}
 use Rattle.x25_circuit.specs.code.FitsCircuit.{FitsCircuit, clears_of, resets_of}
 use Rattle.x25_layer.specs.Ranges.{is_number}
 use Rattle.x25_layer.specs.code.Counts.{HasCountsLeft, HaveCountsLeft}
 use Rattle.x25_layer.specs.declared.layer.Layer as code
-use Rattle.x25_layer.specs.Layer.{LayerSettings, Layer, is_channel, packet_on}
+use Rattle.x25_layer.specs.Layer.{LayerSettings, Layer, is_channel}
 use Rattle.x25_handshakes.specs.laws.Names.{Name}
 use Rattle.x25_layer.specs.laws.Transcript.{name_of}
 use Rattle.x25_layer.specs.code.FitsLayer.{FitsCircuits, FitsLayer, name_at, params_at, is_open_at, awaited_at, awaited_up_to, waits_up_to, is_most, full_up_to}
@@ -45,14 +42,6 @@ get_changed (x ∷ xs) y v (suc i) (suc k) is = next (get_changed xs y v i k is)
     next : ((k ≡ i) × (y ≡ v)) ⊎ ((k ≡ i → ⊥) × (slice_get xs k ≡ Some v)) → ((suc k ≡ suc i) × (y ≡ v)) ⊎ ((suc k ≡ suc i → ⊥) × (slice_get xs k ≡ Some v))
     next (inl p) = inl (ap suc p.0, p.1)
     next (inr p) = inr ((λ e. p.0 (let f : k ≡ i = omega (arith, e) in f)), p.1)
-
--- the others are as they were
-pub get_other : {X : Type 0} (xs : List X) (y : X) (i k : ℕ) → (k ≡ i → ⊥) → slice_get (set xs i y) k ≡ slice_get xs k
-get_other [] y i k differs = refl
-get_other (x ∷ xs) y zero zero differs = absurd (differs refl)
-get_other (x ∷ xs) y zero (suc k) differs = refl
-get_other (x ∷ xs) y (suc i) zero differs = refl
-get_other (x ∷ xs) y (suc i) (suc k) differs = get_other xs y i k (λ e. differs (ap suc e))
 
 -- each place within has an element
 pub there : {X : Type 0} (xs : List X) (i : ℕ) → i < length xs → (x : X) × (slice_get xs i ≡ Some x)
@@ -167,11 +156,6 @@ pub on_err : {T E : Type 0} (r : Result T E) {P : Type 0} → P → OnErr r P
 on_err (Ok x) p = tt
 on_err (Err e) p = p
 
--- what holds at a refusal
-pub refused_with : {T E P : Type 0} (r : Result T E) → is_err r ≡ true → OnErr r P → P
-refused_with (Ok x) is err = absurd (cc)
-refused_with (Err e) is err = err
-
 -- what holds of the others holds of each with one changed
 pub rest_changed : {X : Type 0} (P : ℕ → X → Type 0) (xs : List X) (i : ℕ) (y : X) → ((k : ℕ) (v : X) → (k ≡ i → ⊥) → slice_get xs k ≡ Some v → P k v) → P i y → (k : ℕ) (v : X) → slice_get (set xs i y) k ≡ Some v → P k v
 rest_changed P xs i y rest here k v is = by (get_changed xs y v i k is)
@@ -210,14 +194,6 @@ below_next {X} P xs i y at below here k v low is = by (k == i) refl
         subst P (same_Some y v (sym at ∙ ap (λ (n : ℕ). slice_get xs n) (sym same) ∙ is)) here
     by false e = below k v (let differs : k ≡ i → ⊥ = λ same. absurd (not_false (sym (eq-eqb k i same) ∙ e)) in let less : k < i = grind (arith, low, differs) in less) is
 
--- one more below, where that one is changed
-pub below_changed : {X : Type 0} (P : X → Type 0) (xs : List X) (i : ℕ) (y : X) → ((k : ℕ) (v : X) → k < i → slice_get xs k ≡ Some v → P v) → P y → (k : ℕ) (v : X) → k < i + 1 → slice_get (set xs i y) k ≡ Some v → P v
-below_changed P xs i y below here k v low is = by (get_changed xs y v i k is)
-  where
-    by : ((k ≡ i) × (y ≡ v)) ⊎ ((k ≡ i → ⊥) × (slice_get xs k ≡ Some v)) → P v
-    by (inl p) = subst P p.1 here
-    by (inr p) = below k v (let differs : k ≡ i → ⊥ = p.0 in let less : k < i = grind (arith, low, differs) in less) p.1
-
 -- what follows where there is none
 pub if_none : {X : Type 0} {P Q : Type 0} (o : Option X) → (P → Q) → IfNone o P → IfNone o Q
 if_none None by p = by p
@@ -226,10 +202,6 @@ if_none (Some x) by p = tt
 -- what stands where there is no packet, and for each a number falls
 pub fits_as : {c : LayerSettings} {v w : code.Layer} {l : Layer} → w ≡ v → FitsLayer c v l → FitsLayer c w l
 fits_as {c} {v} {w} {l} same fits = subst (λ (u : code.Layer). FitsLayer c u l) (sym same) fits
-
-pub where_none : (P : Type 0) (h : ℕ) (o : Option Owed) → packet_on h (plain_owed o) ≡ None → IfNone o P → P
-where_none P h None none p = p
-where_none P h (Some owed) none p = absurd (none-some _ (sym none))
 
 -- the same counts
 pub counts_left : (v w : circuit_code.Circuit) → clears_of w ≡ clears_of v → resets_of w ≡ resets_of v → HasCountsLeft v → HasCountsLeft w

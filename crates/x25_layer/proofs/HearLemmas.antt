@@ -1,5 +1,5 @@
 -- What octets are read as, and the channel that they name.
-use Rattle.std.proofs.Common.{◌≡◌, ℕ, suc, ◌-◌, ◌<◌, ◌≤◌, ◌∙◌, All, List, [], ◌∷◌, length, Option, Some, None, Bool, true, false, Result, Ok, Err, if◌then◌else◌, IfOk, slice_get, get_or, option_to_list, refl, sym, ap, subst, arith}
+use Rattle.std.proofs.Common.{◌≡◌, ℕ, suc, ◌-◌, ◌<◌, ◌∙◌, All, List, [], ◌∷◌, length, Option, Some, None, Bool, true, false, Result, Ok, Err, if◌then◌else◌, IfOk, slice_get, get_or, option_to_list, refl, sym, ap, subst, arith}
 use Rattle.std.proofs.lemmas.Option.{same_Some}
 use Rattle.x25_packet.specs.declared.packet.Packet.{Packet}
 use Rattle.x25_packet.specs.declared.error.PacketError.{PacketError}
@@ -8,13 +8,12 @@ use Rattle.x25_packet.specs.Reading.{packet_of, channel_in}
 use Rattle.x25_packet.specs.Spelling.{HasChannel, channel_of}
 use Rattle.x25_wide.specs.Reading.{Gives, wide_of}
 use Rattle.x25_wide.specs.Taking.{read_in}
-use Rattle.x25_wide.specs.laws.TakingLaw.{TakesOnItsChannel, TakesItsUserData, TakesWithoutMemory}
-use Rattle.x25_circuit.specs.code.FitsCircuit.{user_octets}
+use Rattle.x25_wide.specs.laws.TakingLaw.{TakesOnItsChannel, TakesWithoutMemory}
 use Rattle.x25_layer.specs.Ranges.{is_number}
 use Rattle.x25_layer.specs.Layer.{LayerSettings, Layer, LayerAnswer, answers_in, undecoded_in, is_channel, put_at, drops}
 use Rattle.x25_layer.specs.Rounds.{answer_to, undecoded_at}
 use Rattle.x25_layer.specs.Asking.{with_circuit}
-use Rattle.x25_layer.specs.Receiving.{plain_read, IsOfChannel, brings, circuit_hears, channel_hears, hears_on}
+use Rattle.x25_layer.specs.Receiving.{plain_read, IsOfChannel, circuit_hears, channel_hears, hears_on}
 use Rattle.x25_link.specs.declared.ordered_link.OrderedLink.{Ghosts}
 use Rattle.x25_layer.specs.declared.layer.Layer as code
 use Rattle.x25_layer.specs.declared.report.Report.{Report}
@@ -31,26 +30,6 @@ pub of_channel : TakesWithoutMemory → (wide : Bool) (most : ℕ) (octets : Lis
     → IsOfChannel (plain_read read)
 of_channel never wide most octets (Ok packet) bytes exact has = has
 of_channel never wide most octets (Err e) bytes exact has = λ same. never wide most octets bytes (exact ∙ ap (λ (x : PacketError). Err x) same)
-
-few_brought : TakesItsUserData → (wide : Bool) (most : ℕ) (octets : List ℕ) (v : PlainPacket) → All (λ octet. octet < 256) octets → read_in wide most octets ≡ Ok v → length (user_octets v) ≤ length octets - 3
-few_brought law wide most octets (user_data channel q m ps pr user) bytes exact = let len = law wide most channel q m ps pr user octets bytes exact in omega (arith, len)
-few_brought law wide most octets (call channel called calling facilities user) bytes exact = omega arith
-few_brought law wide most octets (accept channel facilities) bytes exact = omega arith
-few_brought law wide most octets (clear channel cause diagnostic) bytes exact = omega arith
-few_brought law wide most octets (clear_conf channel) bytes exact = omega arith
-few_brought law wide most octets (rr channel pr) bytes exact = omega arith
-few_brought law wide most octets (rnr channel pr) bytes exact = omega arith
-few_brought law wide most octets (interrupt channel user) bytes exact = omega arith
-few_brought law wide most octets (interrupt_conf channel) bytes exact = omega arith
-few_brought law wide most octets (reset channel cause diagnostic) bytes exact = omega arith
-few_brought law wide most octets (reset_conf channel) bytes exact = omega arith
-few_brought law wide most octets (restart cause diagnostic) bytes exact = omega arith
-few_brought law wide most octets restart_conf bytes exact = omega arith
-
-pub brings_few : TakesItsUserData → (wide : Bool) (most : ℕ) (octets : List ℕ) (read : Result Packet PacketError) → All (λ octet. octet < 256) octets → Gives plain read (read_in wide most octets)
-    → brings (plain_read read) ≤ length octets - 3
-brings_few law wide most octets (Ok packet) bytes exact = few_brought law wide most octets (plain packet) bytes exact
-brings_few law wide most octets (Err e) bytes exact = omega arith
 
 -- ---- the answer of the layer, by the channel
 
@@ -100,20 +79,16 @@ hears_read law wide most c l octets h (Ok packet) bytes exact has at =
 hears_read law wide most c l octets h (Err e) bytes exact has at = ap (λ (r : Result PlainPacket PacketError). answer_to c l octets r) exact ∙ hears_error c l octets h e at
 
 -- what was heard, by the same answer
-pub heard_same : {D : Type 0} (g : Ghosts D) (old : code.Layer) (below : D) (new : code.Layer) (below₂ : D) (told : Report) (f h : LayerSettings → Layer → LayerAnswer) → ((c : LayerSettings) (l : Layer) → f c l ≡ h c l)
-    → Hears g old below new below₂ told f → Hears g old below new below₂ told h
-heard_same g old below new below₂ told f h same by = record {
+pub heard_same : {D : Type 0} (g : Ghosts D) (old : code.Layer) (below : D) (new : code.Layer) (below₂ : D) (told : Report) (left : ℕ) (f h : LayerSettings → Layer → LayerAnswer) → ((c : LayerSettings) (l : Layer) → f c l ≡ h c l)
+    → Hears g old below new below₂ told left f → Hears g old below new below₂ told left h
+heard_same g old below new below₂ told left f h same by = record {
   layer = λ c l fits. subst (λ (a : LayerAnswer). FitsLayer c new a.next) (same c l) (by.layer c l fits);
   link = λ c l x fits link. subst (λ (a : LayerAnswer). g.fits below₂ (after_all g.after_put x (option_to_list a.owed))) (same c l) (by.link c l x fits link);
   told = λ c l fits. by.told c l fits ∙ ap (λ (a : LayerAnswer). a.notices) (same c l);
   nothing = by.nothing;
   takes = by.takes;
-  room = λ c l fits none. by.room c l fits (ap (λ (a : LayerAnswer). a.owed) (same c l) ∙ none);
+  spare = by.spare;
 }
-
-pub if_ok : {T E : Type 0} (r : Result T E) (P Q : T → Type 0) → ((x : T) → P x → Q x) → IfOk r P → IfOk r Q
-if_ok (Ok x) P Q f p = f x p
-if_ok (Err e) P Q f p = tt
 
 -- fewer than three octets are dropped
 pub hears_none : (wide : Bool) (most : ℕ) (c : LayerSettings) (l : Layer) (octets : List ℕ) → channel_in octets ≡ None → answer_to c l octets (read_in wide most octets) ≡ drops l.restarting l.restarts l.circuits

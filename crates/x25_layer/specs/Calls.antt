@@ -8,7 +8,7 @@ use Rattle.x25_circuit.specs.Circuit.{Circuit, is_free}
 use Rattle.x25_circuit.specs.declared.error.CircuitError.TheVariants as circuit_error
 use Rattle.x25_circuit.specs.Cause.{may_restart_for}
 use Rattle.x25_circuit.specs.Calling.{Outcome, Done, Refused, Request, Calls, Sends, outcome, Pulled, pulled}
-use Rattle.x25_circuit.specs.Request.{is_message}
+use Rattle.x25_circuit.specs.Request.{may_ask_memory}
 use Rattle.x25_layer.specs.declared.error.LayerError.{LayerError}
 use Rattle.x25_layer.specs.declared.error.LayerError.TheVariants as error
 use Rattle.x25_layer.specs.declared.ranges.Ranges.{Ranges}
@@ -62,10 +62,11 @@ abbrev pub puts_at_once : Request → Bool
 puts_at_once (Sends q user) = false
 puts_at_once request = true
 
--- a message is copied
-abbrev pub copies : LayerRequest → Bool
-copies (Asks h request) = is_message request
-copies request = false
+-- whether memory may be asked for it in a circuit
+abbrev pub asks_memory : LayerRequest → Bool
+asks_memory (Asks h request) = may_ask_memory request
+asks_memory (Dials called calling user proposal) = true
+asks_memory request = false
 
 abbrev pub where_room : Bool → LayerOutcome → LayerOutcome
 where_room true good = Declined error.QueueFull

@@ -13,7 +13,6 @@ use Rattle.x25_layer.specs.declared.ranges.Ranges.{Ranges}
 pub use Rattle.x25_layer.specs.Ranges.{is_channel}
 use Rattle.x25_circuit.specs.Hearing.{Answer, answers, undecoded, cause_at, by_role}
 pub mod Confirmed
-pub mod InPart
 pub mod MessageRoom
 
 pub record LayerSettings : Type 0 where

@@ -3,7 +3,7 @@ pub mod Layer
 pub mod Calls
 pub mod Rounds
 pub mod Ranges
-pub mod Room
+pub mod Full
 pub mod Report
 pub mod Receiving
 pub mod Asking

@@ -1,12 +1,11 @@
 -- What a layer makes of octets on a channel, read or not.
-use Rattle.std.specs.Prelude.{◌≢◌, ℕ, length, Bool, true, false, Result, Ok, Err, if◌then◌else◌}
+use Rattle.std.specs.Prelude.{◌≢◌, ℕ, Bool, true, false, Result, Ok, Err, if◌then◌else◌}
 use Rattle.x25_packet.specs.declared.packet.Packet.{Packet}
 use Rattle.x25_packet.specs.declared.error.PacketError.{PacketError}
 use Rattle.x25_packet.specs.declared.error.PacketError.TheVariants as error
 use Rattle.x25_packet.specs.Packet.{PlainPacket, plain}
 use Rattle.x25_packet.specs.Spelling.{HasChannel}
 use Rattle.x25_circuit.specs.Circuit.{Settings, Circuit}
-use Rattle.x25_circuit.specs.code.FitsCircuit.{user_octets}
 use Rattle.x25_circuit.specs.Hearing.{Answer, answers, undecoded}
 use Rattle.x25_layer.specs.Layer.{LayerSettings, Layer, LayerAnswer, is_channel, answers_on, drops}
 
@@ -18,11 +17,6 @@ plain_read (Err e) = Err e
 abbrev pub IsOfChannel : Result PlainPacket PacketError → Type 0
 IsOfChannel (Ok packet) = HasChannel packet
 IsOfChannel (Err e) = e ≢ error.NoMemory
-
--- how many octets of user data they bring for a message
-abbrev pub brings : Result PlainPacket PacketError → ℕ
-brings (Ok packet) = length (user_octets packet)
-brings (Err e) = 0
 
 abbrev pub circuit_hears : Settings → Circuit → Result PlainPacket PacketError → Answer
 circuit_hears c x (Ok packet) = answers c x packet

@@ -3,7 +3,7 @@ ghost use Rattle.std.specs.Prelude.{◌≡◌, ◌≢◌, ◌<◌, ◌≤◌, le
 ghost use Rattle.std.specs.Prelude.{OnErr, IsErrOf};
 ghost use Rattle.x25_circuit.specs.Calling.{outcome};
 ghost use Rattle.x25_circuit.specs.code.Replies.{IsControl, IsSendable, plain_sent};
-ghost use Rattle.x25_circuit.specs.Request.{plain_request, is_message, MayPut};
+ghost use Rattle.x25_circuit.specs.Request.{plain_request, may_ask_memory, MayPut};
 ghost use Rattle.x25_layer.specs.Layer.{LayerSettings};
 ghost use Rattle.x25_layer.specs.Ranges.{is_number};
 ghost use Rattle.x25_layer.specs.Layer.{Layer as State};
@@ -12,7 +12,6 @@ ghost use Rattle.x25_layer.specs.Rounds.{Refuses, calls, went};
 ghost use Rattle.x25_layer.specs.code.FitsLayer.{FitsLayer, FitsStill};
 ghost use Rattle.x25_layer.specs.code.OverLink.{Does, view_of};
 ghost use Rattle.x25_layer.specs.Asking.{AsksCircuit, error_without_memory, refusal_on};
-ghost use Rattle.x25_layer.specs.Room.{HaveRoomStill};
 
 use crate::error::LayerError;
 use crate::layer::Layer;
@@ -62,9 +61,8 @@ impl Layer {
         ensures range { IfOk result (λ packet. IsSendable (plain_sent packet)) }
         ensures control { IfOk result (λ packet. IsControl (plain_sent packet)) }
         ensures at_once { IfOk result (λ packet. MayPut (plain_request request.entry) packet) }
-        ensures room { HaveRoomStill self.old.circuits.items self.new.circuits.items }
         ensures fits { OnErr result (FitsStill self.old self.new) }
-        ensures missing { IsErrOf result LayerError.NoMemory → is_message (plain_request request.entry) ≡ true }
+        ensures missing { IsErrOf result LayerError.NoMemory → may_ask_memory (plain_request request.entry) ≡ true }
     {
         let place = usize::from(channel) - 1;
         self.busy.insert(channel);
@@ -145,7 +143,7 @@ impl Layer {
         requires free { puts_at_once (plain_request request) ≡ true → L.waits link.old < 256 }
         requires longest { 4099 ≤ L.longest link.old }
         ensures { Does L.OrderedLink self.old link.old self.new link.new result 16
-            (is_message (plain_request request.entry))
+            (may_ask_memory (plain_request request.entry))
             (λ view c l. went view c (outcome_on l.restarts l.circuits channel
             (outcome c.circuit (l.circuits channel) (plain_request request.entry)))) }
     {
@@ -156,25 +154,5 @@ impl Layer {
         self.put_sent(link, channel, packet);
         self.pull_all(link);
         Ok(())
-    }
-
-    /// Keeps the memory of a message that was read, for one of this channel that comes or is sent later. It is let go
-    /// of where the channel isn't configured, where it is for more than 4,096 octets, and where two of the channel are
-    /// kept. The layer is as before.
-    pub fn keep(&mut self, channel: u16, memory: Vec<u8>)
-        ensures layer { (c : LayerSettings) (l : State) → FitsLayer c self.old l → FitsLayer c self.new l }
-    {
-        if self.circuit(channel).is_some() {
-            self.keep_on(channel, memory);
-        }
-    }
-
-    // Keeps it for a configured channel.
-    fn keep_on(&mut self, channel: u16, memory: Vec<u8>)
-        requires { is_number (length self.old.circuits.items) channel ≡ true }
-        ensures layer { (c : LayerSettings) (l : State) → FitsLayer c self.old l → FitsLayer c self.new l }
-    {
-        let place = usize::from(channel) - 1;
-        self.circuits[place].keep(memory);
     }
 }

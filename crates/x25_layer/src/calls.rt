@@ -3,8 +3,8 @@
 //! Each is refused for the first of these grounds, numbers of the profile: 9 NotUp, 40 Restarting, 42 NoSuchChannel (a
 //! new call: 41 NoFreeChannel), 10 QueueFull where 256 packets wait (no message, which puts no packet at once), and
 //! then as the circuit refuses it. 70 comes in place of acceptance alone, and only where the link has places for fewer
-//! than 16 packets, or where memory is refused for the copy of a message. Where a call is refused, the layer and the
-//! link are as before.
+//! than 16 packets, or where memory is refused for the copy of a message, or at a call or an acceptance for messages
+//! that come. Where a call is refused, the layer and the link are as before.
 //!
 //! An accepted call puts its packet, and then the data packets of all channels in rounds, while fewer than 8 packets
 //! wait. The link takes packets of 4,099 octets.

@@ -5,7 +5,6 @@ ghost use Rattle.x25_circuit.specs.Circuit.{Circuit as Channel};
 ghost use Rattle.x25_layer.specs.Layer.{LayerSettings, at_rest};
 ghost use Rattle.x25_layer.specs.Ranges.{two_way};
 ghost use Rattle.x25_layer.specs.code.FitsLayer.{FitsCircuits};
-ghost use Rattle.x25_layer.specs.Room.{HaveRoomStill};
 
 use crate::error::LayerError;
 use std::alloc::Global;
@@ -48,7 +47,6 @@ pub(crate) fn begin_all(circuits: &mut Vec<Circuit>)
     ensures fits { (c : LayerSettings) (f : ℕ → Channel) → FitsCircuits c circuits.old.items f
         → FitsCircuits c circuits.new.items at_rest.circuits }
     ensures count { length circuits.new.items ≡ length circuits.old.items }
-    ensures room { HaveRoomStill circuits.old.items circuits.new.items }
 {
     for circuit in circuits.iter_mut() {
         circuit.forget();
@@ -61,7 +59,6 @@ pub(crate) fn forget_all(circuits: &mut Vec<Circuit>)
     ensures fits { (c : LayerSettings) (f : ℕ → Channel) → FitsCircuits c circuits.old.items f
         → FitsCircuits c circuits.new.items (λ k. forgotten (f k)) }
     ensures count { length circuits.new.items ≡ length circuits.old.items }
-    ensures room { HaveRoomStill circuits.old.items circuits.new.items }
 {
     for circuit in circuits.iter_mut() {
         circuit.forget();

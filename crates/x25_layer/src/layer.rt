@@ -55,12 +55,10 @@ impl Layer {
     ghost use Rattle.x25_layer.specs.Layer.{LayerSettings, at_rest, rested};
     ghost use Rattle.x25_layer.specs.Ranges.{is_number, are_ranges};
     ghost use Rattle.x25_layer.specs.Layer.{Layer as State};
-    ghost use Rattle.x25_layer.specs.Room.{HasRoom};
     ghost use Rattle.x25_layer.specs.code.FitsLayer.{FitsLayer, plain_stretch, name_at, params_at, is_open_at};
     ghost use Rattle.x25_layer.specs.code.FitsLayer.{awaited_at};
     ghost use Rattle.x25_layer.specs.code.FitsLayer.{awaited_up_to};
-    ghost use Rattle.x25_layer.specs.code.FitsLayer.{waits_up_to, is_full, KeepsOn};
-    ghost use Rattle.x25_layer.specs.Layer.InPart.{joined_at};
+    ghost use Rattle.x25_layer.specs.code.FitsLayer.{waits_up_to};
     ghost use Rattle.x25_layer.specs.Layer.Confirmed.{unconfirmed_at};
     ghost use Rattle.x25_layer.specs.Layer.MessageRoom.{room_at};
 
@@ -225,37 +223,10 @@ impl Layer {
         }
     }
 
-    /// How many octets have come of the message of which some packets came on a channel, at most 65,535; 0 where there
-    /// is none, or the channel isn't configured.
-    pub fn octets_joined(&self, channel: u16) -> usize
-        ensures value { (c : LayerSettings) (l : State) → FitsLayer c self.now l → result ≡ joined_at c l channel }
-        ensures short { result ≤ 65535 }
-    {
-        match self.circuit(channel) {
-            Some(circuit) => circuit.octets_joined(),
-            None => 0,
-        }
-    }
-
-    /// How many octets of memory are kept for the message of which some packets came on a channel: for these octets,
-    /// and for those for which `reserve` set memory aside. They are 69,631 at most, those of the longest message and of
-    /// one packet more; 0 where the channel isn't configured.
-    pub fn octets_kept(&self, channel: u16) -> usize
-        ensures value { KeepsOn self.now channel result }
-        ensures least { (c : LayerSettings) (l : State) → FitsLayer c self.now l → joined_at c l channel ≤ result }
-        ensures most { result ≤ 69631 }
-    {
-        match self.circuit(channel) {
-            Some(circuit) => circuit.octets_kept(),
-            None => 0,
-        }
-    }
-
     /// Drops everything, at LinkDown: no restart is under way, and all channels are in p1. The counts are as they were,
-    /// until `up` sets them to 0. Memory that was set aside is kept.
+    /// until `up` sets them to 0.
     pub fn down(&mut self)
         ensures layer { (c : LayerSettings) (l : State) → FitsLayer c self.old l → FitsLayer c self.new (rested l) }
-        ensures room { (h len : ℕ) → HasRoom h len self.old → HasRoom h len self.new }
     {
         self.restarting = false;
         self.counts_left = false;

@@ -11,7 +11,6 @@ ghost use Rattle.x25_layer.specs.code.FitsLayer.{FitsLayer};
 ghost use Rattle.x25_layer.specs.code.OverLink.{view_of, after_all, TakesPacket, Hears, Answers};
 ghost use Rattle.x25_layer.specs.Calls.{Restarts};
 ghost use Rattle.x25_layer.specs.Rounds.{comes_up};
-ghost use Rattle.x25_layer.specs.Room.{HaveRoomStill};
 
 use crate::circuits::{begin_all, forget_all};
 use crate::error::LayerError;
@@ -124,7 +123,6 @@ impl Layer {
         ensures promised { L.promised link.old ≤ L.promised link.new + 1 }
         ensures longest { L.longest link.new ≡ L.longest link.old }
         ensures up { L.up link.new ≡ L.up link.old }
-        ensures room { HaveRoomStill self.old.circuits.items self.new.circuits.items }
     {
         self.restarting = true;
         self.counts_left = false;
@@ -139,7 +137,6 @@ impl Layer {
         requires { self.old.restarts < 2 ^ 64 - 1 }
         ensures layer { (c : LayerSettings) (l : State) → FitsLayer c self.old l
             → FitsLayer c self.new (is_ready (suc l.restarts) (λ k. begun)) }
-        ensures room { HaveRoomStill self.old.circuits.items self.new.circuits.items }
     {
         self.restarting = false;
         self.restarts += 1;
@@ -157,9 +154,8 @@ impl Layer {
     ) -> Report<'a>
         requires restarts { self.old.restarts < 2 ^ 64 - 1 }
         requires place { TakesPacket L.OrderedLink link.old }
-        ensures hears { Hears L.OrderedLink self.old link.old self.new link.new result
+        ensures { Hears L.OrderedLink self.old link.old self.new link.new result 1
             (λ c l. layer_answers c l (restart cause diagnostic)) }
-        ensures room { HaveRoomStill self.old.circuits.items self.new.circuits.items }
     {
         if self.restarting {
             self.restart_is_done();
@@ -175,9 +171,8 @@ impl Layer {
     pub(crate) fn hear_restart_conf<'a, L: OrderedLink>(&mut self, link: &mut L) -> Report<'a>
         requires restarts { self.old.restarts < 2 ^ 64 - 1 }
         requires place { TakesPacket L.OrderedLink link.old }
-        ensures hears { Hears L.OrderedLink self.old link.old self.new link.new result
+        ensures { Hears L.OrderedLink self.old link.old self.new link.new result 1
             (λ c l. layer_answers c l restart_conf) }
-        ensures room { HaveRoomStill self.old.circuits.items self.new.circuits.items }
     {
         if self.restarting {
             self.restart_is_done();

@@ -7,7 +7,6 @@ ghost use Rattle.x25_layer.specs.code.OverLink.{view_of, after_all, Answers};
 ghost use Rattle.x25_layer.specs.Calls.{PullsAll};
 ghost use Rattle.x25_layer.specs.Rounds.{Putting, rounds};
 ghost use Rattle.x25_layer.specs.code.Pulling.{IsEnough, PullsOne, GoesRound};
-ghost use Rattle.x25_layer.specs.Room.{HaveRoomStill};
 ghost use Rattle.x25_layer.specs.code.Idle.{IdleBeside};
 
 use crate::busy::Busy;
@@ -168,7 +167,6 @@ impl Layer {
         ensures link { (c : LayerSettings) (s : Putting) (x : L.State) → FitsLayer c self.old s.layer
             → L.fits link.old (after_all L.after_put x s.put)
             → L.fits link.new (after_all L.after_put x (rounds (view_of L.up_in L.waits_in L.after_put x) c s).put) }
-        ensures room { HaveRoomStill self.old.circuits.items self.new.circuits.items }
         ensures longest { L.longest link.new ≡ L.longest link.old }
     {
         let mut left = MOST_PULLED;

@@ -1,7 +1,7 @@
 //! The calls of a layer without their claims: a body that makes one of the layer's own carries all that it promises.
 
 use std::alloc::Global;
-use x25_circuit::Request;
+use x25_circuit::{Octets, Request};
 use x25_layer::{Layer, LayerError, Params, Proposal, Ranges, Report, Role};
 use x25_link::{Link, OrderedLink, PlainLink};
 
@@ -96,15 +96,24 @@ pub fn call<L: OrderedLink>(
     (told, layer.call(link, called, calling, user, &proposal))
 }
 
+/// Spare memory for a message.
+pub fn spare(alloc: Global) -> Option<Octets> {
+    Octets::new(alloc).ok()
+}
+
 /// Octets are handed up, and with `wide` are read in all forms.
 pub fn hear<'a>(
     layer: &mut Layer,
     link: &mut PlainLink,
     wide: bool,
     octets: &'a [u8],
+    spare: &mut Option<Octets>,
 ) -> Result<Report<'a>, LayerError> {
     if link.waiting() == 256 || layer.full() {
         return Err(LayerError::QueueFull);
     }
-    layer.packet(link, wide, octets)
+    if link.promised() < 16 || spare.is_none() {
+        return Err(LayerError::NoMemory);
+    }
+    Ok(layer.packet(link, wide, octets, spare))
 }

@@ -1,6 +1,8 @@
 //! What a layer puts over a plain link, and what it says of itself then; `tests/golden` has the packets of whole calls.
 
-use crate::calls::{ask, call, fill, hear, layer, layer_with, plain_link, pull, restart, up};
+use crate::calls::{
+    ask, call, fill, hear, layer, layer_with, plain_link, pull, restart, spare, up,
+};
 use crate::refusals::request;
 use std::alloc::Global;
 use x25_circuit::{Marks, Notice, Request};
@@ -34,9 +36,9 @@ type Answer = (u8, Option<usize>);
 /// it has. None where they stay.
 type Puts = Option<&'static [(u8, u8, usize)]>;
 
-/// What a layer says: the name of channel 1 and whether it is open, how many messages wait, how many more channel 1
-/// takes, and how many octets came of one in part there.
-type Says = (Option<Stretch>, bool, usize, usize, usize);
+/// What a layer says: the name of channel 1 and whether it is open, how many messages wait, and how many more channel 1
+/// takes.
+type Says = (Option<Stretch>, bool, usize, usize);
 
 type Row = (Act, Answer, Puts, Says);
 
@@ -60,17 +62,15 @@ const RESTARTED: Option<Stretch> = Some(Stretch {
     resets: 0,
 });
 
-const CLOSED: Says = (FIRST, false, 0, 0, 0);
+const CLOSED: Says = (FIRST, false, 0, 0);
 
-const CLOSED_BEHIND_A_RESTART: Says = (RESTARTED, false, 0, 0, 0);
+const CLOSED_BEHIND_A_RESTART: Says = (RESTARTED, false, 0, 0);
 
-const OPEN: Says = (FIRST, true, 0, 8, 0);
+const OPEN: Says = (FIRST, true, 0, 8);
 
-const ONE_WAITS: Says = (FIRST, true, 1, 7, 0);
+const ONE_WAITS: Says = (FIRST, true, 1, 7);
 
-const TWO_WAIT: Says = (FIRST, true, 2, 7, 0);
-
-const HAS_TWO_OCTETS: Says = (FIRST, true, 0, 8, 2);
+const TWO_WAIT: Says = (FIRST, true, 2, 7);
 
 // `down` leaves the counts, and `up` sets them to 0.
 static COUNTS_STAND: [Row; 7] = [
@@ -159,7 +159,7 @@ static ALTERNATING: [Row; 8] = [
         Act::Take(&[0x10, 0x01, 0x52, 0xAA, 0xBB]),
         OK,
         Some(&[(1, 0x41, 3)]),
-        HAS_TWO_OCTETS,
+        OPEN,
     ),
 ];
 
@@ -239,7 +239,7 @@ static FAR_APART: [Row; 9] = [
     (Act::Ask(4095, 0), OK, Some(&[(0xFF, 0x0F, 3)]), CLOSED),
     (Act::Ask(1, 0), OK, Some(&[(1, 0x0F, 3)]), OPEN),
     (Act::Fill(8), OK, STAY, OPEN),
-    (Act::Send(4095, 300), OK, STAY, (FIRST, true, 1, 8, 0)),
+    (Act::Send(4095, 300), OK, STAY, (FIRST, true, 1, 8)),
     (
         Act::Send(1, 300),
         OK,
@@ -282,13 +282,13 @@ static TRANSFERS: [Row; 8] = [
         Act::Take(&[0x10, 0x01, 0x10, 0xAA]),
         OK,
         Some(&[(1, 0x21, 3)]),
-        (FIRST, true, 0, 8, 1),
+        (FIRST, true, 0, 8),
     ),
     (
         Act::Take(&[0x10, 0x02, 0x02, 0xBB]),
         (20, None),
         Some(&[(2, 0x13, 5)]),
-        (FIRST, true, 0, 8, 1),
+        (FIRST, true, 0, 8),
     ),
     (
         Act::Take(&[0x10, 0x01, 0x02, 0xBB]),
@@ -327,13 +327,13 @@ static IN_ALL_FORMS: [Row; 6] = [
         Act::Ask(1, 0),
         OK,
         Some(&[(1, 0x0F, 3)]),
-        (RESTARTED, true, 0, 8, 0),
+        (RESTARTED, true, 0, 8),
     ),
     (
         Act::TakeWide(&[0x50, 0x01, 0x00, 0x68]),
         (0, Some(1)),
         Some(&[(1, 0x21, 3)]),
-        (RESTARTED, true, 0, 8, 0),
+        (RESTARTED, true, 0, 8),
     ),
     (
         Act::Take(&[0x10, 0x01, 0x1B, 0x05]),
@@ -410,8 +410,28 @@ fn sends(
     answered(ask(layer, link, channel, request))
 }
 
-fn hears(layer: &mut Layer, link: &mut PlainLink, octets: &[u8], is_wide: bool) -> Answer {
-    match hear(layer, link, is_wide, octets) {
+// Whether a message is handed over.
+fn is_handed_over(report: &Report) -> bool {
+    matches!(
+        report,
+        Report::Channel {
+            notice: Some(Notice::Delivered(_)),
+            ..
+        }
+    )
+}
+
+// Memory is spare behind it exactly where no message is handed over.
+fn hears(
+    alloc: Global,
+    layer: &mut Layer,
+    link: &mut PlainLink,
+    octets: &[u8],
+    is_wide: bool,
+) -> Answer {
+    let mut spare = spare(alloc);
+    match hear(layer, link, is_wide, octets, &mut spare) {
+        Ok(report) if is_handed_over(&report) == spare.is_some() => NO_MEMORY,
         Ok(report) => told(&report),
         Err(error) => (error.number(), None),
     }
@@ -428,8 +448,8 @@ fn happens(alloc: Global, layer: &mut Layer, link: &mut PlainLink, act: Act) -> 
         Act::Pull => answered(pull(layer, link)),
         Act::Ask(channel, index) => answered(ask(layer, link, channel, request(index))),
         Act::Send(channel, count) => sends(alloc, layer, link, channel, count),
-        Act::Take(octets) => hears(layer, link, octets, false),
-        Act::TakeWide(octets) => hears(layer, link, octets, true),
+        Act::Take(octets) => hears(alloc, layer, link, octets, false),
+        Act::TakeWide(octets) => hears(alloc, layer, link, octets, true),
         Act::Fill(count) => { if fill(link, count) { OK } else { NO_MEMORY } }
     }
 }
@@ -440,7 +460,6 @@ fn says(layer: &Layer) -> Says {
         layer.is_open(1),
         layer.waits(),
         layer.room(1),
-        layer.octets_joined(1),
     )
 }
 
@@ -524,14 +543,9 @@ fn is_new(layer: &Layer) -> bool {
         layer.name(0),
         layer.name(4096),
     );
-    let said = (
-        layer.params(4095),
-        layer.params(4096),
-        layer.octets_joined(4096),
-        layer.full(),
-    );
+    let said = (layer.params(4095), layer.params(4096), layer.full());
     names == (FIRST, FIRST, None, None)
-        && said == (Some(Params::default()), None, 0, false)
+        && said == (Some(Params::default()), None, false)
         && (layer.channels(), layer.busy_after(0)) == (4095, None)
 }
 
@@ -620,7 +634,14 @@ fn unconfirmed(alloc: Global) -> Option<(usize, usize, usize)> {
     }
     ask(&mut layer, &mut *link, 1, request(7)).ok()?;
     let asked = layer.unconfirmed(1);
-    hear(&mut layer, &mut link, false, &[0x10, 0x01, 0x21]).ok()?;
+    hear(
+        &mut layer,
+        &mut link,
+        false,
+        &[0x10, 0x01, 0x21],
+        &mut spare(alloc),
+    )
+    .ok()?;
     Some((asked, layer.unconfirmed(1), layer.unconfirmed(3)))
 }
 

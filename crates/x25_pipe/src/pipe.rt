@@ -205,10 +205,8 @@ impl Pipe {
     {
         self.has_come = true;
         let octets = &self.octets[..count];
-        match self.station.receive(octets, &mut self.step) {
-            Ok(()) => self.follow_up(writer),
-            Err(error) => self.refuse(error, writer),
-        }
+        self.station.receive(octets, &mut self.step);
+        self.follow_up(writer)
     }
 
     /// The first `count` octets of those read were sent by an end.

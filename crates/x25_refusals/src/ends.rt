@@ -50,25 +50,13 @@ impl Outcome {
     }
 }
 
-/// What a queue of packets answers, or which stretch is open on channel 1.
-#[derive(Drop, PartialEq)]
-pub(crate) enum Holds {
-    Packets {
-        is_up: bool,
-        waiting: usize,
-        promised: usize,
-        limit: usize,
-    },
-    Stretch(Option<Stretch>),
-}
-
-/// What an end answers.
+/// What an end answers, and which stretch is open on channel 1.
 #[derive(Drop, PartialEq)]
 pub(crate) struct Answers {
     pub is_idle: bool,
     pub awaits_ua: bool,
     pub timer_runs: bool,
-    pub holds: Holds,
+    pub stretch: Option<Stretch>,
 }
 
 /// What a station answers.
@@ -77,7 +65,7 @@ pub(crate) fn answers_of(station: &Station) -> Answers {
         is_idle: station.idle(),
         awaits_ua: station.awaits_ua(),
         timer_runs: station.timer_runs(),
-        holds: Holds::Stretch(station.stretch(1)),
+        stretch: station.stretch(1),
     }
 }
 

@@ -1,5 +1,5 @@
-//! `x25_refusals`: scripts that are played at two links, at two stations and at a world, by a player that goes on where
-//! a call is refused memory: the call has to leave all as it was, and is made again.
+//! `x25_refusals`: scripts that are played at two stations and at a world, by a player that goes on where a call is
+//! refused memory: the call has to leave all as it was, and is made again.
 //!
 //! It prints what each script shows, and how often each kind of call was made and refused. `tests/refused.py` runs it
 //! with each allocation refused in turn: but for the refusals, it has to print the same. Exit status: 1 where a call
@@ -10,7 +10,6 @@ mod boxes;
 mod counts;
 mod ends;
 mod lines;
-mod links;
 mod player;
 mod scripts;
 mod stations;
@@ -21,28 +20,13 @@ mod worlds;
 use counts::{Counts, Kind};
 use ends::Trouble;
 use lines::Lines;
-use links::LinkParty;
 use player::{Book, plays};
-use scripts::{OF_LINKS, OF_WORLDS_UP, SCRIPTS, Script};
-use stations::StationParty;
+use scripts::{OF_WORLDS_UP, SCRIPTS, Script};
 use std::alloc::Global;
 use std::io::{self, Write};
 use std::process::ExitCode;
-use two::{Party, Two};
+use two::Two;
 use worlds::Worlds;
-
-/// The calls of a link.
-static CALLS_OF_LINKS: [(Kind, &str); 9] = [
-    (Kind::New, "Link::new"),
-    (Kind::Send, "Link::put"),
-    (Kind::Connect, "Link::connect"),
-    (Kind::Disconnect, "Link::disconnect"),
-    (Kind::Probe, "Link::probe"),
-    (Kind::Relink, "Link::relink"),
-    (Kind::Deliver, "Link::take"),
-    (Kind::Lose, "the loss of a frame to a link"),
-    (Kind::T1, "Link::t1"),
-];
 
 /// The calls of a station.
 static CALLS_OF_STATIONS: [(Kind, &str); 21] = [
@@ -105,15 +89,10 @@ fn titled(place: &str, script: &Script, shown: &mut Lines) -> Result<(), Trouble
     Ok(())
 }
 
-/// Plays a script at two links or two stations.
-fn play_two<P: Party>(
-    place: &str,
-    alloc: Global,
-    script: &Script,
-    book: &mut Book,
-) -> Result<(), Trouble> {
-    titled(place, script, &mut book.shown)?;
-    let mut ends: Two<P> = Two::new(alloc, script.cfg, &mut book.counts)?;
+/// Plays a script at two stations.
+fn play_two(alloc: Global, script: &Script, book: &mut Book) -> Result<(), Trouble> {
+    titled("two stations: ", script, &mut book.shown)?;
+    let mut ends = Two::new(alloc, script.cfg, &mut book.counts)?;
     plays(&mut ends, script, book)
 }
 
@@ -144,15 +123,14 @@ fn closes<W: Write>(
     flushes(&mut book.shown, writer)
 }
 
-fn all_of_two<P: Party, W: Write>(
-    place: &str,
+fn all_of_two<W: Write>(
     alloc: Global,
     scripts: &[Script],
     book: &mut Book,
     writer: &mut W,
 ) -> Result<(), Trouble> {
     for script in scripts {
-        play_two::<P>(place, alloc, script, book)?;
+        play_two(alloc, script, book)?;
         flushes(&mut book.shown, writer)?;
     }
     Ok(())
@@ -177,15 +155,7 @@ fn play_all<W: Write>(alloc: Global, writer: &mut W) -> Result<(), Trouble> {
         counts: Counts::new(),
         shown: Lines::new(alloc)?,
     };
-    all_of_two::<LinkParty, W>("two links: ", alloc, OF_LINKS.as_slice(), &mut book, writer)?;
-    closes(&mut book, CALLS_OF_LINKS.as_slice(), writer)?;
-    all_of_two::<StationParty, W>(
-        "two stations: ",
-        alloc,
-        SCRIPTS.as_slice(),
-        &mut book,
-        writer,
-    )?;
+    all_of_two(alloc, SCRIPTS.as_slice(), &mut book, writer)?;
     closes(&mut book, CALLS_OF_STATIONS.as_slice(), writer)?;
     all_of_worlds(Kind::New, alloc, SCRIPTS.as_slice(), &mut book, writer)?;
     all_of_worlds(

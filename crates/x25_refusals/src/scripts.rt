@@ -1,4 +1,4 @@
-//! Scripts of two stations, and stories of two links.
+//! Scripts of two stations, and of the line between them.
 use Act::{Do, Drain, Heal, Send};
 use x25_layer::Params;
 use x25_station::{CallCmd, Cfg, Cmd, Given, Ranges};
@@ -415,78 +415,6 @@ pub(crate) static OF_WORLDS_UP: [Script; 2] = [
             Send(Dte, b"a"),
             LOSES,
             Heal,
-        ],
-    },
-];
-
-/// Played at two links.
-pub(crate) static OF_LINKS: [Script; 5] = [
-    Script {
-        name: "the first I frame is lost, and comes again behind polls",
-        cfg: USUAL,
-        acts: &[
-            CONNECTS,
-            Drain,
-            Send(Dte, b"a"),
-            LOSES,
-            T1_FIRES,
-            T1_FIRES,
-            COMES,
-            COMES,
-            COMES_BACK,
-            Send(Dte, b"b"),
-            Send(Dte, b"c"),
-            Send(Dte, b"d"),
-            Send(Dte, b"e"),
-            Send(Dte, b"f"),
-            Send(Dte, b"g"),
-            T1_FIRES,
-            COMES_BACK,
-            Drain,
-            Send(Dte, b"h"),
-            Drain,
-        ],
-    },
-    Script {
-        name: "the first I frame of three is lost",
-        cfg: USUAL,
-        acts: &[
-            CONNECTS,
-            Drain,
-            Send(Dte, b"a"),
-            Send(Dte, b"b"),
-            Send(Dte, b"c"),
-            LOSES,
-            COMES,
-            COMES,
-            COMES_BACK,
-            Drain,
-            Send(Dce, b"d"),
-            Drain,
-        ],
-    },
-    Script {
-        name: "a set-up without an answer, and another one",
-        cfg: ONE_TRY,
-        acts: &[
-            CONNECTS, LOSES, T1_FIRES, LOSES, T1_FIRES, T1_FIRES, CONNECTS, Drain,
-        ],
-    },
-    Script {
-        name: "an idle link that is polled, and set up anew",
-        cfg: USUAL,
-        acts: &[CONNECTS, Drain, PROBES, Drain, RELINKS, Drain],
-    },
-    Script {
-        name: "a packet under way as the link ends",
-        cfg: USUAL,
-        acts: &[
-            CONNECTS,
-            Drain,
-            Send(Dte, b"a"),
-            DISCONNECTS,
-            Drain,
-            DISCONNECTS,
         ],
     },
 ];

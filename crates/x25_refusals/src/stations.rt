@@ -2,10 +2,19 @@
 use crate::boxes::boxed;
 use crate::ends::{Answers, Outcome, Trouble, answers_of};
 use crate::lines::Lines;
-use crate::two::{Happens, Party};
 use crate::wire::Wire;
 use std::alloc::{AllocError, Global};
 use x25_station::{Cfg, Cmd, Role, Station, StationError, Step};
+
+/// What happens at a station.
+#[derive(Clone, Copy)]
+pub(crate) enum Happens<'a> {
+    Asked(Cmd<'static>),
+    /// Timer T1 fires.
+    Fired,
+    /// The octets of a frame come.
+    Frame(&'a [u8]),
+}
 
 /// A station, and its last step.
 #[derive(Drop)]
@@ -29,7 +38,10 @@ fn call(station: &mut Station, what: Happens<'_>, out: &mut Step) -> Result<(), 
         Happens::Asked(Cmd::Connect) => station.connect(out),
         Happens::Asked(command) => station.command(command, out),
         Happens::Fired => station.t1(out),
-        Happens::Frame(octets) => station.receive(octets, out),
+        Happens::Frame(octets) => {
+            station.receive(octets, out);
+            Ok(())
+        }
     }
 }
 
@@ -45,8 +57,9 @@ fn goes_on(from: Role, step: &Step, to: &mut Wire, shown: &mut Lines) -> Result<
     Ok(())
 }
 
-impl Party for StationParty {
-    fn new(alloc: Global, role: Role, cfg: Cfg) -> Option<StationParty> {
+impl StationParty {
+    /// A station whose link is down. None where memory is refused.
+    pub(crate) fn new(alloc: Global, role: Role, cfg: Cfg) -> Option<StationParty> {
         let station = made(alloc, role, cfg)?;
         let step = Step::new(alloc).ok()?;
         Some(StationParty {
@@ -56,7 +69,9 @@ impl Party for StationParty {
         })
     }
 
-    fn happens(
+    /// Lets this happen once. Where it is accepted, what is told and sent is shown, and frames go on the line to the
+    /// other end.
+    pub(crate) fn happens(
         &mut self,
         what: Happens<'_>,
         to: &mut Wire,
@@ -69,7 +84,7 @@ impl Party for StationParty {
         Ok(Outcome::Accepted)
     }
 
-    fn answers(&self) -> Answers {
+    pub(crate) fn answers(&self) -> Answers {
         answers_of(&self.station)
     }
 }

@@ -1,68 +1,42 @@
-//! Two ends of one kind, and the lines between them.
+//! Two stations, and the lines between them.
 use crate::counts::{Counts, Kind};
-use crate::ends::{Answers, Ends, Outcome, Seen, Trouble};
+use crate::ends::{Ends, Outcome, Seen, Trouble};
 use crate::lines::Lines;
+use crate::stations::{Happens, StationParty};
 use crate::wire::Wire;
 use std::alloc::{AllocError, Global};
-use x25_station::{Cfg, Cmd, Role};
+use x25_station::{Cfg, Role};
 use x25_world::Event;
 
-/// What happens at an end.
-#[derive(Clone, Copy)]
-pub(crate) enum Happens<'a> {
-    Asked(Cmd<'static>),
-    /// Timer T1 fires.
-    Fired,
-    /// The octets of a frame come.
-    Frame(&'a [u8]),
-}
-
-/// A link or a station.
-pub(crate) trait Party: Drop {
-    /// One whose link is down. None where memory is refused.
-    fn new(alloc: Global, role: Role, cfg: Cfg) -> Option<Self>;
-
-    /// Lets this happen once. Where it is accepted, what is told and sent is shown, and frames go on the line to the
-    /// other end.
-    fn happens(
-        &mut self,
-        what: Happens<'_>,
-        to: &mut Wire,
-        shown: &mut Lines,
-    ) -> Result<Outcome, Trouble>;
-
-    fn answers(&self) -> Answers;
-}
-
-/// A link or a station, and the line that leads to it.
+/// A station, and the line that leads to it.
 #[derive(Drop)]
-struct End<P: Party> {
-    party: P,
+struct End {
+    station: StationParty,
     wire: Wire,
 }
 
 /// Two of them.
 #[derive(Drop)]
-pub(crate) struct Two<P: Party> {
-    dte: End<P>,
-    dce: End<P>,
+pub(crate) struct Two {
+    dte: End,
+    dce: End,
 }
 
-/// A link or a station. One that is refused memory is made again.
-fn made<P: Party>(alloc: Global, role: Role, cfg: Cfg, counts: &mut Counts) -> Option<P> {
+/// A station. One that is refused memory is made again.
+fn made(alloc: Global, role: Role, cfg: Cfg, counts: &mut Counts) -> Option<StationParty> {
     counts.called(Kind::New);
-    if let Some(party) = P::new(alloc, role, cfg) {
-        return Some(party);
+    if let Some(station) = StationParty::new(alloc, role, cfg) {
+        return Some(station);
     }
     counts.refused(Kind::New);
-    P::new(alloc, role, cfg)
+    StationParty::new(alloc, role, cfg)
 }
 
-impl<P: Party> End<P> {
-    fn new(alloc: Global, role: Role, cfg: Cfg, counts: &mut Counts) -> Result<End<P>, Trouble> {
+impl End {
+    fn new(alloc: Global, role: Role, cfg: Cfg, counts: &mut Counts) -> Result<End, Trouble> {
         let wire = Wire::new(alloc)?;
         match made(alloc, role, cfg, counts) {
-            Some(party) => Ok(End { party, wire }),
+            Some(station) => Ok(End { station, wire }),
             None => Err(Trouble::NoMemory),
         }
     }
@@ -72,7 +46,7 @@ impl<P: Party> End<P> {
         let Some(octets) = self.wire.front() else {
             return Ok(Outcome::Refused(50));
         };
-        match self.party.happens(Happens::Frame(octets), to, shown)? {
+        match self.station.happens(Happens::Frame(octets), to, shown)? {
             Outcome::Accepted => Ok(self.wire.take_off(0)),
             outcome => Ok(outcome),
         }
@@ -85,8 +59,8 @@ impl<P: Party> End<P> {
         shown: &mut Lines,
     ) -> Result<Outcome, Trouble> {
         match event {
-            Event::Command(_, command) => self.party.happens(Happens::Asked(command), to, shown),
-            Event::T1(_) => self.party.happens(Happens::Fired, to, shown),
+            Event::Command(_, command) => self.station.happens(Happens::Asked(command), to, shown),
+            Event::T1(_) => self.station.happens(Happens::Fired, to, shown),
             Event::Deliver(_) => self.receives(to, shown),
             Event::Lose(_, place) => Ok(self.wire.take_off(place)),
             Event::Damage(_, _, _) => Err(Trouble::NoSuchCall),
@@ -94,15 +68,15 @@ impl<P: Party> End<P> {
     }
 }
 
-impl<P: Party> Two<P> {
-    pub(crate) fn new(alloc: Global, cfg: Cfg, counts: &mut Counts) -> Result<Two<P>, Trouble> {
+impl Two {
+    pub(crate) fn new(alloc: Global, cfg: Cfg, counts: &mut Counts) -> Result<Two, Trouble> {
         let dte = End::new(alloc, Role::Dte, cfg, counts)?;
         let dce = End::new(alloc, Role::Dce, cfg, counts)?;
         Ok(Two { dte, dce })
     }
 }
 
-impl<P: Party> Ends for Two<P> {
+impl Ends for Two {
     fn happens(&mut self, event: Event<'static>, shown: &mut Lines) -> Result<Outcome, Trouble> {
         match event.at() {
             Role::Dte => self.dte.happens(event, &mut self.dce.wire, shown),
@@ -112,14 +86,14 @@ impl<P: Party> Ends for Two<P> {
 
     fn seen(&self) -> Seen {
         Seen {
-            dte: self.dte.party.answers(),
-            dce: self.dce.party.answers(),
+            dte: self.dte.station.answers(),
+            dce: self.dce.station.answers(),
             to_dce: self.dce.wire.len(),
             to_dte: self.dte.wire.len(),
         }
     }
 
-    // A link or a station keeps nothing of what it told.
+    // A station keeps nothing of what it told.
     fn stands(&self) -> Result<bool, AllocError> {
         Ok(true)
     }

@@ -134,7 +134,7 @@ impl Worlds {
 
     /// Shows the step of an end, whose frames stand behind so many on the line.
     fn tells(&mut self, at: Role, before: usize, shown: &mut Lines) -> Result<(), AllocError> {
-        for entry in self.step.entries.iter() {
+        for entry in self.step.entries.as_slice() {
             shown.push_entry(at, entry)?;
         }
         push_frames(&self.world, at, before, shown)?;

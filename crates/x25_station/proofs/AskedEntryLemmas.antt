@@ -35,13 +35,13 @@ went_is : (a b : Putting) → Went a ≡ Went b → a ≡ b
 unfolding step_in
 went_is a b is = ap (step_in a) is
 
-record IsAccepted (view : LinkView) (c : LayerSettings) (l : Layer) (request : LayerRequest) (p : Putting) : Type 0 where
-  next : Layer
-  packet : Option PlainPacket
-  outcome : layer_outcome c (view.waits [] == 256) l request ≡ Accepted next packet
-  step : rounds view c (begin next packet) ≡ p
+pub record IsAccepted (view : LinkView) (c : LayerSettings) (l : Layer) (request : LayerRequest) (p : Putting) : Type 0 where
+  pub next : Layer
+  pub packet : Option PlainPacket
+  pub outcome : layer_outcome c (view.waits [] == 256) l request ≡ Accepted next packet
+  pub step : rounds view c (begin next packet) ≡ p
 
-accepted : (view : LinkView) (c : LayerSettings) (l : Layer) (request : LayerRequest) (p : Putting) → calls view c l request ≡ Went p → IsAccepted view c l request p
+pub accepted : (view : LinkView) (c : LayerSettings) (l : Layer) (request : LayerRequest) (p : Putting) → calls view c l request ≡ Went p → IsAccepted view c l request p
 accepted view c l request p is = test view.is_up is
   where
     by : (o : LayerOutcome) → layer_outcome c (view.waits [] == 256) l request ≡ o → went view c o ≡ Went p → IsAccepted view c l request p

@@ -1,13 +1,12 @@
 -- What is confirmed from one layer to another, by what these tell.
 use Rattle.std.proofs.Common.{◌≡◌, ℕ, zero, suc, ◌-◌, List, [], ◌∷◌, ◌++◌, Some, None, Bool, true, false, ◌&&◌, ◌==◌, not, if◌then◌else◌, refl, ap, sym, ◌∙◌, eq-eqb, arith}
 use Rattle.std.proofs.lemmas.Bool.{eqb-true}
-use Rattle.std.proofs.lemmas.List.{append_assoc}
 use Rattle.std.proofs.lemmas.Option.{none-some, same_Some}
 use Rattle.x25_circuit.specs.Circuit.{is_open, unconfirmed}
 use Rattle.x25_handshakes.specs.laws.Names.{Name, both, same_name}
 use Rattle.x25_layer.specs.Layer.{LayerSettings, Layer, LayerAnswer, is_channel}
 use Rattle.x25_layer.specs.Layer.Confirmed.{unconfirmed_at}
-use Rattle.x25_layer.specs.Room.{named_by}
+use Rattle.x25_station.specs.Confirming.{named_by}
 use Rattle.x25_layer.specs.Rounds.{LinkView, Putting, begin, rounds}
 use Rattle.x25_layer.specs.code.FitsLayer.{is_open_at, name_at}
 use Rattle.x25_layer.specs.laws.Transcript.{name_of}
@@ -194,13 +193,13 @@ pub nothing_behind : (next : Layer) (h count : ℕ) (beside : List StationEntry)
 nothing_behind next h count beside none = ap (λ (n : ℕ). entries_behind next h n beside) none
 
 -- what is entered of a packet, and then what it confirms or brings beside
-pub heard_all : (link : LinkView) (c : LayerSettings) (l : Layer) (octets : List ℕ) (before mid after others : List StationEntry) → mid ≡ before ++ entries_of_answer (layer_answer c true l octets) → after ≡ mid ++ others
+pub heard_all : (link : LinkView) (c : LayerSettings) (l : Layer) (octets : List ℕ) (mid after others : List StationEntry) → mid ≡ entries_of_answer (layer_answer c true l octets) → after ≡ mid ++ others
     → (let a : LayerAnswer = layer_answer c true l octets in
     let next : Layer = (rounds link c (begin a.next a.owed)).layer in
     let h : ℕ = named_by octets in
     entries_behind next h (confirmed c l next h) (entries_beside (beside_in true octets) (bringing a.notices)) ≡ others)
-    → after ≡ before ++ entries_of_packet c true l octets
-heard_all link c l octets before mid after others told is behind =
+    → after ≡ entries_of_packet c true l octets
+heard_all link c l octets mid after others told is behind =
     let a : LayerAnswer = layer_answer c true l octets in
-    is ∙ ap (λ (es : List StationEntry). es ++ others) told ∙ append_assoc before (entries_of_answer a) others
-    ∙ ap (λ (es : List StationEntry). before ++ (entries_of_answer a ++ es)) (sym behind ∙ pulled_behind link c l (begin a.next a.owed) (named_by octets) (entries_beside (beside_in true octets) (bringing a.notices)))
+    is ∙ ap (λ (es : List StationEntry). es ++ others) told
+    ∙ ap (λ (es : List StationEntry). entries_of_answer a ++ es) (sym behind ∙ pulled_behind link c l (begin a.next a.owed) (named_by octets) (entries_beside (beside_in true octets) (bringing a.notices)))

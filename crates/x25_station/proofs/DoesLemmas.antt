@@ -1,5 +1,5 @@
 -- A call does what the definition says of it, by what the calls of its link or of its layer did.
-use Rattle.std.proofs.Common.{◌≡◌, ◌≤◌, List, [], length, vec_len, Bool, true, false, Some, None, Result, Ok, Err, OnErr, IsErrAnd, ◌∙◌, inl, inr, refl, ap, sym, subst, arith}
+use Rattle.std.proofs.Common.{◌≡◌, ◌≤◌, List, [], length, Bool, true, false, Some, None, Result, Ok, Err, OnErr, inl, inr, refl, ap, sym, subst, arith}
 use Rattle.x25_link.specs.Station.{LinkStation, Side}
 use Rattle.x25_link.specs.Link.{alone}
 use Rattle.x25_link.specs.code.FitsLink.{ShownLink, LinkState, FitsWhole, after_put_to}
@@ -59,7 +59,7 @@ declines old new out e said refuses stays empty = record {
   stays = stays;
   empty = empty;
   few_frames = let none : length out.frames ≡ 0 = ap length empty.frames in omega (arith, none);
-  few_entries = let none : length out.entries.items ≡ 0 = ap length empty.entries in grind (arith, none, out.entries.ok);
+  few_entries = out.entries.few;
 }
 
 -- for want of memory, before anything is done
@@ -67,31 +67,23 @@ wants_memory : (o : Outcome) → (let r : Result Unit StationError = Err error.N
 wants_memory (Did step) = refl
 wants_memory (Refused e) = inr refl
 
--- the same, where the station has other memory
 pub wants_copy : (old new : code.Station) (out : code_step.Step) (said : Settings → Station → Outcome) → IsEmpty out → ((c : Settings) (s : Station) → FitsStation c old s → FitsStation c new s) → Does old new out (Err error.NoMemory) said
 wants_copy old new out said empty same = declines old new out error.NoMemory said (λ c s fits. wants_memory (said c s)) same empty
 
--- the error of a step that was refused memory is handed on
-pub hands_on : (old new : code.Station) (out : code_step.Step) (r : Result Unit StationError) (e : StationError) (said : Settings → Station → Outcome) → IsErrAnd r (λ f. f ≡ e) → e ≡ error.NoMemory → IsEmpty out
-    → ((c : Settings) (s : Station) → FitsStation c old s → FitsStation c new s) → Does old new out r said
-hands_on old new out (Ok u) e said is none empty same = absurd is
-hands_on old new out (Err f) e said is none empty same = subst (λ (x : StationError). Does old new out (Err x) said) (sym (is ∙ none)) (wants_copy old new out said empty same)
+-- ---- what becomes of T1 is said in the step behind a call
 
--- ---- a call that is made once memory was given back, which changes no state that the station stands for
+still_empty : (out : code_step.Step) (timer : Timer) (result : Result Unit StationError) → OnErr result (IsEmpty out) → OnErr result (IsEmpty (record out { timer = timer }))
+still_empty out timer (Ok u) empty = tt
+still_empty out timer (Err e) empty = record { frames = empty.frames; entries = empty.entries }
 
-retimed : (out : code_step.Step) (timer : Timer) (result : Result Unit StationError) → OnErr result (IsEmpty out) → OnErr result (IsEmpty (record out { timer = timer }))
-retimed out timer (Ok u) empty = tt
-retimed out timer (Err e) empty = record { frames = empty.frames; entries = empty.entries }
-
-pub reused : (old mid new : code.Station) (out : code_step.Step) (timer : Timer) (result : Result Unit StationError) (said : Settings → Station → Outcome)
-    → ((c : Settings) (s : Station) → FitsStation c old s → FitsStation c mid s) → Does mid new out result said → Does old new (record out { timer = timer }) result said
-reused old mid new out timer result said same d = record {
-  state = λ c s fits. d.state c s (same c s fits);
-  frames = λ c s fits. d.frames c s (same c s fits);
-  entries = λ c s fits. d.entries c s (same c s fits);
-  refused = λ c s fits. d.refused c s (same c s fits);
-  stays = λ c s fits. d.stays c s (same c s fits);
-  empty = retimed out timer result d.empty;
+pub retimed : (old new : code.Station) (out : code_step.Step) (timer : Timer) (result : Result Unit StationError) (said : Settings → Station → Outcome) → Does old new out result said → Does old new (record out { timer = timer }) result said
+retimed old new out timer result said d = record {
+  state = d.state;
+  frames = d.frames;
+  entries = d.entries;
+  refused = d.refused;
+  stays = d.stays;
+  empty = still_empty out timer result d.empty;
   few_frames = d.few_frames;
   few_entries = d.few_entries;
 }
@@ -126,9 +118,9 @@ made_few u l m y request h links small stand = least_by_meaning l y (length m.fr
 -- From the link and the layer of the old station its call led to the link m, from which the frames were taken, and to the layer of the new one.
 pub did_request : {T : Type 0} (u : T) (old new : code.Station) (m : ShownLink) (r : code_step.Step) (request : LayerRequest) → Layers old.link old.layer new.layer (Ok u) request → Links old.link m old.layer (Ok u) request
     → new.link.station ≡ m.station → new.link.frames ≡ [] → r.frames ≡ m.frames → RequestKeeps → WindowIsSmall → FewStand
-    → ((c : Settings) (s : Station) → FitsStation c old s → may_ask c.wide request ≡ true) → ((c : Settings) (s : Station) → FitsStation c old s → Enters {T = Unit} r (Ok tt) (requests c s request)) → vec_len r.entries ≤ 3 → old.manner ≡ new.manner
+    → ((c : Settings) (s : Station) → FitsStation c old s → may_ask c.wide request ≡ true) → ((c : Settings) (s : Station) → FitsStation c old s → Enters {T = Unit} r (Ok tt) (requests c s request)) → old.manner ≡ new.manner
     → Does old new r (Ok tt) (λ c s. requests c s request)
-did_request u old new m r request layers links same none made keeps small stand may entered few manner =
+did_request u old new m r request layers links same none made keeps small stand may entered manner =
     let parts : (c : Settings) (s : Station) → FitsStation c old s → Answers c new.manner new.link new.layer r (requests c s request) =
     λ c s fits. answers u c old.link m new.link old.layer new.layer r s request (subst (λ (b : Manner). FitsParts c b old.link old.layer s) manner fits) layers links same none made (may c s fits) (keeps c s request fits.kept) in
     let put = made_few u old.link m old.layer request old.meant links small stand in
@@ -141,7 +133,7 @@ did_request u old new m r request layers links same none made keeps small stand 
       stays = λ c s fits. tt;
       empty = tt;
       few_frames = omega (arith, put, same);
-      few_entries = few;
+      few_entries = r.entries.few;
     }
 
 -- what may not be asked, where the layer wouldn't refuse it

@@ -38,11 +38,11 @@ at_quiet P view c wide l o d u off stays none is =
 
 -- ---- the entries of a packet that the link hands up
 
-pub heard_entries : (c : LayerSettings) (wide : Bool) (l : Layer) (o : Option (List ℕ)) (octets : List ℕ) (notes : Notes) (before after : List StationEntry) → notes.up ≡ false → notes.down ≡ None → o ≡ Some octets
-    → after ≡ before ++ entries_of_packet c wide l octets → after ≡ before ++ (entries_noted notes ++ entries_heard c wide l o notes.down notes.up)
-heard_entries c wide l o octets notes before after off stays handed is =
-    is ∙ sym (ap (λ (p : Option (List ℕ)). before ++ (entries_noted notes ++ entries_heard c wide l p notes.down notes.up)) handed
-    ∙ ap (λ (n : Notes). before ++ (entries_noted n ++ entries_heard c wide l (Some octets) n.down n.up)) quiet)
+pub heard_entries : (c : LayerSettings) (wide : Bool) (l : Layer) (o : Option (List ℕ)) (octets : List ℕ) (notes : Notes) (after : List StationEntry) → notes.up ≡ false → notes.down ≡ None → o ≡ Some octets
+    → after ≡ entries_of_packet c wide l octets → after ≡ entries_noted notes ++ entries_heard c wide l o notes.down notes.up
+heard_entries c wide l o octets notes after off stays handed is =
+    is ∙ sym (ap (λ (p : Option (List ℕ)). entries_noted notes ++ entries_heard c wide l p notes.down notes.up) handed
+    ∙ ap (λ (n : Notes). entries_noted n ++ entries_heard c wide l (Some octets) n.down n.up) quiet)
   where
     quiet : notes ≡ record { down = None; up = false }
     quiet = ap (λ (d : Option Reason). record { down = d; up = notes.up }) stays ∙ ap (λ (u : Bool). record { down = None; up = u }) off

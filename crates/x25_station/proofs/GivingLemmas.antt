@@ -1,5 +1,5 @@
 -- A call, an acceptance or a clearing with something given beside its packet.
-use Rattle.std.proofs.Common.{◌≡◌, ℕ, zero, suc, ◌<◌, ◌≤◌, List, [], ◌∷◌, ◌++◌, length, map, vec_len, Option, Some, None, Result, Ok, Err, Bool, true, false, nat_lt, ◌==◌, ◌&&◌, if◌then◌else◌, option_to_list, inl, refl, ap, sym, subst, ◌∙◌, arith}
+use Rattle.std.proofs.Common.{◌≡◌, ℕ, zero, suc, ◌<◌, ◌≤◌, List, [], ◌∷◌, ◌++◌, length, map, Option, Some, None, Result, Ok, Err, Bool, true, false, nat_lt, ◌==◌, ◌&&◌, if◌then◌else◌, option_to_list, inl, refl, ap, sym, subst, ◌∙◌, arith}
 use Rattle.std.proofs.Math.Nat.{le_trans}
 use Rattle.std.proofs.Math.Path.{fun_ext}
 use Rattle.std.proofs.lemmas.Bool.{ltb-true}
@@ -46,6 +46,8 @@ use Rattle.x25_station.specs.code.PlainEntry.{plain_entry}
 use Rattle.x25_station.specs.code.FitsParts.{FitsParts, AreMeant}
 use Rattle.x25_station.specs.code.FitsStation as station
 use Rattle.x25_station.specs.code.FitsStation.{FitsStation, Does, IsEmpty}
+use Rattle.x25_station.specs.code.Memory.{IsBrief}
+use Rattle.x25_station.proofs.BriefLemmas.{asked_brief, dialled_brief}
 use Rattle.x25_station.proofs.AskLemmas.{taken_link, IsNamed, calls_named, still_fits, Judges}
 use Rattle.x25_station.proofs.AskedEntryLemmas.{asked_entry, dialled_entry, asked_channel, free_is_channel}
 use Rattle.x25_station.proofs.DoesLemmas.{declines}
@@ -299,19 +301,19 @@ entered_at c g s r request manner same takes entered =
 
 pub asked_given : {T : Type 0} {manner : Manner} (u : T) (c : Settings) (g : PlainGiven) (l : ShownLink) (y z : layer_code.Layer) (s : Station) (r : code_step.Step) (h : ℕ) (request : circuit.Request) → FitsParts c manner l y s
     → (let x : Result T LayerError = Ok u in LayersGiven g l y z x (Asks h request)) → TakesIt manner g (Asks h request)
-    → ((k : Layer) → FitsLayer (layer_settings c) z k → is_channel c.channels h ≡ true → map plain_entry r.entries.items ≡ of_channel (record { channel = h; name = name_of k h; said = Asked (shown (k.circuits h) request) }) ∷ [])
+    → ((k : Layer) → FitsLayer (layer_settings c) z k → is_channel c.channels h ≡ true → IsBrief request → map plain_entry r.entries.items ≡ of_channel (record { channel = h; name = name_of k h; said = Asked (shown (k.circuits h) request) }) ∷ [])
     → station.Enters {T = Unit} r (Ok tt) (gives c s g (Asks h request))
 asked_given {T = T} {manner = manner} u c g l y z s r h request fits layers takes entered =
     let x : Result T LayerError = Ok u in
     let view : LinkView = view_given (link_settings c) g s.link in
     let lc : LayerSettings = layer_settings c in
     entered_at c g s r (Asks h request) manner fits.same takes (λ p is.
-    entered p.layer (went_fits u c z _ p (layer_given x c g l y z s (Asks h request) fits layers) is) (asked_channel view lc s.layer h request p is) ∙ sym (asked_entry view lc s.layer h request p is))
+    entered p.layer (went_fits u c z _ p (layer_given x c g l y z s (Asks h request) fits layers) is) (asked_channel view lc s.layer h request p is) (asked_brief view lc s.layer h request p is) ∙ sym (asked_entry view lc s.layer h request p is))
 
 pub dialled_given : {manner : Manner} (c : Settings) (g : PlainGiven) (l : ShownLink) (y z : layer_code.Layer) (s : Station) (r : code_step.Step) (h : ℕ) (called calling user : List ℕ) (proposal : Proposal) → FitsParts c manner l y s
     → (let x : Result ℕ LayerError = Ok h in LayersGiven g l y z x (Dials called calling user proposal)) → TakesIt manner g (Dials called calling user proposal)
     → free_channel c.role s.layer.circuits c.channels ≡ Some h
-    → ((k : Layer) → FitsLayer (layer_settings c) z k → is_channel c.channels h ≡ true →
+    → ((k : Layer) → FitsLayer (layer_settings c) z k → is_channel c.channels h ≡ true → IsBrief (circuit.Calls called calling user proposal) →
     map plain_entry r.entries.items ≡ of_channel (record { channel = h; name = name_of k h; said = Asked (circuit.Calls called calling user (in_brief proposal.params)) }) ∷ [])
     → station.Enters {T = Unit} r (Ok tt) (gives c s g (Dials called calling user proposal))
 dialled_given {manner = manner} c g l y z s r h called calling user proposal fits layers takes free entered =
@@ -320,15 +322,15 @@ dialled_given {manner = manner} c g l y z s r h called calling user proposal fit
     let lc : LayerSettings = layer_settings c in
     let request : LayerRequest = Dials called calling user proposal in
     entered_at c g s r request manner fits.same takes (λ p is.
-    entered p.layer (went_fits h c z _ p (layer_given x c g l y z s request fits layers) is) (free_is_channel c.role s.layer.circuits c.channels h free)
+    entered p.layer (went_fits h c z _ p (layer_given x c g l y z s request fits layers) is) (free_is_channel c.role s.layer.circuits c.channels h free) (dialled_brief view lc s.layer called calling user proposal p is)
     ∙ sym (dialled_entry view lc s.layer h called calling user proposal p is free))
 
 -- From the link and the layer of the old station its call led to the link m, from which the frames were taken, and to the layer of the new one.
 pub did_given : {T : Type 0} (u : T) (old new : code.Station) (m : ShownLink) (r : code_step.Step) (g : PlainGiven) (request : LayerRequest) → (let x : Result T LayerError = Ok u in LayersGiven g old.link old.layer new.layer x request)
     → (let x : Result T LayerError = Ok u in LinksGiven g old.link m old.layer x request)
     → new.link.station ≡ m.station → new.link.frames ≡ [] → r.frames ≡ m.frames → GivenKeeps → WindowIsSmall → FewStand → TakesIt old.manner g request
-    → ((c : Settings) (s : Station) → FitsStation c old s → station.Enters {T = Unit} r (Ok tt) (gives c s g request)) → vec_len r.entries ≤ 3 → old.manner ≡ new.manner → Does old new r (Ok tt) (λ c s. gives c s g request)
-did_given {T = T} u old new m r g request layers links same none made keeps small stand takes entered few manner =
+    → ((c : Settings) (s : Station) → FitsStation c old s → station.Enters {T = Unit} r (Ok tt) (gives c s g request)) → old.manner ≡ new.manner → Does old new r (Ok tt) (λ c s. gives c s g request)
+did_given {T = T} u old new m r g request layers links same none made keeps small stand takes entered manner =
     let x : Result T LayerError = Ok u in
     let parts : (c : Settings) (s : Station) → FitsStation c old s → GivenAnswers c new.manner new.link new.layer r (gives c s g request) =
     λ c s fits. answers_given u c g old.link m new.link old.layer new.layer r s request (subst (λ (b : Manner). FitsParts c b old.link old.layer s) manner fits) layers links same none made keeps (subst (λ (b : Manner). TakesIt b g request) manner takes) in
@@ -344,7 +346,7 @@ did_given {T = T} u old new m r g request layers links same none made keeps smal
       stays = λ c s fits. tt;
       empty = tt;
       few_frames = omega (arith, put, alike);
-      few_entries = few;
+      few_entries = r.entries.few;
     }
 
 -- ---- a refused call

@@ -7,7 +7,7 @@ use Rattle.x25_packet.specs.declared.marks.Marks.{Marks}
 use Rattle.x25_packet.specs.Marks.{with_q}
 use Rattle.x25_circuit.specs.declared.circuit.Circuit as circuit_code
 use Rattle.x25_circuit.specs.declared.message.Message.{Message}
-use Rattle.x25_circuit.specs.Message.{Piece, More, Last, cut_from, cut_all, wholes, Partial, no_part, joining}
+use Rattle.x25_circuit.specs.Message.{Piece, More, Last, cut_from, cut_all, wholes, Partial}
 use Rattle.x25_circuit.specs.Circuit as circuit
 use Rattle.x25_circuit.specs.code.FitsCircuit.{FitsCircuit}
 use Rattle.x25_link.specs.code.Bounds.{FewStand as LinkStands, WindowIsSmall}
@@ -75,13 +75,9 @@ pub few_messages : law.FewMessages
 few_messages c v s h fits is = let u = circuit_on c v s h fits is in of_circuit c u.0 (s.layer.circuits h) u.1
 
 pub few_joined : law.FewJoined
-few_joined c v s h fits = test (is_channel c.channels h) refl
-  where
-    test : (b : Bool) → is_channel c.channels h ≡ b → (if b then length (joining no_part (s.layer.circuits h).talk.taken).user else 0) ≤ 65535
-    test false is = omega arith
-    test true is =
-        let u = circuit_on c v s h fits is in
-        subst (λ (j : Partial). length j.user ≤ 65535) u.1.talk.part u.1.talk.short
+few_joined c v s h fits is =
+    let u = circuit_on c v s h fits is in
+    subst (λ (j : Partial). length j.user ≤ 65535) u.1.talk.part u.1.talk.short
 
 pub few_held : law.FewHeld
 few_held v k u is = let few = u.transfer.queue.few in omega (arith, few)

@@ -14,7 +14,7 @@ use Rattle.x25_link.specs.laws.NoteLaw.{IsQuiet, PutTells, TakeTells, TakeHandsU
 use Rattle.x25_layer.specs.declared.error.LayerError.TheVariants as layer_error
 use Rattle.x25_layer.specs.Layer.{LayerSettings, Layer, LayerAnswer, LayerNotice, goes_up, layer_answers}
 use Rattle.x25_layer.specs.Calls.{LayerOutcome, Accepted, Declined, layer_outcome}
-use Rattle.x25_layer.specs.Room.{named_by}
+use Rattle.x25_station.specs.Confirming.{named_by}
 use Rattle.x25_layer.specs.Rounds.{LinkView, Putting, begin, rounds, Went, Refuses, went, calls, hears, answer_to}
 use Rattle.x25_packet.specs.Spelling.{longest_user}
 use Rattle.x25_layer.specs.laws.Transcript.{Entry}

@@ -14,6 +14,7 @@ pub mod AskLemmas
 pub mod ShownLemmas
 pub mod SaidLemmas
 pub mod AskedEntryLemmas
+pub mod BriefLemmas
 pub mod EnteredLemmas
 pub mod TellLemmas
 pub mod ShortLemmas

@@ -1,8 +1,8 @@
 -- What holds of a request that may be asked, and of its refusals, holds of each request.
-use Rattle.std.proofs.Common.{◌≡◌, Bool, true, false, Result, Err, inr, refl, subst}
+use Rattle.std.proofs.Common.{◌≡◌, ℕ, Bool, true, false, Result, Err, inr, refl, subst}
 use Rattle.x25_packet.specs.declared.marks.Marks.{Marks}
-use Rattle.x25_circuit.specs.Calling.{Calls, Accepts, Clears, Sends, Interrupts, Resets, SaysReady, SaysNotReady}
-use Rattle.x25_layer.specs.Calls.{LayerRequest, Asks, Dials, Restarts, PullsAll}
+use Rattle.x25_circuit.specs.Calling.{Request, Calls, Accepts, Clears, Sends, Interrupts, Resets, SaysReady, SaysNotReady}
+use Rattle.x25_layer.specs.Calls.{LayerRequest, Asks, Dials, Restarts, PullsAll, asks_memory}
 use Rattle.x25_station.specs.declared.error.StationError.{StationError}
 use Rattle.x25_station.specs.Command.{may_ask, may_mark}
 use Rattle.x25_station.specs.Giving.{not_taken}
@@ -50,3 +50,14 @@ ask_wide (Asks h SaysNotReady) = refl
 ask_wide (Dials called calling user proposal) = refl
 ask_wide (Restarts cause diagnostic) = refl
 ask_wide PullsAll = refl
+
+-- what may not be asked asks for memory
+pub memory_unasked : (wide : Bool) (h : ℕ) (request : Request) → may_ask wide (Asks h request) ≡ false → asks_memory (Asks h request) ≡ true
+memory_unasked wide h (Calls called calling user proposal) unasked = refl
+memory_unasked wide h (Accepts answer) unasked = refl
+memory_unasked wide h (Clears cause diagnostic) unasked = absurd (cc)
+memory_unasked wide h (Sends marks user) unasked = refl
+memory_unasked wide h (Interrupts user) unasked = absurd (cc)
+memory_unasked wide h (Resets cause diagnostic) unasked = absurd (cc)
+memory_unasked wide h SaysReady unasked = absurd (cc)
+memory_unasked wide h SaysNotReady unasked = absurd (cc)

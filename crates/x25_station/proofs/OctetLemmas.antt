@@ -6,10 +6,10 @@ use Rattle.x25_circuit.specs.declared.circuit.Circuit as circuit_code
 use Rattle.x25_station.specs.laws.OctetLaw.{circuit_octets}
 use Rattle.x25_station.specs.laws.OctetLaw as law
 
-of_circuit : (u : circuit_code.Circuit) → circuit_octets u ≤ 667638
+of_circuit : (u : circuit_code.Circuit) → circuit_octets u ≤ 655350
 of_circuit u = let few = u.transfer.queue.few in omega (arith, few)
 
-of_circuits : (us : List circuit_code.Circuit) → sum_by circuit_octets us ≤ 667638 * length us
+of_circuits : (us : List circuit_code.Circuit) → sum_by circuit_octets us ≤ 655350 * length us
 of_circuits [] = omega arith
 of_circuits (u ∷ us) =
     let one = of_circuit u in
@@ -20,7 +20,7 @@ pub few_octets : law.FewOctets
 few_octets v =
     let o = v.link.station.outgoing in
     let circuits = of_circuits v.layer.circuits.items in
-    omega (arith, o.places.short_ones, o.long_ones, circuits, v.messages.few)
+    omega (arith, o.places.short_ones, o.long_ones, circuits)
 
 pub few_in_all : law.FewOctetsInAll
 few_in_all c v s fits =

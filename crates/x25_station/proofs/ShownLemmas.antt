@@ -6,9 +6,6 @@ use Rattle.x25_circuit.specs.declared.params.Params.{Params}
 use Rattle.x25_circuit.specs.Circuit.{Circuit}
 use Rattle.x25_circuit.specs.Calling as circuit
 use Rattle.x25_layer.specs.laws.TwoLayers.{shown}
-use Rattle.x25_station.specs.declared.entry.Asked.{Asked}
-use Rattle.x25_station.specs.declared.entry.Asked.TheVariants as asked
-use Rattle.x25_station.specs.code.PlainEntry.{plain_asked}
 
 -- it looks at packet sizes and windows alone
 pub same_shown : (x y : Circuit) (request : circuit.Request) → x.params ≡ y.params → shown x request ≡ shown y request
@@ -24,14 +21,3 @@ same_shown x y circuit.SaysNotReady same = refl
 -- those of a configured channel
 pub in_force : (configured : Bool) (o : Option Params) (p q : Params) → configured ≡ true → o ≡ (if configured then Some p else None) → unwrap_or o q ≡ p
 in_force configured o p q is same = ap (λ (x : Option Params). unwrap_or x q) (same ∙ ap (λ (b : Bool). if b then Some p else None) is)
-
--- what is no acceptance is shown as it is
-pub as_asked : (x : Circuit) (a : Asked) → ((p : Params) → a ≡ asked.Accept p → ⊥) → plain_asked a ≡ shown x (plain_asked a)
-as_asked x (asked.Call called calling user params) other = refl
-as_asked x (asked.Accept params) other = absurd (other params refl)
-as_asked x (asked.Clear cause diagnostic) other = refl
-as_asked x (asked.Send q user) other = refl
-as_asked x (asked.Interrupt user) other = refl
-as_asked x (asked.Reset cause diagnostic) other = refl
-as_asked x asked.Ready other = refl
-as_asked x asked.NotReady other = refl

@@ -1,12 +1,10 @@
 -- What a circuit tells is entered one notice after another.
-use Rattle.std.proofs.Common.{◌≡◌, ℕ, List, [], ◌∷◌, ◌++◌, Option, Some, Result, Ok, IfOk, Bool, true, false, if◌then◌else◌, refl, ap, sym, subst, ◌∙◌}
+use Rattle.std.proofs.Common.{◌≡◌, ℕ, List, [], ◌∷◌, ◌++◌, Option, Some, Bool, true, false, if◌then◌else◌, refl, ap, sym, subst, ◌∙◌}
 use Rattle.std.proofs.lemmas.List.{append_assoc}
 use Rattle.x25_circuit.specs.declared.notice.Notice.{Notice}
 use Rattle.x25_circuit.specs.Notice.{collided}
 use Rattle.x25_circuit.specs.code.Replies.{plain_notice, notices_of}
 use Rattle.x25_handshakes.specs.laws.Names.{Name}
-use Rattle.x25_layer.specs.declared.report.Report.{Report}
-use Rattle.x25_layer.specs.Report.{plain_report}
 use Rattle.x25_layer.specs.laws.Transcript.{Told, name_of}
 use Rattle.x25_layer.specs.Layer.{LayerSettings, Layer, LayerNotice, on_channel, restarted, restart_done, layer_fault, notices_on}
 use Rattle.x25_station.specs.Entry.{StationEntry, of_channel, was_restarted, restart_confirmed, at_fault, entry_told, station_told}
@@ -43,6 +41,3 @@ same_told l m (on_channel h notice ∷ notices) same =
 same_told l m (restarted cause diagnostic ∷ notices) same = ap (λ (es : List StationEntry). was_restarted cause diagnostic ∷ es) (same_told l m notices same)
 same_told l m (restart_done ∷ notices) same = ap (λ (es : List StationEntry). restart_confirmed ∷ es) (same_told l m notices same)
 same_told l m (layer_fault diagnostic ∷ notices) same = ap (λ (es : List StationEntry). at_fault diagnostic ∷ es) (same_told l m notices same)
-
-pub told_is : {E : Type 0} (r : Result Report E) (told : Report) (notices : List LayerNotice) → r ≡ Ok told → IfOk r (λ t. plain_report t ≡ notices) → plain_report told ≡ notices
-told_is {E = E} r told notices is h = subst (λ (x : Result Report E). IfOk x (λ t. plain_report t ≡ notices)) is h

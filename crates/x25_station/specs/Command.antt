@@ -6,7 +6,7 @@ use Rattle.x25_circuit.specs.Circuit.{Circuit}
 use Rattle.x25_circuit.specs.declared.params.Params.{Params}
 use Rattle.x25_circuit.specs.Calling.{Request, Accepts, Clears, Sends, Interrupts, Resets, SaysReady, SaysNotReady}
 use Rattle.x25_layer.specs.Layer.{Layer}
-use Rattle.x25_layer.specs.Calls.{LayerRequest, Asks, Dials, Restarts, PullsAll}
+use Rattle.x25_layer.specs.Calls.{LayerRequest, Asks, Dials, Restarts, PullsAll, asks_memory}
 use Rattle.x25_given.specs.Given.{PlainGiven, plain_given}
 use Rattle.x25_station.specs.declared.command.CallCmd.{CallCmd}
 use Rattle.x25_station.specs.declared.command.CallCmd.TheVariants as of_call
@@ -63,6 +63,13 @@ may_mark wide marks = not marks.d || wide
 abbrev pub may_ask : Bool → LayerRequest → Bool
 may_ask wide (Asks h (Sends marks user)) = may_mark wide marks
 may_ask wide request = true
+
+-- ---- a call, an acceptance and a message want memory for a message, and what is given for what is put
+
+abbrev pub may_lack : Command → Bool
+may_lack (Requests request) = asks_memory request
+may_lack (RequestsWith given request) = true
+may_lack command = false
 
 -- ---- with the setting, calls and acceptances say all packet sizes and windows
 

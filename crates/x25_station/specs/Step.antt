@@ -25,8 +25,7 @@ use Rattle.x25_station.specs.Command.{Command, Requests, RequestsWith, Connects,
 use Rattle.x25_station.specs.Command.{said_by}
 use Rattle.x25_station.specs.Entry.{StationEntry, connect_asked, disconnect_asked, relink_asked, entries_noted}
 use Rattle.x25_station.specs.Entry.{station_told, station_asked, bringing, entries_beside, entries_behind}
-use Rattle.x25_station.specs.Confirming.{confirmed}
-use Rattle.x25_layer.specs.Room.{named_by}
+use Rattle.x25_station.specs.Confirming.{confirmed, named_by}
 use Rattle.x25_given.specs.Given.{PlainGiven}
 use Rattle.x25_station.specs.Giving.{is_taken, all_given, view_given, not_taken}
 use Rattle.x25_station.specs.Station.{Station, all_put, view_of}

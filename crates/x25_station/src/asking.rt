@@ -1,21 +1,19 @@
 //! What the user asks of the packet layer: the layer's call, and its entry.
-ghost use Rattle.std.specs.Prelude.{◌≡◌, ◌-◌, ◌≤◌, ℕ, [], max, Some, None, true, false, string_bytes, vec_capacity};
-ghost use Rattle.std.specs.Prelude.{IfOk};
-ghost use Rattle.x25_circuit.specs.Circuit.{Circuit};
+ghost use Rattle.std.specs.Prelude.{◌≡◌, ◌+◌, ℕ, [], ◌∷◌, Some, None, false, map, true};
 ghost use Rattle.x25_circuit.specs.Calling.{Calls, Accepts};
 ghost use Rattle.x25_circuit.specs.Request.{plain_request};
 ghost use Rattle.x25_circuit.specs.Params.{in_brief};
 ghost use Rattle.x25_layer.specs.Layer.{Layer as LayerState, LayerSettings, is_channel};
-ghost use Rattle.x25_layer.specs.Calls.{Asks, Dials, Restarts, PullsAll};
+ghost use Rattle.x25_layer.specs.Calls.{Asks, Dials, Restarts, PullsAll, asks_memory};
 ghost use Rattle.x25_layer.specs.code.FitsLayer.{FitsLayer};
-ghost use Rattle.x25_layer.specs.laws.Transcript.{name_of};
+ghost use Rattle.x25_layer.specs.laws.Transcript.{Asked as WasAsked, name_of};
 ghost use Rattle.x25_layer.specs.laws.TwoLayers.{shown};
-ghost use Rattle.x25_station.specs.Command.{Requests, answer_in_brief, command_of, may_ask, proposal_said};
+ghost use Rattle.x25_station.specs.Command.{Requests, answer_in_brief, command_of, may_ask, may_lack, proposal_said};
 ghost use Rattle.x25_station.specs.Entry.{of_channel};
-ghost use Rattle.x25_station.specs.code.Aside.{HasFewPlaces};
 ghost use Rattle.x25_station.specs.code.Clock.{TellsTimer};
-ghost use Rattle.x25_station.specs.code.FitsStation.{FitsStation, Does, IsEmpty, RefusesForMemory, RefusesOnly};
-ghost use Rattle.x25_station.specs.code.PlainEntry.{plain_entry, plain_asked, plain_said};
+ghost use Rattle.x25_station.specs.code.FitsStation.{FitsStation, Does, IsEmpty, RefusesOnly};
+ghost use Rattle.x25_station.specs.code.Memory.{IsBrief, all_memory, messages_asked, texts_asked};
+ghost use Rattle.x25_station.specs.code.PlainEntry.{plain_asked, plain_entry};
 ghost use Rattle.x25_station.specs.Config.{Settings};
 ghost use Rattle.x25_station.specs.Station.{Station as State};
 ghost use Rattle.x25_given.specs.Given.{PlainGiven};
@@ -23,105 +21,28 @@ ghost use Rattle.x25_station.specs.Step.{commands, gives, gives_said, requests};
 
 use crate::command::Cmd;
 use crate::entering::enter;
+use crate::entries::Entries;
 use crate::entry::{Asked, Entry, Said};
 use crate::error::StationError;
 use crate::giving::NOT_TAKEN;
 use crate::law::steps_keep_bounds;
+use crate::memory::Memory;
 use crate::station::Station;
 use crate::step::Step;
-use std::alloc::Global;
-use x25_bits::Pool;
 use x25_circuit::{Proposal, Request};
 use x25_layer::{Layer, Params};
 use x25_link::holds_few;
 use x25_packet::Marks;
 
-/// The most octets of a message whose memory serves the entry of another.
-const LONGEST_KEPT: usize = 4096;
-
-/// Memory for the message of an entry: that of one that was read.
-pub(crate) type MessageMemory = Pool<LONGEST_KEPT, 1>;
-
-// A copy of octets, for an entry.
+// What is asked of a channel, for an entry: an acceptance shows the packet sizes and windows in force.
 #[inline(always)]
-fn copied(alloc: Global, octets: &[u8]) -> Result<Vec<u8>, StationError>
-    ensures ok { IfOk result (λ copy. copy.items ≡ octets.now) }
-    ensures err { RefusesForMemory result }
-{
-    match Vec::from_slice(alloc, octets) {
-        Ok(copy) => Ok(copy),
-        Err(_) => Err(StationError::NoMemory),
-    }
-}
-
-// A copy of a text, for an entry.
-fn copied_text(alloc: Global, text: &str) -> Result<String, StationError>
-    ensures ok { IfOk result (λ copy. string_bytes copy ≡ text.now) }
-    ensures err { RefusesForMemory result }
-{
-    match String::from_str(alloc, text) {
-        Ok(copy) => Ok(copy),
-        Err(_) => Err(StationError::NoMemory),
-    }
-}
-
-// Memory for the message of an entry: that of one that was read where that has room, or else new.
-fn message_memory(
-    alloc: Global,
-    messages: &mut MessageMemory,
-    count: usize,
-) -> Result<Vec<u8>, StationError>
-    ensures fewer { messages.new.kept ≡ messages.old.kept - 1 }
-    ensures empty { IfOk result (λ memory. memory.items ≡ []) }
-    ensures room { IfOk result (λ memory. count ≤ vec_capacity memory) }
-    ensures most { IfOk result (λ memory. vec_capacity memory ≤ max count 4096) }
-    ensures err { RefusesForMemory result }
-{
-    if let Some(memory) = messages.take(count) {
-        return Ok(memory);
-    }
-    match Vec::with_capacity(alloc, count) {
-        Ok(memory) => Ok(memory),
-        Err(_) => Err(StationError::NoMemory),
-    }
-}
-
-// A copy of a message, for an entry.
-fn copied_message(
-    alloc: Global,
-    messages: &mut MessageMemory,
-    user: &[u8],
-) -> Result<Vec<u8>, StationError>
-    ensures fewer { messages.new.kept ≡ messages.old.kept - 1 }
-    ensures ok { IfOk result (λ copy. copy.items ≡ user.now) }
-    ensures err { RefusesForMemory result }
-{
-    let mut copy = message_memory(alloc, messages, user.len())?;
-    copy.extend_from_slice(user).unwrap();
-    Ok(copy)
-}
-
-// The memory of a message that is refused serves the entry of another.
-fn keep_asked(messages: &mut MessageMemory, asked: Asked)
-    ensures { messages.old.kept ≤ messages.new.kept }
-{
-    if let Asked::Send { user, .. } = asked {
-        messages.keep(user);
-    }
-}
-
-// What is asked of a channel, for an entry. Which packet sizes and windows an acceptance shows is known once it is
-// done.
-#[inline(always)]
-pub(crate) fn asked_of(
-    alloc: Global,
-    messages: &mut MessageMemory,
-    request: &Request<'_>,
-) -> Result<Asked, StationError>
-    ensures no_more { messages.new.kept ≤ messages.old.kept }
-    ensures ok { IfOk result (λ asked. (x : Circuit)
-        → shown x (plain_asked asked) ≡ shown x (plain_request request.now)) }
-    ensures err { RefusesForMemory result }
+fn asked_of(memory: &mut Memory, layer: &Layer, channel: u16, request: &Request<'_>) -> Asked
+    requires { memory.old ≡ all_memory }
+    ensures texts { memory.new.texts + texts_asked result ≡ 5 }
+    ensures messages { memory.new.messages + messages_asked result ≡ 1 }
+    ensures asked { (c : LayerSettings) (l : LayerState) → FitsLayer c layer.now l
+        → is_channel c.channels channel ≡ true → IsBrief (plain_request request.now)
+        → plain_asked result ≡ shown (l.circuits channel) (plain_request request.now) }
 {
     match request {
         Request::Call {
@@ -129,64 +50,49 @@ pub(crate) fn asked_of(
             calling,
             user,
             proposal,
-        } => asked_call(alloc, called, calling, user, proposal.params()),
-        Request::Accept { .. } => Ok(Asked::Accept {
-            params: Params::default(),
-        }),
-        Request::Clear { cause, diagnostic } => Ok(Asked::Clear {
-            cause: *cause,
-            diagnostic: *diagnostic,
-        }),
-        Request::Send { q, user } => Ok(Asked::Send {
-            q: *q,
-            user: copied_message(alloc, messages, user)?,
-        }),
-        Request::Interrupt { user } => Ok(Asked::Interrupt {
-            user: copied(alloc, user)?,
-        }),
-        Request::Reset { cause, diagnostic } => Ok(Asked::Reset {
-            cause: *cause,
-            diagnostic: *diagnostic,
-        }),
-        Request::Ready => Ok(Asked::Ready),
-        Request::NotReady => Ok(Asked::NotReady),
-    }
-}
-
-// A call that is asked, for an entry.
-pub(crate) fn asked_call(
-    alloc: Global,
-    called: &str,
-    calling: &str,
-    user: &[u8],
-    params: Params,
-) -> Result<Asked, StationError>
-    ensures ok { IfOk result (λ asked. plain_asked asked ≡ Calls called.now calling.now user.now (in_brief params)) }
-    ensures err { RefusesForMemory result }
-{
-    let called = copied_text(alloc, called)?;
-    let calling = copied_text(alloc, calling)?;
-    let user = copied(alloc, user)?;
-    Ok(Asked::Call {
-        called,
-        calling,
-        user,
-        params,
-    })
-}
-
-// An acceptance shows the packet sizes and windows in force on its channel.
-#[inline(always)]
-pub(crate) fn as_shown(layer: &Layer, channel: u16, asked: Asked) -> Asked
-    ensures { (c : LayerSettings) (l : LayerState) → FitsLayer c layer.now l → is_channel c.channels channel ≡ true
-        → plain_asked result ≡ shown (l.circuits channel) (plain_asked asked) }
-{
-    match asked {
-        Asked::Accept { params } => Asked::Accept {
-            params: layer.params(channel).unwrap_or(params),
+        } => Asked::Call {
+            called: memory.text(called.as_bytes()),
+            calling: memory.text(calling.as_bytes()),
+            user: memory.text(user),
+            params: proposal.params(),
         },
-        asked => asked,
+        Request::Accept { .. } => Asked::Accept {
+            params: layer.params(channel).unwrap_or(Params::default()),
+        },
+        Request::Clear { cause, diagnostic } => Asked::Clear {
+            cause: *cause,
+            diagnostic: *diagnostic,
+        },
+        Request::Send { q, user } => Asked::Send {
+            q: *q,
+            user: memory.message(user),
+        },
+        Request::Interrupt { user } => Asked::Interrupt {
+            user: memory.text(user),
+        },
+        Request::Reset { cause, diagnostic } => Asked::Reset {
+            cause: *cause,
+            diagnostic: *diagnostic,
+        },
+        Request::Ready => Asked::Ready,
+        Request::NotReady => Asked::NotReady,
     }
+}
+
+/// Enters what was asked of a channel, as the only entry, under the name of the stretch that stands then.
+#[inline(always)]
+pub(crate) fn enter_asked(layer: &Layer, entries: &mut Entries, channel: u16, request: &Request<'_>)
+    requires { entries.old.items ≡ [] }
+    ensures { (c : LayerSettings) (l : LayerState) → FitsLayer c layer.now l
+        → is_channel c.channels channel ≡ true → IsBrief (plain_request request.now)
+        → map plain_entry entries.new.items ≡ of_channel (record {
+          channel = channel;
+          name = name_of l channel;
+          said = WasAsked (shown (l.circuits channel) (plain_request request.now));
+        }) ∷ [] }
+{
+    let asked = asked_of(&mut entries.memory, layer, channel, request);
+    enter(layer, &mut entries.list, channel, Said::Asked(asked));
 }
 
 // Whether this may be asked: confirmation by a station that reads packets in all their forms.
@@ -212,18 +118,17 @@ impl Station {
     /// its cause. A message of which confirmation is asked is refused as without, and then with 34 where `Cfg::wide`
     /// isn't set. `With` is refused as without what is given, and then with 34 where `Cfg::wide` isn't set, where that
     /// isn't allowed (`Given::is_allowed`), where user data is given beside a call, and where D is beside a clearing.
-    /// Else 70 alone, and 70 may come in place of each of these; `Pull` is never refused with it. The station is as
-    /// before then.
+    /// Else 70 alone, and that of a call, an acceptance, a message and `With` alone, where it may come in place of each
+    /// of these: they want memory for a message of their channel, or for what is given. The station is as before then.
     #[inline(always)]
     pub fn command(&mut self, command: Cmd<'_>, out: &mut Step) -> Result<(), StationError>
         ensures does { Does self.old self.new out.new result (λ c s. commands c s (command_of command.entry)) }
         ensures timer { TellsTimer self.old out.new.timer result false
             (λ c s. commands c s (command_of command.entry)) }
-        ensures pull { command_of command.entry ≡ Requests PullsAll → (c : Settings) (s : State)
-            → FitsStation c self.old s → RefusesOnly result (requests c s PullsAll) }
-        ensures places { HasFewPlaces out.old.entries out.new.entries }
+        ensures only { may_lack (command_of command.entry) ≡ false → (c : Settings) (s : State)
+            → FitsStation c self.old s → RefusesOnly result (commands c s (command_of command.entry)) }
     {
-        self.empty(out);
+        out.clear();
         let ran = self.timer_runs();
         let answer = self.carry_out(&command, out);
         out.timer = self.timer_behind(ran, false, false, out.entries.as_slice());
@@ -235,9 +140,8 @@ impl Station {
     fn carry_out(&mut self, command: &Cmd<'_>, out: &mut Step) -> Result<(), StationError>
         requires { IsEmpty out.old }
         ensures does { Does self.old self.new out.new result (λ c s. commands c s (command_of command.now)) }
-        ensures pull { command_of command.now ≡ Requests PullsAll → (c : Settings) (s : State)
-            → FitsStation c self.old s → RefusesOnly result (requests c s PullsAll) }
-        ensures places { HasFewPlaces out.old.entries out.new.entries }
+        ensures only { may_lack (command_of command.now) ≡ false → (c : Settings) (s : State)
+            → FitsStation c self.old s → RefusesOnly result (commands c s (command_of command.now)) }
     {
         match command {
             Cmd::Accept { channel, params } => self.accept(*channel, *params, out),
@@ -311,7 +215,6 @@ impl Station {
         ensures does { Does self.old self.new out.new result (λ c s. requests c s PullsAll) }
         ensures only { (c : Settings) (s : State) → FitsStation c self.old s
             → RefusesOnly result (requests c s PullsAll) }
-        ensures places { HasFewPlaces out.old.entries out.new.entries }
     {
         steps_keep_bounds();
         holds_few();
@@ -334,7 +237,6 @@ impl Station {
         requires { IsEmpty out.old }
         ensures does { Does self.old self.new out.new result
             (λ c s. commands c s (Requests (Asks channel (Accepts (answer_in_brief params))))) }
-        ensures places { HasFewPlaces out.old.entries out.new.entries }
     {
         match self.answer(channel, params) {
             Some(answer) => self.ask(
@@ -381,7 +283,6 @@ impl Station {
         requires { IsEmpty out.old }
         ensures does { Does self.old self.new out.new result
             (λ c s. commands c s (Requests (Dials called.now calling.now user.now (in_brief params)))) }
-        ensures places { HasFewPlaces out.old.entries out.new.entries }
     {
         let proposal = self.proposal(params);
         self.dial(called, calling, user, &proposal, out)
@@ -407,24 +308,21 @@ impl Station {
         requires { IsEmpty out.old }
         ensures does { Does self.old self.new out.new result
             (λ c s. requests c s (Dials called.now calling.now user.now proposal.now)) }
-        ensures places { HasFewPlaces out.old.entries out.new.entries }
     {
         steps_keep_bounds();
         holds_few();
-        if let Some(error) = self
-            .layer
-            .call_refusal(&self.link, called, calling, user, proposal)
-        {
-            return Err(StationError::of_layer(error));
-        }
-        let asked = asked_call(self.alloc, called, calling, user, proposal.params())?;
-        out.reserve()?;
         match self
             .layer
             .call(&mut self.link, called, calling, user, proposal)
         {
             Ok(channel) => {
-                enter(&self.layer, &mut out.entries, channel, Said::Asked(asked));
+                let request = Request::Call {
+                    called,
+                    calling,
+                    user,
+                    proposal,
+                };
+                enter_asked(&self.layer, &mut out.entries, channel, &request);
                 self.link.swap_frames(&mut out.frames);
                 Ok(())
             }
@@ -443,31 +341,27 @@ impl Station {
         requires { IsEmpty out.old }
         ensures does { Does self.old self.new out.new result
             (λ c s. requests c s (Asks channel (plain_request request.entry))) }
-        ensures places { HasFewPlaces out.old.entries out.new.entries }
+        ensures only { asks_memory (Asks channel (plain_request request.entry)) ≡ false → (c : Settings) (s : State)
+            → FitsStation c self.old s
+            → RefusesOnly result (requests c s (Asks channel (plain_request request.entry))) }
     {
         steps_keep_bounds();
         holds_few();
         // A copy is lent, so that the kind of the request itself stays known where this stands in its callers' place.
-        let judged = request;
-        if let Some(error) = self.layer.refusal(&self.link, channel, &judged) {
-            return Err(StationError::of_layer(error));
-        }
-        if !may_ask(self.manner.wide, &judged) {
+        let asked = request;
+        if !may_ask(self.manner.wide, &asked) {
+            if let Some(error) = self.layer.refusal(&self.link, channel, &asked) {
+                return Err(StationError::of_layer(error));
+            }
             return Err(NOT_TAKEN);
         }
-        out.reserve()?;
-        let asked = asked_of(self.alloc, &mut self.messages, &request)?;
         match self.layer.ask(&mut self.link, channel, request) {
             Ok(()) => {
-                let asked = as_shown(&self.layer, channel, asked);
-                enter(&self.layer, &mut out.entries, channel, Said::Asked(asked));
+                enter_asked(&self.layer, &mut out.entries, channel, &asked);
                 self.link.swap_frames(&mut out.frames);
                 Ok(())
             }
-            Err(error) => {
-                keep_asked(&mut self.messages, asked);
-                Err(StationError::of_layer(error))
-            }
+            Err(error) => Err(StationError::of_layer(error)),
         }
     }
 
@@ -475,15 +369,14 @@ impl Station {
     fn restart(&mut self, cause: u8, diagnostic: u8, out: &mut Step) -> Result<(), StationError>
         requires { IsEmpty out.old }
         ensures does { Does self.old self.new out.new result (λ c s. requests c s (Restarts cause diagnostic)) }
-        ensures places { HasFewPlaces out.old.entries out.new.entries }
+        ensures only { (c : Settings) (s : State) → FitsStation c self.old s
+            → RefusesOnly result (requests c s (Restarts cause diagnostic)) }
     {
         steps_keep_bounds();
         holds_few();
-        out.reserve()?;
         match self.layer.restart(&mut self.link, cause, diagnostic) {
             Ok(()) => {
-                out.entries
-                    .push_reserved(Entry::RestartAsked { cause, diagnostic });
+                out.entries.push(Entry::RestartAsked { cause, diagnostic });
                 self.link.swap_frames(&mut out.frames);
                 Ok(())
             }

@@ -1,10 +1,11 @@
 //! Messages that a packet confirms. ITU-T X.25 (10/96), sections 4.3.3 and 4.4.1.4.
-ghost use Rattle.std.specs.Prelude.{ℕ};
+ghost use Rattle.std.specs.Prelude.{◌≡◌, ℕ, IfSome};
 ghost use Rattle.x25_layer.specs.Layer.{LayerSettings};
 ghost use Rattle.x25_layer.specs.Layer.{Layer as State};
 ghost use Rattle.x25_layer.specs.code.FitsLayer.{FitsLayer};
 ghost use Rattle.x25_station.specs.Confirming.{confirmed};
 ghost use Rattle.x25_station.specs.code.Confirming.{Stands, Tells};
+ghost use Rattle.x25_station.specs.code.Memory.{messages_in, texts_in};
 
 use crate::entry::Entry;
 use x25_layer::{Layer, Stretch};
@@ -37,8 +38,10 @@ pub(crate) fn unconfirmed_on(layer: &Layer, channel: u16) -> Option<Unconfirmed>
 
 /// The entry of what of this is confirmed in the layer as it is then: none where another stretch stands there.
 pub(crate) fn confirmed(before: Option<Unconfirmed>, layer: &Layer) -> Option<Entry>
-    ensures { (c : LayerSettings) (h : ℕ) (l next : State) → Stands c l h before → FitsLayer c layer.now next
+    ensures tells { (c : LayerSettings) (h : ℕ) (l next : State) → Stands c l h before → FitsLayer c layer.now next
         → Tells next h (confirmed c l next h) result }
+    ensures texts { IfSome result (λ entry. texts_in entry ≡ 0) }
+    ensures messages { IfSome result (λ entry. messages_in entry ≡ 0) }
 {
     let Some(before) = before else {
         return None;

@@ -1,83 +1,62 @@
-//! Entries of what the packet layer tells, in memory that was set aside.
-ghost use Rattle.std.specs.Prelude.{◌≡◌, ℕ, ◌+◌, ◌<◌, ◌≤◌, ◌++◌, [], ◌∷◌, map, take, true};
-ghost use Rattle.x25_circuit.specs.code.Replies.{plain_notice, notices_of};
+//! Entries of what the packet layer tells, in memory of the step.
+ghost use Rattle.std.specs.Prelude.{◌≡◌, ◌+◌, ◌<◌, ◌≤◌, ◌++◌, [], ◌∷◌, length, map, Some, true};
+ghost use Rattle.std.specs.List.{sum_by};
+ghost use Rattle.x25_circuit.specs.code.Replies.{handed_over, plain_notice, notices_of};
 ghost use Rattle.x25_layer.specs.Layer.{Layer as LayerState, LayerSettings, is_channel, notices_on};
 ghost use Rattle.x25_layer.specs.code.FitsLayer.{FitsLayer};
 ghost use Rattle.x25_layer.specs.laws.Transcript.{name_of};
-ghost use Rattle.x25_layer.specs.Report.{plain_report};
+ghost use Rattle.x25_layer.specs.Report.{handed_over_in, plain_report};
 ghost use Rattle.x25_station.specs.Entry.{bringing, entries_beside, may_bring, of_channel, station_told};
 ghost use Rattle.x25_station.specs.code.PlainEntry.{plain_entry, plain_said, plain_told};
 ghost use Rattle.x25_station.specs.Receiving.{IsShort, AreTellable};
 ghost use Rattle.x25_station.specs.Beside.{AreFew, plain_beside};
-ghost use Rattle.x25_station.specs.code.Aside.{GrowsBy, HasPlaces, UsesFew};
+ghost use Rattle.x25_station.specs.code.Aside.{GrowsBy, HasPlaces};
+ghost use Rattle.x25_station.specs.code.Memory.{Lends, messages_in, messages_said, messages_told, texts_in};
+ghost use Rattle.x25_station.specs.code.Memory.{texts_said, texts_told};
 
 use crate::beside::Beside;
+use crate::entries::Entries;
 use crate::entry::{Entry, Said, Told};
-use x25_bits::Promise;
+use crate::memory::Memory;
 use x25_circuit::Notice;
-use x25_layer::{Layer, Report};
-use x25_packet::Digits;
+use x25_layer::{Layer, Report, Stretch};
 
-/// The most octets of a text in an entry: those of the user data of a call, where it may be long. Interrupts and
-/// addresses have fewer.
-pub(crate) const LONGEST_TEXT: usize = 128;
-
-/// The most texts that a packet brings: the two addresses of a call and its user data, and the two of what came beside.
-pub(crate) const MOST_TEXTS: usize = 5;
-
-/// Memory for the texts of entries.
-pub(crate) type TextMemory = Promise<LONGEST_TEXT, MOST_TEXTS>;
+// The name of no stretch: there is none on a channel that isn't configured.
+const NO_NAME: Stretch = Stretch {
+    restarts: 0,
+    clears: 0,
+    resets: 0,
+};
 
 /// Enters what was said on a configured channel, under the name of its stretch, behind the other entries.
 #[inline(always)]
 pub(crate) fn enter(layer: &Layer, entries: &mut Vec<Entry>, channel: u16, said: Said)
     requires { HasPlaces 1 entries.old }
     ensures few { GrowsBy 1 entries.old entries.new }
+    ensures texts { sum_by texts_in entries.new.items ≡ sum_by texts_in entries.old.items + texts_said said }
+    ensures messages { sum_by messages_in entries.new.items
+        ≡ sum_by messages_in entries.old.items + messages_said said }
     ensures entered { (c : LayerSettings) (l : LayerState) → FitsLayer c layer.now l
         → is_channel c.channels channel ≡ true →
         map plain_entry entries.new.items ≡ map plain_entry entries.old.items
         ++ of_channel (record { channel = channel; name = name_of l channel; said = plain_said said }) ∷ [] }
 {
-    if let Some(name) = layer.name(channel) {
-        entries.push_reserved(Entry::OnChannel {
-            channel,
-            name,
-            said,
-        });
-    }
-}
-
-// A copy of the first 128 octets.
-fn kept(texts: &mut TextMemory, octets: &[u8]) -> Vec<u8>
-    requires { 0 < texts.old }
-    ensures copy { result.items ≡ take 128 octets.now }
-    ensures fewer { texts.new + 1 ≡ texts.old }
-{
-    let count = LONGEST_TEXT.min(octets.len());
-    let mut copy = texts.take(count);
-    copy.extend_from_slice(&octets[..count]).unwrap();
-    copy
-}
-
-// The digits of an address.
-fn kept_digits(texts: &mut TextMemory, digits: &Digits) -> Vec<u8>
-    requires { 0 < texts.old }
-    ensures copy { result.items ≡ digits.now }
-    ensures fewer { texts.new + 1 ≡ texts.old }
-{
-    let count = digits.len();
-    let mut copy = texts.take(count);
-    for place in 0..count {
-        copy.push_reserved(digits.get(place));
-    }
-    copy
+    let name = layer.name(channel).unwrap_or(NO_NAME);
+    entries.push_reserved(Entry::OnChannel {
+        channel,
+        name,
+        said,
+    });
 }
 
 // What a notice tells the user of a channel, where its user data are at most 128 octets.
-fn told_of(texts: &mut TextMemory, notice: Notice<'_>) -> Told
-    requires { 3 ≤ texts.old }
+fn told_of(memory: &mut Memory, notice: Notice<'_>) -> Told
+    requires { 3 ≤ memory.old.texts }
     ensures told { IsShort (plain_notice notice.entry) → plain_told result ≡ plain_notice notice.entry }
-    ensures used { UsesFew 3 texts.old texts.new }
+    ensures texts { memory.new.texts + texts_told result ≡ memory.old.texts }
+    ensures few { texts_told result ≤ 3 }
+    ensures messages { memory.new.messages ≡ memory.old.messages }
+    ensures handed { messages_told result ≡ handed_over (Some notice.entry) }
 {
     match notice {
         Notice::Incoming {
@@ -86,9 +65,9 @@ fn told_of(texts: &mut TextMemory, notice: Notice<'_>) -> Told
             user,
             params,
         } => {
-            let called = kept_digits(texts, &called);
-            let calling = kept_digits(texts, &calling);
-            let user = kept(texts, user);
+            let called = memory.digits(&called);
+            let calling = memory.digits(&calling);
+            let user = memory.text(user);
             Told::Incoming {
                 called,
                 calling,
@@ -103,7 +82,7 @@ fn told_of(texts: &mut TextMemory, notice: Notice<'_>) -> Told
         Notice::ResetDone => Told::ResetDone,
         Notice::Delivered(message) => Told::Delivered(message),
         Notice::Interrupted { user } => {
-            let user = kept(texts, user);
+            let user = memory.text(user);
             Told::Interrupted { user }
         }
         Notice::InterruptDone => Told::InterruptDone,
@@ -115,16 +94,17 @@ fn told_of(texts: &mut TextMemory, notice: Notice<'_>) -> Told
 // notice.
 fn enter_notices(
     layer: &Layer,
-    texts: &mut TextMemory,
+    memory: &mut Memory,
     channel: u16,
     collided: bool,
     notice: Option<Notice<'_>>,
     entries: &mut Vec<Entry>,
 )
-    requires texts { 3 ≤ texts.old }
+    requires texts { 3 ≤ memory.old.texts }
     requires room { HasPlaces 2 entries.old }
     ensures few { GrowsBy 2 entries.old entries.new }
-    ensures used { UsesFew 3 texts.old texts.new }
+    ensures lends { Lends (handed_over notice.entry) entries.old.items entries.new.items memory.old memory.new }
+    ensures least { memory.old.texts ≤ memory.new.texts + 3 }
     ensures entered { (c : LayerSettings) (l : LayerState) → FitsLayer c layer.now l
         → AreTellable c (notices_on channel (notices_of collided notice.entry)) →
         map plain_entry entries.new.items ≡ map plain_entry entries.old.items
@@ -134,7 +114,7 @@ fn enter_notices(
         enter(layer, entries, channel, Said::Told(Told::Collided));
     }
     if let Some(notice) = notice {
-        let told = told_of(texts, notice);
+        let told = told_of(memory, notice);
         enter(layer, entries, channel, Said::Told(told));
     }
 }
@@ -142,14 +122,15 @@ fn enter_notices(
 /// Enters what the layer reported.
 pub(crate) fn enter_told(
     layer: &Layer,
-    texts: &mut TextMemory,
+    memory: &mut Memory,
     told: Report<'_>,
     entries: &mut Vec<Entry>,
 )
-    requires texts { 3 ≤ texts.old }
+    requires texts { 3 ≤ memory.old.texts }
     requires room { HasPlaces 2 entries.old }
     ensures few { GrowsBy 2 entries.old entries.new }
-    ensures used { UsesFew 3 texts.old texts.new }
+    ensures lends { Lends (handed_over_in told.entry) entries.old.items entries.new.items memory.old memory.new }
+    ensures least { memory.old.texts ≤ memory.new.texts + 3 }
     ensures entered { (c : LayerSettings) (l : LayerState) → FitsLayer c layer.now l
         → AreTellable c (plain_report told.entry) →
         map plain_entry entries.new.items ≡ map plain_entry entries.old.items
@@ -161,7 +142,7 @@ pub(crate) fn enter_told(
             channel,
             collided,
             notice,
-        } => enter_notices(layer, texts, channel, collided, notice, entries),
+        } => enter_notices(layer, memory, channel, collided, notice, entries),
         Report::Restarted { cause, diagnostic } => {
             entries.push_reserved(Entry::WasRestarted { cause, diagnostic });
         }
@@ -198,32 +179,19 @@ pub(crate) fn bringing(told: &Report<'_>) -> Option<u16>
 }
 
 /// Enters what a packet brought beside what was told of it on this channel.
-pub(crate) fn enter_beside(
-    texts: &mut TextMemory,
-    beside: Beside<'_>,
-    channel: Option<u16>,
-    entries: &mut Vec<Entry>,
-)
-    requires texts { 2 ≤ texts.old }
-    requires room { HasPlaces 1 entries.old }
+pub(crate) fn enter_beside(beside: Beside<'_>, channel: Option<u16>, entries: &mut Entries)
+    requires texts { sum_by texts_in entries.old.items ≤ 3 }
+    requires room { length entries.old.items < 3 }
     requires few { AreFew (plain_beside beside) }
-    ensures few { GrowsBy 1 entries.old entries.new }
-    ensures used { UsesFew 2 texts.old texts.new }
     ensures entered { map plain_entry entries.new.items ≡ map plain_entry entries.old.items
         ++ entries_beside (plain_beside beside.entry) channel }
 {
     match (beside, channel) {
         (Beside::Fields(fields), Some(channel)) => {
-            let facilities = kept(texts, fields.facilities);
-            let user = kept(texts, fields.user);
-            entries.push_reserved(Entry::Beside {
-                channel,
-                facilities,
-                user,
-            });
+            entries.push_beside(channel, fields.facilities, fields.user);
         }
         (Beside::Diagnostic(diagnostic), _) => {
-            entries.push_reserved(Entry::Diagnosed { diagnostic });
+            entries.push(Entry::Diagnosed { diagnostic });
         }
         _ => {}
     }

@@ -1,10 +1,11 @@
-use x25_circuit::Message;
+use crate::text::Text;
+use x25_circuit::{Message, Octets};
 use x25_layer::{Params, Stretch};
 use x25_link::Reason;
 use x25_packet::Marks;
 
 /// An entry of the transcript of a station (profile): what its user asked, what the link noted, or what the packet
-/// layer reported. It owns what it says.
+/// layer reported. It owns what it says, in memory of its step.
 #[derive(Debug, Drop)]
 pub enum Entry {
     /// What the user of a channel asked, or what was reported to that user, under the name of the stretch that stood
@@ -44,8 +45,8 @@ pub enum Entry {
     /// octets, and the user data, at most 128, of which a call has none here.
     Beside {
         channel: u16,
-        facilities: Vec<u8>,
-        user: Vec<u8>,
+        facilities: Text,
+        user: Text,
     },
     /// So many messages more of this stretch are confirmed, of those whose confirmation was asked, in their order.
     Confirmed {
@@ -74,9 +75,9 @@ pub enum Asked {
     /// A call, with addresses of 0 to 15 figures and at most 16 octets of user data, or 128 where `Cfg::long_data` is
     /// set, and the packet sizes and windows that it proposes.
     Call {
-        called: String,
-        calling: String,
-        user: Vec<u8>,
+        called: Text,
+        calling: Text,
+        user: Text,
         params: Params,
     },
     /// That the incoming call be accepted, with the packet sizes and windows that are then in force.
@@ -91,11 +92,11 @@ pub enum Asked {
     /// That a message be sent: its qualifier, whether confirmation of its delivery is asked, and at most 65,535 octets.
     Send {
         q: Marks,
-        user: Vec<u8>,
+        user: Octets,
     },
     /// That an interrupt of 1 to 32 octets be sent.
     Interrupt {
-        user: Vec<u8>,
+        user: Text,
     },
     /// That the call be reset.
     Reset {
@@ -113,9 +114,9 @@ pub enum Asked {
 pub enum Told {
     /// The other end calls, and proposes packet sizes and windows. Addresses are lists of 0 to 15 digits, each 0 to 9.
     Incoming {
-        called: Vec<u8>,
-        calling: Vec<u8>,
-        user: Vec<u8>,
+        called: Text,
+        calling: Text,
+        user: Text,
         params: Params,
     },
     /// The other end accepted the call, with the packet sizes and windows in force.
@@ -142,7 +143,7 @@ pub enum Told {
     Delivered(Message),
     /// An interrupt came.
     Interrupted {
-        user: Vec<u8>,
+        user: Text,
     },
     /// This end's interrupt is confirmed.
     InterruptDone,

@@ -6,17 +6,14 @@ ghost use Rattle.x25_circuit.specs.Request.{plain_request};
 ghost use Rattle.x25_given.specs.Given.{may_give, plain_given};
 ghost use Rattle.x25_layer.specs.Calls.{Asks, Dials};
 ghost use Rattle.x25_station.specs.Command.{answer_in_brief, request_of};
-ghost use Rattle.x25_station.specs.code.Aside.{HasFewPlaces};
 ghost use Rattle.x25_station.specs.code.FitsStation.{FitsStation, Does, IsEmpty};
 ghost use Rattle.x25_station.specs.Config.{Settings};
 ghost use Rattle.x25_station.specs.Giving.{suits};
 ghost use Rattle.x25_station.specs.Station.{Station as State};
 ghost use Rattle.x25_station.specs.Step.{gives, gives_said};
 
-use crate::asking::{as_shown, asked_call, asked_of};
+use crate::asking::enter_asked;
 use crate::command::CallCmd;
-use crate::entering::enter;
-use crate::entry::{Asked, Said};
 use crate::error::StationError;
 use crate::law::steps_keep_bounds;
 use crate::station::Station;
@@ -53,7 +50,6 @@ impl Station {
         requires { IsEmpty out.old }
         ensures does { Does self.old self.new out.new result
             (λ c s. gives_said c s (plain_given given.now) (request_of command.now)) }
-        ensures places { HasFewPlaces out.old.entries out.new.entries }
     {
         match command {
             CallCmd::Call {
@@ -97,7 +93,6 @@ impl Station {
         requires { IsEmpty out.old }
         ensures does { Does self.old self.new out.new result (λ c s. gives_said c s (plain_given given.now)
             (Dials called.now calling.now user.now (in_brief params))) }
-        ensures places { HasFewPlaces out.old.entries out.new.entries }
     {
         let proposal = self.proposal(params);
         self.dial_given(given, called, calling, user, &proposal, out)
@@ -114,7 +109,6 @@ impl Station {
         requires { IsEmpty out.old }
         ensures does { Does self.old self.new out.new result (λ c s. gives_said c s (plain_given given.now)
             (Asks channel (Accepts (answer_in_brief params)))) }
-        ensures places { HasFewPlaces out.old.entries out.new.entries }
     {
         match self.answer(channel, params) {
             Some(answer) => self.ask_given(
@@ -149,7 +143,6 @@ impl Station {
         requires { IsEmpty out.old }
         ensures does { Does self.old self.new out.new result
             (λ c s. gives c s (plain_given given.now) (Dials called.now calling.now user.now proposal.now)) }
-        ensures places { HasFewPlaces out.old.entries out.new.entries }
     {
         steps_keep_bounds();
         holds_few();
@@ -165,8 +158,6 @@ impl Station {
         let Ok(form) = Writing::new(self.alloc, *given) else {
             return Err(StationError::NoMemory);
         };
-        let asked = asked_call(self.alloc, called, calling, user, proposal.params())?;
-        out.reserve()?;
         match call_through(
             &mut self.layer,
             &mut self.link,
@@ -177,7 +168,13 @@ impl Station {
             proposal,
         ) {
             Ok(channel) => {
-                enter(&self.layer, &mut out.entries, channel, Said::Asked(asked));
+                let request = Request::Call {
+                    called,
+                    calling,
+                    user,
+                    proposal,
+                };
+                enter_asked(&self.layer, &mut out.entries, channel, &request);
                 self.link.swap_frames(&mut out.frames);
                 Ok(())
             }
@@ -196,7 +193,6 @@ impl Station {
         requires { IsEmpty out.old }
         ensures does { Does self.old self.new out.new result
             (λ c s. gives c s (plain_given given.now) (Asks channel (plain_request request.entry))) }
-        ensures places { HasFewPlaces out.old.entries out.new.entries }
     {
         steps_keep_bounds();
         holds_few();
@@ -210,12 +206,9 @@ impl Station {
         let Ok(form) = Writing::new(self.alloc, *given) else {
             return Err(StationError::NoMemory);
         };
-        out.reserve()?;
-        let asked = asked_of(self.alloc, &mut self.messages, &request)?;
         match ask_through(&mut self.layer, &mut self.link, form, channel, request) {
             Ok(()) => {
-                let asked = as_shown(&self.layer, channel, asked);
-                enter(&self.layer, &mut out.entries, channel, Said::Asked(asked));
+                enter_asked(&self.layer, &mut out.entries, channel, &judged);
                 self.link.swap_frames(&mut out.frames);
                 Ok(())
             }

@@ -7,7 +7,7 @@ ghost use Rattle.x25_station.specs.laws.KeepLaw.{ReceiveKeeps};
 ghost use Rattle.x25_station.specs.laws.GivenLaw.{GivenIsHeard, GivenIsJoined, GivenIsRead};
 ghost use Rattle.x25_station.specs.laws.GivenLaw.{GivenIsTold, GivenIsWritten};
 ghost use Rattle.x25_station.specs.laws.ReadLaw.{PutsAreReadable, PutsBesidePeersAreReadable};
-ghost use Rattle.x25_station.specs.laws.HoldLaw.{FewWait, FewStand, FewMessages, FewJoined, FewHeld, FewAside};
+ghost use Rattle.x25_station.specs.laws.HoldLaw.{FewWait, FewStand, FewMessages, FewJoined, FewHeld};
 ghost use Rattle.x25_station.specs.laws.OctetLaw.{FewOctets, FewOctetsInAll};
 ghost use Rattle.x25_station.specs.laws.TimerLaw.{BeginsWhereDue, BeginsBehindPull, DeadlineIsTrue, FiringIsTaken};
 ghost use Rattle.x25_station.specs.laws.TimerLaw.{OffIsRefused, PullIsHeeded};
@@ -97,16 +97,14 @@ pub fn steps_keep_bounds()
 
 /// What a station holds at most: 256 packets that wait in its link, 7 that were sent and aren't acknowledged, and for
 /// each channel 8 messages that wait, and one more whose last packet was pulled, until the next is begun, and one of
-/// which some packets came. A message, also one in part, has at most 65,535 octets. Between calls memory is set aside
-/// for at most 5 texts of entries. In all, with the places of packets and frames, it is at most 241,275 octets, and
-/// 667,638 for each channel.
+/// which some packets came. A message, also one in part, has at most 65,535 octets. In all, with the places of packets
+/// and frames, it is at most 236,539 octets, and 655,350 for each channel.
 pub fn stations_hold_few()
     ensures wait { FewWait }
     ensures stand { FewStand }
     ensures messages { FewMessages }
     ensures joined { FewJoined }
     ensures held { FewHeld }
-    ensures aside { FewAside }
     ensures octets { FewOctets }
     ensures octets_in_all { FewOctetsInAll }
 {

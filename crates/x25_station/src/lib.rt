@@ -7,20 +7,24 @@ mod command;
 mod config;
 mod confirming;
 mod entering;
+mod entries;
 mod entry;
 mod error;
 mod giving;
 mod law;
 mod linking;
+mod memory;
 mod pulling;
 mod receiving;
 mod reusing;
 mod station;
 mod step;
+mod text;
 mod timer;
 
 pub use command::{CallCmd, Cmd};
 pub use config::Cfg;
+pub use entries::Entries;
 pub use entry::{Asked, Entry, Said, Told};
 pub use error::StationError;
 pub use law::{
@@ -30,9 +34,10 @@ pub use law::{
 };
 pub use station::Station;
 pub use step::{MOST_ENTRIES, MOST_FRAMES, Step};
+pub use text::Text;
 pub use timer::Timer;
 pub use x25_bits::Role;
-pub use x25_circuit::Marks;
+pub use x25_circuit::{Marks, Octets};
 pub use x25_frame::N1;
 pub use x25_given::Given;
 pub use x25_layer::{Awaits, Ranges};

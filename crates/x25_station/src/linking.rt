@@ -1,9 +1,8 @@
 //! Calls that the link alone answers, and at LinkDown the packet layer.
-ghost use Rattle.std.specs.Prelude.{◌≡◌, ◌+◌, ◌++◌, map, true, false, None};
+ghost use Rattle.std.specs.Prelude.{◌≡◌, ◌+◌, ◌<◌, ◌≤◌, ◌++◌, length, map, true, false, None};
 ghost use Rattle.x25_layer.specs.Layer.{Layer as LayerState, LayerSettings};
 ghost use Rattle.x25_layer.specs.code.FitsLayer.{FitsLayer};
 ghost use Rattle.x25_station.specs.Entry.{entries_down};
-ghost use Rattle.x25_station.specs.code.Aside.{GrowsBy, HasFewPlaces, HasPlaces};
 ghost use Rattle.x25_station.specs.code.Clock.{TellsTimer};
 ghost use Rattle.x25_station.specs.code.FitsStation.{FitsStation, Does, IsEmpty, RefusesOnly};
 ghost use Rattle.x25_station.specs.code.PlainEntry.{plain_entry};
@@ -11,6 +10,7 @@ ghost use Rattle.x25_station.specs.Config.{Settings};
 ghost use Rattle.x25_station.specs.Station.{Station as State};
 ghost use Rattle.x25_station.specs.Step.{connects, connects_asked, disconnects, fires, layer_down, probes, relinks};
 
+use crate::entries::Entries;
 use crate::entry::Entry;
 use crate::error::StationError;
 use crate::law::steps_keep_bounds;
@@ -28,9 +28,8 @@ impl Station {
         ensures does { Does self.old self.new out.new result connects }
         ensures only { (c : Settings) (s : State) → FitsStation c self.old s → RefusesOnly result (connects c s) }
         ensures timer { TellsTimer self.old out.new.timer result false connects }
-        ensures places { HasFewPlaces out.old.entries out.new.entries }
     {
-        self.empty(out);
+        out.clear();
         let ran = self.timer_runs();
         let answer = self.set_up(out);
         out.timer = self.timer_behind(ran, false, false, out.entries.as_slice());
@@ -58,23 +57,22 @@ impl Station {
     pub(crate) fn connect_asked(&mut self, out: &mut Step) -> Result<(), StationError>
         requires { IsEmpty out.old }
         ensures does { Does self.old self.new out.new result connects_asked }
-        ensures places { HasFewPlaces out.old.entries out.new.entries }
+        ensures only { (c : Settings) (s : State) → FitsStation c self.old s → RefusesOnly result (connects_asked c s) }
     {
-        out.reserve()?;
         self.set_up(out)?;
-        out.entries.push_reserved(Entry::ConnectAsked);
+        out.entries.push(Entry::ConnectAsked);
         Ok(())
     }
 
     /// A firing of timer T1 of the link.
     ///
-    /// 11 where the timer doesn't run, and else 70 alone; 70 may come in place of 11. The station is as before then.
+    /// 11 where the timer doesn't run, and nothing else. The station is as before then.
     pub fn t1(&mut self, out: &mut Step) -> Result<(), StationError>
         ensures does { Does self.old self.new out.new result fires }
+        ensures only { (c : Settings) (s : State) → FitsStation c self.old s → RefusesOnly result (fires c s) }
         ensures timer { TellsTimer self.old out.new.timer result true fires }
-        ensures places { HasFewPlaces out.old.entries out.new.entries }
     {
-        self.empty(out);
+        out.clear();
         let ran = self.timer_runs();
         let answer = self.fire(out);
         out.timer = self.timer_behind(ran, answer.is_ok(), false, out.entries.as_slice());
@@ -85,10 +83,9 @@ impl Station {
     fn fire(&mut self, out: &mut Step) -> Result<(), StationError>
         requires { IsEmpty out.old }
         ensures does { Does self.old self.new out.new result fires }
-        ensures places { HasFewPlaces out.old.entries out.new.entries }
+        ensures only { (c : Settings) (s : State) → FitsStation c self.old s → RefusesOnly result (fires c s) }
     {
         steps_keep_bounds();
-        out.reserve()?;
         match self.link.t1() {
             Ok(heard) => {
                 self.link.swap_frames(&mut out.frames);
@@ -103,10 +100,9 @@ impl Station {
     pub(crate) fn probe(&mut self, out: &mut Step) -> Result<(), StationError>
         requires { IsEmpty out.old }
         ensures does { Does self.old self.new out.new result probes }
-        ensures places { HasFewPlaces out.old.entries out.new.entries }
+        ensures only { (c : Settings) (s : State) → FitsStation c self.old s → RefusesOnly result (probes c s) }
     {
         steps_keep_bounds();
-        out.reserve()?;
         match self.link.probe() {
             Ok(heard) => {
                 self.link.swap_frames(&mut out.frames);
@@ -121,13 +117,12 @@ impl Station {
     pub(crate) fn relink(&mut self, out: &mut Step) -> Result<(), StationError>
         requires { IsEmpty out.old }
         ensures does { Does self.old self.new out.new result relinks }
-        ensures places { HasFewPlaces out.old.entries out.new.entries }
+        ensures only { (c : Settings) (s : State) → FitsStation c self.old s → RefusesOnly result (relinks c s) }
     {
         steps_keep_bounds();
-        out.reserve()?;
         match self.link.relink() {
             Ok(heard) => {
-                out.entries.push_reserved(Entry::RelinkAsked);
+                out.entries.push(Entry::RelinkAsked);
                 self.link.swap_frames(&mut out.frames);
                 note_down(&mut self.layer, heard.notes.down, &mut out.entries);
                 Ok(())
@@ -140,13 +135,12 @@ impl Station {
     pub(crate) fn disconnect(&mut self, out: &mut Step) -> Result<(), StationError>
         requires { IsEmpty out.old }
         ensures does { Does self.old self.new out.new result disconnects }
-        ensures places { HasFewPlaces out.old.entries out.new.entries }
+        ensures only { (c : Settings) (s : State) → FitsStation c self.old s → RefusesOnly result (disconnects c s) }
     {
         steps_keep_bounds();
-        out.reserve()?;
         match self.link.disconnect() {
             Ok(heard) => {
-                out.entries.push_reserved(Entry::DisconnectAsked);
+                out.entries.push(Entry::DisconnectAsked);
                 self.link.swap_frames(&mut out.frames);
                 note_down(&mut self.layer, heard.notes.down, &mut out.entries);
                 Ok(())
@@ -157,9 +151,9 @@ impl Station {
 }
 
 /// What the layer does where the link notes that it went down, or nothing. The entry goes behind the others.
-pub(crate) fn note_down(layer: &mut Layer, down: Option<Reason>, entries: &mut Vec<Entry>)
-    requires { HasPlaces 1 entries.old }
-    ensures few { GrowsBy 1 entries.old entries.new }
+pub(crate) fn note_down(layer: &mut Layer, down: Option<Reason>, entries: &mut Entries)
+    requires { length entries.old.items < 3 }
+    ensures few { length entries.new.items ≤ length entries.old.items + 1 }
     ensures same { down ≡ None → layer.new ≡ layer.old }
     ensures nothing { down ≡ None → entries.new ≡ entries.old }
     ensures layer { (c : LayerSettings) (l : LayerState) → FitsLayer c layer.old l
@@ -168,6 +162,6 @@ pub(crate) fn note_down(layer: &mut Layer, down: Option<Reason>, entries: &mut V
 {
     if let Some(reason) = down {
         layer.down();
-        entries.push_reserved(Entry::LinkDown(reason));
+        entries.push(Entry::LinkDown(reason));
     }
 }

@@ -1,12 +1,9 @@
-ghost use Rattle.std.specs.Prelude.{◌≤◌};
 ghost use Rattle.x25_station.specs.code.FitsParts.{AreMeant};
 
-use crate::asking::MessageMemory;
 use crate::config::{Cfg, Manner};
-use crate::entering::TextMemory;
 use crate::error::StationError;
 use std::alloc::Global;
-use x25_bits::{Pool, Promise, Role};
+use x25_bits::Role;
 use x25_frame::N1;
 use x25_layer::{Awaits, Layer, LayerError, Stretch};
 use x25_link::{Link, LinkError, OrderedLink};
@@ -19,12 +16,8 @@ pub struct Station {
     pub(crate) link: Link,
     pub(crate) layer: Layer,
     pub(crate) manner: Manner,
-    /// Memory for texts of entries, and for the message of one.
-    pub(crate) texts: TextMemory,
-    pub(crate) messages: MessageMemory,
     pub(crate) alloc: Global,
     ghost meant: { AreMeant manner link layer },
-    ghost aside: { texts ≤ 5 },
 }
 
 impl Station {
@@ -39,9 +32,8 @@ impl Station {
     ghost use Rattle.x25_layer.specs.Calls.{Asks};
     ghost use Rattle.x25_packet.specs.declared.marks.Marks.{Marks};
     ghost use Rattle.x25_circuit.specs.Calling.{Sends};
-    ghost use Rattle.x25_layer.specs.code.FitsLayer.{KeepsOn, plain_stretch, awaited_at};
+    ghost use Rattle.x25_layer.specs.code.FitsLayer.{plain_stretch, awaited_at};
     ghost use Rattle.x25_layer.specs.Layer.Confirmed.{unconfirmed_at};
-    ghost use Rattle.x25_layer.specs.Layer.InPart.{joined_at};
     ghost use Rattle.x25_link.specs.Station.{awaits_ua};
     ghost use Rattle.x25_link.specs.Link.{timer_runs};
 
@@ -70,8 +62,6 @@ impl Station {
                 say_sizes: cfg.say_sizes,
                 wide: cfg.wide,
             },
-            texts: Promise::new(alloc),
-            messages: Pool::new(alloc),
             alloc,
         })
     }
@@ -177,27 +167,6 @@ impl Station {
             → result ≡ unconfirmed_at (layer_settings c) s.layer channel }
     {
         self.layer.unconfirmed(channel)
-    }
-
-    /// How many octets have come of the message of which some packets came on a channel, at most 65,535; 0 where there
-    /// is none, or the channel isn't configured.
-    pub fn octets_joined(&self, channel: u16) -> usize
-        ensures value { (c : Settings) (s : State) → FitsStation c self.now s
-            → result ≡ joined_at (layer_settings c) s.layer channel }
-        ensures short { result ≤ 65535 }
-    {
-        self.layer.octets_joined(channel)
-    }
-
-    /// How many octets of memory are kept for the message of which some packets came on a channel: for these octets,
-    /// and for those of one packet more. They are 69,631 at most; 0 where the channel isn't configured.
-    pub fn octets_kept(&self, channel: u16) -> usize
-        ensures value { KeepsOn self.now.layer channel result }
-        ensures least { (c : Settings) (s : State) → FitsStation c self.now s
-            → joined_at (layer_settings c) s.layer channel ≤ result }
-        ensures most { result ≤ 69631 }
-    {
-        self.layer.octets_kept(channel)
     }
 
     /// The name of the stretch that is open on a channel, in p4 with d1, where one is.

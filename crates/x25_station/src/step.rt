@@ -1,10 +1,9 @@
-ghost use Rattle.std.specs.Prelude.{◌≡◌, map, vec_capacity, IfOk, OnOk};
-ghost use Rattle.x25_station.specs.code.Aside.{HasFewPlaces, HasPlaces};
+ghost use Rattle.std.specs.Prelude.{◌≡◌, map, IfOk};
 ghost use Rattle.x25_station.specs.code.FitsStation.{IsEmpty, RefusesForMemory};
 ghost use Rattle.x25_station.specs.code.PlainEntry.{plain_entry};
 ghost use Rattle.x25_station.specs.Timer.{tells_link as tell_link};
 
-use crate::entry::Entry;
+use crate::entries::Entries;
 use crate::error::StationError;
 use crate::timer::{Timer, tells_link};
 use std::alloc::Global;
@@ -20,11 +19,12 @@ pub const MOST_ENTRIES: usize = 3;
 /// What a call of a station answers: the frames to send, frame check sequence included, and the entries of the
 /// transcript, each in order, and what becomes of timer T1. The entry of an accepted command is the first.
 ///
-/// The frames have memory of their own, for 25 of 4,103 octets each, which a call exchanges with that of the link.
+/// It has the memory of all that it is answered, from when it was made on: for 25 frames of 4,103 octets each, which a
+/// call exchanges with those of the link, and for entries, of which a message is exchanged with that of a circuit.
 #[derive(Drop)]
 pub struct Step {
     pub frames: Frames,
-    pub entries: Vec<Entry>,
+    pub entries: Entries,
     pub timer: Timer,
 }
 
@@ -34,16 +34,18 @@ impl Step {
     /// 70 alone.
     pub fn new(alloc: Global) -> Result<Step, StationError>
         ensures empty { IfOk result IsEmpty }
-        ensures no_entries { IfOk result (λ step. vec_capacity step.entries ≡ 0) }
         ensures timer { IfOk result (λ step. step.timer ≡ Timer.Off) }
         ensures refused { RefusesForMemory result }
     {
         let Ok(frames) = Frames::new(alloc) else {
             return Err(StationError::NoMemory);
         };
+        let Ok(entries) = Entries::new(alloc) else {
+            return Err(StationError::NoMemory);
+        };
         Ok(Step {
             frames,
-            entries: Vec::new(alloc),
+            entries,
             timer: Timer::Off,
         })
     }
@@ -55,18 +57,12 @@ impl Step {
         tells_link(self.entries.as_slice())
     }
 
-    /// Room for the entries of a call, and no more, or what there was.
+    /// Takes all out. The memory of frames and entries stays, and becomes that of other ones.
     #[inline(always)]
-    pub(crate) fn reserve(&mut self) -> Result<(), StationError>
-        requires { IsEmpty self.old }
-        ensures empty { IsEmpty self.new }
-        ensures places { OnOk result (HasPlaces 3 self.new.entries) }
-        ensures most { HasFewPlaces self.old.entries self.new.entries }
-        ensures refused { RefusesForMemory result }
+    pub(crate) fn clear(&mut self)
+        ensures { IsEmpty self.new }
     {
-        if self.entries.reserve_exact(MOST_ENTRIES).is_err() {
-            return Err(StationError::NoMemory);
-        }
-        Ok(())
+        self.frames.clear();
+        self.entries.clear();
     }
 }

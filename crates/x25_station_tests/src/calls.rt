@@ -24,8 +24,8 @@ pub fn fire(station: &mut Station, out: &mut Step) -> Result<(), StationError> {
     station.t1(out)
 }
 
-pub fn receive(station: &mut Station, octets: &[u8], out: &mut Step) -> Result<(), StationError> {
-    station.receive(octets, out)
+pub fn receive(station: &mut Station, octets: &[u8], out: &mut Step) {
+    station.receive(octets, out);
 }
 
 pub fn ask(station: &mut Station, command: Cmd<'_>, out: &mut Step) -> Result<(), StationError> {
@@ -37,7 +37,7 @@ pub fn pull(station: &mut Station, out: &mut Step) -> Result<(), StationError> {
     station.pull(out)
 }
 
-/// The station takes a step back that was read.
-pub fn reuse(station: &mut Station, out: &mut Step) {
+/// A step was read.
+pub fn reuse(station: &Station, out: &mut Step) {
     station.reuse(out);
 }

@@ -173,7 +173,7 @@ fn odd_row_of(
         connect(&mut station, &mut out)?;
     }
     for octets in come {
-        receive(&mut station, octets, &mut out)?;
+        receive(&mut station, octets, &mut out);
     }
     Ok(odd_row(&mut station, &mut out, rows))
 }

@@ -5,15 +5,13 @@ use crate::steps::SETTINGS;
 use std::alloc::Global;
 use x25_bits::{Seq, seal};
 use x25_frame::{Frame, decode, encode};
-use x25_station::{Cfg, Cmd, Ranges, Role, Station, StationError, Step};
+use x25_station::{Cfg, Cmd, Role, Station, StationError, Step};
 
 static SABM: [u8; 4] = [0x01, 0x3f, 0xeb, 0xdf];
 
 static RESTART: [u8; 5] = [0x10, 0x00, 0xfb, 0x00, 0x00];
 
 static CALL: [u8; 5] = [0x10, 0x01, 0x0b, 0x00, 0x00];
-
-static DATA: [u8; 7] = [0x10, 0x01, 0x10, 0x61, 0x62, 0x63, 0x64];
 
 /// The first octets of packets: each type, on channels 0 to 2, and two formats that there aren't.
 static BEGINNINGS: [[u8; 3]; 20] = [
@@ -157,7 +155,7 @@ impl Peer {
     }
 
     fn sends(&mut self, octets: &[u8]) -> Option<()> {
-        receive(&mut self.station, octets, &mut self.out).ok()?;
+        receive(&mut self.station, octets, &mut self.out);
         self.seen.step(&self.out);
         self.accepts();
         Some(())
@@ -213,25 +211,4 @@ fn told_of_strings(alloc: Global) -> Option<usize> {
 fn all_octets_are_taken(rt: HostRuntime) {
     let told = told_of_strings(rt.alloc());
     assert!(rt; told > Some(2_000), "{told:?}");
-}
-
-// Whether memory is kept on channel 1 and on channel 2, behind a call and a data packet on channel 1.
-fn kept_on_two(alloc: Global) -> Option<(bool, bool)> {
-    let cfg = Cfg {
-        channels: Ranges::two_way(2),
-        ..SETTINGS
-    };
-    let mut peer = Peer::new(alloc, cfg).ok()?;
-    peer.sends(&SABM)?;
-    peer.hands(&RESTART)?;
-    peer.hands(&CALL)?;
-    peer.hands(&DATA)?;
-    let station = &peer.station;
-    Some((station.octets_kept(1) > 0, station.octets_kept(2) > 0))
-}
-
-#[test]
-fn memory_is_set_aside_on_the_channel_of_a_packet_alone(rt: HostRuntime) {
-    let kept = kept_on_two(rt.alloc());
-    assert_eq!(rt; kept, Some((true, false)));
 }

@@ -1,10 +1,10 @@
 //! Memory of steps that serves a station again.
 
-use crate::calls::{connect, reuse, station};
+use crate::calls::{ask, connect, reuse, station};
 use crate::steps::SETTINGS;
 use std::alloc::Global;
-use x25_layer::Stretch;
-use x25_station::{Asked, Entry, Marks, Role, Said, Station, Step};
+use std::mem::replace;
+use x25_station::{Cmd, Entries, Role, Station, Step, Text};
 
 /// SABM with P=1 of the DTE.
 static SABM: [u8; 4] = [0x01, 0x3f, 0xeb, 0xdf];
@@ -36,57 +36,34 @@ fn a_frame_is_sent_in_a_place_that_was_made(rt: HostRuntime) {
     assert_eq!(rt; sends_of_new(rt.alloc()), Some((1, 4103, 0)));
 }
 
-const STRETCH: Stretch = Stretch {
-    restarts: 1,
-    clears: 0,
-    resets: 0,
-};
-
-// The entry of a message that was sent on a channel.
-fn sent(alloc: Global, channel: u16) -> Option<Entry> {
-    let user = vec![in alloc; 9u8; 40].ok()?;
-    Some(Entry::OnChannel {
-        channel,
-        name: STRETCH,
-        said: Said::Asked(Asked::Send {
-            q: Marks::with_q(false),
-            user,
-        }),
-    })
+// How many entries there are once set-up is asked, and how many of them one who keeps them has and are left.
+fn kept(alloc: Global, station: &mut Station, out: &mut Step) -> Option<(usize, usize, usize)> {
+    ask(station, Cmd::Connect, out).ok()?;
+    let count = out.entries.len();
+    let entries = replace(&mut out.entries, Entries::new(alloc).ok()?);
+    Some((count, entries.into_vec().len(), out.entries.len()))
 }
 
-// How many entries are in a step, with two of a channel where there is one, that a station took back.
-fn left(
-    alloc: Global,
-    station: &mut Station,
-    channel: Option<u16>,
-    out: &mut Step,
-) -> Option<usize> {
-    if let Some(channel) = channel {
-        out.entries.push(Entry::LinkUp).ok()?;
-        out.entries.push(sent(alloc, channel)?).ok()?;
-    }
-    reuse(station, out);
-    Some(out.entries.len())
-}
-
-// Whether none is left without a channel, with one, and with one that the station doesn't have.
-fn none_is_left(alloc: Global, station: &mut Station) -> Option<bool> {
-    let mut out = Step::new(alloc).ok()?;
-    for channel in [None, Some(1), Some(2)] {
-        if left(alloc, station, channel, &mut out)? > 0 {
-            return Some(false);
-        }
-    }
-    Some(true)
-}
-
-fn none_is_left_of_any(alloc: Global) -> Option<bool> {
+fn kept_of_new(alloc: Global) -> Option<(usize, usize, usize)> {
     let mut station = station(alloc, Role::Dte, SETTINGS).ok()?;
-    none_is_left(alloc, &mut station)
+    kept(alloc, &mut station, &mut Step::new(alloc).ok()?)
 }
 
 #[test]
-fn entries_that_were_read_are_taken_back(rt: HostRuntime) {
-    assert_eq!(rt; none_is_left_of_any(rt.alloc()), Some(true));
+fn entries_are_kept_with_what_they_say(rt: HostRuntime) {
+    assert_eq!(rt; kept_of_new(rt.alloc()), Some((1, 1, 0)));
+}
+
+// How many octets a text has of 200, and then of 3.
+fn lengths_of_text(alloc: Global) -> Option<(usize, usize)> {
+    let mut text = Text::new(alloc).ok()?;
+    text.set(&[7; 200]);
+    let long = text.as_slice().len();
+    text.set(&[7; 3]);
+    Some((long, text.as_slice().len()))
+}
+
+#[test]
+fn a_text_has_at_most_128_octets(rt: HostRuntime) {
+    assert_eq!(rt; lengths_of_text(rt.alloc()), Some((128, 3)));
 }

@@ -37,8 +37,8 @@ pub enum Act {
 type Brings = (u8, usize, usize, Timer);
 
 /// What a station says: whether it is idle, is at rest, awaits UA, and T1 runs, how many messages more channel 1 takes,
-/// how many octets came of one in part, and the name of the stretch that is open.
-type Says = (bool, bool, bool, bool, usize, usize, Option<Stretch>);
+/// and the name of the stretch that is open.
+type Says = (bool, bool, bool, bool, usize, Option<Stretch>);
 
 /// What happens so many times, what it brings the last time, and what the station says then.
 type Row = (u16, Act, Brings, Says);
@@ -61,30 +61,28 @@ const WAS_RESET: Option<Stretch> = Some(Stretch {
     resets: 1,
 });
 
-const DOWN: Says = (false, false, false, false, 0, 0, None);
+const DOWN: Says = (false, false, false, false, 0, None);
 
-const AWAITS_UA: Says = (false, false, true, true, 0, 0, None);
+const AWAITS_UA: Says = (false, false, true, true, 0, None);
 
 /// Not all that was sent is acknowledged, or the link is being disconnected.
-const BUSY: Says = (false, false, false, true, 0, 0, None);
+const BUSY: Says = (false, false, false, true, 0, None);
 
-const IDLE: Says = (true, true, false, false, 0, 0, None);
+const IDLE: Says = (true, true, false, false, 0, None);
 
 /// It is polled.
-const IDLE_RUNS: Says = (true, false, false, true, 0, 0, None);
+const IDLE_RUNS: Says = (true, false, false, true, 0, None);
 
-const BUSY_IN_A_CALL: Says = (false, false, false, true, 8, 0, OPEN);
+const BUSY_IN_A_CALL: Says = (false, false, false, true, 8, OPEN);
 
-const IDLE_IN_A_CALL: Says = (true, true, false, false, 8, 0, OPEN);
+const IDLE_IN_A_CALL: Says = (true, true, false, false, 8, OPEN);
 
-const ONE_WAITS: Says = (false, false, false, true, 7, 0, OPEN);
+const ONE_WAITS: Says = (false, false, false, true, 7, OPEN);
 
 /// A message waits in its circuit.
-const AT_REST_IN_A_CALL: Says = (false, true, false, false, 7, 0, OPEN);
+const AT_REST_IN_A_CALL: Says = (false, true, false, false, 7, OPEN);
 
-const HAS_TWO_OCTETS: Says = (false, false, false, true, 8, 2, OPEN);
-
-const BUSY_BEHIND_A_RESET: Says = (false, false, false, true, 8, 0, WAS_RESET);
+const BUSY_BEHIND_A_RESET: Says = (false, false, false, true, 8, WAS_RESET);
 
 /// An address that isn't one.
 const BAD_CALL: Cmd<'static> = Cmd::Call {
@@ -189,7 +187,7 @@ static DCE: [Row; 12] = [
     (1, Act::Take(DTE_RESTARTS), (0, 1, 1, OFF), IDLE),
     (1, Act::Take(CALLS), (0, 1, 1, OFF), IDLE),
     (1, Act::Ask(ACCEPT), (0, 1, 1, BEGINS), BUSY_IN_A_CALL),
-    (1, Act::Take(DATA), (0, 2, 0, BEGINS), HAS_TWO_OCTETS),
+    (1, Act::Take(DATA), (0, 2, 0, BEGINS), BUSY_IN_A_CALL),
     (1, Act::Take(RESETS), (0, 2, 1, BEGINS), BUSY_BEHIND_A_RESET),
     (
         1,
@@ -213,7 +211,10 @@ fn happens(station: &mut Station, act: Act, out: &mut Step) -> Result<(), Statio
         Act::Connect => connect(station, out),
         Act::T1 => fire(station, out),
         Act::Ask(command) => ask(station, command, out),
-        Act::Take(octets) => receive(station, octets, out),
+        Act::Take(octets) => {
+            receive(station, octets, out);
+            Ok(())
+        }
         Act::Pull => pull(station, out),
     }
 }
@@ -237,7 +238,6 @@ fn says(station: &Station) -> Says {
         station.awaits_ua(),
         station.timer_runs(),
         station.room(1),
-        station.octets_joined(1),
         station.stretch(1),
     )
 }

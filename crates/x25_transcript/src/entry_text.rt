@@ -1,5 +1,5 @@
 //! Entries of a transcript as text.
-ghost use Rattle.std.specs.Prelude.{◌≡◌, ◌++◌, [], IfOk, OnOk, OnErr, codes, decimal, string_bytes};
+ghost use Rattle.std.specs.Prelude.{◌≡◌, ◌++◌, [], IfOk, OnOk, OnErr, codes, decimal};
 ghost use Rattle.x25_transcript.specs.EntryText.{address_text, channel_text, digits_text, end_text, name_text};
 ghost use Rattle.x25_transcript.specs.EntryText.{given_number, given_text, params_text};
 ghost use Rattle.x25_transcript.specs.EntryText.{down_text, entry_line as line_of, entry_text, notice_text};
@@ -35,11 +35,11 @@ fn push_stretch(channel: u16, name: &Stretch, text: &mut Text) -> Result<(), All
 }
 
 /// Appends a label and then an address that is a text of digits.
-fn push_address(label: &[u8], address: &str, text: &mut Text) -> Result<(), AllocError>
+fn push_address(label: &[u8], address: &[u8], text: &mut Text) -> Result<(), AllocError>
     ensures { OnOk result (text.new ≡ text.old ++ (label.now ++ address_text address.now)) }
 {
     text.try_push(label)?;
-    match address.as_bytes() {
+    match address {
         [] => text.try_push(b"-"),
         figures => text.try_push(figures),
     }
@@ -168,8 +168,8 @@ fn push_asked(
             params,
         } => {
             push_under(b"call", channel, name, text)?;
-            push_address(b" called=", called.as_str(), text)?;
-            push_address(b" calling=", calling.as_str(), text)?;
+            push_address(b" called=", called.as_slice(), text)?;
+            push_address(b" calling=", calling.as_slice(), text)?;
             push_user(user.as_slice(), text)?;
             push_params(*params, text)
         }

@@ -1,7 +1,7 @@
 use crate::lines::is_line;
 use std::alloc::{AllocError, Global};
 use x25_layer::{Params, Stretch};
-use x25_station::{Asked, Entry, Role, Said, Told};
+use x25_station::{Asked, Entry, Role, Said, Text, Told};
 
 /// A count may have 20 digits.
 const LATE: Stretch = Stretch {
@@ -35,33 +35,39 @@ static SHOWN: [&str; 5] = [
     "dce interrupt ch=16 at 18446744073709551615.10.260 data=00\n",
 ];
 
+fn text(alloc: Global, octets: &[u8]) -> Result<Text, AllocError> {
+    let mut text = Text::new(alloc)?;
+    text.set(octets);
+    Ok(text)
+}
+
 // A call and an interrupt of the user.
 fn calls(alloc: Global) -> Result<Said, AllocError> {
     Ok(Said::Asked(Asked::Call {
-        called: String::new(alloc),
-        calling: String::from_str(alloc, "2")?,
-        user: Vec::new(alloc),
+        called: text(alloc, b"")?,
+        calling: text(alloc, b"2")?,
+        user: text(alloc, b"")?,
         params: OTHERS,
     }))
 }
 
 fn interrupts(alloc: Global) -> Result<Said, AllocError> {
-    let user = Vec::from_slice(alloc, &[0, 255])?;
+    let user = text(alloc, &[0, 255])?;
     Ok(Said::Asked(Asked::Interrupt { user }))
 }
 
 // What came.
 fn is_called(alloc: Global) -> Result<Said, AllocError> {
     Ok(Said::Told(Told::Incoming {
-        called: Vec::from_slice(alloc, &[1, 2, 3])?,
-        calling: Vec::new(alloc),
-        user: Vec::from_slice(alloc, b"A")?,
+        called: text(alloc, &[1, 2, 3])?,
+        calling: text(alloc, b"")?,
+        user: text(alloc, b"A")?,
         params: ONE_WINDOW,
     }))
 }
 
 fn is_interrupted(alloc: Global) -> Result<Said, AllocError> {
-    let user = Vec::from_slice(alloc, &[0])?;
+    let user = text(alloc, &[0])?;
     Ok(Said::Told(Told::Interrupted { user }))
 }
 

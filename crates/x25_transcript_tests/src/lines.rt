@@ -51,51 +51,53 @@ const LATE: Stretch = Stretch {
 };
 
 // A message of no octets that came.
-fn delivered(alloc: Global) -> Entry {
+fn delivered(alloc: Global) -> Result<Entry, AllocError> {
     let message = Message {
         q: Marks::with_q(true),
-        user: Octets::of(Vec::new(alloc)),
+        user: Octets::new(alloc)?,
     };
-    Entry::OnChannel {
+    Ok(Entry::OnChannel {
         channel: 16,
         name: LATE,
         said: Said::Told(Told::Delivered(message)),
-    }
+    })
 }
 
 #[test]
 fn writes_deliveries_of_larger_numbers(rt: HostRuntime) {
     let line = "dce message ch=16 at 10.3.18446744073709551615 q=1 data=-\n";
     assert_eq!(rt;
-        is_line(rt.alloc(), Role::Dce, Ok(delivered(rt.alloc())), line),
+        is_line(rt.alloc(), Role::Dce, delivered(rt.alloc()), line),
         Ok(true)
     );
 }
 
 // A message of no octets whose confirmation is asked.
-fn asking(alloc: Global) -> Entry {
-    Entry::OnChannel {
+fn asking(alloc: Global) -> Result<Entry, AllocError> {
+    Ok(Entry::OnChannel {
         channel: 16,
         name: LATE,
         said: Said::Asked(Asked::Send {
             q: Marks { q: false, d: true },
-            user: Vec::new(alloc),
+            user: Octets::new(alloc)?,
         }),
-    }
+    })
 }
 
 #[test]
 fn shows_that_confirmation_is_asked(rt: HostRuntime) {
     let line = "dte send ch=16 at 10.3.18446744073709551615 q=0 d=1 data=-\n";
     assert_eq!(rt;
-        is_line(rt.alloc(), Role::Dte, Ok(asking(rt.alloc())), line),
+        is_line(rt.alloc(), Role::Dte, asking(rt.alloc()), line),
         Ok(true)
     );
 }
 
 // A message of so many octets that is to be sent.
-fn sent(alloc: Global, channel: u16, name: Stretch, count: usize) -> Result<Entry, AllocError> {
-    let user = vec![in alloc; 0xabu8; count]?;
+fn sent(alloc: Global, channel: u16, name: Stretch, count: u16) -> Result<Entry, AllocError> {
+    let octets = vec![in alloc; 0xabu8; usize::from(count)]?;
+    let mut user = Octets::new(alloc)?;
+    user.set(octets.as_slice());
     Ok(Entry::OnChannel {
         channel,
         name,

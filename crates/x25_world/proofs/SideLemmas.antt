@@ -60,10 +60,6 @@ module _ (count : ℕ) (old mid : ShownLine) (at : Role) where
       by Dte = record { to_dce = few.to_dce; to_dte = few.to_dte }
       by Dce = record { to_dce = few.to_dce; to_dte = few.to_dte }
 
--- memory that serves again shows nowhere
-pub reused : (cfg : Cfg) (at : Role) (near new : code.Station) (line : ShownLine) (w : World) → FitsSide cfg at near line w → FitsStation (settings_from at cfg) new w.near → FitsSide cfg at new line w
-reused cfg at near new line w side fits = record { near = fits; out = side.out; back = side.back }
-
 -- where no frame is on the line none arrives
 pub none_arrives : (c : Settings) (w : World) (back : List (List ℕ)) → None ≡ slice_get back 0 → refusal_of (delivered c w back) ≡ Some error.Empty
 none_arrives c w [] is = refl

@@ -6,9 +6,8 @@ ghost use Rattle.x25_line.specs.laws.Stations.{is_visible};
 ghost use Rattle.x25_station.specs.Command.{command_of};
 ghost use Rattle.x25_station.specs.code.PlainEntry.{plain_entry};
 ghost use Rattle.x25_station.specs.declared.config.Cfg.{Cfg};
-ghost use Rattle.x25_station.specs.Config.{Settings, settings_from};
-ghost use Rattle.x25_station.specs.Station.{Station as StationState};
-ghost use Rattle.x25_station.specs.code.FitsStation.{FitsStation, IsEmpty};
+ghost use Rattle.x25_station.specs.Config.{settings_from};
+ghost use Rattle.x25_station.specs.code.FitsStation.{IsEmpty};
 ghost use Rattle.x25_station.specs.Step.{connects, commands};
 ghost use Rattle.x25_world.specs.World as definition;
 ghost use Rattle.x25_world.specs.World.{Happened, Declined, of_station, delivered, is_on_line, fired, on_line, lost};
@@ -16,7 +15,6 @@ ghost use Rattle.x25_world.specs.World.{damaged, acts, entered, event_of};
 ghost use Rattle.x25_world.specs.code.PlainTold.{plain_entered};
 ghost use Rattle.x25_world.specs.code.ShownLine.{put_by, line_to, with_line_to, with_room_of, TakesFew};
 ghost use Rattle.x25_world.specs.code.FitsWorld.{FitsWorld, FitsSide, IsStepOf, IsStepOfAct, HasActed, HasActedAt};
-ghost use Rattle.x25_world.specs.code.FitsWorld.{TakesMemory, most_told};
 ghost use Rattle.x25_world.specs.code.ShownWorld.{shown_with};
 
 use crate::error::WorldError;
@@ -26,7 +24,7 @@ use crate::set_up::is_on_line;
 use crate::told::Entered;
 use x25_bits::{Role, check};
 use x25_link::Frames;
-use x25_station::{Cmd, Entry, MOST_ENTRIES, MOST_FRAMES, Station, Step};
+use x25_station::{Cmd, Entries, Entry, MOST_ENTRIES, MOST_FRAMES, Station, Step};
 
 /// The event happens at its end, or on the line to it. What it tells comes into the step, in place of what was there,
 /// and its frames go on the line. Refused with the one ground that applies, 50, 51, 52, 53 or 54, or with 70; all is
@@ -83,8 +81,7 @@ fn act(
 }
 
 // Refuses an event before the station does anything, which else empties the step.
-fn refuse(near: &mut Station, step: &mut Step, error: WorldError) -> Result<(), WorldError>
-    ensures fits { (c : Settings) (s : StationState) → FitsStation c near.old s → FitsStation c near.new s }
+fn refuse(near: &Station, step: &mut Step, error: WorldError) -> Result<(), WorldError>
     ensures empty { IsEmpty step.new }
     ensures error { result ≡ Err error }
 {
@@ -134,14 +131,10 @@ fn deliver(at: Role, near: &mut Station, line: &mut Line, out: &mut Step) -> Res
     let Some(octets) = line.get(at, 0) else {
         return refuse(near, out, WorldError::Empty);
     };
-    match near.receive(octets, out) {
-        Ok(()) => {
-            line.remove(at, 0);
-            put(at, line, &mut out.frames);
-            Ok(())
-        }
-        Err(error) => Err(WorldError::of_station(error)),
-    }
+    near.receive(octets, out);
+    line.remove(at, 0);
+    put(at, line, &mut out.frames);
+    Ok(())
 }
 
 // Copies of the frames of a step come on the line, in room that there is, and none is left in it.
@@ -227,17 +220,19 @@ fn reserve_frames(line: &mut Line) -> Result<(), WorldError>
     Ok(())
 }
 
-/// Room for what an event tells, for which what is lost takes none.
-pub fn reserve_entries(transcript: &mut Vec<Entered>, event: Event) -> Result<(), WorldError>
-    ensures room { OnOk result (vec_len transcript.new + most_told
-        (event_of event.entry).act ≤ vec_capacity transcript.new) }
+/// Room for what an event tells, and the entries of a step that has none: their memory takes the place of that which
+/// goes with what is told.
+pub fn reserve_entries(transcript: &mut Vec<Entered>) -> Result<Entries, WorldError>
+    ensures room { OnOk result (vec_len transcript.new + 3 ≤ vec_capacity transcript.new) }
     ensures items { transcript.new.items ≡ transcript.old.items }
     ensures refused { IfErr result (λ e. e ≡ WorldError.NoMemory) }
-    ensures memory { OnErr result (TakesMemory (event_of event.entry).act) }
     ensures few { vec_capacity transcript.new ≤ max (vec_capacity transcript.old) (2 * vec_len transcript.old + 3) }
 {
-    if !event.takes_memory() || transcript.capacity() - transcript.len() >= MOST_ENTRIES {
-        return Ok(());
+    let Ok(entries) = Entries::new(*transcript.allocator()) else {
+        return Err(WorldError::NoMemory);
+    };
+    if transcript.capacity() - transcript.len() >= MOST_ENTRIES {
+        return Ok(entries);
     }
     if transcript
         .reserve_exact(transcript.len().max(MOST_ENTRIES))
@@ -245,7 +240,7 @@ pub fn reserve_entries(transcript: &mut Vec<Entered>, event: Event) -> Result<()
     {
         return Err(WorldError::NoMemory);
     }
-    Ok(())
+    Ok(entries)
 }
 
 /// What an end told comes into the transcript, in room that there is.

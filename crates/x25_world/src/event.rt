@@ -1,4 +1,4 @@
-ghost use Rattle.std.specs.Prelude.{◌≡◌, false, IsTrue};
+ghost use Rattle.std.specs.Prelude.{◌≡◌};
 
 use x25_bits::{Direction, Role};
 use x25_station::Cmd;
@@ -27,7 +27,6 @@ pub const UA_ARRIVES: Event = Event::Deliver(Direction::ToDte);
 
 impl<'a> Event<'a> {
     ghost use Rattle.x25_world.specs.World.{event_of};
-    ghost use Rattle.x25_world.specs.code.FitsWorld.{TakesMemory, most_told};
 
     /// The end at which it happens, or that its direction leads to.
     #[inline(always)]
@@ -40,13 +39,5 @@ impl<'a> Event<'a> {
             | Event::Lose(direction, _)
             | Event::Damage(direction, _, _) => direction.end(),
         }
-    }
-
-    /// Whether it takes memory, which what is lost doesn't.
-    pub(crate) fn takes_memory(self) -> bool
-        ensures takes { IsTrue result → TakesMemory (event_of self.entry).act }
-        ensures tells { result ≡ false → most_told (event_of self.entry).act ≡ 0 }
-    {
-        !matches!(self, Event::Lose(_, _))
     }
 }

@@ -28,6 +28,7 @@ use crate::line::Line;
 use crate::told::Entered;
 use std::alloc::Global;
 use std::marker::Model;
+use std::mem::replace;
 use x25_bits::{Bits, Direction, Role};
 use x25_station::{Cfg, Station, StationError, Step};
 
@@ -238,7 +239,7 @@ impl World {
             Tells cfg (telling self.old told.old.items) w before →
             OnErr result (Tells cfg (telling self.new told.new.items) w before) }
     {
-        reserve_entries(told, event)?;
+        let fresh = reserve_entries(told)?;
         act_at_end(
             &mut self.dte,
             &mut self.dce,
@@ -246,7 +247,8 @@ impl World {
             &mut self.out,
             event,
         )?;
-        enter(event.at(), &mut self.out.entries, told);
+        let mut entries = replace(&mut self.out.entries, fresh).into_vec();
+        enter(event.at(), &mut entries, told);
         Ok(())
     }
 

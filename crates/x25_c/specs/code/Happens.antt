@@ -25,7 +25,6 @@ use Rattle.x25_c.specs.Held.{IsAlone}
 use Rattle.x25_c.specs.Happening.{rest_of, happens, timer_of_rest, timer_at_both}
 
 abbrev pub event_of : code.Happening → Event
-event_of (variant.Comes octets) = Comes octets.now
 event_of (variant.Asks asked) = Asks (command_of asked)
 event_of variant.Fires = Fires
 

@@ -1,11 +1,7 @@
 -- Frames that come one behind another in one call (profile).
-use Rattle.std.specs.Prelude.{◌≡◌, ◌⊎◌, ℕ, zero, suc, ◌<◌, List, None, take, drop, length, get_or, sum, Ok, Err}
-use Rattle.x25_station.specs.declared.error.StationError.{StationError}
-use Rattle.x25_station.specs.Config.{Settings}
-use Rattle.x25_station.specs.Error.{number_of}
-use Rattle.x25_station.specs.Station.{Station}
-use Rattle.x25_station.specs.code.FitsStation.{FitsStation, FitsStill, Refuses}
-use Rattle.x25_station.specs.laws.TimerLaw.{Comes, outcome}
+use Rattle.std.specs.Prelude.{◌≡◌, ◌⊎◌, ℕ, zero, suc, ◌<◌, List, None, take, drop, length, get_or, sum, Ok}
+use Rattle.x25_station.specs.code.FitsStation.{FitsStill}
+use Rattle.x25_station.specs.laws.TimerLaw.{Comes}
 use Rattle.x25_c.specs.declared.held.Held.{Held}
 use Rattle.x25_c.specs.Held.{Whole, whole_of, part_of, and_then, no_answer}
 use Rattle.x25_c.specs.code.Happens.{Happens}
@@ -27,13 +23,11 @@ Received octets counts (suc place) old new whole = (mid : Held) × (before : Who
     × Received octets counts place old mid before × Happens mid new (Ok tt) (Comes (frame_at octets counts place))
     × (whole ≡ and_then before (part_of new.step))
 
--- why it ended there: all came; the octets of the next aren't there; or the next is refused, as if it came alone
+-- why it ended there: all came; the octets of the next aren't there; or memory is refused for what was answered before
 abbrev pub EndsFor : List ℕ → List ℕ → Held → Held → ℕ → ℕ → Type 0
 EndsFor octets counts mid new taken number =
     ((taken ≡ length counts) × (number ≡ 0) × (new.waits ≡ mid.waits))
-    ⊎ ((taken < length counts) × (((number ≡ 34) × (length octets < sum (take (suc taken) counts)))
-    ⊎ ((e : StationError) × (number ≡ number_of e) × ((c : Settings) (s : Station) → FitsStation c mid.station s →
-    Refuses {T = Unit} (Err e) (outcome c s (Comes (frame_at octets counts taken)))))))
+    ⊎ ((taken < length counts) × (((number ≡ 34) × (length octets < sum (take (suc taken) counts))) ⊎ (number ≡ 70)))
 
 -- The frames that were taken leave the station, and their answers are all that is answered.
 unfoldable pub ReceivesAll : List ℕ → List ℕ → Held → Held → ℕ → ℕ → Type 0

@@ -12,4 +12,4 @@ shown c = record {
 pub record IsSound (c : Inside) : Type 0 where
   pub lent : c.lent ≤ c.start
   pub start : c.start ≤ length c.user.items
-  pub memory : vec_capacity c.user ≤ 69631
+  pub memory : vec_capacity c.user ≤ 65535

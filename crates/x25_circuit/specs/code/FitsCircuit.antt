@@ -1,6 +1,6 @@
 -- Which states of the definition a circuit stands for, and what its calls mean.
-use Rattle.std.specs.Prelude.{◌≡◌, ◌≢◌, ℕ, ◌≤◌, List, [], length, Some, None, Result, Err, IsOkAnd, MatchResult}
-use Rattle.std.specs.Prelude.{OnErr, IfOk, IfErr}
+use Rattle.std.specs.Prelude.{◌≡◌, ◌≢◌, ℕ, List, [], length, Some, None, Result, Err, IsOkAnd, MatchResult}
+use Rattle.std.specs.Prelude.{OnErr, IfOk, IfErr, IsErrOf, Bool, false}
 use Rattle.x25_packet.specs.declared.packet.Packet.{Packet}
 use Rattle.x25_packet.specs.Packet.{PlainPacket, plain, user_data}
 use Rattle.x25_packet.specs.Spelling.{IsInRange}
@@ -22,13 +22,9 @@ pub record FitsCircuit (c : Settings) (v : code.Circuit) (x : Circuit) : Type 0 
   pub calls : v.calls ≡ x.calls
   pub talk : FitsTalk (outgoing x).size v.transfer x.talk
 
--- for how many octets of user data of a packet memory is set aside
-abbrev pub room_of : code.Circuit → ℕ
-room_of v = v.transfer.partial.room
-
--- for how many octets of the message in part memory is kept
-abbrev pub kept_of : code.Circuit → ℕ
-kept_of v = v.transfer.partial.kept
+-- whether the memory of the message in part is made
+abbrev pub made_of : code.Circuit → Bool
+made_of v = v.transfer.partial.made
 
 -- how many messages wait
 abbrev pub waits_of : code.Circuit → ℕ
@@ -46,17 +42,27 @@ abbrev pub Sends : Settings → code.Circuit → Result Packet CircuitError → 
 Sends c v result (Done next packet) = IsOkAnd result (λ p. FitsCircuit c v next × (packet ≡ Some (plain p)))
 Sends c v result (Refused e) = result ≡ Err e
 
+-- a call with a packet to send, or for which memory is missing
+abbrev pub SendsOrLacks : Settings → code.Circuit → Result Packet CircuitError → Outcome → Type 0
+SendsOrLacks c v result (Done next packet) =
+    MatchResult result (λ p. FitsCircuit c v next × (packet ≡ Some (plain p))) (λ e. e ≡ error.NoMemory)
+SendsOrLacks c v result (Refused e) = result ≡ Err e
+
 -- a call with none, or for which memory is missing
 abbrev pub Keeps : {T : Type 0} → Settings → code.Circuit → Result T CircuitError → Outcome → Type 0
 Keeps c v result (Done next packet) =
     MatchResult result (λ _. FitsCircuit c v next × (packet ≡ None)) (λ e. e ≡ error.NoMemory)
 Keeps c v result (Refused e) = result ≡ Err e
 
--- the counts are as before, and no memory for user data is let go of
+-- the counts are as before
 pub record KeepsCounts (old new : code.Circuit) : Type 0 where
-  pub room : room_of old ≤ room_of new
   pub clears : clears_of new ≡ clears_of old
   pub resets : resets_of new ≡ resets_of old
+
+-- it is accepted
+abbrev pub IsDone : Outcome → Type 0
+IsDone (Done next packet) = Unit {0}
+IsDone (Refused e) = ⊥
 
 -- the user data that a packet brings for a message
 abbrev pub user_octets : PlainPacket → List ℕ
@@ -73,3 +79,15 @@ pub record SendsBy (old new : code.Circuit) (result : Result Packet CircuitError
   pub keeps : KeepsCounts old new
   pub unchanged : OnErr result (new ≡ old)
   pub kinds : IfErr result (λ e. e ≢ error.NoMemory)
+
+-- The same of what begins a call, for which the memory of the message in part is made, where there is none yet.
+pub record BeginsBy (old new : code.Circuit) (result : Result Packet CircuitError) (said : Settings → Circuit → Outcome)
+    : Type 0 where
+  pub outcome : (c : Settings) (x : Circuit) → FitsCircuit c old x → SendsOrLacks c new result (said c x)
+  pub range : IfOk result (λ packet. IsInRange 128 (plain packet))
+  pub control : IfOk result (λ packet. user_octets (plain packet) ≡ [])
+  pub keeps : KeepsCounts old new
+  pub unchanged : OnErr result (new ≡ old)
+  pub lacks : IsErrOf result error.NoMemory → made_of old ≡ false
+  pub accepted : IsErrOf result error.NoMemory → (c : Settings) (x : Circuit) → FitsCircuit c old x
+      → IsDone (said c x)

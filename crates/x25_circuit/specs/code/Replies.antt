@@ -1,12 +1,9 @@
 -- What a reply says, as values alone, and that it is the answer of the table.
-use Rattle.std.specs.Prelude.{◌≡◌, ℕ, ◌<◌, ◌≤◌, min, Bool, true, false, List, [], ◌∷◌, Option, Some, None, Result}
-use Rattle.std.specs.Prelude.{OnOk, OnErr, IfOk, IfErr, IfNone}
+use Rattle.std.specs.Prelude.{◌≡◌, ℕ, ◌+◌, Bool, true, false, List, [], ◌∷◌, Option, Some, None}
 use Rattle.x25_packet.specs.declared.packet.Packet.{Packet}
 use Rattle.x25_packet.specs.Packet.{PlainPacket, plain, clear, clear_conf, rr, rnr, interrupt_conf, reset, reset_conf}
 use Rattle.x25_packet.specs.Spelling.{IsInRange}
 use Rattle.x25_circuit.specs.declared.circuit.Circuit as circuit
-use Rattle.x25_circuit.specs.declared.error.CircuitError.{CircuitError}
-use Rattle.x25_circuit.specs.declared.error.CircuitError.TheVariants as error
 use Rattle.x25_circuit.specs.declared.notice.Notice.{Notice}
 use Rattle.x25_circuit.specs.declared.notice.Notice.TheVariants as code
 use Rattle.x25_circuit.specs.declared.notice.Reply.{Reply}
@@ -14,7 +11,7 @@ use Rattle.x25_circuit.specs.declared.owed.Owed.{Owed}
 use Rattle.x25_circuit.specs.declared.owed.Owed.TheVariants as owing
 use Rattle.x25_circuit.specs.Circuit.{Settings, Circuit}
 use Rattle.x25_circuit.specs.Hearing.{Answer}
-use Rattle.x25_circuit.specs.code.FitsCircuit.{FitsCircuit, room_of, user_octets}
+use Rattle.x25_circuit.specs.code.FitsCircuit.{FitsCircuit, user_octets}
 use Rattle.x25_circuit.specs.Notice.{PlainNotice, incoming, connected, collided, cleared, clear_done, was_reset}
 use Rattle.x25_circuit.specs.Notice.{reset_done, delivered, interrupted, interrupt_done, fault}
 
@@ -30,6 +27,15 @@ plain_notice (code.Delivered message) = delivered message
 plain_notice (code.Interrupted user) = interrupted user.now
 plain_notice code.InterruptDone = interrupt_done
 plain_notice (code.Fault diagnostic) = fault diagnostic
+
+-- how many messages it hands over, with their memory
+abbrev pub handed_by : Notice → ℕ
+handed_by (code.Delivered message) = 1
+handed_by notice = 0
+
+abbrev pub handed_over : Option Notice → ℕ
+handed_over None = 0
+handed_over (Some notice) = handed_by notice
 
 abbrev pub plain_notices : Option Notice → List PlainNotice
 plain_notices None = []
@@ -77,22 +83,17 @@ pub record Says (reply : Reply) (packet : Option PlainPacket) (told : List Plain
 
 -- ---- a packet that came
 
--- It is answered so, by a packet that can be spelled, and no memory for user data is let go of.
+-- It is answered so, by a packet that can be spelled, and no message is handed over.
 pub record RepliesBy (old new : circuit.Circuit) (reply : Reply) (said : Settings → Circuit → Answer) : Type 0 where
   pub next : (c : Settings) (x : Circuit) → FitsCircuit c old x → FitsCircuit c new (said c x).next
   pub says : (c : Settings) (x : Circuit) → FitsCircuit c old x → Says reply (said c x).owed (said c x).notices
   pub range : IsSendable (plain_owed reply.packet)
-  pub room : room_of old ≤ room_of new
+  pub handed : handed_over reply.notice ≡ 0
 
--- It is answered so, or 70, which comes only where no memory was set aside for the user data that it brings, and then
--- the circuit is as before. Where no packet is owed, no memory for user data is let go of.
-pub record RepliesOrLacks (old new : circuit.Circuit) (result : Result Reply CircuitError) (brings : ℕ)
-    (said : Settings → Circuit → Answer) : Type 0 where
-  pub next : (c : Settings) (x : Circuit) → FitsCircuit c old x → OnOk result (FitsCircuit c new (said c x).next)
-  pub says : (c : Settings) (x : Circuit) → FitsCircuit c old x
-      → IfOk result (λ reply. Says reply (said c x).owed (said c x).notices)
-  pub range : IfOk result (λ reply. IsSendable (plain_owed reply.packet))
-  pub err : IfErr result (λ e. e ≡ error.NoMemory)
-  pub missing : OnErr result (room_of old < min brings 4096)
-  pub unchanged : OnErr result (new ≡ old)
-  pub room : IfOk result (λ reply. IfNone reply.packet (room_of old ≤ room_of new))
+-- It is answered so, and the spare memory for one message is left, or else a message is handed over.
+pub record RepliesWith (old new : circuit.Circuit) (reply : Reply) (left : ℕ) (said : Settings → Circuit → Answer)
+    : Type 0 where
+  pub next : (c : Settings) (x : Circuit) → FitsCircuit c old x → FitsCircuit c new (said c x).next
+  pub says : (c : Settings) (x : Circuit) → FitsCircuit c old x → Says reply (said c x).owed (said c x).notices
+  pub range : IsSendable (plain_owed reply.packet)
+  pub spare : left + handed_over reply.notice ≡ 1

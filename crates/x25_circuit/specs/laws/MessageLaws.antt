@@ -1,5 +1,5 @@
 -- Messages are carried by their packets, whoever cut them. ITU-T X.25 (10/96), sections 4.3.4 to 4.3.6.
-use Rattle.std.specs.Prelude.{◌≡◌, ℕ, ◌≤◌, List, [], ◌∷◌, ◌++◌, length, Bool}
+use Rattle.std.specs.Prelude.{◌≡◌, ℕ, ◌≤◌, List, [], ◌∷◌, ◌++◌, length}
 use Rattle.x25_packet.specs.declared.marks.Marks.{Marks}
 use Rattle.x25_circuit.specs.Message.{Piece, no_part, joining, completed, carried, AreSound, cut}
 

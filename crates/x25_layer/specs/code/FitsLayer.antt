@@ -1,15 +1,14 @@
 -- Which states of the definition a layer stands for, and what it tells of them.
 use Rattle.std.specs.Prelude.{◌≡◌, ℕ, zero, suc, ◌+◌, ◌^◌, ◌-◌, ◌==◌, ◌||◌, List, length, Option, Some, None, Bool}
-use Rattle.std.specs.Prelude.{true, false, slice_get, if◌then◌else◌}
+use Rattle.std.specs.Prelude.{false, slice_get, if◌then◌else◌}
 use Rattle.x25_circuit.specs.declared.awaits.Awaits.{Awaits}
 use Rattle.x25_circuit.specs.declared.awaits.Awaits.TheVariants.{Nothing}
 use Rattle.x25_circuit.specs.Awaits.{awaited_in, is_any}
 use Rattle.x25_circuit.specs.declared.circuit.Circuit as circuit_code
 use Rattle.x25_circuit.specs.declared.params.Params.{Params}
 use Rattle.x25_circuit.specs.Circuit.{Circuit, is_open, waits}
-use Rattle.x25_circuit.specs.code.FitsCircuit.{FitsCircuit, kept_of}
+use Rattle.x25_circuit.specs.code.FitsCircuit.{FitsCircuit}
 use Rattle.x25_handshakes.specs.laws.Names.{Name}
-use Rattle.x25_layer.specs.Ranges.{is_number}
 use Rattle.x25_layer.specs.declared.layer.Layer as code
 use Rattle.x25_layer.specs.declared.stretch.Stretch.{Stretch}
 use Rattle.x25_layer.specs.Layer.{LayerSettings, Layer, is_channel}
@@ -60,12 +59,6 @@ abbrev pub awaited_up_to : (ℕ → Circuit) → ℕ → ℕ
 awaited_up_to circuits zero = 0
 awaited_up_to circuits (suc n) = awaited_up_to circuits n
     + (if is_any (awaited_in (circuits (suc n)).state) then 1 else 0)
-
--- for so many octets of the message in part memory is kept on a channel, and for none where it isn't configured
-pub record KeepsOn (v : code.Layer) (h count : ℕ) : Type 0 where
-  pub on : (u : circuit_code.Circuit) → is_number (length v.circuits.items) h ≡ true
-      → slice_get v.circuits.items (h - 1) ≡ Some u → count ≡ kept_of u
-  pub none : is_number (length v.circuits.items) h ≡ false → count ≡ 0
 
 -- how many messages wait in the circuits of the channels up to a number
 abbrev pub waits_up_to : (ℕ → Circuit) → ℕ → ℕ

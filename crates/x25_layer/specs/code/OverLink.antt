@@ -1,6 +1,6 @@
 -- A layer over any link that keeps order: what it sees of the link, and the link after packets were put.
 use Rattle.std.specs.Prelude.{◌≡◌, ℕ, ◌+◌, ◌<◌, ◌≤◌, List, [], ◌∷◌, Bool, true, false}
-use Rattle.std.specs.Prelude.{Option, None, Result, Err, OnOk, OnErr, IsErrOf, MatchResult, option_to_list}
+use Rattle.std.specs.Prelude.{Option, Result, Err, OnOk, OnErr, IsErrOf, MatchResult, option_to_list}
 use Rattle.x25_packet.specs.Packet.{PlainPacket}
 use Rattle.x25_packet.specs.Spelling.{spelling_of}
 use Rattle.x25_layer.specs.declared.error.LayerError.{LayerError}
@@ -10,10 +10,9 @@ use Rattle.x25_layer.specs.declared.report.Report.{Report}
 use Rattle.x25_layer.specs.declared.report.Report.TheVariants as tells
 use Rattle.x25_link.specs.declared.ordered_link.OrderedLink.{Ghosts}
 use Rattle.x25_layer.specs.Layer.{LayerSettings, Layer, LayerAnswer, packet_on}
-use Rattle.x25_layer.specs.Calls.{LayerRequest, copies}
-use Rattle.x25_layer.specs.Room.{HaveRoomStill}
-use Rattle.x25_layer.specs.Report.{plain_report}
-use Rattle.x25_layer.specs.code.FitsLayer.{FitsLayer, FitsStill}
+use Rattle.x25_layer.specs.Calls.{LayerRequest, asks_memory}
+use Rattle.x25_layer.specs.Report.{plain_report, handed_over_in}
+use Rattle.x25_layer.specs.code.FitsLayer.{FitsLayer}
 use Rattle.x25_layer.specs.Rounds.{LinkView, Answered, Went, Refuses, calls}
 
 -- the state of the link after these packets were put, by its state after one is
@@ -50,25 +49,17 @@ pub record PutsOn {D : Type 0} (g : Ghosts D) (old : code.Layer) (below : D) (ne
       → g.fits below₂ (after_all g.after_put x (option_to_list (packet_on channel packet)))
   pub takes : TakesOne g below below₂
 
--- What came is heard as the answer says, and the packet owed for it is put. Where none is, the circuits keep the memory
--- that they have.
+-- What came is heard as the answer says, and the packet owed for it is put. The spare memory for one message is left,
+-- or else a message is handed over.
 pub record Hears {D : Type 0} (g : Ghosts D) (old : code.Layer) (below : D) (new : code.Layer) (below₂ : D) (t : Report)
-    (answer : LayerSettings → Layer → LayerAnswer) : Type 0 where
+    (left : ℕ) (answer : LayerSettings → Layer → LayerAnswer) : Type 0 where
   pub layer : (c : LayerSettings) (l : Layer) → FitsLayer c old l → FitsLayer c new (answer c l).next
   pub link : (c : LayerSettings) (l : Layer) (x : g.State) → FitsLayer c old l → g.fits below x
       → g.fits below₂ (after_all g.after_put x (option_to_list (answer c l).owed))
   pub told : (c : LayerSettings) (l : Layer) → FitsLayer c old l → plain_report t ≡ (answer c l).notices
   pub nothing : plain_report t ≡ [] → t ≡ tells.Nothing
   pub takes : TakesOne g below below₂
-  pub room : (c : LayerSettings) (l : Layer) → FitsLayer c old l → (answer c l).owed ≡ None
-      → HaveRoomStill old.circuits.items new.circuits.items
-
--- It isn't heard: the link is as before, the layer fits what it fitted, and as much memory is set aside in its
--- circuits.
-pub record IsLeft {D : Type 0} (old : code.Layer) (below : D) (new : code.Layer) (below₂ : D) : Type 0 where
-  pub layer : FitsStill old new
-  pub link : below₂ ≡ below
-  pub room : HaveRoomStill old.circuits.items new.circuits.items
+  pub spare : left + handed_over_in t ≡ 1
 
 -- ---- what a call of the user leaves and answers
 
@@ -82,16 +73,16 @@ abbrev pub LinkGives : {T X : Type 0} → (X → Type 0) → (X → List ℕ →
 LinkGives fits after x result (Went s) = OnOk result (fits (after_all after x s.put))
 LinkGives fits after x result (Refuses e) = result ≡ Err e
 
--- where 70 may be answered: for what is copied always
+-- where 70 may be answered: always where a circuit may ask for memory
 abbrev pub MayLack : Bool → ℕ → ℕ → Type 0
 MayLack true count promised = Unit {0}
 MayLack false count promised = promised < count
 
 -- A call of the user does to a layer and to the link below it what the definition says of it, or it is refused and both
--- are as before. 70 comes only for a message, which is copied, or where the link has places for fewer packets than so
--- many. Of memory that is set aside in the circuits it takes nothing.
+-- are as before. 70 comes only where a circuit may ask for memory, or where the link has places for fewer packets than
+-- so many.
 pub record Does {D T : Type 0} (g : Ghosts D) (old : code.Layer) (below : D) (new : code.Layer) (below₂ : D)
-    (result : Result T LayerError) (count : ℕ) (copies : Bool) (said : LinkView → LayerSettings → Layer → Answered)
+    (result : Result T LayerError) (count : ℕ) (asks : Bool) (said : LinkView → LayerSettings → Layer → Answered)
     : Type 0 where
   pub layer : (c : LayerSettings) (l : Layer) (x : g.State) → FitsLayer c old l → g.fits below x
       → LayerGives c new result (said (view_of g.up_in g.waits_in g.after_put x) c l)
@@ -100,11 +91,10 @@ pub record Does {D T : Type 0} (g : Ghosts D) (old : code.Layer) (below : D) (ne
   pub layer_stays : (c : LayerSettings) (l : Layer) → FitsLayer c old l → OnErr result (FitsLayer c new l)
   pub link_stays : (x : g.State) → g.fits below x → OnErr result (g.fits below₂ x)
   pub longest : g.longest below₂ ≡ g.longest below
-  pub missing : IsErrOf result error.NoMemory → MayLack copies count (g.promised below)
-  pub room : HaveRoomStill old.circuits.items new.circuits.items
+  pub missing : IsErrOf result error.NoMemory → MayLack asks count (g.promised below)
 
 -- a call does what the definition says of this request
 abbrev pub Answers : {D T : Type 0} → Ghosts D → code.Layer → D → code.Layer → D → Result T LayerError → ℕ
     → LayerRequest → Type 0
-Answers g old below new below₂ result count request = Does g old below new below₂ result count (copies request)
+Answers g old below new below₂ result count request = Does g old below new below₂ result count (asks_memory request)
     (λ view c l. calls view c l request)

@@ -7,9 +7,9 @@ use Rattle.x25_link.specs.declared.ordered_link.OrderedLink.{Ghosts}
 use Rattle.x25_circuit.specs.declared.circuit.Circuit as circuit_code
 use Rattle.x25_circuit.specs.Circuit.{Settings, Circuit}
 use Rattle.x25_circuit.specs.Calling.{Pulled, pulls_nothing, pulled}
-use Rattle.x25_circuit.specs.code.FitsCircuit.{FitsCircuit, room_of, clears_of, resets_of}
+use Rattle.x25_circuit.specs.code.FitsCircuit.{FitsCircuit, clears_of, resets_of}
 use Rattle.x25_layer.specs.Layer.{LayerSettings, packet_on}
-use Rattle.x25_layer.specs.Room.{HaveCountsLeft, HaveRoomStill}
+use Rattle.x25_layer.specs.Full.{HaveCountsLeft}
 use Rattle.x25_layer.specs.code.FitsLayer.{FitsCircuits}
 use Rattle.x25_layer.specs.code.Idle.{IdleBeside}
 use Rattle.x25_layer.specs.declared.busy.Busy.{Busy}
@@ -59,7 +59,6 @@ pub record PullsOne {D : Type 0} (g : Ghosts D) (channel : ℕ) (old : circuit_c
       → IsEnough (g.lists y) m → IsEnough (g.lists y) (g.promised below)
       → PutsPulled g c channel y (pulled_where (nat_lt (g.waits_in y) 8) c x) new below₂ m m₂ is_put
   pub takes : Takes g m below m₂ below₂
-  pub room : room_of old ≤ room_of new
   pub clears : clears_of new ≡ clears_of old
   pub resets : resets_of new ≡ resets_of old
   pub fewer : is_put ≡ true → m₂ < m
@@ -76,7 +75,6 @@ pub record GoesRound {D : Type 0} (g : Ghosts D) (old : List circuit_code.Circui
       → round (view_of g.up_in g.waits_in g.after_put x) c c.channels.count s ≡ s
   pub takes : Takes g m below m₂ below₂
   pub count : length new ≡ length old
-  pub room : HaveRoomStill old new
   pub left : HaveCountsLeft old → HaveCountsLeft new
   pub fewer : is_put ≡ true → m₂ < m
   pub places : vec_capacity busy.channels ≡ length new

@@ -1,5 +1,5 @@
 -- What becomes of timer T1 at a call.
-use Rattle.std.specs.Prelude.{◌≡◌, ℕ, Bool, List, Result, Ok, Err, IfOk}
+use Rattle.std.specs.Prelude.{◌≡◌, ℕ, Bool, List, Result, Ok, Err}
 use Rattle.x25_station.specs.declared.error.StationError.{StationError}
 use Rattle.x25_station.specs.declared.station.Station as code
 use Rattle.x25_station.specs.declared.timer.Timer.{Timer}
@@ -19,7 +19,6 @@ TellsTimer old timer result has_fired said =
     (c : Settings) (s : Station) → FitsStation c old s → IsTimer s has_fired timer result (said c s)
 
 -- it says whether frames are acknowledged by octets that come
-abbrev pub SaysAcknowledged : code.Station → List ℕ → Result Bool StationError → Type 0
-SaysAcknowledged old octets result =
-    (c : Settings) (s : Station) → FitsStation c old s →
-    IfOk result (λ said. said ≡ is_acknowledged s.link (receives c s octets).near.link)
+abbrev pub SaysAcknowledged : code.Station → List ℕ → Bool → Type 0
+SaysAcknowledged old octets said =
+    (c : Settings) (s : Station) → FitsStation c old s → said ≡ is_acknowledged s.link (receives c s octets).near.link

@@ -1,5 +1,5 @@
 -- Which states of the definition a station stands for, and what its calls answer.
-use Rattle.std.specs.Prelude.{◌≡◌, ◌≤◌, ◌⊎◌, [], length, map, vec_len, Option, Some, None, Result, Ok, Err}
+use Rattle.std.specs.Prelude.{◌≡◌, ◌≤◌, ◌⊎◌, [], length, map, Option, Some, None, Result, Ok, Err}
 use Rattle.std.specs.Prelude.{OnOk}
 use Rattle.std.specs.Prelude.{OnErr, IfErr, IsErrAnd, IsOk}
 use Rattle.x25_frame.specs.Spelling.{spelling_of}
@@ -63,11 +63,6 @@ abbrev pub RefusesOnly : {T : Type 0} → Result T StationError → Outcome → 
 RefusesOnly result (Did step) = IsOk result
 RefusesOnly result (Refused e) = result ≡ Err e
 
--- whether it was accepted, whatever it answers then
-abbrev pub said_alone : {T : Type 0} → Result T StationError → Result Unit StationError
-said_alone (Ok answer) = Ok tt
-said_alone (Err e) = Err e
-
 -- nothing is in it
 pub record IsEmpty (out : code_step.Step) : Type 0 where
   pub frames : out.frames ≡ []
@@ -85,7 +80,7 @@ pub record Does (old new : code.Station) (out : code_step.Step) (result : Result
   pub stays : (c : Settings) (s : Station) → FitsStation c old s → OnErr result (FitsStation c new s)
   pub empty : OnErr result (IsEmpty out)
   pub few_frames : length out.frames ≤ 17
-  pub few_entries : vec_len out.entries ≤ 3
+  pub few_entries : length out.entries.items ≤ 3
 
 -- a call that makes a station is refused with this, or else with 70 alone
 abbrev pub RefusesWith : {T : Type 0} → Result T StationError → Option StationError → Type 0

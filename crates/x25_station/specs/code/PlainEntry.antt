@@ -1,5 +1,5 @@
 -- Which entry of the definition an entry of the code is.
-use Rattle.std.specs.Prelude.{string_bytes, Some}
+use Rattle.std.specs.Prelude.{Some}
 use Rattle.x25_circuit.specs.Params.{in_brief}
 use Rattle.x25_circuit.specs.Notice.{PlainNotice, incoming, connected, collided, cleared, clear_done, was_reset}
 use Rattle.x25_circuit.specs.Notice.{reset_done, delivered, interrupted, interrupt_done, fault}
@@ -25,19 +25,18 @@ abbrev pub plain_name : Stretch → Name
 plain_name s = record { restarts = s.restarts; clears = s.clears; resets = s.resets }
 
 abbrev pub plain_asked : Asked → Request
-plain_asked (asked.Call called calling user params) = Calls (string_bytes called)
-    (string_bytes calling) user.items (in_brief params)
+plain_asked (asked.Call called calling user params) = Calls called calling user (in_brief params)
 plain_asked (asked.Accept params) = Accepts (Some (in_brief params))
 plain_asked (asked.Clear cause diagnostic) = Clears cause diagnostic
-plain_asked (asked.Send q user) = Sends q user.items
-plain_asked (asked.Interrupt user) = Interrupts user.items
+plain_asked (asked.Send q user) = Sends q user
+plain_asked (asked.Interrupt user) = Interrupts user
 plain_asked (asked.Reset cause diagnostic) = Resets cause diagnostic
 plain_asked asked.Ready = SaysReady
 plain_asked asked.NotReady = SaysNotReady
 
 abbrev pub plain_told : Told → PlainNotice
 plain_told (told.Incoming called calling user params) = incoming
-    (record { called = called.items; calling = calling.items; user = user.items; params = params })
+    (record { called = called; calling = calling; user = user; params = params })
 plain_told (told.Connected params) = connected params
 plain_told told.Collided = collided
 plain_told (told.Cleared cause diagnostic) = cleared cause diagnostic
@@ -45,7 +44,7 @@ plain_told told.ClearDone = clear_done
 plain_told (told.WasReset cause diagnostic) = was_reset cause diagnostic
 plain_told told.ResetDone = reset_done
 plain_told (told.Delivered message) = delivered message
-plain_told (told.Interrupted user) = interrupted user.items
+plain_told (told.Interrupted user) = interrupted user
 plain_told told.InterruptDone = interrupt_done
 plain_told (told.Fault diagnostic) = fault diagnostic
 
@@ -65,6 +64,6 @@ plain_entry (code.LinkDown reason) = link_down reason
 plain_entry (code.WasRestarted cause diagnostic) = was_restarted cause diagnostic
 plain_entry code.RestartDone = restart_confirmed
 plain_entry (code.Fault diagnostic) = at_fault diagnostic
-plain_entry (code.Beside channel facilities user) = came_beside channel facilities.items user.items
+plain_entry (code.Beside channel facilities user) = came_beside channel facilities user
 plain_entry (code.Confirmed channel name count) = was_confirmed channel (plain_name name) count
 plain_entry (code.Diagnosed diagnostic) = was_diagnosed diagnostic

@@ -3,10 +3,10 @@ use Rattle.std.specs.Prelude.{◌≡◌, ℕ, ◌+◌, ◌≤◌, length, Some, 
 use Rattle.x25_link.specs.Outgoing.{waits}
 use Rattle.x25_circuit.specs.declared.circuit.Circuit as circuit_code
 use Rattle.x25_circuit.specs.Circuit as circuit
+use Rattle.x25_circuit.specs.Message.{joining, no_part}
 use Rattle.x25_layer.specs.Layer.{is_channel}
 use Rattle.x25_station.specs.declared.station.Station as code
-use Rattle.x25_layer.specs.Layer.InPart.{joined_at}
-use Rattle.x25_station.specs.Config.{Settings, layer_settings}
+use Rattle.x25_station.specs.Config.{Settings}
 use Rattle.x25_station.specs.Station.{Station}
 use Rattle.x25_station.specs.code.FitsStation.{FitsStation}
 
@@ -27,11 +27,7 @@ FewMessages = (c : Settings) (v : code.Station) (s : Station) (h : ℕ) → Fits
 -- octets of the message of which some packets came, on each channel
 abbrev pub FewJoined : Type 0
 FewJoined = (c : Settings) (v : code.Station) (s : Station) (h : ℕ) → FitsStation c v s
-    → joined_at (layer_settings c) s.layer h ≤ 65535
-
--- texts of entries that memory is set aside for
-abbrev pub FewAside : Type 0
-FewAside = (v : code.Station) → v.texts ≤ 5
+    → is_channel c.channels h ≡ true → length (joining no_part (s.layer.circuits h).talk.taken).user ≤ 65535
 
 -- how many messages a circuit holds of those handed down: the one that is cut, or was cut last, and those behind it
 abbrev pub holds : circuit_code.Circuit → ℕ

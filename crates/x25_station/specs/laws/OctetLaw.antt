@@ -1,6 +1,5 @@
--- How many octets a station holds at most (profile): each message counts as the longest. Memory that is promised counts
--- as all that the type `Promise` may have for it, and that of a `Pool`, of `Frames` or of a `Sheet` that contracts
--- don't see as all that this type may have.
+-- How many octets a station holds at most (profile): each message counts as the longest, and the memory of `Frames` and
+-- of a `Sheet`, which contracts don't see, as all that this type may have.
 use Rattle.std.specs.Prelude.{ℕ, ◌+◌, ◌*◌, ◌≤◌, length}
 use Rattle.std.specs.List.{sum_by}
 use Rattle.x25_link.specs.code.FitsLink.{ShownLink}
@@ -17,23 +16,22 @@ abbrev pub link_octets : ShownLink → ℕ
 link_octets l =
     260 * l.station.outgoing.places.short.all + (4099 * l.station.outgoing.places.long.all + 4103 * 25)
 
--- messages of 65,535 octets, the message of which some packets came, and the memory of 4,096 of two that were read
+-- messages of 65,535 octets, and the memory for that of which some packets came
 abbrev pub circuit_octets : circuit_code.Circuit → ℕ
-circuit_octets u = 65535 * holds u + (69631 + 4096 * 2)
+circuit_octets u = 65535 * holds u + 65535
 
 -- those of its circuits, and the sheet on which a packet is spelled
 abbrev pub layer_octets : layer_code.Layer → ℕ
 layer_octets y = sum_by circuit_octets y.circuits.items + 4099
 
--- five texts of 128 octets that memory is promised for, and the memory kept of a message that was read
 abbrev pub octets_held : code.Station → ℕ
-octets_held v = link_octets v.link + (layer_octets v.layer + (128 * 5 + 4096 * v.messages.kept))
+octets_held v = link_octets v.link + layer_octets v.layer
 
 -- so many, and so many for each channel
 abbrev pub FewOctets : Type 0
-FewOctets = (v : code.Station) → octets_held v ≤ 241275 + 667638 * length v.layer.circuits.items
+FewOctets = (v : code.Station) → octets_held v ≤ 236539 + 655350 * length v.layer.circuits.items
 
 -- with so many channels as its settings say
 abbrev pub FewOctetsInAll : Type 0
 FewOctetsInAll = (c : Settings) (v : code.Station) (s : Station) → FitsStation c v s
-    → octets_held v ≤ 241275 + 667638 * c.channels.count
+    → octets_held v ≤ 236539 + 655350 * c.channels.count

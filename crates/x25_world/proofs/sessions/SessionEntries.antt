@@ -14,7 +14,7 @@ use Rattle.x25_packet.specs.declared.error.PacketError.{PacketError}
 use Rattle.x25_circuit.specs.Hearing.{Answer, answers}
 use Rattle.x25_circuit.specs.Notice.{PlainNotice}
 use Rattle.x25_layer.specs.Layer.{LayerSettings, Layer, LayerAnswer, LayerNotice, on_channel, restarted, restart_done, layer_fault, is_channel, notices_on, answers_on, drops, answers_in, layer_answers}
-use Rattle.x25_layer.specs.Room.{named_by}
+use Rattle.x25_station.specs.Confirming.{named_by}
 use Rattle.x25_layer.specs.Rounds.{answer_to}
 use Rattle.x25_layer.specs.Calls.{LayerRequest, Asks, Dials, Restarts, PullsAll, LayerOutcome, Accepted, Declined}
 use Rattle.x25_layer.specs.laws.Transcript.{Entry, Said, Asked, Told, name_of}

@@ -1,6 +1,6 @@
 -- The worlds of the definition that a world of the code stands for.
 use Rattle.std.specs.Prelude.{◌≡◌, ℕ, List, [], ◌∷◌, ◌++◌, Option, Some, None, ◌⊎◌, Result, Ok, Err, OnOk, IfErr}
-use Rattle.std.specs.Prelude.{Bool, ◌≤◌, OnErr, IsErrOf, vec_len}
+use Rattle.std.specs.Prelude.{Bool, ◌≤◌, OnErr, IsErrOf, length}
 use Rattle.x25_bits.specs.HarmlessBits.{IsHarmless}
 use Rattle.x25_bits.specs.Role.{other}
 use Rattle.x25_bits.specs.declared.direction.Direction.{Direction}
@@ -53,7 +53,7 @@ most_told act = 3
 pub record IsStepOf {T : Type 0} (result : Result T WorldError) (out : Step) (most : ℕ) : Type 0 where
   pub sent : out.frames ≡ []
   pub untold : OnErr result (out.entries.items ≡ [])
-  pub few : vec_len out.entries ≤ most
+  pub few : length out.entries.items ≤ most
 
 -- and 70 comes only where this takes memory
 pub record IsStepOfAct {T : Type 0} (result : Result T WorldError) (out : Step) (act : Act) : Type 0 where

@@ -15,12 +15,17 @@ frame_octets frame = max (length frame) 4103
 abbrev pub line_octets : ShownWorld → ℕ
 line_octets v = sum_by frame_octets v.to_dce + sum_by frame_octets v.to_dte
 
--- those of its stations, 17 frames that memory is set aside for, the memory kept of 17 that left the line, the 25
--- places of a step, and these
+-- the memory of a step: for 25 frames, a message and five texts
+abbrev pub step_octets : ℕ
+step_octets = 4103 * 25 + (65535 + 128 * 5)
+
+-- those of its stations, 17 frames that memory is set aside for, the memory kept of 17 that left the line, that of a
+-- step, and these
 abbrev pub octets_held : ShownWorld → ℕ
-octets_held v = (station.octets_held v.dte + station.octets_held v.dce) + (4103 * (17 + 17 + 25) + line_octets v)
+octets_held v = (station.octets_held v.dte + station.octets_held v.dce)
+    + (4103 * (17 + 17) + step_octets + line_octets v)
 
 -- with so many channels as its settings say
 abbrev pub FewOctets : Type 0
 FewOctets = (cfg : Cfg) (v : ShownWorld) (w : World) → FitsWorld cfg v w
-    → octets_held v ≤ 724627 + 1335276 * cfg.channels.count + line_octets v
+    → octets_held v ≤ 781330 + 1310700 * cfg.channels.count + line_octets v

@@ -1,18 +1,15 @@
-use Rattle.std.proofs.Common.{min, ℕ, suc, ◌≡◌, ◌≤◌, ◌∙◌, List, length, sym, subst, ap, arith}
+use Rattle.std.proofs.Common.{ℕ, suc, ◌≡◌, ◌≤◌, ◌∙◌, List, length, sym, subst, ap, arith}
 use Rattle.std.proofs.lemmas.Option.{slice_get-get_or}
 use Rattle.x25_circuit.specs.declared.circuit.Circuit as circuit_code
 use Rattle.x25_circuit.specs.Circuit.{Circuit, forgotten}
 use Rattle.x25_layer.specs.Layer.{at_rest}
-use Rattle.x25_circuit.specs.code.FitsCircuit.{room_of}
 use Rattle.x25_layer.specs.code.FitsLayer.{FitsCircuits}
-use Rattle.x25_layer.specs.Room.{HasRoomOn}
-use Rattle.x25_layer.proofs.FitLemmas.{changed_none, changed_more, changed_all, written_back, all_changed}
+use Rattle.x25_layer.proofs.FitLemmas.{changed_none, changed_more, changed_all, written_back}
 use Rattle.x25_layer.proofs.circuits.begin_all.Goals as goal
 
 pub loop-circuit-init : goal.loop-circuit-init
 loop-circuit-init c = record {
   fits = λ s f fits. changed_none s _ f at_rest.circuits fits;
-  room = λ h len all. all;
 }
 
 pub loop-circuit-preserved : goal.loop-circuit-preserved
@@ -25,11 +22,6 @@ loop-circuit-preserved c =
           let x : Circuit = f (suc i) in
           let found = before.above i _ (omega arith) read in
           changed_more s i _ f at_rest.circuits _ before (c.zero.ensures.fits s.circuit (forgotten x) (c.forget.ensures.fits s.circuit x found));
-      room = λ h len all.
-          let before = c.loop-circuit.invariant.room h len all in
-          let a = c.forget.ensures.room in
-          let b = c.zero.ensures.room in
-          all_changed (λ (k : ℕ) (v : circuit_code.Circuit). suc k ≡ h → min len 4096 ≤ room_of v) c.loop-circuit.circuit-items i c.zero.new.self before (λ on. let here = before i _ read on in omega (arith, here, a, b));
     }
 
 pub returns : goal.returns
@@ -43,6 +35,4 @@ returns c =
           (c.loop-circuit.invariant.fits s f (subst (λ (vs : List circuit_code.Circuit). FitsCircuits s vs f) (sym c.deref_mut-circuit-items.ensures.value) fits))
           (omega arith));
       count = ap length all ∙ count;
-      room = λ h len have. subst (λ (vs : List circuit_code.Circuit). HasRoomOn h len vs) (sym all)
-          (c.loop-circuit.invariant.room h len (subst (λ (vs : List circuit_code.Circuit). HasRoomOn h len vs) (sym c.deref_mut-circuit-items.ensures.value) have));
     }

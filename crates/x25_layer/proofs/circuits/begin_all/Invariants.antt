@@ -2,12 +2,10 @@ use Rattle.std.proofs.Common.{ℕ}
 use Rattle.x25_circuit.specs.Circuit.{Circuit}
 use Rattle.x25_layer.specs.Layer.{LayerSettings, at_rest}
 use Rattle.x25_layer.specs.code.FitsLayer.{FitsCircuits}
-use Rattle.x25_layer.specs.Room.{HasRoomOn}
 use Rattle.x25_layer.proofs.FitLemmas.{ChangedBelow}
 use Rattle.x25_layer.proofs.circuits.begin_all.Given as goal
 
 abbrev pub invariant-loop-circuit : goal.invariant-loop-circuit
 invariant-loop-circuit l = record {
   fits : (c : LayerSettings) (f : ℕ → Circuit) → FitsCircuits c l.initial.circuit-items f → ChangedBelow c l.circuit-index l.circuit-items f at_rest.circuits;
-  room : (h len : ℕ) → HasRoomOn h len l.initial.circuit-items → HasRoomOn h len l.circuit-items;
 }

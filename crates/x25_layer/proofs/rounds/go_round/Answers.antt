@@ -1,8 +1,7 @@
-use Rattle.std.proofs.Common.{rules, ◌≡◌, ℕ, min, suc, ◌+◌, ◌-◌, ◌<◌, ◌≤◌, ◌∙◌, ◌⊎◌, inl, inr, length, true, set, nat_lt, option_to_list, length-set, sym, ap, subst, arith}
+use Rattle.std.proofs.Common.{rules, ◌≡◌, ℕ, suc, ◌+◌, ◌-◌, ◌<◌, ◌∙◌, ◌⊎◌, inl, inr, length, true, set, nat_lt, option_to_list, length-set, sym, ap, subst, arith}
 use Rattle.x25_circuit.specs.declared.circuit.Circuit as circuit_code
-use Rattle.x25_circuit.specs.code.FitsCircuit.{room_of}
 use Rattle.x25_layer.specs.Layer.{LayerSettings, packet_on}
-use Rattle.x25_layer.specs.Room.{HasCountsLeft}
+use Rattle.x25_layer.specs.Full.{HasCountsLeft}
 use Rattle.x25_layer.specs.code.Idle.{IsOutside, IsIdle}
 use Rattle.x25_layer.specs.code.OverLink.{view_of, after_all}
 use Rattle.x25_layer.specs.Rounds.{LinkView, Putting, round}
@@ -49,10 +48,6 @@ loop-next-preserved g c =
           let both = neither c.loop-next.is_put c.pull_one-is_put.result is in
           subst (λ (k : ℕ). round view s k t ≡ t) up
           (one_none view s (suc i) t₂ ((p.pulls s.circuit (t₂.layer.circuits (suc i)) y found now.link now.left now.promised).none both.1) ∙ past s x t before ∙ c.loop-next.invariant.none both.0 s x t before);
-      room = λ h len have.
-          let before = c.loop-next.invariant.room h len have in
-          let more = p.room in
-          all_changed (λ (k : ℕ) (v : circuit_code.Circuit). suc k ≡ h → min len 4096 ≤ room_of v) c.loop-next.circuits.items i c.pull_one-is_put.new.circuit before (λ on. let here = before i _ read on in omega (arith, here, more));
       left = λ all. all_changed (λ (k : ℕ) (v : circuit_code.Circuit). HasCountsLeft v) c.loop-next.circuits.items i c.pull_one-is_put.new.circuit (c.loop-next.invariant.left all)
           (counts_left _ c.pull_one-is_put.new.circuit p.clears p.resets (c.loop-next.invariant.left all i _ read));
       takes = takes_then g.L.OrderedLink _ _ _ _ _ _ c.loop-next.invariant.takes p.takes;
@@ -99,7 +94,6 @@ returns g c = record {
   none = λ s x t before is. all s x t before ∙ c.loop-next.invariant.none is s x t before;
   takes = search rules;
   count = search rules;
-  room = search rules;
   left = search rules;
   fewer = search rules;
   places = c.loop-next.invariant.places;

@@ -1,10 +1,10 @@
-use Rattle.std.proofs.Common.{◌≡◌, ℕ, ◌-◌, ◌<◌, ◌≤◌, true, false, length, vec_capacity}
+use Rattle.std.proofs.Common.{◌≡◌, ◌-◌, ◌<◌, ◌≤◌, true, false, length, vec_capacity}
 use Rattle.x25_layer.specs.Layer.{LayerSettings}
 use Rattle.x25_layer.specs.code.OverLink.{view_of}
 use Rattle.x25_layer.specs.Rounds.{Putting, round}
 use Rattle.x25_layer.specs.code.Pulling.{Takes, Stands}
 use Rattle.x25_layer.specs.code.Idle.{IdleBeside}
-use Rattle.x25_layer.specs.Room.{HaveCountsLeft, HasRoomOn}
+use Rattle.x25_layer.specs.Full.{HaveCountsLeft}
 use Rattle.x25_layer.proofs.rounds.go_round.Given as goal
 
 -- the circuits up to a channel are done
@@ -16,7 +16,6 @@ invariant-loop-next g l = record {
       (round (view_of g.L.OrderedLink.up_in g.L.OrderedLink.waits_in g.L.OrderedLink.after_put x) c l.channel s);
   none : l.is_put ≡ false → (c : LayerSettings) (x : g.L.OrderedLink.State) (s : Putting) → Stands (g.L.OrderedLink.fits l.initial.link) g.L.OrderedLink.lists g.L.OrderedLink.after_put c l.initial.circuits.items l.initial.left (g.L.OrderedLink.promised l.initial.link) x s
       → round (view_of g.L.OrderedLink.up_in g.L.OrderedLink.waits_in g.L.OrderedLink.after_put x) c l.channel s ≡ s;
-  room : (h len : ℕ) → HasRoomOn h len l.initial.circuits.items → HasRoomOn h len l.circuits.items;
   left : HaveCountsLeft l.initial.circuits.items → HaveCountsLeft l.circuits.items;
   takes : Takes g.L.OrderedLink l.initial.left l.initial.link l.left l.link;
   fewer : l.is_put ≡ true → l.left < l.initial.left;

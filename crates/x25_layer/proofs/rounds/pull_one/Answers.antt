@@ -17,7 +17,6 @@ returns-then-waits-eq0 g c = record {
         left = subst (λ (p : Pulled). c.args.left.now + length (option_to_list p.packet) ≡ c.args.left.now) (sym none) (omega arith);
       };
   takes = search rules;
-  room = search rules;
   clears = search rules;
   resets = search rules;
   fewer = search rules;

@@ -8,7 +8,6 @@ returns-then-not-may_pull g c = record {
       let closed = sym (c.may_pull.ensures.state y l m s) ∙ c.if-not-may_pull.true in
       record { circuit = rw closed f; link = rw closed l; none = λ e. rw closed refl; left = rw closed (omega arith) };
   takes = search rules;
-  room = search rules;
   clears = search rules;
   resets = search rules;
   fewer = search rules;
@@ -26,7 +25,6 @@ returns-in_default g c = record {
         left = rw room (rw none (omega arith));
       };
   takes = search rules;
-  room = search rules;
   clears = search rules;
   resets = search rules;
   fewer = search rules;
@@ -45,7 +43,6 @@ returns g c = record {
         left = rw room (rw some (omega (arith, c.may_pull.ensures.left c.if-not-may_pull.false)));
       };
   takes = search rules;
-  room = search rules;
   clears = search rules;
   resets = search rules;
   fewer = search rules;

@@ -18,7 +18,6 @@ returns-then-not-may_pull g c = record {
       round_shut view s s.channels.count t (sym (c.if-not-may_pull.ensures.state y before.link before.left before.promised));
   takes = search rules;
   count = search rules;
-  room = search rules;
   left = search rules;
   fewer = search rules;
   places = search rules;

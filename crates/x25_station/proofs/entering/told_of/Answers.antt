@@ -16,10 +16,10 @@ incoming_is a b k d u v params p q r =
 pub returns-in-Incoming-clause-told : goal.returns-in-Incoming-clause-told
 returns-in-Incoming-clause-told c = λ short.
     let now = subst (λ (n : Notice). IsShort (plain_notice n)) c.in-Incoming.is short in
-    incoming_is _ _ _ _ _ _ c.in-Incoming.params c.kept_digits-called.ensures.copy c.kept_digits-calling.ensures.copy (c.kept-user.ensures.copy ∙ take_all 128 c.in-Incoming.user.now now)
+    incoming_is _ _ _ _ _ _ c.in-Incoming.params c.digits-called.ensures.text c.digits-calling.ensures.text (c.text-user.ensures.text ∙ take_all 128 c.in-Incoming.user.now now)
     ∙ sym (ap plain_notice c.in-Incoming.is)
 
 pub returns-in-Interrupted-clause-told : goal.returns-in-Interrupted-clause-told
 returns-in-Interrupted-clause-told c = λ short.
     let now = subst (λ (n : Notice). IsShort (plain_notice n)) c.in-Interrupted.is short in
-    ap (λ (x : List ℕ). interrupted x) (c.kept-user-in-Interrupted.ensures.copy ∙ take_all 128 c.in-Interrupted.user.now now) ∙ sym (ap plain_notice c.in-Interrupted.is)
+    ap (λ (x : List ℕ). interrupted x) (c.text-user-in-Interrupted.ensures.text ∙ take_all 128 c.in-Interrupted.user.now now) ∙ sym (ap plain_notice c.in-Interrupted.is)

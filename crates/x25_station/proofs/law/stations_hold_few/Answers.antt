@@ -10,7 +10,6 @@ returns c =
       messages = few_messages;
       joined = few_joined;
       held = few_held;
-      aside = λ v. v.aside;
       octets = few_octets;
       octets_in_all = few_in_all;
     }

@@ -61,9 +61,8 @@ returns-then-wide-clause-entries c = λ c' l t fits link.
     let none = is_none _ (sym c.is_some.ensures ∙ c.if-is_some.false) in
     let stays = subst (λ y. FitsLayer lc y l) (sym (c.note_down.ensures.same none)) fits in
     let octets = c.in-Some.packet.now in
-    heard_entries lc c.args.wide l (option_copied c.args.packet) octets c.args.notes (map plain_entry c.args.entries.now.items) _ c.if-notes.false none (ap option_copied c.in-Some.is)
-    (c.hear_all.ensures.entries c' l t stays link ∙ ap (λ es. map plain_entry es.items ++ entries_of_packet lc true l octets) (c.note_down.ensures.nothing none)
-    ∙ ap (λ (b : Bool). map plain_entry c.args.entries.now.items ++ entries_of_packet lc b l octets) (sym c.if-wide.true))
+    heard_entries lc c.args.wide l (option_copied c.args.packet) octets c.args.notes _ c.if-notes.false none (ap option_copied c.in-Some.is)
+    (c.hear_all.ensures.entries c' l t stays link ∙ ap (λ (b : Bool). entries_of_packet lc b l octets) (sym c.if-wide.true))
 
 pub returns-clause-puts : goal.returns-clause-puts
 returns-clause-puts c = record {
@@ -84,9 +83,8 @@ returns-clause-entries c = λ c' l t fits link.
     let none = is_none _ (sym c.is_some.ensures ∙ c.if-is_some.false) in
     let stays = subst (λ y. FitsLayer lc y l) (sym (c.note_down.ensures.same none)) fits in
     let octets = c.in-Some.packet.now in
-    heard_entries lc c.args.wide l (option_copied c.args.packet) octets c.args.notes (map plain_entry c.args.entries.now.items) _ c.if-notes.false none (ap option_copied c.in-Some.is)
-    (c.hear.ensures.entries c' l t stays link ∙ ap (λ es. map plain_entry es.items ++ entries_of_answer (layer_answer lc c.args.wide l octets)) (c.note_down.ensures.nothing none)
-    ∙ ap (λ es. map plain_entry c.args.entries.now.items ++ es) (sym (strict_entries lc c.args.wide l octets c.if-wide.false)))
+    heard_entries lc c.args.wide l (option_copied c.args.packet) octets c.args.notes _ c.if-notes.false none (ap option_copied c.in-Some.is)
+    (c.hear.ensures.entries c' l t stays link ∙ sym (strict_entries lc c.args.wide l octets c.if-wide.false))
 
 pub returns-in_default-clause-puts : goal.returns-in_default-clause-puts
 returns-in_default-clause-puts c = record {

@@ -1,7 +1,7 @@
 use Rattle.std.proofs.Common.{true, ◌++◌, [], ◌∷◌, map, ap, ap₂, subst, ◌∙◌, ℕ, Option}
 use Rattle.std.proofs.lemmas.List.{map-append}
 use Rattle.x25_layer.specs.Layer.{Layer as LayerState}
-use Rattle.x25_layer.specs.Room.{named_by}
+use Rattle.x25_station.specs.Confirming.{named_by}
 use Rattle.x25_layer.specs.Rounds.{begin, rounds}
 use Rattle.x25_station.specs.Beside.{PlainBeside, beside_in}
 use Rattle.x25_station.specs.Entry.{bringing, entries_beside}
@@ -22,9 +22,9 @@ returns-in-Some-clause-entries c = λ c' l t fits link.
     let next : LayerState = (rounds (view_of (link_settings c') t.near) lc (begin a.next a.owed)).layer in
     let stands = subst (λ (h : ℕ). Stands lc l h c.unconfirmed_on-before.result) c.named.ensures (c.unconfirmed_on-before.ensures lc l fits) in
     let tells = subst (λ o. Tells next (named_by octets) (confirmed lc l next (named_by octets)) o) c.in-Some.is
-    (c.confirmed.ensures lc (named_by octets) l next stands (c.hear-bringing.ensures.puts.layer c' l t fits link)) in
-    heard_all (view_of (link_settings c') t.near) lc l octets (map plain_entry c.args.entries.now.items) _ _ (plain_entry c.in-Some.entry ∷ []) (c.hear-bringing.ensures.entries c' l t fits link)
-    (ap (λ es. map plain_entry es) c.push_reserved.ensures.items ∙ map-append plain_entry _ (c.in-Some.entry ∷ [])) (tells (entries_beside (beside_in true octets) (bringing a.notices)))
+    (c.confirmed.ensures.tells lc (named_by octets) l next stands (c.hear-bringing.ensures.puts.layer c' l t fits link)) in
+    heard_all (view_of (link_settings c') t.near) lc l octets _ _ (plain_entry c.in-Some.entry ∷ []) (c.hear-bringing.ensures.entries c' l t fits link)
+    (ap (λ es. map plain_entry es) c.push.ensures ∙ map-append plain_entry _ (c.in-Some.entry ∷ [])) (tells (entries_beside (beside_in true octets) (bringing a.notices)))
 
 pub returns-in-None-clause-entries : goal.returns-in-None-clause-entries
 returns-in-None-clause-entries c = λ c' l t fits link.
@@ -34,7 +34,7 @@ returns-in-None-clause-entries c = λ c' l t fits link.
     let next : LayerState = (rounds (view_of (link_settings c') t.near) lc (begin a.next a.owed)).layer in
     let stands = subst (λ (h : ℕ). Stands lc l h c.unconfirmed_on-before.result) c.named.ensures (c.unconfirmed_on-before.ensures lc l fits) in
     let none = subst (λ o. Tells next (named_by octets) (confirmed lc l next (named_by octets)) o) c.in-None.is
-    (c.confirmed.ensures lc (named_by octets) l next stands (c.hear-bringing.ensures.puts.layer c' l t fits link)) in
-    heard_all (view_of (link_settings c') t.near) lc l octets (map plain_entry c.args.entries.now.items) _ _ (entries_beside (beside_in true octets) (bringing a.notices)) (c.hear-bringing.ensures.entries c' l t fits link)
+    (c.confirmed.ensures.tells lc (named_by octets) l next stands (c.hear-bringing.ensures.puts.layer c' l t fits link)) in
+    heard_all (view_of (link_settings c') t.near) lc l octets _ _ (entries_beside (beside_in true octets) (bringing a.notices)) (c.hear-bringing.ensures.entries c' l t fits link)
     (c.enter_beside.ensures.entered ∙ ap₂ (λ (b : PlainBeside) (k : Option ℕ). map plain_entry c.hear-bringing.new.entries.items ++ entries_beside b k) c.beside_of.ensures.exact (c.hear-bringing.ensures.bringing c' l t fits link))
     (nothing_behind next (named_by octets) (confirmed lc l next (named_by octets)) _ none)

@@ -1,9 +1,8 @@
-use Rattle.x25_world.proofs.SideLemmas.{reused, line_changes, line_stays, loses_or_not, damages_or_not}
+use Rattle.x25_world.proofs.SideLemmas.{line_changes, line_stays, loses_or_not, damages_or_not}
 use Rattle.x25_world.proofs.acting.act.Goals as goal
 
 pub returns-in-Lose-clause-acted : goal.returns-in-Lose-clause-acted
-returns-in-Lose-clause-acted c = λ cfg w old.
-    let side = reused cfg c.args.at _ _ _ w old (c.reuse.ensures.fits _ _ old.near) in
+returns-in-Lose-clause-acted c = λ cfg w side.
     let called = c.lose.ensures in
     rw (c.in-Lose.is, c.reuse.ensures.empty.entries) (record {
       happened = line_changes cfg c.args.at _ _ _ w c.lose.result _ side (called.happened w side.back) called.only;
@@ -12,8 +11,7 @@ returns-in-Lose-clause-acted c = λ cfg w old.
     })
 
 pub returns-in-Damage-clause-acted : goal.returns-in-Damage-clause-acted
-returns-in-Damage-clause-acted c = λ cfg w old.
-    let side = reused cfg c.args.at _ _ _ w old (c.reuse-in-Damage.ensures.fits _ _ old.near) in
+returns-in-Damage-clause-acted c = λ cfg w side.
     let called = c.damage.ensures in
     rw (c.in-Damage.is, c.reuse-in-Damage.ensures.empty.entries) (record {
       happened = line_changes cfg c.args.at _ _ _ w c.damage.result _ side (called.happened w side.back) called.only;

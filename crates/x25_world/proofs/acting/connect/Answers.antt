@@ -20,7 +20,7 @@ returns-in-Err-clause-acted c = λ cfg w side.
     rw c.refuse.ensures.error (record {
       happened = tt;
       refused = inr c.in-Err.ensures.refused;
-      stays = rw c.reserve_frames.ensures.line (side_stays cfg c.args.at _ _ c.args.line.now w c.reserve_frames.new.line side (c.refuse.ensures.fits _ _ side.near));
+      stays = rw c.reserve_frames.ensures.line (side_stays cfg c.args.at _ _ c.args.line.now w c.reserve_frames.new.line side side.near);
     })
 
 pub returns-in-Err-connect-clause-acted : goal.returns-in-Err-connect-clause-acted

@@ -9,7 +9,7 @@ returns-in-Err-clause-acted c = λ cfg w side.
     rw c.refuse.ensures.error (record {
       happened = tt;
       refused = inr c.in-Err.ensures.refused;
-      stays = rw c.reserve_frames.ensures.line (side_stays cfg c.args.at _ _ c.args.line.now w c.reserve_frames.new.line side (c.refuse.ensures.fits _ _ side.near));
+      stays = rw c.reserve_frames.ensures.line (side_stays cfg c.args.at _ _ c.args.line.now w c.reserve_frames.new.line side side.near);
     })
 
 pub returns-in_default-get-clause-acted : goal.returns-in_default-get-clause-acted
@@ -19,7 +19,7 @@ returns-in_default-get-clause-acted c = λ cfg w side.
     rw c.refuse-in_default-get.ensures.error (record {
       happened = tt;
       refused = inl (none_arrives (settings_from c.args.at cfg) w w.back none);
-      stays = rw c.reserve_frames.ensures.line (side_stays cfg c.args.at _ _ c.args.line.now w c.reserve_frames.new.line side (c.refuse-in_default-get.ensures.fits _ _ side.near));
+      stays = rw c.reserve_frames.ensures.line (side_stays cfg c.args.at _ _ c.args.line.now w c.reserve_frames.new.line side side.near);
     })
 
 pub returns-in-Ok-clause-acted : goal.returns-in-Ok-clause-acted

@@ -1,7 +1,7 @@
 use Rattle.std.proofs.Common.{sym, ap, inl, inr, ◌∙◌}
 use Rattle.x25_station.specs.Config.{settings_from}
 use Rattle.x25_world.specs.World.{refusal_of}
-use Rattle.x25_world.proofs.SideLemmas.{few_put, shared_of, has_happened, is_refusal, side_stays, reused, holds_back, lets_fire}
+use Rattle.x25_world.proofs.SideLemmas.{few_put, shared_of, has_happened, is_refusal, side_stays, holds_back, lets_fire}
 use Rattle.x25_world.proofs.acting.fire.Goals as goal
 
 pub returns-then-awaits_frames-clause-acted : goal.returns-then-awaits_frames-clause-acted
@@ -10,7 +10,7 @@ returns-then-awaits_frames-clause-acted c = λ cfg w side.
     rw c.refuse.ensures.error (record {
       happened = tt;
       refused = inl (ap refusal_of held);
-      stays = reused cfg c.args.at _ _ _ w side (c.refuse.ensures.fits _ _ side.near);
+      stays = side;
     })
 
 pub returns-in-Err-clause-acted : goal.returns-in-Err-clause-acted
@@ -18,7 +18,7 @@ returns-in-Err-clause-acted c = λ cfg w side.
     rw c.refuse-in-Err.ensures.error (record {
       happened = tt;
       refused = inr c.in-Err.ensures.refused;
-      stays = rw c.reserve_frames.ensures.line (side_stays cfg c.args.at _ _ c.args.line.now w c.reserve_frames.new.line side (c.refuse-in-Err.ensures.fits _ _ side.near));
+      stays = rw c.reserve_frames.ensures.line (side_stays cfg c.args.at _ _ c.args.line.now w c.reserve_frames.new.line side side.near);
     })
 
 pub returns-in-Ok-clause-acted : goal.returns-in-Ok-clause-acted

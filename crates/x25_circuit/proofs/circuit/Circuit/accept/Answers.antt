@@ -4,12 +4,14 @@ use denote.Ref.{Bor}
 use Rattle.x25_packet.specs.Facilities.{IsFacilityField}
 use Rattle.x25_circuit.specs.declared.params.Params.{Params}
 use Rattle.x25_circuit.specs.declared.state.State.TheVariants.{Open}
-use Rattle.x25_circuit.specs.Circuit.{entered}
+use Rattle.x25_circuit.specs.Circuit.{entered, outgoing}
 use Rattle.x25_circuit.specs.code.FitsCircuit.{FitsCircuit}
 use Rattle.x25_circuit.specs.Request.{plain_answer, params_answered}
 use Rattle.x25_circuit.specs.Params.{Proposal, may_answer, may_propose}
+use Rattle.x25_circuit.specs.declared.error.CircuitError.TheVariants.{NoMemory}
+use Rattle.x25_circuit.proofs.AskLemmas.{all_err, err_is, is_done, lacks}
 use Rattle.x25_circuit.proofs.TableLemmas.{accept_at, answer_accepts}
-use Rattle.x25_circuit.proofs.TalkLemmas.{no_field}
+use Rattle.x25_circuit.proofs.TalkLemmas.{kept_circuit, with_transfer, no_field}
 use Rattle.x25_circuit.proofs.ParamsLemmas.{field_is_allowed}
 use Rattle.x25_circuit.proofs.circuit.Circuit.accept.Goals as goal
 
@@ -22,12 +24,31 @@ returns-in_err-flow c = record {
   control = search rules;
   keeps = search rules;
   unchanged = search rules;
-  kinds = search rules;
+  lacks = λ is.
+      let p = err_from_is_err_and c.from_residual.result c.from_residual.ensures.1 in
+      absurd (c.in_err-flow.ensures.kinds (err_is _ NoMemory (sym (p.1 ∙ ap Err p.2) ∙ is)));
+  accepted = λ is.
+      let p = err_from_is_err_and c.from_residual.result c.from_residual.ensures.1 in
+      absurd (c.in_err-flow.ensures.kinds (err_is _ NoMemory (sym (p.1 ∙ ap Err p.2) ∙ is)));
+}
+
+pub returns-in_err-make : goal.returns-in_err-make
+returns-in_err-make c = record {
+  outcome = λ d x fits.
+      let p = err_from_is_err_and c.from_residual-in_err-make.result c.from_residual-in_err-make.ensures.1 in
+      lacks d _ _ _ (is_done _ (sym (c.in_ok-flow.ensures.refusal d x fits))) (p.1 ∙ ap Err p.2);
+  range = search rules;
+  control = search rules;
+  keeps = search rules;
+  unchanged = all_err _ (kept_circuit c.args.self.now c.make.new.self _ c.in_err-make.ensures.unchanged);
+  lacks = search rules;
+  accepted = λ is d x fits. is_done _ (sym (c.in_ok-flow.ensures.refusal d x fits));
 }
 
 pub returns-in-Some : goal.returns-in-Some
 returns-in-Some c = record {
   outcome = λ d x fits.
+      let made = with_transfer d c.args.self.now x _ _ _ fits (c.make.ensures.fits (outgoing x).size x.talk fits.talk) in
       let known = c.args.self.now.flow.params in
       let flow = c.in_ok-flow.ensures.flow ∙ ap (λ (a : Option (Bor Proposal)). params_answered (plain_answer a) known) c.in-Some.is in
       let may = subst (λ (a : Option (Bor Proposal)). IfSome (plain_answer a) (λ said. may_answer known said.params ≡ true)) c.in-Some.is c.in_ok-flow.ensures.may_answer in
@@ -37,7 +58,7 @@ returns-in-Some c = record {
         answer_accepts x c.in-Some.answer.now (ap (λ (p : Params). may_answer p c.in-Some.answer.now.params) (sym fits.params) ∙ may),
       )
       ((
-        subst (λ (p : Params). FitsCircuit d c.enter.new.self (entered x Open p false)) flow (c.enter.ensures.fits d x fits),
+        subst (λ (p : Params). FitsCircuit d c.enter.new.self (entered x Open p false)) flow (c.enter.ensures.fits d x made),
         rw (c.field_for.ensures, fits.params) refl,
       ));
   range =
@@ -50,18 +71,21 @@ returns-in-Some c = record {
   control = search rules;
   keeps = search rules;
   unchanged = search rules;
-  kinds = search rules;
+  lacks = search rules;
+  accepted = search rules;
 }
 
 pub returns-in-None : goal.returns-in-None
 returns-in-None c = record {
   outcome = λ d x fits.
+      let made = with_transfer d c.args.self.now x _ _ _ fits (c.make.ensures.fits (outgoing x).size x.talk fits.talk) in
       let flow = c.in_ok-flow.ensures.flow ∙ ap (λ (a : Option (Bor Proposal)). params_answered (plain_answer a) c.args.self.now.flow.params) c.in-None.is ∙ fits.params in
       rw (c.in-None.is, accept_at x x.state None (sym fits.state ∙ c.in_ok-flow.ensures.arriving))
-      ((subst (λ (p : Params). FitsCircuit d c.enter.new.self (entered x Open p false)) flow (c.enter.ensures.fits d x fits), rw c.none.ensures refl));
+      ((subst (λ (p : Params). FitsCircuit d c.enter.new.self (entered x Open p false)) flow (c.enter.ensures.fits d x made), rw c.none.ensures refl));
   range = ((lit≤ tt, lit≤ tt), subst IsFacilityField (sym c.none.ensures) no_field);
   control = search rules;
   keeps = search rules;
   unchanged = search rules;
-  kinds = search rules;
+  lacks = search rules;
+  accepted = search rules;
 }

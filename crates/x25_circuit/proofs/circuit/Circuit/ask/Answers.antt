@@ -1,18 +1,28 @@
-use Rattle.std.proofs.Common.{◌∙◌, sym}
-use Rattle.x25_circuit.proofs.AskLemmas.{asked, not_memory}
+use Rattle.std.proofs.Common.{refl, sym, ◌∙◌}
+use Rattle.x25_circuit.proofs.AskLemmas.{asked, asked_or_lacks, lacked, not_memory, not_refused}
 use Rattle.x25_circuit.proofs.circuit.Circuit.ask.Goals as goal
 
 pub returns-in-Call-clause-outcome : goal.returns-in-Call-clause-outcome
-returns-in-Call-clause-outcome c = λ d x fits. rw (c.in-Call.is, c.with_packet.ensures) (asked d c.call.new.self c.call.result _ (c.call.ensures.outcome d x fits))
+returns-in-Call-clause-outcome c = λ d x fits. rw (c.in-Call.is, c.with_packet.ensures) (asked_or_lacks d c.call.new.self c.call.result _ (c.call.ensures.outcome d x fits))
 
 pub returns-in-Call-clause-memory : goal.returns-in-Call-clause-memory
-returns-in-Call-clause-memory c = λ is. absurd (not_memory c.call.result c.call.ensures.kinds (sym c.with_packet.ensures ∙ is))
+returns-in-Call-clause-memory c = λ is.
+    let lacks = lacked c.call.result (sym c.with_packet.ensures ∙ is) in
+    record {
+      asks = rw (c.in-Call.is, c.call.ensures.lacks lacks) refl;
+      accepted = λ d x fits. rw c.in-Call.is (not_refused _ (c.call.ensures.accepted lacks d x fits));
+    }
 
 pub returns-in-Accept-clause-outcome : goal.returns-in-Accept-clause-outcome
-returns-in-Accept-clause-outcome c = λ d x fits. rw (c.in-Accept.is, c.with_packet-in-Accept.ensures) (asked d c.accept.new.self c.accept.result _ (c.accept.ensures.outcome d x fits))
+returns-in-Accept-clause-outcome c = λ d x fits. rw (c.in-Accept.is, c.with_packet-in-Accept.ensures) (asked_or_lacks d c.accept.new.self c.accept.result _ (c.accept.ensures.outcome d x fits))
 
 pub returns-in-Accept-clause-memory : goal.returns-in-Accept-clause-memory
-returns-in-Accept-clause-memory c = λ is. absurd (not_memory c.accept.result c.accept.ensures.kinds (sym c.with_packet-in-Accept.ensures ∙ is))
+returns-in-Accept-clause-memory c = λ is.
+    let lacks = lacked c.accept.result (sym c.with_packet-in-Accept.ensures ∙ is) in
+    record {
+      asks = rw (c.in-Accept.is, c.accept.ensures.lacks lacks) refl;
+      accepted = λ d x fits. rw c.in-Accept.is (not_refused _ (c.accept.ensures.accepted lacks d x fits));
+    }
 
 pub returns-in-Clear-clause-outcome : goal.returns-in-Clear-clause-outcome
 returns-in-Clear-clause-outcome c = λ d x fits. rw (c.in-Clear.is, c.with_packet-in-Clear.ensures) (asked d c.clear.new.self c.clear.result _ (c.clear.ensures.outcome d x fits))

@@ -1,16 +1,18 @@
 use Rattle.std.proofs.Common.{refl, ap, ◌∙◌, suc, add-one}
 use Rattle.x25_circuit.proofs.circuit.Circuit.be_cleared.Goals as goal
 
-pub returns-clause-fits : goal.returns-clause-fits
-returns-clause-fits c = λ d x fits.
-    let now = c.end_call.ensures.fits d x fits in
-    record {
-      role = now.role;
-      long_data = now.long_data;
-      state = now.state;
-      clears = add-one _ ∙ ap suc now.clears;
-      resets = refl;
-      params = now.params;
-      calls = now.calls;
-      talk = now.talk;
-    }
+pub returns : goal.returns
+returns c = record {
+  fits = λ d x fits.
+      let now = c.end_call.ensures.fits d x fits in
+      record {
+        role = now.role;
+        long_data = now.long_data;
+        state = now.state;
+        clears = add-one _ ∙ ap suc now.clears;
+        resets = refl;
+        params = now.params;
+        calls = now.calls;
+        talk = now.talk;
+      };
+}

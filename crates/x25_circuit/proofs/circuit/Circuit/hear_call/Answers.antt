@@ -14,7 +14,7 @@ returns-in-Free c = record {
       (subst (λ (p : Params). FitsCircuit d c.enter.new.self (entered x Arriving p false)) (c.said-flow.ensures ∙ ap (λ (p : Params). said_in p c.args.facilities.now) c.usual.ensures) (c.enter.ensures.fits d x fits));
   says = search rules;
   range = search rules;
-  room = search rules;
+  handed = search rules;
 }
 
 pub returns-in_default : goal.returns-in_default
@@ -23,5 +23,5 @@ returns-in_default c =
       next = λ d x fits. rw (call_strays d x _ _ c.in_default.not-Free c.in_default.not-Calling c.in_default.not-Clearing) (c.unexpected.ensures.next d x fits);
       says = λ d x fits. rw (call_strays d x _ _ c.in_default.not-Free c.in_default.not-Calling c.in_default.not-Clearing) (c.unexpected.ensures.says d x fits);
       range = c.unexpected.ensures.range;
-      room = c.unexpected.ensures.room;
+      handed = c.unexpected.ensures.handed;
     }

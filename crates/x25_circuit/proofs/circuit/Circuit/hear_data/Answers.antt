@@ -1,6 +1,6 @@
 use Rattle.std.proofs.Common.{rules, sym, ◌∙◌}
 use Rattle.x25_circuit.specs.Circuit.{incoming, outgoing}
-use Rattle.x25_circuit.proofs.TalkLemmas.{with_transfer, partial_fits, same_ground, ground_refused, ground_passed}
+use Rattle.x25_circuit.proofs.TalkLemmas.{same_ground, ground_refused, ground_passed}
 use Rattle.x25_circuit.proofs.circuit.Circuit.hear_data.Goals as goal
 
 pub returns-in-Some : goal.returns-in-Some
@@ -8,19 +8,13 @@ returns-in-Some c = record {
   next = λ d x fits. rw (ground_refused (incoming x).size x.talk c.args.ps.number c.args.pr.number _ c.in-Some.diagnostic (sym (same_ground (incoming x).size _ c.args.ps.number x.talk c.args.q c.args.m c.args.user.now (c.incoming.ensures.size d x fits)) ∙ sym (c.in-Some.ensures.value (outgoing x).size x.talk fits.talk))) (c.refuse.ensures.next d x fits);
   says = λ d x fits. rw (ground_refused (incoming x).size x.talk c.args.ps.number c.args.pr.number _ c.in-Some.diagnostic (sym (same_ground (incoming x).size _ c.args.ps.number x.talk c.args.q c.args.m c.args.user.now (c.incoming.ensures.size d x fits)) ∙ sym (c.in-Some.ensures.value (outgoing x).size x.talk fits.talk))) (c.refuse.ensures.says d x fits);
   range = search rules;
-  err = search rules;
-  missing = search rules;
-  unchanged = search rules;
-  room = search rules;
+  spare = search rules;
 }
 
-pub returns-in_ok-reserve-in-None : goal.returns-in_ok-reserve-in-None
-returns-in_ok-reserve-in-None c = record {
-  next = λ d x fits. rw (ground_passed (incoming x).size x.talk c.args.ps.number c.args.pr.number _ (sym (same_ground (incoming x).size _ c.args.ps.number x.talk c.args.q c.args.m c.args.user.now (c.incoming.ensures.size d x fits)) ∙ sym (c.in-None.ensures.value (outgoing x).size x.talk fits.talk))) (c.join.ensures.next d x (with_transfer d c.args.self.now x _ _ fits (partial_fits (outgoing x).size c.args.self.now.transfer x.talk c.reserve.new.self fits.talk c.reserve.ensures.part)));
-  says = λ d x fits. rw (ground_passed (incoming x).size x.talk c.args.ps.number c.args.pr.number _ (sym (same_ground (incoming x).size _ c.args.ps.number x.talk c.args.q c.args.m c.args.user.now (c.incoming.ensures.size d x fits)) ∙ sym (c.in-None.ensures.value (outgoing x).size x.talk fits.talk))) (c.join.ensures.says d x (with_transfer d c.args.self.now x _ _ fits (partial_fits (outgoing x).size c.args.self.now.transfer x.talk c.reserve.new.self fits.talk c.reserve.ensures.part)));
+pub returns-in-None : goal.returns-in-None
+returns-in-None c = record {
+  next = λ d x fits. rw (ground_passed (incoming x).size x.talk c.args.ps.number c.args.pr.number _ (sym (same_ground (incoming x).size _ c.args.ps.number x.talk c.args.q c.args.m c.args.user.now (c.incoming.ensures.size d x fits)) ∙ sym (c.in-None.ensures.value (outgoing x).size x.talk fits.talk))) (c.join.ensures.next d x fits);
+  says = λ d x fits. rw (ground_passed (incoming x).size x.talk c.args.ps.number c.args.pr.number _ (sym (same_ground (incoming x).size _ c.args.ps.number x.talk c.args.q c.args.m c.args.user.now (c.incoming.ensures.size d x fits)) ∙ sym (c.in-None.ensures.value (outgoing x).size x.talk fits.talk))) (c.join.ensures.says d x fits);
   range = search rules;
-  err = search rules;
-  missing = search rules;
-  unchanged = search rules;
-  room = search rules;
+  spare = search rules;
 }

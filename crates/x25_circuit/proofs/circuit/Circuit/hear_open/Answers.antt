@@ -6,8 +6,5 @@ returns-in-Data c = record {
   next = search rules;
   says = λ d x fits. rw c.in-Data.is (c.hear_data.ensures.says d x fits);
   range = search rules;
-  err = search rules;
-  missing = search rules;
-  unchanged = search rules;
-  room = search rules;
+  spare = search rules;
 }

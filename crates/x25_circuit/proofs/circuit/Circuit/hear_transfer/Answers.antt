@@ -7,8 +7,5 @@ returns-in_default c = record {
   next = λ d x fits. rw (data_strays d x _ _ c.in_default.not-Open c.in_default.not-Resetting c.in_default.not-Clearing) (c.unexpected.ensures.next d x fits);
   says = λ d x fits. rw (data_strays d x _ _ c.in_default.not-Open c.in_default.not-Resetting c.in_default.not-Clearing) (c.unexpected.ensures.says d x fits);
   range = search rules;
-  err = search rules;
-  missing = search rules;
-  unchanged = search rules;
-  room = search rules;
+  spare = search rules;
 }

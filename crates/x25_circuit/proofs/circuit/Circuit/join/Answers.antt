@@ -1,4 +1,4 @@
-use Rattle.std.proofs.Common.{ℕ, sym, ap, ◌∙◌, Some}
+use Rattle.std.proofs.Common.{rules, ℕ, sym, ap, ◌∙◌, Some}
 use Rattle.std.proofs.lemmas.List.{length_push}
 use Rattle.x25_circuit.specs.Message.{piece_of}
 use Rattle.x25_circuit.specs.Notice.{deliveries}
@@ -7,20 +7,27 @@ use Rattle.x25_circuit.specs.Circuit.{outgoing}
 use Rattle.x25_circuit.proofs.TalkLemmas.{with_transfer, same_transfer}
 use Rattle.x25_circuit.proofs.circuit.Circuit.join.Goals as goal
 
-pub returns-then-not-ack-clause-next : goal.returns-then-not-ack-clause-next
-returns-then-not-ack-clause-next c = λ d x fits. rw (sym (c.ack.ensures.valid (outgoing x).size x.talk fits.talk) ∙ c.if-not-ack.true) (c.reset_for.ensures.next d x (same_transfer d c.args.self.now x _ fits (c.ack.ensures.unchanged c.if-not-ack.true)))
+pub returns-then-not-ack : goal.returns-then-not-ack
+returns-then-not-ack c = record {
+  next = λ d x fits. rw (sym (c.ack.ensures.valid (outgoing x).size x.talk fits.talk) ∙ c.if-not-ack.true) (c.reset_for.ensures.next d x (same_transfer d c.args.self.now x _ _ fits (c.ack.ensures.unchanged c.if-not-ack.true)));
+  says = λ d x fits. rw (sym (c.ack.ensures.valid (outgoing x).size x.talk fits.talk) ∙ c.if-not-ack.true) (c.reset_for.ensures.says d x (same_transfer d c.args.self.now x _ _ fits (c.ack.ensures.unchanged c.if-not-ack.true)));
+  range = search rules;
+  spare = search rules;
+}
 
-pub returns-clause-next : goal.returns-clause-next
-returns-clause-next c = λ d x fits.
-    let acked = c.ack.ensures.fits (outgoing x).size x.talk fits.talk c.if-not-ack.false in
-    rw (sym (c.ack.ensures.valid (outgoing x).size x.talk fits.talk) ∙ c.if-not-ack.false) (with_transfer d c.args.self.now x _ _ fits (c.take-message.ensures.fits (outgoing x).size _ acked))
-
-pub returns-clause-says : goal.returns-clause-says
-returns-clause-says c = λ d x fits.
-    let acked = c.ack.ensures.fits (outgoing x).size x.talk fits.talk c.if-not-ack.false in
-    let now = with_transfer d c.args.self.now x _ _ fits (c.take-message.ensures.fits (outgoing x).size _ acked) in
-    let piece = piece_of c.args.q c.args.m c.args.user.now in
-    rw (sym (c.ack.ensures.valid (outgoing x).size x.talk fits.talk) ∙ c.if-not-ack.false) (record {
-      owed = ap Some (c.status-owed.ensures.value d _ now ∙ ap (λ (n : ℕ). status x.talk.own_ready n) (length_push x.talk.taken piece));
-      notices = c.delivered.ensures ∙ ap deliveries (c.take-message.ensures.message (outgoing x).size _ acked);
-    })
+pub returns : goal.returns
+returns c = record {
+  next = λ d x fits.
+      let acked = c.ack.ensures.fits (outgoing x).size x.talk fits.talk c.if-not-ack.false in
+      rw (sym (c.ack.ensures.valid (outgoing x).size x.talk fits.talk) ∙ c.if-not-ack.false) (with_transfer d c.args.self.now x _ _ _ fits (c.take-message.ensures.fits (outgoing x).size _ acked));
+  says = λ d x fits.
+      let acked = c.ack.ensures.fits (outgoing x).size x.talk fits.talk c.if-not-ack.false in
+      let now = with_transfer d c.args.self.now x _ _ _ fits (c.take-message.ensures.fits (outgoing x).size _ acked) in
+      let piece = piece_of c.args.q c.args.m c.args.user.now in
+      rw (sym (c.ack.ensures.valid (outgoing x).size x.talk fits.talk) ∙ c.if-not-ack.false) (record {
+        owed = ap Some (c.status-owed.ensures.value d _ now ∙ ap (λ (n : ℕ). status x.talk.own_ready n) (length_push x.talk.taken piece));
+        notices = c.delivered.ensures.notices ∙ ap deliveries (c.take-message.ensures.message (outgoing x).size _ acked);
+      });
+  range = search rules;
+  spare = search rules;
+}

@@ -9,8 +9,5 @@ returns-in-Clear c = record {
   next = λ d x fits. rw c.in-Clear.is (subst (λ (s : State). FitsCircuit d c.hear_clear.new.self (row_clear x s c.in-Clear.cause c.in-Clear.diagnostic).next) fits.state (c.hear_clear.ensures.next d x fits));
   says = λ d x fits. rw (c.in-Clear.is, ← fits.state) (c.hear_clear.ensures.says d x fits);
   range = search rules;
-  err = search rules;
-  missing = search rules;
-  unchanged = search rules;
-  room = search rules;
+  spare = search rules;
 }

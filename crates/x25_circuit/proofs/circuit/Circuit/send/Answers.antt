@@ -15,4 +15,4 @@ returns-clause-outcome c = λ d x fits.
     rw (
       send_at d x x.state c.args.q c.args.user.now (sym fits.state ∙ c.in_default.ensures.open),
       send_waits d x c.args.q c.args.user.now (omega (arith, c.in_default.ensures.short)) (omega (arith, waits, c.in_default.ensures.few)),
-    ) ((with_transfer d c.args.self.now x _ _ fits (c.in_ok-push.ensures.fits (outgoing x).size x.talk fits.talk), refl))
+    ) ((with_transfer d c.args.self.now x _ _ _ fits (c.in_ok-push.ensures.fits (outgoing x).size x.talk fits.talk), refl))

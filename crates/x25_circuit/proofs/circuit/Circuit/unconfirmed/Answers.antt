@@ -1,4 +1,4 @@
-use Rattle.std.proofs.Common.{◌++◌, length, ◌∙◌, arith}
+use Rattle.std.proofs.Common.{arith}
 use Rattle.std.proofs.lemmas.List.{length-append}
 use Rattle.x25_circuit.specs.Circuit.{outgoing}
 use Rattle.x25_circuit.proofs.NumbersLemmas.{unconfirmed_few}

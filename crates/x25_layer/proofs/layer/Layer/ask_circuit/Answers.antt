@@ -1,12 +1,12 @@
-use Rattle.std.proofs.Common.{ℕ, suc, ◌≡◌, ◌-◌, ◌≤◌, ◌∙◌, Err, min, refl, sym, ap, subst, arith, length-set}
+use Rattle.std.proofs.Common.{ℕ, suc, ◌-◌, ◌∙◌, Err, refl, sym, ap, subst, length-set}
 use Rattle.x25_circuit.specs.declared.error.CircuitError.{CircuitError}
 use Rattle.x25_circuit.specs.declared.circuit.Circuit as circuit_code
 use Rattle.x25_circuit.specs.Calling.{outcome}
-use Rattle.x25_circuit.specs.code.FitsCircuit.{FitsCircuit, room_of}
+use Rattle.x25_circuit.specs.code.FitsCircuit.{FitsCircuit}
 use Rattle.x25_circuit.specs.Request.{plain_request}
 use Rattle.x25_layer.specs.code.Idle.{IsOutside, IsIdle}
-use Rattle.x25_layer.specs.Room.{HasCountsLeft}
-use Rattle.x25_layer.proofs.CallLemmas.{found_at, asks_ok, asks_err, memory_is, err_is, layer_kept}
+use Rattle.x25_layer.specs.Full.{HasCountsLeft}
+use Rattle.x25_layer.proofs.CallLemmas.{found_at, asks_ok, asks_err, asks_some, memory_is, err_is, layer_kept}
 use Rattle.x25_layer.proofs.FitLemmas.{all_changed, counts_left}
 use Rattle.x25_layer.proofs.HearLemmas.{read_there, place_of}
 use Rattle.x25_layer.proofs.layer.Layer.ask_circuit.Goals as goal
@@ -25,25 +25,14 @@ returns-in-Err-clause-outcome c = λ s l fits.
     (λ none. (c.in-Err.ensures.memory (ap (λ (e : CircuitError). Err e) none)).accepted s.circuit (l.circuits c.args.channel) at.1))
 
 pub returns-in-Err-clause-missing : goal.returns-in-Err-clause-missing
-returns-in-Err-clause-missing c = λ is. (c.in-Err.ensures.memory (ap (λ (e : CircuitError). Err e) (memory_is c.in-Err.error (sym c.of_circuit.ensures ∙ err_is _ _ is)))).message
+returns-in-Err-clause-missing c = λ is.
+    asks_some c.index_mut.result.now (plain_request c.args.request) (c.in-Err.ensures.memory (ap (λ (e : CircuitError). Err e) (memory_is c.in-Err.error (sym c.of_circuit.ensures ∙ err_is _ _ is)))).asks
 
 pub returns-in-Err-clause-fits : goal.returns-in-Err-clause-fits
 returns-in-Err-clause-fits c = λ s l fits.
     let at = found_at s c.args.self.now l c.args.channel c.from-place.result c.index_mut.result.now fits c.requires c.from-place.ensures c.index_mut.ensures.value in
     layer_kept s c.args.self.now _ l c.args.channel (c.from-place.result - 1) c.ask.new.self fits at.0 (record { role = refl; long_data = refl; ranges = refl; restarting = refl; restarts = refl }) refl
     (subst (λ (v : circuit_code.Circuit). FitsCircuit s.circuit v (l.circuits c.args.channel)) (sym c.in-Err.ensures.unchanged) at.1)
-
-pub returns-in-Ok-clause-room : goal.returns-in-Ok-clause-room
-returns-in-Ok-clause-room c = λ h len have.
-    let read = read_there c.args.self.now.circuits.items c.args.channel c.from-place.result c.index_mut.result.now c.requires c.from-place.ensures c.index_mut.ensures.value in
-    let more = c.ask.ensures.room in
-    all_changed (λ (k : ℕ) (v : circuit_code.Circuit). suc k ≡ h → min len 4096 ≤ room_of v) c.args.self.now.circuits.items (c.from-place.result - 1) c.ask.new.self have (λ on. let here = have (c.from-place.result - 1) c.index_mut.result.now read on in omega (arith, here, more))
-
-pub returns-in-Err-clause-room : goal.returns-in-Err-clause-room
-returns-in-Err-clause-room c = λ h len have.
-    let read = read_there c.args.self.now.circuits.items c.args.channel c.from-place.result c.index_mut.result.now c.requires c.from-place.ensures c.index_mut.ensures.value in
-    let more = c.ask.ensures.room in
-    all_changed (λ (k : ℕ) (v : circuit_code.Circuit). suc k ≡ h → min len 4096 ≤ room_of v) c.args.self.now.circuits.items (c.from-place.result - 1) c.ask.new.self have (λ on. let here = have (c.from-place.result - 1) c.index_mut.result.now read on in omega (arith, here, more))
 
 pub invariant_of-self-clause-circuits_left : goal.invariant_of-self-clause-circuits_left
 invariant_of-self-clause-circuits_left c = λ is.

@@ -1,16 +1,14 @@
 use Rattle.std.proofs.Common.{rules, ◌∙◌, ◌<◌, Ok, Err, sym, subst, ap}
 use Rattle.x25_circuit.specs.Calling.{Outcome, outcome}
-use Rattle.x25_circuit.specs.Request.{plain_request, is_message}
+use Rattle.x25_circuit.specs.Request.{plain_request, may_ask_memory}
 use Rattle.x25_layer.specs.declared.error.LayerError.{LayerError}
 use Rattle.x25_layer.specs.declared.error.LayerError.TheVariants as error
 use Rattle.x25_layer.specs.code.OverLink.{view_of, LayerGives, LinkGives}
 use Rattle.x25_layer.specs.Rounds.{LinkView, Answered, begin, went}
-use Rattle.x25_layer.specs.declared.layer.Layer as code
 use Rattle.x25_layer.specs.Layer.{packet_on}
-use Rattle.x25_layer.specs.Room.{HasRoomOn}
 use Rattle.x25_circuit.specs.code.Replies.{plain_sent}
 use Rattle.x25_layer.proofs.FitLemmas.{fits_as, on_err}
-use Rattle.x25_layer.proofs.CallLemmas.{IsAccepted, is_accepted, declined_layer, declined_link, short_layer, short_link, may_lack, may_copy, same_err}
+use Rattle.x25_layer.proofs.CallLemmas.{IsAccepted, is_accepted, declined_layer, declined_link, short_layer, short_link, may_lack, may_ask, same_err}
 use Rattle.x25_layer.proofs.layer.Layer.ask_ready.Goals as goal
 
 pub returns-then-promised-lt-MOST_PUT : goal.returns-then-promised-lt-MOST_PUT
@@ -24,8 +22,7 @@ returns-then-promised-lt-MOST_PUT g c = record {
   longest = search rules;
   missing = λ is.
       let lacks : g.L.OrderedLink.promised c.args.link.now < 16 = search rules in
-      may_lack (is_message (plain_request c.args.request)) 16 (g.L.OrderedLink.promised c.args.link.now) lacks;
-  room = search rules;
+      may_lack (may_ask_memory (plain_request c.args.request)) 16 (g.L.OrderedLink.promised c.args.link.now) lacks;
 }
 
 pub returns-in_err-packet : goal.returns-in_err-packet
@@ -40,9 +37,8 @@ returns-in_err-packet g c = record {
   link_stays = search rules;
   longest = search rules;
   missing = λ is.
-      may_copy (is_message (plain_request c.args.request)) 16 (g.L.OrderedLink.promised c.args.link.now)
+      may_ask (may_ask_memory (plain_request c.args.request)) 16 (g.L.OrderedLink.promised c.args.link.now)
       (c.in_err-packet.ensures.missing (ap (λ (e : LayerError). Err e) (same_err c.from_residual.result c.in_err-packet.field-0.0 error.NoMemory c.from_residual.ensures.1 is)));
-  room = λ h len have. c.ask_circuit.ensures.room h len have;
 }
 
 pub returns : goal.returns
@@ -63,6 +59,4 @@ returns g c = record {
   link_stays = search rules;
   longest = search rules;
   missing = search rules;
-  room = λ h len have. c.pull_all.ensures.room h len (subst (λ (v : code.Layer). HasRoomOn h len v.circuits.items) (sym c.put_sent.ensures.layer)
-      (c.ask_circuit.ensures.room h len have));
 }

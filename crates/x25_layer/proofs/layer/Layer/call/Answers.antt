@@ -46,5 +46,4 @@ returns-in_err-ask_ready-clause-does g c = record {
   link_stays = search rules;
   longest = search rules;
   missing = search rules;
-  room = search rules;
 }

@@ -3,19 +3,18 @@ use Rattle.x25_circuit.specs.declared.circuit.Circuit as circuit_code
 use Rattle.x25_layer.specs.code.Idle.{IdleBeside}
 use Rattle.x25_layer.proofs.layer.Layer.down.Goals as goal
 
-pub returns-clause-layer : goal.returns-clause-layer
-returns-clause-layer c = λ s l fits. record {
-  role = fits.role;
-  long_data = fits.long_data;
-  ranges = fits.ranges;
-  channels = c.forget_all.ensures.count ∙ fits.channels;
-  restarting = refl;
-  restarts = fits.restarts;
-  circuits = c.forget_all.ensures.fits s l.circuits fits.circuits;
+pub returns : goal.returns
+returns c = record {
+  layer = λ s l fits. record {
+    role = fits.role;
+    long_data = fits.long_data;
+    ranges = fits.ranges;
+    channels = c.forget_all.ensures.count ∙ fits.channels;
+    restarting = refl;
+    restarts = fits.restarts;
+    circuits = c.forget_all.ensures.fits s l.circuits fits.circuits;
+  };
 }
-
-pub returns-clause-room : goal.returns-clause-room
-returns-clause-room c = c.forget_all.ensures.room
 
 pub invariant_of-self-clause-still : goal.invariant_of-self-clause-still
 invariant_of-self-clause-still c = subst (λ (vs : List circuit_code.Circuit). IdleBeside c.note_all.new.self.channels.items vs) c.deref.ensures.value c.note_all.ensures.idle

@@ -8,16 +8,15 @@ use Rattle.x25_layer.specs.code.FitsLayer.{FitsLayer}
 use Rattle.x25_layer.specs.code.OverLink.{after_all}
 use Rattle.x25_layer.specs.Rounds.{answer_to}
 use Rattle.x25_layer.specs.Receiving.{plain_read, hears_on, IsOfChannel}
-use Rattle.x25_layer.specs.Room.{HasRoomOn, channel_or_none, named_by}
-use Rattle.x25_layer.proofs.HearLemmas.{of_channel, hears_none, hears_read, brings_few, heard_same, if_ok}
+use Rattle.x25_layer.proofs.HearLemmas.{of_channel, hears_none, hears_read, heard_same}
 use Rattle.x25_layer.proofs.layer.Layer.hear.Goals as goal
 use Rattle.x25_layer.proofs.layer.Layer.hear.Given as given
 use Rattle.x25_layer.proofs.layer.Layer.hear.Goals.{in_default-read-via-in-Ok+in_default, in_default-read-via-in_default}
 
 -- ---- fewer than three octets
 
-pub returns-in_default-clause-hears : goal.returns-in_default-clause-hears
-returns-in_default-clause-hears g c =
+pub returns-in_default : goal.returns-in_default
+returns-in_default g c =
     let none = λ (s : LayerSettings) (l : Layer). sym (hears_none c.args.wide (longest_user c.args.self.now.long_data) s l c.args.octets.now (sym c.channel.ensures ∙ c.in_default.is)) in
     record {
       layer = λ s l fits. subst (λ (a : LayerAnswer). FitsLayer s c.args.self.now a.next) (none s l) fits;
@@ -25,7 +24,7 @@ returns-in_default-clause-hears g c =
       told = λ s l fits. ap (λ (a : LayerAnswer). a.notices) (none s l);
       nothing = search rules;
       takes = search rules;
-      room = λ s l fits owed h len have. have;
+      spare = search rules;
     }
 
 -- ---- a packet of a channel, or octets that spell none
@@ -56,11 +55,5 @@ same g c s l =
     sym (hears_read c.taking_keeps_octets.ensures.channel c.args.wide c.longest_user.result s l c.args.octets.now c.in-Some.channel c.read-read.result (bytes g c) c.read-read.ensures (of g c) (sym c.channel.ensures ∙ c.in-Some.is))
     ∙ ap (λ (most : ℕ). answer_to s l c.args.octets.now (read_in c.args.wide most c.args.octets.now)) c.longest_user.ensures.value
 
-pub returns-in_default-read-clause-hears : goal.returns-in_default-read-clause-hears
-returns-in_default-read-clause-hears g c = if_ok c.hear_on.result _ _ (λ told h. heard_same g.L.OrderedLink _ _ _ _ told _ _ (same g c) h) c.hear_on.ensures.hears
-
-pub returns-in_default-read-clause-enough : goal.returns-in_default-read-clause-enough
-returns-in_default-read-clause-enough g c = λ len long room.
-    let few = brings_few c.taking_keeps_octets.ensures.octets c.args.wide c.longest_user.result c.args.octets.now c.read-read.result (bytes g c) c.read-read.ensures in
-    let on : named_by c.args.octets.now ≡ c.in-Some.channel = ap channel_or_none (sym c.channel.ensures ∙ c.in-Some.is) in
-    c.hear_on.ensures.enough len (omega (arith, few, long)) (subst (λ (h : ℕ). HasRoomOn h len c.args.self.now.circuits.items) on room)
+pub returns-in_default-read : goal.returns-in_default-read
+returns-in_default-read g c = heard_same g.L.OrderedLink _ _ _ _ c.hear_on.result _ _ _ (same g c) c.hear_on.ensures

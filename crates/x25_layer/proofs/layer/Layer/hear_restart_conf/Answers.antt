@@ -4,8 +4,8 @@ use Rattle.x25_layer.specs.Layer.{answers_in}
 use Rattle.x25_layer.specs.code.FitsLayer.{FitsLayer}
 use Rattle.x25_layer.proofs.layer.Layer.hear_restart_conf.Goals as goal
 
-pub returns-then-self-clause-hears : goal.returns-then-self-clause-hears
-returns-then-self-clause-hears g c = record {
+pub returns-then-self : goal.returns-then-self
+returns-then-self g c = record {
   layer = λ s l fits.
       subst (λ (b : Bool). FitsLayer s c.restart_is_done.new.self (answers_in s b l.restarts l.circuits restart_conf).next) (sym (sym fits.restarting ∙ c.if-self.true))
       (c.restart_is_done.ensures.layer s l fits);
@@ -13,11 +13,11 @@ returns-then-self-clause-hears g c = record {
   told = search rules;
   nothing = search rules;
   takes = search rules;
-  room = λ s l fits none h len have. c.restart_is_done.ensures.room h len have;
+  spare = search rules;
 }
 
-pub returns-clause-hears : goal.returns-clause-hears
-returns-clause-hears g c = record {
+pub returns : goal.returns
+returns g c = record {
   layer = λ s l fits.
       subst (λ (b : Bool). FitsLayer s c.send_restart.new.self (answers_in s b l.restarts l.circuits restart_conf).next) (sym (sym fits.restarting ∙ c.if-self.false))
       (c.send_restart.ensures.layer s l fits);
@@ -25,5 +25,5 @@ returns-clause-hears g c = record {
   told = search rules;
   nothing = search rules;
   takes = search rules;
-  room = λ s l fits none h len have. c.send_restart.ensures.room h len have;
+  spare = search rules;
 }

@@ -32,5 +32,4 @@ returns g c = record {
   link_stays = search rules;
   longest = search rules;
   missing = search rules;
-  room = c.pull_all.ensures.room;
 }

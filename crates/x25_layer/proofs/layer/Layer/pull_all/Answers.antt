@@ -18,7 +18,6 @@ loop-preserved g c =
       ranges = now.ranges;
       restarting = now.restarting;
       restarts = now.restarts;
-      room = λ h len have. c.round.ensures.room h len (now.room h len have);
       takes = takes_then g.L.OrderedLink _ _ _ _ _ _ now.takes c.round.ensures.takes;
       stands = λ s x p before.
           let view : LinkView = view_of g.L.OrderedLink.up_in g.L.OrderedLink.waits_in g.L.OrderedLink.after_put x in
@@ -78,9 +77,6 @@ pub returns-clause-link : goal.returns-clause-link
 returns-clause-link g c = λ s p x fits link.
     let e = ended g c s x p fits link in
     subst (λ (u : Putting). g.L.OrderedLink.fits c.round.new.link (after_all g.L.OrderedLink.after_put x u.put)) (sym e.end) e.stands.link
-
-pub returns-clause-room : goal.returns-clause-room
-returns-clause-room g c = λ h len have. c.round.ensures.room h len (c.loop.invariant.room h len have)
 
 -- ---- what is known
 

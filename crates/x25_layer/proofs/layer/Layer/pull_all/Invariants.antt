@@ -1,9 +1,8 @@
-use Rattle.std.proofs.Common.{◌≡◌, ℕ}
+use Rattle.std.proofs.Common.{◌≡◌}
 use Rattle.x25_layer.specs.Layer.{LayerSettings}
 use Rattle.x25_layer.specs.code.OverLink.{view_of}
 use Rattle.x25_layer.specs.Rounds.{Putting, rounds}
 use Rattle.x25_layer.specs.code.Pulling.{Takes, Stands}
-use Rattle.x25_layer.specs.Room.{HasRoomOn}
 use Rattle.x25_layer.proofs.PullLemmas.{KeepsRestarts}
 use Rattle.x25_layer.proofs.layer.Layer.pull_all.Given as goal
 
@@ -15,7 +14,6 @@ invariant-loop g l = record {
   ranges : l.self.ranges ≡ l.initial.self.ranges;
   restarting : l.self.restarting ≡ l.initial.self.restarting;
   restarts : l.self.restarts ≡ l.initial.self.restarts;
-  room : (h len : ℕ) → HasRoomOn h len l.initial.self.circuits.items → HasRoomOn h len l.self.circuits.items;
   takes : Takes g.L.OrderedLink 15 l.initial.link l.left l.link;
   stands : (c : LayerSettings) (x : g.L.OrderedLink.State) (s : Putting)
       → Stands (g.L.OrderedLink.fits l.initial.link) g.L.OrderedLink.lists g.L.OrderedLink.after_put c l.initial.self.circuits.items 15 (g.L.OrderedLink.promised l.initial.link) x s

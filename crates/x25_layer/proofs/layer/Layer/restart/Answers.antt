@@ -40,5 +40,4 @@ returns g c = record {
   link_stays = search rules;
   longest = search rules;
   missing = search rules;
-  room = λ h len have. c.send_restart.ensures.room h len have;
 }

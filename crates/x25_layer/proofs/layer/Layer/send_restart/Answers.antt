@@ -1,7 +1,5 @@
 use Rattle.std.proofs.Common.{◌∙◌, refl, sym, subst, List}
-use Rattle.x25_layer.specs.declared.layer.Layer as code
 use Rattle.x25_layer.proofs.FitLemmas.{fits_as}
-use Rattle.x25_layer.specs.Room.{HasRoomOn}
 use Rattle.x25_circuit.specs.declared.circuit.Circuit as circuit_code
 use Rattle.x25_layer.specs.code.Idle.{IdleBeside}
 use Rattle.x25_layer.proofs.layer.Layer.send_restart.Goals as goal
@@ -16,9 +14,6 @@ returns-clause-layer g c = λ s l fits. fits_as c.put.ensures.layer (record {
   restarts = fits.restarts;
   circuits = c.forget_all.ensures.fits s l.circuits fits.circuits;
 })
-
-pub returns-clause-room : goal.returns-clause-room
-returns-clause-room g c = λ h len have. subst (λ (v : code.Layer). HasRoomOn h len v.circuits.items) (sym c.put.ensures.layer) (c.forget_all.ensures.room h len have)
 
 pub invariant_of-self-clause-still : goal.invariant_of-self-clause-still
 invariant_of-self-clause-still g c = subst (λ (vs : List circuit_code.Circuit). IdleBeside c.note_all.new.self.channels.items vs) c.deref.ensures.value c.note_all.ensures.idle

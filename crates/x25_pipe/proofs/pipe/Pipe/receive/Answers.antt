@@ -4,15 +4,8 @@ use Rattle.x25_pipe.specs.Pipe.{event_act}
 use Rattle.x25_pipe.proofs.StandLemmas.{is_step_of}
 use Rattle.x25_pipe.proofs.pipe.Pipe.receive.Goals as goal
 
-pub returns-in-Ok-clause-acts : goal.returns-in-Ok-clause-acts
+pub returns-clause-acts : goal.returns-clause-acts
 unfolding event_act
-returns-in-Ok-clause-acts g c = λ k old s told refused h.
+returns-clause-acts g c = λ k old s told refused h.
     let event = Comes (take c.args.count c.args.self.now.octets) in
-    c.follow_up.ensures.acted k old s event (outcome k s event) told refused (is_step_of c.in-Ok.field-0 _ _ c.receive.new.out _ k s c.in-Ok.ensures.does h.fits) (c.in-Ok.ensures.timer k s h.fits) refl h.role h.tells h.status
-
-pub returns-in-Err-clause-acts : goal.returns-in-Err-clause-acts
-unfolding event_act
-returns-in-Err-clause-acts g c = λ k old s told refused h.
-    let event = Comes (take c.args.count c.args.self.now.octets) in
-    c.refuse.ensures.acted k old s event (outcome k s event) told refused
-    (record { fits = c.in-Err.ensures.does.stays k s h.fits; role = h.role; tells = h.tells; status = h.status }) refl c.in-Err.ensures.refused
+    c.follow_up.ensures.acted k old s event (outcome k s event) told refused (is_step_of tt _ _ c.receive.new.out _ k s c.receive.ensures.does h.fits) (c.receive.ensures.timer k s h.fits) refl h.role h.tells h.status

@@ -22,10 +22,9 @@ invariant_of-self c = record {
             (ap (λ n. n.down) (c.abandon-heard.ensures.heard (link_settings c') s.link fits.link).notes)
             (taken_link (link_settings c') c.abandon-heard.new.self c.swap_frames.new.self k.side.near (ap (λ l. l.station) c.swap_frames.ensures.link) (c.abandon-heard.ensures.state (link_settings c') s.link fits.link))
             (c.note_down.ensures.layer (layer_settings c') s.layer fits.layer)
-            (ap (λ l. l.frames) c.swap_frames.ensures.link ∙ c.reserve.ensures.empty.frames)
+            (ap (λ l. l.frames) c.swap_frames.ensures.link ∙ c.requires.empty.frames)
             (c.steps_keep_bounds.ensures.receive c' s c.args.octets.now fits.kept),
       ));
-  aside = c.args.self.now.aside;
 }
 
 pub returns-clause-does : goal.returns-clause-does
@@ -37,7 +36,7 @@ returns-clause-does c = record {
       (ap (λ n. n.down) (c.abandon-heard.ensures.heard (link_settings c') s.link fits.link).notes)
       (taken_link (link_settings c') c.abandon-heard.new.self c.swap_frames.new.self k.side.near (ap (λ l. l.station) c.swap_frames.ensures.link) (c.abandon-heard.ensures.state (link_settings c') s.link fits.link))
       (c.note_down.ensures.layer (layer_settings c') s.layer fits.layer)
-      (ap (λ l. l.frames) c.swap_frames.ensures.link ∙ c.reserve.ensures.empty.frames)
+      (ap (λ l. l.frames) c.swap_frames.ensures.link ∙ c.requires.empty.frames)
       (c.steps_keep_bounds.ensures.receive c' s c.args.octets.now fits.kept);
   frames = λ c' s fits.
       let k : LinkStep = abandon_step (link_settings c') s.link in
@@ -47,12 +46,12 @@ returns-clause-does c = record {
       let k : LinkStep = abandon_step (link_settings c') s.link in
       let heard = c.abandon-heard.ensures.heard (link_settings c') s.link fits.link in
       entries_noted_down s.layer k [] _ _ (receives c' s c.args.octets.now) (gives_up c' s c.args.octets.now (c.requires.full c' s fits)) (ap (λ n. n.down) heard.notes)
-      (c.note_down.ensures.entries ∙ ap (λ es. map plain_entry es ++ entries_down c.abandon-heard.result.notes.down) c.reserve.ensures.empty.entries);
+      (c.note_down.ensures.entries ∙ ap (λ es. map plain_entry es ++ entries_down c.abandon-heard.result.notes.down) c.requires.empty.entries);
   refused = λ c' s fits. tt;
   stays = λ c' s fits. tt;
   empty = tt;
   few_frames = (let same : length c.swap_frames.new.frames ≡ length c.abandon-heard.new.self.frames = ap length c.swap_frames.ensures.frames in omega (arith, same, c.abandon-heard.ensures.few));
-  few_entries = grind (arith, c.note_down.ensures.few.length, ap length c.reserve.ensures.empty.entries, c.reserve.new.self.entries.ok);
+  few_entries = c.note_down.new.entries.few;
 }
 
 pub returns-clause-acknowledged : goal.returns-clause-acknowledged

@@ -2,18 +2,17 @@ use Rattle.std.proofs.Common.{false, refl, ap, map, ◌∙◌}
 use Rattle.x25_station.specs.code.PlainEntry.{plain_entry}
 use Rattle.x25_station.proofs.ClockLemmas.{timed, always, not_ever}
 use Rattle.x25_station.proofs.TimerLemmas.{asked_none}
-use Rattle.x25_station.proofs.DoesLemmas.{reused}
+use Rattle.x25_station.proofs.DoesLemmas.{retimed}
 use Rattle.x25_station.proofs.station.Station.command.Goals as goal
 
 pub returns-clause-does : goal.returns-clause-does
-returns-clause-does c = reused _ c.empty.new.self _ c.carry_out-answer.new.out c.timer_behind-out.result _ _ c.empty.ensures.fits c.carry_out-answer.ensures.does
+returns-clause-does c = retimed _ _ c.carry_out-answer.new.out c.timer_behind-out.result _ _ c.carry_out-answer.ensures.does
 
 pub returns-clause-timer : goal.returns-clause-timer
 returns-clause-timer c = λ c' s fits.
-    let now = c.empty.ensures.fits c' s fits in
-    timed c' s c.empty.new.self c.carry_out-answer.new.self c.carry_out-answer.new.out c.timer_behind-out.result now c.carry_out-answer.result _ false false c.carry_out-answer.ensures.does (always c.carry_out-answer.result refl) (not_ever c.carry_out-answer.result refl)
+    timed c' s c.args.self.now c.carry_out-answer.new.self c.carry_out-answer.new.out c.timer_behind-out.result fits c.carry_out-answer.result _ false false c.carry_out-answer.ensures.does (always c.carry_out-answer.result refl) (not_ever c.carry_out-answer.result refl)
     (asked_none c' s _)
-    (λ step near entries none. c.timer_behind-out.ensures c' s step (c.timer_runs-ran.ensures c' s now) near (ap (map plain_entry) c.as_slice.ensures.value ∙ entries) none)
+    (λ step near entries none. c.timer_behind-out.ensures c' s step (c.timer_runs-ran.ensures c' s fits) near (ap (map plain_entry) c.as_slice.ensures ∙ entries) none)
 
-pub returns-clause-pull : goal.returns-clause-pull
-returns-clause-pull c = λ is c' s fits. c.carry_out-answer.ensures.pull is c' s (c.empty.ensures.fits c' s fits)
+pub returns-clause-only : goal.returns-clause-only
+returns-clause-only c = λ few c' s fits. c.carry_out-answer.ensures.only few c' s fits

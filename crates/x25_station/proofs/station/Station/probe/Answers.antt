@@ -10,7 +10,7 @@ use Rattle.x25_station.specs.Step.{Step, unless, follows, probes}
 use Rattle.x25_station.proofs.DoesLemmas.{declines}
 use Rattle.x25_station.proofs.DownLemmas.{timer_down, leaves_down, frames_down, entries_noted_down}
 use Rattle.x25_station.proofs.AskLemmas.{taken_link}
-use Rattle.x25_station.proofs.OutcomeLemmas.{leaves_some, still_meant, sends_unless, enters_unless, goes, refused, probe_named}
+use Rattle.x25_station.proofs.OutcomeLemmas.{leaves_some, still_meant, sends_unless, enters_unless, goes, refused, probe_named, goes_only, refused_only}
 use Rattle.x25_station.proofs.station.Station.probe.Goals as goal
 
 pub invariant_of-self : goal.invariant_of-self
@@ -23,14 +23,13 @@ invariant_of-self c = record {
       (ap (λ n. n.down) (c.in-Ok.ensures.heard (link_settings c') s.link fits.link).notes)
       (taken_link (link_settings c') c.probe.new.self c.swap_frames.new.self k.side.near (ap (λ l. l.station) c.swap_frames.ensures.link) (c.in-Ok.ensures.state (link_settings c') s.link fits.link))
       (c.note_down.ensures.layer (layer_settings c') s.layer fits.layer)
-      (ap (λ l. l.frames) c.swap_frames.ensures.link ∙ c.reserve.ensures.empty.frames)
+      (ap (λ l. l.frames) c.swap_frames.ensures.link ∙ c.requires.frames)
       (c.steps_keep_bounds.ensures.command c' s Probes fits.kept))
       (goes _ (probe_refusal s.link.phase) step (c.in-Ok.ensures.refused (link_settings c') s.link fits.link)));
-  aside = c.args.self.now.aside;
 }
 
 pub invariant_of-self-in-Err-1 : goal.invariant_of-self-in-Err-1
-invariant_of-self-in-Err-1 c = record { meant = subst (λ l. AreMeant c.args.self.now.manner l c.args.self.now.layer) (sym c.in-Err.ensures.err) c.args.self.now.meant; aside = c.args.self.now.aside }
+invariant_of-self-in-Err-1 c = record { meant = subst (λ l. AreMeant c.args.self.now.manner l c.args.self.now.layer) (sym c.in-Err.ensures.err) c.args.self.now.meant }
 
 pub returns-in-Ok-clause-does : goal.returns-in-Ok-clause-does
 returns-in-Ok-clause-does c = record {
@@ -41,23 +40,23 @@ returns-in-Ok-clause-does c = record {
       (ap (λ n. n.down) (c.in-Ok.ensures.heard (link_settings c') s.link fits.link).notes)
       (taken_link (link_settings c') c.probe.new.self c.swap_frames.new.self k.side.near (ap (λ l. l.station) c.swap_frames.ensures.link) (c.in-Ok.ensures.state (link_settings c') s.link fits.link))
       (c.note_down.ensures.layer (layer_settings c') s.layer fits.layer)
-      (ap (λ l. l.frames) c.swap_frames.ensures.link ∙ c.reserve.ensures.empty.frames)
+      (ap (λ l. l.frames) c.swap_frames.ensures.link ∙ c.requires.frames)
       (c.steps_keep_bounds.ensures.command c' s Probes fits.kept);
   frames = λ c' s fits.
       let k = timer_step (link_settings c') s.link in
-      sends_unless c' (record { frames = c.swap_frames.new.frames; entries = c.note_down.new.entries; timer = c.reserve.new.self.timer }) (probe_refusal s.link.phase) (follows c' s.layer k)
+      sends_unless c' (record { frames = c.swap_frames.new.frames; entries = c.note_down.new.entries; timer = c.args.out.now.timer }) (probe_refusal s.link.phase) (follows c' s.layer k)
       (frames_down c' s.layer k _ (follows c' s.layer k) (timer_down c' s.layer s.link) (c.swap_frames.ensures.frames ∙ c.in-Ok.ensures.frames (link_settings c') s.link fits.link));
   entries = λ c' s fits.
       let k = timer_step (link_settings c') s.link in
-      enters_unless (record { frames = c.swap_frames.new.frames; entries = c.note_down.new.entries; timer = c.reserve.new.self.timer }) (probe_refusal s.link.phase) (follows c' s.layer k)
+      enters_unless (record { frames = c.swap_frames.new.frames; entries = c.note_down.new.entries; timer = c.args.out.now.timer }) (probe_refusal s.link.phase) (follows c' s.layer k)
       (entries_noted_down s.layer k [] _ _ (follows c' s.layer k) (timer_down c' s.layer s.link) (ap (λ n. n.down) (c.in-Ok.ensures.heard (link_settings c') s.link fits.link).notes)
-      (c.note_down.ensures.entries ∙ ap (λ es. map plain_entry es ++ entries_down c.in-Ok.heard.notes.down) c.reserve.ensures.empty.entries));
+      (c.note_down.ensures.entries ∙ ap (λ es. map plain_entry es ++ entries_down c.in-Ok.heard.notes.down) c.requires.entries));
   refused = λ c' s fits.
       goes _ (probe_refusal s.link.phase) (follows c' s.layer (timer_step (link_settings c') s.link)) (c.in-Ok.ensures.refused (link_settings c') s.link fits.link);
   stays = λ c' s fits. tt;
   empty = tt;
   few_frames = (let same : length c.swap_frames.new.frames ≡ length c.probe.new.self.frames = ap length c.swap_frames.ensures.frames in omega (arith, same, c.in-Ok.ensures.few));
-  few_entries = grind (arith, c.note_down.ensures.few.length, ap length c.reserve.ensures.empty.entries, c.reserve.new.self.entries.ok);
+  few_entries = c.note_down.new.entries.few;
 }
 
 pub returns-in-Err-clause-does : goal.returns-in-Err-clause-does
@@ -65,4 +64,13 @@ returns-in-Err-clause-does c = declines c.args.self.now _ _ _ probes (λ c' s fi
     refused Heard Unit c.in-Err.error _ (probe_refusal s.link.phase) (follows c' s.layer (timer_step (link_settings c') s.link)) (probe_named s.link.phase) c.of_link.ensures
     (c.in-Err.ensures.refused (link_settings c') s.link fits.link))
     (λ c' s fits. subst (λ l. FitsParts c' c.args.self.now.manner l c.args.self.now.layer s) (sym c.in-Err.ensures.err) fits)
-    c.reserve.ensures.empty
+    c.requires
+
+pub returns-in-Ok-clause-only : goal.returns-in-Ok-clause-only
+returns-in-Ok-clause-only c = λ c' s fits.
+    goes_only _ (probe_refusal s.link.phase) (follows c' s.layer (timer_step (link_settings c') s.link)) (c.in-Ok.ensures.refused (link_settings c') s.link fits.link)
+
+pub returns-in-Err-clause-only : goal.returns-in-Err-clause-only
+returns-in-Err-clause-only c = λ c' s fits.
+    refused_only Heard Unit c.in-Err.error _ (probe_refusal s.link.phase) (follows c' s.layer (timer_step (link_settings c') s.link)) (probe_named s.link.phase) c.of_link.ensures
+    (c.in-Err.ensures.refused (link_settings c') s.link fits.link)

@@ -1,4 +1,4 @@
-use Rattle.std.proofs.Common.{refl, arith, ap, length, map, ◌∙◌}
+use Rattle.std.proofs.Common.{refl, ap, map, ◌∙◌}
 use Rattle.x25_layer.specs.Calls.{PullsAll}
 use Rattle.x25_station.specs.declared.step.Step as code_step
 use Rattle.x25_station.specs.code.PlainEntry.{plain_entry}
@@ -19,14 +19,12 @@ invariant_of-self c = record {
       c.in-Ok.ensures.layer c.in-Ok.ensures.link (ap (λ l. l.station) c.swap_frames.ensures.link) (ap (λ l. l.frames) c.swap_frames.ensures.link ∙ c.requires.frames) c.swap_frames.ensures.frames
       refl (c.steps_keep_bounds.ensures.request c' s request fits.kept) in
       leaves_some c' _ _ (requests c' s request) a.state a.refused);
-  aside = c.args.self.now.aside;
 }
 
 pub invariant_of-self-in-Err-1 : goal.invariant_of-self-in-Err-1
 invariant_of-self-in-Err-1 c = record {
   meant = still_meant _ _ _ _ c.args.self.now.meant (λ c' s fits.
       (c', s, still_fits c' c.args.self.now.link c.pull.new.link _ c.pull.new.self s fits (c.in-Err.ensures.layer_stays (layer_settings c') s.layer fits.layer) c.in-Err.ensures.link_stays));
-  aside = c.args.self.now.aside;
 }
 
 pub returns-in-Ok-clause-does : goal.returns-in-Ok-clause-does
@@ -38,7 +36,7 @@ returns-in-Ok-clause-does c =
     (λ c' s fits. refl)
     (λ c' s fits.
     pull_enters c' s r (ap (λ es. map plain_entry es) c.requires.entries))
-    (grind (arith, ap length c.requires.entries, c.args.out.now.entries.ok)) refl
+    refl
 
 pub returns-in-Err-clause-does : goal.returns-in-Err-clause-does
 returns-in-Err-clause-does c = declines_request _ c.in-Err.error _ c.args.self.now _ _ PullsAll c.of_layer.ensures c.in-Err.ensures.layer c.in-Err.ensures.layer_stays c.in-Err.ensures.link_stays c.requires refl

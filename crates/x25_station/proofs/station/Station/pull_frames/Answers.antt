@@ -17,7 +17,6 @@ invariant_of-self c = record {
       (c.pull-answer.ensures.layer_stays (layer_settings c') s.layer fits.layer) c.pull-answer.ensures.link_stays (ap (λ l. l.station) c.swap_frames-2.ensures.link)
       (ap (λ l. l.frames) c.swap_frames-2.ensures.link ∙ c.swap_frames.ensures.frames ∙ fits.sent)
       (c.steps_keep_bounds.ensures.request c' s PullsAll fits.kept));
-  aside = c.args.self.now.aside;
 }
 
 pub returns-in-Ok-clause-pulls : goal.returns-in-Ok-clause-pulls

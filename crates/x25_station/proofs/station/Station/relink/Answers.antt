@@ -11,7 +11,7 @@ use Rattle.x25_station.specs.Step.{Step, unless, follows, led_by, relinks}
 use Rattle.x25_station.proofs.DoesLemmas.{declines}
 use Rattle.x25_station.proofs.DownLemmas.{relink_down, leaves_down, frames_down, entries_noted_down}
 use Rattle.x25_station.proofs.AskLemmas.{taken_link}
-use Rattle.x25_station.proofs.OutcomeLemmas.{leaves_some, still_meant, sends_unless, enters_unless, goes, refused, relink_named}
+use Rattle.x25_station.proofs.OutcomeLemmas.{leaves_some, still_meant, sends_unless, enters_unless, goes, refused, relink_named, goes_only, refused_only}
 use Rattle.x25_station.proofs.station.Station.relink.Goals as goal
 
 pub invariant_of-self : goal.invariant_of-self
@@ -24,14 +24,13 @@ invariant_of-self c = record {
       (ap (λ n. n.down) (c.in-Ok.ensures.heard (link_settings c') s.link fits.link).notes)
       (taken_link (link_settings c') c.relink.new.self c.swap_frames.new.self k.side.near (ap (λ l. l.station) c.swap_frames.ensures.link) (c.in-Ok.ensures.state (link_settings c') s.link fits.link))
       (c.note_down.ensures.layer (layer_settings c') s.layer fits.layer)
-      (ap (λ l. l.frames) c.swap_frames.ensures.link ∙ c.reserve.ensures.empty.frames)
+      (ap (λ l. l.frames) c.swap_frames.ensures.link ∙ c.requires.frames)
       (c.steps_keep_bounds.ensures.command c' s Relinks fits.kept))
       (goes _ (relink_refusal s.link.phase) step (c.in-Ok.ensures.refused (link_settings c') s.link fits.link)));
-  aside = c.args.self.now.aside;
 }
 
 pub invariant_of-self-in-Err-1 : goal.invariant_of-self-in-Err-1
-invariant_of-self-in-Err-1 c = record { meant = subst (λ l. AreMeant c.args.self.now.manner l c.args.self.now.layer) (sym c.in-Err.ensures.err) c.args.self.now.meant; aside = c.args.self.now.aside }
+invariant_of-self-in-Err-1 c = record { meant = subst (λ l. AreMeant c.args.self.now.manner l c.args.self.now.layer) (sym c.in-Err.ensures.err) c.args.self.now.meant }
 
 pub returns-in-Ok-clause-does : goal.returns-in-Ok-clause-does
 returns-in-Ok-clause-does c = record {
@@ -42,26 +41,26 @@ returns-in-Ok-clause-does c = record {
       (ap (λ n. n.down) (c.in-Ok.ensures.heard (link_settings c') s.link fits.link).notes)
       (taken_link (link_settings c') c.relink.new.self c.swap_frames.new.self k.side.near (ap (λ l. l.station) c.swap_frames.ensures.link) (c.in-Ok.ensures.state (link_settings c') s.link fits.link))
       (c.note_down.ensures.layer (layer_settings c') s.layer fits.layer)
-      (ap (λ l. l.frames) c.swap_frames.ensures.link ∙ c.reserve.ensures.empty.frames)
+      (ap (λ l. l.frames) c.swap_frames.ensures.link ∙ c.requires.frames)
       (c.steps_keep_bounds.ensures.command c' s Relinks fits.kept);
   frames = λ c' s fits.
       let k = relink_step (link_settings c') s.link in
       let step : Step = led_by (relink_asked ∷ []) (follows c' s.layer k) in
-      sends_unless c' (record { frames = c.swap_frames.new.frames; entries = c.note_down.new.entries; timer = c.reserve.new.self.timer }) (relink_refusal s.link.phase) step
+      sends_unless c' (record { frames = c.swap_frames.new.frames; entries = c.note_down.new.entries; timer = c.args.out.now.timer }) (relink_refusal s.link.phase) step
       (frames_down c' s.layer k _ (follows c' s.layer k) (relink_down c' s.layer s.link) (c.swap_frames.ensures.frames ∙ c.in-Ok.ensures.frames (link_settings c') s.link fits.link));
   entries = λ c' s fits.
       let k = relink_step (link_settings c') s.link in
       let step : Step = led_by (relink_asked ∷ []) (follows c' s.layer k) in
-      enters_unless (record { frames = c.swap_frames.new.frames; entries = c.note_down.new.entries; timer = c.reserve.new.self.timer }) (relink_refusal s.link.phase) step
+      enters_unless (record { frames = c.swap_frames.new.frames; entries = c.note_down.new.entries; timer = c.args.out.now.timer }) (relink_refusal s.link.phase) step
       (entries_noted_down s.layer k (relink_asked ∷ []) _ _ (follows c' s.layer k) (relink_down c' s.layer s.link) (ap (λ n. n.down) (c.in-Ok.ensures.heard (link_settings c') s.link fits.link).notes)
-      (c.note_down.ensures.entries ∙ ap (λ es. map plain_entry es ++ entries_down c.in-Ok.heard.notes.down) (c.push_reserved.ensures.items ∙ ap (λ es. es ++ RelinkAsked ∷ []) c.reserve.ensures.empty.entries)));
+      (c.note_down.ensures.entries ∙ ap (λ es. map plain_entry es ++ entries_down c.in-Ok.heard.notes.down) (c.push.ensures ∙ ap (λ es. es ++ RelinkAsked ∷ []) c.requires.entries)));
   refused = λ c' s fits.
       let step : Step = led_by (relink_asked ∷ []) (follows c' s.layer (relink_step (link_settings c') s.link)) in
       goes _ (relink_refusal s.link.phase) step (c.in-Ok.ensures.refused (link_settings c') s.link fits.link);
   stays = λ c' s fits. tt;
   empty = tt;
   few_frames = (let same : length c.swap_frames.new.frames ≡ length c.relink.new.self.frames = ap length c.swap_frames.ensures.frames in omega (arith, same, c.in-Ok.ensures.few));
-  few_entries = grind (arith, c.note_down.ensures.few.length, c.push_reserved.ensures.len, ap length c.reserve.ensures.empty.entries, c.reserve.new.self.entries.ok);
+  few_entries = c.note_down.new.entries.few;
 }
 
 pub returns-in-Err-clause-does : goal.returns-in-Err-clause-does
@@ -70,4 +69,13 @@ returns-in-Err-clause-does c = declines c.args.self.now _ _ _ relinks (λ c' s f
     refused Heard Unit c.in-Err.error _ (relink_refusal s.link.phase) step (relink_named s.link.phase) c.of_link.ensures
     (c.in-Err.ensures.refused (link_settings c') s.link fits.link))
     (λ c' s fits. subst (λ l. FitsParts c' c.args.self.now.manner l c.args.self.now.layer s) (sym c.in-Err.ensures.err) fits)
-    c.reserve.ensures.empty
+    c.requires
+
+pub returns-in-Ok-clause-only : goal.returns-in-Ok-clause-only
+returns-in-Ok-clause-only c = λ c' s fits.
+    goes_only _ (relink_refusal s.link.phase) (led_by (relink_asked ∷ []) (follows c' s.layer (relink_step (link_settings c') s.link))) (c.in-Ok.ensures.refused (link_settings c') s.link fits.link)
+
+pub returns-in-Err-clause-only : goal.returns-in-Err-clause-only
+returns-in-Err-clause-only c = λ c' s fits.
+    refused_only Heard Unit c.in-Err.error _ (relink_refusal s.link.phase) (led_by (relink_asked ∷ []) (follows c' s.layer (relink_step (link_settings c') s.link))) (relink_named s.link.phase) c.of_link.ensures
+    (c.in-Err.ensures.refused (link_settings c') s.link fits.link)

@@ -1,44 +1,54 @@
-use Rattle.std.proofs.Common.{refl, arith, [], ◌∷◌, ◌++◌, ap, ◌∙◌, length, map}
+use Rattle.std.proofs.Common.{refl, arith, [], ◌∷◌, ◌++◌, ap, ◌∙◌, map}
 use Rattle.x25_layer.specs.Calls.{Restarts}
 use Rattle.x25_station.specs.declared.entry.Entry.TheVariants.{RestartAsked}
 use Rattle.x25_station.specs.declared.step.Step as code_step
 use Rattle.x25_station.specs.code.PlainEntry.{plain_entry}
 use Rattle.x25_station.specs.Config.{layer_settings}
-use Rattle.x25_station.specs.Step.{requests}
+use Rattle.x25_station.specs.Step.{Outcome, requests}
 use Rattle.x25_station.proofs.OutcomeLemmas.{leaves_some, still_meant}
-use Rattle.x25_station.proofs.AskLemmas.{answers, still_fits}
+use Rattle.x25_station.proofs.AskLemmas.{answers, goes_exactly, refuses_exactly, still_fits}
 use Rattle.x25_station.proofs.DoesLemmas.{did_request, declines_request}
 use Rattle.x25_station.proofs.EnteredLemmas.{restart_enters}
+use Rattle.x25_station.proofs.PullLemmas.{goes_on, has_places}
 use Rattle.x25_station.proofs.station.Station.restart.Goals as goal
 
 pub invariant_of-self : goal.invariant_of-self
 invariant_of-self c = record {
   meant = still_meant _ _ _ _ c.args.self.now.meant (λ c' s fits.
       let request = Restarts c.args.cause c.args.diagnostic in
-      let a = answers c.in-Ok.field-0 c' _ c.restart.new.link c.swap_frames.new.self _ c.restart.new.self (record { frames = c.swap_frames.new.frames; entries = c.push_reserved.new.self; timer = c.reserve.new.self.timer }) s request fits
-      c.in-Ok.ensures.layer c.in-Ok.ensures.link (ap (λ l. l.station) c.swap_frames.ensures.link) (ap (λ l. l.frames) c.swap_frames.ensures.link ∙ c.reserve.ensures.empty.frames) c.swap_frames.ensures.frames
+      let a = answers c.in-Ok.field-0 c' _ c.restart.new.link c.swap_frames.new.self _ c.restart.new.self (record { frames = c.swap_frames.new.frames; entries = c.push.new.self; timer = c.args.out.now.timer }) s request fits
+      c.in-Ok.ensures.layer c.in-Ok.ensures.link (ap (λ l. l.station) c.swap_frames.ensures.link) (ap (λ l. l.frames) c.swap_frames.ensures.link ∙ c.requires.frames) c.swap_frames.ensures.frames
       refl (c.steps_keep_bounds.ensures.request c' s request fits.kept) in
       leaves_some c' _ _ (requests c' s request) a.state a.refused);
-  aside = c.args.self.now.aside;
 }
 
 pub invariant_of-self-in-Err-1 : goal.invariant_of-self-in-Err-1
 invariant_of-self-in-Err-1 c = record {
   meant = still_meant _ _ _ _ c.args.self.now.meant (λ c' s fits.
       (c', s, still_fits c' c.args.self.now.link c.restart.new.link _ c.restart.new.self s fits (c.in-Err.ensures.layer_stays (layer_settings c') s.layer fits.layer) c.in-Err.ensures.link_stays));
-  aside = c.args.self.now.aside;
 }
 
 pub returns-in-Ok-clause-does : goal.returns-in-Ok-clause-does
 returns-in-Ok-clause-does c =
     let request = Restarts c.args.cause c.args.diagnostic in
-    let r : code_step.Step = record { frames = c.swap_frames.new.frames; entries = c.push_reserved.new.self; timer = c.reserve.new.self.timer } in
-    did_request c.in-Ok.field-0 c.args.self.now _ c.restart.new.link r request c.in-Ok.ensures.layer c.in-Ok.ensures.link (ap (λ l. l.station) c.swap_frames.ensures.link) (ap (λ l. l.frames) c.swap_frames.ensures.link ∙ c.reserve.ensures.empty.frames) c.swap_frames.ensures.frames
+    let r : code_step.Step = record { frames = c.swap_frames.new.frames; entries = c.push.new.self; timer = c.args.out.now.timer } in
+    did_request c.in-Ok.field-0 c.args.self.now _ c.restart.new.link r request c.in-Ok.ensures.layer c.in-Ok.ensures.link (ap (λ l. l.station) c.swap_frames.ensures.link) (ap (λ l. l.frames) c.swap_frames.ensures.link ∙ c.requires.frames) c.swap_frames.ensures.frames
     c.steps_keep_bounds.ensures.request c.holds_few.ensures.window c.holds_few.ensures.stand
     (λ c' s fits. refl)
     (λ c' s fits.
-    restart_enters c' s c.args.cause c.args.diagnostic r (ap (λ es. map plain_entry es) (c.push_reserved.ensures.items ∙ ap (λ es. es ++ RestartAsked c.args.cause c.args.diagnostic ∷ []) c.reserve.ensures.empty.entries)))
-    (grind (arith, c.push_reserved.ensures.len, ap length c.reserve.ensures.empty.entries, c.reserve.new.self.entries.ok)) refl
+    restart_enters c' s c.args.cause c.args.diagnostic r (ap (λ es. map plain_entry es) (c.push.ensures ∙ ap (λ es. es ++ RestartAsked c.args.cause c.args.diagnostic ∷ []) c.requires.entries)))
+    refl
 
 pub returns-in-Err-clause-does : goal.returns-in-Err-clause-does
-returns-in-Err-clause-does c = declines_request _ c.in-Err.error _ c.args.self.now _ _ (Restarts c.args.cause c.args.diagnostic) c.of_layer.ensures c.in-Err.ensures.layer c.in-Err.ensures.layer_stays c.in-Err.ensures.link_stays c.reserve.ensures.empty refl
+returns-in-Err-clause-does c = declines_request _ c.in-Err.error _ c.args.self.now _ _ (Restarts c.args.cause c.args.diagnostic) c.of_layer.ensures c.in-Err.ensures.layer c.in-Err.ensures.layer_stays c.in-Err.ensures.link_stays c.requires refl
+
+pub returns-in-Ok-clause-only : goal.returns-in-Ok-clause-only
+returns-in-Ok-clause-only c = λ c' s fits.
+    let o : Outcome = requests c' s (Restarts c.args.cause c.args.diagnostic) in
+    goes_on o (goes_exactly o ((returns-in-Ok-clause-does c).refused c' s fits))
+
+pub returns-in-Err-clause-only : goal.returns-in-Err-clause-only
+returns-in-Err-clause-only c = λ c' s fits.
+    let request = Restarts c.args.cause c.args.diagnostic in
+    has_places _ c.in-Err.error c.args.self.now.link.frames (requests c' s request) c.of_layer.ensures (λ lacks. (let few = c.in-Err.ensures.missing lacks in omega (arith, few))) fits.sent
+    (refuses_exactly _ Unit c.in-Err.error _ c' c.args.self.now.link c.args.self.now.layer c.restart.new.self s request fits c.of_layer.ensures c.in-Err.ensures.layer)

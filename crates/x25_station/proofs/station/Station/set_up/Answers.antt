@@ -25,11 +25,10 @@ invariant_of-self c = record {
         same = fits.same;
       }))
       (goes _ (connect_refusal s.link.phase) step (c.in-Ok.ensures.refused (link_settings c') s.link fits.link)));
-  aside = c.args.self.now.aside;
 }
 
 pub invariant_of-self-in-Err-1 : goal.invariant_of-self-in-Err-1
-invariant_of-self-in-Err-1 c = record { meant = subst (λ l. AreMeant c.args.self.now.manner l c.args.self.now.layer) (sym c.in-Err.ensures.err) c.args.self.now.meant; aside = c.args.self.now.aside }
+invariant_of-self-in-Err-1 c = record { meant = subst (λ l. AreMeant c.args.self.now.manner l c.args.self.now.layer) (sym c.in-Err.ensures.err) c.args.self.now.meant }
 
 pub returns-in-Ok-clause-does : goal.returns-in-Ok-clause-does
 returns-in-Ok-clause-does c =
@@ -48,7 +47,7 @@ returns-in-Ok-clause-does c =
       stays = λ c' s fits. tt;
       empty = tt;
       few_frames = (let same : length c.swap_frames.new.frames ≡ length c.connect.new.self.frames = ap length c.swap_frames.ensures.frames in omega (arith, same, c.in-Ok.ensures.few));
-      few_entries = grind (arith, ap length c.requires.entries, c.args.out.now.entries.ok);
+      few_entries = c.args.out.now.entries.few;
     }
 
 pub returns-in-Err-clause-does : goal.returns-in-Err-clause-does

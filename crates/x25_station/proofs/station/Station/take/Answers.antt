@@ -4,7 +4,8 @@ use Rattle.x25_link.specs.declared.phase.Notes.{Notes}
 use Rattle.x25_link.specs.Hearing.{Step as LinkStep}
 use Rattle.x25_link.specs.Link.{take_step}
 use Rattle.x25_link.specs.code.FitsLink.{FitsWhole, up_of}
-use Rattle.x25_layer.specs.Room.{HasRoom, IsNotFull, named_by}
+use Rattle.x25_layer.specs.Full.{IsNotFull}
+use Rattle.x25_station.specs.Confirming.{named_by}
 use Rattle.x25_station.specs.Entry.{entries_noted}
 use Rattle.x25_station.specs.code.PlainEntry.{plain_entry}
 use Rattle.x25_station.specs.Receiving.{CanPut, kept_of}
@@ -13,64 +14,41 @@ use Rattle.x25_station.specs.Station.{all_put}
 use Rattle.x25_station.specs.Step.{receives, entries_heard}
 use Rattle.x25_station.proofs.FrameLemmas.{few_put}
 use Rattle.x25_station.proofs.OutcomeLemmas.{still_meant}
-use Rattle.x25_station.proofs.TakeLemmas.{handed_short, up_can_put, handed_can_put, handed_was_up, put_by_meaning, least_by_meaning, same_by_meaning, up_by_meaning, handed_named, room_for, few_made, if_some}
+use Rattle.x25_station.proofs.TakeLemmas.{up_can_put, handed_can_put, handed_was_up, put_by_meaning, least_by_meaning, up_by_meaning, few_made, if_some}
 use Rattle.x25_station.proofs.TookLemmas.{put_behind, took_fits, took_sends, took_enters, took_acknowledged}
 use Rattle.x25_station.proofs.station.Station.take.Goals as goal
 
 pub follow-requires-clause-up : goal.follow-requires-clause-up
 follow-requires-clause-up c = λ is. put_by_meaning _ c.take-heard.new.self _ c.args.self.now.meant (λ c' s fits.
     let lk = link_settings c' in
-    let before = (c.in_ok-reserve.ensures.fits c' s fits).link in
-    up_can_put c.notes_what_changes.ensures.take c' c.take-heard.new.self c.args.octets.now s.link (c.take-heard.ensures.state lk s.link before) c.take-heard.ensures.few (sym (ap (λ (n : Notes). n.up) ((c.take-heard.ensures.heard lk s.link before).notes)) ∙ is))
+    up_can_put c.notes_what_changes.ensures.take c' c.take-heard.new.self c.args.octets.now s.link (c.take-heard.ensures.state lk s.link fits.link) c.take-heard.ensures.few (sym (ap (λ (n : Notes). n.up) ((c.take-heard.ensures.heard lk s.link fits.link).notes)) ∙ is))
 
 pub follow-requires-clause-put : goal.follow-requires-clause-put
 follow-requires-clause-put c = if_some c.take-heard.result.packet (λ x. CanPut c.take-heard.new.self) (λ p is. put_by_meaning _ c.take-heard.new.self _ c.args.self.now.meant (λ c' s fits.
     let lk = link_settings c' in
-    let before = (c.in_ok-reserve.ensures.fits c' s fits).link in
-    handed_can_put c.notes_what_changes.ensures.take c.notes_what_changes.ensures.take_hands_up c' c.take-heard.new.self c.args.octets.now s.link p.now (c.take-heard.ensures.state lk s.link before) c.take-heard.ensures.few
-    (sym ((c.take-heard.ensures.heard lk s.link before).packet) ∙ ap option_copied is)))
+    handed_can_put c.notes_what_changes.ensures.take c.notes_what_changes.ensures.take_hands_up c' c.take-heard.new.self c.args.octets.now s.link p.now (c.take-heard.ensures.state lk s.link fits.link) c.take-heard.ensures.few
+    (sym ((c.take-heard.ensures.heard lk s.link fits.link).packet) ∙ ap option_copied is)))
 
 pub follow-requires-clause-left : goal.follow-requires-clause-left
-follow-requires-clause-left c = if_some c.take-heard.result.packet (λ x. IsNotFull c.reserve.new.self.layer) (λ p is.
-    c.in_ok-reserve.ensures.left (c.requires.left (up_by_meaning _ _ (up_of c.args.self.now.link) c.args.self.now.meant (λ c' s fits.
+follow-requires-clause-left c = if_some c.take-heard.result.packet (λ x. IsNotFull c.args.self.now.layer) (λ p is.
+    (c.requires.left (up_by_meaning _ _ (up_of c.args.self.now.link) c.args.self.now.meant (λ c' s fits.
     let lk = link_settings c' in
     handed_was_up c.notes_what_changes.ensures.take_hands_up c' c.args.self.now.link c.args.octets.now s.link p.now fits.link
-    (sym ((c.take-heard.ensures.heard lk s.link (c.in_ok-reserve.ensures.fits c' s fits).link).packet) ∙ ap option_copied is)))))
-
-pub follow-requires-clause-room : goal.follow-requires-clause-room
-follow-requires-clause-room c =
-    let bytes : All (λ octet. octet < 256) c.args.octets.now = All-from_get_or (λ octet. octet < 256) c.args.octets.now 0 (λ i low. omega (arith, c.type_inv.octets i)) in
-    if_some c.take-heard.result.packet (λ p. HasRoom (named_by p.now) (length p.now - 3) c.reserve.new.self.layer) (λ p is.
-    let short : length p.now + 4 ≤ length c.args.octets.now = least_by_meaning _ _ (length p.now + 4) (length c.args.octets.now) c.args.self.now.meant (λ c' s fits.
-    let lk = link_settings c' in
-    handed_short c.reading_is_the_grammar.ensures.spelled c.notes_what_changes.ensures.take_hands_up lk c.args.octets.now s.link p.now bytes
-    (sym ((c.take-heard.ensures.heard lk s.link (c.in_ok-reserve.ensures.fits c' s fits).link).packet) ∙ ap option_copied is)) in
-    let named : named_by p.now ≡ (if nat_le 3 (length p.now) then named_by (drop 2 c.args.octets.now) else 0) = same_by_meaning _ _ _ _ c.args.self.now.meant (λ c' s fits.
-    let lk = link_settings c' in
-    handed_named c.reading_is_the_grammar.ensures.spelled c.notes_what_changes.ensures.take_hands_up lk c.args.octets.now s.link p.now bytes
-    (sym ((c.take-heard.ensures.heard lk s.link (c.in_ok-reserve.ensures.fits c' s fits).link).packet) ∙ ap option_copied is)) in
-    room_for (nat_le 3 (length p.now)) (named_by p.now) c.channel_of.result (length p.now - 3) c.saturating_sub-len.result c.reserve.new.self.layer
-    (named ∙ ap (λ (h : ℕ). if nat_le 3 (length p.now) then h else 0) (sym c.channel_of.ensures))
-    (omega (arith, short, c.saturating_sub-len.ensures)) c.in_ok-reserve.ensures.room)
+    (sym ((c.take-heard.ensures.heard lk s.link fits.link).packet) ∙ ap option_copied is)))))
 
 pub invariant_of-self : goal.invariant_of-self
 invariant_of-self c = record {
   meant = still_meant _ _ _ _ c.args.self.now.meant (λ c' s fits.
       let lk = link_settings c' in
       let k : LinkStep = take_step lk c.args.octets.now s.link in
-      let before = c.in_ok-reserve.ensures.fits c' s fits in
-      let heard = c.take-heard.ensures.heard lk s.link before.link in
-      let whole : FitsWhole c.take-heard.new.self (kept_of lk k.side) = record { link = c.take-heard.ensures.state lk s.link before.link; kept = c.take-heard.ensures.frames lk s.link before.link } in (
+      let heard = c.take-heard.ensures.heard lk s.link fits.link in
+      let whole : FitsWhole c.take-heard.new.self (kept_of lk k.side) = record { link = c.take-heard.ensures.state lk s.link fits.link; kept = c.take-heard.ensures.frames lk s.link fits.link } in (
         c',
         (receives c' s c.args.octets.now).near,
-        took_fits c' before.same s c.args.octets.now (option_copied c.take-heard.result.packet) c.take-heard.result.notes c.follow.new.link c.swap_frames.new.self c.follow.new.layer (c.requires.goes_on c' s fits) (heard.packet, heard.notes)
-            (c.follow.ensures.puts.link c' s.layer k.side before.layer whole) (c.follow.ensures.puts.layer c' s.layer k.side before.layer whole) (ap (λ l. l.station) c.swap_frames.ensures.link) (ap (λ l. l.frames) c.swap_frames.ensures.link ∙ c.reserve.ensures.empty.frames)
+        took_fits c' fits.same s c.args.octets.now (option_copied c.take-heard.result.packet) c.take-heard.result.notes c.follow.new.link c.swap_frames.new.self c.follow.new.layer (c.requires.goes_on c' s fits) (heard.packet, heard.notes)
+            (c.follow.ensures.puts.link c' s.layer k.side fits.layer whole) (c.follow.ensures.puts.layer c' s.layer k.side fits.layer whole) (ap (λ l. l.station) c.swap_frames.ensures.link) (ap (λ l. l.frames) c.swap_frames.ensures.link ∙ c.requires.empty.frames)
             (c.steps_keep_bounds.ensures.receive c' s c.args.octets.now fits.kept),
       ));
-  aside =
-      let few = c.reserve.new.self.aside in
-      let texts = c.follow.ensures.used.no_more in
-      omega (arith, texts, few);
 }
 
 pub returns-clause-does : goal.returns-clause-does
@@ -78,30 +56,26 @@ returns-clause-does c = record {
   state = λ c' s fits.
       let lk = link_settings c' in
       let k : LinkStep = take_step lk c.args.octets.now s.link in
-      let before = c.in_ok-reserve.ensures.fits c' s fits in
-      let heard = c.take-heard.ensures.heard lk s.link before.link in
-      let whole : FitsWhole c.take-heard.new.self (kept_of lk k.side) = record { link = c.take-heard.ensures.state lk s.link before.link; kept = c.take-heard.ensures.frames lk s.link before.link } in
-      took_fits c' before.same s c.args.octets.now (option_copied c.take-heard.result.packet) c.take-heard.result.notes c.follow.new.link c.swap_frames.new.self c.follow.new.layer (c.requires.goes_on c' s fits) (heard.packet, heard.notes)
-      (c.follow.ensures.puts.link c' s.layer k.side before.layer whole) (c.follow.ensures.puts.layer c' s.layer k.side before.layer whole) (ap (λ l. l.station) c.swap_frames.ensures.link) (ap (λ l. l.frames) c.swap_frames.ensures.link ∙ c.reserve.ensures.empty.frames)
+      let heard = c.take-heard.ensures.heard lk s.link fits.link in
+      let whole : FitsWhole c.take-heard.new.self (kept_of lk k.side) = record { link = c.take-heard.ensures.state lk s.link fits.link; kept = c.take-heard.ensures.frames lk s.link fits.link } in
+      took_fits c' fits.same s c.args.octets.now (option_copied c.take-heard.result.packet) c.take-heard.result.notes c.follow.new.link c.swap_frames.new.self c.follow.new.layer (c.requires.goes_on c' s fits) (heard.packet, heard.notes)
+      (c.follow.ensures.puts.link c' s.layer k.side fits.layer whole) (c.follow.ensures.puts.layer c' s.layer k.side fits.layer whole) (ap (λ l. l.station) c.swap_frames.ensures.link) (ap (λ l. l.frames) c.swap_frames.ensures.link ∙ c.requires.empty.frames)
       (c.steps_keep_bounds.ensures.receive c' s c.args.octets.now fits.kept);
   frames = λ c' s fits.
       let lk = link_settings c' in
       let k : LinkStep = take_step lk c.args.octets.now s.link in
-      let before = c.in_ok-reserve.ensures.fits c' s fits in
-      let heard = c.take-heard.ensures.heard lk s.link before.link in
-      let whole : FitsWhole c.take-heard.new.self (kept_of lk k.side) = record { link = c.take-heard.ensures.state lk s.link before.link; kept = c.take-heard.ensures.frames lk s.link before.link } in
-      let link = c.follow.ensures.puts.link c' s.layer k.side before.layer whole in
+      let heard = c.take-heard.ensures.heard lk s.link fits.link in
+      let whole : FitsWhole c.take-heard.new.self (kept_of lk k.side) = record { link = c.take-heard.ensures.state lk s.link fits.link; kept = c.take-heard.ensures.frames lk s.link fits.link } in
+      let link = c.follow.ensures.puts.link c' s.layer k.side fits.layer whole in
       c.swap_frames.ensures.frames
-      ∙ took_sends c' before.same s c.args.octets.now (option_copied c.take-heard.result.packet) c.take-heard.result.notes _ (c.requires.goes_on c' s fits) (heard.packet, heard.notes) link.kept;
+      ∙ took_sends c' fits.same s c.args.octets.now (option_copied c.take-heard.result.packet) c.take-heard.result.notes _ (c.requires.goes_on c' s fits) (heard.packet, heard.notes) link.kept;
   entries = λ c' s fits.
       let lk = link_settings c' in
       let k : LinkStep = take_step lk c.args.octets.now s.link in
-      let before = c.in_ok-reserve.ensures.fits c' s fits in
-      let heard = c.take-heard.ensures.heard lk s.link before.link in
-      let whole : FitsWhole c.take-heard.new.self (kept_of lk k.side) = record { link = c.take-heard.ensures.state lk s.link before.link; kept = c.take-heard.ensures.frames lk s.link before.link } in
-      let noted = entries_noted c.take-heard.result.notes ++ entries_heard (layer_settings c') c.reserve.new.self.manner.wide s.layer (option_copied c.take-heard.result.packet) c.take-heard.result.notes.down c.take-heard.result.notes.up in
-      took_enters c' before.same s c.args.octets.now (option_copied c.take-heard.result.packet) c.take-heard.result.notes _ (c.requires.goes_on c' s fits) (heard.packet, heard.notes)
-      (c.follow.ensures.entries c' s.layer k.side before.layer whole ∙ ap (λ es. map plain_entry es ++ noted) c.reserve.ensures.empty.entries);
+      let heard = c.take-heard.ensures.heard lk s.link fits.link in
+      let whole : FitsWhole c.take-heard.new.self (kept_of lk k.side) = record { link = c.take-heard.ensures.state lk s.link fits.link; kept = c.take-heard.ensures.frames lk s.link fits.link } in
+      took_enters c' fits.same s c.args.octets.now (option_copied c.take-heard.result.packet) c.take-heard.result.notes _ (c.requires.goes_on c' s fits) (heard.packet, heard.notes)
+      (c.follow.ensures.entries c' s.layer k.side fits.layer whole);
   refused = λ c' s fits. tt;
   stays = λ c' s fits. tt;
   empty = tt;
@@ -109,21 +83,19 @@ returns-clause-does c = record {
       let most : length c.follow.new.link.frames ≤ 17 = least_by_meaning _ _ (length c.follow.new.link.frames) 17 c.args.self.now.meant (λ c' s fits.
       let lk = link_settings c' in
       let k : LinkStep = take_step lk c.args.octets.now s.link in
-      let before = c.in_ok-reserve.ensures.fits c' s fits in
-      let whole : FitsWhole c.take-heard.new.self (kept_of lk k.side) = record { link = c.take-heard.ensures.state lk s.link before.link; kept = c.take-heard.ensures.frames lk s.link before.link } in
-      let step = put_behind c' c.reserve.new.self.manner.wide s k (option_copied c.take-heard.result.packet) c.take-heard.result.notes in
-      let link = c.follow.ensures.puts.link c' s.layer k.side before.layer whole in
+      let whole : FitsWhole c.take-heard.new.self (kept_of lk k.side) = record { link = c.take-heard.ensures.state lk s.link fits.link; kept = c.take-heard.ensures.frames lk s.link fits.link } in
+      let step = put_behind c' c.args.self.now.manner.wide s k (option_copied c.take-heard.result.packet) c.take-heard.result.notes in
+      let link = c.follow.ensures.puts.link c' s.layer k.side fits.layer whole in
       let put = few_put lk step.put k.side (c.holds_few.ensures.window lk c.take-heard.new.self k.side.near whole.link) (c.holds_few.ensures.stand lk c.take-heard.new.self k.side.near whole.link).place_low in
       let own = c.holds_few.ensures.take lk c.args.octets.now s.link in
       few_made c'.role c.follow.new.link.frames (all_put lk step.put k.side).out 17 link.kept (omega (arith, put, own))) in
       let same : length c.swap_frames.new.frames ≡ length c.follow.new.link.frames = ap length c.swap_frames.ensures.frames in
       omega (arith, most, same);
-  few_entries = grind (arith, c.follow.ensures.few.length, ap length c.reserve.ensures.empty.entries, c.reserve.new.out.entries.ok);
+  few_entries = c.follow.new.entries.few;
 }
 
 pub returns-clause-acknowledged : goal.returns-clause-acknowledged
 returns-clause-acknowledged c = λ c' s fits.
     let lk = link_settings c' in
-    let before = c.in_ok-reserve.ensures.fits c' s fits in
-    let heard = c.take-heard.ensures.heard lk s.link before.link in
+    let heard = c.take-heard.ensures.heard lk s.link fits.link in
     heard.acknowledged ∙ took_acknowledged c' s c.args.octets.now (c.requires.goes_on c' s fits)

@@ -1,0 +1,48 @@
+ghost use Rattle.std.specs.Prelude.{◌≡◌, ◌≤◌, vec_len, vec_capacity};
+
+use std::marker::Model;
+use x25_packet::Marks;
+
+/// A message that waits to be sent, in memory of its own. Contracts see the message.
+#[derive(Drop)]
+pub struct Sent {
+    q: Marks,
+    octets: Vec<u8>,
+}
+
+impl Model for Sent {
+    ghost use Rattle.std.specs.Prelude.{◌≤◌, vec_len, vec_capacity};
+    ghost use Rattle.x25_circuit.specs.declared.message.Message.{Message};
+
+    ghost Value = { Message };
+
+    ghost view = { λ s. record { q = s.q; user = s.octets.items } };
+
+    ghost invariant = { λ s. (vec_len s.octets ≤ 65535) × (vec_capacity s.octets ≤ 65535) };
+}
+
+impl Sent {
+    /// The message of these octets. It takes no memory.
+    pub fn of(q: Marks, octets: Vec<u8>) -> Sent
+        requires short { vec_len octets ≤ 65535 }
+        requires memory { vec_capacity octets ≤ 65535 }
+        ensures { result ≡ record { q = q; user = octets.items } }
+    {
+        Sent { q, octets }
+    }
+
+    /// Its marks.
+    pub fn marks(&self) -> Marks
+        ensures { result ≡ self.now.q }
+    {
+        self.q
+    }
+
+    /// The list of its octets. It takes no memory.
+    pub fn into_vec(self) -> Vec<u8>
+        ensures items { result.items ≡ self.user }
+        ensures memory { vec_capacity result ≤ 65535 }
+    {
+        self.octets
+    }
+}

@@ -1,0 +1,85 @@
+-- The memory of a step (profile): five texts and a message, of which entries have some, and the others no entry has.
+use Rattle.std.specs.Prelude.{◌≡◌, ℕ, ◌+◌, ◌≤◌, List, length, Vec, vec_capacity}
+use Rattle.std.specs.List.{sum_by}
+use Rattle.x25_circuit.specs.Calling.{Request, Calls, Sends, Interrupts}
+use Rattle.x25_station.specs.declared.entry.Entry.{Entry}
+use Rattle.x25_station.specs.declared.entry.Entry.TheVariants as entry
+use Rattle.x25_station.specs.declared.entry.Said.{Said}
+use Rattle.x25_station.specs.declared.entry.Said.TheVariants as said
+use Rattle.x25_station.specs.declared.entry.Asked.{Asked}
+use Rattle.x25_station.specs.declared.entry.Asked.TheVariants as asked
+use Rattle.x25_station.specs.declared.entry.Told.{Told}
+use Rattle.x25_station.specs.declared.entry.Told.TheVariants as told
+
+-- how many texts and messages no entry has
+pub record ShownMemory : Type 0 where
+  pub texts : ℕ
+  pub messages : ℕ
+
+-- all that there are
+abbrev pub all_memory : ShownMemory
+all_memory = record { texts = 5; messages = 1 }
+
+-- ---- how many an entry has
+
+abbrev pub texts_asked : Asked → ℕ
+texts_asked (asked.Call called calling user params) = 3
+texts_asked (asked.Interrupt user) = 1
+texts_asked _ = 0
+
+abbrev pub texts_told : Told → ℕ
+texts_told (told.Incoming called calling user params) = 3
+texts_told (told.Interrupted user) = 1
+texts_told _ = 0
+
+abbrev pub texts_said : Said → ℕ
+texts_said (said.Asked what) = texts_asked what
+texts_said (said.Told what) = texts_told what
+
+abbrev pub texts_in : Entry → ℕ
+texts_in (entry.OnChannel channel name what) = texts_said what
+texts_in (entry.Beside channel facilities user) = 2
+texts_in _ = 0
+
+abbrev pub messages_asked : Asked → ℕ
+messages_asked (asked.Send q user) = 1
+messages_asked _ = 0
+
+abbrev pub messages_told : Told → ℕ
+messages_told (told.Delivered message) = 1
+messages_told _ = 0
+
+abbrev pub messages_said : Said → ℕ
+messages_said (said.Asked what) = messages_asked what
+messages_said (said.Told what) = messages_told what
+
+abbrev pub messages_in : Entry → ℕ
+messages_in (entry.OnChannel channel name what) = messages_said what
+messages_in _ = 0
+
+-- ---- requests of which the memory has room for a copy
+
+abbrev pub IsBrief : Request → Type 0
+IsBrief (Calls called calling user proposal) =
+    (length called ≤ 128) × ((length calling ≤ 128) × (length user ≤ 128))
+IsBrief (Sends q user) = length user ≤ 65535
+IsBrief (Interrupts user) = length user ≤ 128
+IsBrief _ = Unit {0}
+
+-- ---- and entries in all
+
+-- the entries of a step, at most three
+pub record ShownEntries : Type 0 where
+  pub items : List Entry
+  pub few : length items ≤ 3
+
+-- what these entries have and no entry has are all of it, and there are places for three entries
+pub record IsWhole {Z : Type 0} (list : Vec Entry Z) (memory : ShownMemory) : Type 0 where
+  pub places : vec_capacity list ≡ 3
+  pub texts : memory.texts + sum_by texts_in list.items ≡ 5
+  pub messages : memory.messages + sum_by messages_in list.items ≡ 1
+
+-- what these entries have more than those, so much less no entry has, but for so many messages that came from elsewhere
+pub record Lends (messages_come : ℕ) (before after : List Entry) (old new : ShownMemory) : Type 0 where
+  pub texts : new.texts + sum_by texts_in after ≡ old.texts + sum_by texts_in before
+  pub messages : new.messages + sum_by messages_in after ≡ old.messages + sum_by messages_in before + messages_come

@@ -1,0 +1,74 @@
+ghost use Rattle.std.specs.Prelude.{◌≡◌, ◌≤◌, [], length, take, vec_capacity, IfOk};
+
+use std::alloc::{AllocError, Global};
+use std::marker::Model;
+use x25_bits::append_octets;
+use x25_packet::Digits;
+
+/// The most octets of a text: those of the user data of a call, where it may be long. Interrupts, addresses and
+/// facilities have fewer.
+const LONGEST_TEXT: usize = 128;
+
+/// A text of an entry: at most 128 octets, in memory for so many. Contracts see the list of them.
+#[derive(Debug, Drop)]
+pub struct Text {
+    octets: Vec<u8>,
+}
+
+impl Model for Text {
+    ghost use Rattle.std.specs.Prelude.{◌≡◌, ℕ, List, vec_capacity};
+
+    ghost Value = { List ℕ };
+
+    ghost view = { λ t. t.octets.items };
+
+    ghost invariant = { λ t. vec_capacity t.octets ≡ 128 };
+}
+
+impl Text {
+    /// No octets. Err: no memory.
+    pub fn new(alloc: Global) -> Result<Text, AllocError>
+        ensures { IfOk result (λ text. text ≡ []) }
+    {
+        Ok(Text {
+            octets: Vec::with_capacity(alloc, LONGEST_TEXT)?,
+        })
+    }
+
+    /// Puts the first 128 of these octets in the place of its own.
+    pub fn set(&mut self, octets: &[u8])
+        ensures { self.new ≡ take 128 octets.now }
+    {
+        let count = LONGEST_TEXT.min(octets.len());
+        self.octets.clear();
+        append_octets(&mut self.octets, &octets[..count]);
+    }
+
+    /// Puts the digits of an address in the place of its octets.
+    pub(crate) fn set_digits(&mut self, digits: &Digits)
+        ensures { self.new ≡ digits.now }
+    {
+        self.octets.clear();
+        append_digits(&mut self.octets, digits);
+    }
+
+    /// Lends the octets.
+    pub fn as_slice(&self) -> &[u8]
+        ensures items { result.now ≡ self.now }
+        ensures short { length result.now ≤ 128 }
+    {
+        self.octets.as_slice()
+    }
+}
+
+// Puts digits where nothing is.
+fn append_digits(octets: &mut Vec<u8>, digits: &Digits)
+    requires none { octets.old.items ≡ [] }
+    requires room { 15 ≤ vec_capacity octets.old }
+    ensures digits { octets.new.items ≡ digits.now }
+    ensures room { vec_capacity octets.new ≡ vec_capacity octets.old }
+{
+    for place in 0..digits.len() {
+        octets.push_reserved(digits.get(place));
+    }
+}
