@@ -30,7 +30,7 @@ def words(**given):
 def lines(capture, **given):
     """The lines that a capture becomes, as a text, and the notes on what was left out."""
     converter = pcap2x25.Converter(words(**given))
-    found = [it for block in converter.blocks(captures.blocks(io.BytesIO(capture), converter.notes)) for it in zip(*pcap2x25.without_gaps(*block))]
+    found = [it for block in converter.blocks(captures.blocks(io.BytesIO(capture), converter.notes)) for it in zip(*block)]
     text = "".join(line for connection, _, line in found if connection.number == (given.get("connection") or 1))
     return text, dict(converter.notes)
 
@@ -218,7 +218,7 @@ class XotStreams(unittest.TestCase):
     def test_a_gap_is_told_and_passed(self):
         segments = (True, 1, self.call[:5]), (True, 1 + len(self.call), self.call), (False, 1, self.accept)
         text, notes = self.read(segments)
-        self.assertEqual(text.count("\n"), 2)
+        self.assertEqual([line[:4] for line in text.splitlines()], ["< 03", "> ..", "> 01"])
         self.assertEqual(notes, {"gap in a connection, octets that weren't captured": 1})
 
     def test_behind_a_gap_the_next_packet_is_looked_for(self):
@@ -227,7 +227,7 @@ class XotStreams(unittest.TestCase):
             end = 1 + len(self.call) + 5 + len(rest)
             segments = (True, 1, self.call), (True, 6 + len(self.call), rest), (True, end, self.call), (False, 1, self.accept)
             text, notes = self.read(segments)
-            self.assertEqual([line[6:-4] for line in text.splitlines()], [CALL.hex(), ACCEPT.hex(), CALL.hex()])
+            self.assertEqual([line if line[2:] == ".." else line[6:-4] for line in text.splitlines()], [CALL.hex(), ACCEPT.hex(), "> ..", CALL.hex()])
             self.assertEqual(notes, {"gap in a connection, octets that weren't captured": 1, xot.WITHIN: 1})
 
     def test_fragments_are_told(self):
