@@ -1,6 +1,5 @@
 use Rattle.std.proofs.Common.{◌≡◌, ◌∙◌, Some, None, inl, inr, slice_get, sym, ap}
 use Rattle.x25_station.specs.Config.{settings_from}
-use Rattle.x25_world.specs.Error.{error_of}
 use Rattle.x25_world.proofs.SideLemmas.{few_put, few_changed, shared_of, has_arrived, none_arrives, side_stays}
 use Rattle.x25_world.proofs.acting.deliver.Goals as goal
 
@@ -22,11 +21,11 @@ returns-in_default-get-clause-acted c = λ cfg w side.
       stays = rw c.reserve_frames.ensures.line (side_stays cfg c.args.at _ _ c.args.line.now w c.reserve_frames.new.line side side.near);
     })
 
-pub returns-in-Ok-clause-acted : goal.returns-in-Ok-clause-acted
-returns-in-Ok-clause-acted c = λ cfg w side.
+pub returns-clause-acted : goal.returns-clause-acted
+returns-clause-acted c = λ cfg w side.
     let fits = side.near in
     let shared = rw (sym c.reserve_frames.ensures.line) at (shared_of cfg c.args.at _ c.args.line.now w c.reserve_frames.new.line side) in
-    let called = c.in-Ok.ensures.does in
+    let called = c.receive.ensures.does in
     let front : Some c.in-Some.octets.now ≡ slice_get w.back 0 = c.in-Some.ensures ∙ ap (λ l. slice_get l 0) shared.back in
     record {
       happened = rw (c.put.ensures.line, c.remove.ensures)
@@ -37,15 +36,5 @@ returns-in-Ok-clause-acted c = λ cfg w side.
       stays = tt;
     }
 
-pub returns-in-Err-receive-clause-acted : goal.returns-in-Err-receive-clause-acted
-returns-in-Err-receive-clause-acted c = λ cfg w side.
-    let fits = side.near in
-    let called = c.in-Err-receive.ensures in
-    record {
-      happened = tt;
-      refused = inr (c.of_station.ensures ∙ ap error_of called.refused);
-      stays = rw c.reserve_frames.ensures.line (side_stays cfg c.args.at _ _ c.args.line.now w c.reserve_frames.new.line side (called.does.stays _ _ fits));
-    }
-
-pub returns-in-Ok-clause-places : goal.returns-in-Ok-clause-places
-returns-in-Ok-clause-places c = rw (c.put.ensures.line, c.remove.ensures) (few_put 17 c.args.line.now _ c.args.at _ (few_changed 17 c.args.line.now c.reserve_frames.new.line c.args.at _ c.reserve_frames.ensures.few))
+pub returns-clause-places : goal.returns-clause-places
+returns-clause-places c = rw (c.put.ensures.line, c.remove.ensures) (few_put 17 c.args.line.now _ c.args.at _ (few_changed 17 c.args.line.now c.reserve_frames.new.line c.args.at _ c.reserve_frames.ensures.few))

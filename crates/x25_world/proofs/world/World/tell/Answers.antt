@@ -1,4 +1,5 @@
-use Rattle.std.proofs.Common.{sym, subst}
+use Rattle.std.proofs.Common.{◌∙◌, ap, sym, subst}
+use Rattle.x25_station.specs.code.Memory.{ShownEntries}
 use Rattle.x25_world.specs.code.ShownWorld.{ShownWorld}
 use Rattle.x25_world.specs.code.FitsWorld.{FitsWorld}
 use Rattle.x25_world.proofs.WorldLemmas.{told_behind}
@@ -9,5 +10,5 @@ returns-clause-step c = λ cfg w before tells.
     let acted = c.in_ok-act_at_end.ensures.acted cfg w (subst (λ (v : ShownWorld). FitsWorld cfg v w) (sym c.self.view_is) tells.fits) in
     record {
       fits = acted.happened;
-      told = rw (c.enter.ensures.entries, c.reserve_entries.ensures.items, c.at.ensures) (told_behind w.transcript before _ _ _ tells.told acted.tells);
+      told = rw (c.enter.ensures.entries, c.into_vec-entries.ensures.entries ∙ ap (λ (e : ShownEntries). e.items) c.replace.ensures.value, c.reserve_entries.ensures.items, c.at.ensures) (told_behind w.transcript before _ _ _ tells.told acted.tells);
     }
