@@ -35,7 +35,8 @@ static SHOWN: [&str; 5] = [
     "dce interrupt ch=16 at 18446744073709551615.10.260 data=00\n",
 ];
 
-fn text(alloc: Global, octets: &[u8]) -> Result<Text, AllocError> {
+/// A text of an entry.
+pub fn text(alloc: Global, octets: &[u8]) -> Result<Text, AllocError> {
     let mut text = Text::new(alloc)?;
     text.set(octets);
     Ok(text)

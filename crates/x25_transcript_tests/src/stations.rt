@@ -1,3 +1,4 @@
+use crate::channels::text;
 use crate::lines::is_line;
 use std::alloc::{AllocError, Global};
 use x25_layer::Stretch;
@@ -27,8 +28,8 @@ fn says_why_the_link_went_down(rt: HostRuntime) {
 fn beside(alloc: Global, facilities: &[u8], user: &[u8]) -> Result<Entry, AllocError> {
     Ok(Entry::Beside {
         channel: 3,
-        facilities: facilities.to_vec(alloc)?,
-        user: user.to_vec(alloc)?,
+        facilities: text(alloc, facilities)?,
+        user: text(alloc, user)?,
     })
 }
 
