@@ -14,7 +14,7 @@
  *
  * An answer has at most 24 frames of at most 4,103 octets, and 4 events, of which one has at most 65,535 octets; that of
  * x25_receive_all has as many for each frame that was taken. Its memory is made with the station, and that of a channel with its
- * first call: what comes takes none, and reading it none but for x25_entry. A new station takes less than 410 kB, with 4,095 channels
+ * first call: what comes takes none, and reading it none but for x25_entry. A new station takes less than 470 kB, with 4,095 channels
  * less than 3 MB; one with all that may wait on 16 channels less than 11 MB.
  *
  * What the library can't see, and the program has to keep:

@@ -82,7 +82,7 @@ static void fill(uint16_t channels)
     for (uint16_t h = 1; h <= channels; h++)
         while (x25_send(&dte.station, h, false, message, sizeof message) == 0)
             dte.first = dte.next;
-    expect("more than 410 kB", empty > 410000, false);
+    expect("more than 470 kB", empty > 470000, false);
     expect("more than 11 MB", most[0] > 11000000, false);
     expect("less than these messages", most[0] < (size_t)8 * channels * sizeof message, false);
     printf("%s%u channels: %zu kB new, %zu kB at most", channels > 1 ? ", " : "", channels, empty / 1000, most[0] / 1000);
