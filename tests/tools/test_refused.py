@@ -11,6 +11,8 @@ import support
 import refused
 
 PLAYER = refused.find_player()
+# The commands that ask for memory.
+ASKING = ("Call)", "Call) with sizes", "Accept)", "Accept) with sizes", "With)", "Send)")
 needs_compiler = unittest.skipUnless(shutil.which("cc"), "there is no C compiler")
 
 
@@ -34,7 +36,6 @@ class Refused(unittest.TestCase):
 @needs_compiler
 class Played(unittest.TestCase):
     # The calls of these scripts that meet a refusal; and those whose contracts say that none for want of memory comes.
-    ASKING = ("Call)", "Call) with sizes", "Accept)", "Accept) with sizes", "With)", "Send)")
     MET = {
         "Station::new",
         *(f"World::{call}" for call in ("start", "establish", "step(Connect)", "step(Deliver)", "step(Damage)", "heal")),
