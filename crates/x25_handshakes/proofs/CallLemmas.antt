@@ -49,19 +49,19 @@ dce_talks = record {
 
 pub Seen-takes : (r : Role) (x : Connection) (u : List Packet) (p : Packet) (v : List Packet) (y : Connection) → Seen r x u (p ∷ v) y → GoodCall (Seen r) (call_takes r x p) u v y
 Seen-takes Dte x u p v y h =
-    let good = dte_takes TalksRelated fresh_transfer dte_talks x.phase (stage_of y.phase) x.made x.indicated y.made y.indicated u p v h in
-    record { quiet = good.quiet; kept = good.kept }
+    let good = dte_takes TalksRelated fresh_transfer dte_talks x (stage_of y.phase) y.made y.indicated u p v h in
+    record { quiet = good.0; kept = good.1 }
 Seen-takes Dce x u p v y h =
-    let good = dce_takes TalksRelated fresh_transfer dce_talks (stage_of y.phase) x.phase y.made y.indicated x.made x.indicated v p u h in
-    record { quiet = good.quiet; kept = good.kept }
+    let good = dce_takes TalksRelated fresh_transfer dce_talks x (stage_of y.phase) y.made y.indicated u p v h in
+    record { quiet = good.0; kept = good.1 }
 
 pub Seen-acts : Laws → (r : Role) (x : Connection) (u v : List Packet) (y : Connection) (a : CallAct) → Seen r x u v y → GoodCall (Seen r) (call_acts x a) u v y
 Seen-acts laws Dte x u v y a h =
-    let good = dte_acts TalksRelated fresh_transfer dte_talks laws x.phase (stage_of y.phase) x.made x.indicated y.made y.indicated u v a h in
-    record { quiet = good.quiet; kept = good.kept }
+    let good = dte_acts TalksRelated fresh_transfer dte_talks x (stage_of y.phase) y.made y.indicated u laws v a h in
+    record { quiet = good.0; kept = good.1 }
 Seen-acts laws Dce x u v y a h =
-    let good = dce_acts TalksRelated fresh_transfer dce_talks laws (stage_of y.phase) x.phase y.made y.indicated x.made x.indicated v u a h in
-    record { quiet = good.quiet; kept = good.kept }
+    let good = dce_acts TalksRelated fresh_transfer dce_talks x (stage_of y.phase) y.made y.indicated u laws v a h in
+    record { quiet = good.0; kept = good.1 }
 
 pub Seen-fresh : (r : Role) → Seen r fresh_call [] [] fresh_call
 Seen-fresh Dte = (tt, tt, refl, refl, refl, refl)

@@ -1,7 +1,8 @@
 -- What our own end does between two clears keeps what is kept of it and the other end, and finds no procedure error, whatever kind of end the other is.
-use Rattle.std.proofs.Common.{◌≡◌, inl, inr, ℕ, List, [], ◌∷◌, ◌++◌, Option, Some, None, Bool, true, if◌then◌else◌, refl, sym, ap, subst, ◌∙◌}
+use Rattle.std.proofs.Common.{◌≡◌, inl, inr, ℕ, List, [], ◌∷◌, ◌++◌, Some, None, Bool, true, if◌then◌else◌, refl, sym, ap, subst, ◌∙◌}
 use Rattle.std.proofs.lemmas.List.{append-nil}
 use Rattle.std.proofs.lemmas.Bool.{cond_both}
+use Rattle.x25_bits.specs.declared.role.Role.{Role}
 use Rattle.x25_bits.specs.declared.role.Role.TheVariants.{Dte, Dce}
 use Rattle.x25_circuit.specs.declared.params.Params.{Params}
 use Rattle.x25_circuit.specs.Params.{Proposal, Terms, may_propose, may_answer, field_for, said_in, called_terms, calling_terms}
@@ -9,7 +10,7 @@ use Rattle.x25_circuit.specs.Notice.{CallRequest}
 use Rattle.x25_handshakes.specs.laws.Handshake.{Live, At}
 use Rattle.x25_handshakes.specs.laws.Stretch.{Packet, Call, Accept, Stretch}
 use Rattle.x25_handshakes.specs.laws.Transfer.{TransferStep, fresh_transfer, transfer_takes, TransferAct, transfer_acts}
-use Rattle.x25_handshakes.specs.laws.Calls.{Phase, Unused, Waiting, Offered, Crossed, Talking, Connection, CallStep, goes, unexpected, called_talk, calling_talk, is_answered, phase_takes, CallAct, PlacesCall, AcceptsCall, Talks, accepts, phase_acts}
+use Rattle.x25_handshakes.specs.laws.Calls.{Phase, Unused, Waiting, Offered, Crossed, Talking, Connection, CallStep, goes, unexpected, called_talk, calling_talk, is_answered, phase_takes, call_takes, CallAct, PlacesCall, AcceptsCall, Talks, phase_acts, call_acts}
 use Rattle.x25_handshakes.specs.laws.PeerCalls.{Stage, Free, Calling, Called, Collided, InData}
 use Rattle.x25_handshakes.specs.laws.LawsBelow.{Laws}
 use Rattle.x25_handshakes.proofs.TermsLemmas.{IsSound, AreSound, answer_sound, answer_read}
@@ -92,7 +93,272 @@ CallAccepted-some mine t b R m (Call n ∷ u) h = Accepted-some mine t b R u h.1
 CallAccepted-some mine t b R m (Accept field ∷ u) h = (u, h.2)
 CallAccepted-some mine t b R m u h = absurd h
 
--- ---- our own end is the DTE
+maybe_call : (m : List CallRequest) (v : List Packet) → OneCall m v → MaybeCall m v
+maybe_call m [] h = absurd h
+maybe_call m (p ∷ v) h = h
+
+-- ---- an end of any kind, which as p4 begins is s₀
+
+-- what it makes of a packet
+pub record Taken (S : Type 0) : Type 0 where
+  pub stage : Stage S
+  pub made : List CallRequest
+  pub indicated : List CallRequest
+  pub out : List Packet
+
+abbrev pub crossed : {S : Type 0} → Role → Params → List CallRequest → List CallRequest → CallRequest → Taken S
+crossed Dte mine m i n = record { stage = Collided mine; made = m; indicated = i; out = [] }
+crossed Dce mine m i n = record { stage = Called n.params; made = m; indicated = i ++ n ∷ []; out = [] }
+
+abbrev pub begun : {S : Type 0} → S → Params → List CallRequest → List CallRequest → Taken S
+begun s₀ q m i = record { stage = InData (calling_terms q) (called_terms q) s₀; made = m; indicated = i; out = [] }
+
+-- by what it is in p4 after a packet, and what it puts then
+abbrev pub taken : {S : Type 0} → S → (Terms → Terms → S → Packet → S) → (Terms → Terms → S → Packet → List Packet) → Role → Stage S → List CallRequest → List CallRequest → Packet → Taken S
+taken s₀ next out r Free m i (Call n) = record { stage = Called n.params; made = m; indicated = i ++ n ∷ []; out = [] }
+taken s₀ next out r (Calling mine) m i (Call n) = crossed r mine m i n
+taken s₀ next out r (Calling mine) m i (Accept field) = begun s₀ (said_in mine field) m i
+taken s₀ next out r (Collided mine) m i (Accept field) = begun s₀ (said_in mine field) m i
+taken s₀ next out r (InData t b s) m i p = record { stage = InData t b (next t b s p); made = m; indicated = i; out = out t b s p }
+taken s₀ next out r stage m i p = record { stage = stage; made = m; indicated = i; out = [] }
+
+-- what may come to it
+abbrev pub MayCome : {S : Type 0} → (Terms → Terms → S → Packet → Type 0) → Stage S → Packet → Type 0
+MayCome Fine Free (Call n) = Unit {0}
+MayCome Fine (Calling mine) (Call n) = Unit {0}
+MayCome Fine (Calling mine) (Accept field) = may_answer mine (said_in mine field) ≡ true
+MayCome Fine (Collided mine) (Accept field) = may_answer mine (said_in mine field) ≡ true
+MayCome Fine (InData t b s) p = Fine t b s p
+MayCome Fine stage p = ⊥
+
+-- ---- it is the DTE
+
+module _ {S B : Type 0} (R : TalksOf S B) (s₀ : S) (y₀ : B) where
+  abbrev DteIs : Stage S → Stage B → List CallRequest → List CallRequest → List CallRequest → List CallRequest → List Packet → List Packet → Type 0
+  DteIs a b ma ia mb ib u v = JointOf R s₀ y₀ a b ma ia mb ib u v
+
+  pub dte_still : (a : Stage S) (b : Stage B) (ma ia mb ib : List CallRequest) (u v : List Packet) → DteIs a b ma ia mb ib u v → DteIs a b ma ia mb ib (u ++ []) v
+  dte_still a b ma ia mb ib u v h = subst (λ (w : List Packet). DteIs a b ma ia mb ib w v) (sym (append-nil u)) h
+
+  dte_answered : (p : Params) (field : List ℕ) (ma ia mb ib : List CallRequest) (u v : List Packet) (t b : Terms) (y : B) → IsAnswer p field t b → Nil u
+      → R b t s₀ [] v t b y → ia ≡ [] → ib ≡ ma → (let q = said_in p field in DteIs (InData (calling_terms q) (called_terms q) s₀) (InData t b y) ma ia mb ib (u ++ []) v)
+  dte_answered p field ma ia mb ib u v t b y answer none talk indicated there =
+      let q : Params = said_in p field in
+      dte_still (InData (calling_terms q) (called_terms q) s₀) (InData t b y) ma ia mb ib u v (
+        subst (λ (s : Terms). R s (called_terms q) s₀ u v t b y) answer.calling (subst (λ (s : Terms). R b s s₀ u v t b y) answer.called
+            (subst (λ (w : List Packet). R b t s₀ w v t b y) (sym (nil_is u none)) talk)),
+        inl (indicated, there),
+      )
+
+  module _ (next : Terms → Terms → S → Packet → S) (out : Terms → Terms → S → Packet → List Packet) (Fine : Terms → Terms → S → Packet → Type 0)
+      (takes : (t b : Terms) (x : S) (u : List Packet) (p : Packet) (v : List Packet) (t₂ b₂ : Terms) (y : B) → R t b x u (p ∷ v) t₂ b₂ y → Fine t b x p × R t b (next t b x p) (u ++ out t b x p) v t₂ b₂ y) where
+    pub dte_taken : (a : Stage S) (b : Stage B) (ma ia mb ib : List CallRequest) (u : List Packet) (p : Packet) (v : List Packet) → DteIs a b ma ia mb ib u (p ∷ v)
+        → (let s = taken s₀ next out Dte a ma ia p in MayCome Fine a p × DteIs s.stage b s.made s.indicated mb ib (u ++ s.out) v)
+    dte_taken Free Free ma ia mb ib u p v h = absurd h.1
+    dte_taken Free (Calling q) ma ia mb ib u (Call n) v h =
+        (tt, dte_still (Called n.params) (Calling q) ma (ia ++ n ∷ []) mb ib u v (h.0, h.1.1, push_first ia n mb h.3 h.1.0, h.4, said mb n q h.1.0 h.5))
+    dte_taken Free (Calling q) ma ia mb ib u other v h = absurd h.1
+    dte_taken Free other ma ia mb ib u p v h = absurd h
+    dte_taken (Calling mine) Free ma ia mb ib u p v h = absurd h.1
+    dte_taken (Calling mine) (Calling q) ma ia mb ib u (Call n) v h = (tt, dte_still (Collided mine) (Calling q) ma ia mb ib u v (h.0, h.1.1, h.2, h.3, h.4))
+    dte_taken (Calling mine) (Calling q) ma ia mb ib u other v h = absurd h.1
+    dte_taken (Calling mine) (Called q) ma ia mb ib u (Call n) v h = (tt, dte_still (Collided mine) (Called q) ma ia mb ib u v (h.0, h.1.1, h.2, h.3, h.4))
+    dte_taken (Calling mine) (Called q) ma ia mb ib u other v h = absurd h.1
+    dte_taken (Calling mine) (Collided q) ma ia mb ib u p v h = absurd h
+    dte_taken (Calling mine) (InData t b y) ma ia mb ib u (Call n) v h = (tt, dte_still (Collided mine) (InData t b y) ma ia mb ib u v (h.0, h.1.1, h.2, h.3))
+    dte_taken (Calling mine) (InData t b y) ma ia mb ib u (Accept field) v h = (h.1.1.allowed, dte_answered mine field ma ia mb ib u v t b y h.1.1 h.0 h.1.2 h.2 h.3)
+    dte_taken (Calling mine) (InData t b y) ma ia mb ib u other v h = absurd h.1
+    dte_taken (Called theirs) (Calling q) ma ia mb ib u p v h = absurd h.1
+    dte_taken (Called theirs) other ma ia mb ib u p v h = absurd h
+    dte_taken (Collided mine) Free ma ia mb ib u p v h = absurd h
+    dte_taken (Collided mine) (Calling q) ma ia mb ib u p v h = absurd h.1
+    dte_taken (Collided mine) (Called q) ma ia mb ib u p v h = absurd h.1
+    dte_taken (Collided mine) (Collided q) ma ia mb ib u p v h = absurd h
+    dte_taken (Collided mine) (InData t b y) ma ia mb ib u (Accept field) v h = (h.1.0.allowed, dte_answered mine field ma ia mb ib u v t b y h.1.0 h.0 h.1.1 h.2 h.3)
+    dte_taken (Collided mine) (InData t b y) ma ia mb ib u other v h = absurd h.1
+    dte_taken (InData t b x) (Calling q) ma ia mb ib u p v h = absurd h.1
+    dte_taken (InData t b x) (InData t₂ b₂ y) ma ia mb ib u p v h = (let k = takes t b x u p v t₂ b₂ y h.0 in (k.0, (k.1, h.1)))
+    dte_taken (InData t b x) other ma ia mb ib u p v h = absurd h
+
+  -- it calls
+  pub dte_calls : (b : Stage B) (n : CallRequest) (ma ia mb ib : List CallRequest) (u v : List Packet) → may_propose n.params ≡ true → DteIs Free b ma ia mb ib u v → DteIs (Calling n.params) b (ma ++ n ∷ []) ia mb ib (u ++ Call n ∷ []) v
+  dte_calls Free n ma ia mb ib u v may h = (call_first ma n u h.0 h.2, h.1, h.3, h.4, h.5, proposes ma n h.2 may)
+  dte_calls (Calling q) n ma ia mb ib u v may h = (call_first ma n u h.0 h.2, h.1, h.3, h.4, proposes ma n h.2 may)
+  dte_calls other n ma ia mb ib u v may h = absurd h
+
+  -- it accepts, with an answer to what is proposed
+  pub dte_answers : (b : Stage B) (theirs q : Params) (field : List ℕ) (ma ia mb ib : List CallRequest) (u v : List Packet) → ((mine : Params) → IsProposal mine theirs → Agreed mine q field)
+      → ((t k : Terms) → IsSound t → IsSound k → R t k s₀ [] [] k t y₀) → DteIs (Called theirs) b ma ia mb ib u v → DteIs (InData (called_terms q) (calling_terms q) s₀) b ma ia mb ib (u ++ Accept field ∷ []) v
+  dte_answers (Calling mine) theirs q field ma ia mb ib u v agrees fresh h =
+      let may = agrees mine h.4 in (
+        accept_first mine (called_terms q) (calling_terms q) (λ w. R (called_terms q) (calling_terms q) s₀ w [] (calling_terms q) (called_terms q) y₀) field u h.0 may.fits
+            (fresh (called_terms q) (calling_terms q) may.terms.called may.terms.calling),
+        h.1,
+        h.2,
+        h.3,
+      )
+  dte_answers other theirs q field ma ia mb ib u v agrees fresh h = absurd h
+
+  -- it goes on in p4, and puts these packets
+  module _ (t k : Terms) (x : S) where
+    pub dte_moves : (b : Stage B) (x₂ : S) (o : List Packet) (ma ia mb ib : List CallRequest) (u v : List Packet) → ((w z : List Packet) (t₂ k₂ : Terms) (y : B) → R t k x w z t₂ k₂ y → R t k x₂ (w ++ o) z t₂ k₂ y)
+        → DteIs (InData t k x) b ma ia mb ib u v → DteIs (InData t k x₂) b ma ia mb ib (u ++ o) v
+    dte_moves (Calling q) x₂ o ma ia mb ib u v goes h =
+        (Accepted-map q t k (λ w. R t k x w [] k t y₀) (λ w. R t k x₂ w [] k t y₀) o (λ w r. goes w [] k t y₀ r) u h.0, h.1, h.2, h.3)
+    dte_moves (InData t₂ k₂ y) x₂ o ma ia mb ib u v goes h = (goes u v t₂ k₂ y h.0, h.1)
+    dte_moves other x₂ o ma ia mb ib u v goes h = absurd h
+
+    -- where that says so
+    pub dte_some : (P : Type 0) (b : Stage B) (ma ia mb ib : List CallRequest) (u v : List Packet) → ((w z : List Packet) (t₂ k₂ : Terms) (y : B) → R t k x w z t₂ k₂ y → P) → DteIs (InData t k x) b ma ia mb ib u v → P
+    dte_some P (Calling q) ma ia mb ib u v so h = (let some = Accepted-some q t k (λ w. R t k x w [] k t y₀) u h.0 in so some.0 [] k t y₀ some.1)
+    dte_some P (InData t₂ k₂ y) ma ia mb ib u v so h = so u v t₂ k₂ y h.0
+    dte_some P other ma ia mb ib u v so h = absurd h
+
+-- ---- it is the DCE
+
+module _ {A S : Type 0} (R : TalksOf A S) (x₀ : A) (s₀ : S) where
+  abbrev DceIs : Stage A → Stage S → List CallRequest → List CallRequest → List CallRequest → List CallRequest → List Packet → List Packet → Type 0
+  DceIs a b ma ia mb ib u v = JointOf R x₀ s₀ a b ma ia mb ib u v
+
+  pub dce_still : (a : Stage A) (b : Stage S) (ma ia mb ib : List CallRequest) (u v : List Packet) → DceIs a b ma ia mb ib u v → DceIs a b ma ia mb ib u (v ++ [])
+  dce_still a b ma ia mb ib u v h = subst (λ (w : List Packet). DceIs a b ma ia mb ib u w) (sym (append-nil v)) h
+
+  dce_answered : (q : Params) (field : List ℕ) (ma ia mb ib : List CallRequest) (u v : List Packet) (t b : Terms) (x : A) → IsAnswer q field t b → Nil v
+      → R t b x u [] b t s₀ → ia ≡ mb → ib ≡ [] → (let p = said_in q field in DceIs (InData t b x) (InData (calling_terms p) (called_terms p) s₀) ma ia mb ib u (v ++ []))
+  dce_answered q field ma ia mb ib u v t b x answer none talk there indicated =
+      let p : Params = said_in q field in
+      dce_still (InData t b x) (InData (calling_terms p) (called_terms p) s₀) ma ia mb ib u v (
+        subst (λ (s : Terms). R t b x u v s (called_terms p) s₀) answer.calling (subst (λ (s : Terms). R t b x u v b s s₀) answer.called
+            (subst (λ (w : List Packet). R t b x u w b t s₀) (sym (nil_is v none)) talk)),
+        inr (there, indicated),
+      )
+
+  module _ (next : Terms → Terms → S → Packet → S) (out : Terms → Terms → S → Packet → List Packet) (Fine : Terms → Terms → S → Packet → Type 0)
+      (takes : (t b : Terms) (x : A) (u : List Packet) (p : Packet) (v : List Packet) (t₂ b₂ : Terms) (y : S) → R t b x (p ∷ u) v t₂ b₂ y → Fine t₂ b₂ y p × R t b x u (v ++ out t₂ b₂ y p) t₂ b₂ (next t₂ b₂ y p)) where
+    pub dce_taken : (a : Stage A) (b : Stage S) (ma ia mb ib : List CallRequest) (u : List Packet) (p : Packet) (v : List Packet) → DceIs a b ma ia mb ib (p ∷ u) v
+        → (let s = taken s₀ next out Dce b mb ib p in MayCome Fine b p × DceIs a s.stage ma ia s.made s.indicated u (v ++ s.out))
+    dce_taken (Calling mine) Free ma ia mb ib u (Call n) v h = (
+      tt,
+      dce_still (Calling mine) (Called n.params) ma ia mb (ib ++ n ∷ []) u v
+          (h.0.1, subst (λ (w : List Packet). MaybeCall mb w) (sym (nil_is v h.1)) h.3, h.2, push_first ib n ma h.4 h.0.0, said ma n mine h.0.0 h.5),
+    )
+    dce_taken (Calling mine) Free ma ia mb ib u other v h = absurd h.0
+    dce_taken (Calling mine) (Calling q) ma ia mb ib u (Call n) v h =
+        (tt, dce_still (Calling mine) (Called n.params) ma ia mb (ib ++ n ∷ []) u v (h.0.1, maybe_call mb v h.1, h.2, push_first ib n ma h.3 h.0.0, said ma n mine h.0.0 h.4))
+    dce_taken (Calling mine) (Calling q) ma ia mb ib u other v h = absurd h.0
+    dce_taken (Collided mine) (Calling q) ma ia mb ib u (Call n) v h =
+        (tt, dce_still (Collided mine) (Called n.params) ma ia mb (ib ++ n ∷ []) u v (h.0.1, h.1, h.2, push_first ib n ma h.3 h.0.0, said ma n mine h.0.0 h.4))
+    dce_taken (Collided mine) (Calling q) ma ia mb ib u other v h = absurd h.0
+    dce_taken (InData t b x) (Calling q) ma ia mb ib u (Accept field) v h = (h.0.0.allowed, dce_answered q field ma ia mb ib u v t b x h.0.0 h.1 h.0.1 h.2 h.3)
+    dce_taken (InData t b x) (Calling q) ma ia mb ib u other v h = absurd h.0
+    dce_taken (InData t b x) (InData t₂ b₂ y) ma ia mb ib u p v h = (let k = takes t b x u p v t₂ b₂ y h.0 in (k.0, (k.1, h.1)))
+    dce_taken Free Free ma ia mb ib u p v h = absurd h.0
+    dce_taken Free (Calling q) ma ia mb ib u p v h = absurd h.0
+    dce_taken Free other ma ia mb ib u p v h = absurd h
+    dce_taken (Calling mine) (Called q) ma ia mb ib u p v h = absurd h.0
+    dce_taken (Calling mine) (Collided q) ma ia mb ib u p v h = absurd h
+    dce_taken (Calling mine) (InData t b y) ma ia mb ib u p v h = absurd h.0
+    dce_taken (Called theirs) (Calling q) ma ia mb ib u p v h = absurd h.0
+    dce_taken (Called theirs) other ma ia mb ib u p v h = absurd h
+    dce_taken (Collided mine) Free ma ia mb ib u p v h = absurd h
+    dce_taken (Collided mine) (Called q) ma ia mb ib u p v h = absurd h.0
+    dce_taken (Collided mine) (Collided q) ma ia mb ib u p v h = absurd h
+    dce_taken (Collided mine) (InData t b y) ma ia mb ib u p v h = absurd h.0
+    dce_taken (InData t b x) other ma ia mb ib u p v h = absurd h
+
+  -- it calls
+  pub dce_calls : (a : Stage A) (n : CallRequest) (ma ia mb ib : List CallRequest) (u v : List Packet) → may_propose n.params ≡ true → DceIs a Free ma ia mb ib u v → DceIs a (Calling n.params) ma ia (mb ++ n ∷ []) ib u (v ++ Call n ∷ [])
+  dce_calls Free n ma ia mb ib u v may h = (h.0, call_first mb n v h.1 h.4, h.2, h.3, h.5, proposes mb n h.4 may)
+  dce_calls (Calling p) n ma ia mb ib u v may h = (h.0, call_first mb n v h.1 h.3, h.2, h.4, h.5)
+  dce_calls other n ma ia mb ib u v may h = absurd h
+
+  -- it accepts, with an answer to what is proposed
+  pub dce_answers : (a : Stage A) (theirs q : Params) (field : List ℕ) (ma ia mb ib : List CallRequest) (u v : List Packet) → ((mine : Params) → IsProposal mine theirs → Agreed mine q field)
+      → ((t k : Terms) → IsSound t → IsSound k → R t k x₀ [] [] k t s₀) → DceIs a (Called theirs) ma ia mb ib u v → DceIs a (InData (called_terms q) (calling_terms q) s₀) ma ia mb ib u (v ++ Accept field ∷ [])
+  dce_answers (Calling mine) theirs q field ma ia mb ib u v agrees fresh h =
+      let may = agrees mine h.4 in (
+        h.0,
+        accept_behind mb mine (called_terms q) (calling_terms q) (λ w. R (calling_terms q) (called_terms q) x₀ [] w (called_terms q) (calling_terms q) s₀) field v h.1 may.fits
+            (fresh (calling_terms q) (called_terms q) may.terms.calling may.terms.called),
+        h.2,
+        h.3,
+      )
+  dce_answers (Collided mine) theirs q field ma ia mb ib u v agrees fresh h =
+      let may = agrees mine h.4 in (
+        h.0,
+        accept_first mine (called_terms q) (calling_terms q) (λ w. R (calling_terms q) (called_terms q) x₀ [] w (called_terms q) (calling_terms q) s₀) field v h.1 may.fits
+            (fresh (calling_terms q) (called_terms q) may.terms.calling may.terms.called),
+        h.2,
+        h.3,
+      )
+  dce_answers other theirs q field ma ia mb ib u v agrees fresh h = absurd h
+
+  -- it goes on in p4, and puts these packets
+  module _ (t k : Terms) (y : S) where
+    pub dce_moves : (a : Stage A) (y₂ : S) (o : List Packet) (ma ia mb ib : List CallRequest) (u v : List Packet) → ((w z : List Packet) (t₁ k₁ : Terms) (x : A) → R t₁ k₁ x w z t k y → R t₁ k₁ x w (z ++ o) t k y₂)
+        → DceIs a (InData t k y) ma ia mb ib u v → DceIs a (InData t k y₂) ma ia mb ib u (v ++ o)
+    dce_moves (Calling p) y₂ o ma ia mb ib u v goes h =
+        (h.0, CallAccepted-map p t k (λ w. R k t x₀ [] w t k y) (λ w. R k t x₀ [] w t k y₂) o (λ w r. goes [] w k t x₀ r) mb v h.1, h.2, h.3)
+    dce_moves (Collided p) y₂ o ma ia mb ib u v goes h =
+        (h.0, Accepted-map p t k (λ w. R k t x₀ [] w t k y) (λ w. R k t x₀ [] w t k y₂) o (λ w r. goes [] w k t x₀ r) v h.1, h.2, h.3)
+    dce_moves (InData t₁ k₁ x) y₂ o ma ia mb ib u v goes h = (goes u v t₁ k₁ x h.0, h.1)
+    dce_moves other y₂ o ma ia mb ib u v goes h = absurd h
+
+    -- where that says so
+    pub dce_some : (P : Type 0) (a : Stage A) (ma ia mb ib : List CallRequest) (u v : List Packet) → ((w z : List Packet) (t₁ k₁ : Terms) (x : A) → R t₁ k₁ x w z t k y → P) → DceIs a (InData t k y) ma ia mb ib u v → P
+    dce_some P (Calling p) ma ia mb ib u v so h = (let some = CallAccepted-some p t k (λ w. R k t x₀ [] w t k y) mb v h.1 in so [] some.0 k t x₀ some.1)
+    dce_some P (Collided p) ma ia mb ib u v so h = (let some = Accepted-some p t k (λ w. R k t x₀ [] w t k y) v h.1 in so [] some.0 k t x₀ some.1)
+    dce_some P (InData t₁ k₁ x) ma ia mb ib u v so h = so u v t₁ k₁ x h.0
+    dce_some P other ma ia mb ib u v so h = absurd h
+
+-- ---- our own end, of either role
+
+abbrev own_next : Terms → Terms → At Stretch → Packet → At Stretch
+own_next t b x p = (transfer_takes b.size x p).next
+
+abbrev own_out : Terms → Terms → At Stretch → Packet → List Packet
+own_out t b x p = (transfer_takes b.size x p).out
+
+abbrev OwnFine : Terms → Terms → At Stretch → Packet → Type 0
+OwnFine t b x p = (transfer_takes b.size x p).error ≡ None
+
+-- a step that is no error, and leads to this
+abbrev IsGood : (Stage (At Stretch) → List CallRequest → List CallRequest → List Packet → Type 0) → CallStep → Type 0
+IsGood K s = (s.error ≡ None) × K (stage_of s.next.phase) s.next.made s.next.indicated s.out
+
+module _ (K : Stage (At Stretch) → List CallRequest → List CallRequest → List Packet → Type 0) (m i : List CallRequest) where
+  own_answered : (a : Phase) (mine : Params) (field : List ℕ) → may_answer mine (said_in mine field) ≡ true → (let q = said_in mine field in K (InData (calling_terms q) (called_terms q) fresh_transfer) m i [])
+      → IsGood K (is_answered a mine m i (said_in mine field))
+  own_answered a mine field may k = (let q = said_in mine field in subst (λ (c : Bool). IsGood K (if c then goes (calling_talk q) m i [] else unexpected a m i)) (sym may) (refl, k))
+
+  own_taken : (r : Role) (a : Phase) (p : Packet) → MayCome OwnFine (stage_of a) p → (let s = taken fresh_transfer own_next own_out r (stage_of a) m i p in K s.stage s.made s.indicated s.out) → IsGood K (phase_takes r a m i p)
+  own_taken r Unused (Call n) may k = (refl, k)
+  own_taken r Unused other may k = absurd may
+  own_taken Dte (Waiting mine) (Call n) may k = (refl, k)
+  own_taken Dce (Waiting mine) (Call n) may k = (refl, k)
+  own_taken r (Waiting mine) (Accept field) may k = own_answered (Waiting mine) mine field may k
+  own_taken r (Waiting mine) other may k = absurd may
+  own_taken r (Offered theirs) p may k = absurd may
+  own_taken r (Crossed mine) (Accept field) may k = own_answered (Crossed mine) mine field may k
+  own_taken r (Crossed mine) other may k = absurd may
+  own_taken r (Talking t b x) p may k = (may, k)
+
+  -- where it may stay, call, accept and go on so
+  own_done : Laws → (a : Phase) (act : CallAct) → K (stage_of a) m i [] → (stage_of a ≡ Free → (n : CallRequest) → may_propose n.params ≡ true → K (Calling n.params) (m ++ n ∷ []) i (Call n ∷ []))
+      → ((theirs : Params) → stage_of a ≡ Called theirs → (q : Params) (field : List ℕ) → ((mine : Params) → IsProposal mine theirs → Agreed mine q field) → K (InData (called_terms q) (calling_terms q) fresh_transfer) m i (Accept field ∷ []))
+      → ((t b : Terms) (x : At Stretch) → stage_of a ≡ InData t b x → (act : TransferAct) → (let s = transfer_acts t x act in (s.error ≡ None) × K (InData t b s.next) m i s.out)) → IsGood K (phase_acts a m i act)
+  own_done laws Unused (PlacesCall n) stays calls answers moves =
+      cond_both (may_propose n.params) (goes (Waiting n.params) (m ++ n ∷ []) i (Call n ∷ [])) (goes Unused m i []) (IsGood K) (λ may. (refl, calls refl n may)) (λ _. (refl, stays))
+  own_done laws Unused act stays calls answers moves = (refl, stays)
+  own_done laws (Waiting mine) act stays calls answers moves = (refl, stays)
+  own_done laws (Offered theirs) (AcceptsCall None) stays calls answers moves = (refl, answers theirs refl theirs [] (λ mine is. as_proposed laws mine theirs is))
+  own_done laws (Offered theirs) (AcceptsCall (Some answer)) stays calls answers moves =
+      cond_both (may_answer theirs answer.params) (goes (called_talk answer.params) m i (Accept (field_for theirs answer) ∷ [])) (goes (Offered theirs) m i []) (IsGood K)
+      (λ may. (refl, answers theirs refl answer.params (field_for theirs answer) (λ mine is. as_answered laws mine theirs answer is may))) (λ _. (refl, stays))
+  own_done laws (Offered theirs) act stays calls answers moves = (refl, stays)
+  own_done laws (Crossed mine) act stays calls answers moves = (refl, stays)
+  own_done laws (Talking t b x) (Talks act) stays calls answers moves = moves t b x refl act
+  own_done laws (Talking t b x) act stays calls answers moves = (refl, stays)
 
 -- a step in p4 that is no error, and keeps what is kept there
 pub record OwnTalk {B : Type 0} (R : TalksOf (At Stretch) B) (t b : Terms) (s : TransferStep) (u v : List Packet) (t₂ b₂ : Terms) (y : B) : Type 0 where
@@ -107,138 +373,29 @@ pub record DteTalks {B : Type 0} (R : TalksOf (At Stretch) B) (y₀ : B) : Type 
   pub acts : (t b : Terms) (x : At Stretch) (u v : List Packet) (t₂ b₂ : Terms) (y : B) (act : TransferAct) → R t b x u v t₂ b₂ y
       → OwnTalk R t b (transfer_acts t x act) u v t₂ b₂ y
 
--- a step that is no error, and keeps what is kept of the two ends
-pub record DteGoodOf {B : Type 0} (R : TalksOf (At Stretch) B) (y₀ : B) (s : CallStep) (u v : List Packet) (b : Stage B) (mb ib : List CallRequest) : Type 0 where
-  pub quiet : s.error ≡ None
-  pub kept : JointOf R fresh_transfer y₀ (stage_of s.next.phase) b s.next.made s.next.indicated mb ib (u ++ s.out) v
+module _ {B : Type 0} (R : TalksOf (At Stretch) B) (y₀ : B) (talks : DteTalks R y₀) (x : Connection) (b : Stage B) (mb ib : List CallRequest) (u : List Packet) where
+  abbrev OwnDte : List Packet → Stage (At Stretch) → List CallRequest → List CallRequest → List Packet → Type 0
+  OwnDte v a m i o = JointOf R fresh_transfer y₀ a b m i mb ib (u ++ o) v
 
-module _ {B : Type 0} (R : TalksOf (At Stretch) B) (y₀ : B) (talks : DteTalks R y₀) where
-  abbrev DteJoint : Phase → Stage B → List CallRequest → List CallRequest → List CallRequest → List CallRequest → List Packet → List Packet → Type 0
-  DteJoint a b ma ia mb ib u v = JointOf R fresh_transfer y₀ (stage_of a) b ma ia mb ib u v
+  abbrev OwnDteNow : List Packet → Stage (At Stretch) → Type 0
+  OwnDteNow v a = JointOf R fresh_transfer y₀ a b x.made x.indicated mb ib u v
 
-  abbrev DteGood : CallStep → List Packet → List Packet → Stage B → List CallRequest → List CallRequest → Type 0
-  DteGood s u v b mb ib = DteGoodOf R y₀ s u v b mb ib
+  pub dte_takes : (p : Packet) (v : List Packet) → OwnDteNow (p ∷ v) (stage_of x.phase) → IsGood (OwnDte v) (call_takes Dte x p)
+  dte_takes p v h =
+      let g = dte_taken R fresh_transfer y₀ own_next own_out OwnFine (λ t k s w q z t₂ k₂ y r. (let good = talks.takes t k s w q z t₂ k₂ y r in (good.quiet, good.kept))) (stage_of x.phase) b x.made x.indicated mb ib u p v h in
+      own_taken (OwnDte v) x.made x.indicated Dte x.phase p g.0 g.1
 
-  dte_still : (x : Connection) (u v : List Packet) (b : Stage B) (mb ib : List CallRequest) → DteJoint x.phase b x.made x.indicated mb ib u v → DteGood (record { next = x; out = []; error = None }) u v b mb ib
-  dte_still x u v b mb ib h = record { quiet = refl; kept = subst (λ (w : List Packet). DteJoint x.phase b x.made x.indicated mb ib w v) (sym (append-nil u)) h }
-
-  -- the DTE takes an ACCEPT
-  dte_answered : (a : Phase) (p : Params) (field : List ℕ) (ma ia mb ib : List CallRequest) (u v : List Packet) (t b : Terms) (y : B) → IsAnswer p field t b → Nil u
-      → R b t fresh_transfer [] v t b y → ia ≡ [] → ib ≡ ma → DteGood (is_answered a p ma ia (said_in p field)) u v (InData t b y) mb ib
-  dte_answered a p field ma ia mb ib u v t b y answer none talk indicated there =
-      let q : Params = said_in p field in
-      subst (λ (c : Bool). DteGood (if c then goes (calling_talk q) ma ia [] else unexpected a ma ia) u v (InData t b y) mb ib) (sym answer.allowed)
-      (dte_still (record { phase = calling_talk q; made = ma; indicated = ia }) u v (InData t b y) mb ib (
-        subst (λ (s : Terms). R s (called_terms q) fresh_transfer u v t b y) answer.calling (subst (λ (s : Terms). R b s fresh_transfer u v t b y) answer.called
-            (subst (λ (w : List Packet). R b t fresh_transfer w v t b y) (sym (nil_is u none)) talk)),
-        inl (indicated, there),
-      ))
-
-  -- the DTE takes a packet
-  pub dte_takes : (a : Phase) (b : Stage B) (ma ia mb ib : List CallRequest) (u : List Packet) (p : Packet) (v : List Packet) → DteJoint a b ma ia mb ib u (p ∷ v)
-      → DteGood (phase_takes Dte a ma ia p) u v b mb ib
-  dte_takes Unused Free ma ia mb ib u p v h = absurd h.1
-  dte_takes Unused (Calling q) ma ia mb ib u (Call n) v h =
-      dte_still (record { phase = Offered n.params; made = ma; indicated = ia ++ n ∷ [] }) u v (Calling q) mb ib
-      (h.0, h.1.1, push_first ia n mb h.3 h.1.0, h.4, said mb n q h.1.0 h.5)
-  dte_takes Unused (Calling q) ma ia mb ib u other v h = absurd h.1
-  dte_takes Unused other ma ia mb ib u p v h = absurd h
-  dte_takes (Waiting mine) Free ma ia mb ib u p v h = absurd h.1
-  dte_takes (Waiting mine) (Calling q) ma ia mb ib u (Call n) v h =
-      dte_still (record { phase = Crossed mine; made = ma; indicated = ia }) u v (Calling q) mb ib
-      (h.0, h.1.1, h.2, h.3, h.4)
-  dte_takes (Waiting mine) (Calling q) ma ia mb ib u other v h = absurd h.1
-  dte_takes (Waiting mine) (Called q) ma ia mb ib u (Call n) v h =
-      dte_still (record { phase = Crossed mine; made = ma; indicated = ia }) u v (Called q) mb ib
-      (h.0, h.1.1, h.2, h.3, h.4)
-  dte_takes (Waiting mine) (Called q) ma ia mb ib u other v h = absurd h.1
-  dte_takes (Waiting mine) (Collided q) ma ia mb ib u p v h = absurd h
-  dte_takes (Waiting mine) (InData t b y) ma ia mb ib u (Call n) v h =
-      dte_still (record { phase = Crossed mine; made = ma; indicated = ia }) u v (InData t b y) mb ib
-      (h.0, h.1.1, h.2, h.3)
-  dte_takes (Waiting mine) (InData t b y) ma ia mb ib u (Accept field) v h = dte_answered (Waiting mine) mine field ma ia mb ib u v t b y h.1.1 h.0 h.1.2 h.2 h.3
-  dte_takes (Waiting mine) (InData t b y) ma ia mb ib u other v h = absurd h.1
-  dte_takes (Offered theirs) (Calling q) ma ia mb ib u p v h = absurd h.1
-  dte_takes (Offered theirs) other ma ia mb ib u p v h = absurd h
-  dte_takes (Crossed mine) Free ma ia mb ib u p v h = absurd h
-  dte_takes (Crossed mine) (Calling q) ma ia mb ib u p v h = absurd h.1
-  dte_takes (Crossed mine) (Called q) ma ia mb ib u p v h = absurd h.1
-  dte_takes (Crossed mine) (Collided q) ma ia mb ib u p v h = absurd h
-  dte_takes (Crossed mine) (InData t b y) ma ia mb ib u (Accept field) v h = dte_answered (Crossed mine) mine field ma ia mb ib u v t b y h.1.0 h.0 h.1.1 h.2 h.3
-  dte_takes (Crossed mine) (InData t b y) ma ia mb ib u other v h = absurd h.1
-  dte_takes (Talking t b x) (Calling q) ma ia mb ib u p v h = absurd h.1
-  dte_takes (Talking t b x) (InData t₂ b₂ y) ma ia mb ib u p v h =
-      let good : OwnTalk R t b (transfer_takes b.size x p) u v t₂ b₂ y = talks.takes t b x u p v t₂ b₂ y h.0 in
-      record { quiet = good.quiet; kept = (good.kept, h.1) }
-  dte_takes (Talking t b x) other ma ia mb ib u p v h = absurd h
-
-  -- the DTE accepts
-
-  dte_accepted : (q theirs answer : Params) (field : List ℕ) (ma ia mb ib : List CallRequest) (u v : List Packet) → Agreed q answer field → DteJoint (Offered theirs) (Calling q) ma ia mb ib u v
-      → DteGood (goes (called_talk answer) ma ia (Accept field ∷ [])) u v (Calling q) mb ib
-  dte_accepted q theirs answer field ma ia mb ib u v may h = record {
-    quiet = refl;
-    kept = (
-      accept_first q (called_terms answer) (calling_terms answer)
-          (λ w. R (called_terms answer) (calling_terms answer) fresh_transfer w [] (calling_terms answer) (called_terms answer) y₀) field u h.0 may.fits
-          (talks.fresh (called_terms answer) (calling_terms answer) may.terms.called may.terms.calling),
-      h.1,
-      h.2,
-      h.3,
-    );
-  }
-
-  dte_accepts : Laws → (q theirs : Params) (answer : Option Proposal) (ma ia mb ib : List CallRequest) (u v : List Packet) → DteJoint (Offered theirs) (Calling q) ma ia mb ib u v
-      → DteGood (accepts theirs ma ia answer) u v (Calling q) mb ib
-  dte_accepts laws q theirs None ma ia mb ib u v h = dte_accepted q theirs theirs [] ma ia mb ib u v (as_proposed laws q theirs h.4) h
-  dte_accepts laws q theirs (Some answer) ma ia mb ib u v h =
-      cond_both (may_answer theirs answer.params) (goes (called_talk answer.params) ma ia (Accept (field_for theirs answer) ∷ [])) (goes (Offered theirs) ma ia []) (λ (s : CallStep). DteGood s u v (Calling q) mb ib)
-      (λ may. dte_accepted q theirs answer.params (field_for theirs answer) ma ia mb ib u v (as_answered laws q theirs answer h.4 may) h)
-      (λ _. dte_still (record { phase = Offered theirs; made = ma; indicated = ia }) u v (Calling q) mb ib h)
-
-  -- the DTE calls
-
-  dte_places : (b : Stage B) (n : CallRequest) (ma ia mb ib : List CallRequest) (u v : List Packet) → DteJoint Unused b ma ia mb ib u v
-      → (may_propose n.params ≡ true → DteJoint (Waiting n.params) b (ma ++ n ∷ []) ia mb ib (u ++ Call n ∷ []) v)
-      → DteGood (phase_acts Unused ma ia (PlacesCall n)) u v b mb ib
-  dte_places b n ma ia mb ib u v h placed =
-      cond_both (may_propose n.params) (goes (Waiting n.params) (ma ++ n ∷ []) ia (Call n ∷ [])) (goes Unused ma ia []) (λ (s : CallStep). DteGood s u v b mb ib)
-      (λ may. record { quiet = refl; kept = placed may })
-      (λ _. dte_still (record { phase = Unused; made = ma; indicated = ia }) u v b mb ib h)
-
-  -- the DTE acts
-  pub dte_acts : Laws → (a : Phase) (b : Stage B) (ma ia mb ib : List CallRequest) (u v : List Packet) (act : CallAct) → DteJoint a b ma ia mb ib u v
-      → DteGood (phase_acts a ma ia act) u v b mb ib
-  dte_acts laws Unused Free ma ia mb ib u v (PlacesCall n) h =
-      dte_places Free n ma ia mb ib u v h (λ may. (call_first ma n u h.0 h.2, h.1, h.3, h.4, h.5, proposes ma n h.2 may))
-  dte_acts laws Unused (Calling q) ma ia mb ib u v (PlacesCall n) h =
-      dte_places (Calling q) n ma ia mb ib u v h (λ may. (call_first ma n u h.0 h.2, h.1, h.3, h.4, proposes ma n h.2 may))
-  dte_acts laws Unused other ma ia mb ib u v (PlacesCall n) h = absurd h
-  dte_acts laws Unused b ma ia mb ib u v act h = dte_still (record { phase = Unused; made = ma; indicated = ia }) u v b mb ib h
-  dte_acts laws (Waiting p) b ma ia mb ib u v act h = dte_still (record { phase = Waiting p; made = ma; indicated = ia }) u v b mb ib h
-  dte_acts laws (Offered p) (Calling q) ma ia mb ib u v (AcceptsCall answer) h = dte_accepts laws q p answer ma ia mb ib u v h
-  dte_acts laws (Offered p) other ma ia mb ib u v (AcceptsCall answer) h = absurd h
-  dte_acts laws (Offered p) b ma ia mb ib u v act h = dte_still (record { phase = Offered p; made = ma; indicated = ia }) u v b mb ib h
-  dte_acts laws (Crossed p) b ma ia mb ib u v act h = dte_still (record { phase = Crossed p; made = ma; indicated = ia }) u v b mb ib h
-  dte_acts laws (Talking t b x) (Calling q) ma ia mb ib u v (Talks act) h =
-      let some = Accepted-some q t b (λ w. R t b x w [] b t y₀) u h.0 in
-      record {
-        quiet = (talks.acts t b x some.0 [] b t y₀ act some.1).quiet;
-        kept = (
-          Accepted-map q t b (λ w. R t b x w [] b t y₀) (λ w. R t b (transfer_acts t x act).next w [] b t y₀) (transfer_acts t x act).out
-              (λ w k. (talks.acts t b x w [] b t y₀ act k).kept) u h.0,
-          h.1,
-          h.2,
-          h.3,
-        );
-      }
-  dte_acts laws (Talking t b x) (InData t₂ b₂ y) ma ia mb ib u v (Talks act) h =
-      let good : OwnTalk R t b (transfer_acts t x act) u v t₂ b₂ y = talks.acts t b x u v t₂ b₂ y act h.0 in
-      record { quiet = good.quiet; kept = (good.kept, h.1) }
-  dte_acts laws (Talking t b x) other ma ia mb ib u v (Talks act) h = absurd h
-  dte_acts laws (Talking t b x) c ma ia mb ib u v act h = dte_still (record { phase = Talking t b x; made = ma; indicated = ia }) u v c mb ib h
-
--- ---- our own end is the DCE
+  pub dte_acts : Laws → (v : List Packet) (act : CallAct) → OwnDteNow v (stage_of x.phase) → IsGood (OwnDte v) (call_acts x act)
+  dte_acts laws v act h =
+      own_done (OwnDte v) x.made x.indicated laws x.phase act (dte_still R fresh_transfer y₀ (stage_of x.phase) b x.made x.indicated mb ib u v h)
+      (λ is n may. dte_calls R fresh_transfer y₀ b n x.made x.indicated mb ib u v may (subst (OwnDteNow v) is h))
+      (λ theirs is q field agrees. dte_answers R fresh_transfer y₀ b theirs q field x.made x.indicated mb ib u v agrees talks.fresh (subst (OwnDteNow v) is h))
+      (λ t k s is act. (
+      let now : OwnDteNow v (InData t k s) = subst (OwnDteNow v) is h in
+      let does = transfer_acts t s act in (
+        dte_some R fresh_transfer y₀ t k s (does.error ≡ None) b x.made x.indicated mb ib u v (λ w z t₂ k₂ y r. (talks.acts t k s w z t₂ k₂ y act r).quiet) now,
+        dte_moves R fresh_transfer y₀ t k s b does.next does.out x.made x.indicated mb ib u v (λ w z t₂ k₂ y r. (talks.acts t k s w z t₂ k₂ y act r).kept) now,
+      )))
 
 pub record OwnTalkBack {A : Type 0} (R : TalksOf A (At Stretch)) (t b : Terms) (x : A) (u v : List Packet) (t₂ b₂ : Terms) (s : TransferStep) : Type 0 where
   pub quiet : s.error ≡ None
@@ -251,160 +408,29 @@ pub record DceTalks {A : Type 0} (R : TalksOf A (At Stretch)) (x₀ : A) : Type 
   pub acts : (t b : Terms) (x : A) (u v : List Packet) (t₂ b₂ : Terms) (y : At Stretch) (act : TransferAct) → R t b x u v t₂ b₂ y
       → OwnTalkBack R t b x u v t₂ b₂ (transfer_acts t₂ y act)
 
-pub record DceGoodOf {A : Type 0} (R : TalksOf A (At Stretch)) (x₀ : A) (a : Stage A) (ma ia : List CallRequest) (u v : List Packet) (s : CallStep) : Type 0 where
-  pub quiet : s.error ≡ None
-  pub kept : JointOf R x₀ fresh_transfer a (stage_of s.next.phase) ma ia s.next.made s.next.indicated u (v ++ s.out)
+module _ {A : Type 0} (R : TalksOf A (At Stretch)) (x₀ : A) (talks : DceTalks R x₀) (y : Connection) (a : Stage A) (ma ia : List CallRequest) (v : List Packet) where
+  abbrev OwnDce : List Packet → Stage (At Stretch) → List CallRequest → List CallRequest → List Packet → Type 0
+  OwnDce u b m i o = JointOf R x₀ fresh_transfer a b ma ia m i u (v ++ o)
 
-module _ {A : Type 0} (R : TalksOf A (At Stretch)) (x₀ : A) (talks : DceTalks R x₀) where
-  abbrev DceJoint : Stage A → Phase → List CallRequest → List CallRequest → List CallRequest → List CallRequest → List Packet → List Packet → Type 0
-  DceJoint a b ma ia mb ib u v = JointOf R x₀ fresh_transfer a (stage_of b) ma ia mb ib u v
+  abbrev OwnDceNow : List Packet → Stage (At Stretch) → Type 0
+  OwnDceNow u b = JointOf R x₀ fresh_transfer a b ma ia y.made y.indicated u v
 
-  abbrev DceGood : Stage A → List CallRequest → List CallRequest → List Packet → List Packet → CallStep → Type 0
-  DceGood a ma ia u v s = DceGoodOf R x₀ a ma ia u v s
+  pub dce_takes : (p : Packet) (u : List Packet) → OwnDceNow (p ∷ u) (stage_of y.phase) → IsGood (OwnDce u) (call_takes Dce y p)
+  dce_takes p u h =
+      let g = dce_taken R x₀ fresh_transfer own_next own_out OwnFine (λ t k s w q z t₂ k₂ e r. (let good = talks.takes t k s w q z t₂ k₂ e r in (good.quiet, good.kept))) a (stage_of y.phase) ma ia y.made y.indicated u p v h in
+      own_taken (OwnDce u) y.made y.indicated Dce y.phase p g.0 g.1
 
-  dce_still : (a : Stage A) (ma ia : List CallRequest) (u v : List Packet) (x : Connection) → DceJoint a x.phase ma ia x.made x.indicated u v → DceGood a ma ia u v (record { next = x; out = []; error = None })
-  dce_still a ma ia u v x h = record { quiet = refl; kept = subst (λ (w : List Packet). DceJoint a x.phase ma ia x.made x.indicated u w) (sym (append-nil v)) h }
-
-  -- the DCE takes an ACCEPT
-  dce_answered : (q : Params) (field : List ℕ) (ma ia mb ib : List CallRequest) (u v : List Packet) (t b : Terms) (x : A) → IsAnswer q field t b → Nil v
-      → R t b x u [] b t fresh_transfer → ia ≡ mb → ib ≡ [] → DceGood (InData t b x) ma ia u v (is_answered (Waiting q) q mb ib (said_in q field))
-  dce_answered q field ma ia mb ib u v t b x answer none talk there indicated =
-      let p : Params = said_in q field in
-      subst (λ (c : Bool). DceGood (InData t b x) ma ia u v (if c then goes (calling_talk p) mb ib [] else unexpected (Waiting q) mb ib)) (sym answer.allowed)
-      (dce_still (InData t b x) ma ia u v (record { phase = calling_talk p; made = mb; indicated = ib }) (
-        subst (λ (s : Terms). R t b x u v s (called_terms p) fresh_transfer) answer.calling (subst (λ (s : Terms). R t b x u v b s fresh_transfer) answer.called
-            (subst (λ (w : List Packet). R t b x u w b t fresh_transfer) (sym (nil_is v none)) talk)),
-        inr (there, indicated),
-      ))
-
-  -- the DCE takes a packet
-  pub dce_takes : (a : Stage A) (b : Phase) (ma ia mb ib : List CallRequest) (u : List Packet) (p : Packet) (v : List Packet) → DceJoint a b ma ia mb ib (p ∷ u) v
-      → DceGood a ma ia u v (phase_takes Dce b mb ib p)
-  dce_takes (Calling mine) Unused ma ia mb ib u (Call n) v h =
-      dce_still (Calling mine) ma ia u v (record { phase = Offered n.params; made = mb; indicated = ib ++ n ∷ [] })
-      (h.0.1, subst (λ (w : List Packet). MaybeCall mb w) (sym (nil_is v h.1)) h.3, h.2, push_first ib n ma h.4 h.0.0, said ma n mine h.0.0 h.5)
-  dce_takes (Calling mine) Unused ma ia mb ib u other v h = absurd h.0
-  dce_takes (Calling mine) (Waiting q) ma ia mb ib u (Call n) v h =
-      dce_still (Calling mine) ma ia u v (record { phase = Offered n.params; made = mb; indicated = ib ++ n ∷ [] })
-      (h.0.1, maybe mb v h.1, h.2, push_first ib n ma h.3 h.0.0, said ma n mine h.0.0 h.4)
-    where
-      maybe : (m : List CallRequest) (v : List Packet) → OneCall m v → MaybeCall m v
-      maybe m [] h = absurd h
-      maybe m (p ∷ v) h = h
-  dce_takes (Calling mine) (Waiting q) ma ia mb ib u other v h = absurd h.0
-  dce_takes (Collided mine) (Waiting q) ma ia mb ib u (Call n) v h =
-      dce_still (Collided mine) ma ia u v (record { phase = Offered n.params; made = mb; indicated = ib ++ n ∷ [] })
-      (h.0.1, h.1, h.2, push_first ib n ma h.3 h.0.0, said ma n mine h.0.0 h.4)
-  dce_takes (Collided mine) (Waiting q) ma ia mb ib u other v h = absurd h.0
-  dce_takes (InData t b x) (Waiting q) ma ia mb ib u (Accept field) v h = dce_answered q field ma ia mb ib u v t b x h.0.0 h.1 h.0.1 h.2 h.3
-  dce_takes (InData t b x) (Waiting q) ma ia mb ib u other v h = absurd h.0
-  dce_takes (InData t b x) (Talking t₂ b₂ y) ma ia mb ib u p v h =
-      let good : OwnTalkBack R t b x u v t₂ b₂ (transfer_takes b₂.size y p) = talks.takes t b x u p v t₂ b₂ y h.0 in
-      record { quiet = good.quiet; kept = (good.kept, h.1) }
-  dce_takes Free Unused ma ia mb ib u p v h = absurd h.0
-  dce_takes Free (Waiting q) ma ia mb ib u p v h = absurd h.0
-  dce_takes Free other ma ia mb ib u p v h = absurd h
-  dce_takes (Calling mine) (Offered q) ma ia mb ib u p v h = absurd h.0
-  dce_takes (Calling mine) (Crossed q) ma ia mb ib u p v h = absurd h
-  dce_takes (Calling mine) (Talking t b y) ma ia mb ib u p v h = absurd h.0
-  dce_takes (Called theirs) (Waiting q) ma ia mb ib u p v h = absurd h.0
-  dce_takes (Called theirs) other ma ia mb ib u p v h = absurd h
-  dce_takes (Collided mine) Unused ma ia mb ib u p v h = absurd h
-  dce_takes (Collided mine) (Offered q) ma ia mb ib u p v h = absurd h.0
-  dce_takes (Collided mine) (Crossed q) ma ia mb ib u p v h = absurd h
-  dce_takes (Collided mine) (Talking t b y) ma ia mb ib u p v h = absurd h.0
-  dce_takes (InData t b x) other ma ia mb ib u p v h = absurd h
-
-  -- the DCE accepts
-
-  dce_accepted : (a : Stage A) (mine answer : Params) (field : List ℕ) (ma ia mb ib : List CallRequest) (u v : List Packet) → Agreed mine answer field
-      → (IsAnswer mine field (called_terms answer) (calling_terms answer)
-      → R (calling_terms answer) (called_terms answer) x₀ [] [] (called_terms answer) (calling_terms answer) fresh_transfer
-      → DceJoint a (called_talk answer) ma ia mb ib u (v ++ Accept field ∷ []))
-      → DceGood a ma ia u v (goes (called_talk answer) mb ib (Accept field ∷ []))
-  dce_accepted a mine answer field ma ia mb ib u v may joint = record {
-    quiet = refl;
-    kept = joint may.fits (talks.fresh (calling_terms answer) (called_terms answer) may.terms.calling may.terms.called);
-  }
-
-  dce_accepts : Laws → (a : Stage A) (mine theirs : Params) (answer : Option Proposal) (ma ia mb ib : List CallRequest) (u v : List Packet) → IsProposal mine theirs → DceJoint a (Offered theirs) ma ia mb ib u v
-      → ((q : Params) (field : List ℕ) → IsAnswer mine field (called_terms q) (calling_terms q)
-      → R (calling_terms q) (called_terms q) x₀ [] [] (called_terms q) (calling_terms q) fresh_transfer
-      → DceJoint a (called_talk q) ma ia mb ib u (v ++ Accept field ∷ []))
-      → DceGood a ma ia u v (accepts theirs mb ib answer)
-  dce_accepts laws a mine theirs None ma ia mb ib u v is h joint =
-      dce_accepted a mine theirs [] ma ia mb ib u v (as_proposed laws mine theirs is) (joint theirs [])
-  dce_accepts laws a mine theirs (Some answer) ma ia mb ib u v is h joint =
-      cond_both (may_answer theirs answer.params) (goes (called_talk answer.params) mb ib (Accept (field_for theirs answer) ∷ [])) (goes (Offered theirs) mb ib []) (λ (s : CallStep). DceGood a ma ia u v s)
-      (λ may. dce_accepted a mine answer.params (field_for theirs answer) ma ia mb ib u v (as_answered laws mine theirs answer is may) (joint answer.params (field_for theirs answer)))
-      (λ _. dce_still a ma ia u v (record { phase = Offered theirs; made = mb; indicated = ib }) h)
-
-  -- the DCE calls
-
-  dce_places : (a : Stage A) (n : CallRequest) (ma ia mb ib : List CallRequest) (u v : List Packet) → DceJoint a Unused ma ia mb ib u v
-      → (may_propose n.params ≡ true → DceJoint a (Waiting n.params) ma ia (mb ++ n ∷ []) ib u (v ++ Call n ∷ []))
-      → DceGood a ma ia u v (phase_acts Unused mb ib (PlacesCall n))
-  dce_places a n ma ia mb ib u v h placed =
-      cond_both (may_propose n.params) (goes (Waiting n.params) (mb ++ n ∷ []) ib (Call n ∷ [])) (goes Unused mb ib []) (λ (s : CallStep). DceGood a ma ia u v s)
-      (λ may. record { quiet = refl; kept = placed may })
-      (λ _. dce_still a ma ia u v (record { phase = Unused; made = mb; indicated = ib }) h)
-
-  -- the DCE acts
-  pub dce_acts : Laws → (a : Stage A) (b : Phase) (ma ia mb ib : List CallRequest) (u v : List Packet) (act : CallAct) → DceJoint a b ma ia mb ib u v
-      → DceGood a ma ia u v (phase_acts b mb ib act)
-  dce_acts laws Free Unused ma ia mb ib u v (PlacesCall n) h =
-      dce_places Free n ma ia mb ib u v h (λ may. (h.0, call_first mb n v h.1 h.4, h.2, h.3, h.5, proposes mb n h.4 may))
-  dce_acts laws (Calling p) Unused ma ia mb ib u v (PlacesCall n) h =
-      dce_places (Calling p) n ma ia mb ib u v h (λ may. (h.0, call_first mb n v h.1 h.3, h.2, h.4, h.5))
-  dce_acts laws other Unused ma ia mb ib u v (PlacesCall n) h = absurd h
-  dce_acts laws a Unused ma ia mb ib u v act h = dce_still a ma ia u v (record { phase = Unused; made = mb; indicated = ib }) h
-  dce_acts laws a (Waiting q) ma ia mb ib u v act h = dce_still a ma ia u v (record { phase = Waiting q; made = mb; indicated = ib }) h
-  dce_acts laws (Calling p) (Offered q) ma ia mb ib u v (AcceptsCall answer) h =
-      dce_accepts laws (Calling p) p q answer ma ia mb ib u v h.4 h (λ a field fits talk. (
-        h.0,
-        accept_behind mb p (called_terms a) (calling_terms a) (λ w. R (calling_terms a) (called_terms a) x₀ [] w (called_terms a) (calling_terms a) fresh_transfer) field v h.1 fits talk,
-        h.2,
-        h.3,
-      ))
-  dce_acts laws (Collided p) (Offered q) ma ia mb ib u v (AcceptsCall answer) h =
-      dce_accepts laws (Collided p) p q answer ma ia mb ib u v h.4 h (λ a field fits talk. (
-        h.0,
-        accept_first p (called_terms a) (calling_terms a) (λ w. R (calling_terms a) (called_terms a) x₀ [] w (called_terms a) (calling_terms a) fresh_transfer) field v h.1 fits talk,
-        h.2,
-        h.3,
-      ))
-  dce_acts laws other (Offered q) ma ia mb ib u v (AcceptsCall answer) h = absurd h
-  dce_acts laws a (Offered q) ma ia mb ib u v act h = dce_still a ma ia u v (record { phase = Offered q; made = mb; indicated = ib }) h
-  dce_acts laws a (Crossed q) ma ia mb ib u v act h = dce_still a ma ia u v (record { phase = Crossed q; made = mb; indicated = ib }) h
-  dce_acts laws (Calling p) (Talking t b y) ma ia mb ib u v (Talks act) h =
-      let some = CallAccepted-some p t b (λ w. R b t x₀ [] w t b y) mb v h.1 in
-      record {
-        quiet = (talks.acts b t x₀ [] some.0 t b y act some.1).quiet;
-        kept = (
-          h.0,
-          CallAccepted-map p t b (λ w. R b t x₀ [] w t b y) (λ w. R b t x₀ [] w t b (transfer_acts t y act).next) (transfer_acts t y act).out
-              (λ w k. (talks.acts b t x₀ [] w t b y act k).kept) mb v h.1,
-          h.2,
-          h.3,
-        );
-      }
-  dce_acts laws (Collided p) (Talking t b y) ma ia mb ib u v (Talks act) h =
-      let some = Accepted-some p t b (λ w. R b t x₀ [] w t b y) v h.1 in
-      record {
-        quiet = (talks.acts b t x₀ [] some.0 t b y act some.1).quiet;
-        kept = (
-          h.0,
-          Accepted-map p t b (λ w. R b t x₀ [] w t b y) (λ w. R b t x₀ [] w t b (transfer_acts t y act).next) (transfer_acts t y act).out
-              (λ w k. (talks.acts b t x₀ [] w t b y act k).kept) v h.1,
-          h.2,
-          h.3,
-        );
-      }
-  dce_acts laws (InData t b x) (Talking t₂ b₂ y) ma ia mb ib u v (Talks act) h =
-      let good : OwnTalkBack R t b x u v t₂ b₂ (transfer_acts t₂ y act) = talks.acts t b x u v t₂ b₂ y act h.0 in
-      record { quiet = good.quiet; kept = (good.kept, h.1) }
-  dce_acts laws other (Talking t b y) ma ia mb ib u v (Talks act) h = absurd h
-  dce_acts laws a (Talking t b y) ma ia mb ib u v act h = dce_still a ma ia u v (record { phase = Talking t b y; made = mb; indicated = ib }) h
+  pub dce_acts : Laws → (u : List Packet) (act : CallAct) → OwnDceNow u (stage_of y.phase) → IsGood (OwnDce u) (call_acts y act)
+  dce_acts laws u act h =
+      own_done (OwnDce u) y.made y.indicated laws y.phase act (dce_still R x₀ fresh_transfer a (stage_of y.phase) ma ia y.made y.indicated u v h)
+      (λ is n may. dce_calls R x₀ fresh_transfer a n ma ia y.made y.indicated u v may (subst (OwnDceNow u) is h))
+      (λ theirs is q field agrees. dce_answers R x₀ fresh_transfer a theirs q field ma ia y.made y.indicated u v agrees talks.fresh (subst (OwnDceNow u) is h))
+      (λ t k s is act. (
+      let now : OwnDceNow u (InData t k s) = subst (OwnDceNow u) is h in
+      let does = transfer_acts t s act in (
+        dce_some R x₀ fresh_transfer t k s (does.error ≡ None) a ma ia y.made y.indicated u v (λ w z t₁ k₁ e r. (talks.acts t₁ k₁ e w z t k s act r).quiet) now,
+        dce_moves R x₀ fresh_transfer t k s a does.next does.out ma ia y.made y.indicated u v (λ w z t₁ k₁ e r. (talks.acts t₁ k₁ e w z t k s act r).kept) now,
+      )))
 
 -- ---- what has to be known of p4, from what is known of a stretch
 
