@@ -61,11 +61,11 @@ def tcp(to_server, sequence, octets, flags=0x10, port=1998, wanted=0):
     return struct.pack(">HHIIBBHHH", *ends, sequence % (1 << 32), wanted, 5 << 4, flags, 1000, 0, 0) + octets
 
 
-def ipv4(to_server, segment, fragment=0, client=1):
-    """A packet of IPv4 with a segment; clients are told apart by the last octet of their address."""
+def ipv4(to_server, segment, fragment=0, client=1, number=0):
+    """A packet of IPv4 with a segment, or part of one; clients are told apart by the last octet of their address."""
     ends = (b"\x0a\x00\x00" + bytes([client]), b"\x0a\x00\x00\x02")
     source, target = ends if to_server else ends[::-1]
-    return struct.pack(">BBHHHBBH", 0x45, 0, 20 + len(segment), 0, fragment, 64, 6, 0) + source + target + segment
+    return struct.pack(">BBHHHBBH", 0x45, 0, 20 + len(segment), number, fragment, 64, 6, 0) + source + target + segment
 
 
 def ipv6(to_server, segment):
@@ -74,6 +74,12 @@ def ipv6(to_server, segment):
     source, target = ends if to_server else ends[::-1]
     extended = struct.pack(">BBHI", 6, 0, 0x0104, 0) + segment
     return struct.pack(">IHBB", 6 << 28, len(extended), 60, 64) + source + target + extended
+
+
+def ipv6_fragment(segment, place, number=1):
+    """A fragment of IPv6, to the server, with what stands at that place of a segment; its lowest bit is 1 where more come."""
+    extended = struct.pack(">BBHI", 6, 0, place, number) + segment
+    return struct.pack(">IHBB", 6 << 28, len(extended), 44, 64) + b"\xfe\x80" + bytes(13) + b"\x01" + b"\xfe\x80" + bytes(13) + b"\x02" + extended
 
 
 def ethernet(packet, kind=0x0800, tags=b""):

@@ -12,7 +12,7 @@ import support
 from support import ToolCase
 
 import golden
-from x25tools import ahead, captures, pcap2x25, x25lines, xot
+from x25tools import ahead, captures, ip, pcap2x25, x25lines, xot
 
 SABM, UA = bytes.fromhex("013f"), bytes.fromhex("0173")
 SET_UP = b"> 013febdf\n< 01738357\n"
@@ -230,19 +230,40 @@ class XotStreams(unittest.TestCase):
             self.assertEqual([line if line[2:] == ".." else line[6:-4] for line in text.splitlines()], [CALL.hex(), ACCEPT.hex(), "> ..", CALL.hex()])
             self.assertEqual(notes, {"gap in a connection, octets that weren't captured": 1, xot.WITHIN: 1})
 
-    def test_fragments_are_told(self):
-        head = samples.tcp(True, 1, self.call, port=1998)
+    def test_fragments_are_put_together(self):
+        """In any order, one twice, those of other packets between them."""
+        head, answer = samples.tcp(True, 1, self.call), samples.tcp(False, 1, self.accept)
+        first, second, third = samples.ipv4(True, head[:16], 0x2000), samples.ipv4(True, head[16:32], 0x2002), samples.ipv4(True, head[32:], 4)
+        other = samples.ipv4(True, head[:16], 0x2000, number=1)
+        for packets in ([first, second, third], [third, first, first, second], [other, second, third, first]):
+            packets = [*packets, samples.ipv4(False, answer)]
+            text, notes = lines(samples.pcap([(0, 0, samples.ethernet(packet)) for packet in packets], link_type=1))
+            self.assertEqual(text, self.expected)
+            self.assertEqual(notes, {xot.FRAGMENT: 1} if other in packets else {})
+        sixth = [samples.ipv6_fragment(head[24:], 24), samples.ipv6_fragment(head[:24], 1)]
+        text, notes = lines(samples.pcap([(0, 0, samples.ethernet(packet, 0x86DD)) for packet in sixth], link_type=1))
+        self.assertEqual((text, notes), (self.expected.splitlines(True)[0], {}))
+
+    def test_fragments_that_stay_alone_are_told(self):
+        head = samples.tcp(True, 1, self.call)
         other = samples.tcp(True, 1, self.call, port=80)
         for packets, count in (
-            ([samples.ipv4(True, head[:24], 0x2000), samples.ipv4(True, head[24:], 3)], 1),
+            ([samples.ipv4(True, head[:24], 0x2000)], 1),
+            ([samples.ipv4(True, head[:24], 0x2000), samples.ipv4(True, head[32:], 4)], 1),
             ([samples.ipv4(True, samples.tcp(True, 1, self.call)), samples.ipv4(True, head[24:], 3), samples.ipv4(False, head[24:], 3)], 1),
+            ([samples.ipv4(True, head[:24], 0x2000), samples.ipv4(True, head[24:], 3)[:-1]], 1),
             ([samples.ipv4(True, other[:24], 0x2000), samples.ipv4(True, other[24:], 3)], 0),
         ):
-            notes = lines(samples.pcap([(0, 0, samples.ethernet(packet)) for packet in packets], link_type=1))[1]
-            self.assertEqual(notes, {xot.FRAGMENT: count} if count else {})
-        payload = bytes([6, 0, 0, 1]) + bytes(4) + head
-        sixth = bytes([0x60, 0, 0, 0]) + len(payload).to_bytes(2, "big") + bytes([44, 64]) + bytes(32) + payload
-        self.assertEqual(lines(samples.pcap([(0, 0, samples.ethernet(sixth, 0x86DD))], link_type=1))[1], {xot.FRAGMENT: 1})
+            records = [(0, 0, bytes(12) + b"\x08\x00" + packet) for packet in packets]
+            self.assertEqual(lines(samples.pcap(records, link_type=1))[1], {xot.FRAGMENT: count} if count else {})
+
+    def test_few_fragments_are_held(self):
+        """The fragments of 65 packets: of the first one the rest comes too late."""
+        head = samples.tcp(True, 1, self.call)
+        begun = [samples.ipv4(True, head[:24], 0x2000, number=number) for number in range(ip.MOST_IN_FRAGMENTS + 1)]
+        ended = [samples.ipv4(True, head[24:], 3, number=number) for number in (1, 0)]
+        text, notes = lines(samples.pcap([(0, 0, samples.ethernet(packet)) for packet in begun + ended], link_type=1))
+        self.assertEqual((text, notes), (self.expected.splitlines(True)[0], {xot.FRAGMENT: ip.MOST_IN_FRAGMENTS + 1}))
 
     def test_a_connection_that_is_no_xot_is_told_once(self):
         text, notes = self.read([(True, 0, b"", 2), (True, 1, b"GET / HTTP/1.0\r\n"), (True, 17, self.call)])

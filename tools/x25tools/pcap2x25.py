@@ -10,7 +10,7 @@ Link types that are read:
   196        SITA, where it holds LAPB; so what x25pcap.py writes, too
   1, 113, 276
              Ethernet and Linux's cooked captures: LAPB over Ethernet as Linux speaks it (lapbether, type 6000), packets of X.25
-             over LLC (access point 7e), and X.25 over TCP as routers speak it (XOT, RFC 1613, port 1998)
+             over LLC (access point 7e), and X.25 over TCP as routers speak it (XOT, RFC 1613, port 1998), in fragments of IP, too
   0, 108, 101, 12, 14, 228, 229
              loopback and IP itself: XOT
   --lapb N   any other that holds frames of LAPB and nothing else (147 is the first of those for private use)
@@ -41,7 +41,7 @@ import sys
 from collections import Counter
 from typing import Callable, Iterable, Iterator
 
-from x25tools import captures, lan, x25lines, xot
+from x25tools import captures, ip, lan, x25lines, xot
 from x25tools.x25lines import OTHER, BadInput
 
 LAPB_WITH_DIRECTION, SITA = 207, 196
@@ -130,7 +130,7 @@ class Converter:
         self._found: Found = [], [], []
         self._number = self._now = 0
         self._readers: dict[int, Callable[..., None]] = {kind: self._lan for kind in lan.HEADERS}
-        self._readers |= {kind: self._ip for kind in xot.IP_AT}
+        self._readers |= {kind: self._ip for kind in ip.AT}
         self._readers |= {LAPB_WITH_DIRECTION: self._with_direction, SITA: self._sita}
         if options.lapb is not None:
             self._readers[options.lapb] = self._bare
@@ -173,7 +173,7 @@ class Converter:
 
     def _ip(self, link_type: int, octets: bytes, *_: object) -> None:
         """Packets of IP, with or without a header of their own: XOT."""
-        self._add_streams(self._xot.take(octets[xot.IP_AT[link_type] :]))
+        self._add_streams(self._xot.take(octets[ip.AT[link_type] :]))
 
     def _lan(self, link_type: int, octets: bytes, is_cut: bool, *_: object) -> None:
         """Ethernet and cooked captures: frames of lapbether, packets of LLC and of XOT."""

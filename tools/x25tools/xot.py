@@ -9,88 +9,37 @@ import ipaddress
 import struct
 from collections import Counter
 
+from x25tools import ip
+
 XOT_PORT = 1998
-# What a packet of IP carries; and the ends of a segment: addresses, and ports.
-Carried = tuple[int, bytes, bytes, bytes, int]
+# The ends of a segment: addresses, and ports.
 Ends = tuple[bytes, bytes, int, int]
 
-RAW_IP, OLD_RAW_IP, OTHER_RAW_IP, IPV4, IPV6 = 101, 12, 14, 228, 229
-NULL, LOOP = 0, 108
-TCP, IPV6_FRAGMENT = 6, 44
-# Extension headers of IPv6 that say their own length in the same way.
-EXTENSIONS = (0, 43, 60)
-MOST_EXTENSIONS = 8
-
+TCP = 6
 SYN, ACK = 2, 16
 WITHIN = "segment that begins within a packet, after a gap or where the capture begins within a connection"
-FRAGMENT = "fragment of IP, of which nothing is read"
+FRAGMENT = "fragment of IP whose packet wasn't captured whole"
 # How much is held of a connection while a segment is missing, and of how many connections.
 MOST_SEGMENTS, MOST_STREAMS = 256, 4096
 SEQUENCES = 1 << 32
 # What a packet modulo 8 or 128 begins with, of its format; and the longest.
 FORMATS, FORMAT, MOST_PACKET = (0x10, 0x20), 0x30, 4_099
 
-
-# For each link type that holds IP and no addresses of a local network, the octets of its header.
-IP_AT = {NULL: 4, LOOP: 4, **dict.fromkeys((RAW_IP, OLD_RAW_IP, OTHER_RAW_IP, IPV4, IPV6), 0)}
+_TCP, _HEADER, _PORTS = (struct.Struct(form).unpack_from for form in (">HHIIBB", ">HH", ">HH"))
 
 
-_IPV4, _TCP, _HEADER = (struct.Struct(form).unpack_from for form in (">BxHxxHxB2x4s4s", ">HHIIBB", ">HH"))
-
-
-def _of_ipv4(octets: bytes) -> Carried | None:
-    """What a packet of IPv4 carries: protocol, source, target, octets, and their length, of which some may not be captured; None where it is
-    none, or a fragment."""
-    if len(octets) < 20:
+def segment(carried: ip.Carried) -> tuple[Ends, int, int, int, bytes, int] | None:
+    """The segment of TCP that a packet of IP carries: its ends (addresses and ports, source and target), where its octets stand in the stream, where
+    those stand that its sender wants next, its flags, its octets, and how many of these weren't captured; None where it carries none."""
+    tcp, length = carried.octets, carried.length
+    if carried.protocol != TCP or len(tcp) < 20:
         return None
-    first, total, fragment, protocol, source, target = _IPV4(octets)
-    header = 4 * (first & 0xF)
-    if header < 20 or total < header or fragment & 0x3FFF:
-        return None
-    return protocol, source, target, octets[header:total], total - header
-
-
-def _of_ipv6(octets: bytes) -> Carried | None:
-    """The same of a packet of IPv6, after its extension headers."""
-    if len(octets) < 40:
-        return None
-    protocol, length = octets[6], int.from_bytes(octets[4:6], "big")
-    source, target, payload = octets[8:24], octets[24:40], octets[40 : 40 + length]
-    for _ in range(MOST_EXTENSIONS):
-        if protocol not in EXTENSIONS or len(payload) < 8:
-            break
-        protocol, header = payload[0], 8 * (payload[1] + 1)
-        payload, length = payload[header:], length - header
-    return protocol, source, target, payload, length
-
-
-_READERS = {4: _of_ipv4, 6: _of_ipv6}
-
-
-def fragment(octets: bytes) -> tuple[bytes, bytes, bytes] | None:
-    """Source, target and, of the first one of a segment, ports of a fragment of IP that holds TCP; None of what is none."""
-    if len(octets) >= 20 and octets[0] >> 4 == 4 and octets[9] == TCP and (at := _IPV4(octets)[2] & 0x3FFF):
-        header = 4 * (octets[0] & 0xF)
-        return octets[12:16], octets[16:20], b"" if at & 0x1FFF else octets[header : header + 4]
-    if len(octets) >= 48 and octets[0] >> 4 == 6 and octets[6] == IPV6_FRAGMENT and octets[40] == TCP:
-        return octets[8:24], octets[24:40], b"" if int.from_bytes(octets[42:44], "big") >> 3 else octets[48:52]
-    return None
-
-
-def segment(octets: bytes) -> tuple[Ends, int, int, int, bytes, int] | None:
-    """The segment of TCP in a packet of IP: its ends (addresses and ports, source and target), where its octets stand in the stream, where those
-    stand that its sender wants next, its flags, its octets, and how many of these weren't captured; None where it holds none."""
-    read = _READERS.get(octets[0] >> 4 if octets else 0)
-    payload = read(octets) if read else None
-    if payload is None or payload[0] != TCP or len(payload[3]) < 20:
-        return None
-    _, source, target, tcp, length = payload
     source_port, target_port, sequence, wanted, words, flags = _TCP(tcp)
     header = words >> 4 << 2
     if not 20 <= header <= length:
         return None
     missing = length - len(tcp) if len(tcp) > header else length - header
-    return (source, target, source_port, target_port), sequence, wanted, flags, tcp[header:], missing
+    return (carried.source, carried.target, source_port, target_port), sequence, wanted, flags, tcp[header:], missing
 
 
 class Stream:
@@ -239,17 +188,21 @@ class Xot:
     def __init__(self, port: int, notes: Counter[str], passed: Counter[str]) -> None:
         self._port = port
         self._streams: dict[Ends, Stream] = {}
+        self._fragments = ip.Fragments()
         self._notes = notes
         self._passed = passed
 
     def take(self, octets: bytes) -> list[tuple[Stream, list[bytes | None]]]:
         """Takes a packet of IP; answers the streams that have whole X.25 packets now, each with these."""
-        found = segment(octets)
+        carried = ip.carried(octets)
+        if carried and carried.is_fragment:
+            carried, given_up = self._fragments.take(carried)
+            self._tell(given_up)
+            if carried is None:
+                return []
+        found = segment(carried) if carried else None
         if found is None:
-            if self._is_fragment(octets):
-                self._notes[FRAGMENT] += 1
-            else:
-                self._passed["packet of IP without a whole segment of TCP"] += 1
+            self._passed["packet of IP without a whole segment of TCP"] += 1
             return []
         ends, sequence, wanted, flags, octets, missing = found
         if self._port not in ends[2:]:
@@ -268,16 +221,19 @@ class Xot:
         taken = [(back, back.taken(wanted))] if back else []
         return [*taken, (stream, stream.take(sequence, flags, octets)), *closed]
 
-    def _is_fragment(self, octets: bytes) -> bool:
-        """Whether a packet of IP is a fragment of what one end sent the other, or of a segment to or from the port."""
-        found = fragment(octets)
-        if found is None:
-            return False
-        source, target, ports = found
-        return self._port.to_bytes(2, "big") in (ports[:2], ports[2:]) or any(ends[:2] == (source, target) for ends in self._streams)
+    def _tell(self, fragments: list[ip.Carried]) -> None:
+        """Notes the fragments that hold some of what one end sent the other, or of a segment to or from the port."""
+        for part in fragments:
+            ports = () if part.at else _PORTS(part.octets) if len(part.octets) >= 4 else ()
+            is_ours = self._port in ports or any(ends[:2] == (part.source, part.target) for ends in self._streams)
+            if part.protocol == TCP and is_ours:
+                self._notes[FRAGMENT] += 1
+            else:
+                self._passed["packet of IP without a whole segment of TCP"] += 1
 
     def end(self) -> list[tuple[Stream, list[bytes | None]]]:
         """Ends all connections; answers what they still hold."""
+        self._tell(self._fragments.end())
         return [closed for ends in list(self._streams) for closed in self._close(ends)]
 
     def _close(self, ends: Ends) -> list[tuple[Stream, list[bytes | None]]]:
