@@ -58,9 +58,7 @@ class Lemmas(unittest.TestCase):
     """A crate is for those above it by its contracts: none cites lemmas of a lower crate, but these."""
 
     CITED = {
-        ("x25_wide", "x25_packet"): {"AddressLaws", "DigitLemmas"},
-        ("x25_given", "x25_packet"): {"AddressLaws"},
-        ("x25_given", "x25_wide"): {"AgainLaws", "FacilityLemmas"},
+        ("x25_given", "x25_packet"): {"AddressLaws", "AgainLaws", "FacilityLemmas"},
         ("x25_line", "x25_link"): {"EndLemmas"},
         ("x25_peer", "x25_line"): {"Meetings", "SessionSays", "SessionSeenRuns"},
         ("x25_world", "x25_peer"): {"Granted", "LinkSteps", "ReadLemmas", "SessionLayers"},

@@ -5,7 +5,7 @@ use Rattle.x25_packet.specs.Digits.{packed}
 use Rattle.x25_packet.specs.Packet.{call}
 use Rattle.x25_packet.specs.Reading.{packet_of}
 use Rattle.x25_packet.specs.Spelling.{spelling_of, addresses}
-use Rattle.x25_wide.specs.Block.{fields_octets}
+use Rattle.x25_packet.specs.Block.{fields_octets}
 use Rattle.x25_given.specs.Given.{PlainGiven}
 use Rattle.x25_given.specs.Writing.{fields, head_of, write, written_read}
 

@@ -11,17 +11,17 @@ use Rattle.x25_packet.specs.Reading.{packet_of}
 use Rattle.x25_packet.specs.Spelling as strict_spelling
 use Rattle.x25_packet.specs.declared.error.PacketError.{PacketError}
 use Rattle.x25_packet.specs.declared.facilities.Directions.{Directions}
-use Rattle.x25_wide.specs.Facilities.{class_b, none_own, own_in, with_facility, more_of, IsFacilityField}
-use Rattle.x25_wide.specs.declared.facilities.Own.{Own}
-use Rattle.x25_wide.specs.Narrowing.{field_said, narrow_of, narrowed, taken_of}
-use Rattle.x25_wide.specs.Packet.{PlainWide, call, accept, extended_clear}
-use Rattle.x25_wide.specs.Packet.Spelling.{spelling_of, may_have, IsPacket}
-use Rattle.x25_wide.specs.Reading.{wide_of}
-use Rattle.x25_wide.specs.Taking.{taken_in, or_taken}
-use Rattle.x25_wide.specs.laws.NarrowLaw.{ReadsAlike}
-use Rattle.x25_wide.specs.laws.TakingLaw.{TakesWhatIsSpelled}
-use Rattle.x25_wide.proofs.AgainLaws.{only_found}
-use Rattle.x25_wide.proofs.FacilityLemmas.{own_stepped}
+use Rattle.x25_packet.specs.WideFacilities.{class_b, none_own, own_in, with_facility, more_of, IsFacilityField}
+use Rattle.x25_packet.specs.declared.wide_facilities.Own.{Own}
+use Rattle.x25_packet.specs.Narrowing.{field_said, narrow_of, narrowed, taken_of}
+use Rattle.x25_packet.specs.WidePacket.{PlainWide, call, accept, extended_clear}
+use Rattle.x25_packet.specs.WidePacket.Spelling.{spelling_of, may_have, IsPacket}
+use Rattle.x25_packet.specs.WideReading.{wide_of}
+use Rattle.x25_packet.specs.Taking.{taken_in, or_taken}
+use Rattle.x25_packet.specs.laws.NarrowLaw.{ReadsAlike}
+use Rattle.x25_packet.specs.laws.TakingLaw.{TakesWhatIsSpelled}
+use Rattle.x25_packet.proofs.AgainLaws.{only_found}
+use Rattle.x25_packet.proofs.FacilityLemmas.{own_stepped}
 use Rattle.x25_given.specs.Given.{PlainGiven}
 use Rattle.x25_given.specs.Writing.{written, fields, bare_block, call_block, headed}
 use Rattle.x25_given.specs.laws.ReadingLaw.{MayGo, WrittenIsInForm, WrittenIsRead}

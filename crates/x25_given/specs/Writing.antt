@@ -7,10 +7,10 @@ use Rattle.x25_packet.specs.Packet.{PlainPacket, call, accept, clear}
 use Rattle.x25_packet.specs.Reading.{packet_of}
 use Rattle.x25_packet.specs.Spelling as plain
 use Rattle.x25_packet.specs.declared.error.PacketError.{PacketError}
-use Rattle.x25_wide.specs.Block.{PlainBlock, PlainFields}
-use Rattle.x25_wide.specs.Packet.{PlainKind, PlainWide}
-use Rattle.x25_wide.specs.Packet as wide
-use Rattle.x25_wide.specs.Packet.Spelling.{spelling_of}
+use Rattle.x25_packet.specs.Block.{PlainBlock, PlainFields}
+use Rattle.x25_packet.specs.WidePacket.{PlainKind, PlainWide}
+use Rattle.x25_packet.specs.WidePacket as wide
+use Rattle.x25_packet.specs.WidePacket.Spelling.{spelling_of}
 use Rattle.x25_given.specs.Given.{PlainGiven}
 
 abbrev pub fields : List ℕ → List ℕ → PlainFields

@@ -1,7 +1,7 @@
 ghost use Rattle.std.specs.Prelude.{◌≡◌};
 ghost use Rattle.x25_given.specs.Given.{may_give, plain_given};
 
-use x25_wide::{are_facilities, own_facilities};
+use x25_packet::{are_facilities, own_facilities};
 
 /// The most octets of facilities: a field has at most 109, and six are the station's own. ITU-T X.25 (10/96), section
 /// 7.1.

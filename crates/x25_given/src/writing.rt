@@ -2,7 +2,7 @@
 ghost use Rattle.std.specs.Prelude.{◌≡◌, ◌≤◌, ◌+◌, ◌/◌, ◌++◌, [], length, take, drop, vec_len, vec_capacity, true};
 ghost use Rattle.std.specs.Prelude.{Some};
 ghost use Rattle.std.specs.Prelude.{IfOk, IfSome, MatchOption};
-ghost use Rattle.x25_wide.specs.Block.{fields_octets};
+ghost use Rattle.x25_packet.specs.Block.{fields_octets};
 ghost use Rattle.x25_given.specs.Given.{may_give, plain_given};
 ghost use Rattle.x25_given.specs.Writing.{fields, head_of, write};
 
@@ -11,8 +11,7 @@ use crate::given::Given;
 use std::alloc::Global;
 use std::marker::Model;
 use x25_bits::{NoMemory, append_octets};
-use x25_packet::{Packet, decode_within};
-use x25_wide::FAST_SELECT_OCTETS;
+use x25_packet::{FAST_SELECT_OCTETS, Packet, decode_within};
 
 const CALL: u8 = 0x0B;
 

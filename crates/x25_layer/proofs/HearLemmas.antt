@@ -6,9 +6,9 @@ use Rattle.x25_packet.specs.declared.error.PacketError.{PacketError}
 use Rattle.x25_packet.specs.Packet.{PlainPacket, plain, call, accept, clear, clear_conf, user_data, rr, rnr, interrupt, interrupt_conf, reset, reset_conf, restart, restart_conf}
 use Rattle.x25_packet.specs.Reading.{packet_of, channel_in}
 use Rattle.x25_packet.specs.Spelling.{HasChannel, channel_of}
-use Rattle.x25_wide.specs.Reading.{Gives, wide_of}
-use Rattle.x25_wide.specs.Taking.{read_in}
-use Rattle.x25_wide.specs.laws.TakingLaw.{TakesOnItsChannel, TakesWithoutMemory}
+use Rattle.x25_packet.specs.WideReading.{Gives, wide_of}
+use Rattle.x25_packet.specs.Taking.{read_in}
+use Rattle.x25_packet.specs.laws.TakingLaw.{TakesOnItsChannel, TakesWithoutMemory}
 use Rattle.x25_layer.specs.Ranges.{is_number}
 use Rattle.x25_layer.specs.Layer.{LayerSettings, Layer, LayerAnswer, answers_in, undecoded_in, is_channel, put_at, drops}
 use Rattle.x25_layer.specs.Rounds.{answer_to, undecoded_at}

@@ -6,7 +6,7 @@ use Rattle.x25_packet.specs.declared.error.PacketError.{PacketError}
 use Rattle.x25_packet.specs.Packet.{PlainPacket}
 use Rattle.x25_packet.specs.Reading.{channel_in}
 use Rattle.x25_packet.specs.Spelling.{longest_user}
-use Rattle.x25_wide.specs.Taking.{read_in}
+use Rattle.x25_packet.specs.Taking.{read_in}
 use Rattle.x25_circuit.specs.Circuit.{Circuit}
 use Rattle.x25_layer.specs.declared.error.LayerError.{LayerError}
 use Rattle.x25_layer.specs.declared.error.LayerError.TheVariants as error

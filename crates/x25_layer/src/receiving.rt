@@ -1,7 +1,7 @@
 //! Octets that the link handed up. ITU-T X.25 (10/96), sections 3.3 and 4, and Annex C.
 ghost use Rattle.std.specs.Prelude.{◌≡◌, ℕ, ◌+◌, ◌<◌, ◌≤◌, [], length, true};
 ghost use Rattle.x25_packet.specs.Spelling.{longest_user};
-ghost use Rattle.x25_wide.specs.Taking.{read_in};
+ghost use Rattle.x25_packet.specs.Taking.{read_in};
 ghost use Rattle.x25_circuit.specs.code.PartialMessage.{spares};
 ghost use Rattle.x25_circuit.specs.code.Replies.{RepliesWith, Says, IsSendable, handed_over, notices_of, plain_owed};
 ghost use Rattle.x25_layer.specs.Layer.{LayerSettings, notices_on};
@@ -20,8 +20,7 @@ use crate::layer::Layer;
 use crate::report::Report;
 use x25_circuit::{Circuit, Notice, Octets, Reply};
 use x25_link::OrderedLink;
-use x25_packet::{Packet, PacketError, channel, longest_user};
-use x25_wide::{read, taking_keeps_octets};
+use x25_packet::{Packet, PacketError, channel, longest_user, read, taking_keeps_octets};
 
 // The circuit takes a packet, or octets that spell none, by their error.
 fn hear_circuit<'a>(
@@ -159,7 +158,7 @@ impl Layer {
     /// call.
     ///
     /// Without `wide` they are read in the form that a station writes alone. With it they are read in any form that
-    /// X.25 has, and taken for a packet of that form (`take` of `x25_wide`).
+    /// X.25 has, and taken for a packet of that form (`take` of `x25_packet`).
     ///
     /// No count is full, the link is up, fewer than 256 packets wait in it, it has 16 places, and it takes packets of
     /// 4,099 octets. Octets that spell no packet go to the channel that the first two name. They are dropped where they

@@ -5,5 +5,11 @@ pub mod Facilities
 pub mod Spelling
 pub mod Error
 pub mod Reading
+pub mod WideFacilities
+pub mod Block
+pub mod WidePacket
+pub mod WideReading
+pub mod Narrowing
+pub mod Taking
 pub mod laws
 pub mod code

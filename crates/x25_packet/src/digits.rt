@@ -67,9 +67,10 @@ pub fn hold_digits(count: usize, octets: &[u8]) -> bool
 }
 
 /// The half octet at a place, the high half of an octet first.
-fn half(octets: &[u8], place: usize) -> u8
+pub(crate) fn half(octets: &[u8], place: usize) -> u8
     requires { place < 2 * length octets.now }
-    ensures { result ≡ slice_index (halves_of octets.now) place }
+    ensures value { result ≡ slice_index (halves_of octets.now) place }
+    ensures small { result < 16 }
 {
     let octet = octets[place / 2];
     if place % 2 == 0 {

@@ -1,4 +1,8 @@
-//! The law of the grammar of packets, as the contract of a function that does nothing.
+//! The laws of both readings of packets, each the contract of a function that does nothing.
+ghost use Rattle.x25_packet.specs.laws.NarrowLaw.{ReadsAlike};
+ghost use Rattle.x25_packet.specs.laws.TakingLaw.{TakesAllBehindThree, TakesInRange, TakesItsUserData};
+ghost use Rattle.x25_packet.specs.laws.TakingLaw.{TakesOnItsChannel, TakesWhatIsSpelled, TakesWhatIsWritten};
+ghost use Rattle.x25_packet.specs.laws.TakingLaw.{TakesWithoutMemory};
 ghost use Rattle.x25_packet.specs.laws.ReadingLaw.{ReadsWhatIsSpelled, ReadsTheFirstError};
 
 /// Octets read as the packet that they spell, and those that spell none read as their first error.
@@ -6,3 +10,25 @@ pub fn reading_is_the_grammar()
     ensures spelled { ReadsWhatIsSpelled }
     ensures error { ReadsTheFirstError }
 {}
+
+/// What a station writes is taken for what it is, also where packets are read in all their forms.
+pub fn reads_alike()
+    ensures { ReadsAlike }
+{
+    reading_is_the_grammar();
+}
+
+/// What a station reads octets as, whether it reads one form or all: what they are in the form that it writes, where
+/// they are a packet then; in all forms data with D too; on the channel that they name; a data packet's user data is
+/// all that lies behind the first three; and all fields are in their ranges. Want of memory is none of the errors.
+pub fn taking_keeps_octets()
+    ensures written { TakesWhatIsWritten }
+    ensures spelled { TakesWhatIsSpelled }
+    ensures channel { TakesOnItsChannel }
+    ensures octets { TakesItsUserData }
+    ensures user { TakesAllBehindThree }
+    ensures range { TakesInRange }
+    ensures memory { TakesWithoutMemory }
+{
+    reading_is_the_grammar();
+}

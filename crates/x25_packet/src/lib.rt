@@ -1,25 +1,41 @@
 //! The packets of X.25, modulo 8: their octets and their values.
 //!
-//! ITU-T X.25 (10/96), sections 5 and 7.
+//! A station sends one form of each packet, and `decode_within` reads that. `decode` reads what ITU-T X.25 (10/96),
+//! sections 5 and 7, lets any equipment send: facilities of all classes, addresses with their types, the D bit,
+//! causes alone, basic and extended formats.
 #![tactic(auto)]
 
+mod block;
 mod call;
 pub mod codes;
 mod digits;
 mod error;
 mod facilities;
+mod halves;
 mod law;
 mod marks;
+mod narrowing;
 mod packet;
 mod reading;
 mod spelling;
+mod taking;
+mod wide_facilities;
+mod wide_packet;
+mod wide_reading;
 
+pub use block::{Block, Fields};
 pub use digits::{Digits, hold_digits};
 pub use error::PacketError;
 pub use facilities::{Directions, Facilities, FacilityField};
-pub use law::reading_is_the_grammar;
+pub use halves::Halves;
+pub use law::{reading_is_the_grammar, reads_alike, taking_keeps_octets};
 pub use marks::Marks;
+pub use narrowing::narrow;
 pub use packet::Packet;
 pub use reading::{CALL_OCTETS, LONG_CALL_OCTETS, channel, decode_within, longest_user};
 pub use spelling::encode;
+pub use taking::{read, take};
+pub use wide_facilities::{Own, are_facilities, own_facilities};
+pub use wide_packet::{Kind, WidePacket};
+pub use wide_reading::{FAST_SELECT_OCTETS, decode};
 pub use x25_bits::{NoMemory, Seq};

@@ -24,10 +24,10 @@ use Rattle.x25_packet_judge.specs.declared.layers.Layers.{Layers}
 use Rattle.x25_packet_judge.specs.declared.packet_rule.PacketRule.TheVariants.{NoPacket, RestartAwaited}
 use Rattle.x25_possible.specs.declared.packet.Packet.{Packet as Item}
 use Rattle.x25_possible.specs.declared.packet.Packet.TheVariants.{Elsewhere}
-use Rattle.x25_wide.specs.Packet as wide_packet
-use Rattle.x25_wide.specs.Packet.{PlainKind, PlainWide}
-use Rattle.x25_wide.specs.Reading.{wide_of}
-use Rattle.x25_wide.specs.Taking.{taken_in}
+use Rattle.x25_packet.specs.WidePacket as wide_packet
+use Rattle.x25_packet.specs.WidePacket.{PlainKind, PlainWide}
+use Rattle.x25_packet.specs.WideReading.{wide_of}
+use Rattle.x25_packet.specs.Taking.{taken_in}
 
 -- nothing was sent
 abbrev pub empty : Book

@@ -3,7 +3,7 @@ ghost use Rattle.std.specs.Prelude.{◌≡◌, IfOk, None, Some, true, false};
 ghost use Rattle.x25_frame.specs.Frame.{plain as plain_frame};
 ghost use Rattle.x25_packet.specs.Packet.{plain};
 ghost use Rattle.x25_packet_judge.specs.Book as definition;
-ghost use Rattle.x25_wide.specs.Reading.{wide_of};
+ghost use Rattle.x25_packet.specs.WideReading.{wide_of};
 
 use crate::channel::{Channel, Event, Finding};
 use crate::channels::Channels;
@@ -15,9 +15,8 @@ use std::alloc::{AllocError, Global};
 use x25_bits::Role;
 use x25_decode::Reading;
 use x25_frame::Frame;
-use x25_packet::{Packet, channel, decode_within, longest_user};
+use x25_packet::{Kind, Packet, channel, decode, decode_within, longest_user, take};
 use x25_possible::Packet as Item;
-use x25_wide::{Kind, decode, take};
 
 /// Which packets of both ends are followed, and what is known of the ends of the channels.
 #[derive(Drop)]

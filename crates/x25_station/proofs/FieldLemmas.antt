@@ -12,8 +12,8 @@ use Rattle.x25_packet.specs.Spelling.{channel_of, HasChannel, moved_to, format_o
 use Rattle.x25_packet.specs.declared.facilities.Directions.{Directions}
 use Rattle.x25_packet.specs.Facilities.{facility, field_of, AreWithin, IfGiven, IsFacilityField}
 use Rattle.x25_packet.specs.laws.ReadingLaw.{ReadsWhatIsSpelled}
-use Rattle.x25_wide.specs.Taking.{read_in}
-use Rattle.x25_wide.specs.laws.TakingLaw.{TakesWhatIsSpelled}
+use Rattle.x25_packet.specs.Taking.{read_in}
+use Rattle.x25_packet.specs.laws.TakingLaw.{TakesWhatIsSpelled}
 use Rattle.x25_station.specs.Command.{may_mark}
 use Rattle.x25_station.specs.laws.ReadLaw.{AreOctets, IsReadable}
 

@@ -7,12 +7,12 @@ use Rattle.x25_packet.specs.Spelling.{IsInRange, IsWithoutD, spelling_of}
 use Rattle.x25_packet.specs.declared.marks.Marks.{Marks}
 use Rattle.x25_packet.specs.declared.error.PacketError.{PacketError}
 use Rattle.x25_packet.specs.laws.ReadingLaw.{ReadsWhatIsSpelled}
-use Rattle.x25_wide.specs.Narrowing.{taken_of}
-use Rattle.x25_wide.specs.Packet as wide
-use Rattle.x25_wide.specs.Packet.{PlainWide}
-use Rattle.x25_wide.specs.Reading.{wide_of}
-use Rattle.x25_wide.specs.Taking.{or_taken}
-use Rattle.x25_wide.specs.laws.TakingLaw.{TakesWhatIsSpelled}
+use Rattle.x25_packet.specs.Narrowing.{taken_of}
+use Rattle.x25_packet.specs.WidePacket as wide
+use Rattle.x25_packet.specs.WidePacket.{PlainWide}
+use Rattle.x25_packet.specs.WideReading.{wide_of}
+use Rattle.x25_packet.specs.Taking.{or_taken}
+use Rattle.x25_packet.specs.laws.TakingLaw.{TakesWhatIsSpelled}
 use Rattle.x25_given.specs.Given.{PlainGiven, may_give}
 use Rattle.x25_given.specs.Writing.{bare_block, call_block, fields, form_of, headed, write, written, written_read}
 use Rattle.x25_given.specs.laws.ReadingLaw.{MayGo, WrittenIsInForm, WrittenIsRead}

@@ -11,9 +11,9 @@ use Rattle.x25_packet.specs.Facilities.{IsFacilityField}
 use Rattle.x25_packet.specs.Packet.{PlainPacket, call, accept, clear, clear_conf, user_data, rr, rnr, interrupt, interrupt_conf, reset, reset_conf, restart, restart_conf}
 use Rattle.x25_packet.specs.Spelling.{IsInRange, addresses, body_of, header_of, longest_user, spelling_of}
 use Rattle.x25_packet.specs.laws.ReadingLaw.{ReadsWhatIsSpelled}
-use Rattle.x25_wide.specs.Facilities.{are_facilities, none_own, own_in}
-use Rattle.x25_wide.specs.Taking.{read_in}
-use Rattle.x25_wide.specs.laws.TakingLaw.{TakesWhatIsSpelled}
+use Rattle.x25_packet.specs.WideFacilities.{are_facilities, none_own, own_in}
+use Rattle.x25_packet.specs.Taking.{read_in}
+use Rattle.x25_packet.specs.laws.TakingLaw.{TakesWhatIsSpelled}
 use Rattle.x25_given.specs.Given.{PlainGiven, may_give}
 use Rattle.x25_given.specs.Writing.{write, written}
 use Rattle.x25_given.specs.laws.ReadingLaw.{WrittenIsInForm, WrittenIsRead}

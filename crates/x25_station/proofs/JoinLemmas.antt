@@ -4,7 +4,7 @@ use Rattle.std.proofs.lemmas.Bool.{eq-eqb}
 use Rattle.std.proofs.lemmas.List.{append-nil}
 use Rattle.x25_packet.specs.declared.error.PacketError.{PacketError}
 use Rattle.x25_packet.specs.Packet.{PlainPacket}
-use Rattle.x25_wide.specs.Taking.{read_in}
+use Rattle.x25_packet.specs.Taking.{read_in}
 use Rattle.x25_link.specs.declared.phase.Notes.{Notes}
 use Rattle.x25_link.specs.Outgoing.{waits}
 use Rattle.x25_link.specs.Station.{LinkStation, Side, is_up}

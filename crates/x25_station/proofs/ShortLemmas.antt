@@ -6,8 +6,8 @@ use Rattle.x25_packet.specs.declared.error.PacketError.{PacketError}
 use Rattle.x25_packet.specs.Packet.{PlainPacket, call, accept, clear, clear_conf, user_data, rr, rnr, interrupt, interrupt_conf, reset, reset_conf, restart, restart_conf}
 use Rattle.x25_packet.specs.Spelling.{IsInRange, longest_user}
 use Rattle.x25_packet.specs.Reading.{channel_in}
-use Rattle.x25_wide.specs.Taking.{read_in}
-use Rattle.x25_wide.specs.laws.TakingLaw.{TakesInRange}
+use Rattle.x25_packet.specs.Taking.{read_in}
+use Rattle.x25_packet.specs.laws.TakingLaw.{TakesInRange}
 use Rattle.x25_circuit.specs.declared.message.Message.{Message}
 use Rattle.x25_circuit.specs.declared.state.State.{State}
 use Rattle.x25_circuit.specs.declared.state.State.TheVariants.{Free, Calling, Arriving, Collision, Open, Resetting, Clearing}

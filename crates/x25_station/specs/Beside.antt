@@ -5,9 +5,9 @@ use Rattle.std.specs.Prelude.{None, Result, Ok, Err}
 use Rattle.x25_packet.specs.Packet.{PlainPacket}
 use Rattle.x25_packet.specs.Reading.{packet_of}
 use Rattle.x25_packet.specs.declared.error.PacketError.{PacketError}
-use Rattle.x25_wide.specs.Block.{PlainBlock, PlainFields}
-use Rattle.x25_wide.specs.Packet.{PlainKind, PlainWide, call, accept, extended_clear, clear_conf, diagnostic}
-use Rattle.x25_wide.specs.Reading.{wide_of}
+use Rattle.x25_packet.specs.Block.{PlainBlock, PlainFields}
+use Rattle.x25_packet.specs.WidePacket.{PlainKind, PlainWide, call, accept, extended_clear, clear_conf, diagnostic}
+use Rattle.x25_packet.specs.WideReading.{wide_of}
 use Rattle.x25_station.specs.declared.beside.Beside.{Beside}
 use Rattle.x25_station.specs.declared.beside.Beside.TheVariants as code
 

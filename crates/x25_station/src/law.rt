@@ -22,8 +22,7 @@ use x25_circuit::values_are_agreed;
 use x25_given::what_is_written_is_read;
 use x25_layer::calls_are_runs;
 use x25_link::{comes_to_rest, follows_the_window, holds_few, notes_what_changes, sets_up_by_rows};
-use x25_packet::reading_is_the_grammar;
-use x25_wide::taking_keeps_octets;
+use x25_packet::{reading_is_the_grammar, taking_keeps_octets};
 
 /// Each step of a station is a step of its link, and then packets that are handed down to the link, each accepted. They
 /// are the packets that the same moves of the packet layer put over a link that keeps order, and the entries are those

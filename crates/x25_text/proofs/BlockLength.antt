@@ -1,6 +1,6 @@
 -- What has no user data has at most 128 octets of it.
 use Rattle.std.proofs.Common.{arith, Bool, Option, Some, None}
-use Rattle.x25_wide.specs.Block.{PlainBlock, PlainFields, MayBeFields, MayBeBlock}
+use Rattle.x25_packet.specs.Block.{PlainBlock, PlainFields, MayBeFields, MayBeBlock}
 
 fields_with : (f : Option PlainFields) → MayBeFields 0 f → MayBeFields 128 f
 fields_with None h = tt

@@ -7,11 +7,12 @@ use Rattle.x25_packet.specs.Packet.{PlainPacket}
 use Rattle.x25_packet.specs.Reading.{packet_of}
 use Rattle.x25_packet.specs.Spelling.{longest_user}
 use Rattle.x25_packet.specs.declared.error.PacketError.{PacketError}
-use Rattle.x25_wide.specs.Block.{PlainBlock, PlainFields, called_in, calling_in}
-use Rattle.x25_wide.specs.Packet.{PlainKind, PlainWide, call, accept, clear, extended_clear, clear_conf, user_data, rr}
-use Rattle.x25_wide.specs.Packet.{rnr, rej, interrupt, interrupt_conf, reset, reset_conf, restart, restart_conf}
-use Rattle.x25_wide.specs.Packet.{diagnostic, registration, registration_conf}
-use Rattle.x25_wide.specs.Reading.{wide_of}
+use Rattle.x25_packet.specs.Block.{PlainBlock, PlainFields, called_in, calling_in}
+use Rattle.x25_packet.specs.WidePacket.{PlainKind, PlainWide, call, accept, clear, extended_clear, clear_conf}
+use Rattle.x25_packet.specs.WidePacket.{user_data, rr}
+use Rattle.x25_packet.specs.WidePacket.{rnr, rej, interrupt, interrupt_conf, reset, reset_conf, restart, restart_conf}
+use Rattle.x25_packet.specs.WidePacket.{diagnostic, registration, registration_conf}
+use Rattle.x25_packet.specs.WideReading.{wide_of}
 use Rattle.x25_text.specs.PacketText.{reason_text, addresses_text, fields_text, numbers_text, marks_text}
 use Rattle.x25_text.specs.PacketText.{confirmation_text, packet_text}
 use Rattle.x25_text.specs.PacketText.{packet_fault_text}

@@ -1,10 +1,10 @@
 //! Packets in all their forms as text.
 ghost use Rattle.std.specs.Prelude.{◌≡◌, ◌+◌, ◌*◌, ◌≤◌, ◌<◌, ◌++◌, ◌∷◌, [], codes, decimal, false, length, map, true};
 ghost use Rattle.std.specs.Fmt.{digit_glyph};
-ghost use Rattle.x25_wide.specs.Block.{AreAddresses, IsBlock, MayBeBlock, MayBeFields, called_in, calling_in};
-ghost use Rattle.x25_wide.specs.Block.{plain_block, plain_fields, plain_optional};
-ghost use Rattle.x25_wide.specs.Packet.{plain, plain_kind};
-ghost use Rattle.x25_wide.specs.Packet.Spelling.{IsKind};
+ghost use Rattle.x25_packet.specs.Block.{AreAddresses, IsBlock, MayBeBlock, MayBeFields, called_in, calling_in};
+ghost use Rattle.x25_packet.specs.Block.{plain_block, plain_fields, plain_optional};
+ghost use Rattle.x25_packet.specs.WidePacket.{plain, plain_kind};
+ghost use Rattle.x25_packet.specs.WidePacket.Spelling.{IsKind};
 ghost use Rattle.x25_text.specs.PacketText.{confirmation_text, marks_text, numbers_text};
 ghost use Rattle.x25_text.specs.WidePacketText.{block_text, format_text, halves_text, kind_text};
 ghost use Rattle.x25_text.specs.WidePacketText.{optional_block_text, typed_addresses_text, typed_text};
@@ -17,8 +17,7 @@ use crate::packet_text::{
 };
 use crate::text::{ROOM, Text};
 use x25_frame::Seq;
-use x25_packet::{decode_within, longest_user};
-use x25_wide::{Block, Fields, Halves, Kind, WidePacket, decode};
+use x25_packet::{Block, Fields, Halves, Kind, WidePacket, decode, decode_within, longest_user};
 
 fn push_format(a: bool, text: &mut Text)
     requires room { length text.old + 4 ≤ ROOM }

@@ -58,7 +58,7 @@ fn show_wide_frame(octets: &[u8], text: &mut Text) {
 
 fn show_wide_packet(octets: &[u8], text: &mut Text) {
     text.clear();
-    if let Ok(packet) = x25_wide::decode(16, octets) {
+    if let Ok(packet) = x25_packet::decode(16, octets) {
         push_wide_packet(&packet, text);
     }
 }

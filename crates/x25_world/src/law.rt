@@ -28,12 +28,11 @@ use x25_frame::reads_what_is_spelled;
 use x25_layer::{acknowledged_are_handed_up, apart_layers_keep_order, each_end_is_by_itself};
 use x25_line::{each_session_event_hands_one, links_keep_order, sessions_keep_order};
 use x25_link::{notes_what_changes, sets_up_by_rows};
-use x25_packet::reading_is_the_grammar;
+use x25_packet::{reading_is_the_grammar, taking_keeps_octets};
 use x25_station::{
     CallCmd, Cmd, Given, puts_are_readable, stations_hold_few, steps_are_joined, steps_keep_bounds,
     what_is_given_is_told,
 };
-use x25_wide::taking_keeps_octets;
 
 /// What the laws of the links, the layers and the stations say, which the laws of a world rest on.
 pub(crate) fn laws_below()

@@ -2,10 +2,10 @@
 use Rattle.std.specs.Prelude.{◌≡◌, ℕ, ◌<◌, ◌≤◌, ◌⊎◌, ◌++◌, length, true, All, Some, Ok}
 use Rattle.x25_packet.specs.Packet.{PlainPacket, call}
 use Rattle.x25_packet.specs.Spelling.{IsInRange}
-use Rattle.x25_wide.specs.Facilities.{asks_fast_select}
-use Rattle.x25_wide.specs.Packet.{PlainWide}
-use Rattle.x25_wide.specs.Reading.{wide_of}
-use Rattle.x25_wide.specs.Taking.{taken_in}
+use Rattle.x25_packet.specs.WideFacilities.{asks_fast_select}
+use Rattle.x25_packet.specs.WidePacket.{PlainWide}
+use Rattle.x25_packet.specs.WideReading.{wide_of}
+use Rattle.x25_packet.specs.Taking.{taken_in}
 use Rattle.x25_given.specs.Given.{PlainGiven, may_give}
 use Rattle.x25_given.specs.Writing.{form_of, written}
 

@@ -14,8 +14,8 @@ use Rattle.x25_packet.specs.Packet.{call, restart, restart_conf}
 use Rattle.x25_packet.specs.Digits.{halves_of, packed}
 use Rattle.x25_packet.specs.Facilities.{facilities_of}
 use Rattle.x25_packet.specs.Reading.{packet_of}
-use Rattle.x25_wide.specs.Facilities.{are_facilities, own_in}
-use Rattle.x25_wide.specs.Reading.{wide_of}
+use Rattle.x25_packet.specs.WideFacilities.{are_facilities, own_in}
+use Rattle.x25_packet.specs.WideReading.{wide_of}
 use Rattle.x25_circuit.specs.Hearing.{request_in}
 use Rattle.x25_link.specs.Station.{pumped}
 use Rattle.x25_line.specs.laws.Sessions.{Entry, Meeting}

@@ -2,7 +2,7 @@
 use Rattle.std.specs.Prelude.{◌≡◌, ℕ, Bool, List, [], ◌∷◌, ◌++◌, Ok, true, false, ◌==◌}
 use Rattle.x25_packet.specs.Packet.{PlainPacket}
 use Rattle.x25_packet.specs.Spelling.{longest_user}
-use Rattle.x25_wide.specs.Taking.{read_in}
+use Rattle.x25_packet.specs.Taking.{read_in}
 use Rattle.x25_layer.specs.declared.ranges.Ranges.{Ranges}
 use Rattle.x25_layer.specs.Layer.{LayerSettings, is_channel, goes_up}
 use Rattle.x25_layer.specs.Calls.{LayerRequest}

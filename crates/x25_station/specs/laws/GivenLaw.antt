@@ -3,7 +3,7 @@
 use Rattle.std.specs.Prelude.{◌≡◌, ◌≢◌, ℕ, ◌≤◌, ◌==◌, Bool, List, [], ◌∷◌, ◌++◌, length, None, Some, Ok, true, false}
 use Rattle.x25_packet.specs.Packet.{PlainPacket, call, accept, clear}
 use Rattle.x25_packet.specs.Spelling.{IsInRange, longest_user, spelling_of}
-use Rattle.x25_wide.specs.Taking.{read_in}
+use Rattle.x25_packet.specs.Taking.{read_in}
 use Rattle.x25_given.specs.Given.{PlainGiven, may_give}
 use Rattle.x25_given.specs.Writing.{fields, write, written}
 use Rattle.x25_link.specs.Link.{alone, put_refusal, put_step}

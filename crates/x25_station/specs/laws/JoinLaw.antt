@@ -2,7 +2,7 @@
 -- these packets are those that the same moves of the packet layer put, alone over a link that keeps order.
 use Rattle.std.specs.Prelude.{◌≡◌, ℕ, ◌≤◌, ◌==◌, true, false, List, [], ◌∷◌, ◌++◌, Some, None, Ok}
 use Rattle.x25_packet.specs.Packet.{PlainPacket, restart}
-use Rattle.x25_wide.specs.Taking.{read_in}
+use Rattle.x25_packet.specs.Taking.{read_in}
 use Rattle.x25_link.specs.Outgoing.{waits}
 use Rattle.x25_link.specs.Station.{Settings as LinkSettings, LinkStation, Side, fresh}
 use Rattle.x25_link.specs.Hearing.{Step as LinkStep}

@@ -7,8 +7,8 @@ use Rattle.x25_link.specs.Station.{pumped}
 use Rattle.x25_packet.specs.Digits.{packed, halves_of}
 use Rattle.x25_packet.specs.Facilities.{facilities_of}
 use Rattle.x25_packet.specs.Reading.{packet_of}
-use Rattle.x25_wide.specs.Facilities.{are_facilities, own_in}
-use Rattle.x25_wide.specs.Reading.{wide_of}
+use Rattle.x25_packet.specs.WideFacilities.{are_facilities, own_in}
+use Rattle.x25_packet.specs.WideReading.{wide_of}
 use Rattle.x25_world.specs.rows.WorldRows.{SetsUp, MessageArrives, LostArrives, DamagedArrives, MoreArrives, GivenArrives, ConfirmedArrives, DisconnectEndsBoth, ConnectSetsUp, ConnectGoesAgain, SecondMeetsFirst, SecondMeet, TimerWaits, IsRefused}
 
 pub sets_up : SetsUp

@@ -9,11 +9,11 @@ use Rattle.x25_packet.specs.declared.marks.Marks.{Marks}
 use Rattle.x25_packet.specs.Reading.{packet_of}
 use Rattle.x25_packet.specs.Spelling.{IsInRange, IsWithoutD, channel_of, longest_user, spelling_of}
 use Rattle.x25_packet.specs.declared.error.PacketError.{PacketError}
-use Rattle.x25_wide.specs.Reading.{wide_of}
-use Rattle.x25_wide.specs.Packet as form
-use Rattle.x25_wide.specs.Packet.{PlainKind, PlainWide}
-use Rattle.x25_wide.specs.Narrowing.{with_field, narrowed, field_in, taken_of}
-use Rattle.x25_wide.specs.Taking.{or_taken, read_in}
+use Rattle.x25_packet.specs.WideReading.{wide_of}
+use Rattle.x25_packet.specs.WidePacket as form
+use Rattle.x25_packet.specs.WidePacket.{PlainKind, PlainWide}
+use Rattle.x25_packet.specs.Narrowing.{with_field, narrowed, field_in, taken_of}
+use Rattle.x25_packet.specs.Taking.{or_taken, read_in}
 use Rattle.x25_given.specs.Given.{PlainGiven, may_give}
 use Rattle.x25_given.specs.Writing.{write, written}
 use Rattle.x25_circuit.specs.Circuit.{Circuit}

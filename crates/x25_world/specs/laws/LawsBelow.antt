@@ -17,7 +17,7 @@ use Rattle.x25_layer.specs.laws.Apart.{AlwaysApart}
 use Rattle.x25_layer.specs.laws.ApartLaw.{IsOverLinks, RestartsFirst, BeginsAlone, OwnMovesDecide, EventsRunOn}
 use Rattle.x25_station.specs.laws.JoinLaw.{RequestIsJoined, ReceiveIsJoined, QuietIsJoined, DownIsJoined, UpIsJoined}
 use Rattle.x25_packet.specs.laws.ReadingLaw.{ReadsWhatIsSpelled}
-use Rattle.x25_wide.specs.laws.TakingLaw.{TakesWhatIsSpelled}
+use Rattle.x25_packet.specs.laws.TakingLaw.{TakesWhatIsSpelled}
 use Rattle.x25_station.specs.laws.GivenLaw.{GivenIsJoined, GivenIsRead, GivenIsTold, GivenIsWritten}
 use Rattle.x25_station.specs.laws.KeepLaw.{ConnectKeeps, TimerKeeps, RequestKeeps, GivenKeeps, CommandKeeps}
 use Rattle.x25_station.specs.laws.KeepLaw.{ReceiveKeeps}

@@ -1,5 +1,5 @@
 use Rattle.std.proofs.Common.{◌∙◌, ◌++◌, ap, append_assoc, codes, decimal}
-use Rattle.x25_wide.specs.Block.{plain_optional}
+use Rattle.x25_packet.specs.Block.{plain_optional}
 use Rattle.x25_text.specs.WidePacketText.{format_text, optional_block_text}
 use Rattle.x25_text.proofs.wide_packet_text.push_kind.Goals as goal
 

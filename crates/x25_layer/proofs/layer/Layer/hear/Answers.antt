@@ -2,7 +2,7 @@ use Rattle.std.proofs.Common.{rules, ℕ, ◌≡◌, ◌<◌, ◌∙◌, All, op
 use Rattle.std.proofs.lemmas.List.Elements.{All-from_get_or}
 use Rattle.x25_packet.specs.Packet.{plain}
 use Rattle.x25_packet.specs.Spelling.{HasChannel, longest_user}
-use Rattle.x25_wide.specs.Taking.{read_in}
+use Rattle.x25_packet.specs.Taking.{read_in}
 use Rattle.x25_layer.specs.Layer.{LayerSettings, Layer, LayerAnswer}
 use Rattle.x25_layer.specs.code.FitsLayer.{FitsLayer}
 use Rattle.x25_layer.specs.code.OverLink.{after_all}

@@ -1,6 +1,6 @@
 use Rattle.std.proofs.Common.{refl, ◌≡◌, Bool, option_to_list, subst}
 use Rattle.x25_packet.specs.Spelling.{longest_user}
-use Rattle.x25_wide.specs.Taking.{read_in}
+use Rattle.x25_packet.specs.Taking.{read_in}
 use Rattle.x25_layer.specs.Layer.{LayerAnswer}
 use Rattle.x25_layer.specs.code.FitsLayer.{FitsLayer}
 use Rattle.x25_layer.specs.code.OverLink.{after_all}

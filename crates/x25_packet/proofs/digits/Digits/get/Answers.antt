@@ -9,7 +9,7 @@ returns-clause-value c =
     let inside = c.self.inside in
     let holds = c.self.invariant in
     let size : length c.args.self.now ≡ inside.count = ap length (sym c.self.view_is) ∙ length-halves_at inside.octets inside.start inside.count (omega (arith, holds.0, holds.1, holds.2)) in
-    c.half.ensures ∙ ap (λ n. get_or (halves_of inside.octets) n 0) (omega (arith, c.from.ensures))
+    c.half.ensures.value ∙ ap (λ n. get_or (halves_of inside.octets) n 0) (omega (arith, c.from.ensures))
     ∙ sym (get_or-drop inside.start (halves_of inside.octets) c.args.place 0)
     ∙ sym (get_or-take inside.count (drop inside.start (halves_of inside.octets)) c.args.place 0 (omega (arith, size, c.requires)))
     ∙ ap (λ (ds : List ℕ). get_or ds c.args.place 0) c.self.view_is

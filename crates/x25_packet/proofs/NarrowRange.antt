@@ -1,0 +1,147 @@
+-- What a packet is taken for is in its ranges.
+use Rattle.std.proofs.Common.{ℕ, ◌+◌, ◌-◌, ◌<◌, ◌≤◌, ◌≡◌, Bool, true, false, List, [], length, refl, sym, subst, inl, inr, arith, Option, Some, None, Result, Ok, Err, IfOk}
+use Rattle.std.specs.Prelude.{nat_le, ◌&&◌, if◌then◌else◌}
+use Rattle.std.proofs.lemmas.Bool.{and_parts, leb-true}
+use Rattle.x25_packet.proofs.AddressLaws.{address_at, block_when}
+use Rattle.x25_packet.specs.Digits.{IsAddress, halves_at, hold_digits}
+use Rattle.x25_packet.specs.Facilities as strict_field
+use Rattle.x25_packet.specs.Packet as strict
+use Rattle.x25_packet.specs.Spelling as strict_spelling
+use Rattle.x25_packet.specs.declared.error.PacketError.{PacketError}
+use Rattle.x25_packet.specs.declared.facilities.Directions.{Directions}
+use Rattle.x25_packet.specs.Block.{AreAddresses, MayBeFields, PlainBlock, PlainFields}
+use Rattle.x25_packet.specs.WideFacilities.{none_own, own_in}
+use Rattle.x25_packet.specs.Narrowing.{are_within, field_in, field_said, field_taken, user_taken, called_taken, calling_taken, digits_behind, with_field}
+use Rattle.x25_packet.specs.WidePacket.{PlainKind, call, accept, clear, extended_clear, clear_conf, user_data, rr, rnr, rej, interrupt, interrupt_conf, reset, reset_conf, restart, restart_conf, diagnostic, registration, registration_conf}
+use Rattle.x25_packet.specs.WidePacket.Spelling.{HasPlace, IsKind}
+use Rattle.x25_packet.specs.WideReading.{Gives}
+use Rattle.x25_packet.specs.declared.wide_facilities.Own.{Own}
+use Rattle.x25_packet.proofs.FacilityLaws.{chosen, ok_err, ok_same}
+
+-- ---- the facility field
+
+given : (least most : ℕ) (o : Option Directions) → are_within least most o ≡ true → strict_field.IfGiven o (strict_field.AreWithin least most)
+given least most None h = tt
+given least most (Some v) h =
+    let parts = and_parts (strict_field.is_within least most v.called) (strict_field.is_within least most v.calling) h in
+    let first = and_parts (nat_le least v.called) (nat_le v.called most) parts.0 in
+    let second = and_parts (nat_le least v.calling) (nat_le v.calling most) parts.1 in
+    record {
+      called_least = leb-true _ _ first.0;
+      called_most = leb-true _ _ first.1;
+      calling_least = leb-true _ _ second.0;
+      calling_most = leb-true _ _ second.1;
+    }
+
+no_field : strict_field.IsFacilityField []
+no_field = (record { packet_size = None; window_size = None }, record { sizes = tt; windows = tt }, refl)
+
+said_fits : (own : Own) (field : List ℕ) → field_said own ≡ Ok field → strict_field.IsFacilityField field
+said_fits own field e = elim (chosen (are_within 4 12 own.packet_size && are_within 1 7 own.window_size) _ _ _ e) [
+  | inl p ↦
+      let parts = and_parts (are_within 4 12 own.packet_size) (are_within 1 7 own.window_size) p.0 in (
+        record { packet_size = own.packet_size; window_size = own.window_size },
+        record { sizes = given 4 12 own.packet_size parts.0; windows = given 1 7 own.window_size parts.1 },
+        sym (ok_same p.1),
+      )
+  | inr p ↦ absurd (ok_err p.1)
+]
+
+taken_fits : (f : Option PlainFields) (field : List ℕ) → field_taken f ≡ Ok field → strict_field.IsFacilityField field
+taken_fits None field e = subst strict_field.IsFacilityField (ok_same e) no_field
+taken_fits (Some f) field e = said_fits (own_in none_own 0 f.facilities) field e
+
+nothing_fits : (field : List ℕ) → (let r : Result (List ℕ) PacketError = Ok [] in r ≡ Ok field) → strict_field.IsFacilityField field
+nothing_fits field e = subst strict_field.IsFacilityField (ok_same e) no_field
+
+pub field_fits : (k : PlainKind) (field : List ℕ) → field_in k ≡ Ok field → strict_field.IsFacilityField field
+field_fits (call block) field e = taken_fits block.fields field e
+field_fits (accept None) field e = nothing_fits field e
+field_fits (accept (Some block)) field e = taken_fits block.fields field e
+field_fits (clear cause reason) field e = nothing_fits field e
+field_fits (extended_clear cause reason block) field e = nothing_fits field e
+field_fits (clear_conf block) field e = nothing_fits field e
+field_fits (user_data m ps pr user) field e = nothing_fits field e
+field_fits (rr pr) field e = nothing_fits field e
+field_fits (rnr pr) field e = nothing_fits field e
+field_fits (rej pr) field e = nothing_fits field e
+field_fits (interrupt user) field e = nothing_fits field e
+field_fits interrupt_conf field e = nothing_fits field e
+field_fits (reset cause reason) field e = nothing_fits field e
+field_fits reset_conf field e = nothing_fits field e
+field_fits (restart cause reason) field e = nothing_fits field e
+field_fits restart_conf field e = nothing_fits field e
+field_fits (diagnostic number explanation) field e = nothing_fits field e
+field_fits (registration octets) field e = nothing_fits field e
+field_fits (registration_conf octets) field e = nothing_fits field e
+
+-- ---- the packet
+
+user_few : (f : Option PlainFields) → MayBeFields 128 f → length (user_taken f) ≤ 128
+user_few None h = omega arith
+user_few (Some f) h = h.short
+
+no_digits : IsAddress []
+no_digits = record { short = omega arith; decimal = refl }
+
+behind_address : (b : PlainBlock) (start count : ℕ) → AreAddresses true b → start + count ≤ b.called + b.calling → IsAddress (digits_behind b start count)
+behind_address b start count h room = go _ refl
+  where
+    total : ℕ
+    total = b.called + b.calling
+
+    go : (are : Bool) → are ≡ (hold_digits total b.addresses && (nat_le 2 count && nat_le count 17))
+        → IsAddress (if are then halves_at b.addresses (start + 2) (count - 2) else [])
+    go true e =
+        let parts = and_parts (hold_digits total b.addresses) (nat_le 2 count && nat_le count 17) (sym e) in
+        let bounds = and_parts (nat_le 2 count) (nat_le count 17) parts.1 in
+        let two : 2 ≤ count = leb-true _ _ bounds.0 in
+        let few : count ≤ 17 = leb-true _ _ bounds.1 in
+        let size = h.size in
+        address_at total (start + 2) (count - 2) b.addresses (block_when total b.addresses parts.0) (omega arith) (omega arith)
+    go false e = no_digits
+
+called_address : (a : Bool) (b : PlainBlock) → AreAddresses a b → IsAddress (called_taken a b)
+called_address true b h = behind_address b 0 b.called h (omega arith)
+called_address false b h =
+    let size = h.size in
+    let few : b.called < 16 = h.called in
+    address_at (b.called + b.calling) 0 b.called b.addresses (block_when (b.called + b.calling) b.addresses h.halves) (omega arith) (omega arith)
+
+calling_address : (a : Bool) (b : PlainBlock) → AreAddresses a b → IsAddress (calling_taken a b)
+calling_address true b h = behind_address b b.called b.calling h (omega arith)
+calling_address false b h =
+    let size = h.size in
+    let few : b.calling < 16 = h.calling in
+    address_at (b.called + b.calling) b.called b.calling b.addresses (block_when (b.called + b.calling) b.addresses h.halves) (omega arith) (omega arith)
+
+abbrev pub InRange : Result strict.PlainPacket PacketError → Type 0
+InRange (Ok v) = strict_spelling.IsInRange 128 v
+InRange (Err e) = Unit {0}
+
+pub in_range : (most channel : ℕ) (q d : Bool) (k : PlainKind) (field : List ℕ) → channel ≤ 4095 → HasPlace channel k → IsKind q most k
+    → strict_field.IsFacilityField field → InRange (with_field channel q d k field)
+in_range most channel q d (call block) field few place h f =
+    ((place, few), called_address q block h.0.addresses, calling_address q block h.0.addresses, f, user_few block.fields h.0.fields)
+in_range most channel q d (accept block) field few place h f = ((place, few), f)
+in_range most channel q d (clear cause reason) field few place h f = (place, few)
+in_range most channel q d (extended_clear cause reason block) field few place h f = (place, few)
+in_range most channel q d (clear_conf block) field few place h f = (place, few)
+in_range most channel q d (user_data m ps pr user) field few place h f = ((place, few), h.0, h.1, h.2)
+in_range most channel q d (rr pr) field few place h f = ((place, few), h)
+in_range most channel q d (rnr pr) field few place h f = ((place, few), h)
+in_range most channel q d (rej pr) field few place h f = tt
+in_range most channel q d (interrupt user) field few place h f = ((place, few), h.0, h.1)
+in_range most channel q d interrupt_conf field few place h f = (place, few)
+in_range most channel q d (reset cause reason) field few place h f = (place, few)
+in_range most channel q d reset_conf field few place h f = (place, few)
+in_range most channel q d (restart cause reason) field few place h f = tt
+in_range most channel q d restart_conf field few place h f = tt
+in_range most channel q d (diagnostic number explanation) field few place h f = tt
+in_range most channel q d (registration octets) field few place h f = tt
+in_range most channel q d (registration_conf octets) field few place h f = tt
+
+pub given_in_range : {A : Type 0} (plain : A → strict.PlainPacket) (r : Result A PacketError) (read : Result strict.PlainPacket PacketError) → Gives plain r read → InRange read
+    → IfOk r (λ p. strict_spelling.IsInRange 128 (plain p))
+given_in_range plain (Ok p) read e h = subst InRange e h
+given_in_range plain (Err x) read e h = tt

@@ -1,0 +1,14 @@
+use Rattle.x25_packet.proofs.TakingLaws.{takes_what_is_written, takes_what_is_spelled, takes_on_its_channel, takes_its_user_data, takes_all_behind_three, takes_in_range}
+use Rattle.x25_packet.proofs.WantLaws.{takes_without_memory}
+use Rattle.x25_packet.proofs.law.taking_keeps_octets.Goals as goal
+
+pub returns : goal.returns
+returns c = record {
+  written = takes_what_is_written;
+  spelled = takes_what_is_spelled c.reading_is_the_grammar.ensures.spelled;
+  channel = takes_on_its_channel c.reading_is_the_grammar.ensures.spelled;
+  octets = takes_its_user_data c.reading_is_the_grammar.ensures.spelled;
+  user = takes_all_behind_three c.reading_is_the_grammar.ensures.spelled;
+  range = takes_in_range c.reading_is_the_grammar.ensures.spelled;
+  memory = takes_without_memory c.reading_is_the_grammar.ensures.error;
+}

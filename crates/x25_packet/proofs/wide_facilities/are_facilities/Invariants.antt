@@ -1,0 +1,10 @@
+use Rattle.std.proofs.Common.{◌≡◌, length}
+use Rattle.x25_packet.specs.WideFacilities.{are_facilities}
+use Rattle.x25_packet.proofs.wide_facilities.are_facilities.Given as goal
+
+-- what is left are facilities where the whole field is
+abbrev pub invariant-loop-behind : goal.invariant-loop-behind
+invariant-loop-behind l = are_facilities 0 l.rest ≡ are_facilities 0 l.fn.field
+
+abbrev pub decreases-loop-behind : goal.decreases-loop-behind
+decreases-loop-behind l = length l.rest

@@ -1,0 +1,88 @@
+-- Addresses, facilities and user data as a value alone, and their octets. ITU-T X.25 (10/96), sections 5.2.1 to 5.2.4.
+use Rattle.std.specs.Prelude.{ℕ, ◌+◌, ◌*◌, ◌/◌, ◌<◌, ◌≤◌, ◌≡◌, ◌==◌, Bool, true, false, List, [], ◌∷◌, ◌++◌, length}
+use Rattle.std.specs.Prelude.{drop, Option, Some, None}
+use Rattle.std.specs.List.{list_all}
+use Rattle.x25_packet.specs.Digits.{halves_at, halves_of, hold_digits}
+use Rattle.x25_packet.specs.WideFacilities.{IsFacilityField}
+use Rattle.x25_packet.specs.declared.block.Block.{Block}
+use Rattle.x25_packet.specs.declared.block.Fields.{Fields}
+
+pub record PlainFields : Type 0 where
+  pub facilities : List ℕ
+  pub user : List ℕ
+
+-- how many half octets each address has, the octets that they are packed in, and what may follow
+pub record PlainBlock : Type 0 where
+  pub called : ℕ
+  pub calling : ℕ
+  pub addresses : List ℕ
+  pub fields : Option PlainFields
+
+abbrev pub plain_fields : Option Fields → Option PlainFields
+plain_fields None = None
+plain_fields (Some f) = Some (record { facilities = f.facilities.now; user = f.user.now })
+
+abbrev pub plain_block : Block → PlainBlock
+plain_block b =
+    record { called = b.called; calling = b.calling; addresses = b.addresses.now; fields = plain_fields b.fields }
+
+abbrev pub plain_optional : Option Block → Option PlainBlock
+plain_optional None = None
+plain_optional (Some b) = Some (plain_block b)
+
+-- the facility field behind its length, and user data: section 5.2.1
+abbrev pub fields_octets : Option PlainFields → List ℕ
+fields_octets None = []
+fields_octets (Some f) = length f.facilities ∷ f.facilities ++ f.user
+
+-- The lengths go before the addresses. Where the A bit is 0 an octet has both, that of the calling address in its high
+-- half (section 5.2.1.1); where it is 1 each has an octet, the called address first (section 5.2.1.2).
+abbrev pub block_octets : Bool → PlainBlock → List ℕ
+block_octets false b = (16 * b.calling + b.called) ∷ b.addresses ++ fields_octets b.fields
+block_octets true b = b.called ∷ b.calling ∷ b.addresses ++ fields_octets b.fields
+
+abbrev pub optional_octets : Bool → Option PlainBlock → List ℕ
+optional_octets a None = []
+optional_octets a (Some b) = block_octets a b
+
+-- The half octets of the called address, then those of the calling one, two to an octet; a last one that is left over
+-- is 0. Where A is 0 an address is digits. Where it is 1 its first two are the type of address and the numbering plan,
+-- and what is behind them are digits but for an alternative address, of which no octet here says that it is one.
+abbrev pub hold_addresses : Bool → ℕ → List ℕ → Bool
+hold_addresses false count octets = hold_digits count octets
+hold_addresses true count octets = list_all (λ half. half == 0) (drop count (halves_of octets))
+
+-- a length is less than this
+abbrev pub bound_of : Bool → ℕ
+bound_of false = 16
+bound_of true = 256
+
+pub record AreAddresses (a : Bool) (b : PlainBlock) : Type 0 where
+  pub called : b.called < bound_of a
+  pub calling : b.calling < bound_of a
+  pub size : length b.addresses ≡ (b.called + b.calling + 1) / 2
+  pub halves : hold_addresses a (b.called + b.calling) b.addresses ≡ true
+
+abbrev pub called_in : PlainBlock → List ℕ
+called_in b = halves_at b.addresses 0 b.called
+
+abbrev pub calling_in : PlainBlock → List ℕ
+calling_in b = halves_at b.addresses b.called b.calling
+
+-- a facility field has at most 109 octets: section 7.1
+pub record AreFields (most : ℕ) (f : PlainFields) : Type 0 where
+  pub facilities : IsFacilityField f.facilities
+  pub few : length f.facilities ≤ 109
+  pub short : length f.user ≤ most
+
+abbrev pub MayBeFields : ℕ → Option PlainFields → Type 0
+MayBeFields most None = Unit {0}
+MayBeFields most (Some f) = AreFields most f
+
+pub record IsBlock (a : Bool) (most : ℕ) (b : PlainBlock) : Type 0 where
+  pub addresses : AreAddresses a b
+  pub fields : MayBeFields most b.fields
+
+abbrev pub MayBeBlock : Bool → ℕ → Option PlainBlock → Type 0
+MayBeBlock a most None = Unit {0}
+MayBeBlock a most (Some b) = IsBlock a most b

@@ -1,0 +1,69 @@
+//! The half octets of an address with its type and plan.
+ghost use Rattle.std.specs.Prelude.{◌≡◌, ◌≤◌, ◌<◌, ◌+◌, ◌*◌, drop, length, slice_index};
+ghost use Rattle.x25_packet.specs.Digits.{halves_at};
+
+use crate::digits::half;
+use std::marker::Model;
+
+/// The half octets of an address, at most 255. Contracts see the list of them.
+#[derive(Debug, Drop)]
+pub struct Halves<'a> {
+    octets: &'a [u8],
+    start: usize,
+    count: u8,
+}
+
+impl<'a> Model for Halves<'a> {
+    ghost use Rattle.std.specs.Prelude.{ℕ, List, ◌≤◌, ◌+◌, ◌*◌, length};
+    ghost use Rattle.x25_packet.specs.Digits.{halves_at};
+
+    ghost Value = { List ℕ };
+
+    ghost view = { λ h. halves_at h.octets.now h.start h.count };
+
+    ghost invariant = { λ h. (h.start + h.count ≤ 510) × (h.start + h.count ≤ 2 * length h.octets.now) };
+}
+
+impl<'a> Halves<'a> {
+    /// The `count` half octets from the half octet `start` on.
+    pub(crate) fn of(octets: &'a [u8], start: usize, count: u8) -> Halves<'a>
+        requires near { start ≤ 255 }
+        requires there { start + count ≤ 2 * length octets.now }
+        ensures { result ≡ halves_at octets.now start count }
+    {
+        Halves {
+            octets,
+            start,
+            count,
+        }
+    }
+
+    /// How many half octets there are.
+    pub fn len(&self) -> usize
+        ensures number { result ≡ length self.now }
+        ensures few { result ≤ 255 }
+    {
+        usize::from(self.count)
+    }
+
+    /// The half octets behind the first `count`.
+    pub fn behind(&self, count: u8) -> Halves<'a>
+        requires { count ≤ length self.now }
+        ensures { result ≡ drop count self.now }
+    {
+        Halves {
+            octets: self.octets,
+            start: self.start + usize::from(count),
+            count: self.count - count,
+        }
+    }
+
+    /// The half octet at a place, 0 to 15. The first is at place 0.
+    pub fn get(&self, place: usize) -> u8
+        requires { place < length self.now }
+        ensures value { result ≡ slice_index self.now place }
+        ensures small { result < 16 }
+    {
+        half(self.octets, self.start + place)
+    }
+}

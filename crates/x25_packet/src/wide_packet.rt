@@ -1,0 +1,77 @@
+use crate::block::Block;
+use x25_bits::Seq;
+
+/// What a packet is, but for its channel and the bits of its first octet. ITU-T X.25 (10/96), section 5.
+#[derive(Clone, Copy, Debug)]
+pub enum Kind<'a> {
+    Call {
+        block: Block<'a>,
+    },
+    Accept {
+        block: Option<Block<'a>>,
+    },
+    Clear {
+        cause: u8,
+        diagnostic: Option<u8>,
+    },
+    ExtendedClear {
+        cause: u8,
+        diagnostic: u8,
+        block: Block<'a>,
+    },
+    ClearConf {
+        block: Option<Block<'a>>,
+    },
+    Data {
+        m: bool,
+        ps: Seq,
+        pr: Seq,
+        user: &'a [u8],
+    },
+    Rr {
+        pr: Seq,
+    },
+    Rnr {
+        pr: Seq,
+    },
+    Rej {
+        pr: Seq,
+    },
+    Interrupt {
+        user: &'a [u8],
+    },
+    InterruptConf,
+    Reset {
+        cause: u8,
+        diagnostic: Option<u8>,
+    },
+    ResetConf,
+    Restart {
+        cause: u8,
+        diagnostic: Option<u8>,
+    },
+    RestartConf,
+    Diagnostic {
+        code: u8,
+        explanation: &'a [u8],
+    },
+    Registration {
+        octets: &'a [u8],
+    },
+    RegistrationConf {
+        octets: &'a [u8],
+    },
+}
+
+/// A packet as a peer may send it. Its octets are borrowed.
+///
+/// `channel` is the logical channel, group and number together: 0 for RESTART, DIAGNOSTIC and REGISTRATION, else 1 to
+/// 4,095. `bit_8` of the first octet is the qualifier (Q) in DATA, and in CALL, ACCEPT, CLEAR and CLEAR CONFIRMATION
+/// the A bit: whether addresses have their types and plans. `d` is the delivery confirmation bit.
+#[derive(Clone, Copy, Debug)]
+pub struct WidePacket<'a> {
+    pub channel: u16,
+    pub bit_8: bool,
+    pub d: bool,
+    pub kind: Kind<'a>,
+}

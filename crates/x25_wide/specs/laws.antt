@@ -1,3 +1,0 @@
--- What the laws of this crate say (src/law.rt).
-pub mod NarrowLaw
-pub mod TakingLaw
