@@ -180,10 +180,11 @@ impl LinkSet {
     }
 
     /// In these places.
-    fn stands(&mut self, spots: Spots)
-        ensures { self.new ≡ definition.standing spots.items self.old }
+    fn stands(&mut self, spots: &Spots)
+        ensures { self.new ≡ definition.standing spots.now.items self.old }
     {
-        self.spots = spots;
+        self.spots.clear();
+        let _ = self.spots.try_extend_from_slice(spots.as_slice());
         self.trim();
     }
 
@@ -191,12 +192,12 @@ impl LinkSet {
     fn strays(&mut self, at: usize)
         ensures { self.new ≡ definition.astray at self.old }
     {
-        let mut spots = Spots::new();
-        spots.push(Spot {
+        self.spots.clear();
+        self.spots.push(Spot {
             stand: Stand::Free,
             at,
         });
-        self.stands(spots);
+        self.trim();
     }
 
     /// There is no room: it may be anywhere from there on.
@@ -232,7 +233,7 @@ impl LinkSet {
             let at = self.came();
             self.strays(at);
         } else {
-            self.stands(spots);
+            self.stands(&spots);
         }
     }
 
@@ -260,7 +261,7 @@ impl LinkSet {
             self.breaks(frame);
             Told::Broken(stand)
         } else {
-            self.stands(spots);
+            self.stands(&spots);
             Told::Skips(stand)
         }
     }
@@ -284,7 +285,7 @@ impl LinkSet {
         } else if spots.is_empty() {
             self.is_unexplained(frame)
         } else {
-            self.stands(spots);
+            self.stands(&spots);
             Told::Nothing
         }
     }

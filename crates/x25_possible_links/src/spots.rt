@@ -48,13 +48,18 @@ fn keep(out: &mut Spots, spot: Spot) -> bool
 fn best(stand: Stand, at: usize, way: &[Frame]) -> Option<Spot>
     ensures { result ≡ definition.best at (drop at way.now) stand }
 {
-    if is_large(stand) {
-        return None;
+    let mut stand = stand;
+    let mut at = at;
+    loop {
+        if is_large(stand) {
+            return None;
+        }
+        if at >= way.len() || !is_plain(stand, way[at]) {
+            return Some(Spot { stand, at });
+        }
+        stand = onward(stand, way[at]);
+        at += 1;
     }
-    if at >= way.len() || !is_plain(stand, way[at]) {
-        return Some(Spot { stand, at });
-    }
-    best(onward(stand, way[at]), at + 1, way)
 }
 
 /// Adds a stand, once it has made the best of what it loses nothing by. False: no room.
@@ -72,16 +77,21 @@ fn goes(mode: Mode, frame: Frame, stand: Stand, at: usize, way: &[Frame], out: &
     ensures { definition.made result out.new.items
         ≡ definition.goes mode frame way.now at (drop at way.now) stand out.old.items }
 {
-    if is_large(stand) {
-        return false;
+    let mut stand = stand;
+    let mut at = at;
+    loop {
+        if is_large(stand) {
+            return false;
+        }
+        if let Some(next) = moves(mode, stand, at, way, frame) {
+            return settle(next, at, way, out);
+        }
+        if at >= way.len() {
+            return true;
+        }
+        stand = upward(stand, way[at]);
+        at += 1;
     }
-    if let Some(next) = moves(mode, stand, at, way, frame) {
-        return settle(next, at, way, out);
-    }
-    if at >= way.len() {
-        return true;
-    }
-    goes(mode, frame, upward(stand, way[at]), at + 1, way, out)
 }
 
 /// Adds where it is behind UA to SABM. False: no room.
@@ -221,26 +231,36 @@ pub(crate) fn least(spots: &[Spot], most: usize) -> usize
 fn come(stand: Stand, at: usize, way: &[Frame]) -> Stand
     ensures { result ≡ definition.come (drop at way.now) stand }
 {
-    if is_large(stand) {
-        return Stand::Free;
+    let mut stand = stand;
+    let mut at = at;
+    loop {
+        if is_large(stand) {
+            return Stand::Free;
+        }
+        if at >= way.len() {
+            return stand;
+        }
+        stand = upward(stand, way[at]);
+        at += 1;
     }
-    if at >= way.len() {
-        return stand;
-    }
-    come(upward(stand, way[at]), at + 1, way)
 }
 
 /// Where it stands once all has come, whatever it made of it.
 fn rushed(stand: Stand, at: usize, front: &[Frame]) -> Stand
     ensures { result ≡ definition.rushed (drop at front.now) stand }
 {
-    if is_large(stand) {
-        return Stand::Free;
+    let mut stand = stand;
+    let mut at = at;
+    loop {
+        if is_large(stand) {
+            return Stand::Free;
+        }
+        if at >= front.len() {
+            return stand;
+        }
+        stand = pressed(stand, front[at]);
+        at += 1;
     }
-    if at >= front.len() {
-        return stand;
-    }
-    rushed(pressed(stand, front[at]), at + 1, front)
 }
 
 fn hurried(count: usize, front: &[Frame], spot: Spot) -> Spot
@@ -265,13 +285,18 @@ pub(crate) fn hurry_all(count: usize, front: &[Frame], spots: &mut [Spot])
 fn gone(stand: Stand, at: usize, way: &[Frame]) -> Stand
     ensures { result ≡ definition.gone (drop at way.now) stand }
 {
-    if is_large(stand) {
-        return Stand::Free;
+    let mut stand = stand;
+    let mut at = at;
+    loop {
+        if is_large(stand) {
+            return Stand::Free;
+        }
+        if at >= way.len() {
+            return stand;
+        }
+        stand = passed(stand, way[at]);
+        at += 1;
     }
-    if at >= way.len() {
-        return stand;
-    }
-    gone(passed(stand, way[at]), at + 1, way)
 }
 
 /// Of the first of those that have come farthest.
