@@ -62,10 +62,8 @@ up_comes [] k s t = up_fresh k s t
 up_comes (x ∷ way) k s t = up_comes way (heard true true k x) (heard_sent k x ∙ s) (heard_told k x ∙ t)
 
 step_comes : (u : Stand) (x : Frame) (way : List Frame) → Below fresh (comes way (onward u x)) → Below fresh (comes way (upward u x))
-step_comes Out x way b = b
 step_comes Asking x way b = cond_both (may_answer x) fresh Asking (λ (u : Stand). Below fresh (comes way u)) (λ _. up_comes way _ refl refl) (λ _. b)
-step_comes Free x way b = b
-step_comes (Up k) x way b = b
+step_comes u x way b = b
 
 begins_come : (x : Frame) (way : List Frame) → may_answer x ≡ true → Below fresh (comes way (upward Asking x))
 begins_come x way may =
@@ -105,10 +103,9 @@ numbers_true k j b = both (j.sent == k.sent) (nat_le k.acked j.acked) (nat_le k.
     both a b c d e f g h = ap (λ (x : Bool). x && (b && (c && d))) e ∙ (ap (λ (x : Bool). x && (c && d)) f ∙ (ap (λ (x : Bool). x && d) g ∙ h))
 
 below_is : (s : Stand) → Below fresh s → is_below fresh s ≡ true
-below_is Out b = absurd b
-below_is Asking b = absurd b
 below_is (Up j) b = numbers_true _ j b
 below_is Free b = refl
+below_is s b = absurd b
 
 or_right : (a b : Bool) → b ≡ true → (a || b) ≡ true
 or_right true b h = refl
@@ -145,9 +142,7 @@ free_in n way = (spot_at n Free, inl refl, record { good = Free; below = tt; sta
 
 asks_alone : (s : Stand) → asks s [] ≡ Some Asking
 asks_alone Out = refl
-asks_alone Asking = refl
-asks_alone (Up k) = refl
-asks_alone Free = refl
+asks_alone s = refl
 
 abbrev set_in : List Frame → List Spot → Bool → LinkSet
 set_in way qs b = record { way = record { items = way }; spots = record { items = qs }; is_blind = b }
@@ -187,9 +182,7 @@ asker s =
 
 owed_first : (s : Stand) → IsIn fresh (owed s Sabm)
 owed_first Out = inl refl
-owed_first Asking = inl refl
-owed_first (Up k) = inl refl
-owed_first Free = inl refl
+owed_first s = inl refl
 
 abbrev IsToldUnasked : LinkSet → Type 0
 IsToldUnasked s = (stand : Stand) × ((sends_to Ua s).told ≡ Broken stand)
@@ -229,10 +222,9 @@ answerer s = answers_in s.way.items s.spots.items s.is_blind
 -- ---- no more than a session that begins
 
 fits_is_new : (s : Stand) → Fits no_numbers s → is_new s ≡ true
-fits_is_new Out b = refl
-fits_is_new Asking b = refl
 fits_is_new (Up j) b = numbers_true j no_numbers b
 fits_is_new Free b = absurd b
+fits_is_new s b = refl
 
 all_new : (way : List Frame) (qs : List Spot) → ((q : Spot) → IsIn q qs → Fits no_numbers (comes (drop q.at way) q.stand))
     → are_new way qs ≡ true
@@ -381,9 +373,7 @@ told_not_up (Some rule) = refl
 
 not_up : (s : Stand) → links.broken s Sabm ≡ NotUp
 not_up Out = refl
-not_up Asking = refl
-not_up (Up k) = refl
-not_up Free = refl
+not_up s = refl
 
 asks_rule : (p : Bool) (b : Minding) → b.seen.rule ≡ Some NotUp → (links.asks p b).seen.rule ≡ Some NotUp
 asks_rule false b e = e
@@ -450,15 +440,13 @@ abbrev AreRoomy : Judge → Type 0
 AreRoomy j = (r : Role) → HasRoom (own_of r j).held
 
 by_roles : (from : Role) (k : Judge) (P : End → Type 0) → P (own_of from k) → P (own_of (other from) k) → (r : Role) → P (own_of r k)
-by_roles Dte k P a b Dte = a
 by_roles Dte k P a b Dce = b
 by_roles Dce k P a b Dte = b
-by_roles Dce k P a b Dce = a
+by_roles from k P a b r = a
 
 told_room : (told : Told) (h : Held) → HasRoom h → HasRoom (links.held_by told h)
-told_room Nothing h g = g
 told_room (SkipsOf s) h g = record { octets = g.octets; known = refl }
-told_room (Broken s) h g = g
+told_room told h g = g
 
 abbrev RoomOf : End → Type 0
 RoomOf e = HasRoom e.held
@@ -507,10 +495,9 @@ begins_so window reading strictness Dce = record { octets = refl; known = refl }
 -- ---- the law
 
 either : (from end : Role) → (end ≡ from) ⊎ (end ≡ other from)
-either Dte Dte = inl refl
 either Dte Dce = inr refl
 either Dce Dte = inr refl
-either Dce Dce = inl refl
+either from end = inl refl
 
 begin_both : (j : Judge) (from end : Role) (asks accepts asked accepted : List ℕ) (p f : Bool) → AreRoomy j → Shows asks from asked (sabm p) → Shows accepts (other from) accepted (ua f)
     → is_of_order (rule_of j from (sabm p)) ≡ false → is_of_order (rule_of (answer_to j asks).next (other from) (ua f)) ≡ false → IsClear j from end

@@ -15,7 +15,7 @@ use Rattle.x25_judge.specs.laws.Session.{is_of_order, rule_of}
 use Rattle.x25_judge.specs.laws.VerdictClaims.{GuiltyAreTold, ToldAreGuilty}
 use Rattle.x25_possible_links.specs.code.Steps.{begun_as, played, sends_to}
 use Rattle.x25_possible_links.specs.declared.frame.Frame.{Frame}
-use Rattle.x25_possible_links.specs.declared.frame.Frame.TheVariants.{Before, Disc, Dm, Frmr, Info, Ready, Sabm, Ua, Unread}
+use Rattle.x25_possible_links.specs.declared.frame.Frame.TheVariants.{Disc, Dm, Frmr, Info, Ready, Sabm, Ua}
 use Rattle.x25_possible_links.specs.declared.set.LinkSet.{LinkSet}
 use Rattle.x25_possible_links.specs.declared.set.Told.{Told}
 use Rattle.x25_possible_links.specs.declared.set.Told.TheVariants.{Broken, Nothing, Skips}
@@ -72,16 +72,8 @@ Plain x = Unit {0}
 rule_some : (told : Told) (x : Frame) → (told ≡ Nothing → ⊥) → Plain x → IsTold (links.rule_of told x)
 unfolding Plain
 rule_some Nothing x some plain = absurd (some refl)
-rule_some (Broken s) x some plain = refl
 rule_some (Skips s) (Info ns nr d) some plain = absurd plain
-rule_some (Skips s) (Ready nr) some plain = refl
-rule_some (Skips s) Sabm some plain = refl
-rule_some (Skips s) Disc some plain = refl
-rule_some (Skips s) Ua some plain = refl
-rule_some (Skips s) Dm some plain = refl
-rule_some (Skips s) Frmr some plain = refl
-rule_some (Skips s) Unread some plain = refl
-rule_some (Skips s) Before some plain = refl
+rule_some told x some plain = refl
 
 frame_tells : (window : ℕ) (t : Sent) (to : LinkSet) (frame : PlainFrame) (d : Bool) (b : Minding) → (t.told ≡ Nothing → ⊥) → b.seen.rule ≡ links.rule_of t.told (links.shown frame d)
     → Tells (links.minds window t to frame b)

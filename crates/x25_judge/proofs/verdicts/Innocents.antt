@@ -4,7 +4,7 @@ use Rattle.std.specs.Prelude.{not, ◌&&◌, ◌||◌, if◌then◌else◌, Ok, 
 use Rattle.std.proofs.lemmas.Bool.{both_ways, cases_eq, eq-eqb}
 use Rattle.x25_bits.specs.declared.role.Role.{Role}
 use Rattle.x25_bits.specs.declared.role.Role.TheVariants.{Dte, Dce}
-use Rattle.x25_frame.specs.Frame.{PlainFrame, info, rr, rnr, rej, sabm, disc, ua, dm, frmr}
+use Rattle.x25_frame.specs.Frame.{PlainFrame, info, rr, rnr, rej, ua}
 use Rattle.x25_line.specs.laws.Peer.{Peer, fresh_peer, hearing, taking, MayHear, MayNumber}
 use Rattle.x25_line.specs.laws.Peer as peer
 use Rattle.x25_line.specs.laws.PeerSessions as session
@@ -23,7 +23,7 @@ use Rattle.x25_judge.specs.declared.judge.Judge.{Judge}
 use Rattle.x25_judge.specs.declared.links.End.{End}
 use Rattle.x25_judge.specs.laws.Session.{begins_anywhere, begins_there, comes, IsBegun, IsDamaged, IsTimely, Shows, Way, is_of_order}
 use Rattle.x25_judge.specs.laws.Sessions as sessions
-use Rattle.x25_judge.specs.laws.Sessions.{MaySay, MaySend, MayStand, declined, numbered, asks, asks_again, closes, declines, rejects, takes_disc, takes_sabm, waits_on}
+use Rattle.x25_judge.specs.laws.Sessions.{MaySay, MaySend, MayStand, declined, numbered, closes, declines, rejects, takes_disc, takes_sabm}
 use Rattle.x25_judge.specs.laws.VerdictClaims.{NoSessionIsAccused}
 use Rattle.x25_possible.specs.Channel.{nth}
 use Rattle.x25_possible.specs.laws.Possible.{IsIn}
@@ -180,45 +180,31 @@ MayHaveSent n Asking = ⊥
 
 heard_sent : (k : Numbers) (x : Frame) → (heard true true k x).sent ≡ k.sent
 heard_sent k (Info ns nr d) = refl
-heard_sent k (Ready nr) = refl
-heard_sent k Unread = refl
 heard_sent k x = refl
 
 onward_has : (n : ℕ) (u : Stand) (x : Frame) → HasSent n (onward u x) → HasSent n u
 onward_has n (Up k) x h = sym (heard_sent k x) ∙ h
-onward_has n Out x h = tt
-onward_has n Asking x h = tt
-onward_has n Free x h = tt
+onward_has n u x h = tt
 
 onward_may_have : (n : ℕ) (u : Stand) (x : Frame) → MayHaveSent n u → MayHaveSent n (onward u x)
 onward_may_have n (Up k) x h = heard_sent k x ∙ h
 onward_may_have n Free x h = tt
-onward_may_have n Out x h = absurd h
-onward_may_have n Asking x h = absurd h
+onward_may_have n u x h = absurd h
 
 below_has : (n : ℕ) (s u : Stand) → Below s u → MayHaveSent n s → HasSent n u
 below_has n (Up k) (Up j) b h = b.sent ∙ h
-below_has n (Up k) Free b h = tt
-below_has n (Up k) Out b h = tt
-below_has n (Up k) Asking b h = tt
 below_has n Free (Up j) b h = absurd b
-below_has n Free Out b h = tt
-below_has n Free Asking b h = tt
-below_has n Free Free b h = tt
 below_has n Out u b h = absurd h
 below_has n Asking u b h = absurd h
+below_has n s u b h = tt
 
 below_may_have : (n : ℕ) (s u : Stand) → Below s u → MayHaveSent n s → MayHaveSent n u
 below_may_have n (Up k) (Up j) b h = b.sent ∙ h
 below_may_have n (Up k) Free b h = tt
-below_may_have n (Up k) Out b h = absurd b
-below_may_have n (Up k) Asking b h = absurd b
-below_may_have n Free (Up j) b h = absurd b
-below_may_have n Free Out b h = absurd b
-below_may_have n Free Asking b h = absurd b
 below_may_have n Free Free b h = tt
 below_may_have n Out u b h = absurd h
 below_may_have n Asking u b h = absurd h
+below_may_have n s u b h = absurd b
 
 StateHas : ℕ → State → Type 0
 StateHas n (At s) = MayHaveSent n s
@@ -268,9 +254,8 @@ unfolding IsSession
 not_out e = subst IsSession (sym e) tt
 
 not_declined : (s : session.Stand) → declined s ≡ In → ⊥
-not_declined session.Out e = not_out e
 not_declined session.Asking e = not_asking e
-not_declined session.In e = not_out e
+not_declined s e = not_out e
 
 -- an I frame that goes again has the octets that it had
 same_info : (held : Held) (p : Peer) (ns nr : ℕ) (pf : Bool) (packet : List ℕ) → IsHeld held p.given p.sent → (n : ℕ)
@@ -288,14 +273,7 @@ same_info held p ns nr pf packet is n m low = go (n == p.sent) refl
 
 same_by_held : (held : Held) (p : Peer) (frame : PlainFrame) → IsHeld held p.given p.sent → IsSame p frame (differs held frame)
 same_by_held held p (info ns nr pf packet) is = λ n m low. same_info held p ns nr pf packet is n m low
-same_by_held held p (rr command nr pf) is = tt
-same_by_held held p (rnr command nr pf) is = tt
-same_by_held held p (rej command nr pf) is = tt
-same_by_held held p (sabm f) is = tt
-same_by_held held p (disc f) is = tt
-same_by_held held p (ua f) is = tt
-same_by_held held p (dm f) is = tt
-same_by_held held p (frmr f why) is = tt
+same_by_held held p frame is = tt
 
 any : (b : Bool) → (b || true) ≡ true
 any true = refl
@@ -303,14 +281,7 @@ any false = refl
 
 same_anyhow : (p : Peer) (frame : PlainFrame) → IsSame p frame false
 same_anyhow p (info ns nr pf packet) = λ n m low. any (n == p.sent)
-same_anyhow p (rr command nr pf) = tt
-same_anyhow p (rnr command nr pf) = tt
-same_anyhow p (rej command nr pf) = tt
-same_anyhow p (sabm f) = tt
-same_anyhow p (disc f) = tt
-same_anyhow p (ua f) = tt
-same_anyhow p (dm f) = tt
-same_anyhow p (frmr f why) = tt
+same_anyhow p frame = tt
 
 -- ---- the end sends
 
@@ -333,15 +304,13 @@ said_held : (held : Held) (stand next : session.Stand) (p q : Peer) (way rest : 
     → MaySay stand p way frame next q rest → HasRoom held → (stand ≡ In → IsHeld held p.given p.sent) → next ≡ In
     → IsHeld (keeps held frame) q.given q.sent
 said_held held stand _ p q way _ frame (numbered _ _ is may) room was now = counted_held held p q frame may (was is)
-said_held held stand _ p _ way _ _ (asks b free) room was now = absurd (not_asking now)
-said_held held stand _ p _ way _ _ (asks_again b is) room was now = absurd (not_asking now)
 said_held held stand _ p _ way _ _ (closes b) room was now = absurd (not_out now)
 said_held held stand _ p _ way _ _ (declines f) room was now = absurd (not_declined stand now)
 said_held held stand _ p _ way _ _ (rejects f why) room was now = absurd (not_out now)
 said_held held stand _ p _ way _ _ (takes_disc b f rest is) room was now = absurd (not_out now)
 said_held held stand _ p _ way _ _ (takes_sabm b f rest is) room was now =
     subst (λ (h : Held). IsHeld h [] 0) (sym (bare_held held (ua f) tt)) (begun_held held [] room.octets room.known)
-said_held held stand _ p _ way _ _ (waits_on b f rest waits is) room was now = absurd (not_asking now)
+said_held held stand _ p _ way _ _ other room was now = absurd (not_asking now)
 
 -- where its octets are damaged
 lost_counted : (qs : List Spot) (held : Held) (p q : Peer) (frame : PlainFrame) → MaySend p frame q
@@ -375,15 +344,13 @@ lost_held : (set : LinkSet) (held : Held) (stand next : session.Stand) (p q : Pe
 lost_held set held stand _ p q way _ end frame (numbered _ _ is may) has room was now =
     lost_counted set.spots.items held p q frame may
     (up_has_sent set (numbers_of p) end (subst (λ s. Has set (At (stand_of s p)) end) is has)) (was is)
-lost_held set held stand _ p _ way _ end _ (asks b free) has room was now = absurd (not_asking now)
-lost_held set held stand _ p _ way _ end _ (asks_again b is) has room was now = absurd (not_asking now)
 lost_held set held stand _ p _ way _ end _ (closes b) has room was now = absurd (not_out now)
 lost_held set held stand _ p _ way _ end _ (declines f) has room was now = absurd (not_declined stand now)
 lost_held set held stand _ p _ way _ end _ (rejects f why) has room was now = absurd (not_out now)
 lost_held set held stand _ p _ way _ end _ (takes_disc b f rest is) has room was now = absurd (not_out now)
 lost_held set held stand _ p _ way _ end _ (takes_sabm b f rest is) has room was now =
     let left = each_room set.spots.items held room in begun_held (forgets_each set.spots.items held) [] left.octets left.known
-lost_held set held stand _ p _ way _ end _ (waits_on b f rest waits is) has room was now = absurd (not_asking now)
+lost_held set held stand _ p _ way _ end _ other has room was now = absurd (not_asking now)
 
 -- ---- one line
 
@@ -470,8 +437,7 @@ handed set held stand p way packet h = record {
   where
     same : (s : session.Stand) → stand_of s p ≡ stand_of s (record p { given = p.given ++ packet ∷ [] })
     same session.Out = refl
-    same session.Asking = refl
-    same session.In = refl
+    same s = refl
 
 passed : (set : LinkSet) (held : Held) (stand : session.Stand) (p : Peer) (what : Option PlainFrame) (way : Way)
     → Follows set held stand p (what ∷ way) → Follows set held stand p way

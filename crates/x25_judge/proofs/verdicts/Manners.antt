@@ -111,8 +111,7 @@ minded_fair Nothing window k t ns p differs m =
 skipped_fair : (told : Told) (window : ℕ) (s : Stand) (ns : ℕ) (p : Bool) (b : Minding) → AreFair b → AreFair (skipped_by told window s ns p b)
 skipped_fair (Skips u) window s ns p b h =
     own_fair (manners.sends window (place_in s) ns p true b.own) b (sends_fair window (place_in s) ns p true b.own) h
-skipped_fair Nothing window s ns p b h = h
-skipped_fair (Broken u) window s ns p b h = h
+skipped_fair told window s ns p b h = h
 
 counts_fair : (s : Stand) (window : ℕ) (t : Sent) (ns : ℕ) (p : Bool) (b : Minding) → AreFair b → AreFair (counts_in s window t ns p b)
 counts_fair (Up k) window t ns p b h = own_fair (minded_by window k t ns p _ b.own) b (minded_fair t.told window k t ns p _ b.own) h

@@ -74,8 +74,7 @@ bits_judge false pf is_shown b = answers_judge pf is_shown b
 
 skips_judge : (told : Told) (s : Stand) (window : ℕ) (ns : ℕ) (p : Bool) (b : Minding) → (links.skipped_by told window s ns p b).seen.is_judged ≡ b.seen.is_judged
 skips_judge (SkipsOf u) s window ns p b = refl
-skips_judge Nothing s window ns p b = refl
-skips_judge (Broken u) s window ns p b = refl
+skips_judge told s window ns p b = refl
 
 counts_judge : (s : Stand) (window : ℕ) (t : Sent) (ns : ℕ) (p : Bool) (b : Minding) → (links.counts_in s window t ns p b).seen.is_judged ≡ b.seen.is_judged
 counts_judge (Up k) window t ns p b = refl
@@ -134,15 +133,12 @@ module _ (window : ℕ) (t : Sent) (to : LinkSet) (b : Minding) (known : t.facts
 
   minds_tells : (frame : PlainFrame) → is_final frame ≡ true → links.judges 0 frame t.facts ≡ true → Tells (links.minds window t to frame b)
   unfolding links.minds links.judges
-  minds_tells (info ns nr p octets) final judged = absurd (both_ways false refl final)
   minds_tells (rr command nr pf) final judged = ready_tells command nr pf final judged
   minds_tells (rnr command nr pf) final judged = ready_tells command nr pf final judged
   minds_tells (rej command nr pf) final judged = reject_tells command nr pf final judged
-  minds_tells (sabm p) final judged = absurd (both_ways false refl final)
-  minds_tells (disc p) final judged = absurd (both_ways false refl final)
-  minds_tells (ua f) final judged = absurd (both_ways false refl final)
   minds_tells (dm f) final judged = final_tells f final judged
   minds_tells (frmr f why) final judged = final_tells f final judged
+  minds_tells frame final judged = absurd (both_ways false refl final)
 
 sure_is_known : (s : LinkSet) → steps.is_certain s ≡ true → steps.is_known s ≡ true
 sure_is_known s sure = (and_parts (steps.is_known s) _ sure).0
@@ -228,9 +224,7 @@ module _ (window : ℕ) (t : Sent) (ns : ℕ) (p : Bool) (b : Minding) (counted 
   stand_tells : (s : Stand) (x : Frame) → is_up s ≡ true → (IsTold (links.rule_of t.told x) → Tells b) → IsOutOfPlace ns p b.own (links.place_in s)
       → Tells (links.counts_in s window t ns p b)
   stand_tells (Up k) x up broken out = counts_tell t.told x k broken out
-  stand_tells Out x up broken out = absurd (both_ways false refl up)
-  stand_tells Asking x up broken out = absurd (both_ways false refl up)
-  stand_tells Free x up broken out = absurd (both_ways false refl up)
+  stand_tells s x up broken out = absurd (both_ways false refl up)
 
 pub asks_tells : (p : Bool) (b : Minding) → Tells b → Tells (links.asks p b)
 asks_tells true b h = first_keeps b.seen.rule (manners.asks b.own).rule h

@@ -7,7 +7,7 @@ use Rattle.std.proofs.lemmas.List.{length_push}
 use Rattle.x25_bits.specs.declared.role.Role.{Role}
 use Rattle.x25_bits.specs.declared.role.Role.TheVariants.{Dte, Dce}
 use Rattle.x25_decode.specs.Decoding.{n1}
-use Rattle.x25_frame.specs.Frame.{PlainFrame, info, rr, rnr, rej, sabm, disc, ua, dm, frmr}
+use Rattle.x25_frame.specs.Frame.{PlainFrame, info, rr, rnr, rej}
 use Rattle.x25_frame.specs.Reading.{frame_of}
 use Rattle.x25_frame.specs.Spelling.{IsWithin as IsWithinLine, information_of}
 use Rattle.x25_frame.specs.laws.ReadingLaw.{ReadsWhatIsSpelled}
@@ -309,14 +309,7 @@ is_short (info ns nr pf packet) h = room (length packet) h
   where
     room : (x : ℕ) → x ≤ 4099 → x ≤ 65536
     room x le = omega arith
-is_short (rr command nr pf) h = tt
-is_short (rnr command nr pf) h = tt
-is_short (rej command nr pf) h = tt
-is_short (sabm b) h = tt
-is_short (disc b) h = tt
-is_short (ua f) h = tt
-is_short (dm f) h = tt
-is_short (frmr f why) h = tt
+is_short frame h = tt
 
 -- ---- an end that keeps the rules
 
@@ -616,10 +609,9 @@ module _ (reads : ReadsWhatIsSpelled) (from : Role) (j : Judge) (lines : List (L
       }
 
 either : (from end : Role) → (end ≡ from) ⊎ (end ≡ other from)
-either Dte Dte = inl refl
 either Dte Dce = inr refl
 either Dce Dte = inr refl
-either Dce Dce = inl refl
+either from end = inl refl
 
 kept : ReadsWhatIsSpelled → (from : Role) (j : Judge) (lines : List (List ℕ)) → IsQuiet j lines → (own_of from j).set.is_blind ≡ false
     → Kept from j lines

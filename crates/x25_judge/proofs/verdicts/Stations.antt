@@ -22,7 +22,7 @@ use Rattle.x25_line.proofs.StationSays.{MayDo}
 use Rattle.x25_line.proofs.StationSends.{AllWithin, within_push, item_at}
 use Rattle.x25_judge.specs.declared.judge.Judge.{Judge}
 use Rattle.x25_judge.specs.laws.Sessions as sessions
-use Rattle.x25_judge.specs.laws.Sessions.{MaySend, MayStand, numbered}
+use Rattle.x25_judge.specs.laws.Sessions.{MayStand, numbered}
 use Rattle.x25_line.specs.laws.PeerSessions.{In}
 use Rattle.x25_judge.specs.laws.Session.{Way}
 use Rattle.x25_judge.specs.laws.VerdictClaims.{NoSessionIsAccused, NoStationIsAccused}
