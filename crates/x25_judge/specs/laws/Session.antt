@@ -99,9 +99,9 @@ IsTimely way = length way < 64
 
 -- it is a response with F=1, but for UA
 abbrev pub is_final : PlainFrame → Bool
-is_final (rr command nr pf) = pf && not command
-is_final (rnr command nr pf) = pf && not command
-is_final (rej command nr pf) = pf && not command
+is_final (rr command nr pf) = not command && pf
+is_final (rnr command nr pf) = not command && pf
+is_final (rej command nr pf) = not command && pf
 is_final (dm f) = f
 is_final (frmr f why) = f
 is_final frame = false
