@@ -21,7 +21,7 @@ use Rattle.x25_judge.specs.Links.{forgets_each, held_by, rule_of, shown}
 use Rattle.x25_judge.specs.Rule.{breaks_order}
 use Rattle.x25_judge.specs.declared.judge.Judge.{Judge}
 use Rattle.x25_judge.specs.declared.links.End.{End}
-use Rattle.x25_judge.specs.laws.Session.{begins_anywhere, begins_there, comes, IsBegun, IsDamaged, IsTimely, Shows, Way, is_of_order}
+use Rattle.x25_judge.specs.laws.Session.{comes, IsBegun, IsDamaged, IsTimely, Shows, Way, is_of_order}
 use Rattle.x25_judge.specs.laws.Sessions as sessions
 use Rattle.x25_judge.specs.laws.Sessions.{MaySay, MaySend, MayStand, declined, numbered, closes, declines, rejects, takes_disc, takes_sabm}
 use Rattle.x25_judge.specs.laws.VerdictClaims.{NoSessionIsAccused}
@@ -41,7 +41,7 @@ use Rattle.x25_possible_links.specs.declared.stand.Stand.{Stand}
 use Rattle.x25_possible_links.specs.declared.stand.Stand.TheVariants.{Out, Asking, Up, Free}
 use Rattle.x25_possible_links.proofs.Stands.{AreBelow, Below, below_self}
 use Rattle.x25_possible_links.proofs.Covers.{Covers, Here, Asked, Later, Begins}
-use Rattle.x25_possible_links.proofs.Leads.{Leads, Stays, Steps, HoldsAt, stays_at}
+use Rattle.x25_possible_links.proofs.Leads.{Leads, Stays, Steps, stays_at}
 use Rattle.x25_possible_links.proofs.StepLemmas.{below_is}
 use Rattle.x25_possible_links.proofs.Covering.{Has, has_taken, has_less, has_sent, has_shown, is_untold}
 use Rattle.x25_judge.proofs.verdicts.Lines.{goes, past, told_of_order}
@@ -622,26 +622,17 @@ comes_to (x ∷ way) Asking e = go (may_answer x) refl e (comes_to way fresh) (c
     go false a h one two = Later Asking x way (At fresh) [] (two h)
 comes_to (x ∷ way) u e = Later u x way (At fresh) [] (comes_to way (upward u x) e)
 
-has_fresh : (way : List Frame) (qs : List Spot) → begins_anywhere way qs ≡ true
-    → (q : Spot) × IsIn q qs × HoldsAt q.stand (drop q.at way) (At fresh) []
-has_fresh way [] e = absurd (both_ways false refl e)
-has_fresh way (q ∷ qs) e = go (begins_there way q) refl e (has_fresh way qs)
-  where
-    go : (b : Bool) → begins_there way q ≡ b → (b || begins_anywhere way qs) ≡ true
-        → (begins_anywhere way qs ≡ true → (r : Spot) × IsIn r qs × HoldsAt r.stand (drop r.at way) (At fresh) [])
-        → (r : Spot) × IsIn r (q ∷ qs) × HoldsAt r.stand (drop r.at way) (At fresh) []
-    go true b h rest =
-        (q, inl refl, stays_at q.stand (drop q.at way) fresh fresh [] (below_self fresh) (comes_to (drop q.at way) q.stand b))
-    go false b h rest = let g = rest h in (g.0, inr g.1, g.2)
-
 begun : (from : Role) (j : Judge) → IsBegun j from → FollowsOf (own_of from j) In fresh_peer []
-begun from j h = record {
-  end = [];
-  has = has_fresh (own_of from j).set.way.items (own_of from j).set.spots.items h.up;
-  means = tt;
-  room = record { octets = h.octets; known = h.known };
-  octets = λ is. begun_held (own_of from j).held [] h.octets h.known;
-}
+begun from j h =
+    let q = h.up.0 in
+    let way = drop q.at (own_of from j).set.way.items in
+    record {
+      end = [];
+      has = (q, h.up.1, stays_at q.stand way fresh fresh [] (below_self fresh) (comes_to way q.stand h.up.2));
+      means = tt;
+      room = record { octets = h.octets; known = h.known };
+      octets = λ is. begun_held (own_of from j).held [] h.octets h.known;
+    }
 
 nothing : (from : Role) (window : ℕ) (reading : Reading) (strictness : Strictness)
     → FollowsOf (own_of from (judge_begins window reading strictness)) session.Out fresh_peer []

@@ -1,6 +1,6 @@
 -- Behind a set-up the places of an end are within one session. So what it sends is what an end sends that keeps the
 -- rules, and a trace of which nothing is told is a silent tape of `x25_line`.
-use Rattle.std.proofs.Common.{◌≡◌, ◌==◌, ◌⊎◌, inl, inr, ℕ, ◌+◌, ◌-◌, ◌%◌, ◌<◌, ◌≤◌, arith, max, Bool, true, false, if◌then◌else◌, List, [], ◌∷◌, ◌++◌, drop, length, Some, None, Ok, refl, sym, ap, ◌∙◌, subst}
+use Rattle.std.proofs.Common.{◌≡◌, ◌==◌, ◌⊎◌, inl, inr, ℕ, ◌+◌, ◌-◌, ◌%◌, ◌<◌, ◌≤◌, arith, max, Bool, true, false, if◌then◌else◌, List, [], ◌∷◌, ◌++◌, length, Some, None, Ok, refl, sym, ap, ◌∙◌, subst}
 use Rattle.std.specs.Prelude.{slice_get, nat_lt, nat_le, not, ◌&&◌, ◌||◌}
 use Rattle.std.proofs.lemmas.Bool.{both_ways, eq-eqb, eqb-true, ne_eqb, lt-ltb, le-leb, and_from, and_parts, cond-true, cond-false}
 use Rattle.std.proofs.lemmas.List.{length_push}
@@ -26,12 +26,11 @@ use Rattle.x25_judge.specs.Links.{held_by, shown}
 use Rattle.x25_judge.specs.declared.judge.Judge.{Judge}
 use Rattle.x25_judge.specs.declared.links.End.{End}
 use Rattle.x25_judge.specs.laws.Sessions.{MaySend}
-use Rattle.x25_judge.specs.laws.Session.{are_new, comes, is_new, IsBegun, Shows, IsNumbered}
+use Rattle.x25_judge.specs.laws.Session.{come, is_new, IsBegun, Shows, IsNumbered}
 use Rattle.x25_judge.specs.laws.Watching.{Watched, more, IsSilent, Begins, Acts, Rests, Says, Comes, Fails}
 use Rattle.x25_judge.specs.laws.VerdictClaims.{SilenceMeansOrder, SilenceMeansRules}
 use Rattle.x25_judge.specs.laws.Explaining.{IsQuiet, Starts, Follows, IsKept, Fresh, HandsDown, Sends, Hears}
 use Rattle.x25_possible.specs.Channel.{nth}
-use Rattle.x25_possible.specs.laws.Possible.{IsIn}
 use Rattle.x25_possible_links.specs.code.Steps.{sends_to, shows_to}
 use Rattle.x25_possible_links.specs.laws.Link as link
 use Rattle.x25_possible_links.specs.laws.Link.{fresh, heard, may_acknowledge, may_count, may_number, sent_to}
@@ -40,7 +39,6 @@ use Rattle.x25_possible_links.specs.declared.frame.Frame.{Frame}
 use Rattle.x25_possible_links.specs.declared.frame.Frame.TheVariants.{Info, Ready}
 use Rattle.x25_possible_links.specs.declared.set.LinkSet.{LinkSet}
 use Rattle.x25_possible_links.specs.declared.set.Told.TheVariants.{Nothing}
-use Rattle.x25_possible_links.specs.declared.spots.Spot.{Spot}
 use Rattle.x25_possible_links.specs.declared.stand.Numbers.{Numbers}
 use Rattle.x25_possible_links.specs.declared.stand.Stand.{Stand}
 use Rattle.x25_possible_links.specs.declared.stand.Stand.TheVariants.{Out, Asking, Up, Free}
@@ -83,20 +81,11 @@ fits_new Asking e = (refl, refl)
 fits_new (Up j) e = below_is (Up j) fresh e
 fits_new Free e = absurd (both_ways false refl e)
 
-each_new : (way : List Frame) (qs : List Spot) → are_new way qs ≡ true → (q : Spot) → IsIn q qs
-    → Fits no_numbers (comes (drop q.at way) q.stand)
-each_new way [] e q is = absurd is
-each_new way (p ∷ qs) e q (inl same) =
-    let a = and_parts (is_new (comes (drop p.at way) p.stand)) (are_new way qs) e in
-    subst (λ (r : Spot). Fits no_numbers (comes (drop r.at way) r.stand)) (sym same) (fits_new (comes (drop p.at way) p.stand) a.0)
-each_new way (p ∷ qs) e q (inr is) =
-    let a = and_parts (is_new (comes (drop p.at way) p.stand)) (are_new way qs) e in each_new way qs a.1 q is
-
 pub begun_knows : (j : Judge) (from : Role) → IsBegun j from → (own_of from j).set.is_blind ≡ false
     → KnowsOf (own_of from j) no_numbers []
 begun_knows j from b room = record {
   sees = room;
-  within = each_new (own_of from j).set.way.items (own_of from j).set.spots.items b.new;
+  within = λ q is. fits_new (come (own_of from j).set q) (b.new q is);
   all = refl;
   octets = begun_held (own_of from j).held [] b.octets b.known;
   known = λ n lt near. absurd (never n lt);
