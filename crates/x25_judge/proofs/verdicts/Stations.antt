@@ -158,7 +158,7 @@ module _ (c : Settings) (high : c.window ≤ 7) (longest : c.longest ≡ n1) (re
       record { peer = h.peer; reached = reached; fits = h.fits; room = h.room; told = h.told; within = h.within; down = h.down; up = h.up; fine = λ never. absurd never }
 
   watched : (w : Watched) → IsAny c w → w.near.came_up ≡ false → Watches w
-  watched w (Begins j up any) once =
+  watched w (Begins j up) once =
       record {
         peer = fresh_peer;
         reached = record { before = fresh_peer; way = []; may = sessions.SetUp j (up c.role); left = []; did = did_nothing; line = empty; within = tt; few = omega arith };
@@ -189,7 +189,7 @@ module _ (c : Settings) (high : c.window ≤ 7) (longest : c.longest ≡ n1) (re
         within = r.within;
         few = omega arith;
       })
-  watched w (Says v line octets frame rest out shows is passes h) once =
+  watched w (Says v line octets frame rest out shows is h) once =
       let k = watched v h once in
       let r = k.reached in
       let f = front c.role v.judge r.before r.way octets frame shows.reads is r.may k.peer r.left v.out rest out r.did in
@@ -209,7 +209,7 @@ module _ (c : Settings) (high : c.window ≤ 7) (longest : c.longest ≡ n1) (re
         within = r.within;
         few = one_longer r.way (Some frame) v.since r.few;
       })
-  watched w (Fails v line octets damage broken passes lags h) once =
+  watched w (Fails v line octets damage broken lags h) once =
       let k = watched v h once in
       let r = k.reached in
       moved v k w.judge v.shown v.out (v.back ++ octets ∷ []) (v.since + 1)
