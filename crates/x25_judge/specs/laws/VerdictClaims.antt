@@ -59,8 +59,8 @@ SilenceMeansRules =
 -- and where lines of the other end are damaged, whatever is told of it, each number of an end carries one packet
 abbrev pub SilenceMeansNumbers : Type 0
 SilenceMeansNumbers =
-    (from : Role) (j : Judge) (lines : List (List ℕ)) → IsUntold (Unit {0}) from j lines → (own_of from j).set.is_blind ≡ false
-    → (given : List (List ℕ)) × Carries from lines given
+    (from : Role) (j : Judge) (lines : List (List ℕ)) → IsUntold (Unit {0}) from j lines
+    → (own_of from j).set.is_blind ≡ false → (given : List (List ℕ)) × Carries from lines given
 
 -- what the judge is behind these lines
 abbrev pub after : Judge → List (List ℕ) → Judge

@@ -32,8 +32,8 @@ abbrev pub more : PlainFrame → List (List ℕ) → List (List ℕ)
 more (info ns nr pf packet) shown = if ns == length shown % 8 then shown ++ packet ∷ [] else shown
 more frame shown = shown
 
--- Lines of the other end are as `Passes` has it. Where `Damage` holds they may be damaged, and where `MayLag` does of how
--- many there were, one more may be shown.
+-- Lines of the other end are as `Passes` has it. Where `Damage` holds they may be damaged, and where `MayLag` does of
+-- how many there were, one more may be shown.
 pub data IsWatched (Passes : Judge → List ℕ → Type 0) (Damage : Type 0) (MayLag : ℕ → Type 0) (c : Settings)
     : Watched → Type 0 where
   -- the trace has shown a set-up
