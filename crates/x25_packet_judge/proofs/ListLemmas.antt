@@ -9,9 +9,10 @@ left_mapped f (suc n) [] = []
 left_mapped f (suc n) (x ∷ xs) = x ∷ left_mapped f n xs
 
 one_more : {A : Type 0} (f : A → A) (n : ℕ) (xs : List A) (d : A) → n < length xs → left_mapped f (suc n) (slice_set xs n (f (slice_index_or xs n d))) ≡ left_mapped f n xs
+one_more f zero [] d low = absurd (omega (arith, low))
 one_more f zero (x ∷ xs) d low = refl
+one_more f (suc n) [] d low = absurd (omega (arith, low))
 one_more f (suc n) (x ∷ xs) d low = ap (λ l. x ∷ l) (one_more f n xs d (omega (arith, low)))
-one_more f n [] d low = absurd (omega (arith, low))
 
 pub changed_more : {A : Type 0} (f : A → A) (n : ℕ) (xs all : List A) (d : A) → n < length xs → left_mapped f n xs ≡ map f all → left_mapped f (n + 1) (slice_set xs n (f (slice_index_or xs n d))) ≡ map f all
 changed_more f n xs all d low h =
@@ -19,9 +20,10 @@ changed_more f n xs all d low h =
     ap (λ (k : ℕ). left_mapped f k (slice_set xs n (f (slice_index_or xs n d)))) more ∙ one_more f n xs d low ∙ h
 
 all_mapped : {A : Type 0} (f : A → A) (n : ℕ) (xs : List A) → length xs ≤ n → left_mapped f n xs ≡ xs
+all_mapped f zero [] few = refl
 all_mapped f zero (x ∷ xs) few = absurd (omega (arith, few))
+all_mapped f (suc n) [] few = refl
 all_mapped f (suc n) (x ∷ xs) few = ap (λ l. x ∷ l) (all_mapped f n xs (omega (arith, few)))
-all_mapped f n [] few = refl
 
 -- what was changed is written back to the vector
 pub written_back : {A : Type 0} (f : A → A) (n len : ℕ) (xs old : List A) → left_mapped f n xs ≡ map f old → length xs ≤ n → length old ≤ len → length xs ≡ length old → take len (xs ++ drop (length xs) old) ≡ map f old
