@@ -6,6 +6,7 @@ use Rattle.x25_frame.specs.Frame.{PlainFrame, info, rr, rnr, rej, sabm, disc, ua
 use Rattle.x25_line.specs.laws.Peer.{Peer, fresh_peer, MayAcknowledge, MayNumber}
 use Rattle.x25_line.specs.laws.Peer as peer
 use Rattle.x25_line.specs.laws.PeerSessions as session
+use Rattle.x25_line.specs.laws.Said.{Said, Tells}
 use Rattle.x25_line.specs.laws.PeerSessions.{In}
 use Rattle.x25_judge.specs.Links.{shown}
 use Rattle.x25_judge.specs.laws.Session.{Way}
@@ -28,6 +29,24 @@ abbrev pub stand_of : session.Stand → Peer → Stand
 stand_of session.Out p = Out
 stand_of session.Asking p = Asking
 stand_of session.In p = Up (numbers_of p)
+
+-- what comes changes nothing of what it was given and has sent
+module _ (P : List (List ℕ) → ℕ → Type 0) where
+  hearing_keeps : (b : Bool) (nr : ℕ) (p : Peer) → P p.given p.sent → P (peer.hearing b nr p).given (peer.hearing b nr p).sent
+  hearing_keeps true nr p h = h
+  hearing_keeps false nr p h = h
+
+  taking_keeps : (b : Bool) (packet : List ℕ) (p : Peer) → P p.given p.sent
+      → P (peer.taking b packet p).given (peer.taking b packet p).sent
+  taking_keeps true packet p h = h
+  taking_keeps false packet p h = h
+
+  pub heard_keeps : (p q : Peer) (s : Said) → peer.MayMake p s q → P p.given p.sent → P q.given q.sent
+  heard_keeps p q (Tells None nr) may h = subst (λ (r : Peer). P r.given r.sent) (sym may.1) (hearing_keeps may.0 nr p h)
+  heard_keeps p q (Tells (Some c) nr) may h =
+      subst (λ (r : Peer). P r.given r.sent) (sym may.3)
+      (taking_keeps may.1 c.packet (peer.hearing may.0 nr p) (hearing_keeps may.0 nr p h))
+  heard_keeps p q s may h = subst (λ (r : Peer). P r.given r.sent) (sym may) h
 
 -- ---- what is on the way
 

@@ -47,7 +47,7 @@ use Rattle.x25_possible_links.proofs.Stands.{Acknowledges, IsNumbered as MayBeNu
 use Rattle.x25_possible_links.proofs.StepLemmas.{below_is}
 use Rattle.x25_judge.proofs.verdicts.Following.{numbers_of, sent_is}
 use Rattle.x25_judge.proofs.verdicts.Guilty.{untold}
-use Rattle.x25_judge.proofs.verdicts.Innocents.{IsShown, sent_end, shown_end}
+use Rattle.x25_judge.proofs.verdicts.Innocents.{IsEnd, sent_end, shown_end}
 use Rattle.x25_judge.proofs.verdicts.Lines.{other_twice, none_told}
 use Rattle.x25_judge.proofs.verdicts.Octets.{AreKnown, IsHeld, begun_held, last_of, old_octets, pushed_held, sent_held, sent_known}
 use Rattle.x25_judge.proofs.verdicts.Silent.{Fits, IsNumber, IsWithin, heard_sent, shown_within, walked_within, walks_within, within_passes}
@@ -338,7 +338,7 @@ pub record OtherLine (from : Role) (j : Judge) (line : List ℕ) (y : Frame) : T
       → Explains (own_of from (answer_to j line).next) q
 
 pub other_by : (from : Role) (j : Judge) (line : List ℕ) (y : Frame)
-    → IsShown (own_of from j).set (own_of from j).held y (own_of from (answer_to j line).next)
+    → IsEnd (shows_to y (own_of from j).set) (own_of from j).held (own_of from (answer_to j line).next)
     → (own_of from (answer_to j line).next).set.is_blind ≡ false → OtherLine from j line y
 other_by from j line y g room =
     let set = (own_of from j).set in
