@@ -82,10 +82,9 @@ restarts_follow b role from of packet false is loud =
 -- ---- an end that has sent
 
 spoken_layers : (role from : Role) (b : Book) → is_quiet role b ≡ false → is_quiet role (book.spoken from b) ≡ false
-spoken_layers Dte Dte b loud = refl
 spoken_layers Dte Dce b loud = loud
 spoken_layers Dce Dte b loud = loud
-spoken_layers Dce Dce b loud = refl
+spoken_layers role from b loud = refl
 
 spoken_once : (from : Role) (b : Book) → is_quiet from (book.spoken from b) ≡ false
 spoken_once Dte b = refl

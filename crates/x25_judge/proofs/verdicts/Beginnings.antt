@@ -1,7 +1,9 @@
 -- SABM and UA begin a session of both ends.
 use Rattle.std.proofs.Common.{◌≡◌, ◌==◌, ◌⊎◌, inl, inr, ℕ, arith, Bool, true, false, zero, suc, List, [], ◌∷◌, ◌++◌, length, drop, Option, Some, None, Result, Ok, Err, refl, sym, ap, ◌∙◌, subst}
 use Rattle.std.specs.Prelude.{nat_le, not, ◌&&◌, ◌||◌, if◌then◌else◌, is_some}
-use Rattle.std.proofs.lemmas.Bool.{both_ways, and_from, cond_both, eq-eqb, le-leb, or_parts}
+use Rattle.std.specs.List.{list_any}
+use Rattle.std.proofs.lemmas.List.Folds.{list_any-append}
+use Rattle.std.proofs.lemmas.Bool.{both_ways, cond_both, eq-eqb, le-leb, or_parts}
 use Rattle.x25_bits.specs.declared.role.Role.{Role}
 use Rattle.x25_bits.specs.declared.role.Role.TheVariants.{Dte, Dce}
 use Rattle.x25_decode.specs.Decoding.{gap_in, n1, sent_in}
@@ -23,7 +25,7 @@ use Rattle.x25_judge.specs.declared.manners.Minded.{Minded}
 use Rattle.x25_judge.specs.declared.note.Note.TheVariants.{PollAgain}
 use Rattle.x25_judge.specs.declared.rule.Rule.{Rule}
 use Rattle.x25_judge.specs.declared.rule.Rule.TheVariants.{NotUp, UaUnasked}
-use Rattle.x25_judge.specs.laws.Session.{are_new, begins_anywhere, begins_there, comes, has_answer, has_number, is_new, is_number, is_of_order, IsBegun, rule_of, Shows}
+use Rattle.x25_judge.specs.laws.Session.{come, comes, has_answer, has_number, is_new, is_number, is_of_order, IsBegun, rule_of, Shows}
 use Rattle.x25_judge.specs.laws.VerdictClaims.{after, IsClear, SetUpsBegin}
 use Rattle.x25_packet_judge.specs.declared.packet_rule.PacketRule.{PacketRule}
 use Rattle.x25_possible.specs.laws.Possible.{IsIn, Place, at}
@@ -62,10 +64,8 @@ up_comes [] k s t = up_fresh k s t
 up_comes (x ∷ way) k s t = up_comes way (heard true true k x) (heard_sent k x ∙ s) (heard_told k x ∙ t)
 
 step_comes : (u : Stand) (x : Frame) (way : List Frame) → Below fresh (comes way (onward u x)) → Below fresh (comes way (upward u x))
-step_comes Out x way b = b
 step_comes Asking x way b = cond_both (may_answer x) fresh Asking (λ (u : Stand). Below fresh (comes way u)) (λ _. up_comes way _ refl refl) (λ _. b)
-step_comes Free x way b = b
-step_comes (Up k) x way b = b
+step_comes u x way b = b
 
 begins_come : (x : Frame) (way : List Frame) → may_answer x ≡ true → Below fresh (comes way (upward Asking x))
 begins_come x way may =
@@ -105,22 +105,9 @@ numbers_true k j b = both (j.sent == k.sent) (nat_le k.acked j.acked) (nat_le k.
     both a b c d e f g h = ap (λ (x : Bool). x && (b && (c && d))) e ∙ (ap (λ (x : Bool). x && (c && d)) f ∙ (ap (λ (x : Bool). x && d) g ∙ h))
 
 below_is : (s : Stand) → Below fresh s → is_below fresh s ≡ true
-below_is Out b = absurd b
-below_is Asking b = absurd b
 below_is (Up j) b = numbers_true _ j b
 below_is Free b = refl
-
-or_right : (a b : Bool) → b ≡ true → (a || b) ≡ true
-or_right true b h = refl
-or_right false b h = h
-
-in_begins : (way : List Frame) (qs : List Spot) (q : Spot) → IsIn q qs → begins_there way q ≡ true → begins_anywhere way qs ≡ true
-in_begins way [] q is h = absurd is
-in_begins way (p ∷ qs) q (inl e) h = ap (λ b. b || begins_anywhere way qs) (subst (λ r. begins_there way r ≡ true) e h)
-in_begins way (p ∷ qs) q (inr is) h = or_right (begins_there way p) (begins_anywhere way qs) (in_begins way qs q is h)
-
-has_begins : (s : LinkSet) → Has s (At fresh) [] → begins_anywhere s.way.items s.spots.items ≡ true
-has_begins s h = in_begins s.way.items s.spots.items h.0 h.1 (below_is _ (holds_come h.0.stand (drop h.0.at s.way.items) h.2))
+below_is s b = absurd b
 
 -- ---- a set of any places
 
@@ -145,9 +132,7 @@ free_in n way = (spot_at n Free, inl refl, record { good = Free; below = tt; sta
 
 asks_alone : (s : Stand) → asks s [] ≡ Some Asking
 asks_alone Out = refl
-asks_alone Asking = refl
-asks_alone (Up k) = refl
-asks_alone Free = refl
+asks_alone s = refl
 
 abbrev set_in : List Frame → List Spot → Bool → LinkSet
 set_in way qs b = record { way = record { items = way }; spots = record { items = qs }; is_blind = b }
@@ -187,9 +172,7 @@ asker s =
 
 owed_first : (s : Stand) → IsIn fresh (owed s Sabm)
 owed_first Out = inl refl
-owed_first Asking = inl refl
-owed_first (Up k) = inl refl
-owed_first Free = inl refl
+owed_first s = inl refl
 
 abbrev IsToldUnasked : LinkSet → Type 0
 IsToldUnasked s = (stand : Stand) × ((sends_to Ua s).told ≡ Broken stand)
@@ -229,27 +212,19 @@ answerer s = answers_in s.way.items s.spots.items s.is_blind
 -- ---- no more than a session that begins
 
 fits_is_new : (s : Stand) → Fits no_numbers s → is_new s ≡ true
-fits_is_new Out b = refl
-fits_is_new Asking b = refl
 fits_is_new (Up j) b = numbers_true j no_numbers b
 fits_is_new Free b = absurd b
-
-all_new : (way : List Frame) (qs : List Spot) → ((q : Spot) → IsIn q qs → Fits no_numbers (comes (drop q.at way) q.stand))
-    → are_new way qs ≡ true
-all_new way [] all = refl
-all_new way (q ∷ qs) all =
-    and_from (is_new (comes (drop q.at way) q.stand)) (are_new way qs) (fits_is_new (comes (drop q.at way) q.stand) (all q (inl refl)))
-    (all_new way qs (λ r is. all r (inr is)))
+fits_is_new s b = refl
 
 abbrev IsNew : LinkSet → Type 0
 IsNew s = AllAre (IsWithin no_numbers) s
 
 -- the end that asks
 
-no_answer_left : (n : ℕ) (way : List Frame) → has_answer way ≡ false → has_answer (drop n way) ≡ false
-no_answer_left zero way e = e
-no_answer_left (suc n) [] e = refl
-no_answer_left (suc n) (x ∷ way) e = no_answer_left n way (or_parts (may_answer x) (has_answer way) e).1
+none_left : (test : Frame → Bool) (n : ℕ) (way : List Frame) → list_any test way ≡ false → list_any test (drop n way) ≡ false
+none_left test zero way e = e
+none_left test (suc n) [] e = refl
+none_left test (suc n) (x ∷ way) e = none_left test n way (or_parts (test x) (list_any test way) e).1
 
 asking_comes : (way : List Frame) → has_answer way ≡ false → comes way Asking ≡ Asking
 asking_comes [] e = refl
@@ -280,7 +255,7 @@ asker_new s free told some room =
   where
     waits : AllAre Waits (sends_to Sabm s).set
     waits =
-        (sent_all (λ p. has_answer p.way ≡ false) Waits s Sabm (λ q is. no_answer_left q.at s.way.items free)
+        (sent_all (λ p. has_answer p.way ≡ false) Waits s Sabm (λ q is. none_left may_answer q.at s.way.items free)
         (λ p m h there. settled_comes m.way m.state ∙ goes_waits p.way p.state m h there) some told).all
 
     each : (p : Place Stand Frame) → Waits p → IsWithin no_numbers (place.shown Ua p)
@@ -289,17 +264,6 @@ asker_new s free told some room =
         (below_self fresh)
 
 -- the end that answers
-
-no_number_left : (n : ℕ) (way : List Frame) → has_number way ≡ false → has_number (drop n way) ≡ false
-no_number_left zero way e = e
-no_number_left (suc n) [] e = refl
-no_number_left (suc n) (x ∷ way) e = no_number_left n way (or_parts (is_number x) (has_number way) e).1
-
-no_number_on : (way : List Frame) → has_number way ≡ false → has_number (way ++ Sabm ∷ []) ≡ false
-no_number_on [] e = refl
-no_number_on (x ∷ way) e =
-    let a = or_parts (is_number x) (has_number way) e in
-    ap (λ b. b || has_number (way ++ Sabm ∷ [])) a.0 ∙ no_number_on way a.1
 
 settled_no_number : (way : List Frame) (s : Stand) → has_number way ≡ false → has_number (settled s way).way ≡ false
 settled_no_number [] s e = e
@@ -349,9 +313,9 @@ answerer_new s free some room told =
   where
     shown : AllAre HasNone (shows_to Sabm s)
     shown =
-        shown_all HasNone HasNone s Sabm (λ q is. no_number_left q.at s.way.items free)
+        shown_all HasNone HasNone s Sabm (λ q is. none_left is_number q.at s.way.items free)
         (λ u x v e h. (or_parts (is_number x) (has_number v) h).1)
-        (λ p h. settled_no_number (p.way ++ Sabm ∷ []) p.state (no_number_on p.way h)) some
+        (λ p h. settled_no_number (p.way ++ Sabm ∷ []) p.state (list_any-append is_number p.way (Sabm ∷ []) ∙ ap (λ b. b || false) h)) some
 
 -- ---- the judge
 
@@ -381,9 +345,7 @@ told_not_up (Some rule) = refl
 
 not_up : (s : Stand) → links.broken s Sabm ≡ NotUp
 not_up Out = refl
-not_up Asking = refl
-not_up (Up k) = refl
-not_up Free = refl
+not_up s = refl
 
 asks_rule : (p : Bool) (b : Minding) → b.seen.rule ≡ Some NotUp → (links.asks p b).seen.rule ≡ Some NotUp
 asks_rule false b e = e
@@ -437,9 +399,10 @@ ua_other j from f = ap (λ (e : End). shows_to Ua e.set) (opposite_is from j)
 begun_by : (j : Judge) (r : Role) (s : LinkSet) → (own_of r j).set ≡ s → Has s (At fresh) [] → (s.is_blind ≡ false → IsNew s)
     → (own_of r j).set.is_blind ≡ false → HasRoom (own_of r j).held → IsBegun j r
 begun_by j r s e h new sees room = record {
-  up = subst (λ (t : LinkSet). begins_anywhere t.way.items t.spots.items ≡ true) (sym e) (has_begins s h);
-  new = subst (λ (t : LinkSet). are_new t.way.items t.spots.items ≡ true) (sym e)
-      (all_new s.way.items s.spots.items (new (ap (λ (t : LinkSet). t.is_blind) (sym e) ∙ sees)));
+  up = subst (λ (t : LinkSet). (q : Spot) × IsIn q t.spots.items × (is_below fresh (come t q) ≡ true)) (sym e)
+      (h.0, h.1, below_is _ (holds_come h.0.stand (drop h.0.at s.way.items) h.2));
+  new = subst (λ (t : LinkSet). (q : Spot) → IsIn q t.spots.items → is_new (come t q) ≡ true) (sym e)
+      (λ q is. fits_is_new (come s q) (new (ap (λ (t : LinkSet). t.is_blind) (sym e) ∙ sees) q is));
   octets = room.octets;
   known = room.known;
 }
@@ -450,15 +413,13 @@ abbrev AreRoomy : Judge → Type 0
 AreRoomy j = (r : Role) → HasRoom (own_of r j).held
 
 by_roles : (from : Role) (k : Judge) (P : End → Type 0) → P (own_of from k) → P (own_of (other from) k) → (r : Role) → P (own_of r k)
-by_roles Dte k P a b Dte = a
 by_roles Dte k P a b Dce = b
 by_roles Dce k P a b Dte = b
-by_roles Dce k P a b Dce = a
+by_roles from k P a b r = a
 
 told_room : (told : Told) (h : Held) → HasRoom h → HasRoom (links.held_by told h)
-told_room Nothing h g = g
 told_room (SkipsOf s) h g = record { octets = g.octets; known = refl }
-told_room (Broken s) h g = g
+told_room told h g = g
 
 abbrev RoomOf : End → Type 0
 RoomOf e = HasRoom e.held
@@ -507,10 +468,9 @@ begins_so window reading strictness Dce = record { octets = refl; known = refl }
 -- ---- the law
 
 either : (from end : Role) → (end ≡ from) ⊎ (end ≡ other from)
-either Dte Dte = inl refl
 either Dte Dce = inr refl
 either Dce Dte = inr refl
-either Dce Dce = inl refl
+either from end = inl refl
 
 begin_both : (j : Judge) (from end : Role) (asks accepts asked accepted : List ℕ) (p f : Bool) → AreRoomy j → Shows asks from asked (sabm p) → Shows accepts (other from) accepted (ua f)
     → is_of_order (rule_of j from (sabm p)) ≡ false → is_of_order (rule_of (answer_to j asks).next (other from) (ua f)) ≡ false → IsClear j from end

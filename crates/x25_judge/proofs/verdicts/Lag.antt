@@ -2,7 +2,7 @@
 use Rattle.std.proofs.Common.{◌≡◌, ◌⊎◌, inl, inr, ℕ, ◌≤◌, arith, length, zero, suc, List, [], ◌∷◌, ◌++◌, true, false, Option, Some, None, Result, Ok, Err, refl, sym, ap, ◌∙◌, subst, remove}
 use Rattle.x25_bits.specs.declared.role.Role.{Role}
 use Rattle.x25_decode.specs.Decoding.{n1}
-use Rattle.x25_frame.specs.Frame.{PlainFrame, info, rr, rnr, rej, sabm, disc, ua, dm, frmr}
+use Rattle.x25_frame.specs.Frame.{PlainFrame, info, rr, rnr, rej}
 use Rattle.x25_frame.specs.Reading.{frame_of}
 use Rattle.x25_frame.specs.declared.error.FrameError.{FrameError}
 use Rattle.x25_frame.specs.declared.error.FrameError.TheVariants.{Short, BadFcs}
@@ -75,11 +75,7 @@ none_numbered (info ns nr pf packet) is e = cc
 none_numbered (rr command nr pf) is e = cc
 none_numbered (rnr command nr pf) is e = cc
 none_numbered (rej command nr pf) is e = cc
-none_numbered (sabm p) is e = is
-none_numbered (disc p) is e = is
-none_numbered (ua f) is e = is
-none_numbered (dm f) is e = is
-none_numbered (frmr f why) is e = is
+none_numbered frame is e = is
 
 first_is : (x y : List ℕ) (xs ys : List (List ℕ)) → x ∷ xs ≡ y ∷ ys → x ≡ y
 first_is x y xs ys e = cc

@@ -4,7 +4,7 @@ use Rattle.std.specs.Prelude.{is_some, not, ◌&&◌}
 use Rattle.std.proofs.lemmas.Bool.{both_ways, or_parts, cond_both}
 use Rattle.x25_bits.specs.declared.role.Role.{Role}
 use Rattle.x25_bits.specs.declared.role.Role.TheVariants.{Dte, Dce}
-use Rattle.x25_frame.specs.Frame.{PlainFrame, info, rr, rnr, rej, sabm, disc, ua, dm, frmr}
+use Rattle.x25_frame.specs.Frame.{PlainFrame, info}
 use Rattle.x25_link.specs.Hearing.{other}
 use Rattle.x25_packet.specs.Reading.{channel_in}
 use Rattle.x25_packet_judge.specs.Book as book
@@ -51,16 +51,8 @@ on_any from None is_judged j P h = h 0
 carried_any : (from : Role) (frame : PlainFrame) (is_again is_judged : Bool) (j : Judge) (P : Judge → Type 0) → P j
     → ((c : ℕ) → P (counts_packet from c is_judged j)) → P (counts_carried from frame is_again is_judged j)
 unfolding counts_carried
-carried_any from (info ns nr p octets) true is_judged j P h g = h
 carried_any from (info ns nr p octets) false is_judged j P h g = on_any from (channel_in octets) is_judged j P g
-carried_any from (rr command nr pf) is_again is_judged j P h g = h
-carried_any from (rnr command nr pf) is_again is_judged j P h g = h
-carried_any from (rej command nr pf) is_again is_judged j P h g = h
-carried_any from (sabm p) is_again is_judged j P h g = h
-carried_any from (disc p) is_again is_judged j P h g = h
-carried_any from (ua f) is_again is_judged j P h g = h
-carried_any from (dm f) is_again is_judged j P h g = h
-carried_any from (frmr f why) is_again is_judged j P h g = h
+carried_any from frame is_again is_judged j P h g = h
 
 pub next_goes : (from : Role) (j : Judge) (frame : PlainFrame) (t : Both) (s : book.Seen) (in_doubt : Bool) (rule : Option Rule)
     → Goes j (tallies in_doubt rule (next_by from frame t s j)) from t

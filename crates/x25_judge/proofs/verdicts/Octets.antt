@@ -5,7 +5,7 @@ use Rattle.std.specs.Str.{bytes_eq}
 use Rattle.std.proofs.lemmas.Bool.{both_ways, cases_eq, le-leb, cond-true}
 use Rattle.std.proofs.lemmas.List.{get_or-set_same, get_or-set_other, get_or-replicate, length-set}
 use Rattle.std.proofs.lemmas.Slice.Eq.{bytes_eq-Decides}
-use Rattle.x25_frame.specs.Frame.{PlainFrame, info, rr, rnr, rej, sabm, disc, ua, dm, frmr}
+use Rattle.x25_frame.specs.Frame.{PlainFrame, info, rr}
 use Rattle.x25_text.specs.declared.text.TheConstants.{ROOM}
 use Rattle.x25_judge.specs.Held.{Held, differs, forgets, forgets_all, is_held, kept, keeps}
 use Rattle.x25_judge.specs.Links.{forgets_each, forgets_in}
@@ -13,7 +13,7 @@ use Rattle.x25_judge.specs.laws.Session.{IsSupervisory}
 use Rattle.x25_possible.specs.laws.Possible.{IsIn}
 use Rattle.x25_possible_links.specs.declared.spots.Spot.{Spot}
 use Rattle.x25_possible_links.specs.declared.stand.Stand.{Stand}
-use Rattle.x25_possible_links.specs.declared.stand.Stand.TheVariants.{Out, Asking, Up, Free}
+use Rattle.x25_possible_links.specs.declared.stand.Stand.TheVariants.{Up}
 
 -- each of the last eight that is known is held under its number
 pub record IsHeld (h : Held) (given : List (List ℕ)) (m : ℕ) : Type 0 where
@@ -114,14 +114,7 @@ same_octets h given m n ns nr pf packet number before near same is = go (is_held
 pub bare_held : (h : Held) (frame : PlainFrame) → IsSupervisory frame → keeps h frame ≡ h
 unfolding keeps
 bare_held h (info ns nr pf packet) g = absurd g
-bare_held h (rr command nr pf) g = refl
-bare_held h (rnr command nr pf) g = refl
-bare_held h (rej command nr pf) g = refl
-bare_held h (sabm p) g = refl
-bare_held h (disc p) g = refl
-bare_held h (ua f) g = refl
-bare_held h (dm f) g = refl
-bare_held h (frmr f why) g = refl
+bare_held h frame g = refl
 
 -- each keeps its room
 pub record HasRoom (h : Held) : Type 0 where
@@ -135,13 +128,7 @@ keeps_room h (info ns nr pf packet) g = record {
   known = length-set h.known (ns % 8) (nat_le (length packet) ROOM) ∙ g.known;
 }
 keeps_room h (rr command nr pf) g = g
-keeps_room h (rnr command nr pf) g = g
-keeps_room h (rej command nr pf) g = g
-keeps_room h (sabm p) g = g
-keeps_room h (disc p) g = g
-keeps_room h (ua f) g = g
-keeps_room h (dm f) g = g
-keeps_room h (frmr f why) g = g
+keeps_room h frame g = g
 
 -- ---- octets of numbers that are known no longer
 
@@ -185,9 +172,7 @@ all_less h = record { octets = refl; marks = refl; known = λ n is. absurd (not_
 
 in_less : (s : Stand) (h : Held) → length h.known ≡ 8 → IsLess (forgets_in s h) h
 in_less (Up k) h marks = forgotten_less (k.sent % 8) h marks
-in_less Out h marks = all_less h
-in_less Asking h marks = all_less h
-in_less Free h marks = all_less h
+in_less s h marks = all_less h
 
 each_less : (qs : List Spot) (h : Held) → length h.known ≡ 8 → IsLess (forgets_each qs h) h
 each_less [] h marks = record { octets = refl; marks = marks; known = λ n is. is }
@@ -205,9 +190,7 @@ not_in n (Up k) h marks e is = not_forgotten (k.sent % 8) n h marks (same k.sent
   where
     same : (a b : ℕ) → a ≡ b → b % 8 ≡ a % 8 % 8
     same a b e = omega (arith, e)
-not_in n Out h marks e is = not_any n h is
-not_in n Asking h marks e is = not_any n h is
-not_in n Free h marks e is = not_any n h is
+not_in n s h marks e is = not_any n h is
 
 -- octets of the next number are forgotten
 pub not_each : (n : ℕ) (qs : List Spot) (q : Spot) (h : Held) → length h.known ≡ 8 → IsIn q qs → HasSent n q.stand

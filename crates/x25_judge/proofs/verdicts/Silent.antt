@@ -10,7 +10,7 @@ use Rattle.x25_possible_links.specs.laws.Link.{counts, fresh, heard, may_answer,
 use Rattle.x25_possible_links.specs.laws.Places.{first, goes, is_plain, least_of, number_of, onward, sends, settle, settled, upward}
 use Rattle.x25_possible_links.specs.laws.Places as place
 use Rattle.x25_possible_links.specs.declared.frame.Frame.{Frame}
-use Rattle.x25_possible_links.specs.declared.frame.Frame.TheVariants.{Info, Ready, Sabm, Disc, Ua, Dm, Frmr, Unread, Before}
+use Rattle.x25_possible_links.specs.declared.frame.Frame.TheVariants.{Info, Ready, Ua, Unread}
 use Rattle.x25_possible_links.specs.declared.stand.Numbers.{Numbers}
 use Rattle.x25_possible_links.specs.declared.stand.Stand.{Stand}
 use Rattle.x25_possible_links.specs.declared.stand.Stand.TheVariants.{Out, Asking, Up, Free}
@@ -40,18 +40,9 @@ IsWithin k p = Fits k (comes p.way p.state)
 -- ---- what is made the best of at once
 
 plain_on : (s : Stand) (x : Frame) → is_plain s x ≡ true → upward s x ≡ onward s x
-plain_on Asking (Info ns nr d) e = refl
-plain_on Asking (Ready nr) e = refl
-plain_on Asking Dm e = refl
-plain_on Asking Frmr e = refl
 plain_on Asking Ua e = absurd (both_ways false refl e)
 plain_on Asking Unread e = absurd (both_ways false refl e)
-plain_on Asking Sabm e = refl
-plain_on Asking Disc e = refl
-plain_on Asking Before e = refl
-plain_on Out x e = refl
-plain_on (Up k) x e = refl
-plain_on Free x e = refl
+plain_on s x e = refl
 
 pub settled_comes : (way : List Frame) (s : Stand) → comes (settled s way).way (settled s way).state ≡ comes way s
 settled_comes [] s = refl
@@ -71,14 +62,10 @@ comes_on (y ∷ way) s x = comes_on way (upward s y) x
 
 pub heard_sent : (k : Numbers) (x : Frame) → (heard true true k x).sent ≡ k.sent
 heard_sent k (Info ns nr d) = refl
-heard_sent k (Ready nr) = refl
-heard_sent k Unread = refl
 heard_sent k x = refl
 
 pub heard_told : (k : Numbers) (x : Frame) → (heard true true k x).told ≡ k.told
 heard_told k (Info ns nr d) = refl
-heard_told k (Ready nr) = refl
-heard_told k Unread = refl
 heard_told k x = refl
 
 pub upward_within : (u : Stand) (k : Numbers) (x : Frame) → Fits k u → Fits (heard true true k x) (upward u x)
@@ -174,10 +161,9 @@ found_within : (k : Numbers) (s : Stand) (way : List Frame) (x : Frame) (r : Sta
 found_within k s way x r is e b = go s (sym (sends_counts s way x is) ∙ e) b
   where
     go : (s : Stand) → counts (number_of s x) (least_of s x) s x ≡ Some r → Fits k (comes way s) → Allows k x (at r way)
-    go Out h c = absurd (none-some r h)
-    go Asking h c = absurd (none-some r h)
     go (Up j) h c = at_up k j way x r h c
     go Free h c = absurd (subst (Fits k) (free_comes way) c)
+    go s h c = absurd (none-some r h)
 
 first_within : (k : Numbers) (s : Stand) (way : List Frame) (x : Frame) (o : Option Stand) (later : List (Place Stand Frame))
     (m : Place Stand Frame) → IsNumber x → sends s way x ≡ o → Fits k (comes way s) → (IsIn m later → Allows k x m)

@@ -1,5 +1,5 @@
 -- A station of ours keeps the rules, whatever the other end and the line do.
-use Rattle.std.proofs.Common.{◌≡◌, ℕ, ◌+◌, ◌<◌, ◌≤◌, le_trans, List, [], ◌∷◌, ◌++◌, inl, length, Bool, true, false, Option, Some, None, Result, Ok, Err, refl, sym, ap, ◌∙◌, subst, arith}
+use Rattle.std.proofs.Common.{◌≡◌, ℕ, ◌+◌, ◌<◌, ◌≤◌, le_trans, List, [], ◌∷◌, ◌++◌, inl, length, false, Option, Some, None, Result, Ok, Err, refl, sym, ap, ◌∙◌, subst, arith}
 use Rattle.std.proofs.lemmas.List.{length-append}
 use Rattle.std.specs.List.{slice_get}
 use Rattle.std.proofs.lemmas.Option.{same_Some, slice_get_within}
@@ -14,6 +14,7 @@ use Rattle.x25_link.specs.Hearing.{other}
 use Rattle.x25_line.specs.laws.LawsBelow.{Laws}
 use Rattle.x25_line.specs.laws.Peer.{Peer, fresh_peer, MayHear}
 use Rattle.x25_line.specs.laws.Peer as once
+use Rattle.x25_line.specs.laws.Said.{Said, Tells, Odd, said as read_as}
 use Rattle.x25_line.specs.laws.StationClaims.{number_in, EachEventHandsOne, HandsOne}
 use Rattle.x25_line.specs.laws.Stations.{Near, acts}
 use Rattle.x25_line.proofs.StationPeers.{Seen, peer_acts}
@@ -22,11 +23,12 @@ use Rattle.x25_line.proofs.StationSays.{MayDo}
 use Rattle.x25_line.proofs.StationSends.{AllWithin, within_push, item_at}
 use Rattle.x25_judge.specs.declared.judge.Judge.{Judge}
 use Rattle.x25_judge.specs.laws.Sessions as sessions
-use Rattle.x25_judge.specs.laws.Sessions.{MaySend, MayStand, numbered}
+use Rattle.x25_judge.specs.laws.Sessions.{MayStand, numbered}
 use Rattle.x25_line.specs.laws.PeerSessions.{In}
 use Rattle.x25_judge.specs.laws.Session.{Way}
 use Rattle.x25_judge.specs.laws.VerdictClaims.{NoSessionIsAccused, NoStationIsAccused}
 use Rattle.x25_judge.specs.laws.Watching.{Watched, our_end, IsAny, Begins, Acts, Rests, Says, Comes, Fails}
+use Rattle.x25_judge.proofs.verdicts.Following.{heard_keeps}
 use Rattle.x25_judge.proofs.verdicts.Lag.{Did, did_nothing, was_given, said, freed, comes_behind, front, at_front, OnLine, empty, one_more, one_more_damaged, one_lost, one_damaged, taken, all_lost}
 
 module _ (c : Settings) (longest : c.longest ≡ n1) (j : Judge) (since : ℕ) where
@@ -49,16 +51,11 @@ module _ (c : Settings) (longest : c.longest ≡ n1) (j : Judge) (since : ℕ) w
       fits : (x : ℕ) → x ≤ c.longest → x ≤ 65536
       fits x le = omega (arith, longest)
 
-  same_given : (p q : Peer) (r : Result PlainFrame FrameError) → once.MaySend ⊥ p r q → q.given ≡ p.given
-  same_given p q (Ok (info ns nr pf x)) may = ap (λ (z : Peer). z.given) may.4
-  same_given p q (Ok (rr command nr pf)) may = ap (λ (z : Peer). z.given) may.2
-  same_given p q (Ok (rnr command nr pf)) may = ap (λ (z : Peer). z.given) may.2
-  same_given p q (Ok (rej command nr pf)) may = ap (λ (z : Peer). z.given) may.2
-  same_given p q (Ok f) may = ap (λ (z : Peer). z.given) may
-  same_given p q (Err Short) may = ap (λ (z : Peer). z.given) may
-  same_given p q (Err BadFcs) may = ap (λ (z : Peer). z.given) may
-  same_given p q (Err BadAddress) may = ap (λ (z : Peer). z.given) may
-  same_given p q (Err e) may = absurd may.0
+  same_given : (p q : Peer) (s : Said) → once.MaySay ⊥ p s q → q.given ≡ p.given
+  same_given p q (Tells None nr) may = ap (λ (z : Peer). z.given) may.2
+  same_given p q (Tells (Some x) nr) may = ap (λ (z : Peer). z.given) may.4
+  same_given p q Odd may = absurd may.0
+  same_given p q s may = ap (λ (z : Peer). z.given) may
 
   sends : (before p q : Peer) (way left : Way) (out : List (List ℕ)) (octets : List ℕ) (r : Result PlainFrame FrameError) → frame_of c.role n1 octets ≡ r → once.MaySend ⊥ p r q → q.sent ≤ p.sent + 1
       → AllWithin c.longest p.given → Did c.role before way p left out → Did c.role before way q left (out ++ octets ∷ [])
@@ -94,7 +91,7 @@ module _ (c : Settings) (longest : c.longest ≡ n1) (j : Judge) (since : ℕ) w
       left = h.left;
       did = sends h.before p q h.way h.left out octets (frame_of c.role n1 octets) refl (subst (λ (n : ℕ). once.MaySend ⊥ p (frame_of c.role n octets) q) longest may) next h.within h.did;
       line = h.line;
-      within = subst (AllWithin c.longest) (sym (same_given p q (frame_of c.role c.longest octets) may)) h.within;
+      within = subst (AllWithin c.longest) (sym (same_given p q (read_as (frame_of c.role c.longest octets)) may)) h.within;
       few = h.few;
     };
     hears = λ o os p q out may h.
@@ -106,7 +103,7 @@ module _ (c : Settings) (longest : c.longest ≡ n1) (j : Judge) (since : ℕ) w
           left = t.left;
           did = t.did q (subst (λ (n : ℕ). MayHear p (frame_of (other c.role) n o) q) longest may);
           line = t.on_line;
-          within = subst (AllWithin c.longest) (sym (heard_given p q (frame_of (other c.role) c.longest o) may)) h.within;
+          within = heard_keeps (λ given sent. AllWithin c.longest given) p q (read_as (frame_of (other c.role) c.longest o)) may h.within;
           few = h.few;
         });
     loses = λ os p out i h. record { before = h.before; way = h.way; may = h.may; left = h.left; did = h.did; line = one_lost (other c.role) h.left os i h.line; within = h.within; few = h.few };
@@ -122,23 +119,6 @@ module _ (c : Settings) (longest : c.longest ≡ n1) (j : Judge) (since : ℕ) w
     };
     faultless = λ o os p out ending h never. never;
   }
-    where
-      hearing_given : (b : Bool) (nr : ℕ) (p : Peer) → (once.hearing b nr p).given ≡ p.given
-      hearing_given true nr p = refl
-      hearing_given false nr p = refl
-
-      taking_given : (b : Bool) (x : List ℕ) (p : Peer) → (once.taking b x p).given ≡ p.given
-      taking_given true x p = refl
-      taking_given false x p = refl
-
-      heard_given : (p q : Peer) (r : Result PlainFrame FrameError) → MayHear p r q → q.given ≡ p.given
-      heard_given p q (Ok (info ns nr pf x)) may = ap (λ (z : Peer). z.given) may.3 ∙ taking_given may.1 x (once.hearing may.0 nr p) ∙ hearing_given may.0 nr p
-      heard_given p q (Ok (rr command nr pf)) may = ap (λ (z : Peer). z.given) may.1 ∙ hearing_given may.0 nr p
-      heard_given p q (Ok (rnr command nr pf)) may = ap (λ (z : Peer). z.given) may.1 ∙ hearing_given may.0 nr p
-      heard_given p q (Ok (rej command nr pf)) may = ap (λ (z : Peer). z.given) may.1 ∙ hearing_given may.0 nr p
-      heard_given p q (Ok f) may = ap (λ (z : Peer). z.given) may
-      heard_given p q (Err Short) may = ap (λ (z : Peer). z.given) may
-      heard_given p q (Err x) may = ap (λ (z : Peer). z.given) may
 
 -- ---- traces
 
@@ -158,7 +138,7 @@ module _ (c : Settings) (high : c.window ≤ 7) (longest : c.longest ≡ n1) (re
       record { peer = h.peer; reached = reached; fits = h.fits; room = h.room; told = h.told; within = h.within; down = h.down; up = h.up; fine = λ never. absurd never }
 
   watched : (w : Watched) → IsAny c w → w.near.came_up ≡ false → Watches w
-  watched w (Begins j up any) once =
+  watched w (Begins j up) once =
       record {
         peer = fresh_peer;
         reached = record { before = fresh_peer; way = []; may = sessions.SetUp j (up c.role); left = []; did = did_nothing; line = empty; within = tt; few = omega arith };
@@ -189,7 +169,7 @@ module _ (c : Settings) (high : c.window ≤ 7) (longest : c.longest ≡ n1) (re
         within = r.within;
         few = omega arith;
       })
-  watched w (Says v line octets frame rest out shows is passes h) once =
+  watched w (Says v line octets frame rest out shows is h) once =
       let k = watched v h once in
       let r = k.reached in
       let f = front c.role v.judge r.before r.way octets frame shows.reads is r.may k.peer r.left v.out rest out r.did in
@@ -209,7 +189,7 @@ module _ (c : Settings) (high : c.window ≤ 7) (longest : c.longest ≡ n1) (re
         within = r.within;
         few = one_longer r.way (Some frame) v.since r.few;
       })
-  watched w (Fails v line octets damage broken passes lags h) once =
+  watched w (Fails v line octets damage broken lags h) once =
       let k = watched v h once in
       let r = k.reached in
       moved v k w.judge v.shown v.out (v.back ++ octets ∷ []) (v.since + 1)
