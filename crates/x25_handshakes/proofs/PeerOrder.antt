@@ -25,8 +25,8 @@ use Rattle.x25_handshakes.proofs.HandshakeLemmas.{both_fresh}
 use Rattle.x25_handshakes.proofs.CallsRelation.{stage_of, JointOf}
 use Rattle.x25_handshakes.proofs.ArrivalLemmas.{nothing_waits}
 use Rattle.x25_handshakes.proofs.PeerRelation.{Kept, Kept-start}
-use Rattle.x25_handshakes.proofs.PeerTransferActs.{peer_level}
-use Rattle.x25_handshakes.proofs.PeerCallsRelation.{PeerTalks, TalksPeer, PeerSeen}
+use Rattle.x25_handshakes.proofs.PeerTransferLemmas.{peer_level}
+use Rattle.x25_handshakes.proofs.PeerCallLemmas.{PeerTalks, TalksPeer, PeerSeen}
 use Rattle.x25_handshakes.proofs.JointLemmas.{in_stage, joint_order}
 use Rattle.x25_handshakes.proofs.PeerChannelLemmas.{peer_call_level, PeerChannelRelated}
 
