@@ -51,10 +51,10 @@ in_stretch t b x u v y h =
     let there = h.there in
     let acks = there.acks.acks in
     let low : x.acked ≤ length y.taken = omega (arith, acks, heard_least x.acked v) in
-    let few : take x.acked x.sent ≡ take x.acked y.taken = ap (take x.acked) there.flow.flow ∙ take-append-le x.acked y.taken (pieces u) low in
+    let few : take x.acked x.sent ≡ take x.acked y.taken = ap (take x.acked) there.line.flow.flow ∙ take-append-le x.acked y.taken (pieces u) low in
     let rest = carried_from (joining no_part (take x.acked y.taken)) (drop x.acked y.taken) in
     record {
-      sent = omega (arith, low, Flow-le x.sent y.taken u there.flow);
+      sent = omega (arith, low, Flow-le x.sent y.taken u there.line.flow);
       down = there.text.messages;
       first = (
         rest,

@@ -125,7 +125,7 @@ known r w k x stands o z up out back =
     let three : AtRest (stretch_level o.sends o.takes) o.resets at.epoch x at.side = at_rest (stretch_level o.sends o.takes) o.resets at.epoch x at.side talk.talks.related.hand in
     let q : Stretch = three.state in
     let both : StretchesRelated o.sends o.takes x [] [] q = three.related in
-    let flow : length x.sent ≡ length q.taken + 0 = Flow-le x.sent q.taken [] both.there.flow in
+    let flow : length x.sent ≡ length q.taken + 0 = Flow-le x.sent q.taken [] both.there.line.flow in
     let acked : x.acked ≡ length x.sent = omega (arith, flow, both.told.acks) in
     record {
       stretch = q;

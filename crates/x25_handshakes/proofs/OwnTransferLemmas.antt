@@ -1,5 +1,5 @@
 -- What our own circuit does in p4 keeps what is kept of it and the other end, and is no procedure error, whatever kind of end the other is.
-use Rattle.std.proofs.Common.{◌≡◌, ℕ, List, [], ◌∷◌, ◌++◌, Option, None, refl, sym, subst}
+use Rattle.std.proofs.Common.{◌≡◌, ℕ, List, [], ◌∷◌, ◌++◌, Option, refl, sym, subst}
 use Rattle.x25_handshakes.specs.laws.Handshake.{Inner, Side, Live, Left, At}
 use Rattle.x25_circuit.specs.Params.{Terms}
 use Rattle.x25_handshakes.specs.laws.Stretch.{Packet, Data, Rr, Rnr, Int, IntConf, Reset, ResetConf, Call, Accept, Clear, ClearConf, Stretch, fresh, StretchStep, StretchAct, stretch_acts, stretch_takes}
@@ -7,7 +7,7 @@ use Rattle.x25_handshakes.specs.laws.Transfer.{rst, lifted, TransferStep, transf
 use Rattle.x25_handshakes.proofs.HandshakeRelation.{Level, Handshaken, GoodStep, AllInner}
 use Rattle.x25_handshakes.proofs.HandshakeSteps as hand
 use Rattle.x25_handshakes.proofs.HandshakeSteps.{Goes, Answers, acts_inside, leaves, stays, answered}
-use Rattle.x25_handshakes.proofs.StretchRelation.{InFlowControl, AllInFlowControl}
+use Rattle.x25_handshakes.proofs.StretchRelation.{InFlowControl, AllInFlowControl, GoodStretch}
 use Rattle.x25_handshakes.proofs.TransferRelation.{reset_mark, InTransfer, AllInTransfer, own_level, OwnTransfer, GoodOwnTransfer}
 
 pub inner_mark : (p : Packet) → InFlowControl p → reset_mark p ≡ Inner
@@ -42,28 +42,23 @@ pub AllInTransfer-append : (u o : List Packet) → AllInTransfer u → AllInTran
 AllInTransfer-append [] o h g = g
 AllInTransfer-append (p ∷ u) o h g = (h.0, AllInTransfer-append u o h.1 g)
 
--- a step in a stretch that is no error, and keeps what is kept there
-pub record GoodOwnStretch {T : Type 0} (R : Stretch → List Packet → List Packet → T → Type 0) (s : StretchStep) (u v : List Packet) (y : T) : Type 0 where
-  pub quiet : s.error ≡ None
-  pub kept : R s.next (u ++ s.out) v y
-
 -- what has to be known of a stretch
 pub record OwnStretches {T : Type 0} (R : Stretch → List Packet → List Packet → T → Type 0) (y₀ : T) (t : Terms) (size : ℕ) : Type 0 where
   pub empty : R fresh [] [] y₀
   pub kinds : (x : Stretch) (u v : List Packet) (y : T) → R x u v y → AllInFlowControl u
-  pub acts : (x : Stretch) (u v : List Packet) (y : T) (a : StretchAct) → R x u v y → GoodOwnStretch R (stretch_acts t x a) u v y
-  pub takes : (x : Stretch) (u : List Packet) (p : Packet) (v : List Packet) (y : T) → R x u (p ∷ v) y → GoodOwnStretch R (stretch_takes size x p) u v y
+  pub acts : (x : Stretch) (u v : List Packet) (y : T) (a : StretchAct) → R x u v y → GoodStretch R (stretch_acts t x a) u v y
+  pub takes : (x : Stretch) (u : List Packet) (p : Packet) (v : List Packet) (y : T) → R x u (p ∷ v) y → GoodStretch R (stretch_takes size x p) u v y
 
 module _ {T : Type 0} (R : Stretch → List Packet → List Packet → T → Type 0) (y₀ : T) (t : Terms) (size : ℕ) (own : OwnStretches R y₀ t size) where
   abbrev level : Level Stretch T Packet
   level = own_level R y₀
 
   -- a step in d1 that is no error, with these packets taken, one or none
-  inside : (e : ℕ) (x : Stretch) (s : StretchStep) (taken : List Packet) → ((u v : List Packet) (y : T) → R x u (taken ++ v) y → GoodOwnStretch R s u v y)
+  inside : (e : ℕ) (x : Stretch) (s : StretchStep) (taken : List Packet) → ((u v : List Packet) (y : T) → R x u (taken ++ v) y → GoodStretch R s u v y)
       → (let k = lifted e s s.error in hand.Inside level AllInTransfer e x taken k.next k.out k.error)
   inside e x s taken good = record { after = s.next; goes = λ u v y h. at u v y (good u v y h) }
     where
-      at : (u v : List Packet) (y : T) → GoodOwnStretch R s u v y → (let k = lifted e s s.error in Goes level AllInTransfer e s.next k.next k.out k.error u v y)
+      at : (u v : List Packet) (y : T) → GoodStretch R s u v y → (let k = lifted e s s.error in Goes level AllInTransfer e s.next k.next k.out k.error u v y)
       at u v y g =
           let open_out : AllInFlowControl s.out = AllInFlowControl-back u s.out (own.kinds _ _ _ _ g.kept) in
           subst (λ (n : Option ℕ). let k = lifted e s n in Goes level AllInTransfer e s.next k.next k.out k.error u v y) (sym g.quiet)

@@ -29,9 +29,9 @@ GoodTransfer t size s L K y = GoodOwnTransfer (Kept t size) fresh_peer s L K y
 pub own_stretches : (t : Terms) (size : ℕ) → 1 ≤ t.size → OwnStretches (Kept t size) fresh_peer t size
 own_stretches t size one = record {
   empty = Kept-start t size;
-  kinds = λ x u v y h. h.there.kinds;
-  acts = λ x u v y a h. (let good = Good-acts t size one x u v y a h in record { quiet = good.quiet; kept = good.kept });
-  takes = λ x u p v y h. (let good = Good-takes t size x u p v y h in record { quiet = good.quiet; kept = good.kept });
+  kinds = λ x u v y h. h.there.line.kinds;
+  acts = λ x u v y a h. Good-acts t size one x u v y a h;
+  takes = λ x u p v y h. Good-takes t size x u p v y h;
 }
 
 pub GoodTransfer-takes : (t : Terms) (size : ℕ) → 1 ≤ t.size → (x : At Stretch) (L : List Packet) (p : Packet) (K : List Packet) (y : At PeerStretch) → KeptTransfer t size x L (p ∷ K) y → GoodTransfer t size (transfer_takes size x p) L K y
