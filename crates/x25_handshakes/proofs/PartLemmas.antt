@@ -6,50 +6,40 @@ use Rattle.x25_circuit.specs.declared.message.Message.{Message}
 use Rattle.x25_circuit.specs.Message.{Piece, no_part, joining, completed, carried_from, carried, AreSound, cut}
 use Rattle.x25_window.specs.code.Modulo.{resolved}
 use Rattle.x25_handshakes.specs.laws.Stretch.{Packet, Data, Int, IntConf}
-use Rattle.x25_handshakes.proofs.StretchRelation.{Numbering, numbering, ack_in, int_in, conf_in, piece_of, pieces, number_at, Numbered, hears, heard, ints, confs, InFlowControl, Flow, Line, Acks, Ints, Text}
+use Rattle.x25_handshakes.proofs.StretchRelation.{Numbering, numbering, ack_in, int_in, conf_in, piece_of, pieces, number_at, Numbered, hears, heard, ints, confs, InFlowControl, Line, Acks, Ints, Text}
 use Rattle.x25_handshakes.proofs.TextLemmas.{joining-append, carried-append, AreSound-append, AreSound-cut, joining-cut, carried-cut}
 use Rattle.x25_handshakes.proofs.LineLemmas.{resolved_is, heard_least, heard_push, pieces_push, ints_push, confs_push, AllOpen_push, Numbered_push}
 
 -- the data packets on the way, in their numbers
 
-pub Flow-le : (sent taken : List Piece) (u : List Packet) → Flow sent taken u → length sent ≡ length taken + length (pieces u)
-Flow-le sent taken u h = ap length h.flow ∙ length-append taken (pieces u)
-
-pub Flow-send : (sent taken : List Piece) (u : List Packet) (r : ℕ) (p : Piece) → Flow sent taken u → Flow (sent ++ p ∷ []) taken (u ++ Data (length sent % 8) r p ∷ [])
-Flow-send sent taken u r p h = record {
-  flow = ap (λ l. l ++ p ∷ []) h.flow ∙ append_assoc taken (pieces u) (p ∷ []) ∙ ap (λ l. taken ++ l) (sym (pieces_push u (Data (length sent % 8) r p)));
-  numbers = Numbered_push (length taken) u (Data (length sent % 8) r p) h.numbers (ap (λ n. n % 8) (Flow-le sent taken u h), tt);
-}
-
-pub Flow-push : (sent taken : List Piece) (u : List Packet) (q : Packet) → numbering q ≡ None → Flow sent taken u → Flow sent taken (u ++ q ∷ [])
-Flow-push sent taken u q none h = record {
-  flow = h.flow ∙ ap (λ l. taken ++ l) (sym (pieces_push u q ∙ ap (λ c. pieces u ++ piece_of c) none ∙ append-nil (pieces u)));
-  numbers = Numbered_push (length taken) u q h.numbers (subst (λ (c : Option Numbering). number_at (length taken + length (pieces u)) c (λ m. Unit {0})) (sym none) tt);
-}
-
-pub Flow-take : (sent taken : List Piece) (u : List Packet) (s r : ℕ) (p : Piece) → Flow sent taken (Data s r p ∷ u) → Flow sent (taken ++ p ∷ []) u
-Flow-take sent taken u s r p h = record {
-  flow = h.flow ∙ sym (append_assoc taken (p ∷ []) (pieces u));
-  numbers = subst (λ (n : ℕ). Numbered n u) (sym (length_push taken p)) h.numbers.1;
-}
-
--- and their kinds
+pub Line-le : (sent taken : List Piece) (u : List Packet) → Line sent taken u → length sent ≡ length taken + length (pieces u)
+Line-le sent taken u h = ap length h.flow ∙ length-append taken (pieces u)
 
 pub Line-send : (sent taken : List Piece) (u : List Packet) (r : ℕ) (p : Piece) → Line sent taken u → Line (sent ++ p ∷ []) taken (u ++ Data (length sent % 8) r p ∷ [])
-Line-send sent taken u r p h = record { flow = Flow-send sent taken u r p h.flow; kinds = AllOpen_push u (Data (length sent % 8) r p) tt h.kinds }
+Line-send sent taken u r p h = record {
+  flow = ap (λ l. l ++ p ∷ []) h.flow ∙ append_assoc taken (pieces u) (p ∷ []) ∙ ap (λ l. taken ++ l) (sym (pieces_push u (Data (length sent % 8) r p)));
+  numbers = Numbered_push (length taken) u (Data (length sent % 8) r p) h.numbers (ap (λ n. n % 8) (Line-le sent taken u h), tt);
+  kinds = AllOpen_push u (Data (length sent % 8) r p) tt h.kinds;
+}
 
 pub Line-push : (sent taken : List Piece) (u : List Packet) (q : Packet) → numbering q ≡ None → InFlowControl q → Line sent taken u → Line sent taken (u ++ q ∷ [])
-Line-push sent taken u q none is h = record { flow = Flow-push sent taken u q none h.flow; kinds = AllOpen_push u q is h.kinds }
+Line-push sent taken u q none is h = record {
+  flow = h.flow ∙ ap (λ l. taken ++ l) (sym (pieces_push u q ∙ ap (λ c. pieces u ++ piece_of c) none ∙ append-nil (pieces u)));
+  numbers = Numbered_push (length taken) u q h.numbers (subst (λ (c : Option Numbering). number_at (length taken + length (pieces u)) c (λ m. Unit {0})) (sym none) tt);
+  kinds = AllOpen_push u q is h.kinds;
+}
 
 pub Line-take : (sent taken : List Piece) (u : List Packet) (s r : ℕ) (p : Piece) → Line sent taken (Data s r p ∷ u) → Line sent (taken ++ p ∷ []) u
-Line-take sent taken u s r p h = record { flow = Flow-take sent taken u s r p h.flow; kinds = h.kinds.1 }
+Line-take sent taken u s r p h = record {
+  flow = h.flow ∙ sym (append_assoc taken (p ∷ []) (pieces u));
+  numbers = subst (λ (n : ℕ). Numbered n u) (sym (length_push taken p)) h.numbers.1;
+  kinds = h.kinds.1;
+}
 
 pub Line-skip : (sent taken : List Piece) (u : List Packet) (q : Packet) → numbering q ≡ None → Line sent taken (q ∷ u) → Line sent taken u
 Line-skip sent taken u q none h = record {
-  flow = record {
-    flow = subst (λ (c : Option Numbering). sent ≡ taken ++ (piece_of c ++ pieces u)) none h.flow.flow;
-    numbers = subst (λ (c : Option Numbering). number_at (length taken) c (λ m. Numbered m u)) none h.flow.numbers;
-  };
+  flow = subst (λ (c : Option Numbering). sent ≡ taken ++ (piece_of c ++ pieces u)) none h.flow;
+  numbers = subst (λ (c : Option Numbering). number_at (length taken) c (λ m. Numbered m u)) none h.numbers;
   kinds = h.kinds.1;
 }
 

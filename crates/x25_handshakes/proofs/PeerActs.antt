@@ -9,7 +9,7 @@ use Rattle.x25_circuit.specs.Params.{Terms}
 use Rattle.x25_handshakes.specs.laws.Stretch.{Packet, Data, Rr, Rnr, Int, IntConf, Stretch, StretchStep, stretch_does, stretch_fails, StretchAct, Send, Pull, Ready, NotReady, Interrupt, status, sends, pulls, interrupts, stretch_acts, ack_ground, data_ground, by_ground, takes_data, takes_status, stretch_takes}
 use Rattle.x25_handshakes.proofs.StretchRelation.{numbering, ack_in, int_in, conf_in, InFlowControl, pieces, hears, heard, Ints, Text, GoodStretch}
 use Rattle.x25_handshakes.proofs.TextLemmas.{AreSound-back}
-use Rattle.x25_handshakes.proofs.PartLemmas.{Flow-le, Line-send, Line-push, Line-take, Line-skip, Acks-push, Acks-pass, Acks-more, Acks-taken, Acks-hear, heard_below, Ints-there, Ints-back, Ints-send, Ints-take, Ints-confirm, Ints-past, Ints-skip, Ints-out, Ints-conf, Text-send, Text-pull, up-take}
+use Rattle.x25_handshakes.proofs.PartLemmas.{Line-le, Line-send, Line-push, Line-take, Line-skip, Acks-push, Acks-pass, Acks-more, Acks-taken, Acks-hear, heard_below, Ints-there, Ints-back, Ints-send, Ints-take, Ints-confirm, Ints-past, Ints-skip, Ints-out, Ints-conf, Text-send, Text-pull, up-take}
 use Rattle.x25_handshakes.specs.laws.PeerStretch.{PeerStretch}
 use Rattle.x25_handshakes.proofs.PeerRelation.{Theirs, Kept}
 
@@ -25,7 +25,7 @@ Good-still t size x u v y h = record { quiet = refl; kept = subst (λ (w : List 
 Theirs-told : (size : ℕ) (x : Stretch) (sent rest : List Piece) (u v : List Packet) (y : PeerStretch) (q : Packet) → conf_in q ≡ 0 → ack_in q ≡ Some (length x.taken % 8)
     → Theirs size y v u x → Theirs size y v (u ++ q ∷ []) (record x { sent = sent; rest = rest })
 Theirs-told size x sent rest u v y q no_conf ack h =
-    let le : length y.sent ≡ length x.taken + length (pieces v) = Flow-le y.sent x.taken v h.line.flow in
+    let le : length y.sent ≡ length x.taken + length (pieces v) = Line-le y.sent x.taken v h.line in
     record {
       line = h.line;
       acks = Acks-push 7 y.acked (length y.sent) u (length x.taken) q (omega arith) (omega arith) ack h.acks;
@@ -147,11 +147,11 @@ Kept-take-data t size x u v y s r p h =
 
 Good-take-data : (t : Terms) (size : ℕ) → (x : Stretch) (u v : List Packet) (y : PeerStretch) (s r : ℕ) (p : Piece) → Kept t size x u (Data s r p ∷ v) y → Good t size (stretch_takes size x (Data s r p)) u v y
 Good-take-data t size x u v y s r p h =
-    let e : length x.sent ≡ length y.taken + length (pieces u) = Flow-le x.sent y.taken u h.there.line.flow in
+    let e : length x.sent ≡ length y.taken + length (pieces u) = Line-le x.sent y.taken u h.there.line in
     let late : y.told ≤ length y.taken = h.there.acks.late in
     let low : resolved x.acked r ≤ length x.sent = heard_below x.acked (length x.sent) v r y.told (omega arith) h.there.acks.acks.acks in
-    let wanted : s ≡ length x.taken % 8 = h.back.line.flow.numbers.0 in
-    let ground : piece_ground size (joining no_part x.taken) p ≡ None = (AreSound-back size no_part x.taken (p ∷ pieces v) (subst (λ (l : List Piece). AreSound size no_part l) h.back.line.flow.flow h.back.text.sound)).0 in
+    let wanted : s ≡ length x.taken % 8 = h.back.line.numbers.0 in
+    let ground : piece_ground size (joining no_part x.taken) p ≡ None = (AreSound-back size no_part x.taken (p ∷ pieces v) (subst (λ (l : List Piece). AreSound size no_part l) h.back.line.flow h.back.text.sound)).0 in
     let none : data_ground size x s r p ≡ None = rw (le-leb (resolved x.acked r) (length x.sent) low) (rw (eq-eqb s (length x.taken % 8) wanted) ground) in
     subst (λ (g : Option ℕ). Good t size (by_ground g x (takes_data x r p)) u v y) (sym none)
     (record {
@@ -163,7 +163,7 @@ Good-take-data t size x u v y s r p h =
 Good-take-status : (t : Terms) (size : ℕ) (x : Stretch) (u v : List Packet) (y : PeerStretch) (ready : Bool) (r : ℕ) (q : Packet) → numbering q ≡ None → int_in q ≡ [] → conf_in q ≡ 0 → ack_in q ≡ Some r → Kept t size x u (q ∷ v) y
     → Good t size (by_ground (ack_ground x r) x (takes_status x ready r)) u v y
 Good-take-status t size x u v y ready r q none no_int no_conf ack h =
-    let e : length x.sent ≡ length y.taken + length (pieces u) = Flow-le x.sent y.taken u h.there.line.flow in
+    let e : length x.sent ≡ length y.taken + length (pieces u) = Line-le x.sent y.taken u h.there.line in
     let late : y.told ≤ length y.taken = h.there.acks.late in
     let acks : heard (resolved x.acked r) v ≤ y.told = subst (λ (a : Option ℕ). heard (hears x.acked a) v ≤ y.told) ack h.there.acks.acks.acks in
     let low : resolved x.acked r ≤ length x.sent = heard_below x.acked (length x.sent) v r y.told (omega arith) acks in

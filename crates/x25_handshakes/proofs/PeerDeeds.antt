@@ -7,7 +7,7 @@ use Rattle.x25_circuit.specs.Params.{Terms}
 use Rattle.x25_handshakes.specs.laws.Stretch.{Packet, Data, Rr, Rnr, Int, IntConf, Stretch}
 use Rattle.x25_handshakes.proofs.StretchRelation.{numbering, ack_in, int_in, conf_in, InFlowControl, pieces, hears, heard, Ints}
 use Rattle.x25_handshakes.proofs.TextLemmas.{AreSound-append}
-use Rattle.x25_handshakes.proofs.PartLemmas.{Flow-le, Line-send, Line-push, Line-take, Line-skip, Acks-pass, Acks-more, Acks-told, Acks-hear, Ints-there, Ints-back, Ints-send, Ints-take, Ints-confirm, Ints-past, Ints-skip, Ints-out, Ints-conf}
+use Rattle.x25_handshakes.proofs.PartLemmas.{Line-le, Line-send, Line-push, Line-take, Line-skip, Acks-pass, Acks-more, Acks-told, Acks-hear, Ints-there, Ints-back, Ints-send, Ints-take, Ints-confirm, Ints-past, Ints-skip, Ints-out, Ints-conf}
 use Rattle.x25_handshakes.specs.laws.PeerStretch.{PeerStretch, Deed, Sends, Says, Interrupts, Confirms, MayAcknowledge, MayDo, does, packet_of, taking}
 use Rattle.x25_handshakes.proofs.PeerRelation.{Ours, Kept}
 
@@ -15,7 +15,7 @@ use Rattle.x25_handshakes.proofs.PeerRelation.{Ours, Kept}
 Ours-told : (t : Terms) → t.window ≤ 7 → (x : Stretch) (u v : List Packet) (y : PeerStretch) (sent : List Piece) (n : ℕ) (q : Packet) → conf_in q ≡ 0 → ack_in q ≡ Some (n % 8) → MayAcknowledge y n → Ours t x u v y
     → Ours t x u (v ++ q ∷ []) (record y { sent = sent; told = n })
 Ours-told t small x u v y sent n q no_conf ack may h =
-    let e : length x.sent ≡ length y.taken + length (pieces u) = Flow-le x.sent y.taken u h.line.flow in
+    let e : length x.sent ≡ length y.taken + length (pieces u) = Line-le x.sent y.taken u h.line in
     let few = may.taken in
     record {
       line = h.line;

@@ -82,20 +82,20 @@ in_order t size x u v y h =
     let there = h.there in
     let back = h.back in
     let down : x.down ≡ carried y.taken ++ carried_from (joining no_part y.taken) (pieces u ++ x.rest) =
-    there.text.messages ∙ ap (λ l. carried (l ++ x.rest)) there.line.flow.flow ∙ ap carried (append_assoc y.taken (pieces u) x.rest) ∙ carried-append no_part y.taken (pieces u ++ x.rest)
+    there.text.messages ∙ ap (λ l. carried (l ++ x.rest)) there.line.flow ∙ ap carried (append_assoc y.taken (pieces u) x.rest) ∙ carried-append no_part y.taken (pieces u ++ x.rest)
     in
-    let sent : carried y.sent ≡ carried x.taken ++ carried_from (joining no_part x.taken) (pieces v) = ap carried back.line.flow.flow ∙ carried-append no_part x.taken (pieces v) in
+    let sent : carried y.sent ≡ carried x.taken ++ carried_from (joining no_part x.taken) (pieces v) = ap carried back.line.flow ∙ carried-append no_part x.taken (pieces v) in
     record {
       up = (carried_from (joining no_part x.taken) (pieces v), ap (λ l. l ++ carried_from (joining no_part x.taken) (pieces v)) back.text.up ∙ sym sent);
       there = (carried_from (joining no_part y.taken) (pieces u ++ x.rest), sym down);
       all = λ e. (
           let acks = back.acks.acks in
-          back.text.up ∙ ap carried (sym (all_taken y.sent x.taken (pieces v) back.line.flow.flow (omega (arith, e, acks, heard_least y.acked u)))));
+          back.text.up ∙ ap carried (sym (all_taken y.sent x.taken (pieces v) back.line.flow (omega (arith, e, acks, heard_least y.acked u)))));
       all_there = λ none e. (
           let acks = there.acks.acks.acks in
           let late = there.acks.late in
           sym (there.text.messages ∙ ap (λ l. carried (x.sent ++ l)) none ∙ ap carried (append-nil x.sent)
-          ∙ ap carried (all_taken x.sent y.taken (pieces u) there.line.flow.flow (omega (arith, e, acks, late, heard_least x.acked v)))));
+          ∙ ap carried (all_taken x.sent y.taken (pieces u) there.line.flow (omega (arith, e, acks, late, heard_least x.acked v)))));
       int_up = (ints v, sym back.ints.flow);
       int_there = (ints u, sym there.ints.flow);
       int_all = λ none. (
@@ -153,7 +153,7 @@ meet l ex ey x y K (inr (inr later)) = absurd (true≢false (sym later.waits))
 took_all : (t : Terms) (size : ℕ) (x : Stretch) (v : List Packet) (y : PeerStretch) → Kept t size x [] v y → TookAll x y
 took_all t size x v y h =
     let there = h.there in
-    let all : x.sent ≡ y.taken = there.line.flow.flow ∙ append-nil y.taken in
+    let all : x.sent ≡ y.taken = there.line.flow ∙ append-nil y.taken in
     record {
       messages = λ none. sym (there.text.messages ∙ ap (λ l. carried (x.sent ++ l)) (nothing_waits x.sent x.rest there.text.whole none) ∙ ap carried (append-nil x.sent ∙ all));
       interrupts = sym (there.ints.flow ∙ append-nil y.int_up);

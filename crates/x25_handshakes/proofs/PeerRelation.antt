@@ -38,13 +38,13 @@ pub record Kept (t : Terms) (size : ℕ) (x : Stretch) (u v : List Packet) (y : 
 pub Kept-start : (t : Terms) (size : ℕ) → Kept t size fresh [] [] fresh_peer
 Kept-start t size = record {
   there = record {
-    line = record { flow = record { flow = refl; numbers = tt }; kinds = tt };
+    line = record { flow = refl; numbers = tt; kinds = tt };
     acks = record { acks = record { room = omega arith; acks = omega arith }; late = omega arith };
     ints = record { count = omega arith; flow = refl };
     text = record { fits = tt; whole = refl; messages = refl };
   };
   back = record {
-    line = record { flow = record { flow = refl; numbers = tt }; kinds = tt };
+    line = record { flow = refl; numbers = tt; kinds = tt };
     acks = record { room = omega arith; acks = omega arith };
     ints = record { count = omega arith; flow = refl };
     text = record { sound = tt; up = refl };

@@ -20,7 +20,7 @@ StretchesRelated-fresh t b = record { there = none t; back = none b; told = reco
   where
     none : (t : Terms) → Direction t fresh [] [] fresh
     none t = record {
-      line = record { flow = record { flow = refl; numbers = tt }; kinds = tt };
+      line = record { flow = refl; numbers = tt; kinds = tt };
       acks = record { room = omega arith; acks = omega arith };
       ints = record { count = omega arith; flow = refl };
       text = record { fits = tt; whole = refl; messages = refl };
@@ -76,7 +76,7 @@ GoodStretch-takes t b sound x u p v y h =
 pub FollowsFrom-from_Dir : (t : Terms) (x : Stretch) (u v : List Packet) (y : Stretch) → Direction t x u v y → FollowsFrom x u y
 FollowsFrom-from_Dir t x u v y h =
     let down : x.down ≡ carried y.taken ++ carried_from (joining no_part y.taken) (pieces u ++ x.rest) =
-    h.text.messages ∙ ap (λ l. carried (l ++ x.rest)) h.line.flow.flow ∙ ap carried (append_assoc y.taken (pieces u) x.rest)
+    h.text.messages ∙ ap (λ l. carried (l ++ x.rest)) h.line.flow ∙ ap carried (append_assoc y.taken (pieces u) x.rest)
     ∙ carried-append no_part y.taken (pieces u ++ x.rest)
     in
     record {

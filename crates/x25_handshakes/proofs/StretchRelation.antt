@@ -84,14 +84,10 @@ abbrev pub one_if : Bool → ℕ
 one_if true = 1
 one_if false = 0
 
--- what was sent is what was taken and what is on the way, in its numbers
-pub record Flow (sent taken : List Piece) (u : List Packet) : Type 0 where
+-- what was sent is what was taken and what is on the way, in its numbers, and on a line of kinds that pass in d1
+pub record Line (sent taken : List Piece) (u : List Packet) : Type 0 where
   pub flow : sent ≡ taken ++ pieces u
   pub numbers : Numbered (length taken) u
-
--- with the kinds of packets on the line
-pub record Line (sent taken : List Piece) (u : List Packet) : Type 0 where
-  pub flow : Flow sent taken u
   pub kinds : AllInFlowControl u
 
 -- the window, and the numbers P(R) on the way back
