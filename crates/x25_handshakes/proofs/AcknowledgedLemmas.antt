@@ -28,7 +28,7 @@ use Rattle.x25_handshakes.proofs.LayersRelation.{on, channels_level, LayersRelat
 use Rattle.x25_handshakes.proofs.HandshakeLemmas.{both_fresh}
 use Rattle.x25_handshakes.proofs.TextLemmas.{carried-append}
 use Rattle.x25_handshakes.proofs.LineLemmas.{heard_least}
-use Rattle.x25_handshakes.proofs.PartLemmas.{Flow-le}
+use Rattle.x25_handshakes.proofs.PartLemmas.{Line-le}
 use Rattle.x25_handshakes.proofs.StretchLemmas.{StretchesRelated-fresh}
 use Rattle.x25_handshakes.proofs.CallLemmas.{TalksRelated-flip}
 use Rattle.x25_handshakes.proofs.JointLemmas.{in_stage, joint_order}
@@ -51,10 +51,10 @@ in_stretch t b x u v y h =
     let there = h.there in
     let acks = there.acks.acks in
     let low : x.acked ≤ length y.taken = omega (arith, acks, heard_least x.acked v) in
-    let few : take x.acked x.sent ≡ take x.acked y.taken = ap (take x.acked) there.flow.flow ∙ take-append-le x.acked y.taken (pieces u) low in
+    let few : take x.acked x.sent ≡ take x.acked y.taken = ap (take x.acked) there.line.flow ∙ take-append-le x.acked y.taken (pieces u) low in
     let rest = carried_from (joining no_part (take x.acked y.taken)) (drop x.acked y.taken) in
     record {
-      sent = omega (arith, low, Flow-le x.sent y.taken u there.flow);
+      sent = omega (arith, low, Line-le x.sent y.taken u there.line);
       down = there.text.messages;
       first = (
         rest,

@@ -24,7 +24,7 @@ use Rattle.x25_handshakes.proofs.TransferRelation.{stretch_level}
 use Rattle.x25_handshakes.proofs.CallsRelation.{Joint}
 use Rattle.x25_handshakes.proofs.ChannelRelation.{Seen, connection_level, ChannelRelated}
 use Rattle.x25_handshakes.proofs.LayersRelation.{channels_level, EndsRelated}
-use Rattle.x25_handshakes.proofs.PartLemmas.{Flow-le}
+use Rattle.x25_handshakes.proofs.PartLemmas.{Line-le}
 use Rattle.x25_handshakes.proofs.CallLemmas.{TalksRelated-flip}
 use Rattle.x25_handshakes.proofs.LayerLemmas.{Stands, Stands-turned, Stands-run, Stands-start}
 use Rattle.x25_handshakes.proofs.ClaimLemmas.{BothTalk}
@@ -125,7 +125,7 @@ known r w k x stands o z up out back =
     let three : AtRest (stretch_level o.sends o.takes) o.resets at.epoch x at.side = at_rest (stretch_level o.sends o.takes) o.resets at.epoch x at.side talk.talks.related.hand in
     let q : Stretch = three.state in
     let both : StretchesRelated o.sends o.takes x [] [] q = three.related in
-    let flow : length x.sent ≡ length q.taken + 0 = Flow-le x.sent q.taken [] both.there.flow in
+    let flow : length x.sent ≡ length q.taken + 0 = Line-le x.sent q.taken [] both.there.line in
     let acked : x.acked ≡ length x.sent = omega (arith, flow, both.told.acks) in
     record {
       stretch = q;

@@ -1,6 +1,5 @@
 -- What our own circuit does is what a peer may do: calls and their clearing.
 use Rattle.std.proofs.Common.{◌≡◌, ℕ, ◌≤◌, List, [], ◌∷◌, ◌++◌, Option, Some, None, Bool, true, false, if◌then◌else◌, refl, sym, ap, subst, ◌∙◌}
-use Rattle.std.proofs.lemmas.List.{append-nil}
 use Rattle.std.proofs.lemmas.Bool.{cond_both}
 use Rattle.x25_bits.specs.declared.role.Role.{Role}
 use Rattle.x25_bits.specs.declared.role.Role.TheVariants.{Dte, Dce}
@@ -12,22 +11,25 @@ use Rattle.x25_handshakes.specs.laws.Stretch.{Packet, Call, Accept, Clear, Clear
 use Rattle.x25_handshakes.specs.laws.Transfer.{transfer_side_takes, transfer_side_acts}
 use Rattle.x25_handshakes.specs.laws.Calls.{Phase, Unused, Waiting, Offered, Crossed, Talking, Connection, CallStep, goes, unexpected, called_talk, calling_talk, is_answered, phase_takes, call_takes, CallAct, PlacesCall, AcceptsCall, Talks, accepts, phase_acts, call_acts}
 use Rattle.x25_handshakes.specs.laws.Channel.{live, lifted_call, channel_side_takes, ChannelAct, Within, SendsClear, clears, channel_side_acts}
-use Rattle.x25_handshakes.specs.laws.PeerTransfer.{MayDoTransfer, does_transfer, transfer_packet_of, transfer_taking}
-use Rattle.x25_handshakes.specs.laws.PeerCalls.{InData, PeerCall, stands, InTransfer, MayDoCall, called_in_data, calling_in_data, does_call, call_packet_of, PeerCallStep, call_taking}
+use Rattle.x25_handshakes.specs.laws.PeerTransfer.{transfer_taking}
+use Rattle.x25_handshakes.specs.laws.PeerCalls.{InData, PeerCall, CallDeed, stands, InTransfer, MayDoCall, called_in_data, calling_in_data, does_call, call_packet_of, PeerCallStep, call_taking}
 use Rattle.x25_handshakes.specs.laws.PeerCalls as peer
-use Rattle.x25_handshakes.specs.laws.PeerChannel.{peer_live, InCall, Clears, MayDoChannel, does_channel, channel_packet_of, PeerChannelStep, channel_taking}
+use Rattle.x25_handshakes.specs.laws.PeerChannel.{peer_live, ChannelDeed, InCall, Clears, MayDoChannel, does_channel, channel_packet_of, PeerChannelStep, channel_taking}
 use Rattle.x25_handshakes.specs.laws.LayerPeers.{as_peer_stretch, as_side, as_at, as_stage, as_peer_call}
 use Rattle.x25_handshakes.specs.laws.LawsBelow.{Laws}
 use Rattle.x25_handshakes.proofs.TermsLemmas.{answer_read}
-use Rattle.x25_handshakes.proofs.LayerPeers.{Did, Nothing, Something, Heard, did_above, TransferHeard, IsFit, transfer_did, transfer_heard}
+use Rattle.x25_handshakes.proofs.LayerPeers.{Deeds, Did, Nothing, Something, Heard, at_once, did_above, transfer_deeds, TransferHeard, IsFit, transfer_did, transfer_heard}
 
 -- ---- a call
 
+abbrev pub call_deeds : Deeds PeerCall CallDeed Packet
+call_deeds = record { may = λ y d. MayDoCall y.stage d; does = λ y d. does_call y.stage y.made y.indicated d; packet = λ y d. call_packet_of y.stage d }
+
 abbrev pub CallDid : PeerCall → PeerCall → List Packet → Type 0
-CallDid y y₂ o = Did (λ y d. MayDoCall y.stage d) (λ y d. does_call y.stage y.made y.indicated d) (λ y d. call_packet_of y.stage d) y y₂ o
+CallDid y y₂ o = Did call_deeds y y₂ o
 
 abbrev pub CallHeard : PeerCallStep → PeerCall → List Packet → Type 0
-CallHeard s y₂ o = Heard (λ y d. MayDoCall y.stage d) (λ y d. does_call y.stage y.made y.indicated d) (λ y d. call_packet_of y.stage d) s.next s.out y₂ o
+CallHeard s y₂ o = Heard call_deeds s.next s.out y₂ o
 
 -- what is known of a call: it may be proposed, and what waits in p4 fits
 abbrev pub IsKnown : Phase → Type 0
@@ -58,14 +60,10 @@ pub call_did : Laws → (a : Phase) → IsKnown a → (m i : List CallRequest) (
 call_did laws Unused known m i (PlacesCall n) quiet = places_did m i n
 call_did laws (Offered theirs) known m i (AcceptsCall answer) quiet = accepts_did laws theirs known m i answer
 call_did laws (Talking t b at) known m i (Talks act) quiet =
-    did_above (λ y d. MayDoTransfer t.size y.side d) (λ y d. does_transfer y.epoch y.side d) (λ y d. transfer_packet_of y.side d)
-    (λ y d. MayDoCall y.stage d) (λ y d. does_call y.stage y.made y.indicated d) (λ y d. call_packet_of y.stage d) (λ y. stands (InData t b y) m i) (λ d. InTransfer d)
+    did_above (transfer_deeds t.size) call_deeds (λ y. stands (InData t b y) m i) (λ d. InTransfer d)
     (as_at as_peer_stretch at) (as_at as_peer_stretch (transfer_side_acts t at.epoch at.side act).next) (transfer_side_acts t at.epoch at.side act).out (λ d may. may) (λ d. refl) (λ d. refl)
     (transfer_did t known.0 at.epoch at.side known.1 act quiet)
 call_did laws a known m i act_2 quiet = Nothing refl refl
-
-at_once : (s : PeerCallStep) (y : PeerCall) (o : List Packet) → s.next ≡ y → s.out ≡ o → CallHeard s y o
-at_once s y o next out = record { rest = []; split = append-nil s.out ∙ out; did = Nothing next refl }
 
 -- an answer that is allowed
 answered_heard : (a : Phase) (mine q : Params) (m i : List CallRequest) → (is_answered a mine m i q).error ≡ None
@@ -74,14 +72,14 @@ answered_heard a mine q m i quiet = by (may_answer mine q) quiet
   where
     by : (c : Bool) → (if c then goes (calling_talk q) m i [] else unexpected a m i).error ≡ None
         → CallHeard (record { next = stands (calling_in_data q) m i; out = [] }) (as_peer_call (if c then goes (calling_talk q) m i [] else unexpected a m i).next) (if c then goes (calling_talk q) m i [] else unexpected a m i).out
-    by true q = at_once _ _ _ refl refl
+    by true q = at_once call_deeds _ _ _ _ refl refl
     by false q = absurd (cc)
 
 pub call_heard : (r : Role) (a : Phase) (m i : List CallRequest) (p : Packet) → (phase_takes r a m i p).error ≡ None
     → CallHeard (call_taking r (as_stage a) m i p) (as_peer_call (phase_takes r a m i p).next) (phase_takes r a m i p).out
-call_heard r Unused m i (Call n) quiet = at_once _ _ _ refl refl
-call_heard Dte (Waiting mine) m i (Call n) quiet = at_once _ _ _ refl refl
-call_heard Dce (Waiting mine) m i (Call n) quiet = at_once _ _ _ refl refl
+call_heard r Unused m i (Call n) quiet = at_once call_deeds _ _ _ _ refl refl
+call_heard Dte (Waiting mine) m i (Call n) quiet = at_once call_deeds _ _ _ _ refl refl
+call_heard Dce (Waiting mine) m i (Call n) quiet = at_once call_deeds _ _ _ _ refl refl
 call_heard r (Waiting mine) m i (Accept field) quiet = answered_heard (Waiting mine) mine (said_in mine field) m i quiet
 call_heard r (Crossed mine) m i (Accept field) quiet = answered_heard (Crossed mine) mine (said_in mine field) m i quiet
 call_heard r (Talking t b at) m i p quiet =
@@ -90,19 +88,21 @@ call_heard r (Talking t b at) m i p quiet =
     record {
       rest = h.rest;
       split = h.split;
-      did = did_above (λ y d. MayDoTransfer t.size y.side d) (λ y d. does_transfer y.epoch y.side d) (λ y d. transfer_packet_of y.side d)
-          (λ y d. MayDoCall y.stage d) (λ y d. does_call y.stage y.made y.indicated d) (λ y d. call_packet_of y.stage d) (λ y. stands (InData t b y) m i) (λ d. InTransfer d)
+      did = did_above (transfer_deeds t.size) call_deeds (λ y. stands (InData t b y) m i) (λ d. InTransfer d)
           (transfer_taking at.epoch (as_side as_peer_stretch at.side) p).next (as_at as_peer_stretch (transfer_side_takes b.size at.epoch at.side p).next) h.rest (λ d may. may) (λ d. refl) (λ d. refl) h.did;
     }
 call_heard r a m i p_2 quiet = absurd (cc)
 
 -- ---- a channel
 
+abbrev pub channel_deeds : Deeds (At PeerCall) ChannelDeed Packet
+channel_deeds = record { may = λ y d. MayDoChannel y.side d; does = λ y d. does_channel y.epoch y.side d; packet = λ y d. channel_packet_of y.side d }
+
 abbrev pub ChannelDid : At PeerCall → At PeerCall → List Packet → Type 0
-ChannelDid y y₂ o = Did (λ y d. MayDoChannel y.side d) (λ y d. does_channel y.epoch y.side d) (λ y d. channel_packet_of y.side d) y y₂ o
+ChannelDid y y₂ o = Did channel_deeds y y₂ o
 
 abbrev pub ChannelHeard : PeerChannelStep → At PeerCall → List Packet → Type 0
-ChannelHeard s y₂ o = Heard (λ y d. MayDoChannel y.side d) (λ y d. does_channel y.epoch y.side d) (λ y d. channel_packet_of y.side d) s.next s.out y₂ o
+ChannelHeard s y₂ o = Heard channel_deeds s.next s.out y₂ o
 
 abbrev pub IsKnownSide : Side Connection → Type 0
 IsKnownSide (Live x) = IsKnown x.phase
@@ -111,9 +111,7 @@ IsKnownSide (Left x) = Unit {0}
 in_call_did : (e : ℕ) (y : PeerCall) (s : CallStep) (n : Option ℕ) → (lifted_call e s n).error ≡ None → CallDid y (as_peer_call s.next) s.out
     → ChannelDid (peer_live e y) (as_at as_peer_call (lifted_call e s n).next) (lifted_call e s n).out
 in_call_did e y s None quiet did =
-    did_above (λ y d. MayDoCall y.stage d) (λ y d. does_call y.stage y.made y.indicated d) (λ y d. call_packet_of y.stage d)
-    (λ y d. MayDoChannel y.side d) (λ y d. does_channel y.epoch y.side d) (λ y d. channel_packet_of y.side d) (λ y. peer_live e y) (λ d. InCall d)
-    y (as_peer_call s.next) s.out (λ d may. may) (λ d. refl) (λ d. refl) did
+    did_above call_deeds channel_deeds (λ y. peer_live e y) (λ d. InCall d) y (as_peer_call s.next) s.out (λ d may. may) (λ d. refl) (λ d. refl) did
 in_call_did e y s (Some n) quiet did = absurd (cc)
 
 no_error : (e : ℕ) (s : CallStep) (n : Option ℕ) → (lifted_call e s n).error ≡ None → n ≡ None
@@ -130,9 +128,6 @@ channel_did laws e (Live x) known (Within a) quiet =
     in_call_did e (as_peer_call x) (call_acts x a) (call_acts x a).error quiet (call_did laws x.phase known x.made x.indicated a (no_error e (call_acts x a) (call_acts x a).error quiet))
 channel_did laws e (Live x) known SendsClear quiet = clears_did e x x.phase
 channel_did laws e (Left x) known a quiet = Nothing refl refl
-
-channel_at_once : (s : PeerChannelStep) (y : At PeerCall) (o : List Packet) → s.next ≡ y → s.out ≡ o → ChannelHeard s y o
-channel_at_once s y o next out = record { rest = []; split = append-nil s.out ∙ out; did = Nothing next refl }
 
 heard_in_call : (r : Role) (e : ℕ) (x : Connection) (p : Packet) → (lifted_call e (call_takes r x p) (call_takes r x p).error).error ≡ None
     → ChannelHeard (record { next = peer_live e (call_taking r (as_stage x.phase) x.made x.indicated p).next; out = (call_taking r (as_stage x.phase) x.made x.indicated p).out })
@@ -154,9 +149,8 @@ heard_in_call r e x p quiet =
 
 pub channel_heard : (r : Role) (e : ℕ) (x : Side Connection) (p : Packet) → (channel_side_takes r e x p).error ≡ None
     → ChannelHeard (channel_taking r e (as_side as_peer_call x) p) (as_at as_peer_call (channel_side_takes r e x p).next) (channel_side_takes r e x p).out
-channel_heard r e (Live x) Clear quiet = channel_at_once _ _ _ refl refl
+channel_heard r e (Live x) Clear quiet = at_once channel_deeds _ _ _ _ refl refl
 channel_heard r e (Live x) ClearConf quiet = absurd (cc)
 channel_heard r e (Live x) other quiet = heard_in_call r e x other quiet
-channel_heard r e (Left x) Clear quiet = channel_at_once _ _ _ refl refl
-channel_heard r e (Left x) ClearConf quiet = channel_at_once _ _ _ refl refl
-channel_heard r e (Left x) other quiet = channel_at_once _ _ _ refl refl
+channel_heard r e (Left x) Clear quiet = at_once channel_deeds _ _ _ _ refl refl
+channel_heard r e (Left x) other quiet = at_once channel_deeds _ _ _ _ refl refl

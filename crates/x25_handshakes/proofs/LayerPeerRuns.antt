@@ -15,7 +15,7 @@ use Rattle.x25_handshakes.specs.laws.Channel.{ChannelStep, channel_takes, channe
 use Rattle.x25_handshakes.specs.laws.Layers.{LayerPacket, On, Restart, RestartConf, Channels, put, addressed, all_fresh, LayerStep, ready, restarting, layer_side_takes, layer_takes, LayerAct, OnChannel, SendsRestart, layer_side_acts, layer_acts, Pair, Move, Acts, Takes, LinkDown, turned, pair_moves, Event, pair_happens, pair_run, pair_start}
 use Rattle.x25_handshakes.specs.laws.PeerCalls.{PeerCall}
 use Rattle.x25_handshakes.specs.laws.PeerChannel.{MayDoChannel, does_channel, channel_packet_of, PeerChannelStep, channel_taking}
-use Rattle.x25_handshakes.specs.laws.PeerLayer.{PeerChannels, put_peer, peer_ready, InChannel, Restarts, MayDoLayer, does_layer, layer_packet_of, PeerLayerStep, layer_taking}
+use Rattle.x25_handshakes.specs.laws.PeerLayer.{PeerChannels, put_peer, peer_ready, LayerDeed, InChannel, Restarts, MayDoLayer, does_layer, layer_packet_of, PeerLayerStep, layer_taking}
 use Rattle.x25_handshakes.specs.laws.PeerLayers.{other_role, found, layer_found, IsReached}
 use Rattle.x25_handshakes.specs.laws.PeerLayers as joined
 use Rattle.x25_handshakes.specs.laws.LayerPeers.{as_side, as_at, as_peer_call, as_peer_channels, as_peer, IsPeerOf, LayersArePeers}
@@ -29,7 +29,7 @@ use Rattle.x25_handshakes.proofs.OwnCallLemmas.{Accepted-some, CallAccepted-some
 use Rattle.x25_handshakes.proofs.ChannelRelation.{Seen, connection_level}
 use Rattle.x25_handshakes.proofs.LayersRelation.{on, channels_level, LayersRelated, EndsRelated}
 use Rattle.x25_handshakes.proofs.LayerLemmas.{GoodLayer-takes, GoodLayer-acts, Stands, Stands-turned, Stands-moves, Stands-start}
-use Rattle.x25_handshakes.proofs.LayerPeers.{Did, Nothing, Something, Heard, IsFit}
+use Rattle.x25_handshakes.proofs.LayerPeers.{Deeds, Did, Nothing, Something, Heard, at_once, IsFit}
 use Rattle.x25_handshakes.proofs.LayerPeerCalls.{IsKnown, IsKnownSide, ChannelDid, ChannelHeard, channel_did, channel_heard}
 
 -- ---- what is known of our own end beside another
@@ -75,11 +75,14 @@ channel_known r e f (Left x) y L K h = tt
 
 -- ---- a layer
 
+abbrev layer_deeds : Deeds (At PeerChannels) LayerDeed LayerPacket
+layer_deeds = record { may = λ y d. MayDoLayer y.side d; does = λ y d. does_layer y.epoch y.side d; packet = λ y d. layer_packet_of y.side d }
+
 abbrev LayerDid : At PeerChannels → At PeerChannels → List LayerPacket → Type 0
-LayerDid y y₂ o = Did (λ y d. MayDoLayer y.side d) (λ y d. does_layer y.epoch y.side d) (λ y d. layer_packet_of y.side d) y y₂ o
+LayerDid y y₂ o = Did layer_deeds y y₂ o
 
 abbrev LayerHeard : PeerLayerStep → At PeerChannels → List LayerPacket → Type 0
-LayerHeard s y₂ o = Heard (λ y d. MayDoLayer y.side d) (λ y d. does_layer y.epoch y.side d) (λ y d. layer_packet_of y.side d) s.next s.out y₂ o
+LayerHeard s y₂ o = Heard layer_deeds s.next s.out y₂ o
 
 -- one channel was put anew, as a peer's and as ours
 put_as : (e : ℕ) (x : Channels) (h : ℕ) (z : At PeerCall) (c : At Connection) → z ≡ as_at as_peer_call c → peer_ready e (put_peer (as_peer_channels x) h z) ≡ as_peer (ready e (put x h c))
@@ -138,9 +141,6 @@ behind_did e x h z c o (Something d may next out) =
         by k true = refl
         by k false = refl
 
-at_once : (s : PeerLayerStep) (y : At PeerChannels) (o : List LayerPacket) → s.next ≡ y → s.out ≡ o → LayerHeard s y o
-at_once s y o next out = record { rest = []; split = append-nil s.out ∙ out; did = Nothing next refl }
-
 layer_heard : (r : Role) (e : ℕ) (x : Side Channels) (p : LayerPacket) → (layer_side_takes r e x p).error ≡ None
     → LayerHeard (layer_taking r e (as_side as_peer_channels x) p) (as_peer (layer_side_takes r e x p).next) (layer_side_takes r e x p).out
 layer_heard r e (Live x) (On h p) quiet =
@@ -152,11 +152,10 @@ layer_heard r e (Live x) (On h p) quiet =
       split = addressed-append h t.out g.rest ∙ ap (addressed h) g.split;
       did = behind_did e x h t.next s.next g.rest g.did;
     }
-layer_heard r e (Live x) Restart quiet = at_once _ _ _ refl refl
+layer_heard r e (Live x) Restart quiet = at_once layer_deeds _ _ _ _ refl refl
 layer_heard r e (Live x) RestartConf quiet = absurd (cc)
-layer_heard r e (Left x) (On h p) quiet = at_once _ _ _ refl refl
-layer_heard r e (Left x) Restart quiet = at_once _ _ _ refl refl
-layer_heard r e (Left x) RestartConf quiet = at_once _ _ _ refl refl
+layer_heard r e (Left x) Restart quiet = at_once layer_deeds _ _ _ _ refl refl
+layer_heard r e (Left x) p quiet = at_once layer_deeds _ _ _ _ refl refl
 
 -- ---- runs
 

@@ -5,36 +5,47 @@ use Rattle.std.proofs.lemmas.Bool.{cond_both, ltb-true}
 use Rattle.x25_packet.specs.declared.marks.Marks.{Marks}
 use Rattle.x25_circuit.specs.Message.{Piece, no_part, cut, wholes, AreSound}
 use Rattle.x25_circuit.specs.Params.{Terms}
-use Rattle.x25_handshakes.specs.laws.Stretch.{Packet, Data, Rr, Rnr, Int, IntConf, Reset, ResetConf, Stretch, StretchStep, stretch_does, stretch_fails, StretchAct, Send, Pull, Ready, NotReady, Interrupt, sends, pulls, interrupts, stretch_acts, ack_ground, data_ground, by_ground, takes_data, takes_status, stretch_takes}
-use Rattle.x25_handshakes.specs.laws.PeerStretch.{PeerStretch, Sends, Says, Interrupts, Confirms, MayDo, does, packet_of, taking}
+use Rattle.x25_handshakes.specs.laws.Stretch.{Packet, Data, Rr, Rnr, Int, IntConf, Reset, Call, Accept, Clear, ClearConf, Stretch, StretchStep, stretch_does, stretch_fails, StretchAct, Send, Pull, Ready, NotReady, Interrupt, sends, pulls, interrupts, stretch_acts, ack_ground, data_ground, by_ground, takes_data, takes_status, stretch_takes}
+use Rattle.x25_handshakes.specs.laws.PeerStretch.{PeerStretch, Deed, Sends, Says, Interrupts, Confirms, MayDo, does, packet_of, taking}
 use Rattle.x25_handshakes.specs.laws.Handshake.{Side, Live, Left, At}
 use Rattle.x25_handshakes.specs.laws.Transfer.{d1, lifted, TransferAct, Inside, SendsReset, transfer_side_takes, transfer_side_acts}
-use Rattle.x25_handshakes.specs.laws.PeerTransfer.{peer_d1, InStretch, Resets, MayDoTransfer, does_transfer, transfer_packet_of, PeerStep, live_taking, left_taking, transfer_taking}
+use Rattle.x25_handshakes.specs.laws.PeerTransfer.{peer_d1, TransferDeed, InStretch, Resets, MayDoTransfer, does_transfer, transfer_packet_of, PeerStep, transfer_taking}
 use Rattle.x25_handshakes.specs.laws.LayerPeers.{as_peer_stretch, as_side, as_at}
 use Rattle.x25_handshakes.proofs.TextLemmas.{AreSound-back}
 
+-- the deeds of a peer at one level: which it may do, what it is then, and the packet that it sends
+pub record Deeds (Y D P : Type 0) : Type 1 where
+  pub may : Y → D → Type 0
+  pub does : Y → D → Y
+  pub packet : Y → D → P
+
 -- Nothing, or one thing that the peer y may do: it is y₂ then, and sent these packets.
-pub data Did {Y D P : Type 0} (May : Y → D → Type 0) (does : Y → D → Y) (packet : Y → D → P) (y y₂ : Y) (o : List P) : Type 0 where
-  Nothing : y ≡ y₂ → [] ≡ o → Did May does packet y y₂ o
-  Something : (d : D) → May y d → does y d ≡ y₂ → packet y d ∷ [] ≡ o → Did May does packet y y₂ o
+pub data Did {Y D P : Type 0} (k : Deeds Y D P) (y y₂ : Y) (o : List P) : Type 0 where
+  Nothing : y ≡ y₂ → [] ≡ o → Did k y y₂ o
+  Something : (d : D) → k.may y d → k.does y d ≡ y₂ → k.packet y d ∷ [] ≡ o → Did k y y₂ o
 
 -- A packet was taken, by which the peer is y and sent the first packets, and then it did nothing or one thing.
-pub record Heard {Y D P : Type 0} (May : Y → D → Type 0) (does : Y → D → Y) (packet : Y → D → P) (y : Y) (first : List P) (y₂ : Y) (o : List P) : Type 0 where
+pub record Heard {Y D P : Type 0} (k : Deeds Y D P) (y : Y) (first : List P) (y₂ : Y) (o : List P) : Type 0 where
   pub rest : List P
   pub split : first ++ rest ≡ o
-  pub did : Did May does packet y y₂ rest
+  pub did : Did k y y₂ rest
+
+pub at_once : {Y D P : Type 0} (k : Deeds Y D P) (y : Y) (first : List P) (y₂ : Y) (o : List P) → y ≡ y₂ → first ≡ o → Heard k y first y₂ o
+at_once k y first y₂ o next out = record { rest = []; split = append-nil first ∙ out; did = Nothing next refl }
 
 -- what is done on one level is done on the one above
-pub did_above : {Y D Z E P : Type 0} (May : Y → D → Type 0) (does : Y → D → Y) (packet : Y → D → P) (May₂ : Z → E → Type 0) (does₂ : Z → E → Z) (packet₂ : Z → E → P) (f : Y → Z) (g : D → E) (y y₂ : Y) (o : List P)
-    → ((d : D) → May y d → May₂ (f y) (g d)) → ((d : D) → does₂ (f y) (g d) ≡ f (does y d)) → ((d : D) → packet₂ (f y) (g d) ≡ packet y d)
-    → Did May does packet y y₂ o → Did May₂ does₂ packet₂ (f y) (f y₂) o
-did_above May does packet May₂ does₂ packet₂ f g y y₂ o may same out (Nothing e none) = Nothing (ap f e) none
-did_above May does packet May₂ does₂ packet₂ f g y y₂ o may same out (Something d ok next sent) = Something (g d) (may d ok) (same d ∙ ap f next) (ap (λ p. p ∷ []) (out d) ∙ sent)
+pub did_above : {Y D Z E P : Type 0} (k : Deeds Y D P) (l : Deeds Z E P) (f : Y → Z) (g : D → E) (y y₂ : Y) (o : List P)
+    → ((d : D) → k.may y d → l.may (f y) (g d)) → ((d : D) → l.does (f y) (g d) ≡ f (k.does y d)) → ((d : D) → l.packet (f y) (g d) ≡ k.packet y d) → Did k y y₂ o → Did l (f y) (f y₂) o
+did_above k l f g y y₂ o may same out (Nothing e none) = Nothing (ap f e) none
+did_above k l f g y y₂ o may same out (Something d ok next sent) = Something (g d) (may d ok) (same d ∙ ap f next) (ap (λ p. p ∷ []) (out d) ∙ sent)
 
 -- ---- one stretch
 
+abbrev pub stretch_deeds : ℕ → Deeds PeerStretch Deed Packet
+stretch_deeds size = record { may = MayDo size; does = does; packet = packet_of }
+
 abbrev pub StretchDid : ℕ → PeerStretch → PeerStretch → List Packet → Type 0
-StretchDid size y y₂ o = Did (MayDo size) does packet_of y y₂ o
+StretchDid size y y₂ o = Did (stretch_deeds size) y y₂ o
 
 abbrev Does : ℕ → Stretch → StretchStep → Type 0
 Does size x s = StretchDid size (as_peer_stretch x) (as_peer_stretch s.next) s.out
@@ -109,11 +120,14 @@ stretch_heard size b x p quiet = absurd (cc)
 
 -- ---- p4
 
+abbrev pub transfer_deeds : ℕ → Deeds (At PeerStretch) TransferDeed Packet
+transfer_deeds size = record { may = λ y d. MayDoTransfer size y.side d; does = λ y d. does_transfer y.epoch y.side d; packet = λ y d. transfer_packet_of y.side d }
+
 abbrev pub TransferDid : ℕ → At PeerStretch → At PeerStretch → List Packet → Type 0
-TransferDid size y y₂ o = Did (λ y d. MayDoTransfer size y.side d) (λ y d. does_transfer y.epoch y.side d) (λ y d. transfer_packet_of y.side d) y y₂ o
+TransferDid size y y₂ o = Did (transfer_deeds size) y y₂ o
 
 abbrev pub TransferHeard : ℕ → PeerStep → At PeerStretch → List Packet → Type 0
-TransferHeard size s y₂ o = Heard (λ y d. MayDoTransfer size y.side d) (λ y d. does_transfer y.epoch y.side d) (λ y d. transfer_packet_of y.side d) s.next s.out y₂ o
+TransferHeard size s y₂ o = Heard (transfer_deeds size) s.next s.out y₂ o
 
 -- what is known of what waits
 abbrev pub IsFit : ℕ → Side Stretch → Type 0
@@ -126,8 +140,7 @@ lifted_did size e x s quiet did = by s.error quiet
   where
     by : (n : Option ℕ) → (lifted e s n).error ≡ None → TransferDid size (as_at as_peer_stretch (d1 e x)) (as_at as_peer_stretch (lifted e s n).next) (lifted e s n).out
     by None q =
-        did_above (MayDo size) does packet_of (λ y d. MayDoTransfer size y.side d) (λ y d. does_transfer y.epoch y.side d) (λ y d. transfer_packet_of y.side d) (λ y. peer_d1 e y) (λ d. InStretch d)
-        (as_peer_stretch x) (as_peer_stretch s.next) s.out (λ d may. may) (λ d. refl) (λ d. refl) did
+        did_above (stretch_deeds size) (transfer_deeds size) (λ y. peer_d1 e y) (λ d. InStretch d) (as_peer_stretch x) (as_peer_stretch s.next) s.out (λ d may. may) (λ d. refl) (λ d. refl) did
     by (Some n) q = absurd (cc)
 
 pub transfer_did : (t : Terms) → t.window ≤ 7 → (e : ℕ) (x : Side Stretch) → IsFit t.size x → (a : TransferAct) → (transfer_side_acts t e x a).error ≡ None
@@ -145,27 +158,22 @@ lifted_heard size b e x p quiet = by (stretch_takes b x p).error refl quiet
     by None is q = record {
       rest = (stretch_takes b x p).out;
       split = refl;
-      did = did_above (MayDo size) does packet_of (λ y d. MayDoTransfer size y.side d) (λ y d. does_transfer y.epoch y.side d) (λ y d. transfer_packet_of y.side d) (λ y. peer_d1 e y) (λ d. InStretch d)
+      did = did_above (stretch_deeds size) (transfer_deeds size) (λ y. peer_d1 e y) (λ d. InStretch d)
           (taking (as_peer_stretch x) p) (as_peer_stretch (stretch_takes b x p).next) (stretch_takes b x p).out (λ d may. may) (λ d. refl) (λ d. refl) (stretch_heard size b x p is);
     }
     by (Some n) is q = absurd (cc)
 
-done_at_once : (size : ℕ) (s : PeerStep) (y : At PeerStretch) (o : List Packet) → s.next ≡ y → s.out ≡ o → TransferHeard size s y o
-done_at_once size s y o next out = record { rest = []; split = append-nil s.out ∙ out; did = Nothing next refl }
-
 pub transfer_heard : (size b e : ℕ) (x : Side Stretch) (p : Packet) → (transfer_side_takes b e x p).error ≡ None
     → TransferHeard size (transfer_taking e (as_side as_peer_stretch x) p) (as_at as_peer_stretch (transfer_side_takes b e x p).next) (transfer_side_takes b e x p).out
-transfer_heard size b e (Live x) Reset quiet = done_at_once size (live_taking e (as_peer_stretch x) Reset) _ _ refl refl
+transfer_heard size b e (Live x) Reset quiet = at_once (transfer_deeds size) _ _ _ _ refl refl
 transfer_heard size b e (Live x) (Data s r p) quiet = lifted_heard size b e x (Data s r p) quiet
 transfer_heard size b e (Live x) (Rr r) quiet = lifted_heard size b e x (Rr r) quiet
 transfer_heard size b e (Live x) (Rnr r) quiet = lifted_heard size b e x (Rnr r) quiet
 transfer_heard size b e (Live x) (Int xs) quiet = lifted_heard size b e x (Int xs) quiet
 transfer_heard size b e (Live x) IntConf quiet = lifted_heard size b e x IntConf quiet
-transfer_heard size b e (Left x) Reset quiet = done_at_once size (left_taking e (as_peer_stretch x) Reset) _ _ refl refl
-transfer_heard size b e (Left x) ResetConf quiet = done_at_once size (left_taking e (as_peer_stretch x) ResetConf) _ _ refl refl
-transfer_heard size b e (Left x) (Data s r p) quiet = done_at_once size (left_taking e (as_peer_stretch x) (Data s r p)) _ _ refl refl
-transfer_heard size b e (Left x) (Rr r) quiet = done_at_once size (left_taking e (as_peer_stretch x) (Rr r)) _ _ refl refl
-transfer_heard size b e (Left x) (Rnr r) quiet = done_at_once size (left_taking e (as_peer_stretch x) (Rnr r)) _ _ refl refl
-transfer_heard size b e (Left x) (Int xs) quiet = done_at_once size (left_taking e (as_peer_stretch x) (Int xs)) _ _ refl refl
-transfer_heard size b e (Left x) IntConf quiet = done_at_once size (left_taking e (as_peer_stretch x) IntConf) _ _ refl refl
+transfer_heard size b e (Left x) (Call i) quiet = absurd (cc)
+transfer_heard size b e (Left x) (Accept field) quiet = absurd (cc)
+transfer_heard size b e (Left x) Clear quiet = absurd (cc)
+transfer_heard size b e (Left x) ClearConf quiet = absurd (cc)
+transfer_heard size b e (Left x) p quiet = at_once (transfer_deeds size) _ _ _ _ refl refl
 transfer_heard size b e x p quiet = absurd (cc)

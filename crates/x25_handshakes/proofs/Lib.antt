@@ -1,6 +1,7 @@
 pub mod TermsLemmas
 pub mod HandshakeRelation
 pub mod HandshakeLemmas
+pub mod HandshakeSteps
 pub mod StretchRelation
 pub mod TransferRelation
 pub mod CallsRelation
@@ -17,7 +18,6 @@ pub mod OwnCallLemmas
 pub mod JointLemmas
 pub mod CallLemmas
 pub mod OwnChannelLemmas
-pub mod ChannelLemmas
 pub mod OwnLayerLemmas
 pub mod LayerLemmas
 pub mod ClaimLemmas
@@ -32,16 +32,13 @@ pub mod DrainedLemmas
 pub mod PeerRelation
 pub mod PeerActs
 pub mod PeerDeeds
-pub mod PeerTransferActs
-pub mod PeerTransferDeeds
-pub mod PeerCallsRelation
+pub mod PeerTransferLemmas
 pub mod PeerCallLemmas
 pub mod PeerChannelLemmas
 pub mod PeerOrder
 pub mod AcknowledgedLemmas
 pub mod PeerRuns
 pub mod PeerLayerLemmas
-pub mod PeerLayerRuns
 pub mod PeerRowLemmas
 pub mod LayerPeers
 pub mod LayerPeerCalls

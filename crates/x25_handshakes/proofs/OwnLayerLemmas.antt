@@ -1,15 +1,15 @@
 -- What our own layer does keeps what is kept of it and the other end, whatever kind of end that is.
-use Rattle.std.proofs.Common.{◌≡◌, ℕ, suc, List, [], ◌∷◌, ◌++◌, Option, None, Bool, true, false, if◌then◌else◌, refl, sym, ap, subst, ◌∙◌, ◌==◌, eq-eqb}
+use Rattle.std.proofs.Common.{◌≡◌, ℕ, List, [], ◌∷◌, ◌++◌, Option, None, Bool, true, false, if◌then◌else◌, refl, sym, ap, subst, ◌∙◌, ◌==◌, eq-eqb}
 use Rattle.std.proofs.lemmas.Bool.{eqb-true}
 use Rattle.std.proofs.lemmas.List.{append-nil}
-use Rattle.x25_handshakes.specs.laws.Handshake.{Inner, Side, Live, Left, At}
+use Rattle.x25_handshakes.specs.laws.Handshake.{Side, Live, Left, At}
 use Rattle.x25_bits.specs.declared.role.Role.{Role}
 use Rattle.x25_handshakes.specs.laws.Stretch.{Packet}
 use Rattle.x25_handshakes.specs.laws.Calls.{Connection}
 use Rattle.x25_handshakes.specs.laws.Channel.{ChannelStep, fresh_channel, channel_takes, ChannelAct, channel_acts}
-use Rattle.x25_handshakes.specs.laws.Layers.{LayerPacket, On, Restart, RestartConf, Channels, put, addressed, all_fresh, LayerStep, ready, restarting, layer_side_takes, layer_takes, LayerAct, OnChannel, SendsRestart, layer_side_acts, layer_acts}
+use Rattle.x25_handshakes.specs.laws.Layers.{LayerPacket, On, Restart, RestartConf, Channels, put, addressed, LayerStep, ready, restarting, layer_side_takes, layer_takes, LayerAct, OnChannel, SendsRestart, layer_side_acts, layer_acts}
 use Rattle.x25_handshakes.proofs.HandshakeRelation.{Level, Handshaken, GoodStep, AllInner}
-use Rattle.x25_handshakes.proofs.HandshakeLemmas.{still, request_live, confirm_never, leave, inner_act, inner_take, drops, marker_left, inner_live, live_front}
+use Rattle.x25_handshakes.proofs.HandshakeSteps.{Any, Inside, Answers, acts_inside, leaves, stays, answered}
 use Rattle.x25_handshakes.proofs.LayersRelation.{kept_on, on, OnEach, restart_mark, own_channels_level}
 
 pub on-append : (h : ℕ) (L o : List LayerPacket) → on h (L ++ o) ≡ on h L ++ on h o
@@ -71,67 +71,40 @@ module _ {Z : Type 0} (R : At Connection → List Packet → List Packet → Z �
   abbrev Good : Option ℕ → LayerStep → List LayerPacket → List LayerPacket → At (ℕ → Z) → Type 0
   Good e s L K y = GoodStep level e s.next s.out L K y
 
-  -- a step of channel h
-  own_put : (x : Channels) (h : ℕ) (s : ChannelStep) (L K M : List LayerPacket) (y : ℕ → Z) → OnEach R x L M y → ((k : ℕ) → (k == h) ≡ false → on k M ≡ on k K) → R s.next (on h L ++ s.out) (on h K) (y h)
-      → OnEach R (put x h s.next) (L ++ addressed h s.out) K y
-  own_put x h s L K M y all others here = record { each = put_kept R x s.next s.out L K M y h all.each others here }
+  -- a step of channel h that is no error, with these packets taken
+  inside : (e : ℕ) (x : Channels) (h : ℕ) (s : ChannelStep) (taken : List LayerPacket) (error : Option ℕ) → ((k : ℕ) (K : List LayerPacket) → (k == h) ≡ false → on k (taken ++ K) ≡ on k K)
+      → ((L K : List LayerPacket) (y : ℕ → Z) → OnEach R x L (taken ++ K) y → (error ≡ None) × R s.next (on h L ++ s.out) (on h K) (y h))
+      → Inside level Any e x taken (ready e (put x h s.next)) (addressed h s.out) error
+  inside e x h s taken error others good = record {
+    after = put x h s.next;
+    goes = λ L K y all. record {
+      quiet = (good L K y all).0;
+      at = refl;
+      inner = inner_addressed h s.out;
+      passes = tt;
+      kept = record { each = put_kept R x s.next s.out L K (taken ++ K) y h all.each (λ k not. others k K not) (good L K y all).1 };
+    };
+  }
 
-  own_acts : (x : Channels) (h : ℕ) (a : ChannelAct) (L K : List LayerPacket) (y : ℕ → Z) → OnEach R x L K y
-      → ((channel_acts (x h) a).error ≡ None) × OnEach R (put x h (channel_acts (x h) a).next) (L ++ addressed h (channel_acts (x h) a).out) K y
-  own_acts x h a L K y all =
-      let good = own.acts (x h) (on h L) (on h K) (y h) a (all.each h) in
-      (good.0, own_put x h (channel_acts (x h) a) L K K y all (λ k not. refl) good.1)
-
-  own_takes : (x : Channels) (h : ℕ) (p : Packet) (L K : List LayerPacket) (y : ℕ → Z) → OnEach R x L (On h p ∷ K) y
-      → (finds (On h p) (channel_takes r (x h) p).error ≡ None) × OnEach R (put x h (channel_takes r (x h) p).next) (L ++ addressed h (channel_takes r (x h) p).out) K y
-  own_takes x h p L K y all =
-      let good = own.takes h (x h) (on h L) p (on h K) (y h) (subst (λ (l : List Packet). R (x h) (on h L) l (y h)) (on-front h p K) (all.each h)) in
-      (good.0, own_put x h (channel_takes r (x h) p) L K (On h p ∷ K) y all (λ k not. on-past k h p K not) good.1)
-
-  own_empty : OnEach R all_fresh [] [] y₀
-  own_empty = record { each = own.empty }
-
-  own_still : (x : At Channels) (L K : List LayerPacket) (y : At (ℕ → Z)) (e : Option ℕ) → e ≡ None → Handshaken level x L K y → Good e (record { next = x; out = []; error = None }) L K y
-  own_still x L K y e quiet h = record { quiet = quiet; kept = still level x L K y h }
-
-  own_mark : (e : ℕ) (x : Channels) (L : List LayerPacket) (p : LayerPacket) (K : List LayerPacket) (y : At (ℕ → Z)) → (restart_mark p ≡ Inner → ⊥) → Handshaken level (restarting e x) L (p ∷ K) y
-      → Good (finds p None) (record { next = ready (suc e) all_fresh; out = []; error = None }) L K y
-  own_mark e x L p K y is k = own_still (ready (suc e) all_fresh) L K y (finds p None) (own.none p) (record { hand = marker_left level own_empty p is e y.epoch x y.side L K k.hand })
-
-  own_side_takes : (e : ℕ) (x : Side Channels) (L : List LayerPacket) (p : LayerPacket) (K : List LayerPacket) (y : At (ℕ → Z)) → Handshaken level (record { epoch = e; side = x }) L (p ∷ K) y
-      → Good (finds p (layer_side_takes r e x p).error) (layer_side_takes r e x p) L K y
-  own_side_takes e (Live x) L (On h p) K y k =
-      let s : ChannelStep = channel_takes r (x h) p in
-      let some = live_front level (On h p) refl e y.epoch x y.side L K k.hand in
-      record {
-        quiet = (own_takes x h p some.0 some.1 some.2 some.3).0;
-        kept = record {
-          hand = inner_take level (On h p) (addressed h s.out) refl (inner_addressed h s.out) e y.epoch x (put x h s.next) y.side L K (λ w v z c. (own_takes x h p w v z c).1) k.hand;
-        };
-      }
-  own_side_takes e (Live x) L Restart K y k =
-      record { quiet = own.none Restart; kept = record { hand = request_live level own_empty RestartConf Restart refl refl e y.epoch x y.side L K k.hand } }
-  own_side_takes e (Live x) L RestartConf K y k = absurd (confirm_never level RestartConf refl e y.epoch x y.side L K k.hand)
-  own_side_takes e (Left x) L (On h p) K y k =
-      own_still (restarting e x) L K y (finds (On h p) None) (own.none (On h p)) (record { hand = drops level (On h p) refl e y.epoch x y.side L K k.hand })
-  own_side_takes e (Left x) L Restart K y k = own_mark e x L Restart K y (λ q. cc) k
-  own_side_takes e (Left x) L RestartConf K y k = own_mark e x L RestartConf K y (λ q. cc) k
+  answers : (e : ℕ) (x : Side Channels) (p : LayerPacket) → (let s = layer_side_takes r e x p in Answers level Any e x p (restart_mark p) s.next s.out (finds p s.error))
+  answers e (Live x) (On h p) =
+      inside e x h (channel_takes r (x h) p) (On h p ∷ []) _ (λ k K not. on-past k h p K not)
+      (λ L K y all. own.takes h (x h) (on h L) p (on h K) (y h) (subst (λ (l : List Packet). R (x h) (on h L) l (y h)) (on-front h p K) (all.each h)))
+  answers e (Live x) Restart = record { confirm = RestartConf; is = refl; at = refl; sent = refl; passes = tt; quiet = λ w z gone h. own.none Restart }
+  answers e (Live x) RestartConf = tt
+  answers e (Left x) Restart = (refl, refl, own.none Restart)
+  answers e (Left x) p = (refl, refl, own.none p)
 
   pub layer_takes_good : (x : At Channels) (L : List LayerPacket) (p : LayerPacket) (K : List LayerPacket) (y : At (ℕ → Z)) → Handshaken level x L (p ∷ K) y → Good (finds p (layer_takes r x p).error) (layer_takes r x p) L K y
-  layer_takes_good x L p K y h = own_side_takes x.epoch x.side L p K y h
+  layer_takes_good x L p K y h =
+      let s : LayerStep = layer_takes r x p in
+      (answered level Any tt (record { each = own.empty }) x.epoch x.side p s.next s.out (finds p s.error) (answers x.epoch x.side p) L K y h).0
 
   own_side_acts : (e : ℕ) (x : Side Channels) (L K : List LayerPacket) (y : At (ℕ → Z)) (a : LayerAct) → Handshaken level (record { epoch = e; side = x }) L K y → Good (layer_side_acts e x a).error (layer_side_acts e x a) L K y
   own_side_acts e (Live x) L K y (OnChannel h a) k =
-      let s : ChannelStep = channel_acts (x h) a in
-      let some = inner_live level e y.epoch x y.side L K k.hand in
-      record {
-        quiet = (own_acts x h a some.0 some.1 some.2 some.3).0;
-        kept = record {
-          hand = inner_act level (addressed h s.out) (inner_addressed h s.out) e y.epoch x (put x h s.next) y.side L K (λ w v z c. (own_acts x h a w v z c).1) k.hand;
-        };
-      }
-  own_side_acts e (Live x) L K y SendsRestart k = record { quiet = refl; kept = record { hand = leave level Restart refl e y.epoch x y.side L K tt k.hand } }
-  own_side_acts e (Left x) L K y a k = own_still (restarting e x) L K y None refl k
+      (acts_inside level Any e x _ _ _ (inside e x h (channel_acts (x h) a) [] _ (λ k K not. refl) (λ L K y all. own.acts (x h) (on h L) (on h K) (y h) a (all.each h))) L K y k).0
+  own_side_acts e (Live x) L K y SendsRestart k = leaves level Any Restart refl e x tt L K y k
+  own_side_acts e (Left x) L K y a k = stays level Any (restarting e x) L K y k
 
   pub layer_acts_good : (x : At Channels) (L K : List LayerPacket) (y : At (ℕ → Z)) (a : LayerAct) → Handshaken level x L K y → Good (layer_acts x a).error (layer_acts x a) L K y
   layer_acts_good x L K y a h = own_side_acts x.epoch x.side L K y a h

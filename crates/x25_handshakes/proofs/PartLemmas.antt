@@ -1,36 +1,46 @@
 -- What each step does to the parts of the relation of two stretches.
-use Rattle.std.proofs.Common.{◌≡◌, ℕ, ◌+◌, ◌%◌, ◌≤◌, List, [], ◌∷◌, ◌++◌, length, Option, Some, None, Bool, true, false, refl, sym, ap, subst, ◌∙◌, arith, append_assoc, length-append}
+use Rattle.std.proofs.Common.{◌≡◌, ℕ, ◌+◌, ◌-◌, ◌%◌, ◌≤◌, List, [], ◌∷◌, ◌++◌, length, Option, Some, None, Bool, true, false, refl, sym, ap, subst, ◌∙◌, arith, append_assoc, length-append}
 use Rattle.std.proofs.lemmas.List.{length_push, append-nil}
 use Rattle.x25_packet.specs.declared.marks.Marks.{Marks}
 use Rattle.x25_circuit.specs.declared.message.Message.{Message}
 use Rattle.x25_circuit.specs.Message.{Piece, no_part, joining, completed, carried_from, carried, AreSound, cut}
 use Rattle.x25_window.specs.code.Modulo.{resolved}
 use Rattle.x25_handshakes.specs.laws.Stretch.{Packet, Data, Int, IntConf}
-use Rattle.x25_handshakes.proofs.StretchRelation.{Numbering, numbering, ack_in, int_in, conf_in, piece_of, pieces, number_at, Numbered, hears, heard, ints, confs, Flow, Acks, Ints, Text}
+use Rattle.x25_handshakes.proofs.StretchRelation.{Numbering, numbering, ack_in, int_in, conf_in, piece_of, pieces, number_at, Numbered, hears, heard, ints, confs, InFlowControl, Line, Acks, Ints, Text}
 use Rattle.x25_handshakes.proofs.TextLemmas.{joining-append, carried-append, AreSound-append, AreSound-cut, joining-cut, carried-cut}
-use Rattle.x25_handshakes.proofs.LineLemmas.{resolved_is, heard_least, heard_push, pieces_push, ints_push, confs_push, Numbered_push}
+use Rattle.x25_handshakes.proofs.LineLemmas.{resolved_is, heard_least, heard_push, pieces_push, ints_push, confs_push, AllOpen_push, Numbered_push}
 
 -- the data packets on the way, in their numbers
 
-pub Flow-le : (sent taken : List Piece) (u : List Packet) → Flow sent taken u → length sent ≡ length taken + length (pieces u)
-Flow-le sent taken u h = ap length h.flow ∙ length-append taken (pieces u)
+pub Line-le : (sent taken : List Piece) (u : List Packet) → Line sent taken u → length sent ≡ length taken + length (pieces u)
+Line-le sent taken u h = ap length h.flow ∙ length-append taken (pieces u)
 
-pub Flow-send : (sent taken : List Piece) (u : List Packet) (r : ℕ) (p : Piece) → Flow sent taken u → Flow (sent ++ p ∷ []) taken (u ++ Data (length sent % 8) r p ∷ [])
-Flow-send sent taken u r p h = record {
+pub Line-send : (sent taken : List Piece) (u : List Packet) (r : ℕ) (p : Piece) → Line sent taken u → Line (sent ++ p ∷ []) taken (u ++ Data (length sent % 8) r p ∷ [])
+Line-send sent taken u r p h = record {
   flow = ap (λ l. l ++ p ∷ []) h.flow ∙ append_assoc taken (pieces u) (p ∷ []) ∙ ap (λ l. taken ++ l) (sym (pieces_push u (Data (length sent % 8) r p)));
-  numbers = Numbered_push (length taken) u (Data (length sent % 8) r p) h.numbers (ap (λ n. n % 8) (Flow-le sent taken u h), tt);
+  numbers = Numbered_push (length taken) u (Data (length sent % 8) r p) h.numbers (ap (λ n. n % 8) (Line-le sent taken u h), tt);
+  kinds = AllOpen_push u (Data (length sent % 8) r p) tt h.kinds;
 }
 
-pub Flow-push : (sent taken : List Piece) (u : List Packet) (q : Packet) → numbering q ≡ None → Flow sent taken u → Flow sent taken (u ++ q ∷ [])
-Flow-push sent taken u q none h = record {
+pub Line-push : (sent taken : List Piece) (u : List Packet) (q : Packet) → numbering q ≡ None → InFlowControl q → Line sent taken u → Line sent taken (u ++ q ∷ [])
+Line-push sent taken u q none is h = record {
   flow = h.flow ∙ ap (λ l. taken ++ l) (sym (pieces_push u q ∙ ap (λ c. pieces u ++ piece_of c) none ∙ append-nil (pieces u)));
   numbers = Numbered_push (length taken) u q h.numbers (subst (λ (c : Option Numbering). number_at (length taken + length (pieces u)) c (λ m. Unit {0})) (sym none) tt);
+  kinds = AllOpen_push u q is h.kinds;
 }
 
-pub Flow-take : (sent taken : List Piece) (u : List Packet) (s r : ℕ) (p : Piece) → Flow sent taken (Data s r p ∷ u) → Flow sent (taken ++ p ∷ []) u
-Flow-take sent taken u s r p h = record {
+pub Line-take : (sent taken : List Piece) (u : List Packet) (s r : ℕ) (p : Piece) → Line sent taken (Data s r p ∷ u) → Line sent (taken ++ p ∷ []) u
+Line-take sent taken u s r p h = record {
   flow = h.flow ∙ sym (append_assoc taken (p ∷ []) (pieces u));
   numbers = subst (λ (n : ℕ). Numbered n u) (sym (length_push taken p)) h.numbers.1;
+  kinds = h.kinds.1;
+}
+
+pub Line-skip : (sent taken : List Piece) (u : List Packet) (q : Packet) → numbering q ≡ None → Line sent taken (q ∷ u) → Line sent taken u
+Line-skip sent taken u q none h = record {
+  flow = subst (λ (c : Option Numbering). sent ≡ taken ++ (piece_of c ++ pieces u)) none h.flow;
+  numbers = subst (λ (c : Option Numbering). number_at (length taken) c (λ m. Numbered m u)) none h.numbers;
+  kinds = h.kinds.1;
 }
 
 -- the window, and the numbers P(R) on the way back
@@ -55,6 +65,9 @@ Acks-more k acked sent more v taken room h = record { room = room; acks = h.acks
 pub Acks-taken : (k acked sent : ℕ) (v : List Packet) (taken more : ℕ) → taken ≤ more → Acks k acked sent v taken → Acks k acked sent v more
 Acks-taken k acked sent v taken more le h = record { room = h.room; acks = omega arith }
 
+pub Acks-told : (k acked sent : ℕ) (v : List Packet) (told n : ℕ) (q : Packet) → k ≤ 7 → told ≤ n → n ≤ sent → ack_in q ≡ Some (n % 8) → Acks k acked sent v told → Acks k acked sent (v ++ q ∷ []) n
+Acks-told k acked sent v told n q small rising le is h = Acks-push k acked sent v n q small le is (Acks-taken k acked sent v told n rising h)
+
 pub Acks-hear : (k acked sent : ℕ) (v : List Packet) (r taken : ℕ) → sent ≤ acked + k → heard (resolved acked r) v ≤ taken → Acks k (resolved acked r) sent v taken
 Acks-hear k acked sent v r taken room acks = record { room = omega arith; acks = acks }
 
@@ -63,37 +76,44 @@ heard_below acked sent v r taken le acks = omega (arith, heard_least (resolved a
 
 -- interrupts and their confirmations
 
-pub Ints-there : (out : Bool) (down up : List (List ℕ)) (u v : List Packet) (q : Packet) → int_in q ≡ [] → Ints out down up u v → Ints out down up (u ++ q ∷ []) v
-Ints-there out down up u v q none h =
+pub Ints-there : (out : Bool) (down up : List (List ℕ)) (u v : List Packet) (owed : ℕ) (q : Packet) → int_in q ≡ [] → Ints out down up u v owed → Ints out down up (u ++ q ∷ []) v owed
+Ints-there out down up u v owed q none h =
     let e : ints (u ++ q ∷ []) ≡ ints u = ints_push u q ∙ ap (λ l. ints u ++ l) none ∙ append-nil (ints u) in
-    record { count = h.count ∙ ap (λ l. length l + confs v) (sym e); flow = h.flow ∙ ap (λ l. up ++ l) (sym e) }
+    record { count = h.count ∙ ap (λ l. (length l + confs v) + owed) (sym e); flow = h.flow ∙ ap (λ l. up ++ l) (sym e) }
 
-pub Ints-back : (out : Bool) (down up : List (List ℕ)) (u v : List Packet) (q : Packet) → conf_in q ≡ 0 → Ints out down up u v → Ints out down up u (v ++ q ∷ [])
-Ints-back out down up u v q none h =
-    record { count = omega (arith, confs_push v q); flow = h.flow }
+pub Ints-back : (out : Bool) (down up : List (List ℕ)) (u v : List Packet) (owed : ℕ) (q : Packet) → conf_in q ≡ 0 → Ints out down up u v owed → Ints out down up u (v ++ q ∷ []) owed
+Ints-back out down up u v owed q none h = let count = h.count in record { count = omega (arith, count, confs_push v q); flow = h.flow }
 
-pub Ints-send : (down up : List (List ℕ)) (u v : List Packet) (xs : List ℕ) → Ints false down up u v → Ints true (down ++ xs ∷ []) up (u ++ Int xs ∷ []) v
-Ints-send down up u v xs h =
+pub Ints-send : (down up : List (List ℕ)) (u v : List Packet) (owed : ℕ) (xs : List ℕ) → Ints false down up u v owed → Ints true (down ++ xs ∷ []) up (u ++ Int xs ∷ []) v owed
+Ints-send down up u v owed xs h =
     let e : ints (u ++ Int xs ∷ []) ≡ ints u ++ xs ∷ [] = ints_push u (Int xs) in
     let n : length (ints (u ++ Int xs ∷ [])) ≡ length (ints u) + 1 = ap length e ∙ length_push (ints u) xs in
+    let count = h.count in
     record {
-      count = omega arith;
+      count = omega (arith, count, n);
       flow = ap (λ l. l ++ xs ∷ []) h.flow ∙ append_assoc up (ints u) (xs ∷ []) ∙ ap (λ l. up ++ l) (sym e);
     }
 
-pub Ints-take : (out : Bool) (down up : List (List ℕ)) (u v : List Packet) (xs : List ℕ) → Ints out down up (Int xs ∷ u) v → Ints out down (up ++ xs ∷ []) u (v ++ IntConf ∷ [])
-Ints-take out down up u v xs h =
-    record {
-      count = omega (arith, confs_push v IntConf);
-      flow = h.flow ∙ sym (append_assoc up (xs ∷ []) (ints u));
-    }
+-- the other end takes it, and has to confirm it
+pub Ints-take : (out : Bool) (down up : List (List ℕ)) (u v : List Packet) (owed : ℕ) (xs : List ℕ) → Ints out down up (Int xs ∷ u) v owed → Ints out down (up ++ xs ∷ []) u v (owed + 1)
+Ints-take out down up u v owed xs h = let count = h.count in record { count = omega (arith, count); flow = h.flow ∙ sym (append_assoc up (xs ∷ []) (ints u)) }
 
-pub Ints-out : (out : Bool) (down up : List (List ℕ)) (u v : List Packet) → Ints out down up u (IntConf ∷ v) → out ≡ true
-Ints-out true down up u v h = refl
-Ints-out false down up u v h = absurd (omega arith)
+-- and does so
+pub Ints-confirm : (out : Bool) (down up : List (List ℕ)) (u v : List Packet) (owed : ℕ) → 1 ≤ owed → Ints out down up u v owed → Ints out down up u (v ++ IntConf ∷ []) (owed - 1)
+Ints-confirm out down up u v owed some h = let count = h.count in record { count = omega (arith, count, confs_push v IntConf); flow = h.flow }
 
-pub Ints-conf : (down up : List (List ℕ)) (u v : List Packet) → Ints true down up u (IntConf ∷ v) → Ints false down up u v
-Ints-conf down up u v h = record { count = omega arith; flow = h.flow }
+pub Ints-past : (out : Bool) (down up : List (List ℕ)) (u v : List Packet) (owed : ℕ) (q : Packet) → int_in q ≡ [] → Ints out down up (q ∷ u) v owed → Ints out down up u v owed
+Ints-past out down up u v owed q none h = record { count = h.count ∙ ap (λ l. (length (l ++ ints u) + confs v) + owed) none; flow = h.flow ∙ ap (λ l. up ++ (l ++ ints u)) none }
+
+pub Ints-skip : (out : Bool) (down up : List (List ℕ)) (u v : List Packet) (owed : ℕ) (q : Packet) → conf_in q ≡ 0 → Ints out down up u (q ∷ v) owed → Ints out down up u v owed
+Ints-skip out down up u v owed q none h = let count = h.count in record { count = omega (arith, count); flow = h.flow }
+
+pub Ints-out : (out : Bool) (down up : List (List ℕ)) (u v : List Packet) (owed : ℕ) → Ints out down up u (IntConf ∷ v) owed → out ≡ true
+Ints-out true down up u v owed h = refl
+Ints-out false down up u v owed h = let count = h.count in absurd (omega (arith, count))
+
+pub Ints-conf : (down up : List (List ℕ)) (u v : List Packet) (owed : ℕ) → Ints true down up u (IntConf ∷ v) owed → Ints false down up u v owed
+Ints-conf down up u v owed h = let count = h.count in record { count = omega (arith, count); flow = h.flow }
 
 -- messages
 

@@ -7,12 +7,15 @@ use Rattle.x25_circuit.specs.Message.{Piece, no_part, joining, piece_ground, cut
 use Rattle.x25_window.specs.code.Modulo.{resolved}
 use Rattle.x25_circuit.specs.Params.{Terms}
 use Rattle.x25_handshakes.specs.laws.Stretch.{Packet, Data, Rr, Rnr, Int, IntConf, Stretch, StretchStep, stretch_does, stretch_fails, StretchAct, Send, Pull, Ready, NotReady, Interrupt, status, sends, pulls, interrupts, stretch_acts, ack_ground, data_ground, by_ground, takes_data, takes_status, stretch_takes}
-use Rattle.x25_handshakes.proofs.StretchRelation.{numbering, ack_in, int_in, conf_in, InFlowControl, pieces, heard, Text}
-use Rattle.x25_handshakes.proofs.LineLemmas.{AllOpen_push}
+use Rattle.x25_handshakes.proofs.StretchRelation.{numbering, ack_in, int_in, conf_in, InFlowControl, pieces, hears, heard, Ints, Text, GoodStretch}
 use Rattle.x25_handshakes.proofs.TextLemmas.{AreSound-back}
-use Rattle.x25_handshakes.proofs.PartLemmas.{Flow-le, Flow-send, Flow-push, Flow-take, Acks-push, Acks-pass, Acks-more, Acks-taken, Acks-hear, heard_below, Ints-back, Ints-take, Text-send, Text-pull, up-take}
+use Rattle.x25_handshakes.proofs.PartLemmas.{Line-le, Line-send, Line-push, Line-take, Line-skip, Acks-push, Acks-pass, Acks-more, Acks-taken, Acks-hear, heard_below, Ints-there, Ints-back, Ints-send, Ints-take, Ints-confirm, Ints-past, Ints-skip, Ints-out, Ints-conf, Text-send, Text-pull, up-take}
 use Rattle.x25_handshakes.specs.laws.PeerStretch.{PeerStretch}
-use Rattle.x25_handshakes.proofs.PeerRelation.{Ours, Theirs, Kept, Good, Owed, Owed-there, Owed-send, Owed-skip, Owed-out, Owed-conf}
+use Rattle.x25_handshakes.proofs.PeerRelation.{Theirs, Kept}
+
+-- a step of ours that is no error, and keeps both
+abbrev pub Good : Terms → ℕ → StretchStep → List Packet → List Packet → PeerStretch → Type 0
+Good t size s u v y = GoodStretch (Kept t size) s u v y
 
 -- an answer of no packet
 Good-still : (t : Terms) (size : ℕ) (x : Stretch) (u v : List Packet) (y : PeerStretch) → Kept t size x u v y → Good t size (stretch_does x []) u v y
@@ -22,31 +25,21 @@ Good-still t size x u v y h = record { quiet = refl; kept = subst (λ (w : List 
 Theirs-told : (size : ℕ) (x : Stretch) (sent rest : List Piece) (u v : List Packet) (y : PeerStretch) (q : Packet) → conf_in q ≡ 0 → ack_in q ≡ Some (length x.taken % 8)
     → Theirs size y v u x → Theirs size y v (u ++ q ∷ []) (record x { sent = sent; rest = rest })
 Theirs-told size x sent rest u v y q no_conf ack h =
-    let le : length y.sent ≡ length x.taken + length (pieces v) = Flow-le y.sent x.taken v h.flow in
+    let le : length y.sent ≡ length x.taken + length (pieces v) = Line-le y.sent x.taken v h.line in
     record {
-      flow = h.flow;
+      line = h.line;
       acks = Acks-push 7 y.acked (length y.sent) u (length x.taken) q (omega arith) (omega arith) ack h.acks;
-      ints = Ints-back y.int_out y.int_down x.int_up v u q no_conf h.ints;
-      sound = h.sound;
-      up = h.up;
-      kinds = h.kinds;
+      ints = Ints-back y.int_out y.int_down x.int_up v u 0 q no_conf h.ints;
+      text = h.text;
     }
 
 -- x tells how far it has taken
 Kept-tell : (t : Terms) (size : ℕ) (x : Stretch) (u v : List Packet) (y : PeerStretch) (q : Packet) → numbering q ≡ None → int_in q ≡ [] → conf_in q ≡ 0 → InFlowControl q → ack_in q ≡ Some (length x.taken % 8)
     → Kept t size x u v y → Kept t size x (u ++ q ∷ []) v y
-Kept-tell t size x u v y q none no_int no_conf is ack h =
-    record {
-      there = record {
-        flow = Flow-push x.sent y.taken u q none h.there.flow;
-        acks = h.there.acks;
-        ints = Owed-there x.int_out x.int_down y.int_up u v y.owed q no_int h.there.ints;
-        text = h.there.text;
-        late = h.there.late;
-        kinds = AllOpen_push u q is h.there.kinds;
-      };
-      back = Theirs-told size x x.sent x.rest u v y q no_conf ack h.back;
-    }
+Kept-tell t size x u v y q none no_int no_conf is ack h = record {
+  there = record { line = Line-push x.sent y.taken u q none is h.there.line; acks = h.there.acks; ints = Ints-there x.int_out x.int_down y.int_up u v y.owed q no_int h.there.ints; text = h.there.text };
+  back = Theirs-told size x x.sent x.rest u v y q no_conf ack h.back;
+}
 
 Kept-status : (t : Terms) (size : ℕ) (x : Stretch) (u v : List Packet) (y : PeerStretch) (ready : Bool) (n : ℕ) → n ≡ length x.taken → Kept t size x u v y → Kept t size x (u ++ status ready n ∷ []) v y
 Kept-status t size x u v y true n is h = Kept-tell t size x u v y (Rr (n % 8)) refl refl refl tt (ap (λ m. Some (m % 8)) is) h
@@ -54,8 +47,8 @@ Kept-status t size x u v y false n is h = Kept-tell t size x u v y (Rnr (n % 8))
 
 Kept-own_ready : (t : Terms) (size : ℕ) (x : Stretch) (u v : List Packet) (y : PeerStretch) (ready : Bool) → Kept t size x u v y → Kept t size (record x { own_ready = ready }) u v y
 Kept-own_ready t size x u v y ready h = record {
-  there = record { flow = h.there.flow; acks = h.there.acks; ints = h.there.ints; text = h.there.text; late = h.there.late; kinds = h.there.kinds };
-  back = record { flow = h.back.flow; acks = h.back.acks; ints = h.back.ints; sound = h.back.sound; up = h.back.up; kinds = h.back.kinds };
+  there = record { line = h.there.line; acks = h.there.acks; ints = h.there.ints; text = h.there.text };
+  back = record { line = h.back.line; acks = h.back.acks; ints = h.back.ints; text = h.back.text };
 }
 
 -- acts
@@ -66,15 +59,8 @@ Good-sends t size x u v y q xs sound h =
     cond_both (nat_le (length xs) 65535) (if nat_lt (wholes x.rest) 8 then stretch_does sent [] else stretch_does x []) (stretch_does x []) (λ s. Good t size s u v y)
     (λ small. cond_both (nat_lt (wholes x.rest) 8) (stretch_does sent []) (stretch_does x []) (λ s. Good t size s u v y)
     (λ _. Good-still t size sent u v y (record {
-      there = record {
-        flow = h.there.flow;
-        acks = h.there.acks;
-        ints = h.there.ints;
-        text = Text-send t.size x.sent x.rest x.down q xs sound (leb-true (length xs) 65535 small) h.there.text;
-        late = h.there.late;
-        kinds = h.there.kinds;
-      };
-      back = record { flow = h.back.flow; acks = h.back.acks; ints = h.back.ints; sound = h.back.sound; up = h.back.up; kinds = h.back.kinds };
+      there = record { line = h.there.line; acks = h.there.acks; ints = h.there.ints; text = Text-send t.size x.sent x.rest x.down q xs sound (leb-true (length xs) 65535 small) h.there.text };
+      back = record { line = h.back.line; acks = h.back.acks; ints = h.back.ints; text = h.back.text };
     }))
     (λ _. Good-still t size x u v y h))
     (λ _. Good-still t size x u v y h)
@@ -86,12 +72,10 @@ Kept-pull t size x u v y p ps is room h =
     let d : Packet = Data (length x.sent % 8) (length x.taken % 8) p in
     record {
       there = record {
-        flow = Flow-send x.sent y.taken u (length x.taken % 8) p h.there.flow;
-        acks = Acks-more t.window x.acked (length x.sent) (length (x.sent ++ p ∷ [])) v y.told (omega arith) h.there.acks;
-        ints = Owed-there x.int_out x.int_down y.int_up u v y.owed d refl h.there.ints;
+        line = Line-send x.sent y.taken u (length x.taken % 8) p h.there.line;
+        acks = record { acks = Acks-more t.window x.acked (length x.sent) (length (x.sent ++ p ∷ [])) v y.told (omega arith) h.there.acks.acks; late = h.there.acks.late };
+        ints = Ints-there x.int_out x.int_down y.int_up u v y.owed d refl h.there.ints;
         text = Text-pull t.size x.sent p ps x.down (subst (λ (l : List Piece). Text t.size x.sent l x.down) is h.there.text);
-        late = h.there.late;
-        kinds = AllOpen_push u d tt h.there.kinds;
       };
       back = Theirs-told size x (x.sent ++ p ∷ []) ps u v y d refl refl h.back;
     }
@@ -110,20 +94,16 @@ Kept-interrupt : (t : Terms) (size : ℕ) (x : Stretch) (u v : List Packet) (y :
     → Kept t size (record x { int_out = true; int_down = x.int_down ++ xs ∷ [] }) (u ++ Int xs ∷ []) v y
 Kept-interrupt t size x u v y xs is h = record {
   there = record {
-    flow = Flow-push x.sent y.taken u (Int xs) refl h.there.flow;
+    line = Line-push x.sent y.taken u (Int xs) refl tt h.there.line;
     acks = h.there.acks;
-    ints = Owed-send x.int_down y.int_up u v y.owed xs (subst (λ (o : Bool). Owed o x.int_down y.int_up u v y.owed) is h.there.ints);
+    ints = Ints-send x.int_down y.int_up u v y.owed xs (subst (λ (o : Bool). Ints o x.int_down y.int_up u v y.owed) is h.there.ints);
     text = h.there.text;
-    late = h.there.late;
-    kinds = AllOpen_push u (Int xs) tt h.there.kinds;
   };
   back = record {
-    flow = h.back.flow;
+    line = h.back.line;
     acks = Acks-pass 7 y.acked (length y.sent) u (length x.taken) (Int xs) refl h.back.acks;
-    ints = Ints-back y.int_out y.int_down x.int_up v u (Int xs) refl h.back.ints;
-    sound = h.back.sound;
-    up = h.back.up;
-    kinds = h.back.kinds;
+    ints = Ints-back y.int_out y.int_down x.int_up v u 0 (Int xs) refl h.back.ints;
+    text = h.back.text;
   };
 }
 
@@ -152,30 +132,26 @@ Kept-take-data t size x u v y s r p h =
     let n : length (x.taken ++ p ∷ []) ≡ length x.taken + 1 = length_push x.taken p in
     record {
       there = record {
-        flow = h.there.flow;
-        acks = Acks-hear t.window x.acked (length x.sent) v r y.told h.there.acks.room h.there.acks.acks;
-        ints = Owed-skip x.int_out x.int_down y.int_up u v y.owed (Data s r p) refl h.there.ints;
+        line = h.there.line;
+        acks = record { acks = Acks-hear t.window x.acked (length x.sent) v r y.told h.there.acks.acks.room h.there.acks.acks.acks; late = h.there.acks.late };
+        ints = Ints-skip x.int_out x.int_down y.int_up u v y.owed (Data s r p) refl h.there.ints;
         text = h.there.text;
-        late = h.there.late;
-        kinds = h.there.kinds;
       };
       back = record {
-        flow = Flow-take y.sent x.taken v s r p h.back.flow;
+        line = Line-take y.sent x.taken v s r p h.back.line;
         acks = Acks-taken 7 y.acked (length y.sent) u (length x.taken) (length (x.taken ++ p ∷ [])) (omega arith) h.back.acks;
         ints = record { count = h.back.ints.count; flow = h.back.ints.flow };
-        sound = h.back.sound;
-        up = up-take x.up x.taken p h.back.up;
-        kinds = h.back.kinds.1;
+        text = record { sound = h.back.text.sound; up = up-take x.up x.taken p h.back.text.up };
       };
     }
 
 Good-take-data : (t : Terms) (size : ℕ) → (x : Stretch) (u v : List Packet) (y : PeerStretch) (s r : ℕ) (p : Piece) → Kept t size x u (Data s r p ∷ v) y → Good t size (stretch_takes size x (Data s r p)) u v y
 Good-take-data t size x u v y s r p h =
-    let e : length x.sent ≡ length y.taken + length (pieces u) = Flow-le x.sent y.taken u h.there.flow in
-    let late : y.told ≤ length y.taken = h.there.late in
-    let low : resolved x.acked r ≤ length x.sent = heard_below x.acked (length x.sent) v r y.told (omega arith) h.there.acks.acks in
-    let wanted : s ≡ length x.taken % 8 = h.back.flow.numbers.0 in
-    let ground : piece_ground size (joining no_part x.taken) p ≡ None = (AreSound-back size no_part x.taken (p ∷ pieces v) (subst (λ (l : List Piece). AreSound size no_part l) h.back.flow.flow h.back.sound)).0 in
+    let e : length x.sent ≡ length y.taken + length (pieces u) = Line-le x.sent y.taken u h.there.line in
+    let late : y.told ≤ length y.taken = h.there.acks.late in
+    let low : resolved x.acked r ≤ length x.sent = heard_below x.acked (length x.sent) v r y.told (omega arith) h.there.acks.acks.acks in
+    let wanted : s ≡ length x.taken % 8 = h.back.line.numbers.0 in
+    let ground : piece_ground size (joining no_part x.taken) p ≡ None = (AreSound-back size no_part x.taken (p ∷ pieces v) (subst (λ (l : List Piece). AreSound size no_part l) h.back.line.flow h.back.text.sound)).0 in
     let none : data_ground size x s r p ≡ None = rw (le-leb (resolved x.acked r) (length x.sent) low) (rw (eq-eqb s (length x.taken % 8) wanted) ground) in
     subst (λ (g : Option ℕ). Good t size (by_ground g x (takes_data x r p)) u v y) (sym none)
     (record {
@@ -183,93 +159,60 @@ Good-take-data t size x u v y s r p h =
       kept = Kept-status t size (takes_data x r p).next u v y x.own_ready (length x.taken + 1) (sym (length_push x.taken p)) (Kept-take-data t size x u v y s r p h);
     })
 
-Kept-take-status : (t : Terms) (size : ℕ) (x : Stretch) (u v : List Packet) (y : PeerStretch) (ready : Bool) (r : ℕ) (q : Packet) → conf_in q ≡ 0 → heard (resolved x.acked r) v ≤ y.told → Ours t x u (q ∷ v) y → Theirs size y v u x
-    → Kept t size (takes_status x ready r).next u v y
-Kept-take-status t size x u v y ready r q no_conf acks there back = record {
-  there = record {
-    flow = there.flow;
-    acks = Acks-hear t.window x.acked (length x.sent) v r y.told there.acks.room acks;
-    ints = Owed-skip x.int_out x.int_down y.int_up u v y.owed q no_conf there.ints;
-    text = there.text;
-    late = there.late;
-    kinds = there.kinds;
-  };
-  back = record { flow = back.flow; acks = back.acks; ints = back.ints; sound = back.sound; up = back.up; kinds = back.kinds };
-}
-
-Good-take-status : (t : Terms) (size : ℕ) (x : Stretch) (u v : List Packet) (y : PeerStretch) (ready : Bool) (r : ℕ) (q : Packet) → conf_in q ≡ 0 → heard (resolved x.acked r) v ≤ y.told → Ours t x u (q ∷ v) y → Theirs size y v u x
+-- RR or RNR
+Good-take-status : (t : Terms) (size : ℕ) (x : Stretch) (u v : List Packet) (y : PeerStretch) (ready : Bool) (r : ℕ) (q : Packet) → numbering q ≡ None → int_in q ≡ [] → conf_in q ≡ 0 → ack_in q ≡ Some r → Kept t size x u (q ∷ v) y
     → Good t size (by_ground (ack_ground x r) x (takes_status x ready r)) u v y
-Good-take-status t size x u v y ready r q no_conf acks there back =
-    let e : length x.sent ≡ length y.taken + length (pieces u) = Flow-le x.sent y.taken u there.flow in
-    let late : y.told ≤ length y.taken = there.late in
+Good-take-status t size x u v y ready r q none no_int no_conf ack h =
+    let e : length x.sent ≡ length y.taken + length (pieces u) = Line-le x.sent y.taken u h.there.line in
+    let late : y.told ≤ length y.taken = h.there.acks.late in
+    let acks : heard (resolved x.acked r) v ≤ y.told = subst (λ (a : Option ℕ). heard (hears x.acked a) v ≤ y.told) ack h.there.acks.acks.acks in
     let low : resolved x.acked r ≤ length x.sent = heard_below x.acked (length x.sent) v r y.told (omega arith) acks in
-    let none : ack_ground x r ≡ None = rw (le-leb (resolved x.acked r) (length x.sent) low) refl in
-    subst (λ (g : Option ℕ). Good t size (by_ground g x (takes_status x ready r)) u v y) (sym none)
-    (Good-still t size (takes_status x ready r).next u v y (Kept-take-status t size x u v y ready r q no_conf acks there back))
+    let sound : ack_ground x r ≡ None = rw (le-leb (resolved x.acked r) (length x.sent) low) refl in
+    subst (λ (g : Option ℕ). Good t size (by_ground g x (takes_status x ready r)) u v y) (sym sound)
+    (Good-still t size (takes_status x ready r).next u v y (record {
+      there = record {
+        line = h.there.line;
+        acks = record { acks = Acks-hear t.window x.acked (length x.sent) v r y.told h.there.acks.acks.room acks; late = h.there.acks.late };
+        ints = Ints-skip x.int_out x.int_down y.int_up u v y.owed q no_conf h.there.ints;
+        text = h.there.text;
+      };
+      back = record { line = Line-skip y.sent x.taken v q none h.back.line; acks = h.back.acks; ints = Ints-past y.int_out y.int_down x.int_up v u 0 q no_int h.back.ints; text = h.back.text };
+    }))
 
 Kept-take-int : (t : Terms) (size : ℕ) (x : Stretch) (u v : List Packet) (y : PeerStretch) (xs : List ℕ) → Kept t size x u (Int xs ∷ v) y → Kept t size (record x { int_up = x.int_up ++ xs ∷ [] }) (u ++ IntConf ∷ []) v y
 Kept-take-int t size x u v y xs h = record {
   there = record {
-    flow = Flow-push x.sent y.taken u IntConf refl h.there.flow;
-    acks = record { room = h.there.acks.room; acks = h.there.acks.acks };
-    ints = Owed-there x.int_out x.int_down y.int_up u v y.owed IntConf refl (Owed-skip x.int_out x.int_down y.int_up u v y.owed (Int xs) refl h.there.ints);
+    line = Line-push x.sent y.taken u IntConf refl tt h.there.line;
+    acks = record { acks = record { room = h.there.acks.acks.room; acks = h.there.acks.acks.acks }; late = h.there.acks.late };
+    ints = Ints-there x.int_out x.int_down y.int_up u v y.owed IntConf refl (Ints-skip x.int_out x.int_down y.int_up u v y.owed (Int xs) refl h.there.ints);
     text = h.there.text;
-    late = h.there.late;
-    kinds = AllOpen_push u IntConf tt h.there.kinds;
   };
   back = record {
-    flow = record { flow = h.back.flow.flow; numbers = h.back.flow.numbers };
+    line = Line-skip y.sent x.taken v (Int xs) refl h.back.line;
     acks = Acks-pass 7 y.acked (length y.sent) u (length x.taken) IntConf refl h.back.acks;
-    ints = Ints-take y.int_out y.int_down x.int_up v u xs h.back.ints;
-    sound = h.back.sound;
-    up = h.back.up;
-    kinds = h.back.kinds.1;
+    ints = Ints-confirm y.int_out y.int_down (x.int_up ++ xs ∷ []) v u 1 (omega arith) (Ints-take y.int_out y.int_down x.int_up v u 0 xs h.back.ints);
+    text = h.back.text;
   };
 }
 
 Kept-take-conf : (t : Terms) (size : ℕ) (x : Stretch) (u v : List Packet) (y : PeerStretch) → x.int_out ≡ true → Kept t size x u (IntConf ∷ v) y → Kept t size (record x { int_out = false }) u v y
 Kept-take-conf t size x u v y is h = record {
   there = record {
-    flow = h.there.flow;
-    acks = record { room = h.there.acks.room; acks = h.there.acks.acks };
-    ints = Owed-conf x.int_down y.int_up u v y.owed (subst (λ (o : Bool). Owed o x.int_down y.int_up u (IntConf ∷ v) y.owed) is h.there.ints);
+    line = h.there.line;
+    acks = record { acks = record { room = h.there.acks.acks.room; acks = h.there.acks.acks.acks }; late = h.there.acks.late };
+    ints = Ints-conf x.int_down y.int_up u v y.owed (subst (λ (o : Bool). Ints o x.int_down y.int_up u (IntConf ∷ v) y.owed) is h.there.ints);
     text = h.there.text;
-    late = h.there.late;
-    kinds = h.there.kinds;
   };
-  back = record {
-    flow = record { flow = h.back.flow.flow; numbers = h.back.flow.numbers };
-    acks = h.back.acks;
-    ints = record { count = h.back.ints.count; flow = h.back.ints.flow };
-    sound = h.back.sound;
-    up = h.back.up;
-    kinds = h.back.kinds.1;
-  };
+  back = record { line = Line-skip y.sent x.taken v IntConf refl h.back.line; acks = h.back.acks; ints = Ints-past y.int_out y.int_down x.int_up v u 0 IntConf refl h.back.ints; text = h.back.text };
 }
 
 pub Good-takes : (t : Terms) (size : ℕ) → (x : Stretch) (u : List Packet) (p : Packet) (v : List Packet) (y : PeerStretch) → Kept t size x u (p ∷ v) y → Good t size (stretch_takes size x p) u v y
 Good-takes t size x u (Data s r p) v y h = Good-take-data t size x u v y s r p h
-Good-takes t size x u (Rr r) v y h =
-    Good-take-status t size x u v y true r (Rr r) refl h.there.acks.acks h.there (record {
-      flow = record { flow = h.back.flow.flow; numbers = h.back.flow.numbers };
-      acks = h.back.acks;
-      ints = record { count = h.back.ints.count; flow = h.back.ints.flow };
-      sound = h.back.sound;
-      up = h.back.up;
-      kinds = h.back.kinds.1;
-    })
-Good-takes t size x u (Rnr r) v y h =
-    Good-take-status t size x u v y false r (Rnr r) refl h.there.acks.acks h.there (record {
-      flow = record { flow = h.back.flow.flow; numbers = h.back.flow.numbers };
-      acks = h.back.acks;
-      ints = record { count = h.back.ints.count; flow = h.back.ints.flow };
-      sound = h.back.sound;
-      up = h.back.up;
-      kinds = h.back.kinds.1;
-    })
+Good-takes t size x u (Rr r) v y h = Good-take-status t size x u v y true r (Rr r) refl refl refl refl h
+Good-takes t size x u (Rnr r) v y h = Good-take-status t size x u v y false r (Rnr r) refl refl refl refl h
 Good-takes t size x u (Int xs) v y h = record { quiet = refl; kept = Kept-take-int t size x u v y xs h }
 Good-takes t size x u IntConf v y h =
-    let is : x.int_out ≡ true = Owed-out x.int_out x.int_down y.int_up u v y.owed h.there.ints in
+    let is : x.int_out ≡ true = Ints-out x.int_out x.int_down y.int_up u v y.owed h.there.ints in
     subst (λ (o : Bool). Good t size (if o then stretch_does (record x { int_out = false }) [] else stretch_fails x 43) u v y) (sym is)
     (Good-still t size (record x { int_out = false }) u v y (Kept-take-conf t size x u v y is h))
-Good-takes t size x u p v y h = absurd h.back.kinds.0
+Good-takes t size x u p v y h = absurd h.back.line.kinds.0

@@ -1,25 +1,36 @@
 -- What our circuit and a peer do between two clears keeps what is kept of them, and our circuit finds no procedure error.
-use Rattle.std.proofs.Common.{◌≡◌, ℕ, List, [], ◌∷◌, ◌++◌, true, refl, sym, subst}
+use Rattle.std.proofs.Common.{List, ◌≡◌, ℕ, [], ◌∷◌, ◌++◌, true, refl, sym, subst}
 use Rattle.x25_bits.specs.declared.role.Role.{Role}
 use Rattle.x25_bits.specs.declared.role.Role.TheVariants.{Dte, Dce}
-use Rattle.x25_circuit.specs.declared.params.Params.{Params}
 use Rattle.x25_circuit.specs.Params.{Terms, may_propose, may_answer, said_in, called_terms, calling_terms}
-use Rattle.x25_circuit.specs.Notice.{CallRequest}
 use Rattle.x25_handshakes.specs.laws.Handshake.{At}
-use Rattle.x25_handshakes.specs.laws.Stretch.{Packet, Call, Accept, Stretch}
+use Rattle.x25_handshakes.specs.laws.Stretch.{Packet, Stretch, Call, Accept}
 use Rattle.x25_handshakes.specs.laws.Transfer.{fresh_transfer}
 use Rattle.x25_handshakes.specs.laws.Calls.{Connection, call_takes, CallAct, call_acts, fresh_call}
 use Rattle.x25_handshakes.specs.laws.PeerStretch.{PeerStretch, fresh_peer}
 use Rattle.x25_handshakes.specs.laws.PeerTransfer.{fresh_peer_transfer, TransferDeed, MayDoTransfer, does_transfer, transfer_packet_of, transfer_taking}
-use Rattle.x25_handshakes.specs.laws.PeerCalls.{Stage, Free, Calling, Called, Collided, InData, PeerCall, fresh_peer_call, CallDeed, PlacesCall, AcceptsCall, InTransfer, MayDoCall, does_call, call_packet_of, call_taking}
+use Rattle.x25_handshakes.specs.laws.PeerCalls.{PeerCall, Stage, Free, Calling, Called, Collided, InData, fresh_peer_call, CallDeed, PlacesCall, AcceptsCall, InTransfer, MayDoCall, does_call, call_packet_of, call_taking}
+use Rattle.x25_handshakes.proofs.CallsRelation.{TalkOf, stage_of, TalksOf, JointOf, IsProposal, GoodCall}
+use Rattle.x25_handshakes.proofs.PeerRelation.{Kept}
+use Rattle.x25_circuit.specs.declared.params.Params.{Params}
+use Rattle.x25_circuit.specs.Notice.{CallRequest}
 use Rattle.x25_handshakes.specs.laws.LawsBelow.{Laws}
-use Rattle.x25_handshakes.proofs.CallsRelation.{IsProposal, stage_of, JointOf, GoodCall}
 use Rattle.x25_handshakes.specs.laws.PeerLayers.{other_role}
 use Rattle.x25_handshakes.proofs.OwnCallLemmas.{own_dte_talks, own_dce_talks, Agreed, agreed, taken, dte_taken, dte_calls, dte_answers, dte_moves, dce_taken, dce_calls, dce_answers, dce_moves, DteTalks, dte_takes, dte_acts, DceTalks, dce_takes, dce_acts}
-use Rattle.x25_handshakes.proofs.PeerRelation.{Kept}
-use Rattle.x25_handshakes.proofs.PeerTransferActs.{KeptTransfer, own_stretches}
-use Rattle.x25_handshakes.proofs.PeerTransferDeeds.{done_kept, takes_kept}
-use Rattle.x25_handshakes.proofs.PeerCallsRelation.{PeerTalks, TalksPeer, PeerSeen}
+use Rattle.x25_handshakes.proofs.PeerTransferLemmas.{KeptTransfer, own_stretches, done_kept, takes_kept}
+
+-- in p4
+abbrev pub PeerTalks : Terms → Terms → At Stretch → List Packet → List Packet → Terms → Terms → At PeerStretch → Type 0
+PeerTalks t b x u v t₂ b₂ y = TalkOf (λ t b. Kept t b.size) fresh_peer t b x u v t₂ b₂ y
+
+-- the peer is the DTE
+abbrev pub TalksPeer : TalksOf (At PeerStretch) (At Stretch)
+TalksPeer t b y u v t₂ b₂ x = PeerTalks t₂ b₂ x v u t b y
+
+-- seen from our end, of this role
+abbrev pub PeerSeen : Role → Connection → List Packet → List Packet → PeerCall → Type 0
+PeerSeen Dte x u v y = JointOf PeerTalks fresh_transfer fresh_peer_transfer (stage_of x.phase) y.stage x.made x.indicated y.made y.indicated u v
+PeerSeen Dce x u v y = JointOf TalksPeer fresh_peer_transfer fresh_transfer y.stage (stage_of x.phase) y.made y.indicated x.made x.indicated v u
 
 -- ---- in p4
 

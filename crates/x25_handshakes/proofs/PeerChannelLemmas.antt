@@ -1,26 +1,25 @@
 -- What is kept of a channel of ours and a peer between two restarts, and that each step keeps it and is no procedure error.
-use Rattle.std.proofs.Common.{◌≡◌, ℕ, suc, List, [], ◌∷◌, ◌++◌, None, refl, sym, subst}
-use Rattle.std.proofs.lemmas.List.{append-nil}
-use Rattle.x25_handshakes.specs.laws.Handshake.{Inner, Side, Live, Left, At}
+use Rattle.std.proofs.Common.{◌≡◌, ℕ, List, [], ◌∷◌, ◌++◌, None, refl}
+use Rattle.x25_handshakes.specs.laws.Handshake.{Side, Live, Left, At}
 use Rattle.x25_bits.specs.declared.role.Role.{Role}
 use Rattle.x25_bits.specs.declared.role.Role.TheVariants.{Dte, Dce}
 use Rattle.x25_handshakes.specs.laws.Stretch.{Packet, Clear, ClearConf}
 use Rattle.x25_handshakes.specs.laws.Calls.{Connection}
 use Rattle.x25_handshakes.specs.laws.Channel.{fresh_channel}
 use Rattle.x25_handshakes.specs.laws.PeerCalls.{PeerCall, fresh_peer_call, does_call, call_packet_of, PeerCallStep, call_taking}
-use Rattle.x25_handshakes.specs.laws.PeerChannel.{peer_live, peer_clr, fresh_peer_channel, ChannelDeed, InCall, Clears, MayDoChannel, does_channel, channel_packet_of, PeerChannelStep, live_channel_taking, left_channel_taking, channel_taking}
+use Rattle.x25_handshakes.specs.laws.PeerChannel.{fresh_peer_channel, ChannelDeed, InCall, Clears, MayDoChannel, does_channel, channel_packet_of, PeerChannelStep, channel_taking}
 use Rattle.x25_handshakes.specs.laws.PeerLayers.{other_role, found}
 use Rattle.x25_handshakes.specs.laws.LawsBelow.{Laws}
-use Rattle.x25_handshakes.proofs.HandshakeRelation.{Level, Handshake, Handshaken}
-use Rattle.x25_handshakes.proofs.HandshakeLemmas.{inner_live, live_front, turned, request_live, confirm_never, leave, inner_act, inner_take, drops, marker_left, flip, both_fresh}
+use Rattle.x25_handshakes.proofs.HandshakeRelation.{Level, Handshaken, GoodStep}
+use Rattle.x25_handshakes.proofs.HandshakeLemmas.{flip, both_fresh}
+use Rattle.x25_handshakes.proofs.HandshakeSteps.{Any, Answers, acts_inside, leaves, answered, there}
 use Rattle.x25_handshakes.proofs.ChannelRelation.{clear_mark, own_call_level}
 use Rattle.x25_handshakes.proofs.OwnChannelLemmas.{OwnCalls}
 use Rattle.x25_handshakes.proofs.JointLemmas.{Quiet, quiet_back, quiet_transfer, quiet_joint}
 use Rattle.x25_handshakes.specs.laws.Transfer.{fresh_transfer}
 use Rattle.x25_handshakes.specs.laws.PeerTransfer.{fresh_peer_transfer}
 use Rattle.x25_handshakes.proofs.CallsRelation.{stage_of}
-use Rattle.x25_handshakes.proofs.PeerCallsRelation.{PeerTalks, TalksPeer, PeerSeen}
-use Rattle.x25_handshakes.proofs.PeerCallLemmas.{PeerSeen-takes, PeerSeen-acts, PeerSeen-taking, PeerSeen-does, PeerSeen-fresh}
+use Rattle.x25_handshakes.proofs.PeerCallLemmas.{PeerTalks, TalksPeer, PeerSeen, PeerSeen-takes, PeerSeen-acts, PeerSeen-taking, PeerSeen-does, PeerSeen-fresh}
 
 abbrev pub peer_call_level : Role → Level Connection PeerCall Packet
 peer_call_level r = own_call_level (λ x. Unit {0}) (λ y. Unit {0}) (PeerSeen r) fresh_peer_call
@@ -59,64 +58,39 @@ peer_calls laws r = record {
 
 module _ (r : Role) where
   -- seen from the peer
-  seen : (x : At Connection) (L K : List Packet) (y : At PeerCall) → PeerChannelRelated r x L K y → Handshake (flip (peer_call_level r)) y.epoch x.epoch y.side x.side K L
-  seen x L K y h = (turned (peer_call_level r) x L K y h).hand
+  abbrev level : Level PeerCall Connection Packet
+  level = flip (peer_call_level r)
 
-  unseen : (x : At Connection) (L K : List Packet) (y : At PeerCall) → Handshake (flip (peer_call_level r)) y.epoch x.epoch y.side x.side K L → PeerChannelRelated r x L K y
-  unseen x L K y h = turned (flip (peer_call_level r)) y K L x (record { hand = h })
-
-  abbrev Taken : At Connection → List Packet → List Packet → PeerChannelStep → Type 0
-  Taken x L K s = PeerChannelRelated r x L (K ++ s.out) s.next
-
-  taken_still : (x : At Connection) (L K : List Packet) (y : At PeerCall) → PeerChannelRelated r x L K y → PeerChannelRelated r x L (K ++ []) y
-  taken_still x L K y h = subst (λ (u : List Packet). PeerChannelRelated r x L u y) (sym (append-nil K)) h
-
-  taken_inner : (x : At Connection) (p : Packet) (L K : List Packet) (e : ℕ) (y : PeerCall) → clear_mark p ≡ Inner → PeerChannelRelated r x (p ∷ L) K (peer_live e y)
-      → PeerChannelRelated r x L (K ++ (call_taking (other_role r) y.stage y.made y.indicated p).out) (peer_live e (call_taking (other_role r) y.stage y.made y.indicated p).next)
-  taken_inner x p L K e y is h =
+  answers : (e : ℕ) (y : Side PeerCall) (p : Packet) → (let s = channel_taking (other_role r) e y p in Answers level Any e y p (clear_mark p) s.next s.out None)
+  answers e (Live y) Clear = record { confirm = ClearConf; is = refl; at = refl; sent = refl; passes = tt; quiet = λ w z gone h. refl }
+  answers e (Live y) ClearConf = tt
+  answers e (Live y) p =
       let s : PeerCallStep = call_taking (other_role r) y.stage y.made y.indicated p in
-      let hand = seen x (p ∷ L) K (peer_live e y) h in
-      let some = live_front (flip (peer_call_level r)) p is e x.epoch y x.side K L hand in
-      let out : Quiet s.out = quiet_back some.0 s.out (quiet r some.2 some.1 (some.0 ++ s.out) s.next (PeerSeen-taking r some.2 some.1 p some.0 y some.3)).1 in
-      unseen x L (K ++ s.out) (peer_live e s.next)
-      (inner_take (flip (peer_call_level r)) p s.out is out e x.epoch y s.next x.side K L (λ w v z k. PeerSeen-taking r z v p w y k) hand)
+      record {
+        after = s.next;
+        goes = λ w v z k. (let kept = PeerSeen-taking r z v p w y k in record { quiet = refl; at = refl; inner = quiet_back w s.out (quiet r z v (w ++ s.out) s.next kept).1; passes = tt; kept = kept });
+      }
+  answers e (Left y) Clear = (refl, refl, refl)
+  answers e (Left y) p = (refl, refl, refl)
 
-  taken_dropped : (x : At Connection) (p : Packet) (L K : List Packet) (e : ℕ) (y : PeerCall) → clear_mark p ≡ Inner → PeerChannelRelated r x (p ∷ L) K (peer_clr e y)
-      → PeerChannelRelated r x L (K ++ []) (peer_clr e y)
-  taken_dropped x p L K e y is h =
-      taken_still x L K (peer_clr e y) (unseen x L K (peer_clr e y) (drops (flip (peer_call_level r)) p is e x.epoch y x.side K L (seen x (p ∷ L) K (peer_clr e y) h)))
+  pub channel_taking_kept : (x : At Connection) (p : Packet) (L K : List Packet) (e : ℕ) (y : Side PeerCall) → PeerChannelRelated r x (p ∷ L) K (record { epoch = e; side = y })
+      → (let s = channel_taking (other_role r) e y p in PeerChannelRelated r x L (K ++ s.out) s.next)
+  channel_taking_kept x p L K e y h =
+      let s : PeerChannelStep = channel_taking (other_role r) e y p in
+      there (peer_call_level r) x (p ∷ L) L K s.out (record { epoch = e; side = y }) s.next (λ k. (answered level Any tt (PeerSeen-fresh r) e y p s.next s.out None (answers e y p) K L x k).0) h
 
-  taken_mark : (x : At Connection) (p : Packet) (L K : List Packet) (e : ℕ) (y : PeerCall) → (clear_mark p ≡ Inner → ⊥) → PeerChannelRelated r x (p ∷ L) K (peer_clr e y)
-      → PeerChannelRelated r x L (K ++ []) (peer_live (suc e) fresh_peer_call)
-  taken_mark x p L K e y is h =
-      taken_still x L K (peer_live (suc e) fresh_peer_call)
-      (unseen x L K (peer_live (suc e) fresh_peer_call) (marker_left (flip (peer_call_level r)) (PeerSeen-fresh r) p is e x.epoch y x.side K L (seen x (p ∷ L) K (peer_clr e y) h)))
-
-  taken_live : (x : At Connection) (p : Packet) (L K : List Packet) (e : ℕ) (y : PeerCall) → PeerChannelRelated r x (p ∷ L) K (peer_live e y) → Taken x L K (live_channel_taking (other_role r) e y p)
-  taken_live x Clear L K e y h =
-      unseen x L (K ++ ClearConf ∷ []) (peer_live (suc e) fresh_peer_call)
-      (request_live (flip (peer_call_level r)) (PeerSeen-fresh r) ClearConf Clear refl refl e x.epoch y x.side K L (seen x (Clear ∷ L) K (peer_live e y) h))
-  taken_live x ClearConf L K e y h = absurd (confirm_never (flip (peer_call_level r)) ClearConf refl e x.epoch y x.side K L (seen x (ClearConf ∷ L) K (peer_live e y) h))
-  taken_live x other L K e y h = taken_inner x other L K e y refl h
-
-  taken_left : (x : At Connection) (p : Packet) (L K : List Packet) (e : ℕ) (y : PeerCall) → PeerChannelRelated r x (p ∷ L) K (peer_clr e y) → Taken x L K (left_channel_taking e y p)
-  taken_left x Clear L K e y h = taken_mark x Clear L K e y (λ q. cc) h
-  taken_left x ClearConf L K e y h = taken_mark x ClearConf L K e y (λ q. cc) h
-  taken_left x other L K e y h = taken_dropped x other L K e y refl h
-
-  pub channel_taking_kept : (x : At Connection) (p : Packet) (L K : List Packet) (e : ℕ) (y : Side PeerCall) → PeerChannelRelated r x (p ∷ L) K (record { epoch = e; side = y }) → Taken x L K (channel_taking (other_role r) e y p)
-  channel_taking_kept x p L K e (Live y) h = taken_live x p L K e y h
-  channel_taking_kept x p L K e (Left y) h = taken_left x p L K e y h
+  does_good : Laws → (x : At Connection) (L K : List Packet) (e : ℕ) (y : Side PeerCall) (d : ChannelDeed) → MayDoChannel y d → Handshaken level (record { epoch = e; side = y }) K L x
+      → GoodStep level None (does_channel e y d) (channel_packet_of y d ∷ []) K L x
+  does_good laws x L K e (Live y) (InCall d) may h =
+      let p : Packet = call_packet_of y.stage d in
+      let next : PeerCall = does_call y.stage y.made y.indicated d in
+      (acts_inside level Any e y _ _ _ (record {
+        after = next;
+        goes = λ w v z k. (let kept = PeerSeen-does laws r z v w y d may k in record { quiet = refl; at = refl; inner = quiet_back w (p ∷ []) (quiet r z v (w ++ p ∷ []) next kept).1; passes = tt; kept = kept });
+      }) K L x h).0
+  does_good laws x L K e (Live y) Clears may h = leaves level Any Clear refl e y tt K L x h
+  does_good laws x L K e (Left y) d may h = absurd may
 
   pub channel_does_kept : Laws → (x : At Connection) (L K : List Packet) (e : ℕ) (y : Side PeerCall) (d : ChannelDeed) → MayDoChannel y d → PeerChannelRelated r x L K (record { epoch = e; side = y })
       → PeerChannelRelated r x L (K ++ channel_packet_of y d ∷ []) (does_channel e y d)
-  channel_does_kept laws x L K e (Live y) (InCall d) may h =
-      let p : Packet = call_packet_of y.stage d in
-      let next : PeerCall = does_call y.stage y.made y.indicated d in
-      let hand = seen x L K (peer_live e y) h in
-      let some = inner_live (flip (peer_call_level r)) e x.epoch y x.side K L hand in
-      let out : Quiet (p ∷ []) = quiet_back some.0 (p ∷ []) (quiet r some.2 some.1 (some.0 ++ p ∷ []) next (PeerSeen-does laws r some.2 some.1 some.0 y d may some.3)).1 in
-      unseen x L (K ++ p ∷ []) (peer_live e next) (inner_act (flip (peer_call_level r)) (p ∷ []) out e x.epoch y next x.side K L (λ w v z k. PeerSeen-does laws r z v w y d may k) hand)
-  channel_does_kept laws x L K e (Live y) Clears may h =
-      unseen x L (K ++ Clear ∷ []) (peer_clr e y) (leave (flip (peer_call_level r)) Clear refl e x.epoch y x.side K L tt (seen x L K (peer_live e y) h))
-  channel_does_kept laws x L K e (Left y) d may h = absurd may
+  channel_does_kept laws x L K e y d may h = there (peer_call_level r) x L L K (channel_packet_of y d ∷ []) (record { epoch = e; side = y }) (does_channel e y d) (λ k. does_good laws x L K e y d may k) h

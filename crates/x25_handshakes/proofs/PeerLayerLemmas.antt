@@ -1,23 +1,28 @@
--- What is kept of a packet layer of ours and a peer, and that each step keeps it and is no procedure error.
-use Rattle.std.proofs.Common.{◌≡◌, ℕ, suc, List, [], ◌∷◌, ◌++◌, Option, None, false, ◌==◌, refl, sym, ap, subst, ◌∙◌}
-use Rattle.std.proofs.lemmas.List.{append-nil}
+-- What is kept of a packet layer of ours and a peer: all that happens keeps it and is no procedure error, and it says the claims.
+use Rattle.std.proofs.Common.{◌≡◌, ℕ, List, [], ◌∷◌, ◌++◌, Option, None, false, ◌==◌, refl, sym, ap, subst, ◌∙◌, inl, Some, true}
 use Rattle.x25_handshakes.specs.laws.Handshake.{Side, Live, Left, At}
 use Rattle.x25_bits.specs.declared.role.Role.{Role}
 use Rattle.x25_bits.specs.declared.role.Role.TheVariants.{Dte, Dce}
 use Rattle.x25_handshakes.specs.laws.Stretch.{Packet}
-use Rattle.x25_handshakes.specs.laws.Layers.{LayerPacket, On, Restart, RestartConf, Channels, addressed, all_fresh, LayerStep, layer_takes, LayerAct, layer_acts}
+use Rattle.x25_handshakes.specs.laws.Layers.{LayerPacket, On, Restart, RestartConf, Channels, addressed, all_fresh, LayerStep, layer_takes, LayerAct, layer_acts, first_error}
 use Rattle.x25_handshakes.specs.laws.PeerCalls.{PeerCall, fresh_peer_call}
 use Rattle.x25_handshakes.specs.laws.PeerChannel.{does_channel, channel_packet_of, PeerChannelStep, channel_taking}
-use Rattle.x25_handshakes.specs.laws.PeerLayer.{PeerChannels, put_peer, peer_fresh, peer_ready, peer_restarting, LayerDeed, InChannel, Restarts, MayDoLayer, does_layer, layer_packet_of, ready_taking, layer_taking}
-use Rattle.x25_handshakes.specs.laws.PeerLayers.{other_role, found, layer_found, AreElsewhere}
+use Rattle.x25_handshakes.specs.laws.PeerLayer.{PeerChannels, put_peer, peer_fresh, peer_ready, LayerDeed, InChannel, Restarts, MayDoLayer, does_layer, layer_packet_of, PeerLayerStep, ready_taking, layer_taking}
+use Rattle.x25_handshakes.specs.laws.PeerLayers.{other_role, found, layer_found, AreElsewhere, JoinedLayers, near_stepped, Happens, Acts, Takes, Does, Hears, HearsChannel, IsReached, at_start, goes_on}
 use Rattle.x25_handshakes.specs.laws.LawsBelow.{Laws}
-use Rattle.x25_handshakes.proofs.HandshakeRelation.{Level, Handshake, Handshaken, GoodStep, AllInner}
-use Rattle.x25_handshakes.proofs.HandshakeLemmas.{turned, request_live, confirm_never, leave, inner_act, inner_take_behind, drops, marker_left, flip}
+use Rattle.x25_handshakes.proofs.HandshakeRelation.{Level, Handshaken, GoodStep, AllInner, Handshake}
+use Rattle.x25_handshakes.proofs.HandshakeLemmas.{inner_take_behind, flip}
+use Rattle.x25_handshakes.proofs.HandshakeSteps.{Any, Answers, acts_inside, leaves, answered, there}
 use Rattle.x25_handshakes.proofs.LayersRelation.{kept_on, on, OnEach, restart_mark, own_channels_level}
 use Rattle.x25_handshakes.proofs.OwnLayerLemmas.{put_kept, on-append, inner_addressed, on-front, on-past, OwnChannels, layer_takes_good, layer_acts_good}
 use Rattle.x25_handshakes.proofs.OwnChannelLemmas.{channel_takes_good, channel_acts_good}
-use Rattle.x25_handshakes.proofs.PeerCallsRelation.{PeerSeen}
+use Rattle.x25_handshakes.proofs.PeerCallLemmas.{PeerSeen}
 use Rattle.x25_handshakes.proofs.PeerChannelLemmas.{PeerChannelRelated, PeerChannelRelated-fresh, found_none, peer_calls, channel_taking_kept, channel_does_kept}
+use Rattle.std.proofs.lemmas.Bool.{true≢false}
+use Rattle.std.proofs.lemmas.Option.{none-some}
+use Rattle.x25_handshakes.specs.laws.Arrivals.{open_channel}
+use Rattle.x25_handshakes.specs.laws.PeerClaims.{ChannelsAreInOrder, is_open_there, TookLayer, WithAnyPeerLayer, KeepsLayers, LayerFindsNoError, LayerHasArrived}
+use Rattle.x25_handshakes.proofs.PeerOrder.{in_epochs, channel_order, meet, took_channel}
 
 abbrev pub peer_channels_level : Role → Level Channels PeerChannels LayerPacket
 peer_channels_level r = own_channels_level (PeerChannelRelated r) peer_fresh
@@ -70,14 +75,8 @@ elsewhere_none h (RestartConf ∷ j) all = absurd all.0
 
 module _ (r : Role) where
   -- seen from the peer
-  seen : (x : At Channels) (L K : List LayerPacket) (y : At PeerChannels) → PeerLayersRelated r x L K y → Handshake (flip (peer_channels_level r)) y.epoch x.epoch y.side x.side K L
-  seen x L K y h = (turned (peer_channels_level r) x L K y h).hand
-
-  unseen : (x : At Channels) (L K : List LayerPacket) (y : At PeerChannels) → Handshake (flip (peer_channels_level r)) y.epoch x.epoch y.side x.side K L → PeerLayersRelated r x L K y
-  unseen x L K y h = turned (flip (peer_channels_level r)) y K L x (record { hand = h })
-
-  taken_still : (x : At Channels) (L K : List LayerPacket) (y : At PeerChannels) → PeerLayersRelated r x L K y → PeerLayersRelated r x L (K ++ []) y
-  taken_still x L K y h = subst (λ (u : List LayerPacket). PeerLayersRelated r x L u y) (sym (append-nil K)) h
+  abbrev level : Level PeerChannels Channels LayerPacket
+  level = flip (peer_channels_level r)
 
   -- the peer's step on channel h
   peer_put : (x : Channels) (L M K : List LayerPacket) (y : PeerChannels) (h : ℕ) (z : At PeerCall) (o : List Packet) → OnEach (PeerChannelRelated r) x M K y → ((k : ℕ) → (k == h) ≡ false → on k M ≡ on k L)
@@ -106,40 +105,93 @@ module _ (r : Role) where
   pub hears_channel_kept : (x : At Channels) (j : List LayerPacket) (h : ℕ) (p : Packet) (L K : List LayerPacket) (e : ℕ) (y : PeerChannels) → AreElsewhere h j
       → PeerLayersRelated r x (j ++ On h p ∷ L) K (peer_ready e y)
       → PeerLayersRelated r x (j ++ L) (K ++ (ready_taking (other_role r) e y (On h p)).out) (ready_taking (other_role r) e y (On h p)).next
-  hears_channel_kept x j h p L K e y apart k =
+  hears_channel_kept x j h p L K e y apart all =
       let s : PeerChannelStep = channel_taking (other_role r) (y h).epoch (y h).side p in
-      unseen x (j ++ L) (K ++ addressed h s.out) (peer_ready e (put_peer y h s.next))
-      (inner_take_behind (flip (peer_channels_level r)) j (On h p) (addressed h s.out) (elsewhere_inner h j apart) refl (inner_addressed h s.out) e x.epoch y (put_peer y h s.next) x.side K L
-      (λ w v z c. taken_at z j h p v w y apart c) (seen x (j ++ On h p ∷ L) K (peer_ready e y) k))
+      there (peer_channels_level r) x (j ++ On h p ∷ L) (j ++ L) K (addressed h s.out) (peer_ready e y) (peer_ready e (put_peer y h s.next))
+      (λ k. record {
+        quiet = refl;
+        kept = record {
+          hand = inner_take_behind level j (On h p) (addressed h s.out) (elsewhere_inner h j apart) refl (inner_addressed h s.out) e x.epoch y (put_peer y h s.next) x.side K L
+              (λ w v z c. taken_at z j h p v w y apart c) k.hand;
+        };
+      }) all
+
+  answers : (e : ℕ) (y : Side PeerChannels) (p : LayerPacket) → (let s = layer_taking (other_role r) e y p in Answers level Any e y p (restart_mark p) s.next s.out None)
+  answers e (Live y) (On h p) = record { after = _; goes = λ w v z c. record { quiet = refl; at = refl; inner = inner_addressed h _; passes = tt; kept = taken_at z [] h p v w y tt c } }
+  answers e (Live y) Restart = record { confirm = RestartConf; is = refl; at = refl; sent = refl; passes = tt; quiet = λ w z gone h. refl }
+  answers e (Live y) RestartConf = tt
+  answers e (Left y) Restart = (refl, refl, refl)
+  answers e (Left y) p = (refl, refl, refl)
 
   pub hears_kept : (x : At Channels) (p : LayerPacket) (L K : List LayerPacket) (e : ℕ) (y : Side PeerChannels) → PeerLayersRelated r x (p ∷ L) K (record { epoch = e; side = y })
       → PeerLayersRelated r x L (K ++ (layer_taking (other_role r) e y p).out) (layer_taking (other_role r) e y p).next
-  hears_kept x (On h p) L K e (Live y) k = hears_channel_kept x [] h p L K e y tt k
-  hears_kept x Restart L K e (Live y) k =
-      unseen x L (K ++ RestartConf ∷ []) (peer_ready (suc e) peer_fresh)
-      (request_live (flip (peer_channels_level r)) (PeerChannelsRelated-fresh r) RestartConf Restart refl refl e x.epoch y x.side K L (seen x (Restart ∷ L) K (peer_ready e y) k))
-  hears_kept x RestartConf L K e (Live y) k = absurd (confirm_never (flip (peer_channels_level r)) RestartConf refl e x.epoch y x.side K L (seen x (RestartConf ∷ L) K (peer_ready e y) k))
-  hears_kept x (On h p) L K e (Left y) k =
-      taken_still x L K (peer_restarting e y)
-      (unseen x L K (peer_restarting e y) (drops (flip (peer_channels_level r)) (On h p) refl e x.epoch y x.side K L (seen x (On h p ∷ L) K (peer_restarting e y) k)))
-  hears_kept x Restart L K e (Left y) k =
-      taken_still x L K (peer_ready (suc e) peer_fresh)
-      (unseen x L K (peer_ready (suc e) peer_fresh)
-      (marker_left (flip (peer_channels_level r)) (PeerChannelsRelated-fresh r) Restart (λ q. cc) e x.epoch y x.side K L (seen x (Restart ∷ L) K (peer_restarting e y) k)))
-  hears_kept x RestartConf L K e (Left y) k =
-      taken_still x L K (peer_ready (suc e) peer_fresh)
-      (unseen x L K (peer_ready (suc e) peer_fresh)
-      (marker_left (flip (peer_channels_level r)) (PeerChannelsRelated-fresh r) RestartConf (λ q. cc) e x.epoch y x.side K L (seen x (RestartConf ∷ L) K (peer_restarting e y) k)))
+  hears_kept x p L K e y h =
+      let s : PeerLayerStep = layer_taking (other_role r) e y p in
+      there (peer_channels_level r) x (p ∷ L) L K s.out (record { epoch = e; side = y }) s.next (λ k. (answered level Any tt (PeerChannelsRelated-fresh r) e y p s.next s.out None (answers e y p) K L x k).0) h
+
+  does_good : Laws → (x : At Channels) (L K : List LayerPacket) (e : ℕ) (y : Side PeerChannels) (d : LayerDeed) → MayDoLayer y d → Handshaken level (record { epoch = e; side = y }) K L x
+      → GoodStep level None (does_layer e y d) (layer_packet_of y d ∷ []) K L x
+  does_good laws x L K e (Live y) (InChannel h d) may all =
+      let p : Packet = channel_packet_of (y h).side d in
+      let next : At PeerCall = does_channel (y h).epoch (y h).side d in
+      (acts_inside level Any e y _ _ _ (record {
+        after = put_peer y h next;
+        goes = λ w v z c. record {
+          quiet = refl;
+          at = refl;
+          inner = (refl, tt);
+          passes = tt;
+          kept = peer_put z v v w y h next (p ∷ []) c (λ k not. refl) (channel_does_kept r laws (z h) (on h v) (on h w) (y h).epoch (y h).side d may (c.each h));
+        };
+      }) K L x all).0
+  does_good laws x L K e (Live y) Restarts may all = leaves level Any Restart refl e y tt K L x all
+  does_good laws x L K e (Left y) d may all = absurd may
 
   pub does_kept : Laws → (x : At Channels) (L K : List LayerPacket) (e : ℕ) (y : Side PeerChannels) (d : LayerDeed) → MayDoLayer y d → PeerLayersRelated r x L K (record { epoch = e; side = y })
       → PeerLayersRelated r x L (K ++ layer_packet_of y d ∷ []) (does_layer e y d)
-  does_kept laws x L K e (Live y) (InChannel h d) may k =
-      let p : Packet = channel_packet_of (y h).side d in
-      let next : At PeerCall = does_channel (y h).epoch (y h).side d in
-      unseen x L (K ++ On h p ∷ []) (peer_ready e (put_peer y h next))
-      (inner_act (flip (peer_channels_level r)) (On h p ∷ []) (refl, tt) e x.epoch y (put_peer y h next) x.side K L
-      (λ w v z c. peer_put z v v w y h next (p ∷ []) c (λ k not. refl) (channel_does_kept r laws (z h) (on h v) (on h w) (y h).epoch (y h).side d may (c.each h)))
-      (seen x L K (peer_ready e y) k))
-  does_kept laws x L K e (Live y) Restarts may k =
-      unseen x L (K ++ Restart ∷ []) (peer_restarting e y) (leave (flip (peer_channels_level r)) Restart refl e x.epoch y x.side K L tt (seen x L K (peer_ready e y) k))
-  does_kept laws x L K e (Left y) d may k = absurd may
+  does_kept laws x L K e y d may h = there (peer_channels_level r) x L L K (layer_packet_of y d ∷ []) (record { epoch = e; side = y }) (does_layer e y d) (λ k. does_good laws x L K e y d may k) h
+
+record Holds (r : Role) (w : JoinedLayers) : Type 0 where
+  pub quiet : w.error ≡ None
+  pub kept : PeerLayersRelated r w.near w.out w.back w.peer
+
+stepped_holds : (r : Role) (w : JoinedLayers) (back : List LayerPacket) (s : LayerStep) (e : Option ℕ) → w.error ≡ None → GoodPeerLayer r e s w.out back w.peer → Holds r (near_stepped w back s e)
+stepped_holds r w back s e none good = record { quiet = ap (λ (f : Option ℕ). first_error f e) none ∙ good.quiet; kept = good.kept }
+
+happens_holds : Laws → (r : Role) (w v : JoinedLayers) → Happens r w v → Holds r w → Holds r v
+happens_holds laws r w v (Acts act) h = stepped_holds r w w.back (layer_acts w.near act) (layer_acts w.near act).error h.quiet (layer_acts_kept laws r w.near w.out w.back w.peer act h.kept)
+happens_holds laws r w v (Takes p rest is) h =
+    stepped_holds r w rest (layer_takes r w.near p) (layer_found p (layer_takes r w.near p).error) h.quiet
+    (layer_takes_kept laws r w.near w.out p rest w.peer (subst (λ (l : List LayerPacket). PeerLayersRelated r w.near w.out l w.peer) is h.kept))
+happens_holds laws r w v (Does deed may) h = record { quiet = h.quiet; kept = does_kept r laws w.near w.out w.back w.peer.epoch w.peer.side deed may h.kept }
+happens_holds laws r w v (Hears p rest is) h =
+    record { quiet = h.quiet; kept = hears_kept r w.near p rest w.back w.peer.epoch w.peer.side (subst (λ (l : List LayerPacket). PeerLayersRelated r w.near l w.back w.peer) is h.kept) }
+happens_holds laws r w v (HearsChannel y k passed p rest live apart is) h = record {
+  quiet = h.quiet;
+  kept = hears_channel_kept r w.near passed k p rest w.back w.peer.epoch y apart
+      (subst (λ (s : Side PeerChannels). PeerLayersRelated r w.near (passed ++ On k p ∷ rest) w.back (record { epoch = w.peer.epoch; side = s })) live
+      (subst (λ (l : List LayerPacket). PeerLayersRelated r w.near l w.back w.peer) is h.kept));
+}
+
+reached_holds : Laws → (r : Role) (w : JoinedLayers) → IsReached r w → Holds r w
+reached_holds laws r w at_start = record { quiet = refl; kept = record { hand = inl (record { epochs = refl; there = (refl, refl); back = refl; inner = ([], tt, PeerChannelsRelated-fresh r) }) } }
+reached_holds laws r w (goes_on v u h event) = happens_holds laws r v w event (reached_holds laws r v h)
+
+pub keeps_layers : Laws → WithAnyPeerLayer KeepsLayers
+keeps_layers laws r w reached =
+    in_epochs (peer_channels_level r) ChannelsAreInOrder (λ x u v y h k. channel_order r (x k) (on k u) (on k v) (y k) (h.each k)) w.near w.out w.back w.peer (reached_holds laws r w reached).kept.hand
+
+pub layer_finds_no_error : Laws → WithAnyPeerLayer LayerFindsNoError
+layer_finds_no_error laws r w reached = (reached_holds laws r w reached).quiet
+
+pub layer_has_arrived : Laws → WithAnyPeerLayer LayerHasArrived
+layer_has_arrived laws r w reached none k a is there =
+    by w.near.side w.peer.side (subst (λ (l : List LayerPacket). PeerLayersRelated r w.near l w.back w.peer) none (reached_holds laws r w reached).kept).hand is there
+  where
+    by : (x : Side Channels) (y : Side PeerChannels) → Handshake (peer_channels_level r) w.near.epoch w.peer.epoch x y [] w.back → open_channel x k ≡ Some a → is_open_there y k ≡ true
+        → TookLayer k (record { epoch = w.near.epoch; side = x }) (record { epoch = w.peer.epoch; side = y }) a
+    by (Live x) (Live y) h is there =
+        let m = meet (peer_channels_level r) w.near.epoch w.peer.epoch x y w.back h in
+        record { restarts = m.epochs; channel = took_channel r (x k) (on k m.back) (y k) a (m.related.each k) is there }
+    by (Left x) y h is there = absurd (none-some a is)
+    by (Live x) (Left y) h is there = absurd (true≢false (sym there))

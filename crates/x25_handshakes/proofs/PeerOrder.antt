@@ -25,8 +25,8 @@ use Rattle.x25_handshakes.proofs.HandshakeLemmas.{both_fresh}
 use Rattle.x25_handshakes.proofs.CallsRelation.{stage_of, JointOf}
 use Rattle.x25_handshakes.proofs.ArrivalLemmas.{nothing_waits}
 use Rattle.x25_handshakes.proofs.PeerRelation.{Kept, Kept-start}
-use Rattle.x25_handshakes.proofs.PeerTransferActs.{peer_level}
-use Rattle.x25_handshakes.proofs.PeerCallsRelation.{PeerTalks, TalksPeer, PeerSeen}
+use Rattle.x25_handshakes.proofs.PeerTransferLemmas.{peer_level}
+use Rattle.x25_handshakes.proofs.PeerCallLemmas.{PeerTalks, TalksPeer, PeerSeen}
 use Rattle.x25_handshakes.proofs.JointLemmas.{in_stage, joint_order}
 use Rattle.x25_handshakes.proofs.PeerChannelLemmas.{peer_call_level, PeerChannelRelated}
 
@@ -82,24 +82,24 @@ in_order t size x u v y h =
     let there = h.there in
     let back = h.back in
     let down : x.down ≡ carried y.taken ++ carried_from (joining no_part y.taken) (pieces u ++ x.rest) =
-    there.text.messages ∙ ap (λ l. carried (l ++ x.rest)) there.flow.flow ∙ ap carried (append_assoc y.taken (pieces u) x.rest) ∙ carried-append no_part y.taken (pieces u ++ x.rest)
+    there.text.messages ∙ ap (λ l. carried (l ++ x.rest)) there.line.flow ∙ ap carried (append_assoc y.taken (pieces u) x.rest) ∙ carried-append no_part y.taken (pieces u ++ x.rest)
     in
-    let sent : carried y.sent ≡ carried x.taken ++ carried_from (joining no_part x.taken) (pieces v) = ap carried back.flow.flow ∙ carried-append no_part x.taken (pieces v) in
+    let sent : carried y.sent ≡ carried x.taken ++ carried_from (joining no_part x.taken) (pieces v) = ap carried back.line.flow ∙ carried-append no_part x.taken (pieces v) in
     record {
-      up = (carried_from (joining no_part x.taken) (pieces v), ap (λ l. l ++ carried_from (joining no_part x.taken) (pieces v)) back.up ∙ sym sent);
+      up = (carried_from (joining no_part x.taken) (pieces v), ap (λ l. l ++ carried_from (joining no_part x.taken) (pieces v)) back.text.up ∙ sym sent);
       there = (carried_from (joining no_part y.taken) (pieces u ++ x.rest), sym down);
       all = λ e. (
           let acks = back.acks.acks in
-          back.up ∙ ap carried (sym (all_taken y.sent x.taken (pieces v) back.flow.flow (omega (arith, e, acks, heard_least y.acked u)))));
+          back.text.up ∙ ap carried (sym (all_taken y.sent x.taken (pieces v) back.line.flow (omega (arith, e, acks, heard_least y.acked u)))));
       all_there = λ none e. (
-          let acks = there.acks.acks in
-          let late = there.late in
+          let acks = there.acks.acks.acks in
+          let late = there.acks.late in
           sym (there.text.messages ∙ ap (λ l. carried (x.sent ++ l)) none ∙ ap carried (append-nil x.sent)
-          ∙ ap carried (all_taken x.sent y.taken (pieces u) there.flow.flow (omega (arith, e, acks, late, heard_least x.acked v)))));
+          ∙ ap carried (all_taken x.sent y.taken (pieces u) there.line.flow (omega (arith, e, acks, late, heard_least x.acked v)))));
       int_up = (ints v, sym back.ints.flow);
       int_there = (ints u, sym there.ints.flow);
       int_all = λ none. (
-          let count : one_if false ≡ length (ints v) + confs u = subst (λ (o : Bool). one_if o ≡ length (ints v) + confs u) none back.ints.count in
+          let count : one_if false ≡ (length (ints v) + confs u) + 0 = subst (λ (o : Bool). one_if o ≡ (length (ints v) + confs u) + 0) none back.ints.count in
           sym (back.ints.flow ∙ ap (λ l. x.int_up ++ l) (none_left (ints v) (omega (arith, count))) ∙ append-nil x.int_up));
       int_all_there = λ none. (
           let count : one_if false ≡ (length (ints u) + confs v) + y.owed = subst (λ (o : Bool). one_if o ≡ (length (ints u) + confs v) + y.owed) none there.ints.count in
@@ -153,7 +153,7 @@ meet l ex ey x y K (inr (inr later)) = absurd (true≢false (sym later.waits))
 took_all : (t : Terms) (size : ℕ) (x : Stretch) (v : List Packet) (y : PeerStretch) → Kept t size x [] v y → TookAll x y
 took_all t size x v y h =
     let there = h.there in
-    let all : x.sent ≡ y.taken = there.flow.flow ∙ append-nil y.taken in
+    let all : x.sent ≡ y.taken = there.line.flow ∙ append-nil y.taken in
     record {
       messages = λ none. sym (there.text.messages ∙ ap (λ l. carried (x.sent ++ l)) (nothing_waits x.sent x.rest there.text.whole none) ∙ ap carried (append-nil x.sent ∙ all));
       interrupts = sym (there.ints.flow ∙ append-nil y.int_up);

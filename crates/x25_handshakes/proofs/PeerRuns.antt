@@ -8,8 +8,7 @@ use Rattle.x25_handshakes.specs.laws.PeerJoined.{Joined, near_stepped, Happens, 
 use Rattle.x25_handshakes.specs.laws.PeerClaims.{WithAnyPeer, KeepsStretches, FindsNoError}
 use Rattle.x25_handshakes.proofs.HandshakeLemmas.{both_fresh}
 use Rattle.x25_handshakes.proofs.PeerRelation.{Kept-start}
-use Rattle.x25_handshakes.proofs.PeerTransferActs.{peer_level, KeptTransfer, GoodTransfer, GoodTransfer-acts, GoodTransfer-takes}
-use Rattle.x25_handshakes.proofs.PeerTransferDeeds.{done_kept, takes_kept, skips_kept}
+use Rattle.x25_handshakes.proofs.PeerTransferLemmas.{peer_level, KeptTransfer, GoodTransfer, GoodTransfer-acts, GoodTransfer-takes, done_kept, takes_kept, skips_kept}
 use Rattle.x25_handshakes.proofs.PeerOrder.{stretches_order}
 
 record Holds (t : Terms) (size : ℕ) (w : Joined) : Type 0 where

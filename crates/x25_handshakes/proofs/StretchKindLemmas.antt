@@ -15,7 +15,7 @@ use Rattle.x25_handshakes.specs.laws.Transfer.{d1, rst, fresh_transfer, lifted, 
 use Rattle.x25_handshakes.specs.laws.Calls.{Phase, Unused, Waiting, Offered, Crossed, Talking, Connection, CallStep, goes, unexpected, calling_talk, called_talk, is_answered, accepts, phase_takes, call_takes, CallAct, PlacesCall, AcceptsCall, Talks, phase_acts}
 use Rattle.x25_handshakes.specs.laws.Histories.{Lists, none, resets_in, held_in, of_stretch, messages, interrupts, IsPrefix}
 use Rattle.x25_handshakes.proofs.HandshakeLemmas.{meets}
-use Rattle.x25_handshakes.proofs.StretchRelation.{InFlowControl, FollowsFrom, GoodStretch}
+use Rattle.x25_handshakes.proofs.StretchRelation.{InFlowControl, StretchesRelated, FollowsFrom, GoodStretch}
 use Rattle.x25_handshakes.proofs.TransferRelation.{reset_mark, stretch_level, TransfersRelated}
 use Rattle.x25_handshakes.proofs.ChannelRelation.{clear_mark, Seen}
 use Rattle.x25_handshakes.proofs.StretchLemmas.{GoodStretch-takes, FollowsFrom-from_Dir}
@@ -82,7 +82,7 @@ in_its_stretch down up k t b sound e x u p v z h =
     (λ a is open_p.
     let hand = subst (λ (s : Side Stretch). TransfersRelated t b (record { epoch = x.epoch; side = s }) u (p ∷ v) z) is h in
     let inside = meets (stretch_level t b) p (reset_inner p open_p) x.epoch z.epoch a z.side u v hand.hand in
-    let good : GoodStretch t b (stretch_takes b.size a p) inside.1 inside.2 (state_of z.side) = GoodStretch-takes t b sound a inside.1 p inside.2 (state_of z.side) inside.3 in (
+    let good : GoodStretch (StretchesRelated t b) (stretch_takes b.size a p) inside.1 inside.2 (state_of z.side) = GoodStretch-takes t b sound a inside.1 p inside.2 (state_of z.side) inside.3 in (
       sym inside.0,
       k.begins (state_of z.side) inside.2 (stretch_takes b.size a p).next
           (FollowsFrom-from_Dir b (state_of z.side) inside.2 (inside.1 ++ (stretch_takes b.size a p).out) (stretch_takes b.size a p).next good.kept.back),

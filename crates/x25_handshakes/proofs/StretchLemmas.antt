@@ -6,8 +6,8 @@ use Rattle.x25_circuit.specs.Params.{Terms}
 use Rattle.x25_handshakes.proofs.TermsLemmas.{IsSound}
 use Rattle.x25_handshakes.specs.laws.Stretch.{Packet, Stretch, fresh, StretchStep, StretchAct, stretch_acts, stretch_takes}
 use Rattle.x25_handshakes.specs.laws.LayerPeers.{as_peer_stretch}
-use Rattle.x25_handshakes.proofs.PeerRelation.{Kept, Good}
-use Rattle.x25_handshakes.proofs.PeerActs.{Good-acts, Good-takes}
+use Rattle.x25_handshakes.proofs.PeerRelation.{Kept}
+use Rattle.x25_handshakes.proofs.PeerActs.{Good, Good-acts, Good-takes}
 use Rattle.x25_handshakes.proofs.StretchRelation.{pieces, ints, Direction, Told, StretchesRelated, GoodStretch, FollowsFrom}
 use Rattle.x25_handshakes.proofs.ToldLemmas.{tells_act, tells_take}
 use Rattle.x25_handshakes.proofs.TextLemmas.{carried-append, AreSound-front}
@@ -20,12 +20,11 @@ StretchesRelated-fresh t b = record { there = none t; back = none b; told = reco
   where
     none : (t : Terms) → Direction t fresh [] [] fresh
     none t = record {
-      flow = record { flow = refl; numbers = tt };
+      line = record { flow = refl; numbers = tt; kinds = tt };
       acks = record { room = omega arith; acks = omega arith };
       ints = record { count = omega arith; flow = refl };
       text = record { fits = tt; whole = refl; messages = refl };
       up = refl;
-      kinds = tt;
     }
 
 -- ---- what one end does beside the other, which is a peer of it
@@ -33,44 +32,40 @@ StretchesRelated-fresh t b = record { there = none t; back = none b; told = reco
 -- the other end as a peer
 kept : (t b : Terms) (x : Stretch) (u v : List Packet) (y : Stretch) → IsSound b → StretchesRelated t b x u v y → Kept t b.size x u v (as_peer_stretch y)
 kept t b x u v y sound h =
-    let out = h.there.ints.count in
     let room = h.back.acks.room in
     let most = sound.window in
     record {
-      there = record { flow = h.there.flow; acks = h.there.acks; late = omega arith; ints = record { count = omega (arith, out); flow = h.there.ints.flow }; text = h.there.text; kinds = h.there.kinds };
+      there = record { line = h.there.line; acks = record { acks = h.there.acks; late = omega arith }; ints = h.there.ints; text = h.there.text };
       back = record {
-        flow = h.back.flow;
+        line = h.back.line;
         acks = record { room = omega (arith, room, most); acks = h.back.acks.acks };
         ints = h.back.ints;
-        sound = AreSound-front b.size no_part y.sent y.rest h.back.text.fits;
-        up = h.back.up;
-        kinds = h.back.kinds;
+        text = record { sound = AreSound-front b.size no_part y.sent y.rest h.back.text.fits; up = h.back.up };
       };
     }
 
 -- it stays as it was
 goes_on : (t b : Terms) (x : Stretch) (u v : List Packet) (y : Stretch) (s : StretchStep) (w : List Packet) → StretchesRelated t b x u v y → Good t b.size s u w (as_peer_stretch y) → Told s.next w y → Told y (u ++ s.out) s.next
-    → GoodStretch t b s u w y
+    → GoodStretch (StretchesRelated t b) s u w y
 goes_on t b x u v y s w h good told told_back =
     let there = good.kept.there in
     let back = good.kept.back in
-    let out = there.ints.count in
     record {
       quiet = good.quiet;
       kept = record {
-        there = record { flow = there.flow; acks = there.acks; ints = record { count = omega (arith, out); flow = there.ints.flow }; text = there.text; up = h.there.up; kinds = there.kinds };
-        back = record { flow = back.flow; acks = record { room = h.back.acks.room; acks = back.acks.acks }; ints = back.ints; text = h.back.text; up = back.up; kinds = back.kinds };
+        there = record { line = there.line; acks = there.acks.acks; ints = there.ints; text = there.text; up = h.there.up };
+        back = record { line = back.line; acks = record { room = h.back.acks.room; acks = back.acks.acks }; ints = back.ints; text = h.back.text; up = back.text.up };
         told = told;
         told_back = told_back;
       };
     }
 
-pub GoodStretch-acts : (t b : Terms) → IsSound t → IsSound b → (x : Stretch) (u v : List Packet) (y : Stretch) (a : StretchAct) → StretchesRelated t b x u v y → GoodStretch t b (stretch_acts t x a) u v y
+pub GoodStretch-acts : (t b : Terms) → IsSound t → IsSound b → (x : Stretch) (u v : List Packet) (y : Stretch) (a : StretchAct) → StretchesRelated t b x u v y → GoodStretch (StretchesRelated t b) (stretch_acts t x a) u v y
 GoodStretch-acts t b st sb x u v y a h =
     let told = tells_act t x u v y a h.told h.told_back in
     goes_on t b x u v y (stretch_acts t x a) v h (Good-acts t b.size st.size x u v (as_peer_stretch y) a (kept t b x u v y sb h)) told.0 told.1
 
-pub GoodStretch-takes : (t b : Terms) → IsSound b → (x : Stretch) (u : List Packet) (p : Packet) (v : List Packet) (y : Stretch) → StretchesRelated t b x u (p ∷ v) y → GoodStretch t b (stretch_takes b.size x p) u v y
+pub GoodStretch-takes : (t b : Terms) → IsSound b → (x : Stretch) (u : List Packet) (p : Packet) (v : List Packet) (y : Stretch) → StretchesRelated t b x u (p ∷ v) y → GoodStretch (StretchesRelated t b) (stretch_takes b.size x p) u v y
 GoodStretch-takes t b sound x u p v y h =
     let good = Good-takes t b.size x u p v (as_peer_stretch y) (kept t b x u (p ∷ v) y sound h) in
     let told = tells_take b.size x u p v y good.quiet h.told h.told_back in
@@ -81,7 +76,7 @@ GoodStretch-takes t b sound x u p v y h =
 pub FollowsFrom-from_Dir : (t : Terms) (x : Stretch) (u v : List Packet) (y : Stretch) → Direction t x u v y → FollowsFrom x u y
 FollowsFrom-from_Dir t x u v y h =
     let down : x.down ≡ carried y.taken ++ carried_from (joining no_part y.taken) (pieces u ++ x.rest) =
-    h.text.messages ∙ ap (λ l. carried (l ++ x.rest)) h.flow.flow ∙ ap carried (append_assoc y.taken (pieces u) x.rest)
+    h.text.messages ∙ ap (λ l. carried (l ++ x.rest)) h.line.flow ∙ ap carried (append_assoc y.taken (pieces u) x.rest)
     ∙ carried-append no_part y.taken (pieces u ++ x.rest)
     in
     record {

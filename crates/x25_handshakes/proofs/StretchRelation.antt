@@ -84,19 +84,20 @@ abbrev pub one_if : Bool → ℕ
 one_if true = 1
 one_if false = 0
 
--- what was sent is what was taken and what is on the way, in its numbers
-pub record Flow (sent taken : List Piece) (u : List Packet) : Type 0 where
+-- what was sent is what was taken and what is on the way, in its numbers, and on a line of kinds that pass in d1
+pub record Line (sent taken : List Piece) (u : List Packet) : Type 0 where
   pub flow : sent ≡ taken ++ pieces u
   pub numbers : Numbered (length taken) u
+  pub kinds : AllInFlowControl u
 
 -- the window, and the numbers P(R) on the way back
 pub record Acks (k acked sent : ℕ) (v : List Packet) (taken : ℕ) : Type 0 where
   pub room : sent ≤ acked + k
   pub acks : heard acked v ≤ taken
 
--- at most one interrupt is out: it or its confirmation is on the way; and those handed down are those handed up and those on the way
-pub record Ints (out : Bool) (down up : List (List ℕ)) (u v : List Packet) : Type 0 where
-  pub count : one_if out ≡ length (ints u) + confs v
+-- at most one interrupt is out: it is on the way, or its confirmation is owed, or that is on the way; and those handed down are those handed up and those on the way
+pub record Ints (out : Bool) (down up : List (List ℕ)) (u v : List Packet) (owed : ℕ) : Type 0 where
+  pub count : one_if out ≡ (length (ints u) + confs v) + owed
   pub flow : down ≡ up ++ ints u
 
 -- what was sent, with what is still to be sent, is whole messages, those handed down
@@ -107,12 +108,11 @@ pub record Text (size : ℕ) (sent rest : List Piece) (down : List Message) : Ty
 
 -- the direction from x to y; u is on the way there, v on the way back
 pub record Direction (t : Terms) (x : Stretch) (u v : List Packet) (y : Stretch) : Type 0 where
-  pub flow : Flow x.sent y.taken u
+  pub line : Line x.sent y.taken u
   pub acks : Acks t.window x.acked (length x.sent) v (length y.taken)
-  pub ints : Ints x.int_out x.int_down y.int_up u v
+  pub ints : Ints x.int_out x.int_down y.int_up u v 0
   pub text : Text t.size x.sent x.rest x.down
   pub up : y.up ≡ carried y.taken
-  pub kinds : AllInFlowControl u
 
 -- whether the other end is ready, once this packet has come
 abbrev pub readied : Bool → Packet → Bool
@@ -136,10 +136,10 @@ pub record StretchesRelated (t b : Terms) (x : Stretch) (u v : List Packet) (y :
   pub told : Told x v y
   pub told_back : Told y u x
 
--- a step that is no error, and keeps the relation
-pub record GoodStretch (t b : Terms) (s : StretchStep) (u v : List Packet) (y : Stretch) : Type 0 where
+-- a step that is no error, and keeps the relation to the other end, of whatever kind
+pub record GoodStretch {T : Type 0} (R : Stretch → List Packet → List Packet → T → Type 0) (s : StretchStep) (u v : List Packet) (y : T) : Type 0 where
   pub quiet : s.error ≡ None
-  pub kept : StretchesRelated t b s.next (u ++ s.out) v y
+  pub kept : R s.next (u ++ s.out) v y
 
 -- what is claimed of one direction
 pub record FollowsFrom (giver : Stretch) (u : List Packet) (taker : Stretch) : Type 0 where

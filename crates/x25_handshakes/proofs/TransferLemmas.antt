@@ -25,7 +25,7 @@ TransfersRelated-fresh t b = record { hand = both_fresh (stretch_level t b) (Str
 pub own_stretches : (t b : Terms) → IsSound t → IsSound b → OwnStretches (StretchesRelated t b) fresh t b.size
 own_stretches t b st sb = record {
   empty = StretchesRelated-fresh t b;
-  kinds = λ x u v y h. h.there.kinds;
-  acts = λ x u v y a h. (let good = GoodStretch-acts t b st sb x u v y a h in record { quiet = good.quiet; kept = good.kept });
-  takes = λ x u p v y h. (let good = GoodStretch-takes t b sb x u p v y h in record { quiet = good.quiet; kept = good.kept });
+  kinds = λ x u v y h. h.there.line.kinds;
+  acts = λ x u v y a h. GoodStretch-acts t b st sb x u v y a h;
+  takes = λ x u p v y h. GoodStretch-takes t b sb x u p v y h;
 }
