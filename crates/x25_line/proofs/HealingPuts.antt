@@ -354,6 +354,6 @@ module _ (c d : Settings) (joined : AreJoined c d) (reads : ReadsSpelled) (laws 
   puts_run [] w are h free = h
   puts_run (Near (Put packet) ∷ es) w are h free = puts_run es (acts c (Put packet) w) are.1 (near_packet packet es w are.1 h free.1) free.1
   puts_run (Far (Put packet) ∷ es) w are h free = puts_run es (swapped (acts d (Put packet) (swapped w))) are.1 (far_packet packet es w are.1 h free.1) free.1
-  puts_run (Near Deliver ∷ es) w are h free = puts_run es (acts c Deliver w) are.1 (both_near reads laws busy_laws c d joined Deliver w tt h) free.1
-  puts_run (Far Deliver ∷ es) w are h free = puts_run es (swapped (acts d Deliver (swapped w))) are.1 (both_far reads laws busy_laws c d joined Deliver w tt h) free.1
+  puts_run (Near Deliver ∷ es) w are h free = puts_run es (acts c Deliver w) are.1 (both_near reads laws busy_laws c d joined w h) free.1
+  puts_run (Far Deliver ∷ es) w are h free = puts_run es (swapped (acts d Deliver (swapped w))) are.1 (both_far reads laws busy_laws c d joined w h) free.1
   puts_run (event ∷ es) w are h free = absurd are.0

@@ -20,10 +20,10 @@ use Rattle.x25_link.specs.laws.WindowMachine.{Window, Shows, ShowAll}
 use Rattle.x25_link.specs.laws.RestLaw.{HasSaidAll}
 use Rattle.x25_link.specs.laws.AnswerLaw.{says, AreNext, weight_of, weight_if, Outcome, Answers, heard, goes_on_from, once_taken, busy_after, passed_over}
 use Rattle.x25_line.specs.laws.Line.{Line, swapped as line_swapped}
-use Rattle.x25_line.specs.laws.Stations.{Stations, Act, Deliver, after_step, delivered, acts, swapped}
+use Rattle.x25_line.specs.laws.Stations.{Stations, Act, Deliver, Event, Near, Far, after_step, delivered, acts, swapped, run}
 use Rattle.x25_line.specs.laws.StationClaims.{AreJoined, number_in, numbered_on, AreWhole}
 use Rattle.x25_line.specs.laws.WholeNumbers.{machine_acts}
-use Rattle.x25_line.specs.Healing.{IsDeliver}
+use Rattle.x25_line.specs.Healing.{IsDeliver, AreDeliveries}
 use Rattle.x25_line.specs.laws.LawsBelow.{HealingLaws}
 use Rattle.x25_line.proofs.Kept.{Way, hears_valid, Way-acked, resolved_is}
 use Rattle.x25_line.proofs.Frames.{Acks-le}
@@ -162,6 +162,15 @@ hears_well c d w h up other_up f gs is_numbered r =
 pub deliver_is : (a : Act) → IsDeliver a → Deliver ≡ a
 deliver_is Deliver is = refl
 deliver_is a is = absurd is
+
+-- what each delivery keeps stays through all
+pub deliveries_keep : (P : Stations → Type 0) (c d : Settings) → ((w : Stations) → P w → P (acts c Deliver w)) → ((w : Stations) → P w → P (swapped (acts d Deliver (swapped w))))
+    → (es : List Event) (w : Stations) → AreDeliveries es → P w → P (run c d es w)
+deliveries_keep P c d near far [] w are h = h
+deliveries_keep P c d near far (Near Deliver ∷ es) w are h = deliveries_keep P c d near far es (acts c Deliver w) are.1 (near w h)
+deliveries_keep P c d near far (Far Deliver ∷ es) w are h = deliveries_keep P c d near far es (swapped (acts d Deliver (swapped w))) are.1 (far w h)
+deliveries_keep P c d near far (Near a ∷ es) w are h = absurd are.0
+deliveries_keep P c d near far (Far a ∷ es) w are h = absurd are.0
 
 -- what it makes of the world, where the step answers so
 pub record Delivered (c d : Settings) (w v : Stations) (fs gs : List PlainFrame) (o : Outcome) (octets : List ℕ) : Type 0 where

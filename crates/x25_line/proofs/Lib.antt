@@ -19,7 +19,6 @@ pub mod HealingLines
 pub mod HealingSteps
 pub mod HealingResent
 pub mod HealingRuns
-pub mod HealingGone
 pub mod HealingSetUp
 pub mod HealingEnds
 pub mod HealingSessions

@@ -14,7 +14,7 @@ use Rattle.x25_line.specs.laws.SessionClaims.{octets_of}
 use Rattle.x25_line.specs.Healing.{AreDeliveries, SessionHasTries, SessionsAreHealed, IsSessionAtRestOrOut, OneIsFree, SessionsHealUnlessBothBusy}
 use Rattle.x25_line.specs.laws.LawsBelow.{HealingLaws}
 use Rattle.x25_line.specs.laws.HealingPuts.{PutsHealSessions}
-use Rattle.x25_line.proofs.HealingOnce.{IsDrained, HasTries}
+use Rattle.x25_line.proofs.HealingOnce.{IsDrained, HasTries, RestsOrOut}
 use Rattle.x25_line.proofs.StationRuns.{joined_swapped}
 use Rattle.x25_line.proofs.sessions.SessionSeenRuns.{Both, both_swapped, throughout_both}
 use Rattle.x25_line.proofs.sessions.TwoSessions.{running}
@@ -29,9 +29,6 @@ use Rattle.x25_line.proofs.HealingPuts.{puts_run}
 -- an end as it stands, with no history
 abbrev end_of : SessionEnd → StationEnd
 end_of e = record { station = e.station; down = []; up = []; reasons = []; came_up = false }
-
-abbrev RestsOrOut : LinkStation → Type 0
-RestsOrOut s = IsAtRest s ⊎ (is_up s.phase ≡ false)
 
 in_order : (c : Settings) (e : SessionEnd) → (is_up e.station.phase ≡ true → IsRunning c.window e.station) → HasSaidAll c.window e.station → IsInOrderIfUp c (end_of e)
 in_order c e running said = record { sound = λ up. (running up).sound; said = λ _. said }
