@@ -26,8 +26,7 @@ use Rattle.x25_line.proofs.HealingOnce.{IsDrained, HasTries, RestsOrOut}
 use Rattle.x25_line.proofs.StationSteps.{not_both, out_not_up}
 use Rattle.x25_line.proofs.StationRuns.{joined_swapped}
 use Rattle.x25_line.proofs.HealingLines.{Reads, reads_more}
-use Rattle.x25_line.proofs.HealingSteps.{up_is}
-use Rattle.x25_line.proofs.HealingRuns.{refused, fires_is}
+use Rattle.x25_line.proofs.HealingSteps.{up_is, refused, fires_is}
 use Rattle.x25_line.proofs.HealingSetUp.{AreOfSetUp, Parts, asked, asked_polling, polled, rests, Settles, settle}
 
 poll_whole : (n1 : ℕ) (busy : Bool) (n : ℕ) → n < 8 → IsWhole n1 [] (says busy true n true)

@@ -1,21 +1,15 @@
--- From a quiet moment, a firing and deliveries heal an end; and what rest shows.
-use Rattle.std.proofs.Common.{◌≡◌, ℕ, ◌+◌, ◌%◌, ◌≤◌, ◌<◌, List, [], ◌∷◌, ◌++◌, length, Bool, true, false, if◌then◌else◌, Option, Some, None, refl, sym, ap, ◌∙◌, subst, arith}
+-- Each end has said all that it may, after each event.
+use Rattle.std.proofs.Common.{◌≡◌, ℕ, ◌+◌, ◌%◌, ◌≤◌, ◌<◌, List, [], ◌∷◌, ◌++◌, length, Bool, true, false, if◌then◌else◌, Option, Some, None, refl, sym, ◌∙◌, subst, arith}
 use Rattle.std.specs.Prelude.{◌||◌, nat_lt, nat_le, ◌==◌, ◌-◌, ◌&&◌}
 use Rattle.std.proofs.lemmas.Bool.{and_right}
-use Rattle.x25_frame.specs.laws.ReadingLaw.{ReadsSpelled}
 use Rattle.x25_link.specs.declared.error.LinkError.{LinkError}
 use Rattle.x25_link.specs.Station.{Settings, is_up, fresh}
-use Rattle.x25_link.specs.Link.{timer_step, timer_runs, timer_refusal, put_refusal, connect_refusal, disconnect_refusal, put_step, connect_step, disconnect_step, abandon_step}
-use Rattle.x25_link.specs.laws.RestLaw.{HasSaidAll, IsAtRest}
+use Rattle.x25_link.specs.Link.{timer_step, timer_refusal, put_refusal, connect_refusal, disconnect_refusal, put_step, connect_step, disconnect_step, abandon_step}
+use Rattle.x25_link.specs.laws.RestLaw.{HasSaidAll}
 use Rattle.x25_line.specs.laws.Stations.{StationEnd, Stations, Act, Put, Deliver, T1, Connect, Disconnect, Abandon, Probe, Lose, Damage, Event, Near, Far, after_step, unless, delivered, is_visible, acts, swapped, happens, run}
 use Rattle.x25_line.specs.laws.StationClaims.{AreJoined}
-use Rattle.x25_line.specs.laws.WholeNumbers.{machine_acts}
 use Rattle.x25_line.specs.laws.LawsBelow.{HealingLaws}
-use Rattle.x25_line.proofs.HealingOnce.{HasArrived}
-use Rattle.x25_line.proofs.StationRuns.{machine_joint}
-use Rattle.x25_line.proofs.StationClaimLemmas.{idle_all, holds_order, holds_lists}
 use Rattle.x25_line.proofs.StationEvents.{each_hands_one}
-use Rattle.x25_line.proofs.HealingSteps.{Sound, near_up}
 
 -- ---- each end has said all that it may, after each event
 
@@ -70,35 +64,3 @@ module _ (laws : HealingLaws) where
 
   pub fresh_said : (k : ℕ) → HasSaidAll k fresh
   fresh_said k = record { low = omega arith; settled = and_right (nat_lt 0 (0 + k)) _ refl; calm = refl }
-
--- ---- what rest shows
-
-module _ (c d : Settings) (joined : AreJoined c d) (reads : ReadsSpelled) (laws : HealingLaws) where
-  pub arrives : (w : Stations) → Sound c d w → is_up w.near.station.phase ≡ true → IsAtRest w.near.station → HasArrived w.near w.far
-  arrives w h up rest =
-      let order = holds_order (Unit {0}) c d w (h.line, h.joint) in
-      let lists = holds_lists (Unit {0}) c d w (h.line, h.joint) in
-      let t = laws.rest.only_then w.near.station rest in
-      let all = sym (idle_all w.near.station rest.idle (near_up c d w h up).sound.sent_high) in
-      let same = ap length (lists.0.given up) in
-      record { handed_up = order.0.idle rest.idle; acked = omega (arith, all, same); sent = omega (arith, all, same, t.3) }
-
-  -- ---- a firing
-
-  -- T1 doesn't run: nothing changes
-  pub refused : (w : Stations) → timer_runs w.near.station.phase w.near.station ≡ false → acts c T1 w ≡ w
-  refused w stopped = rw stopped refl
-
-  pub fires_is : (w : Stations) → timer_runs w.near.station.phase w.near.station ≡ true → acts c T1 w ≡ after_step c w w.back [] (timer_step c w.near.station)
-  fires_is w running = rw running refl
-
-  -- what a firing leaves of the machine
-  pub fires_sound : (w : Stations) → Sound c d w → Sound c d (acts c T1 w)
-  fires_sound w h =
-      let one = each_hands_one c d (Near T1) w in
-      record {
-        line = machine_acts c T1 w h.line;
-        joint = machine_joint (Unit {0}) c d joined reads laws.sessions.laws T1 w h.line (λ _. one.came_up ∙ h.joint.near_has.notes.once) (λ _. tt) h.joint;
-        near_said = said_act laws c joined.near_high T1 w h.near_said;
-        far_said = subst (λ (e : StationEnd). HasSaidAll d.window e.station) (sym one.far) h.far_said;
-      }

@@ -17,7 +17,6 @@ pub mod rows
 pub mod HealingOnce
 pub mod HealingLines
 pub mod HealingSteps
-pub mod HealingResent
 pub mod HealingRuns
 pub mod HealingSetUp
 pub mod HealingEnds
