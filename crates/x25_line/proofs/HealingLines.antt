@@ -34,18 +34,6 @@ pub whole_behind : (n1 : ℕ) (given : List (List ℕ)) (fs es : List PlainFrame
 whole_behind n1 given [] es h = h
 whole_behind n1 given (f ∷ fs) es h = whole_behind n1 given fs es h.1
 
--- the octets at the front
-pub record FrontReads (from : Role) (n1 : ℕ) (os : List (List ℕ)) (f : PlainFrame) (fs : List PlainFrame) : Type 0 where
-  pub octets : List ℕ
-  pub others : List (List ℕ)
-  pub is : os ≡ octets ∷ others
-  pub reads : frame_of from n1 octets ≡ Ok f
-  pub rest : Reads from n1 others fs
-
-pub front_reads : (from : Role) (n1 : ℕ) (os : List (List ℕ)) (f : PlainFrame) (fs : List PlainFrame) → Reads from n1 os (f ∷ fs) → FrontReads from n1 os f fs
-front_reads from n1 [] f fs h = absurd h
-front_reads from n1 (o ∷ os) f fs h = record { octets = o; others = os; is = refl; reads = h.0; rest = h.1 }
-
 pub none_reads : (from : Role) (n1 : ℕ) (os : List (List ℕ)) → Reads from n1 os [] → os ≡ []
 none_reads from n1 [] h = refl
 none_reads from n1 (o ∷ os) h = absurd h
@@ -98,26 +86,26 @@ next_ahead r n (frame ∷ fs) m h = absurd h
 
 -- ---- the same without I frames, as in recovery, or while the peer is busy
 
+abbrev pub IsMild : PlainFrame → Type 0
+IsMild (rr command nr pf) = (command && pf) ≡ false
+IsMild (rnr command nr pf) = (command && pf) ≡ false
+IsMild (rej command nr pf) = pf ≡ false
+IsMild f = ⊥
+
 abbrev pub Mild : List PlainFrame → Type 0
 Mild [] = Unit {0}
-Mild (rr command nr pf ∷ fs) = ((command && pf) ≡ false) × Mild fs
-Mild (rnr command nr pf ∷ fs) = ((command && pf) ≡ false) × Mild fs
-Mild (rej command nr pf ∷ fs) = (pf ≡ false) × Mild fs
-Mild (f ∷ fs) = ⊥
+Mild (f ∷ fs) = IsMild f × Mild fs
 
 pub mild_ahead : (n : ℕ) (fs : List PlainFrame) → Mild fs → Ahead n fs n
 mild_ahead n [] h = refl
 mild_ahead n (rr command nr pf ∷ fs) h = (h.0, mild_ahead n fs h.1)
 mild_ahead n (rej command nr pf ∷ fs) h = (h.0, mild_ahead n fs h.1)
 mild_ahead n (rnr command nr pf ∷ fs) h = (h.0, mild_ahead n fs h.1)
-mild_ahead n (frame ∷ fs) h = absurd h
+mild_ahead n (frame ∷ fs) h = absurd h.0
 
 pub mild_more : (fs es : List PlainFrame) → Mild fs → Mild es → Mild (fs ++ es)
 mild_more [] es h g = g
-mild_more (rr command nr pf ∷ fs) es h g = (h.0, mild_more fs es h.1 g)
-mild_more (rej command nr pf ∷ fs) es h g = (h.0, mild_more fs es h.1 g)
-mild_more (rnr command nr pf ∷ fs) es h g = (h.0, mild_more fs es h.1 g)
-mild_more (frame ∷ fs) es h g = absurd h
+mild_more (f ∷ fs) es h g = (h.0, mild_more fs es h.1 g)
 
 -- where V(S) stays, no I frame went
 pub held_mild : (r n : ℕ) (fs : List PlainFrame) (m : ℕ) → AreNext r n fs m → m ≤ n → Mild fs

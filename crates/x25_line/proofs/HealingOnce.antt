@@ -1,6 +1,6 @@
 -- What the lemmas of healing say of two stations by themselves; the laws say it of sessions.
-use Rattle.std.proofs.Common.{◌≡◌, ◌<◌, ◌⊎◌, List, [], ◌∷◌, length, true, false}
-use Rattle.x25_link.specs.Station.{Settings, is_up, is_busy}
+use Rattle.std.proofs.Common.{◌≡◌, ◌<◌, ◌⊎◌, List, [], ◌∷◌, true, false}
+use Rattle.x25_link.specs.Station.{Settings, LinkStation, is_up, is_busy}
 use Rattle.x25_link.specs.Link.{timer_runs}
 use Rattle.x25_link.specs.laws.RestLaw.{IsAtRest}
 use Rattle.x25_line.specs.laws.Stations.{StationEnd, Stations, Event, Near, Far, happens}
@@ -11,27 +11,11 @@ pub record IsDrained (w : Stations) : Type 0 where
   pub out : w.out ≡ []
   pub back : w.back ≡ []
 
--- from one end to the other: all that was handed down was handed up, and both count alike
-pub record HasArrived (giver taker : StationEnd) : Type 0 where
-  pub handed_up : taker.up ≡ giver.down
-  pub acked : giver.station.outgoing.acked ≡ length giver.down
-  pub sent : giver.station.outgoing.sent ≡ length giver.down
-
--- an end that is Up and whose timer T1 doesn't run is at rest, and everything of it has arrived
-abbrev pub ShowsAtRest : StationEnd → StationEnd → Type 0
-ShowsAtRest giver taker = is_up giver.station.phase ≡ true → timer_runs giver.station.phase giver.station ≡ false
-    → IsAtRest giver.station × HasArrived giver taker
-
 -- An end is Up, and isn't busy. Where its timer T1 runs, it has tries left.
 pub record MayHeal (c : Settings) (e : StationEnd) : Type 0 where
   pub up : is_up e.station.phase ≡ true
   pub free : is_busy e.station ≡ false
   pub tries : timer_runs e.station.phase e.station ≡ true → e.station.tries < c.retries
-
--- An end is at rest, and all that it was handed down has been handed up at the other end.
-pub record IsHealed (e other : StationEnd) : Type 0 where
-  pub rest : IsAtRest e.station
-  pub arrived : HasArrived e other
 
 -- octets are there for each delivery
 abbrev pub Finds : Event → Stations → Type 0
@@ -42,8 +26,8 @@ abbrev pub EachFinds : Settings → Settings → List Event → Stations → Typ
 EachFinds c d [] w = Unit {0}
 EachFinds c d (e ∷ es) w = Finds e w × EachFinds c d es (happens c d e w)
 
-abbrev pub IsAtRestOrOut : StationEnd → Type 0
-IsAtRestOrOut e = IsAtRest e.station ⊎ (is_up e.station.phase ≡ false)
+abbrev pub RestsOrOut : LinkStation → Type 0
+RestsOrOut s = IsAtRest s ⊎ (is_up s.phase ≡ false)
 
 -- an end is Up; where its timer T1 runs, it has tries left
 pub record HasTries (c : Settings) (e : StationEnd) : Type 0 where

@@ -1,459 +1,558 @@
--- How the near end heals after its firing, where one of the two ends may be busy: its poll is on the line, then the answer; then what isn't
--- acknowledged goes again, or waits until the other end is heard to be busy no more.
-use Rattle.std.proofs.Common.{◌≡◌, ℕ, ◌%◌, List, [], ◌∷◌, ◌++◌, ◌⊎◌, inl, inr, length, max, Bool, true, false, refl, sym, ap, ◌∙◌, subst, arith, append_assoc}
-use Rattle.x25_frame.specs.Frame.{PlainFrame, info, rr, rnr}
-use Rattle.x25_frame.specs.laws.ReadingLaw.{ReadsSpelled}
-use Rattle.x25_link.specs.Station.{Settings, is_up, is_busy, wanted}
-use Rattle.x25_link.specs.Hearing.{Step, other, is_taken}
+-- How an end heals after its firing, where one of the two may be busy, told of two stations and the frames between them. Its poll is on the line, then
+-- the answer; then what isn't acknowledged goes again, or waits until the other end is heard to be busy no more.
+use Rattle.std.proofs.Common.{◌≡◌, ℕ, ◌+◌, ◌%◌, ◌≤◌, List, [], ◌∷◌, ◌++◌, ◌⊎◌, inl, inr, length, max, Bool, true, false, if◌then◌else◌, Ok, None, refl, sym, ap, ◌∙◌, subst, arith, length-append}
+use Rattle.std.specs.Prelude.{◌&&◌, not}
+use Rattle.std.proofs.lemmas.Bool.{ltb-false, le-ltb, eq-eqb}
+use Rattle.x25_frame.specs.Frame.{PlainFrame, info, rr, rnr, rej}
+use Rattle.x25_frame.specs.Reading.{frame_of}
+use Rattle.x25_link.specs.Station.{Settings, LinkStation, is_up, is_busy, wanted}
+use Rattle.x25_link.specs.Hearing.{Step, other, is_valid, is_taken}
 use Rattle.x25_link.specs.Link.{take_step}
-use Rattle.x25_link.specs.laws.AnswerLaw.{says, AreNext, Outcome, heard, once_taken}
-use Rattle.x25_link.specs.laws.BusyLaw.{Says, BusyLaws}
-use Rattle.x25_line.specs.laws.Stations.{StationEnd, Stations, Deliver, delivered, acts, swapped}
-use Rattle.x25_line.specs.laws.StationClaims.{AreJoined}
-use Rattle.x25_line.specs.Healing.{OneIsFree}
+use Rattle.x25_link.specs.laws.AnswerLaw.{says, AreNext, Outcome, Answers, heard, goes_on_from, confirms, once_taken, busy_after, passed_over}
+use Rattle.x25_link.specs.laws.BusyLaw.{Says, BusyLaws, NoInfo}
 use Rattle.x25_line.specs.laws.LawsBelow.{HealingLaws}
 use Rattle.x25_line.proofs.StationSteps.{not_both}
-use Rattle.x25_line.proofs.StationRuns.{joined_swapped}
-use Rattle.x25_line.proofs.HealingLines.{Reads, none_reads, LastTells, next_tells, tells_behind, Ahead, Mild, mild_ahead, mild_more, held_mild, IsNoFinal, NoFinal}
-use Rattle.x25_line.proofs.HealingSteps.{Sound, sound_swapped, BothUp, both_up_swapped, all_heard, HearsWell, polled, finished, passed, Heard, hears_poll, hears_final, hears_passed, hears_taken, readied, hears_ready}
-use Rattle.x25_line.proofs.HealingResent.{passed_mild, confirms_mild, answer_mild, NearResends, Ready, Resent, near_resends, near_ready, near_poll, near_resent, far_delivers, Plain, FarSays, plain_says_more, plain_hears, far_resent}
+use Rattle.x25_line.proofs.HealingLines.{LastTells, next_tells, tells_behind, Reports, reports_more, reports_new, reports_heard, Ahead, ahead_low, ahead_more, next_ahead, IsMild, Mild, mild_ahead, mild_more, held_mild, IsNoFinal, NoFinal}
+use Rattle.x25_line.proofs.HealingSteps.{up_is, IsNumbered, number_of, HearsWell}
 use Rattle.x25_line.proofs.BusyLines.{silent_stays, none_behind, hears_busy, hears_more, tells_free, Told, told_on, told_first}
 
--- both ends are Up, and one of them isn't busy
-pub record Pair (c d : Settings) (w : Stations) : Type 0 where
-  pub sound : Sound c d w
-  pub near_on : is_up w.near.station.phase ≡ true
-  pub far_on : is_up w.far.station.phase ≡ true
-  pub one_free : OneIsFree w.near.station w.far.station
+-- ---- what is on the line
 
-pub ups : {c d : Settings} (w : Stations) → Pair c d w → BothUp c d w
-ups w b = record { sound = b.sound; near_on = b.near_on; far_on = b.far_on }
+-- a poll is at the front, and behind it no I frame
+abbrev pub AsksFirst : List PlainFrame → Type 0
+AsksFirst (rr true n true ∷ fs) = Mild fs
+AsksFirst (rnr true n true ∷ fs) = Mild fs
+AsksFirst fs = ⊥
 
-pub pair_swapped : (c d : Settings) → AreJoined c d → (w : Stations) → Pair c d w → Pair d c (swapped w)
-pair_swapped c d joined w h =
-    record { sound = sound_swapped c d joined w h.sound; near_on = h.far_on; far_on = h.near_on; one_free = elim h.one_free [ inl near ↦ inr near | inr far ↦ inl far ] }
+pub asks_more : (fs es : List PlainFrame) → AsksFirst fs → Mild es → AsksFirst (fs ++ es)
+asks_more (rr true n true ∷ fs) es h mild = mild_more fs es h mild
+asks_more (rnr true n true ∷ fs) es h mild = mild_more fs es h mild
+asks_more fs es h mild = absurd h
 
--- a poll is at the front, and behind it no I frame; nothing that comes back is F=1
-pub record Polling (c d : Settings) (w : Stations) : Type 0 where
-  pub busy : Bool
-  pub number : ℕ
-  pub rest : List PlainFrame
-  pub before : List PlainFrame
-  pub recovery : w.near.station.recovery ≡ true
-  pub out : Reads (other d.role) d.longest w.out (says busy true number true ∷ rest)
-  pub mild : Mild rest
-  pub back : Reads (other c.role) c.longest w.back before
-  pub heard : NoFinal before
+-- F=1 has the number that this end wants, and behind it other frames have this number
+pub record Final (t : LinkStation) (busy : Bool) (number : ℕ) (gs : List PlainFrame) : Type 0 where
+  pub is : number ≡ length t.taken % 8
+  pub tells : LastTells (length t.taken) number gs
+  pub told : Told (hears_busy busy gs) t
 
--- F=1 is on the line back, with the number that the far end wants, and other frames with this number behind it
-pub record Answered (c d : Settings) (w : Stations) : Type 0 where
-  pub busy : Bool
-  pub number : ℕ
-  pub there : List PlainFrame
-  pub before : List PlainFrame
-  pub behind : List PlainFrame
-  pub is : number ≡ length w.far.station.taken % 8
-  pub recovery : w.near.station.recovery ≡ true
-  pub out : Reads (other d.role) d.longest w.out there
-  pub mild : Mild there
-  pub back : Reads (other c.role) c.longest w.back (before ++ says busy false number true ∷ behind)
-  pub heard : NoFinal before
-  pub tells : LastTells (length w.far.station.taken) number behind
-  pub told : Told (hears_busy busy behind) w.far.station
+-- such a frame is on the line, and before it none with F=1
+abbrev pub Brings : LinkStation → List PlainFrame → Type 0
+Brings t [] = ⊥
+Brings t (rr false n true ∷ gs) = Final t false n gs
+Brings t (rnr false n true ∷ gs) = Final t true n gs
+Brings t (g ∷ gs) = IsNoFinal g × Brings t gs
+
+brings_first : (t : LinkStation) (busy : Bool) (n : ℕ) (gs : List PlainFrame) → Final t busy n gs → Brings t (says busy false n true ∷ gs)
+brings_first t true n gs h = h
+brings_first t false n gs h = h
+
+brings_behind : (t : LinkStation) (fs gs : List PlainFrame) → NoFinal fs → Brings t gs → Brings t (fs ++ gs)
+brings_behind t [] gs h g = g
+brings_behind t (rr false n true ∷ fs) gs h g = not_both true refl h.0
+brings_behind t (rnr false n true ∷ fs) gs h g = absurd h.0
+brings_behind t (f ∷ fs) gs h g = (h.0, brings_behind t fs gs h.1 g)
+
+abbrev pub IsNone : List PlainFrame → Type 0
+IsNone [] = Unit {0}
+IsNone (f ∷ fs) = ⊥
+
+none_mild : (fs : List PlainFrame) → IsNone fs → Mild fs
+none_mild [] h = tt
+none_mild (f ∷ fs) h = absurd h
+
+-- the poll of a busy end that wants the number r, alone
+abbrev pub IsBusyPoll : ℕ → PlainFrame → Type 0
+IsBusyPoll r (rnr true n true) = n ≡ r % 8
+IsBusyPoll r g = ⊥
+
+abbrev pub BusyPolls : ℕ → List PlainFrame → Type 0
+BusyPolls r [] = ⊥
+BusyPolls r (g ∷ gs) = IsBusyPoll r g × IsNone gs
+
+-- ---- the phases of an end s beside an end t, with frames there and back
+
+pub record Polling (s : LinkStation) (fs gs : List PlainFrame) : Type 0 where
+  pub recovery : s.recovery ≡ true
+  pub asks : AsksFirst fs
+  pub heard : NoFinal gs
+
+pub record Answered (s t : LinkStation) (fs gs : List PlainFrame) : Type 0 where
+  pub recovery : s.recovery ≡ true
+  pub mild : Mild fs
+  pub brings : Brings t gs
+
+-- what isn't acknowledged goes again, in order, to an end that isn't busy, whose last frame on the line, if any, tells what that has taken
+pub record Resent (s t : LinkStation) (fs gs : List PlainFrame) : Type 0 where
+  pub recovery : s.recovery ≡ false
+  pub peer_busy : s.peer_busy ≡ false
+  pub ahead : Ahead (length t.taken) fs s.outgoing.place
+  pub reports : Reports (length t.taken) s.outgoing.acked gs
+  pub free : is_busy t ≡ false
 
 -- all that the far end has taken is acknowledged, and it is heard to be busy: no I frame goes. It said so last, or an RR is on the line back.
-pub record Withheld (c d : Settings) (w : Stations) : Type 0 where
+pub record Withheld (s t : LinkStation) (fs gs : List PlainFrame) : Type 0 where
+  pub recovery : s.recovery ≡ false
+  pub peer_busy : s.peer_busy ≡ true
+  pub mild : Mild fs
+  pub place : s.outgoing.place ≡ length t.taken
+  pub acked : s.outgoing.acked ≡ length t.taken
   pub number : ℕ
-  pub there : List PlainFrame
-  pub behind : List PlainFrame
-  pub out : Reads (other d.role) d.longest w.out there
-  pub back : Reads (other c.role) c.longest w.back behind
-  pub recovery : w.near.station.recovery ≡ false
-  pub peer_busy : w.near.station.peer_busy ≡ true
-  pub mild : Mild there
-  pub place : w.near.station.outgoing.place ≡ length w.far.station.taken
-  pub acked : w.near.station.outgoing.acked ≡ length w.far.station.taken
-  pub tells : LastTells (length w.far.station.taken) number behind
-  pub told : Told (hears_busy true behind) w.far.station
+  pub tells : LastTells (length t.taken) number gs
+  pub told : Told (hears_busy true gs) t
 
--- the near end has nothing to send, and the poll of the busy far end comes
-pub record Polled (c d : Settings) (w : Stations) : Type 0 where
-  pub number : ℕ
-  pub out : w.out ≡ []
-  pub back : Reads (other c.role) c.longest w.back (rnr true number true ∷ [])
-  pub is : number ≡ length w.far.station.taken % 8
-  pub recovery : w.near.station.recovery ≡ false
-  pub place : w.near.station.outgoing.place ≡ length w.far.station.taken
-  pub acked : w.near.station.outgoing.acked ≡ length w.far.station.taken
-  pub told : w.far.station.said_busy ≡ true
+-- there is nothing to send, and the poll of the busy far end comes
+pub record Polled (s t : LinkStation) (fs gs : List PlainFrame) : Type 0 where
+  pub recovery : s.recovery ≡ false
+  pub none : IsNone fs
+  pub polls : BusyPolls (length t.taken) gs
+  pub place : s.outgoing.place ≡ length t.taken
+  pub acked : s.outgoing.acked ≡ length t.taken
+  pub told : t.said_busy ≡ true
 
-abbrev pub Phases : Settings → Settings → Stations → Type 0
-Phases c d w = Polling c d w ⊎ (Answered c d w ⊎ ((Resent c d w × (is_busy w.far.station ≡ false)) ⊎ (Withheld c d w ⊎ Polled c d w)))
+abbrev pub Phases : LinkStation → LinkStation → List PlainFrame → List PlainFrame → Type 0
+Phases s t fs gs = Polling s fs gs ⊎ (Answered s t fs gs ⊎ (Resent s t fs gs ⊎ (Withheld s t fs gs ⊎ Polled s t fs gs)))
 
-abbrev pub Heals : Settings → Settings → Stations → Type 0
-Heals c d w = Pair c d w × Phases c d w
+-- ---- the far end says more, with the number that it said before
 
--- the near end spoke in recovery, once it heard a frame or was handed a packet: no I frame goes
-pub record Replied (c d : Settings) (w v : Stations) (there behind : List PlainFrame) : Type 0 where
-  pub pair : Pair c d v
-  pub more : List PlainFrame
-  pub recovery : v.near.station.recovery ≡ true
-  pub out : Reads (other d.role) d.longest v.out (there ++ more)
-  pub mild : Mild more
-  pub back : Reads (other c.role) c.longest v.back behind
-  pub far : v.far ≡ w.far
+-- an end that heard a frame, or was handed a packet
+pub record SaysMore (s z : LinkStation) (es : List PlainFrame) : Type 0 where
+  pub taken : z.taken ≡ s.taken
+  pub place : ℕ
+  pub next : AreNext (length s.taken) place es z.outgoing.place
+  pub says : Says s.said_busy z.said_busy (is_busy z) z.peer_busy es
+  pub free : is_busy s ≡ false → is_busy z ≡ false
 
-pub polling_replies : (c d : Settings) (w v : Stations) (h : Polling c d w) (before : List PlainFrame) → NoFinal before → Replied c d w v (says h.busy true h.number true ∷ h.rest) before → Heals c d v
-polling_replies c d w v h before heard p = (
-  p.pair,
-  inl (record {
-    busy = h.busy;
-    number = h.number;
-    rest = h.rest ++ p.more;
-    before = before;
-    recovery = p.recovery;
-    out = p.out;
-    mild = mild_more h.rest p.more h.mild p.mild;
-    back = p.back;
-    heard = heard;
-  }),
-)
+module _ (s z : LinkStation) (es : List PlainFrame) (k : SaysMore s z es) where
+  same : length s.taken ≡ length z.taken
+  same = sym (ap length k.taken)
 
-pub answered_replies : (c d : Settings) (w v : Stations) (h : Answered c d w) (before : List PlainFrame) → NoFinal before → Replied c d w v h.there (before ++ says h.busy false h.number true ∷ h.behind) → Heals c d v
-answered_replies c d w v h before heard p =
-    let same = ap (λ (e : StationEnd). length e.station.taken) (sym p.far) in (
-      p.pair,
-      inr (inl (record {
-        busy = h.busy;
-        number = h.number;
-        there = h.there ++ p.more;
-        before = before;
-        behind = h.behind;
-        is = h.is ∙ ap (λ (n : ℕ). n % 8) same;
-        recovery = p.recovery;
-        out = p.out;
-        mild = mild_more h.there p.more h.mild p.mild;
-        back = p.back;
-        heard = heard;
-        tells = subst (λ (n : ℕ). LastTells n h.number h.behind) same h.tells;
-        told = subst (λ (e : StationEnd). Told (hears_busy h.busy h.behind) e.station) (sym p.far) h.told;
-      })),
-    )
+  tells_more : (n : ℕ) (gs : List PlainFrame) → LastTells (length s.taken) n gs → LastTells (length z.taken) n (gs ++ es)
+  tells_more n gs h =
+      let r = length s.taken in
+      subst (λ (m : ℕ). LastTells m n (gs ++ es)) same (tells_behind r r n gs es h (λ i is. next_tells r i k.place z.outgoing.place es is k.next))
 
--- ---- one frame comes to the near end
+  -- whether it is busy is told by what it says more
+  told_more : (busy : Bool) (gs : List PlainFrame) → Told (hears_busy busy gs) s → Told (hears_busy busy (gs ++ es)) z
+  told_more busy gs told = subst (λ (b : Bool). Told b z) (sym (hears_more busy gs es)) (told_on (hears_busy busy gs) s z es told k.says k.free)
 
-near_pair : {c d : Settings} {fs gs : List PlainFrame} {nr : ℕ} {o : Outcome} (w : Stations) → Pair c d w → Heard c d w fs gs nr o → Pair c d (acts c Deliver w)
-near_pair w b k =
-    let h = k.went in
-    record {
-      sound = h.sound;
-      near_on = h.up;
-      far_on = subst (λ (e : StationEnd). is_up e.station.phase ≡ true) (sym h.far) b.far_on;
-      one_free = elim b.one_free [ inl near ↦ inl (h.free near) | inr far ↦ inr (subst (λ (e : StationEnd). is_busy e.station ≡ false) (sym h.far) far) ];
-    }
+  final_more : (busy : Bool) (n : ℕ) (gs : List PlainFrame) → Final s busy n gs → Final z busy n (gs ++ es)
+  final_more busy n gs h = record { is = h.is ∙ ap (λ (m : ℕ). m % 8) same; tells = tells_more n gs h.tells; told = told_more busy gs h.told }
 
-near_says : {c d : Settings} {fs gs : List PlainFrame} {nr : ℕ} {o : Outcome} → BusyLaws → (w : Stations) → Pair c d w → (k : Heard c d w fs gs nr o) → (let v : Stations = acts c Deliver w in
-    Says w.near.station.said_busy v.near.station.said_busy (is_busy v.near.station) v.near.station.peer_busy (o.first ++ k.went.next))
-near_says {c} {d} {fs} {gs} {nr} {o} busy_laws w b k =
-    let s = w.near.station in
-    let v : Stations = acts c Deliver w in
-    let step : Step = take_step c k.octets s in
-    subst (λ (es : List PlainFrame). Says s.said_busy v.near.station.said_busy (is_busy v.near.station) v.near.station.peer_busy es) k.went.said
-    (subst (λ (z : Stations). Says s.said_busy z.near.station.said_busy (is_busy z.near.station) z.near.station.peer_busy step.side.out) (sym k.went.after) (busy_laws.take c k.octets s b.near_on k.went.quiet))
+  brings_more : (gs : List PlainFrame) → Brings s gs → Brings z (gs ++ es)
+  brings_more [] h = absurd h
+  brings_more (rr false n true ∷ gs) h = final_more false n gs h
+  brings_more (rnr false n true ∷ gs) h = final_more true n gs h
+  brings_more (g ∷ gs) h = (h.0, brings_more gs h.1)
 
-module _ (c d : Settings) (joined : AreJoined c d) (reads : ReadsSpelled) (laws : HealingLaws) (busy_laws : BusyLaws) where
-  near_goes_on : (w : Stations) → Pair c d w → is_busy w.far.station ≡ false → NearResends c d w → Heals c d (acts c Deliver w)
-  near_goes_on w b free g = (near_pair w b g.hears, inr (inr (inl (g.resent, subst (λ (e : StationEnd). is_busy e.station ≡ false) (sym g.hears.went.far) free))))
+  pub answered_more : (t : LinkStation) (gs fs : List PlainFrame) → Answered t s gs fs → Answered t z gs (fs ++ es)
+  answered_more t gs fs h = record { recovery = h.recovery; mild = h.mild; brings = brings_more fs h.brings }
 
-  -- nothing but what neither asks nor carries goes to a busy peer
-  near_withholds : (w : Stations) (fs gs : List PlainFrame) (nr : ℕ) (o : Outcome) → Pair c d w → Heard c d w fs gs nr o
-      → o.recovery ≡ false → o.peer_busy ≡ true → o.acked ≡ heard nr w.near.station → heard nr w.near.station ≡ length w.far.station.taken → o.place ≡ length w.far.station.taken → Mild fs → Mild o.first
-      → LastTells (length w.far.station.taken) nr gs → Told (hears_busy true gs) w.far.station → Withheld c d (acts c Deliver w)
-  near_withholds w fs gs nr o b k recovery peer_busy acked all place mild first tells told =
-      let h = k.went in
-      let v : Stations = acts c Deliver w in
-      let busy : v.near.station.peer_busy ≡ true = h.peer_busy ∙ peer_busy in
-      let stays = silent_stays (length o.taken) o.place h.next v.near.station.outgoing.place h.sends (none_behind o.first h.next ((near_says busy_laws w b k).held busy)) in
-      let next = held_mild (length o.taken) o.place h.next v.near.station.outgoing.place h.sends (omega (arith, stays)) in
-      let same : length w.far.station.taken ≡ length v.far.station.taken = ap (λ (e : StationEnd). length e.station.taken) (sym h.far) in
-      record {
-        number = nr;
-        there = fs ++ (o.first ++ h.next);
-        behind = gs;
-        out = h.out;
-        back = h.back;
-        recovery = h.recovery ∙ recovery;
-        peer_busy = busy;
-        mild = mild_more fs (o.first ++ h.next) mild (mild_more o.first h.next first next);
-        place = stays ∙ place ∙ same;
-        acked = h.acked ∙ acked ∙ all ∙ same;
-        tells = subst (λ (i : ℕ). LastTells i nr gs) same tells;
-        told = subst (λ (e : StationEnd). Told (hears_busy true gs) e.station) (sym h.far) told;
-      }
-
-  -- what comes while the far end is heard to be busy: an RR ends it
-
-  held_heard : (w : Stations) (nr : ℕ) → w.near.station.outgoing.acked ≡ length w.far.station.taken → HearsWell w.near.station w.far.station nr → heard nr w.near.station ≡ length w.far.station.taken
-  held_heard w nr acked well = omega (arith, acked, well.low, well.high)
-
-  held_place : (w : Stations) (nr : ℕ) → w.near.station.outgoing.place ≡ length w.far.station.taken → HearsWell w.near.station w.far.station nr → max w.near.station.outgoing.place (heard nr w.near.station) ≡ length w.far.station.taken
-  held_place w nr place well = omega (arith, place, well.high)
-
-  ready_again : (w : Stations) → Withheld c d w → Ready c d w
-  ready_again w h = record {
-    there = h.there;
-    out = h.out;
+  pub resent_more : (t : LinkStation) (gs fs : List PlainFrame) → Resent t s gs fs → Resent t z gs (fs ++ es)
+  resent_more t gs fs h = record {
     recovery = h.recovery;
-    ahead = subst (λ (n : ℕ). Ahead (length w.far.station.taken) h.there n) (sym h.place) (mild_ahead (length w.far.station.taken) h.there h.mild);
+    peer_busy = h.peer_busy;
+    ahead = subst (λ (n : ℕ). Ahead n gs t.outgoing.place) same h.ahead;
+    reports = subst (λ (n : ℕ). Reports n t.outgoing.acked (fs ++ es)) same (reports_more (length s.taken) t.outgoing.acked k.place z.outgoing.place fs es h.reports k.next);
+    free = k.free h.free;
   }
 
-  withheld_info : (w : Stations) → Pair c d w → (h : Withheld c d w) (ns nr : ℕ) (x : List ℕ) (gs : List PlainFrame) → Reads (other c.role) c.longest w.back (info ns nr false x ∷ gs)
-      → LastTells (length w.far.station.taken) nr gs → Told (hears_busy true gs) w.far.station → (taken : Bool) → is_taken ns w.near.station ≡ taken → Heals c d (acts c Deliver w)
-  withheld_info w b h ns nr x gs back tells told true is =
-      let t = hears_taken c d joined reads laws w (ups w b) h.there gs ns nr x h.out back is in
-      let o = once_taken t.goes nr false x w.near.station in
-      let k = t.hears in (
-        near_pair w b k,
-        inr (inr (inr (inl (near_withholds w h.there gs nr o b k h.recovery h.peer_busy refl (held_heard w nr h.acked k.well) (held_place w nr h.place k.well) h.mild (confirms_mild (length o.taken) t.goes) tells told)))),
-      )
-  withheld_info w b h ns nr x gs back tells told false is =
-      let s = w.near.station in
-      let o = passed nr s in
-      let k = hears_passed c d joined reads laws w (ups w b) h.there gs ns nr x h.out back is in (
-        near_pair w b k,
-        inr (inr (inr (inl (near_withholds w h.there gs nr o b k h.recovery h.peer_busy refl (held_heard w nr h.acked k.well) (held_place w nr h.place k.well) h.mild (passed_mild s) tells told)))),
-      )
+  pub withheld_more : (t : LinkStation) (gs fs : List PlainFrame) → Withheld t s gs fs → Withheld t z gs (fs ++ es)
+  withheld_more t gs fs h = record {
+    recovery = h.recovery;
+    peer_busy = h.peer_busy;
+    mild = h.mild;
+    place = h.place ∙ same;
+    acked = h.acked ∙ same;
+    number = h.number;
+    tells = tells_more h.number fs h.tells;
+    told = told_more true fs h.told;
+  }
 
-  -- it is heard to be busy no more
-  free_again : (w : Stations) (nr : ℕ) (gs : List PlainFrame) → LastTells (length w.far.station.taken) nr gs → Told (hears_busy false gs) w.far.station → is_busy w.far.station ≡ false
-  free_again w nr gs tells told = subst (λ (z : Bool). Told z w.far.station) (tells_free (length w.far.station.taken) nr gs tells) told
+-- ---- what a station becomes by RR or RNR that neither asks nor answers, by a poll, by F=1, by REJ, and by an I frame that isn't taken
 
-  near_withheld : (w : Stations) → Pair c d w → (h : Withheld c d w) (number : ℕ) (gs : List PlainFrame) → Reads (other c.role) c.longest w.back gs → LastTells (length w.far.station.taken) number gs
-      → Told (hears_busy true gs) w.far.station → Heals c d (acts c Deliver w)
-  near_withheld w b h number [] back tells told = subst (λ (bs : List (List ℕ)). Heals c d (delivered c bs w)) (sym (none_reads (other c.role) c.longest w.back back)) (b, inr (inr (inr (inl h))))
-  near_withheld w b h number (info ns nr true x ∷ gs) back tells told = not_both true refl tells.0
-  near_withheld w b h number (info ns nr false x ∷ gs) back tells told = withheld_info w b h ns nr x gs back tells.1 told (is_taken ns w.near.station) refl
-  near_withheld w b h number (rr true nr true ∷ gs) back tells told =
-      near_goes_on w b (free_again w nr gs tells.1 told) (near_poll c d joined reads laws w (ups w b) (ready_again w h) nr gs back tells.1)
-  near_withheld w b h number (rr false nr true ∷ gs) back tells told = not_both true refl tells.0
-  near_withheld w b h number (rr command nr false ∷ gs) back tells told =
-      near_goes_on w b (free_again w nr gs tells.1 told) (near_ready c d joined reads laws w (ups w b) (ready_again w h) command nr gs back tells.1)
-  near_withheld w b h number (frame ∷ gs) back tells told = absurd tells
+abbrev readied : Bool → ℕ → LinkStation → Outcome
+readied busy nr s = record (goes_on_from nr s) { peer_busy = busy }
 
-  -- the poll of the busy far end, which has all that there is
-  near_rested : (w : Stations) → Pair c d w → Polled c d w → Heals c d (acts c Deliver w)
-  near_rested w b h =
-      let s = w.near.station in
-      let o = polled true h.number s in
-      let none : Reads (other d.role) d.longest w.out [] = subst (λ (os : List (List ℕ)). Reads (other d.role) d.longest os []) (sym h.out) tt in
-      let k = hears_poll c d joined reads laws w (ups w b) [] [] true h.number none h.back in
-      (near_pair w b k, inr (inr (inr (inl (near_withholds w [] [] h.number o b k h.recovery refl refl (held_heard w h.number h.acked k.well) (held_place w h.number h.place k.well) tt (answer_mild (is_busy s) (wanted s)) h.is h.told)))))
+abbrev polled : Bool → ℕ → LinkStation → Outcome
+polled busy nr s = record (goes_on_from nr s) { peer_busy = busy; said_busy = is_busy s; first = says (is_busy s) false (wanted s) true ∷ [] }
 
-  -- F=1 comes: what isn't acknowledged goes again, or the far end is busy
-  near_answered : (w : Stations) → Pair c d w → (busy : Bool) (number : ℕ) (there behind : List PlainFrame) → number ≡ length w.far.station.taken % 8 → Reads (other d.role) d.longest w.out there → Mild there
-      → Reads (other c.role) c.longest w.back (says busy false number true ∷ behind) → LastTells (length w.far.station.taken) number behind → Told (hears_busy busy behind) w.far.station → Heals c d (acts c Deliver w)
-  near_answered w b false number there behind is out mild back tells told =
-      let s = w.near.station in
-      let n = length w.far.station.taken in
-      let o = finished false number w.near.station in
-      let k = hears_final c d joined reads laws w (ups w b) there behind false number out back in
-      near_goes_on w b (free_again w number behind tells told)
-      (near_resends c d joined reads laws w there behind number n o (ups w b) k refl refl refl (mild_ahead n there mild) (sym (all_heard c d joined w (ups w b) number is)) tells)
-  near_answered w b true number there behind is out mild back tells told =
-      let s = w.near.station in
-      let o = finished true number w.near.station in
-      let k = hears_final c d joined reads laws w (ups w b) there behind true number out back in
-      (near_pair w b k, inr (inr (inr (inl (near_withholds w there behind number o b k refl refl refl (all_heard c d joined w (ups w b) number is) (all_heard c d joined w (ups w b) number is) mild tt tells told)))))
+abbrev finished : Bool → ℕ → LinkStation → Outcome
+finished busy nr s = record (goes_on_from nr s) { recovery = false; peer_busy = busy; tries = 0; place = heard nr s }
 
-  -- a frame comes in recovery that isn't F=1
-  replied : (w : Stations) (there behind : List PlainFrame) (nr : ℕ) (o : Outcome) → Pair c d w → Heard c d w there behind nr o → o.recovery ≡ true → Mild o.first → Replied c d w (acts c Deliver w) there behind
-  replied w there behind nr o b k recovery first =
-      let v = k.went in
+abbrev rejected : ℕ → LinkStation → Outcome
+rejected nr s = record (goes_on_from nr s) { peer_busy = false; place = heard nr s }
+
+abbrev passed : ℕ → LinkStation → Outcome
+passed nr s = record (goes_on_from nr s) { said_busy = busy_after false s; first = passed_over false s }
+
+passed_mild : (s : LinkStation) → Mild (passed_over false s)
+passed_mild s = by (is_busy s) s.rejecting
+  where
+    by : (busy rejecting : Bool) → Mild (if busy then rnr false (wanted s) false ∷ [] else if not rejecting then rej false (wanted s) false ∷ [] else if false then rr false (wanted s) true ∷ [] else [])
+    by true rejecting = (refl, tt)
+    by false true = tt
+    by false false = (refl, tt)
+
+confirms_mild : (r : ℕ) (goes : Bool) → Mild (confirms goes false r)
+confirms_mild r true = tt
+confirms_mild r false = (refl, tt)
+
+answer_mild : (busy : Bool) (nr : ℕ) → Mild (says busy false nr true ∷ [])
+answer_mild true nr = (refl, tt)
+answer_mild false nr = (refl, tt)
+
+-- what is put once the I frame is taken has the new number
+confirms_next : (r n m : ℕ) (goes : Bool) (next : List PlainFrame) → AreNext r n next m → AreNext r n (confirms goes false r ++ next) m
+confirms_next r n m true next h = h
+confirms_next r n m false next h = (refl, refl, refl, h)
+
+-- ---- a frame comes to an end that is Up, beside another
+
+pub record Beside (c : Settings) (s t : LinkStation) (f : PlainFrame) (octets : List ℕ) : Type 0 where
+  pub up : is_up s.phase ≡ true
+  pub read : frame_of (other c.role) c.longest octets ≡ Ok f
+  pub well : IsNumbered f → HearsWell s t (number_of f)
+  pub all : (nr : ℕ) → nr ≡ length t.taken % 8 → heard nr s ≡ length t.taken
+
+-- what the end becomes and sends, and its phase; and the phase of the other end
+pub record Went (s t : LinkStation) (fs gs : List PlainFrame) (step : Step) : Type 0 where
+  pub o : Outcome
+  pub answers : Answers s o step
+  pub phase : Phases step.side.near t (fs ++ step.side.out) gs
+
+pub record OtherWent (s t : LinkStation) (fs gs : List PlainFrame) (step : Step) : Type 0 where
+  pub o : Outcome
+  pub answers : Answers s o step
+  pub phase : Phases t step.side.near gs (fs ++ step.side.out)
+
+module _ (c : Settings) (laws : HealingLaws) (busy_laws : BusyLaws) (octets : List ℕ) (s t : LinkStation) where
+  abbrev step : Step
+  step = take_step c octets s
+
+  abbrev z : LinkStation
+  z = step.side.near
+
+  abbrev m : ℕ
+  m = z.outgoing.place
+
+  abbrev r : ℕ
+  r = length t.taken
+
+  abbrev IsRead : PlainFrame → Type 0
+  IsRead f = frame_of (other c.role) c.longest octets ≡ Ok f
+
+  abbrev IsNear : List PlainFrame → List PlainFrame → Type 0
+  IsNear fs gs = Went s t fs gs step
+
+  -- V(S) stays but for what is acknowledged, and no I frame goes first
+  record Hears (nr : ℕ) (busy : Bool) : Type 0 where
+    pub o : Outcome
+    pub answers : Answers s o step
+    pub recovery : o.recovery ≡ s.recovery
+    pub peer_busy : o.peer_busy ≡ busy
+    pub acked : o.acked ≡ heard nr s
+    pub place : o.place ≡ max s.outgoing.place (heard nr s)
+    pub first : Mild o.first
+
+  hears_ready : (busy command : Bool) (nr : ℕ) → is_up s.phase ≡ true → IsRead (says busy command nr false) → is_valid nr s ≡ true → Hears nr busy
+  hears_ready busy command nr up read valid = record {
+    o = readied busy nr s;
+    answers = laws.answers.ready busy command nr c octets s (up_is s.phase up) read valid;
+    recovery = refl;
+    peer_busy = refl;
+    acked = refl;
+    place = refl;
+    first = tt;
+  }
+
+  hears_poll : (busy : Bool) (nr : ℕ) → is_up s.phase ≡ true → IsRead (says busy true nr true) → is_valid nr s ≡ true → Hears nr busy
+  hears_poll busy nr up read valid = record {
+    o = polled busy nr s;
+    answers = laws.answers.poll busy nr c octets s (up_is s.phase up) read valid;
+    recovery = refl;
+    peer_busy = refl;
+    acked = refl;
+    place = refl;
+    first = answer_mild (is_busy s) (wanted s);
+  }
+
+  hears_info : (ns nr : ℕ) (x : List ℕ) → is_up s.phase ≡ true → IsRead (info ns nr false x) → is_valid nr s ≡ true → Hears nr s.peer_busy
+  hears_info ns nr x up read valid = by (is_taken ns s) refl
+    where
+      by : (b : Bool) → is_taken ns s ≡ b → Hears nr s.peer_busy
+      by true is =
+          let a = laws.answers.wanted ns nr false x c octets s (up_is s.phase up) read valid is in
+          record { o = once_taken a.0 nr false x s; answers = a.1.answers; recovery = refl; peer_busy = refl; acked = refl; place = refl; first = confirms_mild (length (s.taken ++ x ∷ [])) a.0 }
+      by false is =
+          let a = laws.answers.other ns nr false x c octets s (up_is s.phase up) read valid is in
+          record { o = passed nr s; answers = a; recovery = refl; peer_busy = refl; acked = refl; place = refl; first = passed_mild s }
+
+  -- ---- in recovery no I frame goes
+
+  record Replies : Type 0 where
+    pub o : Outcome
+    pub answers : Answers s o step
+    pub recovery : z.recovery ≡ true
+    pub mild : Mild step.side.out
+
+  replied : (nr : ℕ) (busy : Bool) → s.recovery ≡ true → Hears nr busy → Replies
+  replied nr busy recovery h =
+      let a = h.answers in
+      let held : m ≡ h.o.place = a.held (h.recovery ∙ recovery) in
       record {
-        pair = near_pair w b k;
-        more = o.first ++ v.next;
-        recovery = v.recovery ∙ recovery;
-        out = v.out;
-        mild = mild_more o.first v.next first (held_mild (length o.taken) o.place v.next (acts c Deliver w).near.station.outgoing.place v.sends (omega (arith, v.held recovery)));
-        back = v.back;
-        far = v.far;
+        o = h.o;
+        answers = a;
+        recovery = a.recovery ∙ h.recovery ∙ recovery;
+        mild = subst Mild (sym a.out) (mild_more h.o.first a.next h.first (held_mild (length h.o.taken) h.o.place a.next m a.sends (omega (arith, held))));
       }
 
-  abbrev Replies : Stations → PlainFrame → List PlainFrame → List PlainFrame → Type 0
-  Replies w f there behind = Reads (other d.role) d.longest w.out there → Reads (other c.role) c.longest w.back (f ∷ behind) → Replied c d w (acts c Deliver w) there behind
+  replies : (g : PlainFrame) → Beside c s t g octets → s.recovery ≡ true → IsNoFinal g → Replies
+  replies (info ns nr true x) k recovery is = not_both true refl is
+  replies (info ns nr false x) k recovery is = replied nr s.peer_busy recovery (hears_info ns nr x k.up k.read (k.well tt).valid)
+  replies (rr true nr true) k recovery is = replied nr false recovery (hears_poll false nr k.up k.read (k.well tt).valid)
+  replies (rr false nr true) k recovery is = not_both true refl is
+  replies (rr command nr false) k recovery is = replied nr false recovery (hears_ready false command nr k.up k.read (k.well tt).valid)
+  replies (rnr true nr true) k recovery is = replied nr true recovery (hears_poll true nr k.up k.read (k.well tt).valid)
+  replies g k recovery is = absurd is
 
-  near_polled : (w : Stations) → Pair c d w → w.near.station.recovery ≡ true → (busy : Bool) (number : ℕ) (there behind : List PlainFrame) → Replies w (says busy true number true) there behind
-  near_polled w b recovery busy number there behind out back =
-      let s = w.near.station in
-      let k = hears_poll c d joined reads laws w (ups w b) there behind busy number out back in
-      replied w there behind number (polled busy number s) b k recovery (answer_mild (is_busy s) (wanted s))
+  -- ---- what isn't acknowledged goes again
 
-  near_readied : (w : Stations) → Pair c d w → w.near.station.recovery ≡ true → (command : Bool) (number : ℕ) (there behind : List PlainFrame) → Replies w (rr command number false) there behind
-  near_readied w b recovery command number there behind out back =
-      let k = hears_ready c d joined reads laws w (ups w b) there behind false command number out back in
-      replied w there behind number (readied false number w.near.station) b k recovery tt
+  resends : (fs gs : List PlainFrame) (nr n : ℕ) (o : Outcome) → Answers s o step → o.recovery ≡ false → o.peer_busy ≡ false → o.acked ≡ heard nr s → Ahead r fs n → Ahead n o.first o.place
+      → LastTells r nr gs → (nr ≡ r % 8 → heard nr s ≡ r) → is_busy t ≡ false → IsNear fs gs
+  resends fs gs nr n o a recovery peer_busy acked ahead first tells all free = record {
+    o = o;
+    answers = a;
+    phase = inr (inr (inl (record {
+      recovery = a.recovery ∙ recovery;
+      peer_busy = a.peer_busy ∙ peer_busy;
+      ahead = ahead_more r n m fs step.side.out ahead
+          (subst (λ (es : List PlainFrame). Ahead n es m) (sym a.out) (ahead_more n o.place m o.first a.next first (next_ahead (length o.taken) o.place a.next m a.sends)));
+      reports = reports_heard r z.outgoing.acked nr gs tells (λ is. a.acked ∙ acked ∙ all is);
+      free = free;
+    })));
+  }
 
-  -- an I frame is taken or passed over, and RR or REJ goes, as no I frame does in recovery
-  near_carried : (w : Stations) → Pair c d w → w.near.station.recovery ≡ true → (ns number : ℕ) (x : List ℕ) (there behind : List PlainFrame) (taken : Bool) → is_taken ns w.near.station ≡ taken
-      → Replies w (info ns number false x) there behind
-  near_carried w b recovery ns number x there behind true is out back =
-      let t = hears_taken c d joined reads laws w (ups w b) there behind ns number x out back is in
-      let o = once_taken t.goes number false x w.near.station in
-      replied w there behind number o b t.hears recovery (confirms_mild (length o.taken) t.goes)
-  near_carried w b recovery ns number x there behind false is out back =
-      let s = w.near.station in
-      let k = hears_passed c d joined reads laws w (ups w b) there behind ns number x out back is in
-      replied w there behind number (passed number s) b k recovery (passed_mild s)
+  -- where it was in order before, V(S) stays
+  goes_on : (fs gs : List PlainFrame) (nr : ℕ) → Hears nr false → s.recovery ≡ false → Ahead r fs s.outgoing.place → heard nr s ≤ r → LastTells r nr gs → (nr ≡ r % 8 → heard nr s ≡ r)
+      → is_busy t ≡ false → IsNear fs gs
+  goes_on fs gs nr h recovery ahead high tells all free =
+      let n = s.outgoing.place in
+      let low = ahead_low r fs n ahead in
+      let place = h.place in
+      let stays : h.o.place ≡ n = omega (arith, place, low, high) in
+      resends fs gs nr n h.o h.answers (h.recovery ∙ recovery) h.peer_busy h.acked ahead (subst (Ahead n h.o.first) (sym stays) (mild_ahead n h.o.first h.first)) tells all free
 
-  near_replies : (w : Stations) → Pair c d w → w.near.station.recovery ≡ true → (f : PlainFrame) (there behind : List PlainFrame) → IsNoFinal f → Replies w f there behind
-  near_replies w b recovery (info ns nr true x) there behind is = not_both true refl is
-  near_replies w b recovery (info ns nr false x) there behind is = near_carried w b recovery ns nr x there behind (is_taken ns w.near.station) refl
-  near_replies w b recovery (rr true nr true) there behind is = near_polled w b recovery false nr there behind
-  near_replies w b recovery (rr false nr true) there behind is = not_both true refl is
-  near_replies w b recovery (rr command nr false) there behind is = near_readied w b recovery command nr there behind
-  near_replies w b recovery (rnr true nr true) there behind is = near_polled w b recovery true nr there behind
-  near_replies w b recovery f there behind is = absurd is
+  resent_hears : (fs gs : List PlainFrame) (g : PlainFrame) → Beside c s t g octets → s.recovery ≡ false → s.peer_busy ≡ false → Ahead r fs s.outgoing.place → is_busy t ≡ false
+      → Reports r s.outgoing.acked (g ∷ gs) → IsNear fs gs
+  resent_hears fs gs (info ns nr true x) k recovery peer_busy ahead free reports = not_both true refl reports.0
+  resent_hears fs gs (info ns nr false x) k recovery peer_busy ahead free reports =
+      goes_on fs gs nr (subst (Hears nr) peer_busy (hears_info ns nr x k.up k.read (k.well tt).valid)) recovery ahead (k.well tt).high reports.1 (k.all nr) free
+  resent_hears fs gs (rr true nr true) k recovery peer_busy ahead free reports =
+      goes_on fs gs nr (hears_poll false nr k.up k.read (k.well tt).valid) recovery ahead (k.well tt).high reports.1 (k.all nr) free
+  resent_hears fs gs (rr false nr true) k recovery peer_busy ahead free reports = not_both true refl reports.0
+  resent_hears fs gs (rr command nr false) k recovery peer_busy ahead free reports =
+      goes_on fs gs nr (hears_ready false command nr k.up k.read (k.well tt).valid) recovery ahead (k.well tt).high reports.1 (k.all nr) free
+  resent_hears fs gs g k recovery peer_busy ahead free reports = absurd reports
 
-  near_asked : (w : Stations) → Pair c d w → (h : Polling c d w) (before : List PlainFrame) → Reads (other c.role) c.longest w.back before → NoFinal before → Heals c d (acts c Deliver w)
-  near_asked w b h [] back heard = subst (λ (bs : List (List ℕ)). Heals c d (delivered c bs w)) (sym (none_reads (other c.role) c.longest w.back back)) (b, inl h)
-  near_asked w b h (f ∷ fs) back heard =
-      polling_replies c d w (acts c Deliver w) h fs heard.1 (near_replies w b h.recovery f (says h.busy true h.number true ∷ h.rest) fs heard.0 h.out back)
+  -- ---- nothing but what neither asks nor carries goes to a busy peer
 
-  near_told : (w : Stations) → Pair c d w → (h : Answered c d w) (before : List PlainFrame) → Reads (other c.role) c.longest w.back (before ++ says h.busy false h.number true ∷ h.behind) → NoFinal before
-      → Heals c d (acts c Deliver w)
-  near_told w b h [] back heard = near_answered w b h.busy h.number h.there h.behind h.is h.out h.mild back h.tells h.told
-  near_told w b h (f ∷ fs) back heard =
-      answered_replies c d w (acts c Deliver w) h fs heard.1 (near_replies w b h.recovery f h.there (fs ++ says h.busy false h.number true ∷ h.behind) heard.0 h.out back)
+  withholds : (fs gs : List PlainFrame) (nr : ℕ) (o : Outcome) → is_up s.phase ≡ true → Answers s o step → o.recovery ≡ false → o.peer_busy ≡ true → o.acked ≡ r → o.place ≡ r → Mild fs → Mild o.first
+      → LastTells r nr gs → Told (hears_busy true gs) t → IsNear fs gs
+  withholds fs gs nr o up a recovery peer_busy acked place mild first tells told =
+      let busy : z.peer_busy ≡ true = a.peer_busy ∙ peer_busy in
+      let silent : NoInfo (o.first ++ a.next) = subst NoInfo a.out ((busy_laws.take c octets s up a.quiet).held busy) in
+      let stays = silent_stays (length o.taken) o.place a.next m a.sends (none_behind o.first a.next silent) in
+      let next = held_mild (length o.taken) o.place a.next m a.sends (omega (arith, stays)) in
+      record {
+        o = o;
+        answers = a;
+        phase = inr (inr (inr (inl (record {
+          recovery = a.recovery ∙ recovery;
+          peer_busy = busy;
+          mild = mild_more fs step.side.out mild (subst Mild (sym a.out) (mild_more o.first a.next first next));
+          place = stays ∙ place;
+          acked = a.acked ∙ acked;
+          number = nr;
+          tells = tells;
+          told = told;
+        }))));
+      }
 
-  pub near_heals : (w : Stations) → Heals c d w → Heals c d (acts c Deliver w)
-  near_heals w (b, inl h) = near_asked w b h h.before h.back h.heard
-  near_heals w (b, inr (inl h)) = near_told w b h h.before h.back h.heard
-  near_heals w (b, inr (inr (inl (h, free)))) = elim (near_resent c d joined reads laws w (ups w b) h) [
-    | inl g ↦ near_goes_on w b free g
-    | inr same ↦ subst (Heals c d) (sym same) (b, inr (inr (inl (h, free))))
-  ]
-  near_heals w (b, inr (inr (inr (inl h)))) = near_withheld w b h h.number h.behind h.back h.tells h.told
-  near_heals w (b, inr (inr (inr (inr h)))) = near_rested w b h
+  withholds_on : (fs gs : List PlainFrame) (nr : ℕ) → is_up s.phase ≡ true → Hears nr true → HearsWell s t nr → s.recovery ≡ false → s.outgoing.place ≡ r → s.outgoing.acked ≡ r → Mild fs
+      → LastTells r nr gs → Told (hears_busy true gs) t → IsNear fs gs
+  withholds_on fs gs nr up h well recovery place acked mild tells told =
+      let all : heard nr s ≡ r = omega (arith, acked, well.low, well.high) in
+      let stays : h.o.place ≡ r = (let is = h.place in omega (arith, is, place, well.high)) in
+      withholds fs gs nr h.o up h.answers (h.recovery ∙ recovery) h.peer_busy (h.acked ∙ all) stays mild h.first tells told
 
--- ---- the far end hears
+  -- it is heard to be busy no more
+  free_again : (nr : ℕ) (gs : List PlainFrame) → LastTells r nr gs → Told (hears_busy false gs) t → is_busy t ≡ false
+  free_again nr gs tells told = subst (λ (b : Bool). Told b t) (tells_free r nr gs tells) told
 
--- whether it is busy is told by what it says more
-pub told_more : (w u : Stations) (busy : Bool) (gs more : List PlainFrame) → Says w.far.station.said_busy u.near.station.said_busy (is_busy u.near.station) u.near.station.peer_busy more
-    → (is_busy w.far.station ≡ false → is_busy u.near.station ≡ false) → Told (hears_busy busy gs) w.far.station → Told (hears_busy busy (gs ++ more)) u.near.station
-told_more w u busy gs more said free told = subst (λ (b : Bool). Told b u.near.station) (sym (hears_more busy gs more)) (told_on (hears_busy busy gs) w.far.station u.near.station more told said free)
+  withheld_hears : (fs gs hs : List PlainFrame) (g : PlainFrame) → Beside c s t g octets → (h : Withheld s t fs hs) → LastTells r h.number (g ∷ gs) → Told (hears_busy true (g ∷ gs)) t → IsNear fs gs
+  withheld_hears fs gs hs (info ns nr true x) k h tells told = not_both true refl tells.0
+  withheld_hears fs gs hs (info ns nr false x) k h tells told =
+      withholds_on fs gs nr k.up (subst (Hears nr) h.peer_busy (hears_info ns nr x k.up k.read (k.well tt).valid)) (k.well tt) h.recovery h.place h.acked h.mild tells.1 told
+  withheld_hears fs gs hs (rr true nr true) k h tells told =
+      goes_on fs gs nr (hears_poll false nr k.up k.read (k.well tt).valid) h.recovery (subst (Ahead r fs) (sym h.place) (mild_ahead r fs h.mild)) (k.well tt).high tells.1 (k.all nr) (free_again nr gs tells.1 told)
+  withheld_hears fs gs hs (rr false nr true) k h tells told = not_both true refl tells.0
+  withheld_hears fs gs hs (rr command nr false) k h tells told =
+      goes_on fs gs nr (hears_ready false command nr k.up k.read (k.well tt).valid) h.recovery (subst (Ahead r fs) (sym h.place) (mild_ahead r fs h.mild)) (k.well tt).high tells.1 (k.all nr) (free_again nr gs tells.1 told)
+  withheld_hears fs gs hs g k h tells told = absurd tells
 
--- an end that is heard to be busy says more
-pub withheld_says : (c d : Settings) (w u : Stations) (h : Withheld c d w) (fs : List PlainFrame) (k : FarSays c d w u h.behind fs) → Mild fs → Told (hears_busy true (h.behind ++ k.more)) u.near.station → Withheld c d (swapped u)
-withheld_says c d w u h fs k mild told =
-    let r = length w.far.station.taken in
-    let same : r ≡ length u.near.station.taken = sym (ap length k.taken) in
-    record {
-      number = h.number;
-      there = fs;
-      behind = h.behind ++ k.more;
-      out = k.out;
-      back = k.back;
-      recovery = subst (λ (e : StationEnd). e.station.recovery ≡ false) (sym k.far) h.recovery;
-      peer_busy = subst (λ (e : StationEnd). e.station.peer_busy ≡ true) (sym k.far) h.peer_busy;
-      mild = mild;
-      place = subst (λ (e : StationEnd). e.station.outgoing.place ≡ length u.near.station.taken) (sym k.far) (h.place ∙ same);
-      acked = subst (λ (e : StationEnd). e.station.outgoing.acked ≡ length u.near.station.taken) (sym k.far) (h.acked ∙ same);
-      tells = subst (λ (n : ℕ). LastTells n h.number (h.behind ++ k.more)) same
-          (tells_behind r r h.number h.behind k.more h.tells (λ n is. next_tells r n k.place u.near.station.outgoing.place k.more is k.next));
-      told = told;
-    }
+  -- the poll of the busy far end, which has all that there is
+  rested_hears : (fs gs hs : List PlainFrame) (g : PlainFrame) → Beside c s t g octets → Polled s t fs hs → BusyPolls r (g ∷ gs) → IsNear fs gs
+  rested_hears fs (x ∷ gs) hs g k h polls = absurd polls.1
+  rested_hears fs [] hs (rnr true nr true) k h polls =
+      withholds_on fs [] nr k.up (hears_poll true nr k.up k.read (k.well tt).valid) (k.well tt) h.recovery h.place h.acked (none_mild fs h.none) polls.0 h.told
+  rested_hears fs [] hs g k h polls = absurd polls.0
 
--- an end whose F=1 is on the line says more behind it, with the same number
-pub answered_says : (c d : Settings) (w u : Stations) (h : Answered c d w) (fs : List PlainFrame) (k : FarSays c d w u (h.before ++ says h.busy false h.number true ∷ h.behind) fs) → Mild fs
-    → Told (hears_busy h.busy (h.behind ++ k.more)) u.near.station → Answered c d (swapped u)
-answered_says c d w u h fs k mild told =
-    let r = length w.far.station.taken in
-    let same : r ≡ length u.near.station.taken = sym (ap length k.taken) in
-    record {
-      busy = h.busy;
-      number = h.number;
-      there = fs;
-      before = h.before;
-      behind = h.behind ++ k.more;
-      is = h.is ∙ ap (λ (n : ℕ). n % 8) same;
-      recovery = subst (λ (e : StationEnd). e.station.recovery ≡ true) (sym k.far) h.recovery;
-      out = k.out;
-      mild = mild;
-      back = subst (Reads (other c.role) c.longest u.out) (append_assoc h.before (says h.busy false h.number true ∷ h.behind) k.more) k.back;
-      heard = h.heard;
-      tells = subst (λ (n : ℕ). LastTells n h.number (h.behind ++ k.more)) same
-          (tells_behind r r h.number h.behind k.more h.tells (λ n is. next_tells r n k.place u.near.station.outgoing.place k.more is k.next));
-      told = told;
-    }
+  -- F=1 comes: what isn't acknowledged goes again, or the far end is busy
+  answered_hears : (fs gs : List PlainFrame) (g : PlainFrame) → Beside c s t g octets → s.recovery ≡ true → Mild fs → Brings t (g ∷ gs) → IsNear fs gs
+  answered_hears fs gs (rr false nr true) k recovery mild brings =
+      resends fs gs nr r (finished false nr s) (laws.answers.recovery false nr c octets s (up_is s.phase k.up) k.read (k.well tt).valid) refl refl refl (mild_ahead r fs mild) (sym (k.all nr brings.is))
+      brings.tells (k.all nr) (free_again nr gs brings.tells brings.told)
+  answered_hears fs gs (rnr false nr true) k recovery mild brings =
+      let all = k.all nr brings.is in
+      withholds fs gs nr (finished true nr s) k.up (laws.answers.recovery true nr c octets s (up_is s.phase k.up) k.read (k.well tt).valid) refl refl all all mild tt brings.tells brings.told
+  answered_hears fs gs g k recovery mild brings =
+      let a = replies g k recovery brings.0 in
+      record { o = a.o; answers = a.answers; phase = inr (inl (record { recovery = a.recovery; mild = mild_more fs step.side.out mild a.mild; brings = brings.1 })) }
 
-module _ (c d : Settings) (joined : AreJoined c d) (reads : ReadsSpelled) (laws : HealingLaws) (busy_laws : BusyLaws) where
-  far_pair : {gs fs : List PlainFrame} {nr : ℕ} {o : Outcome} (w : Stations) → Pair c d w → Heard d c (swapped w) gs fs nr o → Pair c d (far_delivers d w)
-  far_pair w b k = pair_swapped d c (joined_swapped c d joined) (acts d Deliver (swapped w)) (near_pair (swapped w) (pair_swapped c d joined w b) k)
+  pub near_hears : (fs gs : List PlainFrame) (g : PlainFrame) → Beside c s t g octets → Phases s t fs (g ∷ gs) → Went s t fs gs step
+  near_hears fs gs g k (inl h) =
+      let a = replies g k h.recovery h.heard.0 in
+      record { o = a.o; answers = a.answers; phase = inl (record { recovery = a.recovery; asks = asks_more fs step.side.out h.asks a.mild; heard = h.heard.1 }) }
+  near_hears fs gs g k (inr (inl h)) = answered_hears fs gs g k h.recovery h.mild h.brings
+  near_hears fs gs g k (inr (inr (inl h))) = resent_hears fs gs g k h.recovery h.peer_busy h.ahead h.free h.reports
+  near_hears fs gs g k (inr (inr (inr (inl h)))) = withheld_hears fs gs (g ∷ gs) g k h h.tells h.told
+  near_hears fs gs g k (inr (inr (inr (inr h)))) = rested_hears fs gs (g ∷ gs) g k h h.polls
 
-  -- what neither asks nor carries anything
-  plain_told : (w : Stations) → Pair c d w → (gs fs : List PlainFrame) (k : Plain c d w gs fs) (busy : Bool) (behind : List PlainFrame) → Told (hears_busy busy behind) w.far.station
-      → Told (hears_busy busy (behind ++ k.hears.went.next)) (acts d Deliver (swapped w)).near.station
-  plain_told w b gs fs k busy behind told =
-      let v = k.hears.went in
-      let u : Stations = acts d Deliver (swapped w) in
-      told_more w u busy behind v.next
-      (subst (λ (xs : List PlainFrame). Says w.far.station.said_busy u.near.station.said_busy (is_busy u.near.station) u.near.station.peer_busy (xs ++ v.next)) k.first (near_says busy_laws (swapped w) (pair_swapped c d joined w b) k.hears))
-      v.free told
+  -- ---- the same frame, for the phase of the other end
 
-  withheld_on : (w : Stations) → Pair c d w → (h : Withheld c d w) (fs : List PlainFrame) → Plain c d w h.behind fs → Mild fs → Heals c d (far_delivers d w)
-  withheld_on w b h fs k mild =
-      let told = plain_told w b h.behind fs k true h.behind h.told in
-      (far_pair w b k.hears, inr (inr (inr (inl (withheld_says c d w (acts d Deliver (swapped w)) h fs (plain_says_more c d w h.behind fs k) mild told)))))
+  pub stays_free : step.notes ≡ record { down = None; up = false } → is_busy s ≡ false → is_busy z ≡ false
+  stays_free quiet free = (let few = ltb-false _ _ free in le-ltb _ _ (omega (arith, few, (laws.sessions.continues c octets s).waits quiet)))
 
-  answered_on : (w : Stations) → Pair c d w → (h : Answered c d w) (fs : List PlainFrame) → Plain c d w (h.before ++ says h.busy false h.number true ∷ h.behind) fs → Mild fs
-      → Heals c d (far_delivers d w)
-  answered_on w b h fs k mild =
-      let all = h.before ++ says h.busy false h.number true ∷ h.behind in
-      let told = plain_told w b all fs k h.busy h.behind h.told in
-      (far_pair w b k.hears, inr (inl (answered_says c d w (acts d Deliver (swapped w)) h fs (plain_says_more c d w all fs k) mild told)))
+  -- it neither asks nor carries anything
+  record Plain : Type 0 where
+    pub o : Outcome
+    pub answers : Answers s o step
+    pub more : SaysMore s z step.side.out
+
+  plain_by : (o : Outcome) → is_up s.phase ≡ true → Answers s o step → o.first ≡ [] → o.taken ≡ s.taken → Plain
+  plain_by o up a first taken = record {
+    o = o;
+    answers = a;
+    more = record {
+      taken = a.taken ∙ taken;
+      place = o.place;
+      next = subst (λ (es : List PlainFrame). AreNext (length s.taken) o.place es m) (sym (a.out ∙ ap (λ (es : List PlainFrame). es ++ a.next) first))
+          (subst (λ (xs : List (List ℕ)). AreNext (length xs) o.place a.next m) taken a.sends);
+      says = busy_laws.take c octets s up a.quiet;
+      free = stays_free a.quiet;
+    };
+  }
+
+  plain_ready : (busy command : Bool) (nr : ℕ) → is_up s.phase ≡ true → IsRead (says busy command nr false) → is_valid nr s ≡ true → Plain
+  plain_ready busy command nr up read valid = plain_by (readied busy nr s) up (laws.answers.ready busy command nr c octets s (up_is s.phase up) read valid) refl refl
+
+  plain_final : (busy : Bool) (nr : ℕ) → is_up s.phase ≡ true → IsRead (says busy false nr true) → is_valid nr s ≡ true → Plain
+  plain_final busy nr up read valid = plain_by (finished busy nr s) up (laws.answers.recovery busy nr c octets s (up_is s.phase up) read valid) refl refl
+
+  plain : (f : PlainFrame) → Beside c s t f octets → IsMild f → Plain
+  plain (rr true nr true) k is = not_both true refl is
+  plain (rr false nr true) k is = plain_final false nr k.up k.read (k.well tt).valid
+  plain (rr command nr false) k is = plain_ready false command nr k.up k.read (k.well tt).valid
+  plain (rnr true nr true) k is = not_both true refl is
+  plain (rnr false nr true) k is = plain_final true nr k.up k.read (k.well tt).valid
+  plain (rnr command nr false) k is = plain_ready true command nr k.up k.read (k.well tt).valid
+  plain (rej command nr true) k is = not_both true refl is
+  plain (rej command nr false) k is = plain_by (rejected nr s) k.up (laws.answers.rej command nr c octets s (up_is s.phase k.up) k.read (k.well tt).valid) refl refl
+  plain f k is = absurd is
+
+  abbrev IsFar : List PlainFrame → List PlainFrame → Type 0
+  IsFar fs gs = OtherWent s t fs gs step
 
   -- the poll comes: F=1 goes first, as RR or RNR
-  far_asked : (w : Stations) → Pair c d w → Polling c d w → Heals c d (far_delivers d w)
-  far_asked w b h =
-      let s = w.far.station in
-      let o = polled h.busy h.number s in
-      let k = hears_poll d c (joined_swapped c d joined) reads laws (swapped w) (both_up_swapped c d joined w (ups w b)) h.before h.rest h.busy h.number h.back h.out in
-      let v = k.went in
-      let u : Stations = acts d Deliver (swapped w) in
-      let same : length u.near.station.taken ≡ length s.taken = ap length v.taken in
-      let number : wanted s ≡ length u.near.station.taken % 8 = ap (λ (n : ℕ). n % 8) (sym same) in
-      let next : AreNext (length u.near.station.taken) o.place v.next u.near.station.outgoing.place = subst (λ (n : ℕ). AreNext n o.place v.next u.near.station.outgoing.place) (sym same) v.sends in (
-        far_pair w b k,
-        inr (inl (record {
-          busy = is_busy s;
-          number = wanted s;
-          there = h.rest;
-          before = h.before;
-          behind = v.next;
-          is = number;
-          recovery = ap (λ (e : StationEnd). e.station.recovery) v.far ∙ h.recovery;
-          out = v.back;
-          mild = h.mild;
-          back = v.out;
-          heard = h.heard;
-          tells = next_tells (length u.near.station.taken) (wanted s) o.place u.near.station.outgoing.place v.next number next;
-          told = told_first (is_busy s) s.said_busy u.near.station (wanted s) v.next (near_says busy_laws (swapped w) (pair_swapped c d joined w b) k);
-        })),
-      )
+  poll_comes : (busy : Bool) (nr : ℕ) (fs gs : List PlainFrame) → is_up s.phase ≡ true → IsRead (says busy true nr true) → is_valid nr s ≡ true → t.recovery ≡ true → Mild gs → NoFinal fs → IsFar fs gs
+  poll_comes busy nr fs gs up read valid recovery mild heard =
+      let o = polled busy nr s in
+      let a : Answers s o step = laws.answers.poll busy nr c octets s (up_is s.phase up) read valid in
+      let is : wanted s ≡ length z.taken % 8 = ap (λ (xs : List (List ℕ)). length xs % 8) (sym a.taken) in
+      let next : AreNext (length z.taken) o.place a.next m = subst (λ (xs : List (List ℕ)). AreNext (length xs) o.place a.next m) (sym a.taken) a.sends in
+      let said : Says s.said_busy z.said_busy (is_busy z) z.peer_busy (says (is_busy s) false (wanted s) true ∷ a.next) =
+      subst (Says s.said_busy z.said_busy (is_busy z) z.peer_busy) a.out (busy_laws.take c octets s up a.quiet) in
+      record {
+        o = o;
+        answers = a;
+        phase = inr (inl (record {
+          recovery = recovery;
+          mild = mild;
+          brings = brings_behind z fs step.side.out heard (subst (Brings z) (sym a.out) (brings_first z (is_busy s) (wanted s) a.next (record {
+            is = is;
+            tells = next_tells (length z.taken) (wanted s) o.place m a.next is next;
+            told = told_first (is_busy s) s.said_busy z (wanted s) a.next said;
+          })));
+        }));
+      }
 
-  pub far_heals : (w : Stations) → Heals c d w → Heals c d (far_delivers d w)
-  far_heals w (b, inl h) = far_asked w b h
-  far_heals w (b, inr (inl h)) =
-      elim (plain_hears c d joined reads laws w (ups w b) (h.before ++ says h.busy false h.number true ∷ h.behind) h.there h.back h.out h.mild) [
-        | inl (rest, mild, k) ↦ answered_on w b h rest k mild
-        | inr same ↦ subst (Heals c d) (sym same) (b, inr (inl h))
-      ]
-  far_heals w (b, inr (inr (inl (h, free)))) = elim (far_resent c d joined reads laws w (ups w b) free h) [
-    | inl g ↦ (far_pair w b g.hears, inr (inr (inl (g.resent, g.hears.went.free free))))
-    | inr same ↦ subst (Heals c d) (sym same) (b, inr (inr (inl (h, free))))
-  ]
-  far_heals w (b, inr (inr (inr (inl h)))) = elim (plain_hears c d joined reads laws w (ups w b) h.behind h.there h.back h.out h.mild) [
-    | inl (rest, mild, k) ↦ withheld_on w b h rest k mild
-    | inr same ↦ subst (Heals c d) (sym same) (b, inr (inr (inr (inl h))))
-  ]
-  far_heals w (b, inr (inr (inr (inr h)))) = subst (λ (os : List (List ℕ)). Heals c d (swapped (delivered d os (swapped w)))) (sym h.out) (b, inr (inr (inr (inr h))))
+  polling_heard : (fs gs : List PlainFrame) (f : PlainFrame) → Beside c s t f octets → t.recovery ≡ true → AsksFirst (f ∷ gs) → NoFinal fs → IsFar fs gs
+  polling_heard fs gs (rr true nr true) k recovery asks heard = poll_comes false nr fs gs k.up k.read (k.well tt).valid recovery asks heard
+  polling_heard fs gs (rnr true nr true) k recovery asks heard = poll_comes true nr fs gs k.up k.read (k.well tt).valid recovery asks heard
+  polling_heard fs gs f k recovery asks heard = absurd asks
+
+  -- the I frame that is wanted comes: it is taken, and its number is told
+  info_comes : (ns nr : ℕ) (x : List ℕ) (fs gs hs : List PlainFrame) → is_up s.phase ≡ true → IsRead (info ns nr false x) → is_valid nr s ≡ true → Resent t s hs fs → ns ≡ length s.taken % 8
+      → Ahead (length s.taken + 1) gs t.outgoing.place → IsFar fs gs
+  info_comes ns nr x fs gs hs up read valid h wants ahead =
+      let free = h.free in
+      let is : is_taken ns s ≡ true = rw (free, eq-eqb ns (length s.taken % 8) wants) refl in
+      let k = laws.answers.wanted ns nr false x c octets s (up_is s.phase up) read valid is in
+      let o = once_taken k.0 nr false x s in
+      let a : Answers s o step = k.1.answers in
+      let more : length z.taken ≡ length s.taken + 1 = ap length a.taken ∙ length-append s.taken (x ∷ []) in
+      let next : AreNext (length z.taken) o.place step.side.out m =
+      subst (λ (es : List PlainFrame). AreNext (length z.taken) o.place es m) (sym a.out)
+      (subst (λ (xs : List (List ℕ)). AreNext (length xs) o.place (o.first ++ a.next) m) (sym a.taken) (confirms_next (length o.taken) o.place m k.0 a.next a.sends)) in
+      record {
+        o = o;
+        answers = a;
+        phase = inr (inr (inl (record {
+          recovery = h.recovery;
+          peer_busy = h.peer_busy;
+          ahead = subst (λ (n : ℕ). Ahead n gs t.outgoing.place) (sym more) ahead;
+          reports = reports_new (length s.taken) (length z.taken) t.outgoing.acked o.place m fs step.side.out h.reports next k.1.speaks;
+          free = stays_free a.quiet free;
+        })));
+      }
+
+  resent_plain : (fs gs hs : List PlainFrame) → Plain → Resent t s hs fs → Ahead (length s.taken) gs t.outgoing.place → IsFar fs gs
+  resent_plain fs gs hs p h ahead = record {
+    o = p.o;
+    answers = p.answers;
+    phase = inr (inr (inl (resent_more s z step.side.out p.more t gs fs (record { recovery = h.recovery; peer_busy = h.peer_busy; ahead = ahead; reports = h.reports; free = h.free }))));
+  }
+
+  resent_heard : (fs gs hs : List PlainFrame) (f : PlainFrame) → Beside c s t f octets → Resent t s hs fs → Ahead (length s.taken) (f ∷ gs) t.outgoing.place → IsFar fs gs
+  resent_heard fs gs hs (info ns nr true x) k h ahead = not_both true refl ahead.1
+  resent_heard fs gs hs (info ns nr false x) k h ahead = info_comes ns nr x fs gs hs k.up k.read (k.well tt).valid h ahead.0 ahead.2
+  resent_heard fs gs hs (rr command nr pf) k h ahead = resent_plain fs gs hs (plain (rr command nr pf) k ahead.0) h ahead.1
+  resent_heard fs gs hs (rnr command nr pf) k h ahead = resent_plain fs gs hs (plain (rnr command nr pf) k ahead.0) h ahead.1
+  resent_heard fs gs hs (rej command nr pf) k h ahead = resent_plain fs gs hs (plain (rej command nr pf) k ahead.0) h ahead.1
+  resent_heard fs gs hs f k h ahead = absurd ahead
+
+  pub far_hears : (fs gs : List PlainFrame) (f : PlainFrame) → Beside c s t f octets → Phases t s (f ∷ gs) fs → OtherWent s t fs gs step
+  far_hears fs gs f k (inl h) = polling_heard fs gs f k h.recovery h.asks h.heard
+  far_hears fs gs f k (inr (inl h)) =
+      let p = plain f k h.mild.0 in
+      record { o = p.o; answers = p.answers; phase = inr (inl (answered_more s z step.side.out p.more t gs fs (record { recovery = h.recovery; mild = h.mild.1; brings = h.brings }))) }
+  far_hears fs gs f k (inr (inr (inl h))) = resent_heard fs gs (f ∷ gs) f k h h.ahead
+  far_hears fs gs f k (inr (inr (inr (inl h)))) =
+      let p = plain f k h.mild.0 in
+      record {
+        o = p.o;
+        answers = p.answers;
+        phase = inr (inr (inr (inl (withheld_more s z step.side.out p.more t gs fs
+            (record { recovery = h.recovery; peer_busy = h.peer_busy; mild = h.mild.1; place = h.place; acked = h.acked; number = h.number; tells = h.tells; told = h.told })))));
+      }
+  far_hears fs gs f k (inr (inr (inr (inr h)))) = absurd h.none

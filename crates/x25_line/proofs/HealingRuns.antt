@@ -1,29 +1,15 @@
--- From a quiet moment, a firing and deliveries heal an end; and what rest shows.
-use Rattle.std.proofs.Common.{◌≡◌, ℕ, ◌+◌, ◌%◌, ◌≤◌, ◌<◌, List, [], ◌∷◌, ◌++◌, length, map, Bool, true, false, if◌then◌else◌, Option, Some, None, refl, sym, ap, ◌∙◌, subst, arith}
+-- Each end has said all that it may, after each event.
+use Rattle.std.proofs.Common.{◌≡◌, ℕ, ◌+◌, ◌%◌, ◌≤◌, ◌<◌, List, [], ◌∷◌, ◌++◌, length, Bool, true, false, if◌then◌else◌, Option, Some, None, refl, sym, ◌∙◌, subst, arith}
 use Rattle.std.specs.Prelude.{◌||◌, nat_lt, nat_le, ◌==◌, ◌-◌, ◌&&◌}
 use Rattle.std.proofs.lemmas.Bool.{and_right}
-use Rattle.x25_bits.specs.declared.role.Role.{Role}
-use Rattle.x25_frame.specs.Frame.{PlainFrame}
-use Rattle.x25_frame.specs.Spelling.{spelling_of}
-use Rattle.x25_frame.specs.laws.ReadingLaw.{ReadsSpelled}
 use Rattle.x25_link.specs.declared.error.LinkError.{LinkError}
-use Rattle.x25_link.specs.declared.phase.Notes.{Notes}
-use Rattle.x25_link.specs.Station.{Settings, LinkStation, is_up, is_busy, wanted, fresh}
-use Rattle.x25_link.specs.Hearing.{Step, other}
-use Rattle.x25_link.specs.Link.{timer_step, timer_runs, timer_refusal, put_refusal, connect_refusal, disconnect_refusal, put_step, connect_step, disconnect_step, abandon_step}
-use Rattle.x25_link.specs.laws.RestLaw.{HasSaidAll, IsAtRest}
-use Rattle.x25_link.specs.laws.AnswerLaw.{says, Asks}
+use Rattle.x25_link.specs.Station.{Settings, is_up, fresh}
+use Rattle.x25_link.specs.Link.{timer_step, timer_refusal, put_refusal, connect_refusal, disconnect_refusal, put_step, connect_step, disconnect_step, abandon_step}
+use Rattle.x25_link.specs.laws.RestLaw.{HasSaidAll}
 use Rattle.x25_line.specs.laws.Stations.{StationEnd, Stations, Act, Put, Deliver, T1, Connect, Disconnect, Abandon, Probe, Lose, Damage, Event, Near, Far, after_step, unless, delivered, is_visible, acts, swapped, happens, run}
-use Rattle.x25_line.specs.laws.StationClaims.{AreJoined, AreWhole}
-use Rattle.x25_line.specs.laws.WholeNumbers.{machine_acts}
-use Rattle.x25_line.specs.Healing.{IsDeliver, IsDelivery, AreDeliveries}
+use Rattle.x25_line.specs.laws.StationClaims.{AreJoined}
 use Rattle.x25_line.specs.laws.LawsBelow.{HealingLaws}
-use Rattle.x25_line.proofs.HealingOnce.{IsDrained, HasArrived, ShowsAtRest}
-use Rattle.x25_line.proofs.StationRuns.{machine_joint}
-use Rattle.x25_line.proofs.StationClaimLemmas.{idle_all, holds_order, holds_lists}
 use Rattle.x25_line.proofs.StationEvents.{each_hands_one}
-use Rattle.x25_line.proofs.HealingLines.{Reads, reads_more, whole_behind}
-use Rattle.x25_line.proofs.HealingSteps.{Sound, near_up, up_is, deliver_is}
 
 -- ---- each end has said all that it may, after each event
 
@@ -78,124 +64,3 @@ module _ (laws : HealingLaws) where
 
   pub fresh_said : (k : ℕ) → HasSaidAll k fresh
   fresh_said k = record { low = omega arith; settled = and_right (nat_lt 0 (0 + k)) _ refl; calm = refl }
-
--- ---- what rest shows
-
-module _ (c d : Settings) (joined : AreJoined c d) (reads : ReadsSpelled) (laws : HealingLaws) where
-  pub arrives : (w : Stations) → Sound c d w → is_up w.near.station.phase ≡ true → IsAtRest w.near.station → HasArrived w.near w.far
-  arrives w h up rest =
-      let order = holds_order (Unit {0}) c d w (h.line, h.joint) in
-      let lists = holds_lists (Unit {0}) c d w (h.line, h.joint) in
-      let t = laws.rest.only_then w.near.station rest in
-      let all = sym (idle_all w.near.station rest.idle (near_up c d w h up).sound.sent_high) in
-      let same = ap length (lists.0.given up) in
-      record { handed_up = order.0.idle rest.idle; acked = omega (arith, all, same); sent = omega (arith, all, same, t.3) }
-
-  pub shows_at_rest : (w : Stations) → Sound c d w → ShowsAtRest w.near w.far
-  shows_at_rest w h up stopped =
-      let rest : IsAtRest w.near.station =
-      record { idle = laws.rest.no_timer c.window w.near.station joined.near_low (near_up c d w h up).sound h.near_said up stopped; no_timer = stopped } in
-      (rest, arrives w h up rest)
-
-  -- ---- a firing
-
-  -- T1 doesn't run: nothing changes
-  pub refused : (w : Stations) → timer_runs w.near.station.phase w.near.station ≡ false → acts c T1 w ≡ w
-  refused w stopped = rw stopped refl
-
-  pub fires_is : (w : Stations) → timer_runs w.near.station.phase w.near.station ≡ true → acts c T1 w ≡ after_step c w w.back [] (timer_step c w.near.station)
-  fires_is w running = rw running refl
-
-  pub not_noted : (w : Stations) (v : Stations) → acts c T1 w ≡ v → v.near.came_up ≡ false → (acts c T1 w).near.came_up ≡ false
-  not_noted w v is h = ap (λ (z : Stations). z.near.came_up) is ∙ h
-
-  -- a poll goes on the empty line to the other end, as RNR where the end is busy, and recovery begins
-  pub record SentPoll (w v : Stations) : Type 0 where
-    pub sound : Sound c d v
-    pub up : is_up v.near.station.phase ≡ true
-    pub busy : is_busy v.near.station ≡ is_busy w.near.station
-    pub said : v.near.station.said_busy ≡ is_busy w.near.station
-    pub recovery : v.near.station.recovery ≡ true
-    pub number : ℕ
-    pub is : number ≡ length v.near.station.taken % 8
-    pub out : Reads (other d.role) d.longest v.out (says (is_busy w.near.station) true number true ∷ [])
-    pub back : v.back ≡ w.back
-    pub far : v.far ≡ w.far
-
-  pub sends_poll : (w : Stations) → Sound c d w → w.out ≡ [] → is_up w.near.station.phase ≡ true → timer_runs w.near.station.phase w.near.station ≡ true → w.near.station.tries < c.retries → SentPoll w (acts c T1 w)
-  sends_poll w h empty up running few =
-      subst (λ (z : Stations). SentPoll w z) (sym is) (record {
-        sound = sound;
-        up = ap (λ (z : LinkStation). is_up z.phase) asks.near ∙ up;
-        busy = ap is_busy asks.near;
-        said = ap (λ (z : LinkStation). z.said_busy) asks.near;
-        recovery = ap (λ (z : LinkStation). z.recovery) asks.near;
-        number = wanted s;
-        is = ap (λ (z : LinkStation). length z.taken % 8) (sym asks.near);
-        out = read_out;
-        back = refl;
-        far = refl;
-      })
-    where
-      s : LinkStation
-      s = w.near.station
-
-      step : Step
-      step = timer_step c s
-
-      asks : Asks s step
-      asks = laws.answers.timer c s (up_is s.phase up) few
-
-      is : acts c T1 w ≡ after_step c w w.back [] step
-      is = fires_is w running
-
-      once : (acts c T1 w).near.came_up ≡ false
-      once = not_noted w (after_step c w w.back [] step) is (ap (λ (n : Notes). w.near.came_up || n.up) asks.quiet ∙ ap (λ (b : Bool). b || false) h.joint.near_has.notes.once)
-
-      sound : Sound c d (after_step c w w.back [] step)
-      sound = subst (Sound c d) is (record {
-        line = machine_acts c T1 w h.line;
-        joint = machine_joint (Unit {0}) c d joined reads laws.sessions.laws T1 w h.line (λ _. once) (λ _. tt) h.joint;
-        near_said = subst (λ (z : Stations). HasSaidAll c.window z.near.station) (sym is) (laws.rest.timer c s joined.near_high h.near_said.low);
-        far_said = subst (λ (z : Stations). HasSaidAll d.window z.far.station) (sym is) h.far_said;
-      })
-
-      read_out : Reads (other d.role) d.longest (w.out ++ map (spelling_of c.role) step.side.out) (says (is_busy s) true (wanted s) true ∷ [])
-      read_out =
-          let given = (w.near.down ++ []) ++ w.far.down in
-          let whole : AreWhole d.longest given step.side.out = whole_behind d.longest given w.sent step.side.out sound.joint.whole in
-          subst (λ (es : List PlainFrame). Reads (other d.role) d.longest (w.out ++ map (spelling_of c.role) step.side.out) es) asks.out
-          (subst (λ (from : Role). Reads (other d.role) d.longest (w.out ++ map (spelling_of from) step.side.out) step.side.out) joined.near_role
-          (reads_more reads (other d.role) d.longest given w.out [] step.side.out (subst (λ (os : List (List ℕ)). Reads (other d.role) d.longest os []) (sym empty) tt) whole))
-
-  -- ---- deliveries
-
-  idle_act : (a : Act) (w : Stations) → IsDeliver a → w.back ≡ [] → acts c a w ≡ w
-  idle_act a w is none = subst (λ (act : Act). acts c act w ≡ w) (deliver_is a is) (ap (λ (os : List (List ℕ)). delivered c os w) none)
-
-  far_idle_act : (a : Act) (w : Stations) → IsDeliver a → w.out ≡ [] → swapped (acts d a (swapped w)) ≡ w
-  far_idle_act a w is none = subst (λ (act : Act). swapped (acts d act (swapped w)) ≡ w) (deliver_is a is) (ap (λ (os : List (List ℕ)). swapped (delivered d os (swapped w))) none)
-
-  pub idle_run : (es : List Event) (w : Stations) → AreDeliveries es → IsDrained w → run c d es w ≡ w
-  idle_run [] w are drained = refl
-  idle_run (Near a ∷ es) w are drained = ap (run c d es) (idle_act a w are.0 drained.back) ∙ idle_run es w are.1 drained
-  idle_run (Far a ∷ es) w are drained = ap (run c d es) (far_idle_act a w are.0 drained.out) ∙ idle_run es w are.1 drained
-
--- ---- the same with the ends swapped
-
-abbrev pub flip : Event → Event
-flip (Near a) = Far a
-flip (Far a) = Near a
-
-flip_delivery : (e : Event) → IsDelivery e → IsDelivery (flip e)
-flip_delivery (Near a) h = h
-flip_delivery (Far a) h = h
-
-pub flip_all : (es : List Event) → AreDeliveries es → AreDeliveries (map flip es)
-flip_all [] h = tt
-flip_all (e ∷ es) h = (flip_delivery e h.0, flip_all es h.1)
-
-pub flip_run : (c d : Settings) (es : List Event) (w : Stations) → swapped (run c d es w) ≡ run d c (map flip es) (swapped w)
-flip_run c d [] w = refl
-flip_run c d (Near a ∷ es) w = flip_run c d es (acts c a w)
-flip_run c d (Far a ∷ es) w = flip_run c d es (swapped (acts d a (swapped w)))

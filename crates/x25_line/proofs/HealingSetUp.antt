@@ -1,5 +1,5 @@
--- An end that awaits UA: once its SABM has come, nothing but set-up is on the line, and each end that is Up has nothing to send.
-use Rattle.std.proofs.Common.{◌≡◌, ℕ, ◌<◌, List, [], ◌∷◌, ◌++◌, ◌⊎◌, inl, inr, length, map, Bool, true, false, if◌then◌else◌, Result, Ok, refl, sym, ap, ◌∙◌, subst, arith, append-nil}
+-- Two ends of which not both go on once they have fired: set-up, a poll or DM is all that comes, and each end comes to rest or isn't Up.
+use Rattle.std.proofs.Common.{◌≡◌, ℕ, ◌<◌, List, [], ◌∷◌, ◌++◌, ◌⊎◌, inl, inr, length, map, Bool, true, false, if◌then◌else◌, Result, Ok, refl, sym, ap, ◌∙◌, subst, arith}
 use Rattle.std.specs.Prelude.{◌&&◌, nat_lt}
 use Rattle.std.proofs.lemmas.Bool.{leb-true, le-ltb, eq-eqb, and_parts}
 use Rattle.x25_bits.specs.declared.role.Role.{Role}
@@ -11,23 +11,24 @@ use Rattle.x25_frame.specs.declared.error.FrameError.{FrameError}
 use Rattle.x25_link.specs.declared.phase.Phase.{Phase}
 use Rattle.x25_link.specs.declared.phase.Phase.TheVariants.{Down, Waiting, Up, Closed}
 use Rattle.x25_link.specs.Outgoing.{waits}
-use Rattle.x25_link.specs.Station.{Settings, LinkStation, Side, is_up, is_busy, wanted, fresh, sends, ready, may_send, owes_ready, finished, ended}
+use Rattle.x25_link.specs.Station.{Settings, LinkStation, Side, is_up, is_busy, wanted, with_nothing, fresh, sends, ready, may_send, owes_ready, finished, ended}
 use Rattle.x25_link.specs.Hearing.{Step, quiet, other, is_valid, acknowledged, peer_is, polls, rejects, row_of_frame}
 use Rattle.x25_link.specs.Link.{alone, hears, declines, when_down, when_waiting, take_step, timer_runs}
-use Rattle.x25_link.specs.laws.SetUp.{Is, waiting_after, waiting_sends, reset_from}
+use Rattle.x25_link.specs.laws.SetUp.{waiting_after, waiting_sends}
+use Rattle.x25_link.specs.laws.WindowLaw.{IsOut}
 use Rattle.x25_link.specs.laws.RestLaw.{IsAtRest}
-use Rattle.x25_link.specs.laws.AnswerLaw.{says}
+use Rattle.x25_link.specs.laws.AnswerLaw.{says, asks}
 use Rattle.x25_link.proofs.EndLemmas.{none_open, not_open, pumped_stays}
-use Rattle.x25_line.specs.laws.Stations.{StationEnd, Stations, Act, Deliver, Event, Near, Far, after_step, delivered, acts, swapped, run}
-use Rattle.x25_line.specs.laws.StationClaims.{AreJoined}
-use Rattle.x25_line.specs.Healing.{IsDeliver, AreDeliveries}
+use Rattle.x25_line.specs.laws.Stations.{Stations, Deliver, Event, after_step, delivered, acts, swapped, run}
+use Rattle.x25_line.specs.laws.StationClaims.{AreJoined, IsWhole, AreWhole}
+use Rattle.x25_line.specs.Healing.{AreDeliveries}
 use Rattle.x25_line.specs.laws.LawsBelow.{HealingLaws}
 use Rattle.x25_line.proofs.DrainWeights.{below_eight}
-use Rattle.x25_line.proofs.HealingOnce.{IsDrained, IsAtRestOrOut}
-use Rattle.x25_line.proofs.StationSteps.{not_both}
+use Rattle.x25_line.proofs.HealingOnce.{IsDrained, RestsOrOut}
+use Rattle.x25_line.proofs.StationSteps.{not_both, out_not_up}
 use Rattle.x25_line.proofs.StationRuns.{joined_swapped}
-use Rattle.x25_line.proofs.HealingLines.{Reads, FrontReads, front_reads, none_reads, reads_none, one_frame}
-use Rattle.x25_line.proofs.HealingSteps.{deliver_is}
+use Rattle.x25_line.proofs.HealingLines.{Reads, reads_more}
+use Rattle.x25_line.proofs.HealingSteps.{up_is, deliveries_keep}
 use Rattle.x25_line.proofs.StationAway.{up_takes_part}
 
 -- ---- a station that has nothing to send
@@ -57,9 +58,9 @@ blank_rests s h =
       no_timer = ap (λ (p : Phase). timer_runs p s) h.up ∙ (rw (low, h.recovery, h.peer_busy) refl);
     }
 
-pub rests_or_out : (e : StationEnd) → IsBlankOrOff e.station → IsAtRestOrOut e
-rests_or_out e (inl h) = inl (blank_rests e.station h)
-rests_or_out e (inr off) = inr off
+rests_or_out : (s : LinkStation) → IsBlankOrOff s → RestsOrOut s
+rests_or_out s (inl h) = inl (blank_rests s h)
+rests_or_out s (inr off) = inr off
 
 -- ---- what such stations say
 
@@ -79,22 +80,17 @@ set_up_more : (fs es : List PlainFrame) → AreOfSetUp fs → AreOfSetUp es → 
 set_up_more [] es h g = g
 set_up_more (f ∷ fs) es h g = (h.0, set_up_more fs es h.1 g)
 
-set_up_reads : ReadsSpelled → (from : Role) (n1 : ℕ) (f : PlainFrame) → IsOfSetUp f → frame_of from n1 (spelling_of from f) ≡ Ok f
-set_up_reads reads from n1 (sabm p) h = reads from n1 (sabm p) _ (record { in_range = tt; carries = refl; within = tt; spelling = refl })
-set_up_reads reads from n1 (ua f) h = reads from n1 (ua f) _ (record { in_range = tt; carries = refl; within = tt; spelling = refl })
-set_up_reads reads from n1 (dm f) h = reads from n1 (dm f) _ (record { in_range = tt; carries = refl; within = tt; spelling = refl })
-set_up_reads reads from n1 (frmr f why) h = reads from n1 (frmr f why) _ (record { in_range = tt; carries = h; within = tt; spelling = refl })
-set_up_reads reads from n1 (rr command nr pf) h = reads from n1 (rr command nr pf) _ (record { in_range = h; carries = refl; within = tt; spelling = refl })
-set_up_reads reads from n1 f h = absurd h
-
-pub reads_more_set_up : ReadsSpelled → (from : Role) (n1 : ℕ) (os : List (List ℕ)) (fs es : List PlainFrame) → Reads from n1 os fs → AreOfSetUp es → Reads from n1 (os ++ map (spelling_of from) es) (fs ++ es)
-reads_more_set_up reads from n1 [] [] es h are = spelled es are
+pub set_up_whole : (n1 : ℕ) (fs : List PlainFrame) → AreOfSetUp fs → AreWhole n1 [] fs
+set_up_whole n1 [] are = tt
+set_up_whole n1 (f ∷ fs) are = (whole f are.0, set_up_whole n1 fs are.1)
   where
-    spelled : (es : List PlainFrame) → AreOfSetUp es → Reads from n1 (map (spelling_of from) es) es
-    spelled [] are = tt
-    spelled (f ∷ es) are = (set_up_reads reads from n1 f are.0, spelled es are.1)
-reads_more_set_up reads from n1 (o ∷ os) (f ∷ fs) es h are = (h.0, reads_more_set_up reads from n1 os fs es h.1 are)
-reads_more_set_up reads from n1 os fs es h are = absurd h
+    whole : (f : PlainFrame) → IsOfSetUp f → IsWhole n1 [] f
+    whole (sabm p) is = record { in_range = tt; carries = refl; within = tt; packet = tt }
+    whole (ua f) is = record { in_range = tt; carries = refl; within = tt; packet = tt }
+    whole (dm f) is = record { in_range = tt; carries = refl; within = tt; packet = tt }
+    whole (frmr f why) is = record { in_range = tt; carries = is; within = tt; packet = tt }
+    whole (rr command nr pf) is = record { in_range = is; carries = refl; within = tt; packet = tt }
+    whole f is = absurd is
 
 -- ---- a side of a step
 
@@ -202,56 +198,48 @@ calm_takes c octets f s read is h =
     calm_ended c.window (hears c octets (frame_of (other c.role) c.longest octets) s.phase (alone s)).side
     (subst (λ (r : Result PlainFrame FrameError). IsCalm (hears c octets r s.phase (alone s)).side) (sym read) row)
 
--- ---- worlds
+-- ---- two ends of which not both go on, and the frames between them
 
--- nothing but set-up is on the line
-pub record Calm (c d : Settings) (w : Stations) : Type 0 where
-  pub near : IsBlankOrOff w.near.station
-  pub far : IsBlankOrOff w.far.station
-  pub there : List PlainFrame
-  pub behind : List PlainFrame
-  pub out : Reads (other d.role) d.longest w.out there
-  pub back : Reads (other c.role) c.longest w.back behind
-  pub there_are : AreOfSetUp there
-  pub behind_are : AreOfSetUp behind
+-- The near end is Up and the far end isn't: what is on the way to the far end, and back.
+pub data Parts (s t : LinkStation) : List PlainFrame → List PlainFrame → Type 0 where
+  -- the far end asks for set-up, and the near end polls or has nothing to send
+  asked : is_up s.phase ≡ true → t.phase ≡ Waiting → Parts s t [] (sabm true ∷ [])
+  asked_polling : (busy : Bool) (number : ℕ) → number < 8 → is_up s.phase ≡ true → t.phase ≡ Waiting → Parts s t (says busy true number true ∷ []) (sabm true ∷ [])
+  -- SABM came to an end that was busy: its UA follows its RNR, which an end that awaits UA passes over
+  granted : (number : ℕ) → IsBlank s → t.phase ≡ Waiting → Parts s t (rnr true number true ∷ ua true ∷ []) []
+  -- the far end is out: a poll is answered by DM, at which the near end leaves too
+  polled : (busy : Bool) (number : ℕ) → is_up s.phase ≡ true → IsOut t.phase → Parts s t (says busy true number true ∷ []) []
+  declined : is_up s.phase ≡ true → IsOut t.phase → Parts s t [] (dm true ∷ [])
+  rests : IsAtRest s → IsOut t.phase → Parts s t [] []
 
--- nothing, or one poll
-abbrev pub IsPollOrNothing : List PlainFrame → Type 0
-IsPollOrNothing fs = (fs ≡ []) ⊎ ((busy : Bool) × (number : ℕ) × (number < 8) × (fs ≡ says busy true number true ∷ []))
+-- nothing but set-up is on the way
+pub record Calm (s t : LinkStation) (fs gs : List PlainFrame) : Type 0 where
+  pub near : IsBlankOrOff s
+  pub far : IsBlankOrOff t
+  pub there : AreOfSetUp fs
+  pub back : AreOfSetUp gs
 
--- the near end awaits UA, and its SABM is on the way to an end that is Up
-pub record Asking (c d : Settings) (w : Stations) : Type 0 where
-  pub near : w.near.station.phase ≡ Waiting
-  pub far : is_up w.far.station.phase ≡ true
-  pub behind : List PlainFrame
-  pub out : Reads (other d.role) d.longest w.out (sabm true ∷ [])
-  pub back : Reads (other c.role) c.longest w.back behind
-  pub polls : IsPollOrNothing behind
+abbrev pub Settles : LinkStation → LinkStation → List PlainFrame → List PlainFrame → Type 0
+Settles s t fs gs = Parts s t fs gs ⊎ (Parts t s gs fs ⊎ Calm s t fs gs)
 
--- the SABM has come to an end that was busy: its UA follows its RNR, which an end that awaits UA passes over
-pub record Granted (c d : Settings) (w : Stations) : Type 0 where
-  pub near : IsBlank w.near.station
-  pub far : w.far.station.phase ≡ Waiting
-  pub number : ℕ
-  pub out : Reads (other d.role) d.longest w.out (rnr true number true ∷ ua true ∷ [])
-  pub back : w.back ≡ []
+settles_turned : (s t : LinkStation) (fs gs : List PlainFrame) → Settles s t fs gs → Settles t s gs fs
+settles_turned s t fs gs (inl h) = inr (inl h)
+settles_turned s t fs gs (inr (inl h)) = inl h
+settles_turned s t fs gs (inr (inr h)) = inr (inr (record { near = h.far; far = h.near; there = h.back; back = h.there }))
 
-abbrev pub SetsUp : Settings → Settings → Stations → Type 0
-SetsUp c d w = Asking c d w ⊎ (Asking d c (swapped w) ⊎ (Granted c d w ⊎ (Granted d c (swapped w) ⊎ Calm c d w)))
+-- once nothing is on the way
+parted : (from to : Role) (n m : ℕ) (s t : LinkStation) (fs gs : List PlainFrame) → Reads from n [] fs → Reads to m [] gs → Parts s t fs gs → RestsOrOut s × RestsOrOut t
+parted from to n m s t fs gs out back (rests rest gone) = (inl rest, inr (out_not_up t.phase gone))
+parted from to n m s t fs gs out back (asked up is) = absurd back
+parted from to n m s t fs gs out back (declined up gone) = absurd back
+parted from to n m s t fs gs out back p = absurd out
 
-pub calm_sets_up : (c d : Settings) (w : Stations) (there behind : List PlainFrame) → IsBlankOrOff w.near.station → IsBlankOrOff w.far.station → Reads (other d.role) d.longest w.out there
-    → Reads (other c.role) c.longest w.back behind → AreOfSetUp there → AreOfSetUp behind → SetsUp c d w
-calm_sets_up c d w there behind near far out back there_are behind_are =
-    inr (inr (inr (inr (record { near = near; far = far; there = there; behind = behind; out = out; back = back; there_are = there_are; behind_are = behind_are }))))
+settled : (from to : Role) (n m : ℕ) (s t : LinkStation) (fs gs : List PlainFrame) → Reads from n [] fs → Reads to m [] gs → Settles s t fs gs → RestsOrOut s × RestsOrOut t
+settled from to n m s t fs gs out back (inl h) = parted from to n m s t fs gs out back h
+settled from to n m s t fs gs out back (inr (inl h)) = (let both = parted to from m n t s gs fs back out h in (both.1, both.0))
+settled from to n m s t fs gs out back (inr (inr h)) = (rests_or_out s h.near, rests_or_out t h.far)
 
-turned : (c d : Settings) (w : Stations) → SetsUp c d w → SetsUp d c (swapped w)
-turned c d w (inl h) = inr (inl h)
-turned c d w (inr (inl h)) = inl h
-turned c d w (inr (inr (inl h))) = inr (inr (inr (inl h)))
-turned c d w (inr (inr (inr (inl h)))) = inr (inr (inl h))
-turned c d w (inr (inr (inr (inr h)))) = calm_sets_up d c (swapped w) h.behind h.there h.far h.near h.back h.out h.behind_are h.there_are
-
--- an end that awaits UA passes a poll over
+-- a poll changes nothing of an end that awaits UA, and is answered by DM where an end is out
 poll_passed : (busy : Bool) (n : ℕ) (s : LinkStation) → waiting_after (Ok (says busy true n true)) s ≡ s
 poll_passed true n s = refl
 poll_passed false n s = refl
@@ -260,134 +248,105 @@ poll_unanswered : (busy : Bool) (n : ℕ) → waiting_sends (Ok (says busy true 
 poll_unanswered true n = refl
 poll_unanswered false n = refl
 
-module _ (c d : Settings) (joined : AreJoined c d) (reads : ReadsSpelled) (laws : HealingLaws) where
-  near_none : (w : Stations) → w.back ≡ [] → SetsUp c d w → SetsUp c d (acts c Deliver w)
-  near_none w none h = subst (λ (os : List (List ℕ)). SetsUp c d (delivered c os w)) (sym none) h
+asks_poll : (busy : Bool) (n : ℕ) → asks (says busy true n true) ≡ true
+asks_poll true n = refl
+asks_poll false n = refl
 
-  -- a poll comes to the near end, which awaits UA
-  record PassedOver (w v : Stations) (gs : List PlainFrame) : Type 0 where
-    pub near : v.near.station ≡ w.near.station
-    pub far : v.far ≡ w.far
-    pub out : v.out ≡ w.out
-    pub back : Reads (other c.role) c.longest v.back gs
+-- ---- worlds
 
-  passes_over : (w : Stations) → w.near.station.phase ≡ Waiting → (busy : Bool) (n : ℕ) (gs : List PlainFrame) → Reads (other c.role) c.longest w.back (says busy true n true ∷ gs) → PassedOver w (acts c Deliver w) gs
-  passes_over w waits busy n gs back =
-      let s = w.near.station in
-      let poll = says busy true n true in
-      let r = front_reads (other c.role) c.longest w.back poll gs back in
-      let step : Step = take_step c r.octets s in
-      let a = laws.sessions.laws.set_up.waits c r.octets s waits (Ok poll) (sym r.reads) in
-      let v : Stations = after_step c w r.others [] step in
-      let same : acts c Deliver w ≡ v = ap (λ (os : List (List ℕ)). delivered c os w) r.is in
-      let silent : step.side.out ≡ [] = a.out ∙ poll_unanswered busy n in
-      subst (λ (z : Stations). PassedOver w z gs) (sym same) (record {
-        near = a.near ∙ poll_passed busy n s;
-        far = refl;
-        out = ap (λ (fs : List PlainFrame). w.out ++ map (spelling_of c.role) fs) silent ∙ append-nil w.out;
-        back = r.rest;
-      })
+pub record Settling (c d : Settings) (w : Stations) : Type 0 where
+  pub there : List PlainFrame
+  pub behind : List PlainFrame
+  pub out : Reads (other d.role) d.longest w.out there
+  pub back : Reads (other c.role) c.longest w.back behind
+  pub is : Settles w.near.station w.far.station there behind
 
-  asking_hears : (w : Stations) (h : Asking c d w) → IsPollOrNothing h.behind → SetsUp c d (acts c Deliver w)
-  asking_hears w h (inl none) = near_none w (none_reads (other c.role) c.longest w.back (subst (Reads (other c.role) c.longest w.back) none h.back)) (inl h)
-  asking_hears w h (inr (busy, n, small, is)) =
-      let p = passes_over w h.near busy n [] (subst (Reads (other c.role) c.longest w.back) is h.back) in
-      inl (record {
-        near = ap (λ (z : LinkStation). z.phase) p.near ∙ h.near;
-        far = subst (λ (e : StationEnd). is_up e.station.phase ≡ true) (sym p.far) h.far;
-        behind = [];
-        out = subst (λ (os : List (List ℕ)). Reads (other d.role) d.longest os (sabm true ∷ [])) (sym p.out) h.out;
-        back = p.back;
-        polls = inl refl;
-      })
-
-  -- the RNR before UA
-  granted_hears : (w : Stations) → Granted d c (swapped w) → SetsUp c d (acts c Deliver w)
-  granted_hears w h =
-      let p = passes_over w h.far true h.number (ua true ∷ []) h.out in
-      calm_sets_up c d (acts c Deliver w) [] (ua true ∷ []) (inr (ap (λ (z : LinkStation). is_up z.phase) p.near ∙ ap is_up h.far))
-      (subst (λ (e : StationEnd). IsBlankOrOff e.station) (sym p.far) (inl h.near))
-      (subst (λ (os : List (List ℕ)). Reads (other d.role) d.longest os []) (sym (p.out ∙ h.back)) tt) p.back tt (tt, tt)
-
-  -- what is put stands behind
-  puts_behind : (w : Stations) (fs es : List PlainFrame) → Reads (other d.role) d.longest w.out fs → AreOfSetUp es → Reads (other d.role) d.longest (w.out ++ map (spelling_of c.role) es) (fs ++ es)
-  puts_behind w fs es h are =
-      subst (λ (from : Role). Reads (other d.role) d.longest (w.out ++ map (spelling_of from) es) (fs ++ es)) joined.near_role (reads_more_set_up reads (other d.role) d.longest w.out fs es h are)
-
-  -- the SABM of the far end comes
-  asked : (w : Stations) → Asking d c (swapped w) → SetsUp c d (acts c Deliver w)
-  asked w h = subst (SetsUp c d) (sym same) (by h.polls)
-    where
-      s : LinkStation
-      s = w.near.station
-
-      r : FrontReads (other c.role) c.longest w.back (sabm true) []
-      r = front_reads (other c.role) c.longest w.back (sabm true) [] h.out
-
-      step : Step
-      step = take_step c r.octets s
-
-      v : Stations
-      v = after_step c w r.others [] step
-
-      same : acts c Deliver w ≡ v
-      same = ap (λ (os : List (List ℕ)). delivered c os w) r.is
-
-      a : Is fresh (ua true ∷ []) (reset_from s.phase) true step
-      a = laws.sessions.laws.set_up.sets_up c r.octets s (up_takes_part s.phase h.far) true r.reads
-
-      blank : IsBlank step.side.near
-      blank = subst IsBlank (sym a.near) fresh_blank
-
-      -- UA goes behind the poll, if there is one
-      ua_behind : (fs : List PlainFrame) → h.behind ≡ fs → Reads (other d.role) d.longest v.out (fs ++ ua true ∷ [])
-      ua_behind fs is =
-          subst (λ (es : List PlainFrame). Reads (other d.role) d.longest (w.out ++ map (spelling_of c.role) es) (fs ++ ua true ∷ [])) (sym a.out)
-          (puts_behind w fs (ua true ∷ []) (subst (Reads (other d.role) d.longest w.out) is h.back) (tt, tt))
-
-      calm : (fs : List PlainFrame) → AreOfSetUp fs → h.behind ≡ fs → SetsUp c d v
-      calm fs are is = calm_sets_up c d v (fs ++ ua true ∷ []) [] (inl blank) (inr (ap is_up h.near)) (ua_behind fs is) r.rest (set_up_more fs (ua true ∷ []) are (tt, tt)) tt
-
-      by : IsPollOrNothing h.behind → SetsUp c d v
-      by (inl none) = calm [] tt none
-      by (inr (false, n, small, is)) = calm (rr true n true ∷ []) (small, tt) is
-      by (inr (true, n, small, is)) =
-          inr (inr (inl (record { near = blank; far = h.near; number = n; out = ua_behind (rnr true n true ∷ []) is; back = none_reads (other c.role) c.longest r.others r.rest })))
-
-  calm_hears_more : (w : Stations) → Calm c d w → (behind : List PlainFrame) → Reads (other c.role) c.longest w.back behind → AreOfSetUp behind → SetsUp c d (acts c Deliver w)
-  calm_hears_more w h [] back are = near_none w (none_reads (other c.role) c.longest w.back back) (inr (inr (inr (inr h))))
-  calm_hears_more w h (f ∷ gs) back are =
-      let s = w.near.station in
-      let r = front_reads (other c.role) c.longest w.back f gs back in
-      let step : Step = take_step c r.octets s in
-      let t = calm_takes c r.octets f s r.reads are.0 h.near in
-      let v : Stations = after_step c w r.others [] step in
-      let same : acts c Deliver w ≡ v = ap (λ (os : List (List ℕ)). delivered c os w) r.is in
-      subst (SetsUp c d) (sym same) (calm_sets_up c d v (h.there ++ step.side.out) gs t.near h.far
-      (puts_behind w h.there step.side.out h.out t.out) r.rest (set_up_more h.there step.side.out h.there_are t.out) are.1)
-
-  near_delivery : (w : Stations) → SetsUp c d w → SetsUp c d (acts c Deliver w)
-  near_delivery w (inl h) = asking_hears w h h.polls
-  near_delivery w (inr (inl h)) = asked w h
-  near_delivery w (inr (inr (inl h))) = near_none w h.back (inr (inr (inl h)))
-  near_delivery w (inr (inr (inr (inl h)))) = granted_hears w h
-  near_delivery w (inr (inr (inr (inr h)))) = calm_hears_more w h h.behind h.back h.behind_are
-
-  near_set_up : (a : Act) (w : Stations) → IsDeliver a → SetsUp c d w → SetsUp c d (acts c a w)
-  near_set_up a w is h = subst (λ (act : Act). SetsUp c d (acts c act w)) (deliver_is a is) (near_delivery w h)
-
-  pub set_up_settles : (v : Stations) → SetsUp c d v → IsDrained v → IsAtRestOrOut v.near × IsAtRestOrOut v.far
-  set_up_settles v (inl h) drained = one_frame _ _ (reads_none (other d.role) d.longest v.out (sabm true ∷ []) h.out drained.out)
-  set_up_settles v (inr (inl h)) drained = one_frame _ _ (reads_none (other c.role) c.longest v.back (sabm true ∷ []) h.out drained.back)
-  set_up_settles v (inr (inr (inl h))) drained = one_frame _ _ (reads_none (other d.role) d.longest v.out (rnr true h.number true ∷ ua true ∷ []) h.out drained.out)
-  set_up_settles v (inr (inr (inr (inl h)))) drained = one_frame _ _ (reads_none (other c.role) c.longest v.back (rnr true h.number true ∷ ua true ∷ []) h.out drained.back)
-  set_up_settles v (inr (inr (inr (inr h)))) drained = (rests_or_out v.near h.near, rests_or_out v.far h.far)
+turned : (c d : Settings) (w : Stations) → Settling c d w → Settling d c (swapped w)
+turned c d w h = record { there = h.behind; behind = h.there; out = h.back; back = h.out; is = settles_turned w.near.station w.far.station h.there h.behind h.is }
 
 module _ (c d : Settings) (joined : AreJoined c d) (reads : ReadsSpelled) (laws : HealingLaws) where
-  far_set_up : (a : Act) (w : Stations) → IsDeliver a → SetsUp c d w → SetsUp c d (swapped (acts d a (swapped w)))
-  far_set_up a w is h = turned d c (acts d a (swapped w)) (near_set_up d c (joined_swapped c d joined) reads laws a (swapped w) is (turned c d w h))
+  module _ (w : Stations) (h : Settling c d w) where
+    abbrev s : LinkStation
+    s = w.near.station
 
-  pub set_up_run : (es : List Event) (w : Stations) → AreDeliveries es → SetsUp c d w → SetsUp c d (run c d es w)
-  set_up_run [] w are h = h
-  set_up_run (Near a ∷ es) w are h = set_up_run es (acts c a w) are.1 (near_set_up c d joined reads laws a w are.0 h)
-  set_up_run (Far a ∷ es) w are h = set_up_run es (swapped (acts d a (swapped w))) are.1 (far_set_up a w are.0 h)
+    abbrev t : LinkStation
+    t = w.far.station
+
+    -- octets come to the near end, which becomes so and sends so
+    goes : (o : List ℕ) (os : List (List ℕ)) (gs es fs : List PlainFrame) (z : LinkStation) → Reads (other d.role) d.longest w.out fs → Reads (other c.role) c.longest os gs
+        → (let step = take_step c o s in step.side.near ≡ z → step.side.out ≡ es → AreOfSetUp es → Settles z t (fs ++ es) gs → Settling c d (after_step c w os [] step))
+    goes o os gs es fs z out back near sent are is =
+        record {
+          there = fs ++ es;
+          behind = gs;
+          out = subst (λ (xs : List PlainFrame). Reads (other d.role) d.longest (w.out ++ map (spelling_of c.role) xs) (fs ++ es)) (sym sent)
+              (subst (λ (from : Role). Reads (other d.role) d.longest (w.out ++ map (spelling_of from) es) (fs ++ es)) joined.near_role
+              (reads_more reads (other d.role) d.longest [] w.out fs es out (set_up_whole d.longest es are)));
+          back = back;
+          is = subst (λ (x : LinkStation). Settles x t (fs ++ es) gs) (sym near) is;
+        }
+
+    -- an end that awaits UA passes a poll over
+    passes : (o : List ℕ) (os : List (List ℕ)) (busy : Bool) (n : ℕ) (gs fs : List PlainFrame) → s.phase ≡ Waiting → Reads (other d.role) d.longest w.out fs
+        → Reads (other c.role) c.longest (o ∷ os) (says busy true n true ∷ gs) → Settles s t (fs ++ []) gs → Settling c d (delivered c (o ∷ os) w)
+    passes o os busy n gs fs waits out back is =
+        let a = laws.sessions.laws.set_up.waits c o s waits (Ok (says busy true n true)) (sym back.0) in
+        goes o os gs [] fs s out back.1 (a.near ∙ poll_passed busy n s) (a.out ∙ poll_unanswered busy n) tt is
+
+    -- an end that is Up hears
+    up_hears : (os : List (List ℕ)) (fs gs : List PlainFrame) → Reads (other d.role) d.longest w.out fs → Reads (other c.role) c.longest os gs → Parts s t fs gs → Settling c d (delivered c os w)
+    up_hears [] fs gs out back p = h
+    up_hears (o ∷ os) fs gs out back (asked up is) =
+        let a = laws.sessions.laws.set_up.sets_up c o s (up_takes_part s.phase up) true back.0 in
+        goes o os [] (ua true ∷ []) [] fresh out back.1 a.near a.out (tt, tt) (inr (inr (record { near = inl fresh_blank; far = inr (ap is_up is); there = (tt, tt); back = tt })))
+    up_hears (o ∷ os) fs gs out back (asked_polling false n small up is) =
+        let a = laws.sessions.laws.set_up.sets_up c o s (up_takes_part s.phase up) true back.0 in
+        goes o os [] (ua true ∷ []) (rr true n true ∷ []) fresh out back.1 a.near a.out (tt, tt) (inr (inr (record { near = inl fresh_blank; far = inr (ap is_up is); there = (small, (tt, tt)); back = tt })))
+    up_hears (o ∷ os) fs gs out back (asked_polling true n small up is) =
+        let a = laws.sessions.laws.set_up.sets_up c o s (up_takes_part s.phase up) true back.0 in
+        goes o os [] (ua true ∷ []) (rnr true n true ∷ []) fresh out back.1 a.near a.out (tt, tt) (inl (granted n fresh_blank is))
+    up_hears (o ∷ os) fs gs out back (declined up gone) =
+        let a = laws.answers.dm c o s (up_is s.phase up) true back.0 in
+        goes o os [] [] [] (with_nothing Down s.tries) out back.1 a.0 a.1 tt (inr (inr (record { near = inr refl; far = inr (out_not_up t.phase gone); there = tt; back = tt })))
+    up_hears (o ∷ os) fs gs out back p = absurd back
+
+    -- the other end hears
+    off_hears : (os : List (List ℕ)) (fs gs : List PlainFrame) → Reads (other d.role) d.longest w.out fs → Reads (other c.role) c.longest os gs → Parts t s gs fs → Settling c d (delivered c os w)
+    off_hears [] fs gs out back p = h
+    off_hears (o ∷ os) fs gs out back (asked_polling busy n small up is) = passes o os busy n [] (sabm true ∷ []) is out back (inr (inl (asked up is)))
+    off_hears (o ∷ os) fs gs out back (granted n blank is) =
+        passes o os true n (ua true ∷ []) [] is out back (inr (inr (record { near = inr (ap is_up is); far = inl blank; there = tt; back = (tt, tt) })))
+    off_hears (o ∷ os) fs gs out back (polled busy n up gone) =
+        let a = laws.answers.out c o s gone (says busy true n true) back.0 (asks_poll busy n) in
+        goes o os [] (dm true ∷ []) [] s out back.1 a.near a.out (tt, tt) (inr (inl (declined up gone)))
+    off_hears (o ∷ os) fs gs out back p = absurd back
+
+    calm_hears_more : (os : List (List ℕ)) (fs gs : List PlainFrame) → Reads (other d.role) d.longest w.out fs → Reads (other c.role) c.longest os gs → Calm s t fs gs → Settling c d (delivered c os w)
+    calm_hears_more [] fs gs out back p = h
+    calm_hears_more (o ∷ os) fs [] out back p = absurd back
+    calm_hears_more (o ∷ os) fs (g ∷ gs) out back p =
+        let step = take_step c o s in
+        let k = calm_takes c o g s back.0 p.back.0 p.near in
+        goes o os gs step.side.out fs step.side.near out back.1 refl refl k.out (inr (inr (record { near = k.near; far = p.far; there = set_up_more fs step.side.out p.there k.out; back = p.back.1 })))
+
+  near_settles : (w : Stations) → Settling c d w → Settling c d (acts c Deliver w)
+  near_settles w h = elim h.is [
+    | inl p ↦ up_hears w h w.back h.there h.behind h.out h.back p
+    | inr (inl p) ↦ off_hears w h w.back h.there h.behind h.out h.back p
+    | inr (inr p) ↦ calm_hears_more w h w.back h.there h.behind h.out h.back p
+  ]
+
+-- ends that settle have settled once nothing is on the line
+pub settle : (c d : Settings) → AreJoined c d → ReadsSpelled → HealingLaws → (es : List Event) → AreDeliveries es → (w : Stations) → Settling c d w
+    → (let v = run c d es w in IsDrained v → RestsOrOut v.near.station × RestsOrOut v.far.station)
+settle c d joined reads laws es are w first drained = settled (other d.role) (other c.role) d.longest c.longest v.near.station v.far.station h.there h.behind (subst (λ (os : List (List ℕ)). Reads (other d.role) d.longest os h.there) drained.out h.out)
+    (subst (λ (os : List (List ℕ)). Reads (other c.role) c.longest os h.behind) drained.back h.back) h.is
+  where
+    v : Stations
+    v = run c d es w
+
+    far_settles : (w : Stations) → Settling c d w → Settling c d (swapped (acts d Deliver (swapped w)))
+    far_settles w h = turned d c (acts d Deliver (swapped w)) (near_settles d c (joined_swapped c d joined) reads laws (swapped w) (turned c d w h))
+
+    h : Settling c d v
+    h = deliveries_keep (Settling c d) c d (near_settles c d joined reads laws) far_settles es w are first

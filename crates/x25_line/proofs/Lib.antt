@@ -17,9 +17,7 @@ pub mod rows
 pub mod HealingOnce
 pub mod HealingLines
 pub mod HealingSteps
-pub mod HealingResent
 pub mod HealingRuns
-pub mod HealingGone
 pub mod HealingSetUp
 pub mod HealingEnds
 pub mod HealingSessions

@@ -14,7 +14,7 @@ use Rattle.x25_line.specs.laws.SessionClaims.{octets_of}
 use Rattle.x25_line.specs.Healing.{AreDeliveries, SessionHasTries, SessionsAreHealed, IsSessionAtRestOrOut, OneIsFree, SessionsHealUnlessBothBusy}
 use Rattle.x25_line.specs.laws.LawsBelow.{HealingLaws}
 use Rattle.x25_line.specs.laws.HealingPuts.{PutsHealSessions}
-use Rattle.x25_line.proofs.HealingOnce.{IsDrained, HasTries}
+use Rattle.x25_line.proofs.HealingOnce.{IsDrained, HasTries, RestsOrOut}
 use Rattle.x25_line.proofs.StationRuns.{joined_swapped}
 use Rattle.x25_line.proofs.sessions.SessionSeenRuns.{Both, both_swapped, throughout_both}
 use Rattle.x25_line.proofs.sessions.TwoSessions.{running}
@@ -29,9 +29,6 @@ use Rattle.x25_line.proofs.HealingPuts.{puts_run}
 -- an end as it stands, with no history
 abbrev end_of : SessionEnd → StationEnd
 end_of e = record { station = e.station; down = []; up = []; reasons = []; came_up = false }
-
-abbrev RestsOrOut : LinkStation → Type 0
-RestsOrOut s = IsAtRest s ⊎ (is_up s.phase ≡ false)
 
 in_order : (c : Settings) (e : SessionEnd) → (is_up e.station.phase ≡ true → IsRunning c.window e.station) → HasSaidAll c.window e.station → IsInOrderIfUp c (end_of e)
 in_order c e running said = record { sound = λ up. (running up).sound; said = λ _. said }
@@ -102,8 +99,7 @@ module _ (reads : ReadsSpelled) (laws : HealingLaws) (busy_laws : BusyLaws) wher
         tries = subst (λ (s : LinkStation). timer_runs s.phase s ≡ true → s.tries < d.retries) (sym alike.far.station) far_may.tries;
       } in
       let one : OneIsFree v.near.station v.far.station = elim free [ inl f ↦ inl (ap is_busy alike.near.station ∙ f) | inr f ↦ inr (ap is_busy alike.far.station ∙ f) ] in
-      let rest = settled reads laws busy_laws c d joined v sound drained near_tries far_tries one es are after in
-      record { near = rest.near.rest; far = rest.far.rest; once = rest.once })
+      settled reads laws busy_laws c d joined v sound drained near_tries far_tries one es are after)
 
   -- whatever the ends are
   pub sessions_heal_unless_both_busy : SessionsHealUnlessBothBusy
@@ -123,5 +119,4 @@ module _ (reads : ReadsSpelled) (laws : HealingLaws) (busy_laws : BusyLaws) wher
       let begun = begins reads laws busy_laws c d joined v sound drained (record { up = near.up; tries = near.tries }) (record { up = far.up; tries = far.tries }) (inl near.free) in
       let v1 : Stations = after_firings c d v in
       let stays = free_alike c d w.near.begun w.far.begun es (fired c d w) v1 (fired_alike c d w.near.begun w.far.begun w v alike) free in
-      let rest = both_settle reads laws busy_laws c d joined (one.run c d es v1) (puts_run c d joined reads laws busy_laws es v1 are begun stays) after in
-      record { near = rest.near.rest; far = rest.far.rest; once = rest.once })
+      both_settle reads laws busy_laws c d joined (one.run c d es v1) (puts_run reads laws busy_laws c d joined es v1 are begun stays) after)
