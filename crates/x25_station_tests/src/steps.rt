@@ -215,7 +215,10 @@ fn happens(station: &mut Station, act: Act, out: &mut Step) -> Result<(), Statio
             receive(station, octets, out);
             Ok(())
         }
-        Act::Pull => pull(station, out),
+        Act::Pull => {
+            pull(station, out);
+            Ok(())
+        }
     }
 }
 

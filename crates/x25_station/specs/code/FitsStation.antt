@@ -79,7 +79,7 @@ pub record Does (old new : code.Station) (out : code_step.Step) (result : Result
   pub refused : (c : Settings) (s : Station) → FitsStation c old s → Refuses result (said c s)
   pub stays : (c : Settings) (s : Station) → FitsStation c old s → OnErr result (FitsStation c new s)
   pub empty : OnErr result (IsEmpty out)
-  pub few_frames : length out.frames ≤ 17
+  pub few_frames : length out.frames ≤ 9
   pub few_entries : length out.entries.items ≤ 3
 
 -- a call that makes a station is refused with this, or else with 70 alone
