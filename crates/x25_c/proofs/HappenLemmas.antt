@@ -12,7 +12,7 @@ use Rattle.x25_station.specs.Step.{Outcome, Did, Refused}
 use Rattle.x25_station.specs.Pulling.{pulled}
 use Rattle.x25_station.specs.Timer.{standing, timer_pulled}
 use Rattle.x25_station.specs.code.Clock as clock
-use Rattle.x25_station.specs.code.FitsStation.{FitsStation, FitsStill, Does, IsEmpty, Leaves, Sends, Enters, Refuses}
+use Rattle.x25_station.specs.code.FitsStation.{FitsStation, FitsStill, Does, IsEmpty, Leaves, Sends, Enters, Refuses, RefusesOnly}
 use Rattle.x25_station.specs.code.PlainEntry.{plain_entry}
 use Rattle.x25_station.specs.code.Pulls.{Pulls}
 use Rattle.x25_station.specs.laws.TimerLaw.{Event, outcome, is_firing}
@@ -23,7 +23,7 @@ use Rattle.x25_c.specs.declared.happening.Happening as code
 use Rattle.x25_c.specs.declared.happening.Happening.TheVariants as variant
 use Rattle.x25_c.specs.declared.held.Held.{Held}
 use Rattle.x25_c.specs.Clocked.{Heeds}
-use Rattle.x25_c.specs.Happening.{and_pull}
+use Rattle.x25_c.specs.Happening.{and_pull, may_lack_at}
 use Rattle.x25_c.specs.code.Happens.{Happens, IsTimer, event_of}
 
 abbrev accepted : Result Unit StationError
@@ -52,15 +52,16 @@ module _ (at : code_station.Station) (step : code_step.Step) (new : Held) (pulls
 
 pub is_both : (old new : Held) (at : code_station.Station) (step : code_step.Step) (event : Event) → Does old.station at step accepted (λ c s. outcome c s event)
     → clock.TellsTimer old.station step.timer accepted (is_firing event) (λ c s. outcome c s event) → (length step.frames ≤ 9 → Pulls at new.station step.frames new.step.frames)
-    → (length step.frames ≤ 9 → (c : Settings) (s : Station) → FitsStation c at s → new.step.timer ≡ timer_pulled step.timer s (pulled c s).near) → new.step.entries ≡ step.entries → new.end ≡ old.end → new.time ≡ old.time
+    → (length step.frames ≤ 9 → (c : Settings) (s : Station) → FitsStation c at s → new.step.timer ≡ timer_pulled step.timer s (pulled c s).near) → new.step.entries ≡ step.entries → (may_lack_at event ≡ false → (c : Settings) (s : Station) → FitsStation c old.station s → RefusesOnly accepted (outcome c s event)) → new.end ≡ old.end → new.time ≡ old.time
     → ((c : Settings) (s : Station) → FitsStation c new.station s → Heeds old.time (seen c s new.step (comes event)) old.clock new.clock) → Happens old new accepted event
-is_both old new at step event does timer pulls times entries end now heeds = record {
+is_both old new at step event does timer pulls times entries only end now heeds = record {
   end = end;
   state = λ c s fits. left at step new (pulls does.few_frames) c (outcome c s event) (does.state c s fits);
   frames = λ c s fits. sent at step new (pulls does.few_frames) c (outcome c s event) (does.state c s fits) (does.frames c s fits);
   entries = λ c s fits. entered at step new (pulls does.few_frames) c entries (outcome c s event) (does.entries c s fits);
   timer = λ c s fits. timed at step new (pulls does.few_frames) c (times does.few_frames) s event (outcome c s event) (does.state c s fits) (does.refused c s fits) (timer c s fits);
   refused = does.refused;
+  only = only;
   stays = λ c s fits. tt;
   empty = tt;
   time = now;
@@ -94,15 +95,17 @@ module _ (new : Held) (e : StationError) (c : Settings) where
 -- the station is as before, and its step is empty
 pub is_refused : (old new : Held) (e : StationError) (event : Event) → new.end ≡ old.end
     → ((c : Settings) (s : Station) → FitsStation c old.station s → Refuses {T = Unit} (Err e) (outcome c s event))
+    → (may_lack_at event ≡ false → (c : Settings) (s : Station) → FitsStation c old.station s → RefusesOnly {T = Unit} (Err e) (outcome c s event))
     → ((c : Settings) (s : Station) → FitsStation c old.station s → FitsStation c new.station s)
     → IsEmpty new.step → ((c : Settings) (s : Station) → FitsStation c old.station s → new.step.timer ≡ standing s) → new.time ≡ old.time → new.clock ≡ old.clock → Happens old new (Err e) event
-is_refused old new e event end refused stays empty timer now unheeded = record {
+is_refused old new e event end refused only stays empty timer now unheeded = record {
   end = end;
   state = λ c s fits. none_left new e c (outcome c s event);
   frames = λ c s fits. none_sent new e c (outcome c s event);
   entries = λ c s fits. none_entered new e c (outcome c s event);
   timer = timer;
   refused = refused;
+  only = only;
   stays = stays;
   empty = empty;
   time = now;
@@ -130,6 +133,7 @@ from_still old mid new r event still end now clock h = record {
   entries = λ c s fits. h.entries c s (still c s fits);
   timer = λ c s fits. h.timer c s (still c s fits);
   refused = λ c s fits. h.refused c s (still c s fits);
+  only = λ none c s fits. h.only none c s (still c s fits);
   stays = λ c s fits. h.stays c s (still c s fits);
   empty = h.empty;
   time = h.time ∙ now;

@@ -1,12 +1,19 @@
 -- What happens to a station that C holds (profile): an event, and behind it a pull of what waits.
-use Rattle.std.specs.Prelude.{◌++◌}
+use Rattle.std.specs.Prelude.{Bool, false, ◌++◌}
 use Rattle.x25_station.specs.declared.timer.Timer.{Timer}
+use Rattle.x25_station.specs.Command.{may_lack}
 use Rattle.x25_station.specs.Config.{Settings}
 use Rattle.x25_station.specs.Pulling.{pulled}
 use Rattle.x25_station.specs.Station.{Station}
 use Rattle.x25_station.specs.Step.{Outcome, Did, Refused}
 use Rattle.x25_station.specs.Timer.{timer_pulled}
-use Rattle.x25_station.specs.laws.TimerLaw.{Event, outcome, timer}
+use Rattle.x25_station.specs.laws.TimerLaw.{Event, Comes, Asks, Fires, outcome, timer}
+
+-- an event for which memory may be wanted: a call, an acceptance, a message, and what is given with a packet
+abbrev pub may_lack_at : Event → Bool
+may_lack_at (Comes octets) = false
+may_lack_at (Asks command) = may_lack command
+may_lack_at Fires = false
 
 -- its frames come behind those of the step
 abbrev pub and_pull : Settings → Outcome → Outcome

@@ -2,19 +2,18 @@
 ghost use Rattle.std.specs.Prelude.{◌≡◌, ◌≤◌, ◌+◌, [], None, Ok, IfOk, OnErr, OnOk, length, slice_get, unwrap_or};
 ghost use Rattle.std.specs.Option.{option_map};
 ghost use Rattle.x25_bits.specs.declared.role.Role.{Role};
-ghost use Rattle.x25_console.specs.Commands.{command_asked};
 ghost use Rattle.x25_script.specs.Reading.{command_in};
 ghost use Rattle.x25_script.specs.ScriptLine.{plain_command};
 ghost use Rattle.x25_station.specs.declared.config.Cfg.{Cfg};
 ghost use Rattle.x25_station.specs.Config.{settings_from};
 ghost use Rattle.x25_station.specs.Station.{new_station};
-ghost use Rattle.x25_station.specs.laws.TimerLaw.{Asks, Comes, Event};
+ghost use Rattle.x25_station.specs.laws.TimerLaw.{Comes};
 ghost use Rattle.x25_station.specs.code.FitsStation.{FitsStation, FitsStill, IsEmpty};
 ghost use Rattle.x25_c.specs.Held.{channel_of, entries_of, frames_of, in_place, lines_of, no_answer, part_of};
 ghost use Rattle.x25_c.specs.Held.{timer_of, whole_of, IsAlone};
 ghost use Rattle.x25_c.specs.Item.{items_of, last_items, later_items, plain_item};
 ghost use Rattle.x25_c.specs.code.Clocks.{Insists, Passes, Rests, Sets};
-ghost use Rattle.x25_c.specs.code.Happens.{GivesAnswer, Happens, IsNew, event_of};
+ghost use Rattle.x25_c.specs.code.Happens.{DoesCommand, GivesAnswer, Happens, IsNew, Lacks, event_of};
 ghost use Rattle.x25_c.specs.code.Receives.{ReceivesAll};
 
 use crate::answers::{in_both, then};
@@ -131,7 +130,7 @@ impl Held {
 
     // Refuses for want of memory.
     fn refuse(&mut self) -> Result<(), StationError>
-        ensures happens { (event : Event) → Happens self.old self.new result event }
+        ensures lacks { Lacks self.old self.new result }
         ensures alone { IsAlone self.new }
         ensures passed { self.new.passed ≡ None }
     {
@@ -142,9 +141,7 @@ impl Held {
 
     // Does a command.
     fn ask(&mut self, alloc: Global, command: Command) -> Result<(), StationError>
-        ensures happens { Happens self.old self.new result (Asks (command_asked (plain_command command.entry))) }
-        ensures alone { IsAlone self.new }
-        ensures passed { self.new.passed ≡ None }
+        ensures { DoesCommand self.old self.new result (plain_command command.entry) }
     {
         let mut user = Vec::new(alloc);
         let Ok(count) = read_user(&command, &mut user) else {

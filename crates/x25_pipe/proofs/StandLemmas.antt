@@ -1,5 +1,5 @@
 -- How it stands after a turn.
-use Rattle.std.proofs.Common.{◌≡◌, ◌∙◌, ◌==◌, ℕ, Bool, true, false, List, [], ◌∷◌, ◌++◌, map, Option, Some, None, Result, Ok, MatchResult, ap, sym, subst, refl, inl, inr}
+use Rattle.std.proofs.Common.{◌≡◌, ◌∙◌, ◌==◌, ℕ, Bool, true, false, List, [], ◌∷◌, ◌++◌, map, Option, Some, None, Result, Ok, MatchResult, ap, sym, subst, refl}
 use Rattle.std.proofs.lemmas.Result.{MatchResult-weaker}
 use Rattle.std.specs.Prelude.{◌||◌}
 use Rattle.std.proofs.lemmas.List.{append-nil, map-append}
@@ -104,8 +104,7 @@ nothing_said end = refl
 -- an error that isn't want of memory
 pub error_is : (error : StationError) (o : Outcome) → IsError error o → (error ≡ NoMemory → ⊥) → o ≡ Refused error
 error_is error (Did step) is other = absurd (other is)
-error_is error (Refused e) (inl same) other = ap Refused (sym same)
-error_is error (Refused e) (inr none) other = absurd (other none)
+error_is error (Refused e) same other = ap Refused (sym same)
 
 -- entries and frames are no refusals
 none_refused : (entries : List StationEntry) (frames : List (List ℕ)) → has_refusal (map enters entries ++ map sends frames) ≡ false

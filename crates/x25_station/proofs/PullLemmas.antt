@@ -28,9 +28,9 @@ use Rattle.x25_station.specs.Station.{Station, all_put, view_of, waiting_after}
 use Rattle.x25_station.specs.Step.{Step, Outcome, Did, Refused, did, requests, entries_of_outcome}
 use Rattle.x25_station.specs.laws.KeepLaw.{KeptBy}
 use Rattle.x25_station.specs.code.FitsParts.{FitsParts}
-use Rattle.x25_station.specs.code.FitsStation.{LeavesParts, Refuses, RefusesExactly, RefusesOnly}
+use Rattle.x25_station.specs.code.FitsStation.{LeavesParts, Refuses, RefusesOnly}
 use Rattle.x25_station.specs.Receiving.{kept_of}
-use Rattle.x25_station.proofs.AskLemmas.{Layers, Links, taken_link, answered_by, goes_did, refused_exactly_did, calls_named}
+use Rattle.x25_station.proofs.AskLemmas.{Layers, Links, taken_link, answered_by, goes_did, refused_did, calls_named}
 use Rattle.x25_station.proofs.LinkLemmas.{put_by_put, same_view}
 use Rattle.x25_station.proofs.ResultLemmas.{ok_err}
 
@@ -103,7 +103,7 @@ abbrev none_pulled : Station → Step
 none_pulled s = record { near = s; out = []; entries = [] }
 
 -- where it was no want of memory, nothing is done
-none_of : (s : Station) (e : LayerError) (found : StationError) (o : Outcome) → found ≡ of_layer e → e ≢ layer_error.NoMemory → (let r : Result Unit StationError = Err found in RefusesExactly r o) → pulled_of s o ≡ none_pulled s
+none_of : (s : Station) (e : LayerError) (found : StationError) (o : Outcome) → found ≡ of_layer e → e ≢ layer_error.NoMemory → (let r : Result Unit StationError = Err found in Refuses r o) → pulled_of s o ≡ none_pulled s
 none_of s e found (Did step) is other exactly = absurd (other (memory_is e (sym is ∙ exactly)))
 none_of s e found (Refused x) is other exactly = refl
 
@@ -167,7 +167,7 @@ module _ (c : Settings) (l g : ShownLink) (y : layer_code.Layer) (s : Station) (
   nothing_done e z named layers =
       let x : Result Unit LayerError = Err e in
       none_of s e (of_layer e) (requests c s PullsAll) refl named
-      (refused_exactly_did Unit Unit e (of_layer e) c s.link z entries answer (calls_named (view_of (link_settings c) s.link) (layer_settings c) s.layer PullsAll) refl (layer_gives x z layers))
+      (refused_did Unit Unit e (of_layer e) c s.link z entries answer (calls_named (view_of (link_settings c) s.link) (layer_settings c) s.layer PullsAll) refl (layer_gives x z layers))
 
   pub pulls_fit : (result : Result Unit LayerError) (m n : ShownLink) (z : layer_code.Layer) → Layers g y z result PullsAll → Links g m y result PullsAll → (IsErrOf result layer_error.NoMemory → places_left before < 16) → length before ≤ 9
       → OnErr result (FitsLayer (layer_settings c) z s.layer) → ((x : LinkState) → FitsWhole g x → OnErr result (FitsWhole m x)) → n.station ≡ m.station → n.frames ≡ [] → KeptBy (requests c s PullsAll)
@@ -184,15 +184,15 @@ module _ (c : Settings) (l g : ShownLink) (y : layer_code.Layer) (s : Station) (
 
 -- ---- a pull that is asked for
 
-pub goes_on : (o : Outcome) → RefusesExactly {T = Unit} (Ok tt) o → RefusesOnly {T = Unit} (Ok tt) o
-goes_on (Did step) exactly = refl
-goes_on (Refused e) exactly = exactly
+pub goes_on : (o : Outcome) → Refuses {T = Unit} (Ok tt) o → RefusesOnly {T = Unit} (Ok tt) o
+goes_on (Did step) goes = refl
+goes_on (Refused e) goes = absurd goes
 
 pub has_places : (found : StationError) (e : LayerError) (frames : List (List ℕ)) (o : Outcome) → found ≡ of_layer e
     → ((let x : Result Unit LayerError = Err e in IsErrOf x layer_error.NoMemory) → places_left frames < 16) → frames ≡ []
-    → (let r : Result Unit StationError = Err found in RefusesExactly r o → RefusesOnly r o)
+    → (let r : Result Unit StationError = Err found in Refuses r o → RefusesOnly r o)
 has_places found e frames (Did step) is missing none exactly =
     let few = missing (ap (λ (x : LayerError). let r : Result Unit LayerError = Err x in r) (memory_is e (sym is ∙ exactly))) in
     let n : length frames ≡ 0 = ap length none in
     absurd (omega (arith, few, n))
-has_places found e frames (Refused x) is missing none exactly = exactly
+has_places found e frames (Refused x) is missing none exactly = ap (λ y. Err y) exactly
