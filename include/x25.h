@@ -12,7 +12,7 @@
  * last answer stands.) Each may answer X25_NO_STATION. X25_NO_MEMORY is of x25_new, x25_call, x25_accept, x25_send, their forms
  * with more, x25_clear_with, x25_command, x25_receive_all, x25_set_times and x25_entry alone. What else one answers stands beside it.
  *
- * An answer has at most 24 frames of at most 4,103 octets, and 4 events, of which one has at most 65,535 octets; that of
+ * An answer has at most 17 frames of at most 4,103 octets, and 4 events, of which one has at most 65,535 octets; that of
  * x25_receive_all has as many for each frame that was taken. Its memory is made with the station, and that of a channel with its
  * first call: what comes takes none, and reading it none but for x25_entry. A new station takes less than 470 kB, with 4,095 channels
  * less than 3 MB; one with all that may wait on 16 channels less than 11 MB.
@@ -309,9 +309,6 @@ uint32_t x25_entry(const x25_station *station, size_t i, char *text, size_t size
 /* What became of timer T1 at the last call. */
 uint32_t x25_timer(const x25_station *station);
 
-/* Whether the answer to the last call that was accepted had no places for frames of messages that may wait: they go on with the
-   next one, as x25_pull is. */
-bool x25_waits(const x25_station *station);
 /* Whether the link is up, and all that was asked was sent and acknowledged. */
 bool x25_idle(const x25_station *station);
 /* How many messages more x25_send takes on a channel: 8 less those that wait, and 0 where it is refused. */

@@ -12,8 +12,6 @@ static void take(end_t *end)
         expect("entry", x25_entry(&end->station, i, end->told + end->length, TEXT - end->length, &count), 0);
         end->length += count;
     }
-    if (x25_waits(&end->station))
-        fail("memory was refused", 0);
 }
 
 static void ask(end_t *end, const char *text)
@@ -87,7 +85,6 @@ static void try_refusals(void)
     expect("entries of none", (uint32_t)x25_entries(station), 0);
     expect("timer of none", x25_timer(station), X25_TIMER_OFF);
     expect("none is idle", x25_idle(station), false);
-    expect("none waits", x25_waits(station), false);
     expect("room of none", (uint32_t)(x25_room(station, 1) + x25_unconfirmed(station, 1)), 0);
     expect("stretch of none", x25_stretch(station, 1, &(x25_stretch_name){0}), false);
     expect("a bad end", x25_new(station, 2, one_channel), X25_BAD_SETTING);

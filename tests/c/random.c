@@ -450,7 +450,6 @@ int main(int argc, char **argv)
         if (number != X25_NO_COMMAND)
             take(end);
         x25_idle(&end->station);
-        x25_waits(&end->station);
         x25_stretch(&end->station, (uint16_t)draw(4), &(x25_stretch_name){0, 0, 0});
     }
     x25_free(&dte.station);

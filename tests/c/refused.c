@@ -30,13 +30,6 @@ static void take(end_t *end)
         expect("entry", AGAIN(x25_entry(&end->station, i, room, TEXT - end->length, &count)), 0);
         end->length += count;
     }
-    if (x25_waits(&end->station)) {
-        met++;
-        number = x25_command(&end->station, "pull", 4);
-        if (number != 0 && number != X25_LINK_NOT_UP && number != X25_RESTARTING)
-            fail("pull", number);
-        take_frames(end);
-    }
 }
 
 static void ask(end_t *end, const char *text)

@@ -261,7 +261,6 @@ _FUNCTIONS: dict[str, tuple[Any, Any]] = {
     "entries": ([_STATION], _SIZE),
     "entry": ([*_AT, ctypes.POINTER(_SIZE)], ctypes.c_uint32),
     "timer": ([_STATION], ctypes.c_uint32),
-    "waits": ([_STATION], ctypes.c_bool),
     "idle": ([_STATION], ctypes.c_bool),
     "room": ([_STATION, ctypes.c_uint16], _SIZE),
     "unconfirmed": ([_STATION, ctypes.c_uint16], _SIZE),
@@ -497,12 +496,6 @@ class Station:
         """What became of timer T1 at the last call."""
         with self._lock:
             return Timer(self._library.x25_timer(self._slot))
-
-    @property
-    def waits(self) -> bool:
-        """Whether the last answer had no places for frames of messages that may wait."""
-        with self._lock:
-            return bool(self._library.x25_waits(self._slot))
 
     @property
     def is_idle(self) -> bool:

@@ -432,11 +432,6 @@ impl Station {
         Timer::of(unsafe { raw::x25_timer(self.slot.get()) })
     }
 
-    /// Whether the last answer had no places for frames of messages that may wait.
-    pub fn waits(&self) -> bool {
-        unsafe { raw::x25_waits(self.slot.get()) }
-    }
-
     /// Whether the link is up, and all that was asked was sent and acknowledged.
     pub fn is_idle(&self) -> bool {
         unsafe { raw::x25_idle(self.slot.get()) }
@@ -604,7 +599,7 @@ mod tests {
             user,
         };
         assert_eq!(talk(answer, &mut dte, &mut dce), [asked, message]);
-        assert!(dte.is_idle() && dce.is_idle() && !dte.waits());
+        assert!(dte.is_idle() && dce.is_idle());
         assert_eq!(dte.timer(), Timer::Off);
         assert_eq!(dce.stretch(channel), Some(stretch));
         assert_eq!(dce.stretch(2), None);

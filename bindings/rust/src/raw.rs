@@ -174,7 +174,6 @@ extern "C" {
         count: *mut usize,
     ) -> u32;
     pub fn x25_timer(slot: *const Slot) -> u32;
-    pub fn x25_waits(slot: *const Slot) -> bool;
     pub fn x25_idle(slot: *const Slot) -> bool;
     pub fn x25_room(slot: *const Slot, channel: u16) -> usize;
     pub fn x25_unconfirmed(slot: *const Slot, channel: u16) -> usize;

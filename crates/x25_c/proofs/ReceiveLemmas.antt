@@ -92,4 +92,4 @@ module _ (octets counts : List ℕ) (place at : ℕ) (old self : Held) (there : 
 pub ends_all : (octets counts : List ℕ) (place : ℕ) (old self : Held) → place ≡ length counts → Received octets counts place old self (whole_of self) → self.passed ≡ None → ReceivesAll octets counts old self (length counts) 0
 unfolding ReceivesAll
 ends_all octets counts place old self all before passed =
-    (self, subst (λ n. Received octets counts n old self (whole_of self)) all before, (λ c s fits. fits), refl, inl (refl, refl, refl), record { clock = refl; time = refl }, passed)
+    (self, subst (λ n. Received octets counts n old self (whole_of self)) all before, (λ c s fits. fits), refl, inl (refl, refl), record { clock = refl; time = refl }, passed)

@@ -3,7 +3,6 @@ use Rattle.std.specs.Prelude.{◌≡◌, ◌⊎◌, ℕ, ◌<◌, ◌≤◌, Lis
 use Rattle.x25_bits.specs.declared.role.Role.{Role}
 use Rattle.x25_clock.specs.declared.times.Times.{Times}
 use Rattle.x25_clock.specs.Times.{standard}
-use Rattle.x25_console.specs.Commands.{command_asked}
 use Rattle.x25_script.specs.ScriptLine.{PlainCommand}
 use Rattle.x25_station.specs.declared.error.StationError.{StationError}
 use Rattle.x25_station.specs.declared.error.StationError.TheVariants.{BadConfig}
@@ -11,13 +10,13 @@ use Rattle.x25_station.specs.declared.config.Cfg.{Cfg}
 use Rattle.x25_station.specs.declared.timer.Timer.{Timer}
 use Rattle.x25_station.specs.declared.timer.Timer.TheVariants.{Off, Begins, GoesOn}
 use Rattle.x25_station.specs.Error.{number_of}
-use Rattle.x25_station.specs.laws.TimerLaw.{Event, Asks}
+use Rattle.x25_station.specs.laws.TimerLaw.{Event}
 use Rattle.x25_c.specs.declared.held.Held.{Held}
 use Rattle.x25_c.specs.declared.times.Times as c
 use Rattle.x25_c.specs.Clocked.{times_told}
 use Rattle.x25_c.specs.Held.{IsAlone}
 use Rattle.x25_c.specs.Making.{role_of, making_refusal}
-use Rattle.x25_c.specs.code.Happens.{Happens, IsNew}
+use Rattle.x25_c.specs.code.Happens.{DoesCommand, Happens, IsNew}
 use Rattle.x25_c.specs.code.Clocks.{Passes, Sets}
 use Rattle.x25_c.specs.code.Receives.{ReceivesAll}
 
@@ -48,7 +47,8 @@ Answers (Some old) (Some new) number event = AnswersOne old new number event
 -- so does a command that is spelled; where none is, 60 is the answer, and the station is as before
 abbrev pub CommandsOne : Held → Held → ℕ → Option PlainCommand → Type 0
 CommandsOne old new number None = (number ≡ 60) × (new ≡ old)
-CommandsOne old new number (Some asked) = AnswersOne old new number (Asks (command_asked asked))
+CommandsOne old new number (Some asked) = (r : Result Unit StationError) × (number ≡ number_in r)
+    × DoesCommand old new r asked
 
 abbrev pub Commands : Option Held → Option Held → ℕ → Option PlainCommand → Type 0
 Commands None None number asked = number ≡ 16

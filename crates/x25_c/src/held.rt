@@ -2,19 +2,18 @@
 ghost use Rattle.std.specs.Prelude.{◌≡◌, ◌≤◌, ◌+◌, [], None, Ok, IfOk, OnErr, OnOk, length, slice_get, unwrap_or};
 ghost use Rattle.std.specs.Option.{option_map};
 ghost use Rattle.x25_bits.specs.declared.role.Role.{Role};
-ghost use Rattle.x25_console.specs.Commands.{command_asked};
 ghost use Rattle.x25_script.specs.Reading.{command_in};
 ghost use Rattle.x25_script.specs.ScriptLine.{plain_command};
 ghost use Rattle.x25_station.specs.declared.config.Cfg.{Cfg};
 ghost use Rattle.x25_station.specs.Config.{settings_from};
 ghost use Rattle.x25_station.specs.Station.{new_station};
-ghost use Rattle.x25_station.specs.laws.TimerLaw.{Asks, Comes, Event};
+ghost use Rattle.x25_station.specs.laws.TimerLaw.{Comes};
 ghost use Rattle.x25_station.specs.code.FitsStation.{FitsStation, FitsStill, IsEmpty};
 ghost use Rattle.x25_c.specs.Held.{channel_of, entries_of, frames_of, in_place, lines_of, no_answer, part_of};
 ghost use Rattle.x25_c.specs.Held.{timer_of, whole_of, IsAlone};
 ghost use Rattle.x25_c.specs.Item.{items_of, last_items, later_items, plain_item};
 ghost use Rattle.x25_c.specs.code.Clocks.{Insists, Passes, Rests, Sets};
-ghost use Rattle.x25_c.specs.code.Happens.{GivesAnswer, Happens, IsNew, PullsBehind, event_of};
+ghost use Rattle.x25_c.specs.code.Happens.{DoesCommand, GivesAnswer, Happens, IsNew, Lacks, event_of};
 ghost use Rattle.x25_c.specs.code.Receives.{ReceivesAll};
 
 use crate::answers::{in_both, then};
@@ -32,16 +31,15 @@ use x25_station::{Entries, Entry, Role, Station, StationError, Step, Timer};
 use x25_text::Text;
 use x25_transcript::entry_line;
 
-/// A station, which end it is, what it answered to its last call, nothing where that was refused, and whether memory
-/// was refused for the pull behind that. Of frames that came in one call, `earlier` is what all but the last were
-/// answered. Its clock, where it has one, the time that was said last, and the timer that the last answer tells of.
+/// A station, which end it is, and what it answered to its last call, nothing where that was refused. Of frames that
+/// came in one call, `earlier` is what all but the last were answered. Its clock, where it has one, the time that was
+/// said last, and the timer that the last answer tells of.
 #[derive(Drop)]
 pub struct Held {
     pub end: Role,
     pub station: Station,
     pub earlier: Earlier,
     pub step: Step,
-    pub waits: bool,
     pub clock: Option<Clock>,
     pub time: u64,
     pub passed: Option<Passed>,
@@ -59,7 +57,6 @@ impl Held {
             station,
             earlier: Earlier::new(alloc),
             step,
-            waits: false,
             clock: None,
             time: 0,
             passed: None,
@@ -80,17 +77,6 @@ impl Held {
         self.passed = None;
     }
 
-    // Pulls what waits, behind an event.
-    fn pull(&mut self)
-        ensures pulls { PullsBehind self.old self.new }
-        ensures earlier { self.new.earlier ≡ self.old.earlier }
-        ensures clock { self.new.clock ≡ self.old.clock }
-        ensures time { self.new.time ≡ self.old.time }
-        ensures passed { self.new.passed ≡ self.old.passed }
-    {
-        self.waits = self.station.pull(&mut self.step).is_err();
-    }
-
     /// Lets something happen to the station, and pulls behind it.
     #[inline(always)]
     pub(crate) fn happen(&mut self, event: Happening<'_>) -> Result<(), StationError>
@@ -109,10 +95,9 @@ impl Held {
         ensures earlier { self.new.earlier ≡ self.old.earlier }
         ensures passed { self.new.passed ≡ self.old.passed }
     {
-        self.waits = false;
         match happen(&mut self.station, event, &mut self.step) {
             Ok(()) => {
-                self.pull();
+                self.station.pull(&mut self.step);
                 heed(&mut self.clock, self.time, &self.station, &self.step, false);
                 Ok(())
             }
@@ -139,27 +124,24 @@ impl Held {
         ensures passed { self.new.passed ≡ self.old.passed }
     {
         self.station.receive(octets, &mut self.step);
-        self.pull();
+        self.station.pull(&mut self.step);
         heed(&mut self.clock, self.time, &self.station, &self.step, true);
     }
 
     // Refuses for want of memory.
     fn refuse(&mut self) -> Result<(), StationError>
-        ensures happens { (event : Event) → Happens self.old self.new result event }
+        ensures lacks { Lacks self.old self.new result }
         ensures alone { IsAlone self.new }
         ensures passed { self.new.passed ≡ None }
     {
         self.begin();
         self.station.reuse(&mut self.step);
-        self.waits = false;
         Err(StationError::NoMemory)
     }
 
     // Does a command.
     fn ask(&mut self, alloc: Global, command: Command) -> Result<(), StationError>
-        ensures happens { Happens self.old self.new result (Asks (command_asked (plain_command command.entry))) }
-        ensures alone { IsAlone self.new }
-        ensures passed { self.new.passed ≡ None }
+        ensures { DoesCommand self.old self.new result (plain_command command.entry) }
     {
         let mut user = Vec::new(alloc);
         let Ok(count) = read_user(&command, &mut user) else {
@@ -185,7 +167,6 @@ impl Held {
         ensures kept { OnOk result (part_of self.new.step ≡ no_answer) }
         ensures station { self.new.station ≡ self.old.station }
         ensures end { self.new.end ≡ self.old.end }
-        ensures waits { self.new.waits ≡ self.old.waits }
         ensures clock { self.new.clock ≡ self.old.clock }
         ensures time { self.new.time ≡ self.old.time }
         ensures passed { self.new.passed ≡ self.old.passed }
@@ -253,7 +234,6 @@ impl Held {
         self.begin();
         self.station.reuse(&mut self.step);
         self.step.timer = Timer::GoesOn;
-        self.waits = false;
     }
 
     // What is due is asked for, as its timer has passed.

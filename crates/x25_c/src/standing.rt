@@ -14,21 +14,6 @@ use crate::slot::Slot;
 use crate::stretch_name::{StretchName, tell_name};
 use std::alloc::Global;
 
-/// Whether the last answer had no places for frames of messages that may wait: the next call pulls them.
-#[unsafe(no_mangle)]
-pub extern "C" fn x25_waits(alloc: Global, slot: &mut Slot) -> bool
-    ensures kept { slot.new.handle.held ≡ slot.old.handle.held }
-    ensures waits { IfSome slot.old.handle.held (λ h. result ≡ h.waits) }
-    ensures none { IfNone slot.old.handle.held (result ≡ false) }
-{
-    let Some(held) = slot.take(alloc) else {
-        return false;
-    };
-    let waits = held.waits;
-    slot.put(held);
-    waits
-}
-
 /// Whether the link is up, and all that was asked was sent and acknowledged.
 #[unsafe(no_mangle)]
 pub extern "C" fn x25_idle(alloc: Global, slot: &mut Slot) -> bool

@@ -64,8 +64,8 @@ fn happen(station: &mut Station, event: Event<'_>, step: &mut Step) -> Result<()
 }
 
 // What waits in the circuits goes, so that no message is left there while nothing is on the line.
-fn pull(station: &mut Station, step: &mut Step) -> Result<(), StationError> {
-    station.pull(step)
+fn pull(station: &mut Station, step: &mut Step) {
+    station.pull(step);
 }
 
 // What a station answered goes on: frames to the line, notices to the user, and timer T1 is set.
@@ -101,9 +101,7 @@ pub(crate) fn drive<L: Line, T: Timer, U: User>(
     if let Err(error) = happen(station, event, step) {
         return Err(Trouble::Refused(error));
     }
-    if pull(station, step).is_err() {
-        return Err(Trouble::NoMemory);
-    }
+    pull(station, step);
     hand_on(step, line, timer, user)?;
     Ok(())
 }

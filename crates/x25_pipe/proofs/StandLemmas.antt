@@ -1,5 +1,5 @@
 -- How it stands after a turn.
-use Rattle.std.proofs.Common.{◌≡◌, ◌∙◌, ◌==◌, ℕ, Bool, true, false, List, [], ◌∷◌, ◌++◌, map, Option, Some, None, Result, Ok, MatchResult, ap, sym, subst, refl, inl, inr}
+use Rattle.std.proofs.Common.{◌≡◌, ◌∙◌, ◌==◌, ℕ, Bool, true, false, List, [], ◌∷◌, ◌++◌, map, Option, Some, None, Result, Ok, MatchResult, ap, sym, subst, refl}
 use Rattle.std.proofs.lemmas.Result.{MatchResult-weaker}
 use Rattle.std.specs.Prelude.{◌||◌}
 use Rattle.std.proofs.lemmas.List.{append-nil, map-append}
@@ -104,8 +104,7 @@ nothing_said end = refl
 -- an error that isn't want of memory
 pub error_is : (error : StationError) (o : Outcome) → IsError error o → (error ≡ NoMemory → ⊥) → o ≡ Refused error
 error_is error (Did step) is other = absurd (other is)
-error_is error (Refused e) (inl same) other = ap Refused (sym same)
-error_is error (Refused e) (inr none) other = absurd (other none)
+error_is error (Refused e) same other = ap Refused (sym same)
 
 -- entries and frames are no refusals
 none_refused : (entries : List StationEntry) (frames : List (List ℕ)) → has_refusal (map enters entries ++ map sends frames) ≡ false
@@ -221,9 +220,9 @@ none_entered c s =
     none_in c s (layer_outcome lc (waiting_after (link_settings c) s.link [] == 256) s.layer PullsAll) (calls (view_of (link_settings c) s.link) lc s.layer PullsAll)
 
 module _ (c : Settings) (v u : code.Station) (step both : code_step.Step) where
-  pub pulled_step : (w : Unit) (o : Outcome) → IsStep c v step o → Pulls v u step.frames both.frames (Ok w)
+  pub pulled_step : (o : Outcome) → IsStep c v step o → Pulls v u step.frames both.frames
       → both.entries ≡ step.entries → IsStep c u both (with_pulls c o)
-  pulled_step w (Did plain) h p entries =
+  pulled_step (Did plain) h p entries =
       let pulls : Step = pulled c plain.near in
       subst (λ (x : Step). IsStep c u both (Did x)) (sym (both_is c plain)) (record {
         leaves = p.state c plain.near h.leaves;
@@ -231,7 +230,7 @@ module _ (c : Settings) (v u : code.Station) (step both : code_step.Step) where
         enters = ap (λ es. map plain_entry es.items) entries ∙ h.enters ∙ sym (append-nil plain.entries) ∙ ap (λ es. plain.entries ++ es) (sym (none_entered c plain.near));
         accepted = tt;
       })
-  pulled_step w (Refused e) h p entries = absurd h.accepted
+  pulled_step (Refused e) h p entries = absurd h.accepted
 
   pub pulled_timer_is : (s : Station) (event : Event) (o : Outcome) → IsStep c v step o → ((n : Station) → FitsStation c v n → both.timer ≡ timer_pulled step.timer n (pulled c n).near)
       → step.timer ≡ timer.timer s event o → both.timer ≡ timer_with_pulls c s event o

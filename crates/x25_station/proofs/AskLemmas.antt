@@ -1,5 +1,5 @@
 -- What a station answers to a command, by what its layer answers.
-use Rattle.std.proofs.Common.{◌≡◌, ℕ, List, [], map, Option, Some, None, Result, Ok, Err, Bool, true, false, ◌==◌, if◌then◌else◌, inl, refl, ap, sym, subst, ◌∙◌}
+use Rattle.std.proofs.Common.{◌≡◌, ℕ, List, [], map, Option, Some, None, Result, Ok, Err, Bool, true, false, ◌==◌, if◌then◌else◌, refl, ap, sym, subst, ◌∙◌}
 use Rattle.x25_circuit.specs.Params.{Proposal}
 use Rattle.x25_packet.specs.Packet.{PlainPacket, restart}
 use Rattle.x25_link.specs.Station.{Settings as LinkSettings, LinkStation, Side}
@@ -34,7 +34,6 @@ use Rattle.x25_station.specs.code.FitsParts.{FitsParts}
 use Rattle.x25_station.specs.code.FitsStation as station
 use Rattle.x25_station.specs.Receiving.{kept_of}
 use Rattle.x25_station.proofs.LinkLemmas.{put_by_put, same_view}
-use Rattle.x25_station.proofs.MayLemmas.{where_refused}
 use Rattle.x25_station.proofs.ResultLemmas.{ok_err, err_is}
 
 -- ---- the link after the packets of a step
@@ -80,10 +79,10 @@ abbrev pub IsNamed : Answered → Type 0
 IsNamed (Went p) = Unit {0}
 IsNamed (Refuses e) = of_layer e ≡ error.Layer e
 
-pub refused_exactly_did : (T U : Type 0) (e : LayerError) (found : StationError) (c : Settings) (s : LinkStation) (z : layer_code.Layer) (entries : List StationEntry) (a : Answered) → IsNamed a → found ≡ of_layer e
-    → (let x : Result T LayerError = Err e in LayerGives (layer_settings c) z x a) → (let x : Result U StationError = Err found in station.RefusesExactly x (did c (alone s) entries a))
-refused_exactly_did T U e found c s z entries (Went p) named is layer = is ∙ ap of_layer layer
-refused_exactly_did T U e found c s z entries (Refuses x) named is layer = ap (λ y. Err y) (is ∙ ap of_layer (err_is T LayerError e x layer) ∙ named)
+pub refused_did : (T U : Type 0) (e : LayerError) (found : StationError) (c : Settings) (s : LinkStation) (z : layer_code.Layer) (entries : List StationEntry) (a : Answered) → IsNamed a → found ≡ of_layer e
+    → (let x : Result T LayerError = Err e in LayerGives (layer_settings c) z x a) → (let x : Result U StationError = Err found in station.Refuses x (did c (alone s) entries a))
+refused_did T U e found c s z entries (Went p) named is layer = is ∙ ap of_layer layer
+refused_did T U e found c s z entries (Refuses x) named is layer = is ∙ ap of_layer (err_is T LayerError e x layer) ∙ named
 
 abbrev IsNamedOutcome : LayerOutcome → Type 0
 IsNamedOutcome (Accepted next packet) = Unit {0}
@@ -136,12 +135,6 @@ calls_named view c l request = test view.is_up
     test : (b : Bool) → IsNamed (if b then went view c (layer_outcome c (view.waits [] == 256) l request) else Refuses layer_error.NotUp)
     test true = goes (layer_outcome c (view.waits [] == 256) l request) (outcome_named c (view.waits [] == 256) l.restarting l.restarts l.circuits request)
     test false = refl
-
--- ---- a call that the layer would refuse
-
-pub refuses_early : (T : Type 0) (c : LayerSettings) (z : layer_code.Layer) (e : LayerError) (a : Answered) → Some e ≡ refusal_of a → LayerGives {T = T} c z (Err e) a
-refuses_early T c z e (Went p) is = cc
-refuses_early T c z e (Refuses f) is = cc
 
 -- ---- the calls, by the layer's clauses
 
@@ -206,28 +199,13 @@ answers {manner = manner} u c l m n y z r s request fits layers links same none 
     })
 
 -- a call of the layer that is refused, or finds no memory
-pub refuses_exactly : {manner : Manner} (T U : Type 0) (e : LayerError) (found : StationError) (c : Settings) (l : ShownLink) (y z : layer_code.Layer) (s : Station) (request : LayerRequest) → FitsParts c manner l y s → found ≡ of_layer e
-    → (let x : Result T LayerError = Err e in Layers l y z x request) → (let x : Result U StationError = Err found in station.RefusesExactly x (requested c s request))
-refuses_exactly T U e found c l y z s request fits is layers =
+pub refuses : {manner : Manner} (T U : Type 0) (e : LayerError) (found : StationError) (c : Settings) (l : ShownLink) (y z : layer_code.Layer) (s : Station) (request : LayerRequest) → FitsParts c manner l y s → found ≡ of_layer e
+    → (let x : Result T LayerError = Err e in Layers l y z x request) → (let x : Result U StationError = Err found in station.Refuses x (requested c s request))
+refuses T U e found c l y z s request fits is layers =
     let x : Result T LayerError = Err e in
     let lc : LayerSettings = layer_settings c in
     let entries : List StationEntry = entries_of_outcome lc s.layer request (layer_outcome lc (waiting_after (link_settings c) s.link [] == 256) s.layer request) in
-    refused_exactly_did T U e found c s.link z entries (answered_by c s request) (calls_named (view_of (link_settings c) s.link) lc s.layer request) is (layer_gives x c l y z s request fits layers)
-
--- it may be refused so where memory may be wanted first
-refused_of : (U : Type 0) (found : StationError) (o : Outcome) → (let x : Result U StationError = Err found in station.RefusesExactly x o) → (let x : Result U StationError = Err found in station.Refuses x o)
-refused_of U found (Did step) is = is
-refused_of U found (Refused e) is = inl (err_is U StationError found e is)
-
-pub refuses : {manner : Manner} (T U : Type 0) (e : LayerError) (found : StationError) (c : Settings) (l : ShownLink) (y z : layer_code.Layer) (s : Station) (request : LayerRequest) → FitsParts c manner l y s → found ≡ of_layer e
-    → (let x : Result T LayerError = Err e in Layers l y z x request) → (let x : Result U StationError = Err found in station.Refuses x (requests c s request))
-refuses T U e found c l y z s request fits is layers =
-    where_refused U found (may_ask c.wide request) (requested c s request) (refused_of U found (requested c s request) (refuses_exactly T U e found c l y z s request fits is layers))
-
--- what isn't refused isn't refused exactly
-pub goes_exactly : (o : Outcome) → station.Refuses {T = Unit} (Ok tt) o → station.RefusesExactly {T = Unit} (Ok tt) o
-goes_exactly (Did step) goes = tt
-goes_exactly (Refused e) goes = absurd goes
+    refused_did T U e found c s.link z entries (answered_by c s request) (calls_named (view_of (link_settings c) s.link) lc s.layer request) is (layer_gives x c l y z s request fits layers)
 
 -- then the station is as before
 pub still_fits : {manner : Manner} (c : Settings) (l m : ShownLink) (y z : layer_code.Layer) (s : Station) → FitsParts c manner l y s → FitsLayer (layer_settings c) z s.layer → ((x : LinkState) → FitsWhole l x → FitsWhole m x) → FitsParts c manner m z s

@@ -1,5 +1,5 @@
 -- A call does what the definition says of it, by what the calls of its link or of its layer did.
-use Rattle.std.proofs.Common.{◌≡◌, ◌≤◌, List, [], length, Bool, true, false, Some, None, Result, Ok, Err, OnErr, inl, inr, refl, ap, sym, subst, arith}
+use Rattle.std.proofs.Common.{◌≡◌, ◌≤◌, List, [], length, Bool, true, false, Some, None, Result, Ok, Err, OnErr, refl, ap, sym, ◌∙◌, subst, arith}
 use Rattle.x25_link.specs.Station.{LinkStation, Side}
 use Rattle.x25_link.specs.Link.{alone}
 use Rattle.x25_link.specs.code.FitsLink.{ShownLink, LinkState, FitsWhole, after_put_to}
@@ -19,7 +19,7 @@ use Rattle.x25_station.specs.declared.step.Step as code_step
 use Rattle.x25_station.specs.declared.timer.Timer.{Timer}
 use Rattle.x25_station.specs.Error.{of_layer}
 use Rattle.x25_station.specs.Config.{Settings, link_settings, layer_settings}
-use Rattle.x25_station.specs.Station.{Station, all_put}
+use Rattle.x25_station.specs.Station.{Station, all_put, view_of}
 use Rattle.x25_station.specs.Receiving.{kept_of}
 use Rattle.x25_station.specs.code.FitsParts.{FitsParts, AreMeant}
 use Rattle.x25_station.specs.Command.{may_ask}
@@ -28,7 +28,7 @@ use Rattle.x25_station.specs.Giving.{not_taken}
 use Rattle.x25_station.specs.Step.{Outcome, Did, Refused, did, requests, where_asked}
 use Rattle.x25_station.specs.laws.KeepLaw.{RequestKeeps}
 use Rattle.x25_station.specs.code.FitsStation.{FitsStation, Does, IsEmpty, Leaves, Sends, Enters, Refuses}
-use Rattle.x25_station.proofs.AskLemmas.{Layers, Links, Judges, Answers, answers, answered_by, judged_by, link_gives, after_puts, refuses, still_fits}
+use Rattle.x25_station.proofs.AskLemmas.{Layers, Links, Judges, Answers, IsNamed, answers, answered_by, requested, calls_named, judged_by, link_gives, after_puts, refuses, still_fits}
 use Rattle.x25_station.proofs.TakeLemmas.{least_by_meaning, few_made}
 use Rattle.x25_station.proofs.FrameLemmas.{few_put}
 use Rattle.x25_station.proofs.ResultLemmas.{ok_err}
@@ -61,14 +61,6 @@ declines old new out e said refuses stays empty = record {
   few_frames = let none : length out.frames ≡ 0 = ap length empty.frames in omega (arith, none);
   few_entries = out.entries.few;
 }
-
--- for want of memory, before anything is done
-wants_memory : (o : Outcome) → (let r : Result Unit StationError = Err error.NoMemory in Refuses r o)
-wants_memory (Did step) = refl
-wants_memory (Refused e) = inr refl
-
-pub wants_copy : (old new : code.Station) (out : code_step.Step) (said : Settings → Station → Outcome) → IsEmpty out → ((c : Settings) (s : Station) → FitsStation c old s → FitsStation c new s) → Does old new out (Err error.NoMemory) said
-wants_copy old new out said empty same = declines old new out error.NoMemory said (λ c s fits. wants_memory (said c s)) same empty
 
 -- ---- what becomes of T1 is said in the step behind a call
 
@@ -136,13 +128,36 @@ did_request u old new m r request layers links same none made keeps small stand 
       few_entries = r.entries.few;
     }
 
--- what may not be asked, where the layer wouldn't refuse it
+-- what may not be asked isn't asked of the layer, where that wouldn't refuse it
 not_asked : (c : Settings) (may : Bool) (t : Side) (entries : List StationEntry) (a : Answered) → may ≡ false → None ≡ refusal_of a → (let r : Result Unit StationError = Err not_taken in Refuses r (where_asked may (did c t entries a)))
-not_asked c may t entries (Went p) is refusal = subst (λ (b : Bool). (let r : Result Unit StationError = Err not_taken in Refuses r (where_asked b (did c t entries (Went p))))) (sym is) (inl refl)
+not_asked c may t entries (Went p) is refusal = subst (λ (b : Bool). (let r : Result Unit StationError = Err not_taken in Refuses r (where_asked b (did c t entries (Went p))))) (sym is) refl
 not_asked c may t entries (LayerRefuses e) is refusal = absurd (none_there refusal)
   where
     none_there : None ≡ Some e → ⊥
     none_there h = cc
+
+-- nor what the layer refuses, whether it may be asked or not
+refused_asked : (found : StationError) (e : LayerError) → found ≡ of_layer e → (c : Settings) (may : Bool) (t : Side) (entries : List StationEntry) (a : Answered) → IsNamed a → Some e ≡ refusal_of a
+    → (let r : Result Unit StationError = Err found in Refuses r (where_asked may (did c t entries a)))
+refused_asked found e is c may t entries (Went p) named refusal = absurd (none_there refusal)
+  where
+    none_there : Some e ≡ None → ⊥
+    none_there h = cc
+refused_asked found e is c may t entries (LayerRefuses x) named refusal = by may
+  where
+    same : Some e ≡ Some x → e ≡ x
+    same h = cc
+
+    by : (b : Bool) → (let r : Result Unit StationError = Err found in Refuses r (where_asked b (Refused (error.Layer x))))
+    by true = is ∙ ap of_layer (same refusal) ∙ named
+    by false = is ∙ ap of_layer (same refusal) ∙ named
+
+pub declines_early : (found : StationError) (e : LayerError) (old new : code.Station) (out : code_step.Step) (request : LayerRequest) → found ≡ of_layer e → Judges (Some e) old.link old.layer request
+    → ((c : Settings) (s : Station) → FitsStation c old s → FitsStation c new s) → IsEmpty out
+    → Does old new out (Err found) (λ c s. requests c s request)
+declines_early found e old new out request is judges stays empty =
+    declines old new out found (λ c s. requests c s request)
+    (λ c s fits. refused_asked found e is c (may_ask c.wide request) (alone s.link) _ (answered_by c s request) (calls_named (view_of (link_settings c) s.link) (layer_settings c) s.layer request) (judged_by (Some e) c old.link old.layer s request fits judges)) stays empty
 
 pub declines_asked : (old new : code.Station) (out : code_step.Step) (request : LayerRequest) → Judges None old.link old.layer request → ((c : Settings) (s : Station) → FitsStation c old s → may_ask c.wide request ≡ false)
     → ((c : Settings) (s : Station) → FitsStation c old s → FitsStation c new s) → IsEmpty out
@@ -153,7 +168,9 @@ declines_asked old new out request judges not stays empty =
 
 pub declines_request : (T : Type 0) (e : LayerError) (found : StationError) (old new : code.Station) (out : code_step.Step) (request : LayerRequest) → found ≡ of_layer e
     → (let x : Result T LayerError = Err e in Layers old.link old.layer new.layer x request) → ((d : LayerSettings) (k : Layer) → FitsLayer d old.layer k → FitsLayer d new.layer k)
-    → ((x : LinkState) → FitsWhole old.link x → FitsWhole new.link x) → IsEmpty out → old.manner ≡ new.manner → Does old new out (Err found) (λ c s. requests c s request)
-declines_request T e found old new out request is layers layer_stays link_stays empty manner =
-    declines old new out found (λ c s. requests c s request) (λ c s fits. refuses T Unit e found c old.link old.layer new.layer s request fits is layers)
+    → ((x : LinkState) → FitsWhole old.link x → FitsWhole new.link x) → IsEmpty out → old.manner ≡ new.manner → ((c : Settings) (s : Station) → FitsStation c old s → may_ask c.wide request ≡ true)
+    → Does old new out (Err found) (λ c s. requests c s request)
+declines_request T e found old new out request is layers layer_stays link_stays empty manner may =
+    declines old new out found (λ c s. requests c s request) (λ c s fits.
+    subst (λ (b : Bool). (let r : Result Unit StationError = Err found in Refuses r (where_asked b (requested c s request)))) (sym (may c s fits)) (refuses T Unit e found c old.link old.layer new.layer s request fits is layers))
     (λ c s fits. still_fits c old.link new.link old.layer new.layer s (subst (λ (b : Manner). FitsParts c b old.link old.layer s) manner fits) (layer_stays (layer_settings c) s.layer fits.layer) link_stays) empty

@@ -1,5 +1,5 @@
 -- A call, an acceptance or a clearing with something given beside its packet.
-use Rattle.std.proofs.Common.{◌≡◌, ℕ, zero, suc, ◌<◌, ◌≤◌, List, [], ◌∷◌, ◌++◌, length, map, Option, Some, None, Result, Ok, Err, Bool, true, false, nat_lt, ◌==◌, ◌&&◌, if◌then◌else◌, option_to_list, inl, refl, ap, sym, subst, ◌∙◌, arith}
+use Rattle.std.proofs.Common.{◌≡◌, ℕ, zero, suc, ◌<◌, ◌≤◌, List, [], ◌∷◌, ◌++◌, length, map, Option, Some, None, Result, Ok, Err, Bool, true, false, nat_lt, ◌==◌, ◌&&◌, if◌then◌else◌, option_to_list, refl, ap, sym, subst, ◌∙◌, arith}
 use Rattle.std.proofs.Math.Nat.{le_trans}
 use Rattle.std.proofs.Math.Path.{fun_ext}
 use Rattle.std.proofs.lemmas.Bool.{ltb-true}
@@ -33,6 +33,7 @@ use Rattle.x25_station.specs.declared.config.Manner.{Manner}
 use Rattle.x25_station.specs.declared.station.Station as code
 use Rattle.x25_station.specs.declared.step.Step as code_step
 use Rattle.x25_station.specs.declared.error.StationError.{StationError}
+use Rattle.x25_station.specs.declared.error.StationError.TheVariants as error
 use Rattle.x25_station.specs.Error.{of_layer}
 use Rattle.x25_station.specs.Config.{Settings, link_settings, layer_settings, manner_of}
 use Rattle.x25_station.specs.Entry.{StationEntry, of_channel}
@@ -357,7 +358,7 @@ refused_at found e is c g taken t entries (Went p) named refusal = absurd (none_
   where
     none_there : Some e ≡ None → ⊥
     none_there h = cc
-refused_at found e is c g taken t entries (Refuses x) named refusal = inl (is ∙ ap of_layer (same refusal) ∙ named)
+refused_at found e is c g taken t entries (Refuses x) named refusal = is ∙ ap of_layer (same refusal) ∙ named
   where
     same : Some e ≡ Some x → e ≡ x
     same h = cc
@@ -389,7 +390,7 @@ declines_early found e old new out g request is judges stays empty =
 not_taken_at : (c : Settings) (g : PlainGiven) (taken : Bool) (t : Side) (entries : List StationEntry) (a : Answered) → taken ≡ false → None ≡ refusal_of a
     → (let x : Result Unit StationError = Err not_taken in station.Refuses x (gave c g taken t entries a))
 not_taken_at c g taken t entries (Went p) is refusal =
-    subst (λ (b : Bool). (let x : Result Unit StationError = Err not_taken in station.Refuses x (gave c g b t entries (Went p)))) (sym is) (inl refl)
+    subst (λ (b : Bool). (let x : Result Unit StationError = Err not_taken in station.Refuses x (gave c g b t entries (Went p)))) (sym is) refl
 not_taken_at c g taken t entries (Refuses x) is refusal = absurd (none_there refusal)
   where
     none_there : None ≡ Some x → ⊥
@@ -403,10 +404,27 @@ declines_given old new out g request judges not stays empty =
     not_taken_at c g (is_taken c g request) (alone s.link) (entries_given c s request) (answered_given c g s request) (as_told false old.manner c g request fits.same not) (judged None old c g s request fits judges))
     stays empty
 
+-- no memory for what is given, where the layer wouldn't refuse the call
+lacks_at : (c : Settings) (g : PlainGiven) (t : Side) (entries : List StationEntry) (a : Answered) → None ≡ refusal_of a → (let x : Result Unit StationError = Err error.NoMemory in station.Refuses x (gave c g true t entries a))
+lacks_at c g t entries (Went p) refusal = refl
+lacks_at c g t entries (Refuses x) refusal = absurd (none_there refusal)
+  where
+    none_there : None ≡ Some x → ⊥
+    none_there h = cc
+
+pub declines_for_memory : (old new : code.Station) (out : code_step.Step) (g : PlainGiven) (request : LayerRequest) → Judges None old.link old.layer request → TakesIt old.manner g request
+    → ((c : Settings) (s : Station) → FitsStation c old s → FitsStation c new s) → IsEmpty out
+    → Does old new out (Err error.NoMemory) (λ c s. gives c s g request)
+declines_for_memory old new out g request judges takes stays empty =
+    declines old new out error.NoMemory (λ c s. gives c s g request) (λ c s fits.
+    subst (λ (b : Bool). (let x : Result Unit StationError = Err error.NoMemory in station.Refuses x (outcome_at c g s request b))) (sym (as_told true old.manner c g request fits.same takes))
+    (lacks_at c g (alone s.link) (entries_given c s request) (answered_given c g s request) (judged None old c g s request fits judges)))
+    stays empty
+
 late_at : (T : Type 0) (found : StationError) (e : LayerError) → found ≡ of_layer e → (c : Settings) (g : PlainGiven) (z : layer_code.Layer) (t : Side) (entries : List StationEntry) (a : Answered) → IsNamed a
     → (let x : Result T LayerError = Err e in LayerGives (layer_settings c) z x a) → (let x : Result Unit StationError = Err found in station.Refuses x (gave c g true t entries a))
 late_at T found e is c g z t entries (Went p) named layer = is ∙ ap of_layer layer
-late_at T found e is c g z t entries (Refuses x) named layer = inl (is ∙ ap of_layer (err_is T LayerError e x layer) ∙ named)
+late_at T found e is c g z t entries (Refuses x) named layer = is ∙ ap of_layer (err_is T LayerError e x layer) ∙ named
 
 pub declines_late : (T : Type 0) (e : LayerError) (found : StationError) (old new : code.Station) (out : code_step.Step) (g : PlainGiven) (request : LayerRequest) → found ≡ of_layer e
     → (let x : Result T LayerError = Err e in LayersGiven g old.link old.layer new.layer x request) → TakesIt old.manner g request → ((d : LayerSettings) (k : Layer) → FitsLayer d old.layer k → FitsLayer d new.layer k)

@@ -1,5 +1,5 @@
 -- What holds of a request that may be asked, and of its refusals, holds of each request.
-use Rattle.std.proofs.Common.{◌≡◌, ℕ, Bool, true, false, Result, Err, inr, refl, subst}
+use Rattle.std.proofs.Common.{◌≡◌, ℕ, Bool, true, false, refl, subst}
 use Rattle.x25_packet.specs.declared.marks.Marks.{Marks}
 use Rattle.x25_circuit.specs.Calling.{Request, Calls, Accepts, Clears, Sends, Interrupts, Resets, SaysReady, SaysNotReady}
 use Rattle.x25_layer.specs.Calls.{LayerRequest, Asks, Dials, Restarts, PullsAll, asks_memory}
@@ -7,7 +7,6 @@ use Rattle.x25_station.specs.declared.error.StationError.{StationError}
 use Rattle.x25_station.specs.Command.{may_ask, may_mark}
 use Rattle.x25_station.specs.Giving.{not_taken}
 use Rattle.x25_station.specs.Step.{Step, Outcome, Did, Refused, where_asked}
-use Rattle.x25_station.specs.code.FitsStation.{Refuses}
 
 refused_did : (e : StationError) (step : Step) → Refused e ≡ Did step → ⊥
 refused_did e step is = subst (λ (o : Outcome). elim o as (λ _. Type 0) [ Did x ↦ ⊥ | Refused y ↦ Unit {0} ]) is tt
@@ -22,12 +21,6 @@ pub where_holds : (P : Outcome → Type 0) (may : Bool) (o : Outcome) → ((e : 
 where_holds P true o refused holds = holds
 where_holds P false (Did k) refused holds = refused not_taken
 where_holds P false (Refused e) refused holds = holds
-
--- its error is that of the layer's call, or for want of memory
-pub where_refused : (U : Type 0) (found : StationError) (may : Bool) (o : Outcome) → (let r : Result U StationError = Err found in Refuses r o → Refuses r (where_asked may o))
-where_refused U found true o is = is
-where_refused U found false (Did k) is = inr is
-where_refused U found false (Refused e) is = is
 
 -- ---- who reads packets in all their forms may ask for anything
 

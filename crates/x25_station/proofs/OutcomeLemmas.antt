@@ -1,5 +1,5 @@
 -- What a call answers, by what its link's call answers.
-use Rattle.std.proofs.Common.{◌≡◌, Bool, true, false, if◌then◌else◌, map, Option, Some, None, Result, Ok, Err, inl, refl, ap, ◌∙◌}
+use Rattle.std.proofs.Common.{◌≡◌, Bool, true, false, if◌then◌else◌, map, Option, Some, None, Result, Ok, Err, refl, ap, ◌∙◌}
 use Rattle.std.proofs.Math.Logic.{∥∥₁_map}
 use Rattle.x25_frame.specs.Spelling.{spelling_of}
 use Rattle.x25_link.specs.declared.error.LinkError.{LinkError}
@@ -66,7 +66,6 @@ pub refused_only : (T U : Type 0) (e : LinkError) (found : StationError) (o : Op
 refused_only T U e found None step named is h = absurd (never_ok h)
 refused_only T U e found (Some x) step named is h = ap (λ y. Err y) (is ∙ ap of_link (err_is T LinkError e x h) ∙ named)
 
--- where memory was wanted first
 pub goes : {T : Type 0} (k : T) (o : Option LinkError) (step : Step) → link.RefusesOnly o (Ok k) → Refuses {T = Unit} (Ok tt) (unless o step)
 goes k None step h = tt
 goes k (Some e) step h = absurd (ok_err k e h)
@@ -74,7 +73,7 @@ goes k (Some e) step h = absurd (ok_err k e h)
 pub refused : (T U : Type 0) (e : LinkError) (found : StationError) (o : Option LinkError) (step : Step) → IsNamed o → found ≡ of_link e → (let x : Result T LinkError = Err e in link.RefusesOnly o x)
     → (let x : Result U StationError = Err found in Refuses x (unless o step))
 refused T U e found None step named is h = absurd (never_ok h)
-refused T U e found (Some x) step named is h = inl (is ∙ ap of_link (err_is T LinkError e x h) ∙ named)
+refused T U e found (Some x) step named is h = is ∙ ap of_link (err_is T LinkError e x h) ∙ named
 
 pub connect_named : (p : Phase) → IsNamed (link.connect_refusal p)
 connect_named Down = tt

@@ -1,6 +1,5 @@
 -- What the code's values stand for: contracts and proofs need it, and a reader of the claims doesn't.
 pub mod PlainEntry
-pub mod Aside
 pub mod Memory
 pub mod FitsParts
 pub mod FitsStation

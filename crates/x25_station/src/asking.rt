@@ -118,8 +118,8 @@ impl Station {
     /// its cause. A message of which confirmation is asked is refused as without, and then with 34 where `Cfg::wide`
     /// isn't set. `With` is refused as without what is given, and then with 34 where `Cfg::wide` isn't set, where that
     /// isn't allowed (`Given::is_allowed`), where user data is given beside a call, and where D is beside a clearing.
-    /// Else 70 alone, and that of a call, an acceptance, a message and `With` alone, where it may come in place of each
-    /// of these: they want memory for a message of their channel, or for what is given. The station is as before then.
+    /// Else 70 alone, and that of a call, an acceptance, a message and `With` alone: they want memory for a message of
+    /// their channel, or for what is given. The station is as before then.
     #[inline(always)]
     pub fn command(&mut self, command: Cmd<'_>, out: &mut Step) -> Result<(), StationError>
         ensures does { Does self.old self.new out.new result (λ c s. commands c s (command_of command.entry)) }

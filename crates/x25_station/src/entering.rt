@@ -10,7 +10,7 @@ ghost use Rattle.x25_station.specs.Entry.{bringing, entries_beside, may_bring, o
 ghost use Rattle.x25_station.specs.code.PlainEntry.{plain_entry, plain_said, plain_told};
 ghost use Rattle.x25_station.specs.Receiving.{IsShort, AreTellable};
 ghost use Rattle.x25_station.specs.Beside.{AreFew, plain_beside};
-ghost use Rattle.x25_station.specs.code.Aside.{GrowsBy, HasPlaces};
+ghost use Rattle.x25_station.specs.code.Memory.{GrowsBy, HasPlaces};
 ghost use Rattle.x25_station.specs.code.Memory.{Lends, messages_in, messages_said, messages_told, texts_in};
 ghost use Rattle.x25_station.specs.code.Memory.{texts_said, texts_told};
 

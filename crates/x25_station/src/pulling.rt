@@ -1,30 +1,16 @@
 //! What waits in the circuits is pulled behind a step.
-ghost use Rattle.std.specs.Prelude.{◌≡◌, ◌≢◌, OnOk, OnErr};
-ghost use Rattle.x25_station.specs.code.FitsStation.{FitsStation, RefusesForMemory};
+ghost use Rattle.std.specs.Prelude.{◌≡◌, ◌<◌, ◌≤◌, length};
+ghost use Rattle.x25_station.specs.code.FitsStation.{FitsStation};
 ghost use Rattle.x25_station.specs.code.Pulls.{Pulls};
 ghost use Rattle.x25_station.specs.Config.{Settings};
 ghost use Rattle.x25_station.specs.Pulling.{pulled};
 ghost use Rattle.x25_station.specs.Station.{Station as State};
 ghost use Rattle.x25_station.specs.Timer.{timer_pulled};
 
-use crate::error::StationError;
 use crate::law::steps_keep_bounds;
 use crate::station::Station;
-use crate::step::Step;
-use x25_layer::LayerError;
+use crate::step::{MOST_FRAMES, Step};
 use x25_link::Frames;
-
-// Want of memory is an error, and any other refusal none.
-fn unless_refused(error: LayerError) -> Result<(), StationError>
-    ensures other { OnOk result (error ≢ LayerError.NoMemory) }
-    ensures due { OnErr result (error ≡ LayerError.NoMemory) }
-    ensures refused { RefusesForMemory result }
-{
-    match error {
-        LayerError::NoMemory => Err(StationError::NoMemory),
-        _ => Ok(()),
-    }
-}
 
 impl Station {
     /// Pulls behind a step: hands the data packets that wait in the circuits of all channels down to the link, in
@@ -35,38 +21,31 @@ impl Station {
     /// that a message may wait in its circuit while nothing is on its way: one who calls this behind each step leaves
     /// none to wait so.
     ///
-    /// 70 alone, and that only where the link is up, no restart is under way and the step has more than nine frames:
-    /// it takes no memory. The station is as before then, and so are the frames of the step.
-    pub fn pull(&mut self, out: &mut Step) -> Result<(), StationError>
-        ensures pulls { Pulls self.old self.new out.old.frames out.new.frames result }
+    /// Nothing happens at all where the step has more frames than a call answers, as one that was pulled behind may.
+    pub fn pull(&mut self, out: &mut Step)
+        ensures pulls { length out.old.frames ≤ 9 → Pulls self.old self.new out.old.frames out.new.frames }
+        ensures timer { length out.old.frames ≤ 9 → (c : Settings) (s : State) → FitsStation c self.old s →
+            out.new.timer ≡ timer_pulled out.old.timer s (pulled c s).near }
         ensures entries { out.new.entries ≡ out.old.entries }
-        ensures timer { (c : Settings) (s : State) → FitsStation c self.old s →
-            OnOk result (out.new.timer ≡ timer_pulled out.old.timer s (pulled c s).near) }
-        ensures untimed { OnErr result (out.new.timer ≡ out.old.timer) }
-        ensures refused { RefusesForMemory result }
+        ensures full { 9 < length out.old.frames → (self.new ≡ self.old) × (out.new ≡ out.old) }
     {
-        let ran = self.timer_runs();
-        match self.pull_frames(&mut out.frames) {
-            Ok(()) => {
-                out.timer = out.timer.pulled(ran, self.timer_runs());
-                Ok(())
-            }
-            Err(error) => Err(error),
+        if out.frames.len() > MOST_FRAMES {
+            return;
         }
+        let ran = self.timer_runs();
+        self.pull_frames(&mut out.frames);
+        out.timer = out.timer.pulled(ran, self.timer_runs());
     }
 
     // The frames of a pull come behind others, which the link has meanwhile.
-    fn pull_frames(&mut self, frames: &mut Frames) -> Result<(), StationError>
-        ensures pulls { Pulls self.old self.new frames.old frames.new result }
-        ensures refused { RefusesForMemory result }
+    fn pull_frames(&mut self, frames: &mut Frames)
+        requires { length frames.old ≤ 9 }
+        ensures { Pulls self.old self.new frames.old frames.new }
     {
         steps_keep_bounds();
         self.link.swap_frames(frames);
-        let answer = self.layer.pull(&mut self.link);
+        // It is refused where it does nothing.
+        let _ = self.layer.pull(&mut self.link);
         self.link.swap_frames(frames);
-        match answer {
-            Ok(()) => Ok(()),
-            Err(error) => unless_refused(error),
-        }
     }
 }

@@ -9,9 +9,8 @@ use crate::timer::{Timer, tells_link};
 use std::alloc::Global;
 use x25_link::Frames;
 
-/// The most frames that a call of a station answers: nine in the link's step, seven I frames of the layer's packets,
-/// and an RR.
-pub const MOST_FRAMES: usize = 17;
+/// The most frames that a call of a station answers: one for what came, seven I frames, and the RR that ends an RNR.
+pub const MOST_FRAMES: usize = 9;
 
 /// The most entries that a call of a station makes.
 pub const MOST_ENTRIES: usize = 3;

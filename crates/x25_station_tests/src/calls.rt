@@ -33,8 +33,8 @@ pub fn ask(station: &mut Station, command: Cmd<'_>, out: &mut Step) -> Result<()
 }
 
 /// What waits is pulled behind a step.
-pub fn pull(station: &mut Station, out: &mut Step) -> Result<(), StationError> {
-    station.pull(out)
+pub fn pull(station: &mut Station, out: &mut Step) {
+    station.pull(out);
 }
 
 /// A step was read.

@@ -215,7 +215,10 @@ fn happens(station: &mut Station, act: Act, out: &mut Step) -> Result<(), Statio
             receive(station, octets, out);
             Ok(())
         }
-        Act::Pull => pull(station, out),
+        Act::Pull => {
+            pull(station, out);
+            Ok(())
+        }
     }
 }
 
@@ -260,6 +263,31 @@ fn odd_row_of(alloc: Global, role: Role, rows: &[Row]) -> Result<Option<usize>, 
     Ok(odd_row(&mut station, &mut out, rows))
 }
 
+// A DTE behind the first so many of its rows, and the step of the last of these.
+fn dte_behind(alloc: Global, rows: usize) -> Result<(Box<Station>, Step), StationError> {
+    let mut station = station(alloc, Role::Dte, SETTINGS)?;
+    let mut out = Step::new(alloc)?;
+    odd_row(
+        &mut station,
+        &mut out,
+        DTE.as_slice().get(..rows).unwrap_or(&[]),
+    );
+    Ok((station, out))
+}
+
+// How many frames a step has behind seven of one station and so many pulls of others, each of a message that waits; and
+// whether that of the last waits on.
+fn pulled_behind_seven(alloc: Global, pulls: usize) -> Result<(usize, bool), StationError> {
+    let (_sender, mut out) = dte_behind(alloc, 22)?;
+    let mut waits = false;
+    for _ in 0..pulls {
+        let (mut other, _own) = dte_behind(alloc, 25)?;
+        pull(&mut other, &mut out);
+        waits = says(&other) == AT_REST_IN_A_CALL;
+    }
+    Ok((out.frames.len(), waits))
+}
+
 fn is_wide(alloc: Global, wide: bool) -> Result<bool, StationError> {
     Ok(station(alloc, Role::Dte, Cfg { wide, ..SETTINGS })?.is_wide())
 }
@@ -278,4 +306,10 @@ fn steps_of_a_dte(rt: HostRuntime) {
 #[test]
 fn steps_of_a_dce(rt: HostRuntime) {
     assert_eq!(rt; odd_row_of(rt.alloc(), Role::Dce, DCE.as_slice()), Ok(None));
+}
+
+#[test]
+fn pulls_behind_nine_frames_at_most(rt: HostRuntime) {
+    assert_eq!(rt; pulled_behind_seven(rt.alloc(), 3), Ok((10, false)));
+    assert_eq!(rt; pulled_behind_seven(rt.alloc(), 4), Ok((10, true)));
 }

@@ -90,7 +90,7 @@ its_own e d is = inl (rw (sym is) refl)
 pub is_refusal : (cfg : Cfg) (at : Role) (w : World) (outcome : Outcome) (e : StationError) → Refuses (let r : Result (Unit {0}) StationError = Err e in r) outcome
     → (refusal_of (of_station (settings_from at cfg) w outcome) ≡ Some (error_of e)) ⊎ (error_of e ≡ error.NoMemory)
 is_refusal cfg at w (Did step) e refuses = inr (no_memory e refuses)
-is_refusal cfg at w (Refused d) e refuses = elim refuses [ inl is ↦ its_own e d is | inr is ↦ inr (no_memory e is) ]
+is_refusal cfg at w (Refused d) e is = its_own e d is
 
 pub side_stays : (cfg : Cfg) (at : Role) (near new : code.Station) (line : ShownLine) (w : World) (room : ShownLine)
     → FitsSide cfg at near line w → FitsStation (settings_from at cfg) new w.near → FitsSide cfg at new (with_room_of room line) w

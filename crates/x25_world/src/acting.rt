@@ -38,7 +38,7 @@ pub fn act_at_end(
     event: Event,
 ) -> Result<(), WorldError>
     ensures step { IsStepOfAct result out.new (event_of event.entry).act }
-    ensures places { TakesFew 17 line.old line.new }
+    ensures places { TakesFew 9 line.old line.new }
     ensures acted { (cfg : Cfg) (w : definition.World) → FitsWorld cfg (shown_with dte.old dce.old line.old) w →
         HasActedAt cfg (shown_with dte.new dce.new line.new)
         (entered (event_of event.entry).at (map plain_entry out.new.entries.items)) result w (event_of event.entry) }
@@ -60,7 +60,7 @@ fn act(
     event: Event,
 ) -> Result<(), WorldError>
     ensures step { IsStepOfAct result out.new (event_of event.entry).act }
-    ensures places { TakesFew 17 line.old line.new }
+    ensures places { TakesFew 9 line.old line.new }
     ensures acted { (cfg : Cfg) (w : definition.World) → FitsSide cfg at near.old line.old w →
         HasActed cfg at near.new line.new (entered at (map plain_entry out.new.entries.items)) result w
         (acts (settings_from at cfg) w (event_of event.entry).act) }
@@ -99,7 +99,7 @@ fn command(
     cmd: Cmd,
 ) -> Result<(), WorldError>
     ensures step { IsStepOf result out.new 3 }
-    ensures places { TakesFew 17 line.old line.new }
+    ensures places { TakesFew 9 line.old line.new }
     ensures acted { (cfg : Cfg) (w : definition.World) → FitsSide cfg at near.old line.old w →
         HasActed cfg at near.new line.new (entered at (map plain_entry out.new.entries.items)) result w
         (of_station (settings_from at cfg) w (commands (settings_from at cfg) w.near (command_of cmd.entry))) }
@@ -120,7 +120,7 @@ fn command(
 #[inline(always)]
 fn deliver(at: Role, near: &mut Station, line: &mut Line, out: &mut Step) -> Result<(), WorldError>
     ensures step { IsStepOf result out.new 3 }
-    ensures places { TakesFew 17 line.old line.new }
+    ensures places { TakesFew 9 line.old line.new }
     ensures acted { (cfg : Cfg) (w : definition.World) → FitsSide cfg at near.old line.old w →
         HasActed cfg at near.new line.new (entered at (map plain_entry out.new.entries.items)) result w
         (delivered (settings_from at cfg) w w.back) }
@@ -154,7 +154,7 @@ fn put(at: Role, line: &mut Line, frames: &mut Frames)
 #[inline(always)]
 fn fire(at: Role, near: &mut Station, line: &mut Line, out: &mut Step) -> Result<(), WorldError>
     ensures step { IsStepOf result out.new 3 }
-    ensures places { TakesFew 17 line.old line.new }
+    ensures places { TakesFew 9 line.old line.new }
     ensures acted { (cfg : Cfg) (w : definition.World) → FitsSide cfg at near.old line.old w →
         HasActed cfg at near.new line.new (entered at (map plain_entry out.new.entries.items)) result w
         (fired (settings_from at cfg) w) }
@@ -190,7 +190,7 @@ pub fn connect(
     out: &mut Step,
 ) -> Result<(), WorldError>
     ensures step { IsStepOf result out.new 3 }
-    ensures places { TakesFew 17 line.old line.new }
+    ensures places { TakesFew 9 line.old line.new }
     ensures acted { (cfg : Cfg) (w : definition.World) → FitsSide cfg at near.old line.old w →
         HasActed cfg at near.new line.new (entered at (map plain_entry out.new.entries.items)) result w
         (of_station (settings_from at cfg) w (connects (settings_from at cfg) w.near)) }
@@ -209,9 +209,9 @@ pub fn connect(
 
 // Room for the frames that a step of a station answers.
 fn reserve_frames(line: &mut Line) -> Result<(), WorldError>
-    ensures frames { OnOk result (17 ≤ line.new.room) }
+    ensures frames { OnOk result (9 ≤ line.new.room) }
     ensures line { line.new ≡ with_room_of line.new line.old }
-    ensures few { TakesFew 17 line.old line.new }
+    ensures few { TakesFew 9 line.old line.new }
     ensures refused { IfErr result (λ e. e ≡ WorldError.NoMemory) }
 {
     if line.reserve(MOST_FRAMES).is_err() {

@@ -45,7 +45,6 @@ pub record Rests (old new : Held) : Type 0 where
   pub timer : new.step.timer ≡ GoesOn
   pub alone : IsAlone new
   pub passed : new.passed ≡ None
-  pub waits : new.waits ≡ false
   pub clock : new.clock ≡ old.clock
   pub time : new.time ≡ old.time
 

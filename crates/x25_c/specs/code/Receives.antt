@@ -24,13 +24,13 @@ Received octets counts (suc place) old new whole = (mid : Held) × (before : Who
     × (whole ≡ and_then before (part_of new.step))
 
 -- why it ended there: all came; the octets of the next aren't there; or memory is refused for what was answered before
-abbrev pub EndsFor : List ℕ → List ℕ → Held → Held → ℕ → ℕ → Type 0
-EndsFor octets counts mid new taken number =
-    ((taken ≡ length counts) × (number ≡ 0) × (new.waits ≡ mid.waits))
+abbrev pub EndsFor : List ℕ → List ℕ → ℕ → ℕ → Type 0
+EndsFor octets counts taken number =
+    ((taken ≡ length counts) × (number ≡ 0))
     ⊎ ((taken < length counts) × (((number ≡ 34) × (length octets < sum (take (suc taken) counts))) ⊎ (number ≡ 70)))
 
 -- The frames that were taken leave the station, and their answers are all that is answered.
 unfoldable pub ReceivesAll : List ℕ → List ℕ → Held → Held → ℕ → ℕ → Type 0
 ReceivesAll octets counts old new taken number =
     (mid : Held) × Received octets counts taken old mid (whole_of new) × FitsStill mid.station new.station
-    × (new.end ≡ mid.end) × EndsFor octets counts mid new taken number × IsClocked mid new × (new.passed ≡ None)
+    × (new.end ≡ mid.end) × EndsFor octets counts taken number × IsClocked mid new × (new.passed ≡ None)

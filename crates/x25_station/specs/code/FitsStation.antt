@@ -1,5 +1,5 @@
 -- Which states of the definition a station stands for, and what its calls answer.
-use Rattle.std.specs.Prelude.{◌≡◌, ◌≤◌, ◌⊎◌, [], length, map, Option, Some, None, Result, Ok, Err}
+use Rattle.std.specs.Prelude.{◌≡◌, ◌≤◌, [], length, map, Option, Some, None, Result, Ok, Err}
 use Rattle.std.specs.Prelude.{OnOk}
 use Rattle.std.specs.Prelude.{OnErr, IfErr, IsErrAnd, IsOk}
 use Rattle.x25_frame.specs.Spelling.{spelling_of}
@@ -48,17 +48,12 @@ Enters out result (Refused e) = Unit {0}
 abbrev pub RefusesForMemory : {T : Type 0} → Result T StationError → Type 0
 RefusesForMemory result = IfErr result (λ e. e ≡ error.NoMemory)
 
--- a call is refused where the definition refuses it, with its error or with 70, and else with 70 alone
+-- a call is refused where the definition refuses it, with its error, and else for want of memory alone
 abbrev pub Refuses : {T : Type 0} → Result T StationError → Outcome → Type 0
 Refuses result (Did step) = RefusesForMemory result
-Refuses result (Refused e) = IsErrAnd result (λ found. (found ≡ e) ⊎ (found ≡ error.NoMemory))
+Refuses result (Refused e) = IsErrAnd result (λ found. found ≡ e)
 
--- a call is refused where the definition refuses it, with its error and nothing else
-abbrev pub RefusesExactly : {T : Type 0} → Result T StationError → Outcome → Type 0
-RefusesExactly result (Did step) = RefusesForMemory result
-RefusesExactly result (Refused e) = result ≡ Err e
-
--- it is refused so, and never else
+-- it is refused there, and never else
 abbrev pub RefusesOnly : {T : Type 0} → Result T StationError → Outcome → Type 0
 RefusesOnly result (Did step) = IsOk result
 RefusesOnly result (Refused e) = result ≡ Err e
@@ -79,7 +74,7 @@ pub record Does (old new : code.Station) (out : code_step.Step) (result : Result
   pub refused : (c : Settings) (s : Station) → FitsStation c old s → Refuses result (said c s)
   pub stays : (c : Settings) (s : Station) → FitsStation c old s → OnErr result (FitsStation c new s)
   pub empty : OnErr result (IsEmpty out)
-  pub few_frames : length out.frames ≤ 17
+  pub few_frames : length out.frames ≤ 9
   pub few_entries : length out.entries.items ≤ 3
 
 -- a call that makes a station is refused with this, or else with 70 alone

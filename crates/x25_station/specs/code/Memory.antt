@@ -1,5 +1,6 @@
--- The memory of a step (profile): five texts and a message, of which entries have some, and the others no entry has.
-use Rattle.std.specs.Prelude.{◌≡◌, ℕ, ◌+◌, ◌≤◌, List, length, Vec, vec_capacity}
+-- The memory of a step (profile): five texts and a message, of which entries have some, and the others no entry has;
+-- and the places of a list of entries.
+use Rattle.std.specs.Prelude.{◌≡◌, ℕ, ◌+◌, ◌≤◌, List, length, Vec, vec_len, vec_capacity}
 use Rattle.std.specs.List.{sum_by}
 use Rattle.x25_circuit.specs.Calling.{Request, Calls, Sends, Interrupts}
 use Rattle.x25_station.specs.declared.entry.Entry.{Entry}
@@ -83,3 +84,14 @@ pub record IsWhole {Z : Type 0} (list : Vec Entry Z) (memory : ShownMemory) : Ty
 pub record Lends (messages_come : ℕ) (before after : List Entry) (old new : ShownMemory) : Type 0 where
   pub texts : new.texts + sum_by texts_in after ≡ old.texts + sum_by texts_in before
   pub messages : new.messages + sum_by messages_in after ≡ old.messages + sum_by messages_in before + messages_come
+
+-- ---- the places of a list
+
+-- it has room for so many more
+abbrev pub HasPlaces : {X Z : Type 0} → ℕ → Vec X Z → Type 0
+HasPlaces count list = vec_len list + count ≤ vec_capacity list
+
+-- it grew by so many at most, in the room that it had
+pub record GrowsBy {X Z : Type 0} (count : ℕ) (old new : Vec X Z) : Type 0 where
+  pub length : vec_len new ≤ vec_len old + count
+  pub capacity : vec_capacity new ≡ vec_capacity old

@@ -41,7 +41,7 @@ shown_with dte dce line = record {
 }
 
 -- where the line has more places than before in a direction, they are at most twice as many as frames were there, and
--- 17 more, as many as a step of a station sends
+-- 9 more, as many as a step of a station sends
 pub record TakesFewPlaces (old new : ShownWorld) : Type 0 where
-  pub to_dce : new.places_to_dce ≤ max old.places_to_dce (2 * length old.to_dce + 17)
-  pub to_dte : new.places_to_dte ≤ max old.places_to_dte (2 * length old.to_dte + 17)
+  pub to_dce : new.places_to_dce ≤ max old.places_to_dce (2 * length old.to_dce + 9)
+  pub to_dte : new.places_to_dte ≤ max old.places_to_dte (2 * length old.to_dte + 9)

@@ -34,4 +34,4 @@ returns-in-Err-command-clause-acted c = λ cfg w side.
     }
 
 pub returns-in-Ok-clause-places : goal.returns-in-Ok-clause-places
-returns-in-Ok-clause-places c = rw c.put.ensures.line (few_put 17 c.args.line.now c.reserve_frames.new.line c.args.at _ c.reserve_frames.ensures.few)
+returns-in-Ok-clause-places c = rw c.put.ensures.line (few_put 9 c.args.line.now c.reserve_frames.new.line c.args.at _ c.reserve_frames.ensures.few)

@@ -1,7 +1,6 @@
 use Rattle.std.proofs.Common.{◌≡◌, ◌∙◌, ◌++◌, map, ap, subst, sym}
 use Rattle.std.proofs.lemmas.Result.{MatchResult-weaker}
 use Rattle.x25_io.specs.code.Written.{AppendsPrefix, Tells}
-use Rattle.x25_io.proofs.ToldLemmas.{told_more}
 use Rattle.x25_station.specs.code.PlainEntry.{plain_entry}
 use Rattle.x25_station.specs.declared.step.Step as code_step
 use Rattle.x25_station.specs.Step.{Did}
@@ -11,8 +10,8 @@ use Rattle.x25_pipe.specs.code.Stands.{Acted, IsStep, answer_told}
 use Rattle.x25_pipe.proofs.StandLemmas.{begins_step, is_step, pulled_step, pulled_timer_is, stands_told}
 use Rattle.x25_pipe.proofs.pipe.Pipe.follow_up.Goals as goal
 
-pub returns-in-Ok-clause-acted : goal.returns-in-Ok-clause-acted
-returns-in-Ok-clause-acted g c = λ k old s event o told refused is timed come role tells status.
+pub returns-clause-acted : goal.returns-clause-acted
+returns-clause-acted g c = λ k old s event o told refused is timed come role tells status.
     let before = c.args.self.now in
     let v = before.station in
     let u = c.pull.new.self in
@@ -23,18 +22,15 @@ returns-in-Ok-clause-acted g c = λ k old s event o told refused is timed come r
     (is_step k v step (λ o. step.timer ≡ timer.timer s event o → Acted k old now q told refused c.tell_answer.result (act_of k s event o))
     (λ plain h timed.
     let pulls = and_pulls k plain in
-    let pulled : IsStep k u both (Did pulls) = pulled_step k v u step both c.in-Ok.field-0 (Did plain) h c.in-Ok.ensures.pulls c.pull.ensures.entries in
+    let pulled : IsStep k u both (Did pulls) = pulled_step k v u step both (Did plain) h (c.pull.ensures.pulls c.requires) c.pull.ensures.entries in
     let here : IsStep k q.station both (Did pulls) = subst (λ v. IsStep k v both (Did pulls)) (sym c.tell_answer.ensures.station) pulled in
     MatchResult-weaker c.tell_answer.result (c.tell_answer.ensures.tells old told tells)
     (λ _ t. record {
       stands = stands_told k old now q both pulls told refused here (c.tell_answer.ensures.role ∙ role)
           (subst (λ end. Tells old now q.output (told ++ sayings_text end (answer_told both))) role t) (c.tell_answer.ensures.is_refused ∙ status);
-      timer = ap (λ (x : code_step.Step). x.timer) c.tell_answer.ensures.step ∙ pulled_timer_is k v u step both s event (Did plain) h (c.in-Ok.ensures.timer k) timed;
+      timer = ap (λ (x : code_step.Step). x.timer) c.tell_answer.ensures.step ∙ pulled_timer_is k v u step both s event (Did plain) h (c.pull.ensures.timer c.requires k) timed;
       entries = ap (λ (x : code_step.Step). map plain_entry x.entries.items) c.tell_answer.ensures.step ∙ here.enters;
       has_come = c.tell_answer.ensures.has_come ∙ come;
     })
     (λ _ b. begins_step k old now u both pulls told pulled (subst (λ end. AppendsPrefix old now (told ++ sayings_text end (answer_told both))) role b)))
     o is) timed
-
-pub returns-in-Err-clause-acted : goal.returns-in-Err-clause-acted
-returns-in-Err-clause-acted g c = λ k old s event o told refused is timed come role tells status. told_more _ _ _ told _ tells

@@ -12,10 +12,10 @@ use Rattle.x25_station.specs.Step.{Outcome, requests, where_asked}
 use Rattle.x25_station.specs.code.FitsStation.{RefusesOnly}
 use Rattle.x25_station.specs.declared.error.StationError.{StationError}
 use Rattle.x25_station.proofs.OutcomeLemmas.{leaves_some, still_meant}
-use Rattle.x25_station.proofs.AskLemmas.{answers, goes_exactly, requested, refuses_exactly, still_fits, refuses_early}
+use Rattle.x25_station.proofs.AskLemmas.{answers, requested, refuses, still_fits}
 use Rattle.x25_station.proofs.MayLemmas.{memory_unasked}
 use Rattle.x25_station.proofs.PullLemmas.{goes_on, has_places}
-use Rattle.x25_station.proofs.DoesLemmas.{did_request, declines_asked, declines_request}
+use Rattle.x25_station.proofs.DoesLemmas.{did_request, declines_asked, declines_early, declines_request}
 use Rattle.x25_station.proofs.GivingLemmas.{none_of}
 use Rattle.x25_station.proofs.TakeLemmas.{takes_longest}
 use Rattle.x25_station.proofs.EnteredLemmas.{asked_enters}
@@ -32,8 +32,8 @@ returns-then-not-may_ask-clause-does c =
     (λ c' s fits. may c.args.self.now.manner c' c.args.channel (plain_request c.args.request) c.may_ask.result fits.same (c.may_ask.ensures c.args.channel) c.if-not-may_ask.true) (λ c' s fits. fits) c.requires
 
 pub returns-in-Some-clause-does : goal.returns-in-Some-clause-does
-returns-in-Some-clause-does c = declines_request (Unit {0}) c.in-Some.error _ c.args.self.now _ _ (Asks c.args.channel (plain_request c.args.request)) c.of_layer.ensures
-    (λ d k x fits link. refuses_early (Unit {0}) d c.args.self.now.layer c.in-Some.error _ (sym c.in-Some.is ∙ c.refusal.ensures d k x fits link)) (λ d k fits. fits) (λ x fits. fits) c.requires refl
+returns-in-Some-clause-does c = declines_early _ c.in-Some.error c.args.self.now _ _ (Asks c.args.channel (plain_request c.args.request)) c.of_layer.ensures
+    (λ d k x fits link. sym c.in-Some.is ∙ c.refusal.ensures d k x fits link) (λ c' s fits. fits) c.requires
 
 pub ask-requires : goal.ask-requires
 ask-requires c = takes_longest c.args.self.now.link c.args.self.now.layer c.args.self.now.meant
@@ -68,6 +68,7 @@ returns-in-Ok-clause-does c =
 
 pub returns-in-Err-clause-does : goal.returns-in-Err-clause-does
 returns-in-Err-clause-does c = declines_request _ c.in-Err.error _ c.args.self.now _ _ (Asks c.args.channel (plain_request c.args.request)) c.of_layer-in-Err.ensures c.in-Err.ensures.layer c.in-Err.ensures.layer_stays c.in-Err.ensures.link_stays c.requires refl
+    (λ c' s fits. may c.args.self.now.manner c' c.args.channel (plain_request c.args.request) c.may_ask.result fits.same (c.may_ask.ensures c.args.channel) c.if-not-may_ask.false)
 
 never : {T : Type 0} (b : Bool) → b ≡ true → b ≡ false → T
 never b is isnt = absurd (by (sym is ∙ isnt))
@@ -86,7 +87,7 @@ returns-in-Some-clause-only c = λ none c' s fits.
 pub returns-in-Ok-clause-only : goal.returns-in-Ok-clause-only
 returns-in-Ok-clause-only c = λ none c' s fits.
     let o : Outcome = requests c' s (Asks c.args.channel (plain_request c.args.request)) in
-    goes_on o (goes_exactly o ((returns-in-Ok-clause-does c).refused c' s fits))
+    goes_on o ((returns-in-Ok-clause-does c).refused c' s fits)
 
 pub returns-in-Err-clause-only : goal.returns-in-Err-clause-only
 returns-in-Err-clause-only c = λ none c' s fits.
@@ -96,4 +97,4 @@ returns-in-Err-clause-only c = λ none c' s fits.
     (sym (may c.args.self.now.manner c' c.args.channel (plain_request c.args.request) c.may_ask.result fits.same (c.may_ask.ensures c.args.channel) c.if-not-may_ask.false))
     (has_places _ c.in-Err.error c.args.self.now.link.frames o c.of_layer-in-Err.ensures
     (λ lacks. subst (λ (b : Bool). MayLack b 16 (places_left c.args.self.now.link.frames)) none (c.in-Err.ensures.missing lacks)) fits.sent
-    (refuses_exactly _ Unit c.in-Err.error _ c' c.args.self.now.link c.args.self.now.layer c.ask.new.self s request fits c.of_layer-in-Err.ensures c.in-Err.ensures.layer))
+    (refuses _ Unit c.in-Err.error _ c' c.args.self.now.link c.args.self.now.layer c.ask.new.self s request fits c.of_layer-in-Err.ensures c.in-Err.ensures.layer))

@@ -4,12 +4,10 @@ use Rattle.x25_layer.specs.Calls.{Asks}
 use Rattle.x25_given.specs.Given.{may_give, plain_given}
 use Rattle.x25_station.specs.declared.step.Step as code_step
 use Rattle.x25_station.specs.Config.{layer_settings}
-use Rattle.x25_station.specs.Step.{gives}
 use Rattle.x25_station.proofs.OutcomeLemmas.{still_meant}
 use Rattle.x25_station.proofs.AskLemmas.{still_fits}
-use Rattle.x25_station.proofs.DoesLemmas.{wants_copy}
 use Rattle.x25_station.proofs.TakeLemmas.{takes_longest}
-use Rattle.x25_station.proofs.GivingLemmas.{TakesIt, layers_as, links_as, none_of, declines_early, declines_given, declines_late, did_given, meant_given, asked_given}
+use Rattle.x25_station.proofs.GivingLemmas.{TakesIt, layers_as, links_as, none_of, declines_early, declines_given, declines_for_memory, declines_late, did_given, meant_given, asked_given}
 use Rattle.x25_station.proofs.station.Station.ask_given.Goals as goal
 
 pub returns-in-Some : goal.returns-in-Some
@@ -28,7 +26,13 @@ returns-then-not-takes c = record {
 }
 
 pub returns-in_default-new : goal.returns-in_default-new
-returns-in_default-new c = record { does = wants_copy c.args.self.now _ _ (λ d s. gives d s (plain_given c.args.given.now) (Asks c.args.channel (plain_request c.args.request))) c.requires (λ d s fits. fits) }
+returns-in_default-new c = record {
+  does =
+      let g = plain_given c.args.given.now in
+      declines_for_memory c.args.self.now _ _ g (Asks c.args.channel (plain_request c.args.request))
+      (λ d k x fits link. sym (none_of c.refusal.result c.in_default.not-Some) ∙ c.refusal.ensures d k x fits link)
+      (sym (c.takes.ensures ∙ ap (λ (b : Bool). c.args.self.now.manner.wide && (may_give g && b)) (c.suits.ensures c.args.channel)) ∙ c.if-not-takes.false) (λ d s fits. fits) c.requires;
+}
 
 pub ask_through-requires : goal.ask_through-requires
 ask_through-requires c = takes_longest c.args.self.now.link c.args.self.now.layer c.args.self.now.meant

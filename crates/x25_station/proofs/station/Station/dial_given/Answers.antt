@@ -5,9 +5,8 @@ use Rattle.x25_station.specs.declared.step.Step as code_step
 use Rattle.x25_station.specs.Config.{layer_settings}
 use Rattle.x25_station.proofs.OutcomeLemmas.{still_meant}
 use Rattle.x25_station.proofs.AskLemmas.{still_fits}
-use Rattle.x25_station.proofs.DoesLemmas.{wants_copy}
 use Rattle.x25_station.proofs.TakeLemmas.{takes_longest}
-use Rattle.x25_station.proofs.GivingLemmas.{TakesIt, layers_as, links_as, none_of, declines_early, declines_given, declines_late, did_given, meant_given, dialled_given}
+use Rattle.x25_station.proofs.GivingLemmas.{TakesIt, layers_as, links_as, none_of, declines_early, declines_given, declines_for_memory, declines_late, did_given, meant_given, dialled_given}
 use Rattle.x25_station.proofs.station.Station.dial_given.Goals as goal
 
 pub returns-in-Some : goal.returns-in-Some
@@ -23,6 +22,15 @@ returns-then-not-takes c = record {
       declines_given c.args.self.now _ _ g (Dials c.args.called.now c.args.calling.now c.args.user.now c.args.proposal.now)
       (λ d k x fits link. sym (none_of c.call_refusal.result c.in_default.not-Some) ∙ c.call_refusal.ensures d k x fits link)
       (sym (c.takes.ensures ∙ ap (λ (b : Bool). c.args.self.now.manner.wide && (may_give g && b)) c.is_empty.ensures) ∙ c.if-not-takes.true) (λ d s fits. fits) c.requires;
+}
+
+pub returns-in_default-new : goal.returns-in_default-new
+returns-in_default-new c = record {
+  does =
+      let g = plain_given c.args.given.now in
+      declines_for_memory c.args.self.now _ _ g (Dials c.args.called.now c.args.calling.now c.args.user.now c.args.proposal.now)
+      (λ d k x fits link. sym (none_of c.call_refusal.result c.in_default.not-Some) ∙ c.call_refusal.ensures d k x fits link)
+      (sym (c.takes.ensures ∙ ap (λ (b : Bool). c.args.self.now.manner.wide && (may_give g && b)) c.is_empty.ensures) ∙ c.if-not-takes.false) (λ d s fits. fits) c.requires;
 }
 
 pub call_through-requires : goal.call_through-requires

@@ -3,8 +3,8 @@ use Rattle.x25_station.specs.Pulling.{pulled}
 use Rattle.x25_station.specs.Timer.{pulled_timer, runs}
 use Rattle.x25_station.proofs.station.Station.pull.Goals as goal
 
-pub returns-in-Ok-clause-timer : goal.returns-in-Ok-clause-timer
-returns-in-Ok-clause-timer c = λ c' s fits.
+pub returns-clause-timer : goal.returns-clause-timer
+returns-clause-timer c = λ few c' s fits.
     c.pulled-out.ensures
     ∙ ap (λ b. pulled_timer c.args.out.now.timer b c.timer_runs.result) (c.timer_runs-ran.ensures c' s fits)
-    ∙ ap (λ b. pulled_timer c.args.out.now.timer (runs s) b) (c.timer_runs.ensures c' (pulled c' s).near (c.in-Ok.ensures.pulls.state c' s fits))
+    ∙ ap (λ b. pulled_timer c.args.out.now.timer (runs s) b) (c.timer_runs.ensures c' (pulled c' s).near (c.pull_frames.ensures.state c' s fits))

@@ -5,7 +5,7 @@ use Rattle.x25_station.specs.code.PlainEntry.{plain_entry}
 use Rattle.x25_station.specs.Config.{layer_settings}
 use Rattle.x25_station.specs.Step.{requests}
 use Rattle.x25_station.proofs.OutcomeLemmas.{leaves_some, still_meant}
-use Rattle.x25_station.proofs.AskLemmas.{answers, goes_exactly, refuses_exactly, still_fits}
+use Rattle.x25_station.proofs.AskLemmas.{answers, refuses, still_fits}
 use Rattle.x25_station.proofs.DoesLemmas.{did_request, declines_request}
 use Rattle.x25_station.proofs.EnteredLemmas.{pull_enters}
 use Rattle.x25_station.proofs.PullLemmas.{goes_on, has_places}
@@ -39,12 +39,12 @@ returns-in-Ok-clause-does c =
     refl
 
 pub returns-in-Err-clause-does : goal.returns-in-Err-clause-does
-returns-in-Err-clause-does c = declines_request _ c.in-Err.error _ c.args.self.now _ _ PullsAll c.of_layer.ensures c.in-Err.ensures.layer c.in-Err.ensures.layer_stays c.in-Err.ensures.link_stays c.requires refl
+returns-in-Err-clause-does c = declines_request _ c.in-Err.error _ c.args.self.now _ _ PullsAll c.of_layer.ensures c.in-Err.ensures.layer c.in-Err.ensures.layer_stays c.in-Err.ensures.link_stays c.requires refl (λ c' s fits. refl)
 
 pub returns-in-Ok-clause-only : goal.returns-in-Ok-clause-only
-returns-in-Ok-clause-only c = λ c' s fits. goes_on (requests c' s PullsAll) (goes_exactly (requests c' s PullsAll) ((returns-in-Ok-clause-does c).refused c' s fits))
+returns-in-Ok-clause-only c = λ c' s fits. goes_on (requests c' s PullsAll) ((returns-in-Ok-clause-does c).refused c' s fits)
 
 pub returns-in-Err-clause-only : goal.returns-in-Err-clause-only
 returns-in-Err-clause-only c = λ c' s fits.
     has_places _ c.in-Err.error c.args.self.now.link.frames (requests c' s PullsAll) c.of_layer.ensures c.in-Err.ensures.missing fits.sent
-    (refuses_exactly _ Unit c.in-Err.error _ c' c.args.self.now.link c.args.self.now.layer c.pull.new.self s PullsAll fits c.of_layer.ensures c.in-Err.ensures.layer)
+    (refuses _ Unit c.in-Err.error _ c' c.args.self.now.link c.args.self.now.layer c.pull.new.self s PullsAll fits c.of_layer.ensures c.in-Err.ensures.layer)

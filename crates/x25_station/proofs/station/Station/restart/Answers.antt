@@ -6,7 +6,7 @@ use Rattle.x25_station.specs.code.PlainEntry.{plain_entry}
 use Rattle.x25_station.specs.Config.{layer_settings}
 use Rattle.x25_station.specs.Step.{Outcome, requests}
 use Rattle.x25_station.proofs.OutcomeLemmas.{leaves_some, still_meant}
-use Rattle.x25_station.proofs.AskLemmas.{answers, goes_exactly, refuses_exactly, still_fits}
+use Rattle.x25_station.proofs.AskLemmas.{answers, refuses, still_fits}
 use Rattle.x25_station.proofs.DoesLemmas.{did_request, declines_request}
 use Rattle.x25_station.proofs.EnteredLemmas.{restart_enters}
 use Rattle.x25_station.proofs.PullLemmas.{goes_on, has_places}
@@ -40,15 +40,15 @@ returns-in-Ok-clause-does c =
     refl
 
 pub returns-in-Err-clause-does : goal.returns-in-Err-clause-does
-returns-in-Err-clause-does c = declines_request _ c.in-Err.error _ c.args.self.now _ _ (Restarts c.args.cause c.args.diagnostic) c.of_layer.ensures c.in-Err.ensures.layer c.in-Err.ensures.layer_stays c.in-Err.ensures.link_stays c.requires refl
+returns-in-Err-clause-does c = declines_request _ c.in-Err.error _ c.args.self.now _ _ (Restarts c.args.cause c.args.diagnostic) c.of_layer.ensures c.in-Err.ensures.layer c.in-Err.ensures.layer_stays c.in-Err.ensures.link_stays c.requires refl (λ c' s fits. refl)
 
 pub returns-in-Ok-clause-only : goal.returns-in-Ok-clause-only
 returns-in-Ok-clause-only c = λ c' s fits.
     let o : Outcome = requests c' s (Restarts c.args.cause c.args.diagnostic) in
-    goes_on o (goes_exactly o ((returns-in-Ok-clause-does c).refused c' s fits))
+    goes_on o ((returns-in-Ok-clause-does c).refused c' s fits)
 
 pub returns-in-Err-clause-only : goal.returns-in-Err-clause-only
 returns-in-Err-clause-only c = λ c' s fits.
     let request = Restarts c.args.cause c.args.diagnostic in
     has_places _ c.in-Err.error c.args.self.now.link.frames (requests c' s request) c.of_layer.ensures (λ lacks. (let few = c.in-Err.ensures.missing lacks in omega (arith, few))) fits.sent
-    (refuses_exactly _ Unit c.in-Err.error _ c' c.args.self.now.link c.args.self.now.layer c.restart.new.self s request fits c.of_layer.ensures c.in-Err.ensures.layer)
+    (refuses _ Unit c.in-Err.error _ c' c.args.self.now.link c.args.self.now.layer c.restart.new.self s request fits c.of_layer.ensures c.in-Err.ensures.layer)

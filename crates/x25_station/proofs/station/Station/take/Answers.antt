@@ -12,7 +12,7 @@ use Rattle.x25_station.specs.Receiving.{CanPut, kept_of}
 use Rattle.x25_station.specs.Config.{link_settings, layer_settings}
 use Rattle.x25_station.specs.Station.{all_put}
 use Rattle.x25_station.specs.Step.{receives, entries_heard}
-use Rattle.x25_station.proofs.FrameLemmas.{few_put}
+use Rattle.x25_station.proofs.FrameLemmas.{few_heard}
 use Rattle.x25_station.proofs.OutcomeLemmas.{still_meant}
 use Rattle.x25_station.proofs.TakeLemmas.{up_can_put, handed_can_put, handed_was_up, put_by_meaning, least_by_meaning, up_by_meaning, few_made, if_some}
 use Rattle.x25_station.proofs.TookLemmas.{put_behind, took_fits, took_sends, took_enters, took_acknowledged}
@@ -80,15 +80,14 @@ returns-clause-does c = record {
   stays = λ c' s fits. tt;
   empty = tt;
   few_frames =
-      let most : length c.follow.new.link.frames ≤ 17 = least_by_meaning _ _ (length c.follow.new.link.frames) 17 c.args.self.now.meant (λ c' s fits.
+      let most : length c.follow.new.link.frames ≤ 9 = least_by_meaning _ _ (length c.follow.new.link.frames) 9 c.args.self.now.meant (λ c' s fits.
       let lk = link_settings c' in
       let k : LinkStep = take_step lk c.args.octets.now s.link in
       let whole : FitsWhole c.take-heard.new.self (kept_of lk k.side) = record { link = c.take-heard.ensures.state lk s.link fits.link; kept = c.take-heard.ensures.frames lk s.link fits.link } in
       let step = put_behind c' c.args.self.now.manner.wide s k (option_copied c.take-heard.result.packet) c.take-heard.result.notes in
       let link = c.follow.ensures.puts.link c' s.layer k.side fits.layer whole in
-      let put = few_put lk step.put k.side (c.holds_few.ensures.window lk c.take-heard.new.self k.side.near whole.link) (c.holds_few.ensures.stand lk c.take-heard.new.self k.side.near whole.link).place_low in
-      let own = c.holds_few.ensures.take lk c.args.octets.now s.link in
-      few_made c'.role c.follow.new.link.frames (all_put lk step.put k.side).out 17 link.kept (omega (arith, put, own))) in
+      let few = few_heard lk c.args.octets.now s.link step.put (c.holds_few.ensures.window lk c.args.self.now.link s.link fits.link) (c.holds_few.ensures.stand lk c.args.self.now.link s.link fits.link).place_low in
+      few_made c'.role c.follow.new.link.frames (all_put lk step.put k.side).out 9 link.kept few) in
       let same : length c.swap_frames.new.frames ≡ length c.follow.new.link.frames = ap length c.swap_frames.ensures.frames in
       omega (arith, most, same);
   few_entries = c.follow.new.entries.few;
