@@ -24,7 +24,7 @@ seen_begins Dte x u v y h = (joint_order TalksRelated fresh_transfer fresh_trans
 seen_begins Dce x u v y h = (joint_order TalksRelated fresh_transfer fresh_transfer (λ a b. Unit {0}) tt (λ t k x u v t₂ k₂ y h. tt) (stage_of y.phase) (stage_of x.phase) y.made y.indicated x.made x.indicated v u h).1
 
 indicated_begins : (r : Role) (c : Connection) (u : List Packet) (p : Packet) (v : List Packet) (y : Connection) → Seen r c u (p ∷ v) y → IsPrefix (call_takes r c p).next.indicated y.made
-indicated_begins r c u p v y h = seen_begins r (call_takes r c p).next (u ++ (call_takes r c p).out) v y (Seen-takes r c u p v y h).kept
+indicated_begins r c u p v y h = seen_begins r (call_takes r c p).next (u ++ (call_takes r c p).out) v y (Seen-takes r c u p v y h).1
 
 -- a packet makes no call
 answered_made : (a : Phase) (mine : Params) (m i : List CallRequest) (q : Params) → (is_answered a mine m i q).next.made ≡ m

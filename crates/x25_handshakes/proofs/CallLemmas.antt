@@ -48,20 +48,12 @@ dce_talks = record {
 -- ---- the two roles at once
 
 pub Seen-takes : (r : Role) (x : Connection) (u : List Packet) (p : Packet) (v : List Packet) (y : Connection) → Seen r x u (p ∷ v) y → GoodCall (Seen r) (call_takes r x p) u v y
-Seen-takes Dte x u p v y h =
-    let good = dte_takes TalksRelated fresh_transfer dte_talks x (stage_of y.phase) y.made y.indicated u p v h in
-    record { quiet = good.0; kept = good.1 }
-Seen-takes Dce x u p v y h =
-    let good = dce_takes TalksRelated fresh_transfer dce_talks x (stage_of y.phase) y.made y.indicated u p v h in
-    record { quiet = good.0; kept = good.1 }
+Seen-takes Dte x u p v y h = dte_takes TalksRelated fresh_transfer dte_talks x (stage_of y.phase) y.made y.indicated u p v h
+Seen-takes Dce x u p v y h = dce_takes TalksRelated fresh_transfer dce_talks x (stage_of y.phase) y.made y.indicated u p v h
 
 pub Seen-acts : Laws → (r : Role) (x : Connection) (u v : List Packet) (y : Connection) (a : CallAct) → Seen r x u v y → GoodCall (Seen r) (call_acts x a) u v y
-Seen-acts laws Dte x u v y a h =
-    let good = dte_acts TalksRelated fresh_transfer dte_talks x (stage_of y.phase) y.made y.indicated u laws v a h in
-    record { quiet = good.0; kept = good.1 }
-Seen-acts laws Dce x u v y a h =
-    let good = dce_acts TalksRelated fresh_transfer dce_talks x (stage_of y.phase) y.made y.indicated u laws v a h in
-    record { quiet = good.0; kept = good.1 }
+Seen-acts laws Dte x u v y a h = dte_acts TalksRelated fresh_transfer dte_talks x (stage_of y.phase) y.made y.indicated u laws v a h
+Seen-acts laws Dce x u v y a h = dce_acts TalksRelated fresh_transfer dce_talks x (stage_of y.phase) y.made y.indicated u laws v a h
 
 pub Seen-fresh : (r : Role) → Seen r fresh_call [] [] fresh_call
 Seen-fresh Dte = (tt, tt, refl, refl, refl, refl)

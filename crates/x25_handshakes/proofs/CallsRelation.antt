@@ -112,9 +112,8 @@ abbrev pub Joint : Phase → Phase → List CallRequest → List CallRequest →
 Joint a b ma ia mb ib u v = JointOf TalksRelated fresh_transfer fresh_transfer (stage_of a) (stage_of b) ma ia mb ib u v
 
 -- a step of our own end that is no error, and keeps what R says of it and the other end
-pub record GoodCall {T : Type 0} (R : Connection → List Packet → List Packet → T → Type 0) (s : CallStep) (u v : List Packet) (y : T) : Type 0 where
-  pub quiet : s.error ≡ None
-  pub kept : R s.next (u ++ s.out) v y
+abbrev pub GoodCall : {T : Type 0} → (Connection → List Packet → List Packet → T → Type 0) → CallStep → List Packet → List Packet → T → Type 0
+GoodCall R s u v y = (s.error ≡ None) × R s.next (u ++ s.out) v y
 
 -- where an end is not in p1
 abbrev pub IsCalled : Connection → Type 0

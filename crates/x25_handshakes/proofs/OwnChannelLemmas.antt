@@ -39,8 +39,8 @@ module _ {T : Type 0} (left : Connection → Type 0) (left_there : T → Type 0)
     where
       at : (u v : List Packet) (y : T) → GoodCall R s u v y → (let k = lifted_call e s s.error in Goes level Any e s.next k.next k.out (f k.error) u v y)
       at u v y g =
-          subst (λ (n : Option ℕ). let k = lifted_call e s n in Goes level Any e s.next k.next k.out (f k.error) u v y) (sym g.quiet)
-          (record { quiet = none; at = refl; inner = quiet_back u s.out (own.quiet _ _ _ _ g.kept).0; passes = tt; kept = g.kept })
+          subst (λ (n : Option ℕ). let k = lifted_call e s n in Goes level Any e s.next k.next k.out (f k.error) u v y) (sym g.0)
+          (record { quiet = none; at = refl; inner = quiet_back u s.out (own.quiet _ _ _ _ g.1).0; passes = tt; kept = g.1 })
 
   answers : (e : ℕ) (x : Side Connection) (p : Packet) → (let s = channel_side_takes r e x p in Answers level Any e x p (clear_mark p) s.next s.out (finds p s.error))
   answers e (Live x) Clear = record { confirm = ClearConf; is = refl; at = refl; sent = refl; passes = tt; quiet = λ w z gone h. own.clear x w z gone h }

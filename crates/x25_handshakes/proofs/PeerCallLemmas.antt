@@ -102,20 +102,12 @@ module _ (K : Stage (At PeerStretch) → List CallRequest → List CallRequest �
 -- ---- the two roles at once, seen from our end
 
 pub PeerSeen-takes : (r : Role) (x : Connection) (u : List Packet) (p : Packet) (v : List Packet) (y : PeerCall) → PeerSeen r x u (p ∷ v) y → GoodCall (PeerSeen r) (call_takes r x p) u v y
-PeerSeen-takes Dte x u p v y h =
-    let good = dte_takes PeerTalks fresh_peer_transfer dte_talks x y.stage y.made y.indicated u p v h in
-    record { quiet = good.0; kept = good.1 }
-PeerSeen-takes Dce x u p v y h =
-    let good = dce_takes TalksPeer fresh_peer_transfer dce_talks x y.stage y.made y.indicated u p v h in
-    record { quiet = good.0; kept = good.1 }
+PeerSeen-takes Dte x u p v y h = dte_takes PeerTalks fresh_peer_transfer dte_talks x y.stage y.made y.indicated u p v h
+PeerSeen-takes Dce x u p v y h = dce_takes TalksPeer fresh_peer_transfer dce_talks x y.stage y.made y.indicated u p v h
 
 pub PeerSeen-acts : Laws → (r : Role) (x : Connection) (u v : List Packet) (y : PeerCall) (a : CallAct) → PeerSeen r x u v y → GoodCall (PeerSeen r) (call_acts x a) u v y
-PeerSeen-acts laws Dte x u v y a h =
-    let good = dte_acts PeerTalks fresh_peer_transfer dte_talks x y.stage y.made y.indicated u laws v a h in
-    record { quiet = good.0; kept = good.1 }
-PeerSeen-acts laws Dce x u v y a h =
-    let good = dce_acts TalksPeer fresh_peer_transfer dce_talks x y.stage y.made y.indicated u laws v a h in
-    record { quiet = good.0; kept = good.1 }
+PeerSeen-acts laws Dte x u v y a h = dte_acts PeerTalks fresh_peer_transfer dte_talks x y.stage y.made y.indicated u laws v a h
+PeerSeen-acts laws Dce x u v y a h = dce_acts TalksPeer fresh_peer_transfer dce_talks x y.stage y.made y.indicated u laws v a h
 
 -- the peer as it stands, is at last, and puts, where all else is this
 abbrev Beside : (r : Role) (x : Connection) (u v : List Packet) → Stage (At PeerStretch) → List CallRequest → List CallRequest → List Packet → Type 0

@@ -1,4 +1,4 @@
--- What a step of an end adds: packets, entries of its transcript, and octets on the tap.
+-- What a step of an end adds: packets, entries of its transcript, and octets on the tap and on the line.
 use Rattle.std.proofs.Common.{◌≡◌, ℕ, zero, suc, List, [], ◌∷◌, ◌++◌, map, length, Result, Ok, Contains, refl, sym, ap, ap₂, subst, ◌∙◌, arith, append_assoc, append-nil}
 use Rattle.std.proofs.lemmas.List.{map-append, length-map}
 use Rattle.x25_bits.specs.declared.role.Role.{Role}
@@ -15,6 +15,10 @@ use Rattle.x25_station.specs.laws.ReadLaw.{AreOctets}
 use Rattle.x25_station.specs.Entry.{StationEntry}
 use Rattle.x25_world.specs.World.{OnTap, AtEnd, tapped, entered}
 use Rattle.x25_world.specs.laws.Claims.{entry_of_end, entries_at}
+use Rattle.x25_line.specs.laws.Sessions.{Entry, sent_in}
+use Rattle.x25_line.specs.laws.SessionClaims.{octets_of}
+use Rattle.x25_line.proofs.sessions.SessionLines.{octets_append, octets_sent}
+use Rattle.x25_peer.proofs.sessions.LinkSteps.{AreReadBack}
 
 -- ---- octets, by the packets that they are read as
 
@@ -108,3 +112,37 @@ on_tap from [] [] [] h = tt
 on_tap from [] [] (f ∷ frames) h = (refl, on_tap from [] [] frames tt)
 on_tap from (t ∷ tap) (s ∷ sent) frames h = (h.0, on_tap from tap sent frames h.1)
 on_tap from tap sent frames h = absurd h
+
+pub octets_put : (es : List Entry) (session : ℕ) (from : Role) (frames : List PlainFrame) → octets_of (es ++ sent_in session from frames) ≡ octets_of es ++ map (spelling_of from) frames
+octets_put es session from frames = octets_append es (sent_in session from frames) ∙ ap (λ (l : List (List ℕ)). octets_of es ++ l) (octets_sent session from frames)
+
+-- octets on the line are those of an entry
+pub record FrontEntry (front : List ℕ) (behind : List (List ℕ)) (es : List Entry) : Type 0 where
+  pub entry : Entry
+  pub others : List Entry
+  pub is : es ≡ entry ∷ others
+  pub octets : entry.octets ≡ front
+  pub left : octets_of others ≡ behind
+
+abbrev front_octets : List (List ℕ) → List ℕ
+front_octets [] = []
+front_octets (x ∷ xs) = x
+
+abbrev behind_front : List (List ℕ) → List (List ℕ)
+behind_front [] = []
+behind_front (x ∷ xs) = xs
+
+pub front_entry : (octets : List ℕ) (back : List (List ℕ)) (es : List Entry) → octets_of es ≡ octets ∷ back → FrontEntry octets back es
+front_entry octets back [] same = absurd (cc)
+front_entry octets back (e ∷ es) same = record { entry = e; others = es; is = refl; octets = ap front_octets same; left = ap behind_front same }
+
+-- what the other end reads back
+pub back_read : (cfg : Cfg) (os : List (List ℕ)) (ps : List PlainPacket) → AreReadBack cfg.wide cfg.long_data os ps → all_read cfg os ≡ as_read ps
+back_read cfg [] [] h = refl
+back_read cfg (o ∷ os) (p ∷ ps) h = ap₂ (λ (r : Result PlainPacket PacketError) (rs : List (Result PlainPacket PacketError)). r ∷ rs) h.0.reads (back_read cfg os ps h.1)
+back_read cfg os ps h = absurd h
+
+pub back_octets : (cfg : Cfg) (os : List (List ℕ)) (ps : List PlainPacket) → AreReadBack cfg.wide cfg.long_data os ps → AllAreOctets os
+back_octets cfg [] [] h = tt
+back_octets cfg (o ∷ os) (p ∷ ps) h = (h.0.octets, back_octets cfg os ps h.1)
+back_octets cfg os ps h = absurd h

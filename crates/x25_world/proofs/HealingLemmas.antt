@@ -41,7 +41,7 @@ use Rattle.x25_world.proofs.WorldLemmas.{refusal-swapped}
 use Rattle.x25_world.proofs.sessions.SessionReaches.{both_down, known_sessions, links_append, timely_append}
 use Rattle.x25_world.proofs.sessions.SessionJoined.{SessionsJoined}
 use Rattle.x25_peer.proofs.Granted.{timer_silent}
-use Rattle.x25_world.proofs.sessions.SessionLinks.{octets_put}
+use Rattle.x25_world.proofs.Growing.{octets_put}
 use Rattle.x25_world.proofs.sessions.SessionFollows.{silent}
 use Rattle.x25_world.proofs.sessions.SessionRuns.{throughout_joined}
 

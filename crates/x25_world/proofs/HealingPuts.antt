@@ -33,7 +33,7 @@ use Rattle.x25_world.proofs.Known.{IsConfigured, is_configured, true_false}
 use Rattle.x25_world.proofs.sessions.SessionReaches.{both_down, twice, known_sessions, links_append}
 use Rattle.x25_world.proofs.sessions.SessionJoined.{SessionsJoined, sessions_swapped}
 use Rattle.x25_peer.proofs.sessions.LinkSteps.{SessionGoes, StepGoes, stays_goes, deliver_goes, puts_of, all_act, puts_go, HasPut}
-use Rattle.x25_world.proofs.sessions.SessionLinks.{octets_put, front_entry}
+use Rattle.x25_world.proofs.Growing.{octets_put, front_entry}
 use Rattle.x25_world.proofs.sessions.SessionRuns.{event_joined, throughout_joined, down_at_none, not_set_up}
 use Rattle.x25_world.proofs.sessions.acts.SessionRequests.{request_puts, given_puts, said_octets}
 use Rattle.x25_world.proofs.sessions.acts.SessionReceives.{taken_puts}

@@ -7,10 +7,8 @@ pub mod SessionBeside
 pub mod SessionJoined
 pub mod SessionEntries
 pub mod SessionKnown
-pub mod SessionLinks
 pub mod SessionGoes
 pub mod SessionFollows
-pub mod SessionMoves
 pub mod SessionRuns
 pub mod SessionsAlong
 pub mod acts

@@ -1,5 +1,5 @@
 -- The links of a station and a peer over sessions, as `x25_line` has them.
-use Rattle.std.proofs.Common.{◌≡◌, ℕ, ◌==◌, List, [], ◌++◌, if◌then◌else◌, sym, ap, ap₂, subst, ◌∙◌}
+use Rattle.std.proofs.Common.{◌≡◌, ℕ, ◌==◌, List, ◌++◌, if◌then◌else◌, sym, ap, ap₂, subst, ◌∙◌}
 use Rattle.x25_frame.specs.Frame.{PlainFrame}
 use Rattle.x25_link.specs.Station.{Settings as LinkSettings, LinkStation}
 use Rattle.x25_line.specs.laws.Stations as line

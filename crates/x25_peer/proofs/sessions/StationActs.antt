@@ -36,12 +36,11 @@ use Rattle.x25_station.specs.laws.KeepLaw.{IsKept, KeptBy}
 use Rattle.x25_station.specs.laws.ReadLaw.{AreReadable, RequestsOctets, IsReachedByOctets}
 use Rattle.x25_peer.specs.laws.BesideSessions.{ReadAs, Theirs, BesideSessions, stepped, followed, heard_here, links_of}
 use Rattle.x25_peer.proofs.Granted.{did_granted, gave_granted, suits_asks, connects_in_down, relinks_in_up, timer_silent}
-use Rattle.x25_peer.proofs.LayerPart.{AllStay, pulls_stay, moves_reached}
+use Rattle.x25_peer.proofs.sessions.SessionLayers.{AllStay, pulls_stay, moves_reached, alone_at, AreAsked, pulls_asked, asked_reached, asked_leaves}
 use Rattle.x25_peer.proofs.ReadLemmas.{Next, next_read, readable_behind}
 use Rattle.x25_peer.proofs.sessions.Meetings.{CanMeet, could_meet, all_both, met_can_meet, could_meet_some}
 use Rattle.x25_peer.proofs.sessions.LinkSteps.{SessionGoes, StepGoes, step_as, act_goes, probe_acts, abandon_goes, relink_goes, deliver_goes, spelled, spelled_with, PutsRead, puts_spelled, puts_spelled_with, stays_goes, extended_none}
 use Rattle.x25_peer.proofs.sessions.SessionLinks.{links_with, LinkReached, Reach, acts_reach, goes_reached}
-use Rattle.x25_peer.proofs.sessions.SessionLayers.{alone_at, AreAsked, pulls_asked, asked_reached, asked_leaves}
 use Rattle.x25_peer.proofs.sessions.Standing.{Below, Known, PairReached, downs_of, ups_of, Stands, both_begin, heard_few, way, way_more}
 use Rattle.x25_peer.proofs.sessions.StationSteps.{AreSilent, goes, follows_on}
 

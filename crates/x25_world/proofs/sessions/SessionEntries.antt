@@ -254,16 +254,31 @@ mute_in n p (e ∷ entries) h = by (is_in n (after_entry p e)) (mute_in n (after
 
 -- ---- those of a step that notes nothing are such
 
-channel_plain : (es : List Entry) → ArePlain (of_channels es)
-channel_plain [] = tt
-channel_plain (e ∷ es) = (tt, channel_plain es)
+-- what is so of the entries of a command of a user: they are of channels, or one of its RESTART
+outcome_all : (P : List StationEntry → Type 0) → P [] → ((e : Entry) (es : List StationEntry) → P es → P (of_channel e ∷ es)) → ((cause diagnostic : ℕ) → P (restart_asked cause diagnostic ∷ []))
+    → (c : LayerSettings) (l : Layer) (request : LayerRequest) (o : LayerOutcome) → P (entries_of_outcome c l request o)
+outcome_all P none more one c l request (Declined e) = none
+outcome_all P none more one c l request (Accepted next packet) = by request
+  where
+    channels : (es : List Entry) → P (of_channels es)
+    channels [] = none
+    channels (e ∷ es) = more e (of_channels es) (channels es)
+
+    by : (request : LayerRequest) → P (entries_of_outcome c l request (Accepted next packet))
+    by (Asks h request) = channels (entries_asked c l next (Asks h request))
+    by (Dials called calling user params) = channels (entries_asked c l next (Dials called calling user params))
+    by (Restarts cause diagnostic) = one cause diagnostic
+    by PullsAll = none
 
 pub outcome_plain : (c : LayerSettings) (l : Layer) (request : LayerRequest) (o : LayerOutcome) → ArePlain (entries_of_outcome c l request o)
-outcome_plain c l (Asks h request) (Accepted next packet) = channel_plain (entries_asked c l next (Asks h request))
-outcome_plain c l (Dials called calling user params) (Accepted next packet) = channel_plain (entries_asked c l next (Dials called calling user params))
-outcome_plain c l (Restarts cause diagnostic) (Accepted next packet) = (tt, tt)
-outcome_plain c l PullsAll (Accepted next packet) = tt
-outcome_plain c l request (Declined e) = tt
+outcome_plain = outcome_all ArePlain tt (λ e es rest. (tt, rest)) (λ cause diagnostic. (tt, tt))
+
+-- it tells nothing of what came beside, and of no confirmation
+pub outcome_beside : (c : LayerSettings) (l : Layer) (request : LayerRequest) (o : LayerOutcome) → came_in (entries_of_outcome c l request o) ≡ []
+outcome_beside = outcome_all (λ es. came_in es ≡ []) refl (λ e es rest. rest) (λ cause diagnostic. refl)
+
+pub outcome_counts : (c : LayerSettings) (l : Layer) (request : LayerRequest) (o : LayerOutcome) → CountNone (entries_of_outcome c l request o)
+outcome_counts = outcome_all CountNone (λ k name. refl) (λ e es none k name. (let rest = none k name in omega (arith, rest))) (λ cause diagnostic k name. refl)
 
 beside_plain : (b : PlainBeside) (o : Option ℕ) → ArePlain (entries_beside b o)
 beside_plain nothing o = tt
@@ -291,33 +306,7 @@ heard_plain c l k octets some quiet =
     (let a = layer_answer (layer_settings c) c.wide l octets in
     told_plain a.next a.notices _ (behind_plain a.next (named_by octets) (confirmed_by (layer_settings c) c.wide l a.next (named_by octets)) _ (beside_plain (beside_in c.wide octets) (bringing a.notices))))
 
--- ---- what came beside
-
-channel_beside : (es : List Entry) → came_in (of_channels es) ≡ []
-channel_beside [] = refl
-channel_beside (e ∷ es) = channel_beside es
-
--- a command of a user tells nothing of it
-pub outcome_beside : (c : LayerSettings) (l : Layer) (request : LayerRequest) (o : LayerOutcome) → came_in (entries_of_outcome c l request o) ≡ []
-outcome_beside c l (Asks h request) (Accepted next packet) = channel_beside (entries_asked c l next (Asks h request))
-outcome_beside c l (Dials called calling user params) (Accepted next packet) = channel_beside (entries_asked c l next (Dials called calling user params))
-outcome_beside c l (Restarts cause diagnostic) (Accepted next packet) = refl
-outcome_beside c l PullsAll (Accepted next packet) = refl
-outcome_beside c l request (Declined e) = refl
-
 -- ---- what is confirmed
-
-channel_counts : (es : List Entry) → CountNone (of_channels es)
-channel_counts [] k name = refl
-channel_counts (e ∷ es) k name = let rest = channel_counts es k name in omega (arith, rest)
-
--- a command of a user tells of none
-pub outcome_counts : (c : LayerSettings) (l : Layer) (request : LayerRequest) (o : LayerOutcome) → CountNone (entries_of_outcome c l request o)
-outcome_counts c l (Asks h request) (Accepted next packet) = channel_counts (entries_asked c l next (Asks h request))
-outcome_counts c l (Dials called calling user params) (Accepted next packet) = channel_counts (entries_asked c l next (Dials called calling user params))
-outcome_counts c l (Restarts cause diagnostic) (Accepted next packet) = λ k name. refl
-outcome_counts c l PullsAll (Accepted next packet) = λ k name. refl
-outcome_counts c l request (Declined e) = λ k name. refl
 
 told_counts : (l : Layer) (notices : List LayerNotice) (es : List StationEntry) (k : ℕ) (name : Name) → confirmed_in k name (station_told l notices ++ es) ≡ confirmed_in k name es
 told_counts l [] es k name = refl

@@ -1,5 +1,5 @@
 -- A step of the link that hands nothing up: nothing is noted; or LinkDown; or LinkUp, by which a session begins.
-use Rattle.std.proofs.Common.{◌≡◌, ℕ, suc, List, [], ◌∷◌, ◌++◌, ◌+◌, Bool, true, false, if◌then◌else◌, Option, Some, None, refl, sym, ap, ap₂, ◌∙◌, subst, arith}
+use Rattle.std.proofs.Common.{◌≡◌, ℕ, suc, List, [], ◌∷◌, ◌++◌, Bool, true, false, Option, Some, None, refl, sym, ap, ap₂, ◌∙◌, subst, arith}
 use Rattle.x25_bits.specs.declared.role.Role.{Role}
 use Rattle.x25_packet.specs.Packet.{PlainPacket, restart}
 use Rattle.x25_link.specs.declared.phase.Reason.{Reason}
@@ -35,7 +35,7 @@ use Rattle.x25_world.proofs.sessions.SessionJoined.{HasMet, PairsAreInOrder, Ses
 use Rattle.x25_world.specs.laws.LawsBelow.{SessionLaws}
 use Rattle.x25_world.proofs.sessions.SessionKnown.{nothing_in_order, own_readable}
 use Rattle.x25_peer.proofs.sessions.LinkSteps.{SessionGoes, StepGoes, step_as, spelled, puts_spelled, HasPut, puts_up, puts_of, all_act, puts_go}
-use Rattle.x25_world.proofs.sessions.SessionLinks.{back_read, back_octets}
+use Rattle.x25_world.proofs.Growing.{back_read, back_octets}
 use Rattle.x25_world.proofs.sessions.SessionGoes.{IsSilent, not_in, rests, begins_session}
 use Rattle.x25_world.proofs.sessions.SessionEntries.{AreMute}
 

@@ -26,8 +26,7 @@ use Rattle.x25_world.proofs.sessions.SessionTrace.{layer_of}
 use Rattle.x25_world.proofs.sessions.SessionBeside.{MoreIs, none_more, more_again, said_channel}
 use Rattle.x25_world.proofs.sessions.SessionJoined.{IsEnd, SessionsJoined, retold, Goes, gave_none, sessions_swapped}
 use Rattle.x25_world.specs.laws.LawsBelow.{SessionLaws}
-use Rattle.x25_world.proofs.sessions.acts.SessionLines.{lost_joined, damaged_joined}
-use Rattle.x25_world.proofs.sessions.acts.SessionTimers.{fired_joined, connects_joined, connects_alone_joined, disconnects_joined, probes_joined, relinks_joined}
+use Rattle.x25_world.proofs.sessions.acts.SessionTimers.{lost_joined, damaged_joined, fired_joined, connects_joined, connects_alone_joined, disconnects_joined, probes_joined, relinks_joined}
 use Rattle.x25_world.proofs.sessions.acts.SessionRequests.{requests_joined, gives_joined, said_octets}
 use Rattle.x25_world.proofs.sessions.acts.SessionReceives.{receives_joined}
 

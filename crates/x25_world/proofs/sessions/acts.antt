@@ -2,4 +2,3 @@
 pub mod SessionRequests
 pub mod SessionReceives
 pub mod SessionTimers
-pub mod SessionLines

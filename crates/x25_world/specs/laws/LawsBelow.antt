@@ -1,5 +1,5 @@
 -- What the laws of the links, the layers and the stations below say, which the laws of a world rest on.
-use Rattle.std.specs.Prelude.{ℕ, Bool}
+use Rattle.std.specs.Prelude.{Bool}
 use Rattle.x25_frame.specs.laws.ReadingLaw.{ReadsSpelled}
 use Rattle.x25_link.specs.laws.NoteLaw.{TakeTells, TakeHandsUp, TimerTells, PutTells, ConnectTells, DisconnectTells}
 use Rattle.x25_link.specs.laws.NoteLaw.{AbandonTells, RelinkTells}

@@ -39,8 +39,8 @@ use Rattle.x25_handshakes.specs.laws.Names.{Name}
 use Rattle.x25_world.specs.laws.ConfirmedClaims.{confirmed_in}
 use Rattle.x25_world.specs.laws.Claims.{link_of}
 use Rattle.x25_world.proofs.Known.{IsConfigured, both_true, true_false}
-use Rattle.x25_world.proofs.Growing.{read_by, all_read, is_read, as_read, first_read}
-use Rattle.x25_world.proofs.sessions.SessionTrace.{layer_of, Done, moved, own, own_goes, events_of, nothing_goes}
+use Rattle.x25_world.proofs.Growing.{read_by, all_read, is_read, as_read, first_read, FrontEntry, front_entry}
+use Rattle.x25_world.proofs.sessions.SessionTrace.{layer_of, Done, moved, own, own_goes, events_of, nothing_goes, own_pulls, pulls_take_nothing, pulls_bring_octets, near_pulls, take_takes}
 use Rattle.x25_world.proofs.sessions.SessionCounts.{counted_at, counted_by, counted_in}
 use Rattle.x25_world.proofs.sessions.SessionReaches.{Beginning, SessionsReach, IsAt, may_ask, known_sessions, sessions_act}
 use Rattle.x25_world.proofs.sessions.SessionJoined.{HasMet, PairIsInOrder, PairsAreInOrder, SessionsJoined, Goes, gave_none, stays}
@@ -50,10 +50,8 @@ use Rattle.x25_world.specs.laws.LawsBelow.{SessionLaws}
 use Rattle.x25_world.proofs.sessions.SessionKnown.{met_in_order, pair_ends, here_in, here_is, there_is, own_order, own_first, nothing_in_order}
 use Rattle.x25_world.proofs.sessions.SessionEntries.{heard_plain, heard_beside, heard_confirms}
 use Rattle.x25_peer.proofs.sessions.LinkSteps.{SessionGoes, StepGoes, step_as, deliver_goes, abandon_goes, spelled, PutsRead, HasPut, puts_spelled}
-use Rattle.x25_world.proofs.sessions.SessionLinks.{FrontEntry, front_entry}
 use Rattle.x25_world.proofs.sessions.SessionGoes.{here_extended}
 use Rattle.x25_world.proofs.sessions.SessionFollows.{no_command, up_puts, silent_puts, follows_silent, follows_up}
-use Rattle.x25_world.proofs.sessions.SessionMoves.{own_pulls, pulls_take_nothing, pulls_bring_octets, near_pulls, take_takes}
 use Rattle.x25_world.proofs.sessions.acts.SessionRequests.{pair_goes, pair_stays, puts_readable, joins}
 
 -- the packet in front of those in flight, by what its octets are read as

@@ -1,5 +1,5 @@
 -- A command to the layer in a session, without or with something given: its own packet is put, and then what waits.
-use Rattle.std.proofs.Common.{◌≡◌, ℕ, suc, ◌==◌, ◌≤◌, ◌⊎◌, inl, inr, List, [], ◌∷◌, ◌++◌, Bool, true, Option, None, refl, sym, ap, ◌∙◌, subst, append-nil, arith, if◌then◌else◌, ◌&&◌}
+use Rattle.std.proofs.Common.{◌≡◌, ℕ, suc, ◌==◌, ◌≤◌, ◌⊎◌, inl, inr, List, [], ◌∷◌, ◌++◌, Bool, true, Option, None, refl, sym, ap, ◌∙◌, subst, append-nil, arith, ◌&&◌}
 use Rattle.std.proofs.lemmas.List.{append_cancel_left}
 use Rattle.x25_bits.specs.declared.role.Role.{Role}
 use Rattle.x25_packet.specs.Packet.{PlainPacket}
@@ -26,8 +26,8 @@ use Rattle.x25_station.specs.declared.config.Cfg.{Cfg}
 use Rattle.x25_station.specs.Config.{Settings, settings_from, layer_settings}
 use Rattle.x25_station.specs.Command as command
 use Rattle.x25_station.specs.Entry.{layer_notices}
-use Rattle.x25_station.specs.Giving.{suits, is_taken}
-use Rattle.x25_station.specs.Step.{Step, Outcome, Did, Refused, requests, gave, gives}
+use Rattle.x25_station.specs.Giving.{suits}
+use Rattle.x25_station.specs.Step.{Step, Outcome, Did, Refused, requests, gives}
 use Rattle.x25_station.specs.laws.GivenLaw.{GivesOctets}
 use Rattle.x25_station.specs.laws.JoinLaw.{station_with, MovesAs}
 use Rattle.x25_station.specs.laws.KeepLaw.{IsKept, KeptBy}
@@ -38,8 +38,8 @@ use Rattle.x25_world.specs.laws.BesideClaims.{Came, came_in, Gave, channel_for, 
 use Rattle.x25_world.specs.laws.ConfirmedClaims.{confirmed_in}
 use Rattle.x25_world.specs.laws.Claims.{link_of}
 use Rattle.x25_world.proofs.Known.{IsConfigured, both_true}
-use Rattle.x25_world.proofs.Growing.{all_read, as_read}
-use Rattle.x25_world.proofs.sessions.SessionTrace.{layer_of, Done, moved, own, own_goes, same_number, pair_at, events_of, pair_more, pair_same, TakeNothing, nothing_goes, BringOctets, octets_append}
+use Rattle.x25_world.proofs.Growing.{all_read, as_read, back_read, back_octets}
+use Rattle.x25_world.proofs.sessions.SessionTrace.{layer_of, Done, moved, own, own_goes, same_number, pair_at, events_of, pair_more, pair_same, TakeNothing, nothing_goes, BringOctets, octets_append, own_pulls, pulls_take_nothing, pulls_bring_octets, near_pulls}
 use Rattle.x25_world.proofs.sessions.SessionCounts.{counted_in, CountNone}
 use Rattle.x25_world.proofs.sessions.SessionReaches.{Beginning, MayAsk, IsAt, may_ask, SessionsReach, puts_reach}
 use Rattle.x25_world.proofs.sessions.SessionJoined.{HasMet, PairIsInOrder, PairsAreInOrder, SessionsJoined, Goes, gave_none, stays}
@@ -52,9 +52,7 @@ use Rattle.x25_peer.proofs.Granted.{did_granted, gave_granted, suits_asks}
 use Rattle.x25_peer.proofs.ReadLemmas.{readable_behind}
 use Rattle.x25_peer.proofs.sessions.LinkSteps.{SessionGoes, spelled, spelled_with, PutsRead, HasPut, puts_spelled, puts_spelled_with, puts_up, puts_of, all_act, puts_go, stays_goes}
 use Rattle.x25_peer.proofs.sessions.SessionLayers.{pulls_asked, asked_leaves}
-use Rattle.x25_world.proofs.sessions.SessionLinks.{back_read, back_octets}
 use Rattle.x25_world.proofs.sessions.SessionGoes.{same_or_not, IsNews, goes_on}
-use Rattle.x25_world.proofs.sessions.SessionMoves.{own_pulls, pulls_take_nothing, pulls_bring_octets, near_pulls}
 
 -- what calls and acceptances say changes no octet of the user
 pub said_octets : (says : Bool) (l : Layer) (request : LayerRequest) → RequestsOctets request → RequestsOctets (command.said_by says l request)
