@@ -21,12 +21,10 @@ use Rattle.x25_line.specs.laws.Stations.{StationEnd, Stations, Act, Put, Deliver
 use Rattle.x25_line.specs.laws.StationClaims.{AreJoined}
 use Rattle.x25_line.specs.Healing.{IsDeliver, AreDeliveries}
 use Rattle.x25_line.specs.laws.LawsBelow.{HealingLaws}
-use Rattle.x25_line.proofs.HealingOnce.{IsDrained, EachFinds}
 use Rattle.x25_line.proofs.StationSends.{AllWithin, within_push}
 use Rattle.x25_line.proofs.StationRuns.{joined_swapped}
 use Rattle.x25_line.proofs.StationEvents.{each_hands_one}
 use Rattle.x25_line.proofs.HealingRuns.{BothSaid, said_run}
-use Rattle.x25_line.proofs.HealingSteps.{deliver_is}
 use Rattle.x25_line.proofs.DrainWeights.{more_if, times, times_more, seven_times, read_weight, weights, to_take, station_weight, AreSpelled}
 use Rattle.x25_line.proofs.DrainSteps.{changes, asks_in, read_weight_some, GoesOn, Changes, Took, took}
 
@@ -79,6 +77,26 @@ station_other : (back low now : ℕ) (s : LinkStation) → station_weight back n
 station_other back low now s =
     let small : to_take now (length s.taken) ≤ 7 = omega arith in
     omega (arith, times_more back (to_take now (length s.taken)) 7 small, seven_times back)
+
+-- ---- deliveries
+
+-- nothing is on the line
+pub record IsDrained (w : Stations) : Type 0 where
+  pub out : w.out ≡ []
+  pub back : w.back ≡ []
+
+-- octets are there for each delivery
+abbrev pub Finds : Event → Stations → Type 0
+Finds (Near act) w = w.back ≡ [] → ⊥
+Finds (Far act) w = w.out ≡ [] → ⊥
+
+abbrev pub EachFinds : Settings → Settings → List Event → Stations → Type 0
+EachFinds c d [] w = Unit {0}
+EachFinds c d (e ∷ es) w = Finds e w × EachFinds c d es (happens c d e w)
+
+deliver_is : (a : Act) → IsDeliver a → Deliver ≡ a
+deliver_is Deliver is = refl
+deliver_is a is = absurd is
 
 -- ---- how many deliveries find octets at most, where so many changes may come yet
 

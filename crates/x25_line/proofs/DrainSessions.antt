@@ -8,10 +8,9 @@ use Rattle.x25_line.specs.laws.Sessions.{Entry, Sessions, acts, swapped, run}
 use Rattle.x25_line.specs.laws.SessionClaims.{octets_of, AreStationsOf}
 use Rattle.x25_line.specs.Healing.{EachFindsIn, SessionsDrainEnd, SomeSessionsDrain}
 use Rattle.x25_line.specs.laws.LawsBelow.{HealingLaws}
-use Rattle.x25_line.proofs.HealingOnce.{EachFinds}
 use Rattle.x25_line.proofs.sessions.SessionsForgotten.{sessions_are_links}
 use Rattle.x25_line.proofs.HealingSessions.{forgotten}
-use Rattle.x25_line.proofs.DrainRuns.{at_most, back_of, enough_for, count, drains}
+use Rattle.x25_line.proofs.DrainRuns.{EachFinds, at_most, back_of, enough_for, count, drains}
 
 no_entries : (es : List Entry) → octets_of es ≡ [] → es ≡ []
 no_entries [] none = refl

@@ -14,14 +14,12 @@ pub mod StationPeers
 pub mod PeerOrder
 pub mod TapeLemmas
 pub mod rows
-pub mod HealingOnce
 pub mod HealingLines
 pub mod HealingSteps
 pub mod HealingRuns
 pub mod HealingSetUp
 pub mod HealingEnds
 pub mod HealingSessions
-pub mod HealingStands
 pub mod DrainWeights
 pub mod DrainSteps
 pub mod DrainRuns
