@@ -31,7 +31,7 @@ use Rattle.x25_line.proofs.StationSteps.{AsUp, not_both}
 use Rattle.x25_line.proofs.sessions.SessionLines.{numbers}
 use Rattle.x25_line.proofs.sessions.SessionActs.{in_session}
 use Rattle.x25_line.proofs.sessions.SessionRuns.{HeldOf, held_swapped, throughout}
-use Rattle.x25_line.proofs.HealingSessions.{said_from}
+use Rattle.x25_line.proofs.HealingRuns.{fit_from}
 use Rattle.x25_line.proofs.HealingLines.{Reads, reads_more}
 
 -- ---- worlds that events lead to
@@ -100,7 +100,7 @@ module _ (reads : ReadsSpelled) (laws : HealingLaws) (c d : Settings) (joined : 
   held = at_reached HeldOf (throughout reads laws.sessions) c d joined w r
 
   said : BothSaid c d w
-  said = at_reached BothSaid (λ c d joined begin is events timely. said_from laws c d joined begin is events) c d joined w r
+  said = at_reached BothSaid (λ c d joined begin is events timely. (let fit = fit_from laws c d joined begin is events in (fit.0.said, fit.1.said))) c d joined w r
 
   pub sound_at : is_up w.near.station.phase ≡ true → is_up w.far.station.phase ≡ true → Sound c d w
   sound_at up far_up =

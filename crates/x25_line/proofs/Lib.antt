@@ -23,7 +23,6 @@ pub mod HealingSessions
 pub mod DrainWeights
 pub mod DrainSteps
 pub mod DrainRuns
-pub mod DrainSessions
 pub mod BusyLines
 pub mod HealingPhases
 pub mod HealingBoth
