@@ -19,7 +19,6 @@ pub mod HealingSteps
 pub mod HealingRuns
 pub mod HealingSetUp
 pub mod HealingEnds
-pub mod HealingSessions
 pub mod DrainWeights
 pub mod DrainSteps
 pub mod DrainRuns

@@ -1,4 +1,4 @@
--- The laws of healing: whatever the two ends are on a drained line, with one busy end, and while packets are put.
+-- The laws of healing: what rest shows; whatever the two ends are on a drained line, with one busy end, and while packets are put.
 use Rattle.std.proofs.Common.{◌≡◌, ℕ, List, [], ◌∷◌, ◌⊎◌, inl, Option, Some, None, refl, sym, ap, ◌∙◌}
 use Rattle.x25_frame.specs.laws.ReadingLaw.{ReadsSpelled}
 use Rattle.x25_link.specs.declared.error.LinkError.{LinkError}
@@ -10,8 +10,8 @@ use Rattle.x25_link.specs.laws.BusyLaw.{BusyLaws}
 use Rattle.x25_line.specs.laws.Stations.{Deliver, T1, Event}
 use Rattle.x25_line.specs.laws.Sessions.{Entry, Meeting, Sessions, begun_by, after_step, unless, delivered, acts, swapped, run}
 use Rattle.x25_line.specs.laws.StationClaims.{AreJoined}
-use Rattle.x25_line.specs.laws.SessionClaims.{IdleHasArrived}
-use Rattle.x25_line.specs.Healing.{AreDeliveries, SessionsHealUnlessBothBusy}
+use Rattle.x25_line.specs.laws.SessionClaims.{Throughout, IdleHasArrived}
+use Rattle.x25_line.specs.Healing.{EachRestShows, AreDeliveries, SessionsHealUnlessBothBusy}
 use Rattle.x25_line.specs.laws.LawsBelow.{HealingLaws}
 use Rattle.x25_line.specs.laws.HealingPuts.{SessionsHaveArrived, PutsHealSessions}
 use Rattle.x25_line.proofs.sessions.SessionHeld.{extended_nil}
@@ -56,6 +56,20 @@ healing_hands c d es w are =
     deliveries_keep (HandNothingDown w) c d (λ u h. then_hand w u (acts c Deliver u) h (deliver_hands c u))
     (λ u h. then_hand w u (swapped (acts d Deliver (swapped u))) h (hand_turned u (acts d Deliver (swapped u)) (deliver_hands d (swapped u)))) es (after_firings c d w) are
     (then_hand w x (after_firings c d w) (fire_hands c w) (hand_turned x (acts d T1 (swapped x)) (fire_hands d (swapped x))))
+
+pub each_rest_shows : ReadsSpelled → HealingLaws → Throughout EachRestShows
+each_rest_shows reads laws c d joined begin is events timely =
+    let w : Sessions = run c d events begin in
+    let orders = in_order_at reads laws c d joined w (record { begin = begin; start = is; events = events; timely = timely; is = refl }) in
+    let arrived = idle_has_arrived reads laws.sessions c d joined begin is events timely in
+    record {
+      near = λ up stopped.
+          let rest : IsAtRest w.near.station = record { idle = laws.rest.no_timer c.window w.near.station joined.near_low (orders.0.sound up) orders.0.said up stopped; no_timer = stopped } in
+          (rest, arrived.near rest.idle);
+      far = λ up stopped.
+          let rest : IsAtRest w.far.station = record { idle = laws.rest.no_timer d.window w.far.station joined.far_low (orders.1.sound up) orders.1.said up stopped; no_timer = stopped } in
+          (rest, arrived.far rest.idle);
+    }
 
 module _ (reads : ReadsSpelled) (laws : HealingLaws) (busy_laws : BusyLaws) where
   -- two ends that have come to rest in their sessions have handed up all
