@@ -1,10 +1,8 @@
 -- Whatever the two ends are at a quiet moment, once both have fired and all has come each is at rest or not Up.
-use Rattle.std.proofs.Common.{◌≡◌, List, [], ◌∷◌, ◌++◌, ◌⊎◌, inl, inr, length, map, Bool, true, false, if◌then◌else◌, ℕ, suc, ◌+◌, ◌<◌, Some, None, refl, sym, ap, ◌∙◌, subst, arith}
+use Rattle.std.proofs.Common.{◌≡◌, List, [], ◌∷◌, ◌++◌, ◌⊎◌, inl, inr, length, Bool, true, false, if◌then◌else◌, ℕ, suc, ◌+◌, ◌<◌, Some, None, refl, sym, ap, ◌∙◌, subst, arith}
 use Rattle.std.specs.Prelude.{nat_lt}
 use Rattle.std.proofs.lemmas.Bool.{ltb-true, ltb-false}
-use Rattle.x25_bits.specs.declared.role.Role.{Role}
 use Rattle.x25_frame.specs.Frame.{PlainFrame, sabm}
-use Rattle.x25_frame.specs.Spelling.{spelling_of}
 use Rattle.x25_frame.specs.laws.ReadingLaw.{ReadsSpelled}
 use Rattle.x25_link.specs.declared.phase.Phase.{Phase}
 use Rattle.x25_link.specs.declared.phase.Phase.TheVariants.{Down, Waiting, Up}
@@ -14,29 +12,25 @@ use Rattle.x25_link.specs.Hearing.{Step, other}
 use Rattle.x25_link.specs.Link.{timer_step, timer_runs}
 use Rattle.x25_link.specs.laws.SetUp.{Is}
 use Rattle.x25_link.specs.laws.WindowMachine.{nothing}
-use Rattle.x25_link.specs.laws.WindowLaw.{IsSound, Follows, IsOut}
-use Rattle.x25_link.specs.laws.RestLaw.{HasSaidAll, IsAtRest}
+use Rattle.x25_link.specs.laws.WindowLaw.{Follows, IsOut}
+use Rattle.x25_link.specs.laws.RestLaw.{IsAtRest}
 use Rattle.x25_link.specs.laws.AnswerLaw.{says}
-use Rattle.x25_line.specs.laws.Stations.{StationEnd, Stations, T1, Event, acts, swapped, run}
+use Rattle.x25_line.specs.laws.Stations.{T1, Event}
+use Rattle.x25_line.specs.laws.Sessions.{Entry, SessionEnd, Sessions, sent_in, begun_by, acts, swapped, run}
 use Rattle.x25_line.specs.laws.StationClaims.{AreJoined, IsWhole, AreWhole}
-use Rattle.x25_line.specs.Healing.{AreDeliveries}
+use Rattle.x25_line.specs.Healing.{AreDeliveries, SessionHasTries}
 use Rattle.x25_line.specs.laws.LawsBelow.{HealingLaws}
 use Rattle.x25_line.proofs.DrainWeights.{below_eight}
-use Rattle.x25_line.proofs.HealingOnce.{IsDrained, HasTries, RestsOrOut}
 use Rattle.x25_line.proofs.StationSteps.{not_both, out_not_up}
 use Rattle.x25_line.proofs.StationRuns.{joined_swapped}
-use Rattle.x25_line.proofs.HealingLines.{Reads, reads_more}
-use Rattle.x25_line.proofs.HealingSteps.{up_is, refused, fires_is}
-use Rattle.x25_line.proofs.HealingSetUp.{AreOfSetUp, Parts, asked, asked_polling, polled, rests, Settles, settle}
+use Rattle.x25_line.proofs.HealingLines.{Reads}
+use Rattle.x25_line.proofs.StationEvents.{timer_up}
+use Rattle.x25_line.proofs.HealingSteps.{IsDrained, IsInOrderIfUp, up_is, refused, fires_is, reads_put}
+use Rattle.x25_line.proofs.HealingSetUp.{RestsOrOut, AreOfSetUp, Parts, asked, asked_polling, polled, rests, Settles, settle}
 
 poll_whole : (n1 : ℕ) (busy : Bool) (n : ℕ) → n < 8 → IsWhole n1 [] (says busy true n true)
 poll_whole n1 true n small = record { in_range = small; carries = refl; within = tt; packet = tt }
 poll_whole n1 false n small = record { in_range = small; carries = refl; within = tt; packet = tt }
-
--- an end that is Up has numbers in order, and has said all that it may
-pub record IsInOrderIfUp (c : Settings) (e : StationEnd) : Type 0 where
-  pub sound : is_up e.station.phase ≡ true → IsSound c.window e.station.outgoing
-  pub said : is_up e.station.phase ≡ true → HasSaidAll c.window e.station
 
 -- ---- an end once it fired, and what it put on the empty line
 
@@ -59,27 +53,28 @@ off_sets_up s fs (asks waits) = (tt, tt)
 off_sets_up s fs (out gone) = tt
 
 -- it goes on where it had tries left, and is as busy
-pub record WentOn (c : Settings) (e : StationEnd) (s : LinkStation) (fs : List PlainFrame) : Type 0 where
-  pub tries : HasTries c e
+pub record WentOn (c : Settings) (e : SessionEnd) (s : LinkStation) (fs : List PlainFrame) : Type 0 where
+  pub tries : SessionHasTries c e
   pub busy : is_busy s ≡ is_busy e.station
   pub is : GoesOn s fs
 
-pub record WentOff (c : Settings) (e : StationEnd) (s : LinkStation) (fs : List PlainFrame) : Type 0 where
-  pub had_none : HasTries c e → ⊥
+pub record WentOff (c : Settings) (e : SessionEnd) (s : LinkStation) (fs : List PlainFrame) : Type 0 where
+  pub had_none : SessionHasTries c e → ⊥
   pub is : IsOff s fs
 
-abbrev pub Fired : Settings → StationEnd → LinkStation → List PlainFrame → Type 0
+abbrev pub Fired : Settings → SessionEnd → LinkStation → List PlainFrame → Type 0
 Fired c e s fs = WentOn c e s fs ⊎ WentOff c e s fs
 
-record HasFired (c d : Settings) (w x : Stations) : Type 0 where
+record HasFired (c d : Settings) (w x : Sessions) : Type 0 where
   pub frames : List PlainFrame
   pub is : Fired c w.near x.near.station frames
   pub out : Reads (other d.role) d.longest x.out frames
   pub back : x.back ≡ w.back
   pub far : x.far ≡ w.far
+  pub begun : x.near.begun ≡ w.near.begun
 
 module _ (c d : Settings) (joined : AreJoined c d) (reads : ReadsSpelled) (laws : HealingLaws) where
-  module _ (w : Stations) (empty : w.out ≡ []) where
+  module _ (w : Sessions) (empty : w.out ≡ []) where
     abbrev s : LinkStation
     s = w.near.station
 
@@ -87,23 +82,24 @@ module _ (c d : Settings) (joined : AreJoined c d) (reads : ReadsSpelled) (laws 
     step = timer_step c s
 
     none : Reads (other d.role) d.longest w.out []
-    none = subst (λ (os : List (List ℕ)). Reads (other d.role) d.longest os []) (sym empty) tt
+    none = subst (λ (os : List Entry). Reads (other d.role) d.longest os []) (sym empty) tt
 
     -- T1 doesn't run
     stands : timer_runs s.phase s ≡ false → Fired c w.near s [] → HasFired c d w (acts c T1 w)
-    stands stopped is = subst (HasFired c d w) (sym (refused c d joined reads laws w stopped)) (record { frames = []; is = is; out = none; back = refl; far = refl })
+    stands stopped is = subst (HasFired c d w) (sym (refused c w stopped)) (record { frames = []; is = is; out = none; back = refl; far = refl; begun = refl })
 
     -- the end becomes so and sends so
     fires : timer_runs s.phase s ≡ true → (t : LinkStation) (fs : List PlainFrame) → step.side.near ≡ t → step.side.out ≡ fs → AreWhole d.longest [] fs → Fired c w.near t fs
         → HasFired c d w (acts c T1 w)
     fires running t fs near sent whole is =
-        subst (HasFired c d w) (sym (fires_is c d joined reads laws w running)) (record {
+        subst (HasFired c d w) (sym (fires_is c w running)) (record {
           frames = fs;
           is = subst (λ (z : LinkStation). Fired c w.near z fs) (sym near) is;
-          out = subst (λ (es : List PlainFrame). Reads (other d.role) d.longest (w.out ++ map (spelling_of c.role) es) fs) (sym sent)
-              (subst (λ (from : Role). Reads (other d.role) d.longest (w.out ++ map (spelling_of from) fs) fs) joined.near_role (reads_more reads (other d.role) d.longest [] w.out [] fs none whole));
+          out = subst (λ (gs : List PlainFrame). Reads (other d.role) d.longest (w.out ++ sent_in (begun_by step.notes.up w.near.begun) c.role gs) fs) (sym sent)
+              (reads_put reads c d joined [] (begun_by step.notes.up w.near.begun) w.out [] fs whole none);
           back = refl;
           far = refl;
+          begun = ap (λ (b : Bool). begun_by b w.near.begun) (timer_up c s);
         })
 
     -- an end that awaits UA
@@ -116,7 +112,7 @@ module _ (c d : Settings) (joined : AreJoined c d) (reads : ReadsSpelled) (laws 
         running : timer_runs s.phase s ≡ true
         running = ap (λ (p : Phase). timer_runs p s) waits
 
-        not_up : HasTries c w.near → ⊥
+        not_up : SessionHasTries c w.near → ⊥
         not_up has = not_both (is_up s.phase) has.up (ap is_up waits)
 
         by : (b : Bool) → After b → HasFired c d w (acts c T1 w)
@@ -143,7 +139,7 @@ module _ (c d : Settings) (joined : AreJoined c d) (reads : ReadsSpelled) (laws 
         stands stopped (inl (record {
           tries = record { up = up; tries = λ running. not_both (timer_runs s.phase s) running stopped };
           busy = refl;
-          is = stays (record { idle = laws.rest.no_timer c.window s joined.near_low (h.sound up) (h.said up) up stopped; no_timer = stopped });
+          is = stays (record { idle = laws.rest.no_timer c.window s joined.near_low (h.sound up) h.said up stopped; no_timer = stopped });
         }))
 
     has_fired : IsInOrderIfUp c w.near → HasFired c d w (acts c T1 w)
@@ -157,34 +153,38 @@ module _ (c d : Settings) (joined : AreJoined c d) (reads : ReadsSpelled) (laws 
             (inr (record { had_none = λ has. not_both (is_up s.phase) has.up (ap is_up is); is = out (subst IsOut (sym is) tt) }))
 
 -- both ends fire
-abbrev pub after_firings : Settings → Settings → Stations → Stations
+abbrev pub after_firings : Settings → Settings → Sessions → Sessions
 after_firings c d w = swapped (acts d T1 (swapped (acts c T1 w)))
 
-abbrev pub RestOrOut : Settings → Settings → List Event → Stations → Type 0
+abbrev pub RestOrOut : Settings → Settings → List Event → Sessions → Type 0
 RestOrOut c d es v = (let u = run c d es v in RestsOrOut u.near.station × RestsOrOut u.far.station)
 
 -- both ends, and the frames between them
-pub record BothFired (c d : Settings) (w v : Stations) : Type 0 where
+pub record BothFired (c d : Settings) (w v : Sessions) : Type 0 where
   pub there : List PlainFrame
   pub behind : List PlainFrame
   pub near : Fired c w.near v.near.station there
   pub far : Fired d w.far v.far.station behind
   pub out : Reads (other d.role) d.longest v.out there
   pub back : Reads (other c.role) c.longest v.back behind
+  pub near_begun : v.near.begun ≡ w.near.begun
+  pub far_begun : v.far.begun ≡ w.far.begun
 
 module _ (reads : ReadsSpelled) (laws : HealingLaws) where
-  pub both_fire : (c d : Settings) → AreJoined c d → (w : Stations) → IsInOrderIfUp c w.near → IsInOrderIfUp d w.far → IsDrained w → BothFired c d w (after_firings c d w)
+  pub both_fire : (c d : Settings) → AreJoined c d → (w : Sessions) → IsInOrderIfUp c w.near → IsInOrderIfUp d w.far → IsDrained w → BothFired c d w (after_firings c d w)
   both_fire c d joined w near_in far_in was =
-      let x : Stations = acts c T1 w in
+      let x : Sessions = acts c T1 w in
       let f = has_fired c d joined reads laws w was.out near_in in
       let g = has_fired d c (joined_swapped c d joined) reads laws (swapped x) (f.back ∙ was.back) (subst (IsInOrderIfUp d) (sym f.far) far_in) in
       record {
         there = f.frames;
         behind = g.frames;
-        near = subst (λ (e : StationEnd). Fired c w.near e.station f.frames) (sym g.far) f.is;
-        far = subst (λ (e : StationEnd). Fired d e (acts d T1 (swapped x)).near.station g.frames) f.far g.is;
-        out = subst (λ (os : List (List ℕ)). Reads (other d.role) d.longest os f.frames) (sym g.back) f.out;
+        near = subst (λ (e : SessionEnd). Fired c w.near e.station f.frames) (sym g.far) f.is;
+        far = subst (λ (e : SessionEnd). Fired d e (acts d T1 (swapped x)).near.station g.frames) f.far g.is;
+        out = subst (λ (os : List Entry). Reads (other d.role) d.longest os f.frames) (sym g.back) f.out;
         back = g.out;
+        near_begun = ap (λ (e : SessionEnd). e.begun) g.far ∙ f.begun;
+        far_begun = g.begun ∙ ap (λ (e : SessionEnd). e.begun) f.far;
       }
 
   -- one end goes on, and the other doesn't
@@ -195,11 +195,11 @@ module _ (reads : ReadsSpelled) (laws : HealingLaws) where
   parts s t fs gs (stays rest) (out gone) = rests rest gone
 
   -- from any two ends, where two that are Up and have tries left come to rest
-  pub rest_or_out : (c d : Settings) → AreJoined c d → (w : Stations) → IsInOrderIfUp c w.near → IsInOrderIfUp d w.far → IsDrained w → (es : List Event) → AreDeliveries es
-      → IsDrained (run c d es (after_firings c d w)) → (HasTries c w.near → HasTries d w.far → RestOrOut c d es (after_firings c d w)) → RestOrOut c d es (after_firings c d w)
+  pub rest_or_out : (c d : Settings) → AreJoined c d → (w : Sessions) → IsInOrderIfUp c w.near → IsInOrderIfUp d w.far → IsDrained w → (es : List Event) → AreDeliveries es
+      → IsDrained (run c d es (after_firings c d w)) → (SessionHasTries c w.near → SessionHasTries d w.far → RestOrOut c d es (after_firings c d w)) → RestOrOut c d es (after_firings c d w)
   rest_or_out c d joined w near_in far_in was es are after heals = by b.near b.far
     where
-      v : Stations
+      v : Sessions
       v = after_firings c d w
 
       b : BothFired c d w v

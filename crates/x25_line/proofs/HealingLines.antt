@@ -1,5 +1,5 @@
 -- The frames that stand on a line, and those among them that matter while an end heals.
-use Rattle.std.proofs.Common.{◌≡◌, ℕ, ◌+◌, ◌%◌, ◌≤◌, List, [], ◌∷◌, ◌++◌, map, false, Ok, refl, sym, subst, arith, length, ap, true}
+use Rattle.std.proofs.Common.{◌≡◌, ℕ, ◌+◌, ◌%◌, ◌≤◌, List, [], ◌∷◌, ◌++◌, false, Ok, refl, sym, subst, arith, length, ap, true}
 use Rattle.std.specs.Prelude.{◌&&◌, not}
 use Rattle.std.proofs.lemmas.Bool.{and_left, and_right}
 use Rattle.x25_bits.specs.declared.role.Role.{Role}
@@ -9,47 +9,36 @@ use Rattle.x25_frame.specs.Reading.{frame_of}
 use Rattle.x25_frame.specs.laws.ReadingLaw.{ReadsSpelled}
 use Rattle.x25_link.specs.laws.AnswerLaw.{AreNext}
 use Rattle.x25_line.specs.laws.StationClaims.{AreWhole}
+use Rattle.x25_line.specs.laws.Sessions.{Entry, sent_in}
 
 -- ---- what octets on a line read as
 
-abbrev pub Reads : Role → ℕ → List (List ℕ) → List PlainFrame → Type 0
+abbrev pub Reads : Role → ℕ → List Entry → List PlainFrame → Type 0
 Reads from n1 [] [] = Unit {0}
-Reads from n1 (o ∷ os) (f ∷ fs) = (frame_of from n1 o ≡ Ok f) × Reads from n1 os fs
+Reads from n1 (e ∷ es) (f ∷ fs) = (frame_of from n1 e.octets ≡ Ok f) × Reads from n1 es fs
 Reads from n1 [] (f ∷ fs) = ⊥
-Reads from n1 (o ∷ os) [] = ⊥
+Reads from n1 (e ∷ es) [] = ⊥
 
-pub reads_more : ReadsSpelled → (from : Role) (n1 : ℕ) (given : List (List ℕ)) (os : List (List ℕ)) (fs es : List PlainFrame) → Reads from n1 os fs → AreWhole n1 given es
-    → Reads from n1 (os ++ map (spelling_of from) es) (fs ++ es)
-reads_more reads from n1 given [] [] es h whole = spelled es whole
+pub reads_more : ReadsSpelled → (from : Role) (n1 : ℕ) (given : List (List ℕ)) (session : ℕ) (es : List Entry) (fs gs : List PlainFrame) → Reads from n1 es fs → AreWhole n1 given gs
+    → Reads from n1 (es ++ sent_in session from gs) (fs ++ gs)
+reads_more reads from n1 given session [] [] gs h whole = spelled gs whole
   where
-    spelled : (es : List PlainFrame) → AreWhole n1 given es → Reads from n1 (map (spelling_of from) es) es
+    spelled : (gs : List PlainFrame) → AreWhole n1 given gs → Reads from n1 (sent_in session from gs) gs
     spelled [] whole = tt
-    spelled (f ∷ es) whole =
+    spelled (f ∷ gs) whole =
         let w = whole.0 in
-        (reads from n1 f (spelling_of from f) (record { in_range = w.in_range; carries = w.carries; within = w.within; spelling = refl }), spelled es whole.1)
-reads_more reads from n1 given (o ∷ os) (f ∷ fs) es h whole = (h.0, reads_more reads from n1 given os fs es h.1 whole)
-reads_more reads from n1 given os fs es h whole = absurd h
+        (reads from n1 f (spelling_of from f) (record { in_range = w.in_range; carries = w.carries; within = w.within; spelling = refl }), spelled gs whole.1)
+reads_more reads from n1 given session (e ∷ es) (f ∷ fs) gs h whole = (h.0, reads_more reads from n1 given session es fs gs h.1 whole)
+reads_more reads from n1 given session es fs gs h whole = absurd h
 
 pub whole_behind : (n1 : ℕ) (given : List (List ℕ)) (fs es : List PlainFrame) → AreWhole n1 given (fs ++ es) → AreWhole n1 given es
 whole_behind n1 given [] es h = h
 whole_behind n1 given (f ∷ fs) es h = whole_behind n1 given fs es h.1
 
-pub none_reads : (from : Role) (n1 : ℕ) (os : List (List ℕ)) → Reads from n1 os [] → os ≡ []
-none_reads from n1 [] h = refl
-none_reads from n1 (o ∷ os) h = absurd h
-
-pub reads_none : (from : Role) (n1 : ℕ) (os : List (List ℕ)) (fs : List PlainFrame) → Reads from n1 os fs → os ≡ [] → fs ≡ []
+pub reads_none : (from : Role) (n1 : ℕ) (es : List Entry) (fs : List PlainFrame) → Reads from n1 es fs → es ≡ [] → fs ≡ []
 reads_none from n1 [] [] h e = refl
-reads_none from n1 (o ∷ os) (f ∷ fs) h e = absurd (cc)
-reads_none from n1 os fs h e = absurd h
-
--- a frame is there
-pub one_frame : (f : PlainFrame) (fs : List PlainFrame) {A : Type 0} → f ∷ fs ≡ [] → A
-one_frame f fs e = absurd (omega (arith, ap length e))
-
-pub not_behind : (before : List PlainFrame) (f : PlainFrame) (fs : List PlainFrame) {A : Type 0} → before ++ f ∷ fs ≡ [] → A
-not_behind [] f fs e = one_frame f fs e
-not_behind (g ∷ gs) f fs e = one_frame g (gs ++ f ∷ fs) e
+reads_none from n1 (o ∷ es) (f ∷ fs) h e = absurd (omega (arith, ap length e))
+reads_none from n1 es fs h e = absurd h
 
 -- ---- frames to the other end: the I frames that are awaited, one after another, and nothing that asks
 

@@ -11,20 +11,19 @@ use Rattle.x25_link.specs.Hearing.{Step, other}
 use Rattle.x25_link.specs.Link.{put_step, put_refusal}
 use Rattle.x25_link.specs.laws.AnswerLaw.{AreNext, says}
 use Rattle.x25_link.proofs.EndLemmas.{open_is, closed_is, with_packet, put_once, busy_is}
-use Rattle.x25_line.specs.laws.Stations.{StationEnd, Stations, Put, Deliver, Event, Near, Far, after_step, acts, swapped, run}
+use Rattle.x25_line.specs.laws.Stations.{Put, Deliver, Event, Near, Far}
+use Rattle.x25_line.specs.laws.Sessions.{Entry, SessionEnd, Sessions, after_step, acts, swapped, run}
 use Rattle.x25_line.specs.laws.StationClaims.{AreJoined}
-use Rattle.x25_line.specs.laws.HealingPuts.{AreDeliveriesAndPuts, AreFree}
+use Rattle.x25_line.specs.laws.HealingPuts.{AreDeliveriesAndPuts, AreFree, SessionsFreeThroughout}
 use Rattle.x25_line.specs.laws.LawsBelow.{HealingLaws}
 use Rattle.x25_link.specs.laws.BusyLaw.{Says, BusyLaws}
-use Rattle.x25_line.proofs.HealingOnce.{FreeThroughout}
 use Rattle.x25_line.proofs.StationSteps.{not_both}
 use Rattle.x25_line.proofs.StationRuns.{joined_swapped}
-use Rattle.x25_line.proofs.StationEvents.{each_hands_one}
-use Rattle.x25_line.proofs.HealingLines.{Reads, ahead_more, next_ahead, Mild, mild_more, held_mild, no_final_more, next_no_final, Reports}
-use Rattle.x25_line.proofs.HealingSteps.{Sound, sound_swapped, near_up, act_sound, reads_step}
+use Rattle.x25_line.proofs.HealingLines.{Reads, whole_behind, ahead_more, next_ahead, Mild, mild_more, held_mild, no_final_more, next_no_final, Reports}
+use Rattle.x25_line.proofs.HealingSteps.{Reached, then_happens, Sound, sound_swapped, sound_at, SentWhole, whole_at, reads_put}
 use Rattle.x25_line.proofs.BusyLines.{silent_stays}
 use Rattle.x25_line.proofs.HealingPhases.{Phases, asks_more, SaysMore, answered_more, resent_more, withheld_more}
-use Rattle.x25_line.proofs.HealingBoth.{HealsBoth, both_turned, both_near, both_far}
+use Rattle.x25_line.proofs.HealingBoth.{HealsBoth, HealsAt, both_turned, both_near, both_far}
 
 -- ---- a station to which a packet is put
 
@@ -147,24 +146,23 @@ module _ (s z : LinkStation) (es : List PlainFrame) (p : Given s z es) where
       by (inr (inr (inr (inl h)))) = inr (inr (inr (inl (withheld_more s z es more t gs fs h))))
       by (inr (inr (inr (inr h)))) = absurd (unsaid h.told)
 
-module _ (c d : Settings) (joined : AreJoined c d) (reads : ReadsSpelled) (laws : HealingLaws) (busy_laws : BusyLaws) where
+module _ (reads : ReadsSpelled) (busy_laws : BusyLaws) (c d : Settings) (joined : AreJoined c d) where
   -- what a packet that is put makes of the world
-  record WasPut (w v : Stations) : Type 0 where
-    pub sound : Sound c d v
+  record WasPut (w v : Sessions) : Type 0 where
     pub next : List PlainFrame
     pub given : Given w.near.station v.near.station next
     pub out : (fs : List PlainFrame) → Reads (other d.role) d.longest w.out fs → Reads (other d.role) d.longest v.out (fs ++ next)
     pub back : v.back ≡ w.back
     pub far : v.far ≡ w.far
+    pub begun : v.near.begun ≡ w.near.begun
 
   append_none : (fs : List PlainFrame) → fs ++ [] ≡ fs
   append_none [] = refl
   append_none (f ∷ fs) = ap (λ (gs : List PlainFrame). f ∷ gs) (append_none fs)
 
   -- it is refused
-  not_put : (w : Stations) → Sound c d w → WasPut w w
-  not_put w h = record {
-    sound = h;
+  not_put : (w v : Sessions) → v ≡ w → WasPut w v
+  not_put w v same = subst (WasPut w) (sym same) (record {
     next = [];
     given = record {
       phase = refl;
@@ -180,10 +178,11 @@ module _ (c d : Settings) (joined : AreJoined c d) (reads : ReadsSpelled) (laws 
     out = λ fs read. subst (Reads (other d.role) d.longest w.out) (sym (append_none fs)) read;
     back = refl;
     far = refl;
-  }
+    begun = refl;
+  })
 
-  puts : (packet : List ℕ) (w : Stations) → Sound c d w → is_up w.near.station.phase ≡ true → WasPut w (acts c (Put packet) w)
-  puts packet w h up = by_length (nat_le (length packet) c.longest) refl
+  puts : (packet : List ℕ) (w : Sessions) → Sound c d w → SentWhole d.longest (acts c (Put packet) w).sent → WasPut w (acts c (Put packet) w)
+  puts packet w h whole = by_length (nat_le (length packet) c.longest) refl
     where
       s : LinkStation
       s = w.near.station
@@ -191,17 +190,14 @@ module _ (c d : Settings) (joined : AreJoined c d) (reads : ReadsSpelled) (laws 
       step : Step
       step = put_step c packet s
 
-      v : Stations
-      v = after_step c w w.back (packet ∷ []) step
+      v : Sessions
+      v = after_step c w w.back w.met (packet ∷ []) step
 
       done : acts c (Put packet) w ≡ v → WasPut w (acts c (Put packet) w)
       done is =
-          let u = near_up c d w h up in
-          let t = takes_down c packet s u.sound.place_high u.sound.sent_high h.near_said.settled h.near_said.calm in
-          let once = (each_hands_one c d (Near (Put packet)) w).came_up ∙ h.joint.near_has.notes.once in
-          let sound : Sound c d v = subst (Sound c d) is (act_sound c d joined reads laws (Put packet) w h once) in
+          let t = takes_down c packet s h.near.sound.place_high h.near.sound.sent_high h.near_said.settled h.near_said.calm in
+          let all : SentWhole d.longest v.sent = subst (λ (z : Sessions). SentWhole d.longest z.sent) is whole in
           subst (WasPut w) (sym is) (record {
-            sound = sound;
             next = step.side.out;
             given = record {
               phase = t.phase;
@@ -214,13 +210,14 @@ module _ (c d : Settings) (joined : AreJoined c d) (reads : ReadsSpelled) (laws 
               grows = t.grows;
               says = busy_laws.put c packet s;
             };
-            out = reads_step c d joined reads laws w w.back (packet ∷ []) step sound;
+            out = λ fs read. reads_put reads c d joined all.0 w.near.begun w.out fs step.side.out (whole_behind d.longest all.0 w.sent step.side.out all.1) read;
             back = refl;
             far = refl;
+            begun = refl;
           })
 
       by_refusal : nat_le (length packet) c.longest ≡ true → (o : Option LinkError) → put_refusal s ≡ o → WasPut w (acts c (Put packet) w)
-      by_refusal short (Some e) is = subst (WasPut w) (sym (refused short e is)) (not_put w h)
+      by_refusal short (Some e) is = not_put w (acts c (Put packet) w) (refused short e is)
         where
           refused : nat_le (length packet) c.longest ≡ true → (e : LinkError) → put_refusal s ≡ Some e → acts c (Put packet) w ≡ w
           refused short e is = rw (short, is) refl
@@ -228,7 +225,7 @@ module _ (c d : Settings) (joined : AreJoined c d) (reads : ReadsSpelled) (laws 
 
       by_length : (b : Bool) → nat_le (length packet) c.longest ≡ b → WasPut w (acts c (Put packet) w)
       by_length true short = by_refusal short (put_refusal s) refl
-      by_length false long = subst (WasPut w) (sym (too_long long)) (not_put w h)
+      by_length false long = not_put w (acts c (Put packet) w) (too_long long)
         where
           too_long : nat_le (length packet) c.longest ≡ false → acts c (Put packet) w ≡ w
           too_long long = rw long refl
@@ -237,84 +234,100 @@ module _ (c d : Settings) (joined : AreJoined c d) (reads : ReadsSpelled) (laws 
 
 module _ (reads : ReadsSpelled) (laws : HealingLaws) (busy_laws : BusyLaws) where
   -- what stays where a packet is put while both ends are Up
-  record PutAt (c d : Settings) (w v : Stations) : Type 0 where
-    pub sound : Sound c d v
+  record PutAt (c d : Settings) (w v : Sessions) : Type 0 where
     pub near_on : is_up v.near.station.phase ≡ true
     pub far_on : is_up v.far.station.phase ≡ true
     pub before : AreFree v.near.station v.far.station → AreFree w.near.station w.far.station
-    pub heals : HealsBoth c d w → AreFree v.near.station v.far.station → HealsBoth c d v
+    pub heals : (n m : ℕ) → HealsBoth n m c d w → AreFree v.near.station v.far.station → HealsBoth n m c d v
 
-  put_at : (c d : Settings) → AreJoined c d → (packet : List ℕ) (w : Stations) → Sound c d w → is_up w.near.station.phase ≡ true → is_up w.far.station.phase ≡ true → PutAt c d w (acts c (Put packet) w)
-  put_at c d joined packet w h up far_up = record { sound = p.sound; near_on = near_on; far_on = far_on; before = before; heals = heals }
+  put_at : (c d : Settings) → AreJoined c d → (packet : List ℕ) (w : Sessions) → Sound c d w → SentWhole d.longest (acts c (Put packet) w).sent → PutAt c d w (acts c (Put packet) w)
+  put_at c d joined packet w h whole = record { near_on = near_on; far_on = far_on; before = before; heals = heals }
     where
-      v : Stations
+      v : Sessions
       v = acts c (Put packet) w
 
-      p : WasPut c d joined reads laws busy_laws w v
-      p = puts c d joined reads laws busy_laws packet w h up
+      p : WasPut reads busy_laws c d joined w v
+      p = puts reads busy_laws c d joined packet w h whole
 
       near_on : is_up v.near.station.phase ≡ true
-      near_on = ap is_up p.given.phase ∙ up
+      near_on = ap is_up p.given.phase ∙ h.near.up
 
       far_on : is_up v.far.station.phase ≡ true
-      far_on = ap (λ (e : StationEnd). is_up e.station.phase) p.far ∙ far_up
+      far_on = ap (λ (e : SessionEnd). is_up e.station.phase) p.far ∙ h.far.up
 
       before : AreFree v.near.station v.far.station → AreFree w.near.station w.far.station
-      before free = (free_before w.near.station v.near.station p.given.grows free.0, ap (λ (e : StationEnd). is_busy e.station) (sym p.far) ∙ free.1)
+      before free = (free_before w.near.station v.near.station p.given.grows free.0, ap (λ (e : SessionEnd). is_busy e.station) (sym p.far) ∙ free.1)
 
-      heals : HealsBoth c d w → AreFree v.near.station v.far.station → HealsBoth c d v
-      heals b free =
+      heals : (n m : ℕ) → HealsBoth n m c d w → AreFree v.near.station v.far.station → HealsBoth n m c d v
+      heals n m b free =
           let s = w.near.station in
           let t = w.far.station in
           let old = before free in
-          let near = near_puts s v.near.station p.next p.given t b.there b.behind (λ said. not_both (is_busy t) (busy_is t h.far_said.calm far_up said) old.1) b.near in
-          let far = far_puts s v.near.station p.next p.given t b.behind b.there free.0 (λ said. not_both (is_busy s) (busy_is s h.near_said.calm up said) old.0) b.far in
+          let near = near_puts s v.near.station p.next p.given t b.there b.behind (λ said. not_both (is_busy t) (busy_is t h.far_said.calm h.far.up said) old.1) b.near in
+          let far = far_puts s v.near.station p.next p.given t b.behind b.there free.0 (λ said. not_both (is_busy s) (busy_is s h.near_said.calm h.near.up said) old.0) b.far in
           record {
-            pair = record { sound = p.sound; near_on = near_on; far_on = far_on; one_free = inl free.0 };
+            near_on = near_on;
+            far_on = far_on;
+            near_begun = p.begun ∙ b.near_begun;
+            far_begun = ap (λ (e : SessionEnd). e.begun) p.far ∙ b.far_begun;
+            one_free = inl free.0;
             there = b.there ++ p.next;
             behind = b.behind;
             out = p.out b.there b.out;
-            back = subst (λ (os : List (List ℕ)). Reads (other c.role) c.longest os b.behind) (sym p.back) b.back;
-            near = subst (λ (e : StationEnd). Phases v.near.station e.station (b.there ++ p.next) b.behind) (sym p.far) near;
-            far = subst (λ (e : StationEnd). Phases e.station v.near.station b.behind (b.there ++ p.next)) (sym p.far) far;
+            back = subst (λ (es : List Entry). Reads (other c.role) c.longest es b.behind) (sym p.back) b.back;
+            near = subst (λ (e : SessionEnd). Phases v.near.station e.station (b.there ++ p.next) b.behind) (sym p.far) near;
+            far = subst (λ (e : SessionEnd). Phases e.station v.near.station b.behind (b.there ++ p.next)) (sym p.far) far;
           }
 
-  put_far : (c d : Settings) → AreJoined c d → (packet : List ℕ) (w : Stations) → Sound c d w → is_up w.near.station.phase ≡ true → is_up w.far.station.phase ≡ true
-      → PutAt c d w (swapped (acts d (Put packet) (swapped w)))
-  put_far c d joined packet w h up far_up =
-      let turn = joined_swapped c d joined in
-      let v : Stations = acts d (Put packet) (swapped w) in
-      let p = put_at d c turn packet (swapped w) (sound_swapped c d joined w h) far_up up in
-      record {
-        sound = sound_swapped d c turn v p.sound;
-        near_on = p.far_on;
-        far_on = p.near_on;
-        before = λ free. (let old = p.before (free.1, free.0) in (old.1, old.0));
-        heals = λ b free. both_turned d c turn v (p.heals (both_turned c d joined w b) (free.1, free.0));
-      }
-
   module _ (c d : Settings) (joined : AreJoined c d) where
-    -- so none is busy at any moment before one in which none is, as long as nothing comes between
-    free_now : (es : List Event) (w : Stations) → AreDeliveriesAndPuts es → Sound c d w → is_up w.near.station.phase ≡ true → is_up w.far.station.phase ≡ true → FreeThroughout c d es w → AreFree w.near.station w.far.station
-    free_now [] w are h up far_up free = free
-    free_now (Near (Put packet) ∷ es) w are h up far_up free =
-        (let p = put_at c d joined packet w h up far_up in p.before (free_now es (acts c (Put packet) w) are.1 p.sound p.near_on p.far_on free.1))
-    free_now (Far (Put packet) ∷ es) w are h up far_up free =
-        (let p = put_far c d joined packet w h up far_up in p.before (free_now es (swapped (acts d (Put packet) (swapped w))) are.1 p.sound p.near_on p.far_on free.1))
-    free_now (Near Deliver ∷ es) w are h up far_up free = free.0
-    free_now (Far Deliver ∷ es) w are h up far_up free = free.0
-    free_now (event ∷ es) w are h up far_up free = absurd are.0
+    -- a packet that is put in a world that events lead to
+    record WentOn (w v : Sessions) : Type 0 where
+      pub reached : Reached c d v
+      pub put : PutAt c d w v
 
-    pub puts_run : (es : List Event) (w : Stations) → AreDeliveriesAndPuts es → HealsBoth c d w → FreeThroughout c d es w → HealsBoth c d (run c d es w)
-    puts_run [] w are h free = h
-    puts_run (Near (Put packet) ∷ es) w are h free =
-        let v : Stations = acts c (Put packet) w in
-        let p = put_at c d joined packet w h.pair.sound h.pair.near_on h.pair.far_on in
-        puts_run es v are.1 (p.heals h (free_now es v are.1 p.sound p.near_on p.far_on free.1)) free.1
-    puts_run (Far (Put packet) ∷ es) w are h free =
-        let v : Stations = swapped (acts d (Put packet) (swapped w)) in
-        let p = put_far c d joined packet w h.pair.sound h.pair.near_on h.pair.far_on in
-        puts_run es v are.1 (p.heals h (free_now es v are.1 p.sound p.near_on p.far_on free.1)) free.1
-    puts_run (Near Deliver ∷ es) w are h free = puts_run es (acts c Deliver w) are.1 (both_near reads laws busy_laws c d joined w h) free.1
-    puts_run (Far Deliver ∷ es) w are h free = puts_run es (swapped (acts d Deliver (swapped w))) are.1 (both_far reads laws busy_laws c d joined w h) free.1
-    puts_run (event ∷ es) w are h free = absurd are.0
+    goes_near : (packet : List ℕ) (w : Sessions) → Reached c d w → is_up w.near.station.phase ≡ true → is_up w.far.station.phase ≡ true → WentOn w (acts c (Put packet) w)
+    goes_near packet w r up far_up =
+        let after = then_happens c d (Near (Put packet)) w tt r in
+        record { reached = after; put = put_at c d joined packet w (sound_at reads laws c d joined w r up far_up) (whole_at reads laws c d joined (acts c (Put packet) w) after) }
+
+    goes_far : (packet : List ℕ) (w : Sessions) → Reached c d w → is_up w.near.station.phase ≡ true → is_up w.far.station.phase ≡ true → WentOn w (swapped (acts d (Put packet) (swapped w)))
+    goes_far packet w r up far_up =
+        let after = then_happens c d (Far (Put packet)) w tt r in
+        let v : Sessions = acts d (Put packet) (swapped w) in
+        let whole : SentWhole c.longest v.sent = subst (λ (k : ℕ). SentWhole k v.sent) (sym joined.longest) (whole_at reads laws c d joined (swapped v) after) in
+        let p = put_at d c (joined_swapped c d joined) packet (swapped w) (sound_swapped c d w (sound_at reads laws c d joined w r up far_up)) whole in
+        record {
+          reached = after;
+          put = record {
+            near_on = p.far_on;
+            far_on = p.near_on;
+            before = λ free. (let old = p.before (free.1, free.0) in (old.1, old.0));
+            heals = λ n m b free. both_turned m n d c v (p.heals m n (both_turned n m c d w b) (free.1, free.0));
+          };
+        }
+
+    -- so none is busy at any moment before one in which none is, as long as nothing comes between
+    free_now : (es : List Event) (w : Sessions) → AreDeliveriesAndPuts es → Reached c d w → is_up w.near.station.phase ≡ true → is_up w.far.station.phase ≡ true → SessionsFreeThroughout c d es w
+        → AreFree w.near.station w.far.station
+    free_now [] w are r up far_up free = free
+    free_now (Near (Put packet) ∷ es) w are r up far_up free =
+        (let k = goes_near packet w r up far_up in k.put.before (free_now es (acts c (Put packet) w) are.1 k.reached k.put.near_on k.put.far_on free.1))
+    free_now (Far (Put packet) ∷ es) w are r up far_up free =
+        (let k = goes_far packet w r up far_up in k.put.before (free_now es (swapped (acts d (Put packet) (swapped w))) are.1 k.reached k.put.near_on k.put.far_on free.1))
+    free_now (Near Deliver ∷ es) w are r up far_up free = free.0
+    free_now (Far Deliver ∷ es) w are r up far_up free = free.0
+    free_now (event ∷ es) w are r up far_up free = absurd are.0
+
+    pub puts_run : (n m : ℕ) (es : List Event) (w : Sessions) → AreDeliveriesAndPuts es → HealsAt n m c d w → SessionsFreeThroughout c d es w → HealsAt n m c d (run c d es w)
+    puts_run n m [] w are h free = h
+    puts_run n m (Near (Put packet) ∷ es) w are (r, h) free =
+        let v : Sessions = acts c (Put packet) w in
+        let k = goes_near packet w r h.near_on h.far_on in
+        puts_run n m es v are.1 (k.reached, k.put.heals n m h (free_now es v are.1 k.reached k.put.near_on k.put.far_on free.1)) free.1
+    puts_run n m (Far (Put packet) ∷ es) w are (r, h) free =
+        let v : Sessions = swapped (acts d (Put packet) (swapped w)) in
+        let k = goes_far packet w r h.near_on h.far_on in
+        puts_run n m es v are.1 (k.reached, k.put.heals n m h (free_now es v are.1 k.reached k.put.near_on k.put.far_on free.1)) free.1
+    puts_run n m (Near Deliver ∷ es) w are h free = puts_run n m es (acts c Deliver w) are.1 (both_near reads laws busy_laws n m c d joined w h) free.1
+    puts_run n m (Far Deliver ∷ es) w are h free = puts_run n m es (swapped (acts d Deliver (swapped w))) are.1 (both_far reads laws busy_laws n m c d joined w h) free.1
+    puts_run n m (event ∷ es) w are h free = absurd are.0

@@ -1,66 +1,127 @@
--- Each end has said all that it may, after each event.
-use Rattle.std.proofs.Common.{◌≡◌, ℕ, ◌+◌, ◌%◌, ◌≤◌, ◌<◌, List, [], ◌∷◌, ◌++◌, length, Bool, true, false, if◌then◌else◌, Option, Some, None, refl, sym, ◌∙◌, subst, arith}
-use Rattle.std.specs.Prelude.{◌||◌, nat_lt, nat_le, ◌==◌, ◌-◌, ◌&&◌}
-use Rattle.std.proofs.lemmas.Bool.{and_right}
+-- What each step of a station keeps stays through all events: an end has said all that it may, and each of its packets may be sent.
+use Rattle.std.proofs.Common.{◌≡◌, ℕ, ◌+◌, ◌*◌, ◌≤◌, ◌⊎◌, inl, inr, List, [], ◌∷◌, length, Bool, true, false, if◌then◌else◌, Option, Some, None, refl, sym, ap, ◌∙◌, subst, arith}
+use Rattle.std.specs.Prelude.{nat_le, nat_lt, ◌&&◌, ◌||◌, ◌==◌}
+use Rattle.std.proofs.lemmas.Bool.{leb-true, and_right}
+use Rattle.x25_frame.specs.Reading.{frame_of}
 use Rattle.x25_link.specs.declared.error.LinkError.{LinkError}
-use Rattle.x25_link.specs.Station.{Settings, is_up, fresh}
-use Rattle.x25_link.specs.Link.{timer_step, timer_refusal, put_refusal, connect_refusal, disconnect_refusal, put_step, connect_step, disconnect_step, abandon_step}
+use Rattle.x25_link.specs.declared.phase.Phase.{Phase}
+use Rattle.x25_link.specs.declared.phase.Phase.TheVariants.{Down, Up}
+use Rattle.x25_link.specs.declared.phase.Reason.TheVariants.{Retries}
+use Rattle.x25_link.specs.OrderedLink.{Lists}
+use Rattle.x25_link.specs.Station.{Settings, LinkStation, Side, is_up, is_busy, with_near, with_nothing, fresh, ended}
+use Rattle.x25_link.specs.Hearing.{Step, quiet, leaves, other}
+use Rattle.x25_link.specs.Link.{alone, puts, fires, asks_again, connects, disconnects, take_step, put_step, timer_step, connect_step, disconnect_step, abandon_step, put_refusal, timer_refusal, connect_refusal, disconnect_refusal}
+use Rattle.x25_link.specs.laws.LinkLaws.{ended_lists}
 use Rattle.x25_link.specs.laws.RestLaw.{HasSaidAll}
-use Rattle.x25_line.specs.laws.Stations.{StationEnd, Stations, Act, Put, Deliver, T1, Connect, Disconnect, Abandon, Probe, Lose, Damage, Event, Near, Far, after_step, unless, delivered, is_visible, acts, swapped, happens, run}
+use Rattle.x25_line.specs.laws.Stations.{Act, Put, Deliver, T1, Connect, Disconnect, Abandon, Probe, Lose, Damage, Event, Near, Far, is_visible}
+use Rattle.x25_line.specs.laws.Sessions.{Entry, SessionEnd, Sessions, unless, delivered, acts, swapped, run, from_nothing, from_set_up}
 use Rattle.x25_line.specs.laws.StationClaims.{AreJoined}
 use Rattle.x25_line.specs.laws.LawsBelow.{HealingLaws}
-use Rattle.x25_line.proofs.StationEvents.{each_hands_one}
+use Rattle.x25_line.proofs.StationSends.{AllWithin, within_push}
+use Rattle.x25_line.proofs.DrainSteps.{took}
 
--- ---- each end has said all that it may, after each event
+pub record Keeps (c : Settings) (P : LinkStation → Type 0) : Type 0 where
+  pub takes : (o : List ℕ) (s : LinkStation) → P s → P (take_step c o s).side.near
+  pub puts : (packet : List ℕ) (s : LinkStation) → length packet ≤ c.longest → P s → P (put_step c packet s).side.near
+  pub fires : (s : LinkStation) → P s → P (timer_step c s).side.near
+  pub connects : (s : LinkStation) → P s → P (connect_step c s).side.near
+  pub disconnects : (s : LinkStation) → P s → P (disconnect_step c s).side.near
+  pub abandons : (s : LinkStation) → P s → P (abandon_step c s).side.near
+
+module _ (c : Settings) (P : LinkStation → Type 0) (keeps : Keeps c P) (w : Sessions) (h : P w.near.station) where
+  abbrev s : LinkStation
+  s = w.near.station
+
+  -- the far end is as it was
+  record Stays (v : Sessions) : Type 0 where
+    pub near : P v.near.station
+    pub far : v.far ≡ w.far
+
+  stays_unless : (o : Option LinkError) (v : Sessions) → Stays v → Stays (unless o w v)
+  stays_unless (Some e) v k = record { near = h; far = refl }
+  stays_unless None v k = k
+
+  stays_if : (b : Bool) (v : Sessions) → (b ≡ true → Stays v) → Stays (if b then v else w)
+  stays_if true v k = k refl
+  stays_if false v k = record { near = h; far = refl }
+
+  delivered_stays : (es : List Entry) → Stays (delivered c es w)
+  delivered_stays [] = record { near = h; far = refl }
+  delivered_stays (e ∷ es) = record { near = keeps.takes e.octets s h; far = refl }
+
+  act_stays : (a : Act) → Stays (acts c a w)
+  act_stays (Put packet) = stays_if (nat_le (length packet) c.longest) _ (λ short. stays_unless (put_refusal s) _ (record { near = keeps.puts packet s (leb-true _ _ short) h; far = refl }))
+  act_stays Deliver = delivered_stays w.back
+  act_stays T1 = stays_unless (timer_refusal s) _ (record { near = keeps.fires s h; far = refl })
+  act_stays Connect = stays_unless (connect_refusal s.phase) _ (record { near = keeps.connects s h; far = refl })
+  act_stays Disconnect = stays_unless (disconnect_refusal s.phase) _ (record { near = keeps.disconnects s h; far = refl })
+  act_stays Abandon = stays_if (is_up s.phase) _ (λ _. record { near = keeps.abandons s h; far = refl })
+  act_stays Probe = stays_if (is_up s.phase) _ (λ _. record { near = keeps.fires s h; far = refl })
+  act_stays (Lose i) = record { near = h; far = refl }
+  act_stays (Damage i octets) = stays_if (is_visible octets) _ (λ _. record { near = h; far = refl })
+
+run_stays : (c d : Settings) (P Q : LinkStation → Type 0) → Keeps c P → Keeps d Q → (es : List Event) (w : Sessions) → P w.near.station → Q w.far.station
+    → (let v = run c d es w in P v.near.station × Q v.far.station)
+run_stays c d P Q near far [] w h k = (h, k)
+run_stays c d P Q near far (Near a ∷ es) w h k =
+    let v = act_stays c P near w h a in
+    run_stays c d P Q near far es (acts c a w) v.near (subst (λ (e : SessionEnd). Q e.station) (sym v.far) k)
+run_stays c d P Q near far (Far a ∷ es) w h k =
+    let v = act_stays d Q far (swapped w) k a in
+    run_stays c d P Q near far es (swapped (acts d a (swapped w))) (subst (λ (e : SessionEnd). P e.station) (sym v.far) h) v.near
+
+-- ---- an end has said all that it may, and each packet may be sent
+
+pub record IsFit (k n1 : ℕ) (s : LinkStation) : Type 0 where
+  pub said : HasSaidAll k s
+  pub within : AllWithin n1 s.outgoing.given
+
+pub within_of : (n1 : ℕ) (old new : List (List ℕ)) → (new ≡ old) ⊎ (new ≡ []) → AllWithin n1 old → AllWithin n1 new
+within_of n1 old new (inl same) h = subst (AllWithin n1) (sym same) h
+within_of n1 old new (inr none) h = subst (AllWithin n1) (sym none) tt
+
+side_if : (n1 : ℕ) (b : Bool) (u v : Side) → AllWithin n1 u.near.outgoing.given → AllWithin n1 v.near.outgoing.given → (let t : Side = if b then u else v in AllWithin n1 t.near.outgoing.given)
+side_if n1 true u v f g = f
+side_if n1 false u v f g = g
+
+ended_within : (n1 k : ℕ) (t : Side) → AllWithin n1 t.near.outgoing.given → AllWithin n1 (ended k t).near.outgoing.given
+ended_within n1 k t h = subst (AllWithin n1) (sym (ap (λ (l : Lists). l.given) (ended_lists k t))) h
+
+asks_within : (n1 : ℕ) (p : Phase) (t : Side) → AllWithin n1 t.near.outgoing.given → AllWithin n1 (asks_again p t).near.outgoing.given
+asks_within n1 Up t h = side_if n1 (is_busy t.near) _ _ h h
+asks_within n1 p t h = h
+
+fires_within : (n1 : ℕ) (b : Bool) (s : LinkStation) → AllWithin n1 s.outgoing.given
+    → (let z : Step = if b then quiet (asks_again s.phase (with_near (alone s) (record s { tries = s.tries + 1 }))) else leaves Retries (alone s) in AllWithin n1 z.side.near.outgoing.given)
+fires_within n1 true s h = asks_within n1 s.phase (with_near (alone s) (record s { tries = s.tries + 1 })) h
+fires_within n1 false s h = tt
 
 module _ (laws : HealingLaws) where
-  abbrev Said : ℕ → Stations → Type 0
-  Said k w = HasSaidAll k w.near.station
+  keeps_fit : (c : Settings) (n1 : ℕ) → c.window ≤ 7 → c.longest ≡ n1 → Keeps c (IsFit c.window n1)
+  keeps_fit c n1 small longest = record {
+    takes = λ o s h.
+        let t = took c n1 (4 * length s.outgoing.given + 2) 0 s small h.within (omega arith) h.said.low o (frame_of (other c.role) c.longest o) refl in
+        record { said = laws.rest.take c o s small h.said.low; within = within_of n1 s.outgoing.given (take_step c o s).side.near.outgoing.given t.given h.within };
+    puts = λ packet s short h. record {
+      said = laws.rest.put c packet s small h.said.low;
+      within = ended_within n1 c.window (puts packet (alone s)).side (within_push n1 s.outgoing.given packet h.within (omega (arith, short, longest)));
+    };
+    fires = λ s h. record { said = laws.rest.timer c s small h.said.low; within = ended_within n1 c.window (fires c (alone s)).side (fires_within n1 (nat_lt s.tries c.retries) s h.within) };
+    connects = λ s h. record { said = laws.rest.connect c s h.said.low; within = ended_within n1 c.window (connects (alone s)).side h.within };
+    disconnects = λ s h. record { said = laws.rest.disconnect c s; within = ended_within n1 c.window (disconnects (alone s)).side tt };
+    abandons = λ s h. record { said = laws.rest.abandon c s; within = ended_within n1 c.window _ tt };
+  }
 
-  said_unless : (k : ℕ) (o : Option LinkError) (w v : Stations) → Said k w → Said k v → Said k (unless o w v)
-  said_unless k (Some e) w v f g = f
-  said_unless k None w v f g = g
+  first_fit : (k n1 : ℕ) (begin : Sessions) → (begin ≡ from_nothing) ⊎ (begin ≡ from_set_up) → IsFit k n1 begin.near.station × IsFit k n1 begin.far.station
+  first_fit k n1 begin (inl is) =
+      let down : IsFit k n1 (with_nothing Down 0) = record { said = record { low = omega arith; settled = refl; calm = refl }; within = tt } in
+      subst (λ (w : Sessions). IsFit k n1 w.near.station × IsFit k n1 w.far.station) (sym is) (down, down)
+  first_fit k n1 begin (inr is) =
+      let up : IsFit k n1 fresh = record { said = record { low = omega arith; settled = and_right (nat_lt 0 (0 + k)) _ refl; calm = refl }; within = tt } in
+      subst (λ (w : Sessions). IsFit k n1 w.near.station × IsFit k n1 w.far.station) (sym is) (up, up)
 
-  said_if : (k : ℕ) (b : Bool) (w v : Stations) → Said k w → Said k v → Said k (if b then v else w)
-  said_if k true w v f g = g
-  said_if k false w v f g = f
-
-  said_delivered : (c : Settings) → c.window ≤ 7 → (os : List (List ℕ)) (w : Stations) → Said c.window w → Said c.window (delivered c os w)
-  said_delivered c small [] w h = h
-  said_delivered c small (o ∷ os) w h = laws.rest.take c o w.near.station small h.low
-
-  pub said_act : (c : Settings) → c.window ≤ 7 → (a : Act) (w : Stations) → Said c.window w → Said c.window (acts c a w)
-  said_act c small (Put packet) w h =
-      let v : Stations = after_step c w w.back (packet ∷ []) (put_step c packet w.near.station) in
-      said_if c.window (nat_le (length packet) c.longest) w (unless (put_refusal w.near.station) w v) h
-      (said_unless c.window (put_refusal w.near.station) w v h (laws.rest.put c packet w.near.station small h.low))
-  said_act c small Deliver w h = said_delivered c small w.back w h
-  said_act c small T1 w h =
-      said_unless c.window (timer_refusal w.near.station) w (after_step c w w.back [] (timer_step c w.near.station)) h (laws.rest.timer c w.near.station small h.low)
-  said_act c small Connect w h =
-      said_unless c.window (connect_refusal w.near.station.phase) w (after_step c w w.back [] (connect_step c w.near.station)) h (laws.rest.connect c w.near.station h.low)
-  said_act c small Disconnect w h =
-      said_unless c.window (disconnect_refusal w.near.station.phase) w (after_step c w w.back [] (disconnect_step c w.near.station)) h (laws.rest.disconnect c w.near.station)
-  said_act c small Abandon w h = said_if c.window (is_up w.near.station.phase) w (after_step c w w.back [] (abandon_step c w.near.station)) h (laws.rest.abandon c w.near.station)
-  said_act c small Probe w h = said_if c.window (is_up w.near.station.phase) w (after_step c w w.back [] (timer_step c w.near.station)) h (laws.rest.timer c w.near.station small h.low)
-  said_act c small (Lose i) w h = h
-  said_act c small (Damage i octets) w h = said_damaged (is_visible octets) w _ h h
-    where
-      said_damaged : (b : Bool) (w v : Stations) → Said c.window w → Said c.window v → Said c.window (if b then v else w)
-      said_damaged = said_if c.window
-
-  abbrev pub BothSaid : Settings → Settings → Stations → Type 0
-  BothSaid c d w = HasSaidAll c.window w.near.station × HasSaidAll d.window w.far.station
-
-  said_event : (c d : Settings) → AreJoined c d → (e : Event) (w : Stations) → BothSaid c d w → BothSaid c d (happens c d e w)
-  said_event c d joined (Near a) w h =
-      (said_act c joined.near_high a w h.0, subst (λ (e : StationEnd). HasSaidAll d.window e.station) (sym (each_hands_one c d (Near a) w).far) h.1)
-  said_event c d joined (Far a) w h =
-      (subst (λ (e : StationEnd). HasSaidAll c.window e.station) (sym (each_hands_one c d (Far a) w).far) h.0, said_act d joined.far_high a (swapped w) h.1)
-
-  pub said_run : (c d : Settings) → AreJoined c d → (es : List Event) (w : Stations) → BothSaid c d w → BothSaid c d (run c d es w)
-  said_run c d joined [] w h = h
-  said_run c d joined (e ∷ es) w h = said_run c d joined es (happens c d e w) (said_event c d joined e w h)
-
-  pub fresh_said : (k : ℕ) → HasSaidAll k fresh
-  fresh_said k = record { low = omega arith; settled = and_right (nat_lt 0 (0 + k)) _ refl; calm = refl }
+  pub fit_from : (c d : Settings) → AreJoined c d → (begin : Sessions) → (begin ≡ from_nothing) ⊎ (begin ≡ from_set_up) → (events : List Event)
+      → (let w = run c d events begin in IsFit c.window d.longest w.near.station × IsFit d.window c.longest w.far.station)
+  fit_from c d joined begin is events =
+      run_stays c d (IsFit c.window d.longest) (IsFit d.window c.longest) (keeps_fit c d.longest joined.near_high joined.longest) (keeps_fit d c.longest joined.far_high (sym joined.longest)) events begin
+      (first_fit c.window d.longest begin is).0 (first_fit d.window c.longest begin is).1

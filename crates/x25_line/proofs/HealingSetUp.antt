@@ -1,10 +1,10 @@
 -- Two ends of which not both go on once they have fired: set-up, a poll or DM is all that comes, and each end comes to rest or isn't Up.
-use Rattle.std.proofs.Common.{◌≡◌, ℕ, ◌<◌, List, [], ◌∷◌, ◌++◌, ◌⊎◌, inl, inr, length, map, Bool, true, false, if◌then◌else◌, Result, Ok, refl, sym, ap, ◌∙◌, subst, arith}
+use Rattle.std.proofs.Common.{◌≡◌, ℕ, ◌<◌, List, [], ◌∷◌, ◌++◌, ◌⊎◌, inl, inr, length, Bool, true, false, if◌then◌else◌, Result, Ok, refl, sym, ap, ◌∙◌, subst, arith}
 use Rattle.std.specs.Prelude.{◌&&◌, nat_lt}
 use Rattle.std.proofs.lemmas.Bool.{leb-true, le-ltb, eq-eqb, and_parts}
 use Rattle.x25_bits.specs.declared.role.Role.{Role}
 use Rattle.x25_frame.specs.Frame.{PlainFrame, info, rr, rnr, rej, sabm, disc, ua, dm, frmr}
-use Rattle.x25_frame.specs.Spelling.{spelling_of, is_command, poll_or_final}
+use Rattle.x25_frame.specs.Spelling.{is_command, poll_or_final}
 use Rattle.x25_frame.specs.Reading.{frame_of}
 use Rattle.x25_frame.specs.laws.ReadingLaw.{ReadsSpelled}
 use Rattle.x25_frame.specs.declared.error.FrameError.{FrameError}
@@ -19,17 +19,21 @@ use Rattle.x25_link.specs.laws.WindowLaw.{IsOut}
 use Rattle.x25_link.specs.laws.RestLaw.{IsAtRest}
 use Rattle.x25_link.specs.laws.AnswerLaw.{says, asks}
 use Rattle.x25_link.proofs.EndLemmas.{none_open, not_open, pumped_stays}
-use Rattle.x25_line.specs.laws.Stations.{Stations, Deliver, Event, after_step, delivered, acts, swapped, run}
+use Rattle.x25_line.specs.laws.Stations.{Deliver, Event}
+use Rattle.x25_line.specs.laws.Sessions.{Entry, Meeting, Sessions, sent_in, begun_by, after_step, delivered, acts, swapped, run}
 use Rattle.x25_line.specs.laws.StationClaims.{AreJoined, IsWhole, AreWhole}
 use Rattle.x25_line.specs.Healing.{AreDeliveries}
 use Rattle.x25_line.specs.laws.LawsBelow.{HealingLaws}
 use Rattle.x25_line.proofs.DrainWeights.{below_eight}
-use Rattle.x25_line.proofs.HealingOnce.{IsDrained, RestsOrOut}
 use Rattle.x25_line.proofs.StationSteps.{not_both, out_not_up}
 use Rattle.x25_line.proofs.StationRuns.{joined_swapped}
-use Rattle.x25_line.proofs.HealingLines.{Reads, reads_more}
-use Rattle.x25_line.proofs.HealingSteps.{up_is, deliveries_keep}
+use Rattle.x25_line.proofs.HealingLines.{Reads}
+use Rattle.x25_line.proofs.HealingSteps.{IsDrained, up_is, deliveries_keep, reads_put}
 use Rattle.x25_line.proofs.StationAway.{up_takes_part}
+
+-- an end is at rest, or not Up
+abbrev pub RestsOrOut : LinkStation → Type 0
+RestsOrOut s = IsAtRest s ⊎ (is_up s.phase ≡ false)
 
 -- ---- a station that has nothing to send
 
@@ -254,18 +258,18 @@ asks_poll false n = refl
 
 -- ---- worlds
 
-pub record Settling (c d : Settings) (w : Stations) : Type 0 where
+pub record Settling (c d : Settings) (w : Sessions) : Type 0 where
   pub there : List PlainFrame
   pub behind : List PlainFrame
   pub out : Reads (other d.role) d.longest w.out there
   pub back : Reads (other c.role) c.longest w.back behind
   pub is : Settles w.near.station w.far.station there behind
 
-turned : (c d : Settings) (w : Stations) → Settling c d w → Settling d c (swapped w)
+turned : (c d : Settings) (w : Sessions) → Settling c d w → Settling d c (swapped w)
 turned c d w h = record { there = h.behind; behind = h.there; out = h.back; back = h.out; is = settles_turned w.near.station w.far.station h.there h.behind h.is }
 
 module _ (c d : Settings) (joined : AreJoined c d) (reads : ReadsSpelled) (laws : HealingLaws) where
-  module _ (w : Stations) (h : Settling c d w) where
+  module _ (w : Sessions) (h : Settling c d w) where
     abbrev s : LinkStation
     s = w.near.station
 
@@ -273,63 +277,64 @@ module _ (c d : Settings) (joined : AreJoined c d) (reads : ReadsSpelled) (laws 
     t = w.far.station
 
     -- octets come to the near end, which becomes so and sends so
-    goes : (o : List ℕ) (os : List (List ℕ)) (gs es fs : List PlainFrame) (z : LinkStation) → Reads (other d.role) d.longest w.out fs → Reads (other c.role) c.longest os gs
-        → (let step = take_step c o s in step.side.near ≡ z → step.side.out ≡ es → AreOfSetUp es → Settles z t (fs ++ es) gs → Settling c d (after_step c w os [] step))
-    goes o os gs es fs z out back near sent are is =
+    goes : (e : Entry) (es : List Entry) (met : List Meeting) (gs sent fs : List PlainFrame) (z : LinkStation) → Reads (other d.role) d.longest w.out fs → Reads (other c.role) c.longest es gs
+        → (let step = take_step c e.octets s in step.side.near ≡ z → step.side.out ≡ sent → AreOfSetUp sent → Settles z t (fs ++ sent) gs → Settling c d (after_step c w es met [] step))
+    goes e es met gs sent fs z out back near is_sent are is =
+        let step = take_step c e.octets s in
+        let session = begun_by step.notes.up w.near.begun in
         record {
-          there = fs ++ es;
+          there = fs ++ sent;
           behind = gs;
-          out = subst (λ (xs : List PlainFrame). Reads (other d.role) d.longest (w.out ++ map (spelling_of c.role) xs) (fs ++ es)) (sym sent)
-              (subst (λ (from : Role). Reads (other d.role) d.longest (w.out ++ map (spelling_of from) es) (fs ++ es)) joined.near_role
-              (reads_more reads (other d.role) d.longest [] w.out fs es out (set_up_whole d.longest es are)));
+          out = subst (λ (xs : List PlainFrame). Reads (other d.role) d.longest (w.out ++ sent_in session c.role xs) (fs ++ sent)) (sym is_sent)
+              (reads_put reads c d joined [] session w.out fs sent (set_up_whole d.longest sent are) out);
           back = back;
-          is = subst (λ (x : LinkStation). Settles x t (fs ++ es) gs) (sym near) is;
+          is = subst (λ (x : LinkStation). Settles x t (fs ++ sent) gs) (sym near) is;
         }
 
     -- an end that awaits UA passes a poll over
-    passes : (o : List ℕ) (os : List (List ℕ)) (busy : Bool) (n : ℕ) (gs fs : List PlainFrame) → s.phase ≡ Waiting → Reads (other d.role) d.longest w.out fs
-        → Reads (other c.role) c.longest (o ∷ os) (says busy true n true ∷ gs) → Settles s t (fs ++ []) gs → Settling c d (delivered c (o ∷ os) w)
-    passes o os busy n gs fs waits out back is =
-        let a = laws.sessions.laws.set_up.waits c o s waits (Ok (says busy true n true)) (sym back.0) in
-        goes o os gs [] fs s out back.1 (a.near ∙ poll_passed busy n s) (a.out ∙ poll_unanswered busy n) tt is
+    passes : (e : Entry) (es : List Entry) (busy : Bool) (n : ℕ) (gs fs : List PlainFrame) → s.phase ≡ Waiting → Reads (other d.role) d.longest w.out fs
+        → Reads (other c.role) c.longest (e ∷ es) (says busy true n true ∷ gs) → Settles s t (fs ++ []) gs → Settling c d (delivered c (e ∷ es) w)
+    passes e es busy n gs fs waits out back is =
+        let a = laws.sessions.laws.set_up.waits c e.octets s waits (Ok (says busy true n true)) (sym back.0) in
+        goes e es _ gs [] fs s out back.1 (a.near ∙ poll_passed busy n s) (a.out ∙ poll_unanswered busy n) tt is
 
     -- an end that is Up hears
-    up_hears : (os : List (List ℕ)) (fs gs : List PlainFrame) → Reads (other d.role) d.longest w.out fs → Reads (other c.role) c.longest os gs → Parts s t fs gs → Settling c d (delivered c os w)
+    up_hears : (es : List Entry) (fs gs : List PlainFrame) → Reads (other d.role) d.longest w.out fs → Reads (other c.role) c.longest es gs → Parts s t fs gs → Settling c d (delivered c es w)
     up_hears [] fs gs out back p = h
-    up_hears (o ∷ os) fs gs out back (asked up is) =
-        let a = laws.sessions.laws.set_up.sets_up c o s (up_takes_part s.phase up) true back.0 in
-        goes o os [] (ua true ∷ []) [] fresh out back.1 a.near a.out (tt, tt) (inr (inr (record { near = inl fresh_blank; far = inr (ap is_up is); there = (tt, tt); back = tt })))
-    up_hears (o ∷ os) fs gs out back (asked_polling false n small up is) =
-        let a = laws.sessions.laws.set_up.sets_up c o s (up_takes_part s.phase up) true back.0 in
-        goes o os [] (ua true ∷ []) (rr true n true ∷ []) fresh out back.1 a.near a.out (tt, tt) (inr (inr (record { near = inl fresh_blank; far = inr (ap is_up is); there = (small, (tt, tt)); back = tt })))
-    up_hears (o ∷ os) fs gs out back (asked_polling true n small up is) =
-        let a = laws.sessions.laws.set_up.sets_up c o s (up_takes_part s.phase up) true back.0 in
-        goes o os [] (ua true ∷ []) (rnr true n true ∷ []) fresh out back.1 a.near a.out (tt, tt) (inl (granted n fresh_blank is))
-    up_hears (o ∷ os) fs gs out back (declined up gone) =
-        let a = laws.answers.dm c o s (up_is s.phase up) true back.0 in
-        goes o os [] [] [] (with_nothing Down s.tries) out back.1 a.0 a.1 tt (inr (inr (record { near = inr refl; far = inr (out_not_up t.phase gone); there = tt; back = tt })))
-    up_hears (o ∷ os) fs gs out back p = absurd back
+    up_hears (e ∷ es) fs gs out back (asked up is) =
+        let a = laws.sessions.laws.set_up.sets_up c e.octets s (up_takes_part s.phase up) true back.0 in
+        goes e es _ [] (ua true ∷ []) [] fresh out back.1 a.near a.out (tt, tt) (inr (inr (record { near = inl fresh_blank; far = inr (ap is_up is); there = (tt, tt); back = tt })))
+    up_hears (e ∷ es) fs gs out back (asked_polling false n small up is) =
+        let a = laws.sessions.laws.set_up.sets_up c e.octets s (up_takes_part s.phase up) true back.0 in
+        goes e es _ [] (ua true ∷ []) (rr true n true ∷ []) fresh out back.1 a.near a.out (tt, tt) (inr (inr (record { near = inl fresh_blank; far = inr (ap is_up is); there = (small, (tt, tt)); back = tt })))
+    up_hears (e ∷ es) fs gs out back (asked_polling true n small up is) =
+        let a = laws.sessions.laws.set_up.sets_up c e.octets s (up_takes_part s.phase up) true back.0 in
+        goes e es _ [] (ua true ∷ []) (rnr true n true ∷ []) fresh out back.1 a.near a.out (tt, tt) (inl (granted n fresh_blank is))
+    up_hears (e ∷ es) fs gs out back (declined up gone) =
+        let a = laws.answers.dm c e.octets s (up_is s.phase up) true back.0 in
+        goes e es _ [] [] [] (with_nothing Down s.tries) out back.1 a.0 a.1 tt (inr (inr (record { near = inr refl; far = inr (out_not_up t.phase gone); there = tt; back = tt })))
+    up_hears (e ∷ es) fs gs out back p = absurd back
 
     -- the other end hears
-    off_hears : (os : List (List ℕ)) (fs gs : List PlainFrame) → Reads (other d.role) d.longest w.out fs → Reads (other c.role) c.longest os gs → Parts t s gs fs → Settling c d (delivered c os w)
+    off_hears : (es : List Entry) (fs gs : List PlainFrame) → Reads (other d.role) d.longest w.out fs → Reads (other c.role) c.longest es gs → Parts t s gs fs → Settling c d (delivered c es w)
     off_hears [] fs gs out back p = h
-    off_hears (o ∷ os) fs gs out back (asked_polling busy n small up is) = passes o os busy n [] (sabm true ∷ []) is out back (inr (inl (asked up is)))
-    off_hears (o ∷ os) fs gs out back (granted n blank is) =
-        passes o os true n (ua true ∷ []) [] is out back (inr (inr (record { near = inr (ap is_up is); far = inl blank; there = tt; back = (tt, tt) })))
-    off_hears (o ∷ os) fs gs out back (polled busy n up gone) =
-        let a = laws.answers.out c o s gone (says busy true n true) back.0 (asks_poll busy n) in
-        goes o os [] (dm true ∷ []) [] s out back.1 a.near a.out (tt, tt) (inr (inl (declined up gone)))
-    off_hears (o ∷ os) fs gs out back p = absurd back
+    off_hears (e ∷ es) fs gs out back (asked_polling busy n small up is) = passes e es busy n [] (sabm true ∷ []) is out back (inr (inl (asked up is)))
+    off_hears (e ∷ es) fs gs out back (granted n blank is) =
+        passes e es true n (ua true ∷ []) [] is out back (inr (inr (record { near = inr (ap is_up is); far = inl blank; there = tt; back = (tt, tt) })))
+    off_hears (e ∷ es) fs gs out back (polled busy n up gone) =
+        let a = laws.answers.out c e.octets s gone (says busy true n true) back.0 (asks_poll busy n) in
+        goes e es _ [] (dm true ∷ []) [] s out back.1 a.near a.out (tt, tt) (inr (inl (declined up gone)))
+    off_hears (e ∷ es) fs gs out back p = absurd back
 
-    calm_hears_more : (os : List (List ℕ)) (fs gs : List PlainFrame) → Reads (other d.role) d.longest w.out fs → Reads (other c.role) c.longest os gs → Calm s t fs gs → Settling c d (delivered c os w)
+    calm_hears_more : (es : List Entry) (fs gs : List PlainFrame) → Reads (other d.role) d.longest w.out fs → Reads (other c.role) c.longest es gs → Calm s t fs gs → Settling c d (delivered c es w)
     calm_hears_more [] fs gs out back p = h
-    calm_hears_more (o ∷ os) fs [] out back p = absurd back
-    calm_hears_more (o ∷ os) fs (g ∷ gs) out back p =
-        let step = take_step c o s in
-        let k = calm_takes c o g s back.0 p.back.0 p.near in
-        goes o os gs step.side.out fs step.side.near out back.1 refl refl k.out (inr (inr (record { near = k.near; far = p.far; there = set_up_more fs step.side.out p.there k.out; back = p.back.1 })))
+    calm_hears_more (e ∷ es) fs [] out back p = absurd back
+    calm_hears_more (e ∷ es) fs (g ∷ gs) out back p =
+        let step = take_step c e.octets s in
+        let k = calm_takes c e.octets g s back.0 p.back.0 p.near in
+        goes e es _ gs step.side.out fs step.side.near out back.1 refl refl k.out (inr (inr (record { near = k.near; far = p.far; there = set_up_more fs step.side.out p.there k.out; back = p.back.1 })))
 
-  near_settles : (w : Stations) → Settling c d w → Settling c d (acts c Deliver w)
+  near_settles : (w : Sessions) → Settling c d w → Settling c d (acts c Deliver w)
   near_settles w h = elim h.is [
     | inl p ↦ up_hears w h w.back h.there h.behind h.out h.back p
     | inr (inl p) ↦ off_hears w h w.back h.there h.behind h.out h.back p
@@ -337,15 +342,15 @@ module _ (c d : Settings) (joined : AreJoined c d) (reads : ReadsSpelled) (laws 
   ]
 
 -- ends that settle have settled once nothing is on the line
-pub settle : (c d : Settings) → AreJoined c d → ReadsSpelled → HealingLaws → (es : List Event) → AreDeliveries es → (w : Stations) → Settling c d w
+pub settle : (c d : Settings) → AreJoined c d → ReadsSpelled → HealingLaws → (es : List Event) → AreDeliveries es → (w : Sessions) → Settling c d w
     → (let v = run c d es w in IsDrained v → RestsOrOut v.near.station × RestsOrOut v.far.station)
-settle c d joined reads laws es are w first drained = settled (other d.role) (other c.role) d.longest c.longest v.near.station v.far.station h.there h.behind (subst (λ (os : List (List ℕ)). Reads (other d.role) d.longest os h.there) drained.out h.out)
-    (subst (λ (os : List (List ℕ)). Reads (other c.role) c.longest os h.behind) drained.back h.back) h.is
+settle c d joined reads laws es are w first drained = settled (other d.role) (other c.role) d.longest c.longest v.near.station v.far.station h.there h.behind (subst (λ (os : List Entry). Reads (other d.role) d.longest os h.there) drained.out h.out)
+    (subst (λ (os : List Entry). Reads (other c.role) c.longest os h.behind) drained.back h.back) h.is
   where
-    v : Stations
+    v : Sessions
     v = run c d es w
 
-    far_settles : (w : Stations) → Settling c d w → Settling c d (swapped (acts d Deliver (swapped w)))
+    far_settles : (w : Sessions) → Settling c d w → Settling c d (swapped (acts d Deliver (swapped w)))
     far_settles w h = turned d c (acts d Deliver (swapped w)) (near_settles d c (joined_swapped c d joined) reads laws (swapped w) (turned c d w h))
 
     h : Settling c d v

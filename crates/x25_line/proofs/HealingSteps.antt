@@ -1,10 +1,8 @@
--- What holds of two stations that both are Up while all that is on the line comes, and what an act makes of it.
-use Rattle.std.proofs.Common.{◌≡◌, ℕ, ◌+◌, ◌-◌, ◌*◌, ◌%◌, ◌≤◌, List, [], ◌∷◌, ◌++◌, length, map, true, false, Option, Some, Result, Ok, refl, sym, ap, ◌∙◌, subst, arith}
-use Rattle.std.specs.Prelude.{◌||◌}
+-- Two ends in the sessions that stand: worlds that events lead to, what holds of them where both ends are Up, and what deliveries keep.
+use Rattle.std.proofs.Common.{◌≡◌, ℕ, ◌+◌, ◌%◌, ◌≤◌, ◌⊎◌, List, [], ◌∷◌, ◌++◌, length, true, false, Option, Some, Result, Ok, refl, sym, ap, ◌∙◌, subst, arith}
 use Rattle.std.proofs.lemmas.Bool.{le-leb}
 use Rattle.x25_bits.specs.declared.role.Role.{Role}
 use Rattle.x25_frame.specs.Frame.{PlainFrame, info, rr, rnr, rej}
-use Rattle.x25_frame.specs.Spelling.{spelling_of}
 use Rattle.x25_frame.specs.Reading.{frame_of}
 use Rattle.x25_frame.specs.laws.ReadingLaw.{ReadsSpelled}
 use Rattle.x25_frame.specs.declared.error.FrameError.{FrameError}
@@ -13,42 +11,122 @@ use Rattle.x25_window.specs.laws.Window.{Frame}
 use Rattle.x25_link.specs.declared.phase.Phase.{Phase}
 use Rattle.x25_link.specs.declared.phase.Phase.TheVariants.{Up}
 use Rattle.x25_link.specs.Station.{Settings, LinkStation, is_up}
-use Rattle.x25_link.specs.Hearing.{Step, other, is_valid}
-use Rattle.x25_link.specs.Link.{timer_step, timer_runs}
+use Rattle.x25_link.specs.Hearing.{other, is_valid}
+use Rattle.x25_link.specs.Link.{timer_runs, timer_step}
 use Rattle.x25_link.specs.laws.WindowMachine.{Window, Shows, ShowAll}
+use Rattle.x25_link.specs.laws.WindowLaw.{IsSound}
 use Rattle.x25_link.specs.laws.RestLaw.{HasSaidAll}
 use Rattle.x25_link.specs.laws.AnswerLaw.{heard}
 use Rattle.x25_line.specs.laws.Line.{Line, swapped as line_swapped}
-use Rattle.x25_line.specs.laws.Stations.{StationEnd, Stations, Act, Deliver, T1, Event, Near, Far, after_step, acts, swapped, run}
-use Rattle.x25_line.specs.laws.StationClaims.{AreJoined, number_in, numbered_on, AreWhole}
-use Rattle.x25_line.specs.laws.WholeNumbers.{machine_acts}
-use Rattle.x25_line.specs.Healing.{IsDeliver, AreDeliveries}
+use Rattle.x25_line.specs.laws.Stations.{Deliver, T1, Event, Near, Far}
+use Rattle.x25_line.specs.laws.StationClaims.{AreJoined, number_in, AreWhole}
+use Rattle.x25_line.specs.laws.Sessions.{Entry, SessionEnd, Sessions, sent_in, from_nothing, from_set_up, after_step, acts, swapped, happens, run, IsTimely, IsTimelyAt, AreTimely}
+use Rattle.x25_line.specs.laws.SessionClaims.{Throughout}
+use Rattle.x25_line.specs.Healing.{AreDeliveries}
 use Rattle.x25_line.specs.laws.LawsBelow.{HealingLaws}
-use Rattle.x25_line.proofs.Kept.{Way, hears_valid, Way-acked, resolved_is}
+use Rattle.x25_line.proofs.Kept.{Kept, Kept-swapped, Way, hears_valid, Way-acked, resolved_is}
 use Rattle.x25_line.proofs.Frames.{Acks-le}
 use Rattle.x25_line.proofs.StationLines.{front_of, consed}
-use Rattle.x25_line.proofs.StationSteps.{AsUp, Joint, not_both}
-use Rattle.x25_line.proofs.StationRuns.{machine_joint, joint_swapped}
-use Rattle.x25_line.proofs.StationClaimLemmas.{up_of}
-use Rattle.x25_line.proofs.StationEvents.{each_hands_one}
-use Rattle.x25_line.proofs.HealingRuns.{said_act}
-use Rattle.x25_line.proofs.HealingLines.{Reads, reads_more, whole_behind}
+use Rattle.x25_line.proofs.StationSteps.{AsUp, not_both}
+use Rattle.x25_line.proofs.sessions.SessionLines.{numbers}
+use Rattle.x25_line.proofs.sessions.SessionActs.{in_session}
+use Rattle.x25_line.proofs.sessions.SessionRuns.{HeldOf, held_swapped, throughout}
+use Rattle.x25_line.proofs.HealingRuns.{fit_from}
+use Rattle.x25_line.proofs.HealingLines.{Reads, reads_more}
+
+-- ---- worlds that events lead to
+
+pub record Reached (c d : Settings) (w : Sessions) : Type 0 where
+  pub begin : Sessions
+  pub start : (begin ≡ from_nothing) ⊎ (begin ≡ from_set_up)
+  pub events : List Event
+  pub timely : AreTimely c d events begin
+  pub is : run c d events begin ≡ w
+
+run_append : (c d : Settings) (es fs : List Event) (w : Sessions) → run c d (es ++ fs) w ≡ run c d fs (run c d es w)
+run_append c d [] fs w = refl
+run_append c d (e ∷ es) fs w = run_append c d es fs (happens c d e w)
+
+timely_append : (c d : Settings) (es fs : List Event) (w : Sessions) → AreTimely c d es w → AreTimely c d fs (run c d es w) → AreTimely c d (es ++ fs) w
+timely_append c d [] fs w h g = g
+timely_append c d (e ∷ es) fs w h g = (h.0, timely_append c d es fs (happens c d e w) h.1 g)
+
+pub then_happens : (c d : Settings) (e : Event) (w : Sessions) → IsTimelyAt c d e w → Reached c d w → Reached c d (happens c d e w)
+then_happens c d e w timely r = record {
+  begin = r.begin;
+  start = r.start;
+  events = r.events ++ e ∷ [];
+  timely = timely_append c d r.events (e ∷ []) r.begin r.timely (subst (IsTimelyAt c d e) (sym r.is) timely, tt);
+  is = run_append c d r.events (e ∷ []) r.begin ∙ ap (happens c d e) r.is;
+}
+
+-- timer T1 is timely where the end is Up
+pub timely_up : (c d : Settings) (w : Sessions) → is_up w.near.station.phase ≡ true → IsTimely c d T1 w
+timely_up c d w up = λ waits. not_both (is_up w.near.station.phase) up (ap is_up waits)
+
+pub at_reached : (Holds : Settings → Settings → Sessions → Type 0) → Throughout Holds → (c d : Settings) → AreJoined c d → (w : Sessions) → Reached c d w → Holds c d w
+at_reached Holds always c d joined w r = subst (Holds c d) r.is (always c d joined r.begin r.start r.events r.timely)
+
+-- ---- both ends are Up
 
 -- the machine is behind, and both ends have said all that they may
-pub record Sound (c d : Settings) (w : Stations) : Type 0 where
+pub record Sound (c d : Settings) (w : Sessions) : Type 0 where
   pub line : Line (List ℕ)
-  pub joint : Joint (Unit {0}) c d w line
+  pub kept : Kept line
+  pub near : AsUp c w.near.station line.near
+  pub far : AsUp d w.far.station line.far
+  pub out : ShowAll (numbers (other d.role) d.longest w.out) line.out
+  pub back : ShowAll (numbers (other c.role) c.longest w.back) line.back
   pub near_said : HasSaidAll c.window w.near.station
   pub far_said : HasSaidAll d.window w.far.station
 
-pub sound_swapped : (c d : Settings) → AreJoined c d → (w : Stations) → Sound c d w → Sound d c (swapped w)
-sound_swapped c d joined w h = record { line = line_swapped h.line; joint = joint_swapped (Unit {0}) c d joined.longest w h.line h.joint; near_said = h.far_said; far_said = h.near_said }
+pub sound_swapped : (c d : Settings) (w : Sessions) → Sound c d w → Sound d c (swapped w)
+sound_swapped c d w h = record { line = line_swapped h.line; kept = Kept-swapped h.line h.kept; near = h.far; far = h.near; out = h.back; back = h.out; near_said = h.far_said; far_said = h.near_said }
 
-pub near_up : (c d : Settings) (w : Stations) (h : Sound c d w) → is_up w.near.station.phase ≡ true → AsUp c w.near.station h.line.near
-near_up c d w h up = up_of (Unit {0}) c w.near.station h.line.near h.joint.near up
+-- an end that is Up has numbers in order, and has said all that it may
+pub record IsInOrderIfUp (c : Settings) (e : SessionEnd) : Type 0 where
+  pub sound : is_up e.station.phase ≡ true → IsSound c.window e.station.outgoing
+  pub said : HasSaidAll c.window e.station
 
-pub far_up : (c d : Settings) (w : Stations) (h : Sound c d w) → is_up w.far.station.phase ≡ true → AsUp d w.far.station h.line.far
-far_up c d w h up = up_of (Unit {0}) d w.far.station h.line.far h.joint.far up
+-- all that was sent may be read
+abbrev pub SentWhole : ℕ → List PlainFrame → Type 0
+SentWhole n1 frames = (given : List (List ℕ)) × AreWhole n1 given frames
+
+module _ (reads : ReadsSpelled) (laws : HealingLaws) (c d : Settings) (joined : AreJoined c d) (w : Sessions) (r : Reached c d w) where
+  abbrev BothSaid : Settings → Settings → Sessions → Type 0
+  BothSaid c d w = HasSaidAll c.window w.near.station × HasSaidAll d.window w.far.station
+
+  held : HeldOf c d w
+  held = at_reached HeldOf (throughout reads laws.sessions) c d joined w r
+
+  said : BothSaid c d w
+  said = at_reached BothSaid (λ c d joined begin is events timely. (let fit = fit_from laws c d joined begin is events in (fit.0.said, fit.1.said))) c d joined w r
+
+  pub sound_at : is_up w.near.station.phase ≡ true → is_up w.far.station.phase ≡ true → Sound c d w
+  sound_at up far_up =
+      let line = held.0.machine in
+      let h = held.1 in
+      let near = in_session c d w h up in
+      let far = in_session d c (swapped w) (held_swapped c d joined w h) far_up in
+      record {
+        line = line;
+        kept = h.holds.kept;
+        near = subst (λ (s : LinkStation). AsUp c s line.near) near.view.1 near.machine;
+        far = subst (λ (s : LinkStation). AsUp d s line.far) far.view.1 far.machine;
+        out = subst (λ (fs : List PlainFrame). ShowAll fs line.out) (sym far.comes.0) h.holds.out;
+        back = subst (λ (fs : List PlainFrame). ShowAll fs line.back) (sym near.comes.0) h.holds.back;
+        near_said = said.0;
+        far_said = said.1;
+      }
+
+  pub in_order_at : IsInOrderIfUp c w.near × IsInOrderIfUp d w.far
+  in_order_at = (
+    record { sound = λ up. (in_session c d w held.1 up).running.sound; said = said.0 },
+    record { sound = λ up. (in_session d c (swapped w) (held_swapped c d joined w held.1) up).running.sound; said = said.1 },
+  )
+
+  pub whole_at : SentWhole d.longest w.sent
+  whole_at = (let h = held.1.whole in (h.given, h.whole))
 
 pub up_is : (p : Phase) → is_up p ≡ true → p ≡ Up
 up_is Up e = refl
@@ -60,11 +138,11 @@ pub record Counted (k : ℕ) (near far : LinkStation) : Type 0 where
   pub taken : length far.taken ≤ near.outgoing.sent
   pub room : near.outgoing.sent ≤ near.outgoing.acked + k
 
-pub counted : (c d : Settings) (w : Stations) → Sound c d w → is_up w.near.station.phase ≡ true → is_up w.far.station.phase ≡ true → Counted c.window w.near.station w.far.station
-counted c d w h up other_up =
-    let u = near_up c d w h up in
-    let v = far_up c d w h other_up in
-    let way = h.joint.kept.from_near in
+pub counted : (c d : Settings) (w : Sessions) → Sound c d w → Counted c.window w.near.station w.far.station
+counted c d w h =
+    let u = h.near in
+    let v = h.far in
+    let way = h.kept.from_near in
     let bounds = Way-acked h.line.near h.line.far.taken (length h.line.far.taken) h.line.out h.line.back way in
     let acked = ap (λ (z : Window). z.acked) u.same in
     let sent = ap (λ (z : Window). z.sent) u.same in
@@ -113,20 +191,20 @@ pub record HearsWell (s other : LinkStation) (nr : ℕ) : Type 0 where
   pub low : s.outgoing.acked ≤ heard nr s
   pub high : heard nr s ≤ length other.taken
 
-pub hears_well : (c d : Settings) (w : Stations) → Sound c d w → is_up w.near.station.phase ≡ true → is_up w.far.station.phase ≡ true → (f : PlainFrame)
-    → (o : List ℕ) (os : List (List ℕ)) → w.back ≡ o ∷ os → frame_of (other c.role) c.longest o ≡ Ok f → IsNumbered f → HearsWell w.near.station w.far.station (number_of f)
-hears_well c d w h up other_up f o os is read is_numbered =
-    let u = near_up c d w h up in
-    let v = far_up c d w h other_up in
-    let rest = numbered_on (other c.role) c.longest os in
+pub hears_well : (c d : Settings) (w : Sessions) → Sound c d w → (f : PlainFrame) (e : Entry) (es : List Entry) → w.back ≡ e ∷ es
+    → frame_of (other c.role) c.longest e.octets ≡ Ok f → IsNumbered f → HearsWell w.near.station w.far.station (number_of f)
+hears_well c d w h f front_entry es is read is_numbered =
+    let u = h.near in
+    let v = h.far in
+    let rest = numbers (other c.role) c.longest es in
     let shows : ShowAll (f ∷ rest) h.line.back =
     subst (λ (fs : List PlainFrame). ShowAll fs h.line.back)
-    (ap (numbered_on (other c.role) c.longest) is ∙ ap (λ (z : Result PlainFrame FrameError). consed (number_in z) rest) read
-    ∙ ap (λ (o : Option PlainFrame). consed o rest) (has_number f is_numbered)) h.joint.back in
+    (ap (numbers (other c.role) c.longest) is ∙ ap (λ (z : Result PlainFrame FrameError). consed (number_in z) rest) read
+    ∙ ap (λ (o : Option PlainFrame). consed o rest) (has_number f is_numbered)) h.back in
     let front = front_of f rest h.line.back shows in
     let e = h.line.near in
     let g = front.frame in
-    let way = subst (λ (bs : List (Frame (List ℕ))). Way e h.line.far.taken (length h.line.far.taken) h.line.out bs) front.is h.joint.kept.from_near in
+    let way = subst (λ (bs : List (Frame (List ℕ))). Way e h.line.far.taken (length h.line.far.taken) h.line.out bs) front.is h.kept.from_near in
     let valid = hears_valid e h.line.far.taken (length h.line.far.taken) h.line.out front.others g way in
     let number = shows_number f g is_numbered front.shows in
     let acked = ap (λ (z : Window). z.acked) u.same in
@@ -142,41 +220,29 @@ hears_well c d w h up other_up f o os is read is_numbered =
 
 -- ---- deliveries
 
-pub deliver_is : (a : Act) → IsDeliver a → Deliver ≡ a
-deliver_is Deliver is = refl
-deliver_is a is = absurd is
+-- nothing is on the line
+pub record IsDrained (w : Sessions) : Type 0 where
+  pub out : w.out ≡ []
+  pub back : w.back ≡ []
 
 -- what each delivery keeps stays through all
-pub deliveries_keep : (P : Stations → Type 0) (c d : Settings) → ((w : Stations) → P w → P (acts c Deliver w)) → ((w : Stations) → P w → P (swapped (acts d Deliver (swapped w))))
-    → (es : List Event) (w : Stations) → AreDeliveries es → P w → P (run c d es w)
+pub deliveries_keep : (P : Sessions → Type 0) (c d : Settings) → ((w : Sessions) → P w → P (acts c Deliver w)) → ((w : Sessions) → P w → P (swapped (acts d Deliver (swapped w))))
+    → (es : List Event) (w : Sessions) → AreDeliveries es → P w → P (run c d es w)
 deliveries_keep P c d near far [] w are h = h
 deliveries_keep P c d near far (Near Deliver ∷ es) w are h = deliveries_keep P c d near far es (acts c Deliver w) are.1 (near w h)
 deliveries_keep P c d near far (Far Deliver ∷ es) w are h = deliveries_keep P c d near far es (swapped (acts d Deliver (swapped w))) are.1 (far w h)
 deliveries_keep P c d near far (Near a ∷ es) w are h = absurd are.0
 deliveries_keep P c d near far (Far a ∷ es) w are h = absurd are.0
 
-module _ (c d : Settings) (joined : AreJoined c d) (reads : ReadsSpelled) (laws : HealingLaws) where
-  -- it stays so at any act by which LinkUp isn't noted, and but for what is lost and damaged
-  pub act_sound : (a : Act) (w : Stations) → Sound c d w → (acts c a w).near.came_up ≡ false → Sound c d (acts c a w)
-  act_sound a w h once = record {
-    line = machine_acts c a w h.line;
-    joint = machine_joint (Unit {0}) c d joined reads laws.sessions.laws a w h.line (λ _. once) (λ _. tt) h.joint;
-    near_said = said_act laws c joined.near_high a w h.near_said;
-    far_said = subst (λ (e : StationEnd). HasSaidAll d.window e.station) (sym (each_hands_one c d (Near a) w).far) h.far_said;
-  }
+-- what is put may be read at the other end
+pub reads_put : ReadsSpelled → (c d : Settings) → AreJoined c d → (given : List (List ℕ)) (session : ℕ) (es : List Entry) (fs gs : List PlainFrame) → AreWhole d.longest given gs
+    → Reads (other d.role) d.longest es fs → Reads (other d.role) d.longest (es ++ sent_in session c.role gs) (fs ++ gs)
+reads_put reads c d joined given session es fs gs whole read =
+    subst (λ (from : Role). Reads (other d.role) d.longest (es ++ sent_in session from gs) (fs ++ gs)) joined.near_role (reads_more reads (other d.role) d.longest given session es fs gs read whole)
 
-  -- what a step puts may be read at the other end
-  pub reads_step : (w : Stations) (os down : List (List ℕ)) (step : Step) → Sound c d (after_step c w os down step) → (fs : List PlainFrame) → Reads (other d.role) d.longest w.out fs
-      → Reads (other d.role) d.longest (w.out ++ map (spelling_of c.role) step.side.out) (fs ++ step.side.out)
-  reads_step w os down step sound fs read =
-      let given = (w.near.down ++ down) ++ w.far.down in
-      let whole : AreWhole d.longest given step.side.out = whole_behind d.longest given w.sent step.side.out sound.joint.whole in
-      subst (λ (from : Role). Reads (other d.role) d.longest (w.out ++ map (spelling_of from) step.side.out) (fs ++ step.side.out)) joined.near_role
-      (reads_more reads (other d.role) d.longest given w.out fs step.side.out read whole)
+-- T1 doesn't run: nothing changes
+pub refused : (c : Settings) (w : Sessions) → timer_runs w.near.station.phase w.near.station ≡ false → acts c T1 w ≡ w
+refused c w stopped = rw stopped refl
 
-  -- T1 doesn't run: nothing changes
-  pub refused : (w : Stations) → timer_runs w.near.station.phase w.near.station ≡ false → acts c T1 w ≡ w
-  refused w stopped = rw stopped refl
-
-  pub fires_is : (w : Stations) → timer_runs w.near.station.phase w.near.station ≡ true → acts c T1 w ≡ after_step c w w.back [] (timer_step c w.near.station)
-  fires_is w running = rw running refl
+pub fires_is : (c : Settings) (w : Sessions) → timer_runs w.near.station.phase w.near.station ≡ true → acts c T1 w ≡ after_step c w w.back w.met [] (timer_step c w.near.station)
+fires_is c w running = rw running refl

@@ -1,122 +1,125 @@
--- Healing over set-up and re-set-up: whatever the two ends are on a drained line, with one busy end, and while packets are put.
-use Rattle.std.proofs.Common.{◌≡◌, List, [], ◌∷◌, ◌⊎◌, inl, false, refl, sym, ap, ◌∙◌, subst, true, ◌<◌, inr}
+-- The laws of healing: what rest shows; whatever the two ends are on a drained line, with one busy end, and while packets are put.
+use Rattle.std.proofs.Common.{◌≡◌, ℕ, List, [], ◌∷◌, ◌⊎◌, inl, Option, Some, None, refl, sym, ap, ◌∙◌}
 use Rattle.x25_frame.specs.laws.ReadingLaw.{ReadsSpelled}
-use Rattle.x25_link.specs.Station.{Settings, LinkStation, is_up, is_busy}
-use Rattle.x25_link.specs.laws.RestLaw.{HasSaidAll, IsAtRest}
-use Rattle.x25_link.specs.laws.WindowLaw.{IsRunning}
-use Rattle.x25_link.specs.Link.{timer_runs}
+use Rattle.x25_link.specs.declared.error.LinkError.{LinkError}
+use Rattle.x25_link.specs.Station.{Settings}
+use Rattle.x25_link.specs.Hearing.{Step}
+use Rattle.x25_link.specs.Link.{take_step, timer_step, timer_refusal}
+use Rattle.x25_link.specs.laws.RestLaw.{IsAtRest}
 use Rattle.x25_link.specs.laws.BusyLaw.{BusyLaws}
-use Rattle.x25_line.specs.laws.Stations.{StationEnd, Stations, T1, Event, Near, Far}
-use Rattle.x25_line.specs.laws.Stations as one
-use Rattle.x25_line.specs.laws.Sessions.{SessionEnd, Sessions, from_nothing, from_set_up, AreTimely, swapped, run}
+use Rattle.x25_line.specs.laws.Stations.{Deliver, T1, Event}
+use Rattle.x25_line.specs.laws.Sessions.{Entry, Meeting, Sessions, begun_by, after_step, unless, delivered, acts, swapped, run}
 use Rattle.x25_line.specs.laws.StationClaims.{AreJoined}
-use Rattle.x25_line.specs.laws.SessionClaims.{octets_of}
-use Rattle.x25_line.specs.Healing.{AreDeliveries, SessionHasTries, SessionsAreHealed, IsSessionAtRestOrOut, OneIsFree, SessionsHealUnlessBothBusy}
+use Rattle.x25_line.specs.laws.SessionClaims.{Throughout, IdleHasArrived}
+use Rattle.x25_line.specs.Healing.{EachRestShows, AreDeliveries, SessionsHealUnlessBothBusy}
 use Rattle.x25_line.specs.laws.LawsBelow.{HealingLaws}
-use Rattle.x25_line.specs.laws.HealingPuts.{PutsHealSessions}
-use Rattle.x25_line.proofs.HealingOnce.{IsDrained, HasTries, RestsOrOut}
-use Rattle.x25_line.proofs.StationRuns.{joined_swapped}
-use Rattle.x25_line.proofs.sessions.SessionSeenRuns.{Both, both_swapped, throughout_both}
-use Rattle.x25_line.proofs.sessions.TwoSessions.{running}
-use Rattle.x25_line.proofs.HealingSessions.{said_from}
-use Rattle.x25_line.proofs.HealingStands.{Alike, fired_alike, events_alike, sessions_rest, fired, free_alike, may_heal, sessions_arrive}
-use Rattle.x25_line.proofs.HealingEnds.{IsInOrderIfUp, after_firings, RestOrOut, rest_or_out}
-use Rattle.x25_line.proofs.HealingBoth.{settled, begins, both_settle}
+use Rattle.x25_line.specs.laws.HealingPuts.{SessionsHaveArrived, PutsHealSessions}
+use Rattle.x25_line.proofs.sessions.SessionHeld.{extended_nil}
+use Rattle.x25_line.proofs.sessions.TwoSessions.{idle_has_arrived}
+use Rattle.x25_line.proofs.HealingSteps.{IsDrained, Reached, at_reached, in_order_at, deliveries_keep}
+use Rattle.x25_line.proofs.HealingEnds.{after_firings, rest_or_out}
+use Rattle.x25_line.proofs.HealingBoth.{HealsAt, begins, both_settle, deliveries_heal}
 use Rattle.x25_line.proofs.HealingPuts.{puts_run}
 
--- ---- once both have fired and all has come, each is at rest or not Up
+-- ---- firings and deliveries hand nothing down
 
--- an end as it stands, with no history
-abbrev end_of : SessionEnd → StationEnd
-end_of e = record { station = e.station; down = []; up = []; reasons = []; came_up = false }
+record HandNothingDown (w u : Sessions) : Type 0 where
+  near : (n : ℕ) → u.near.down n ≡ w.near.down n
+  far : (n : ℕ) → u.far.down n ≡ w.far.down n
 
-in_order : (c : Settings) (e : SessionEnd) → (is_up e.station.phase ≡ true → IsRunning c.window e.station) → HasSaidAll c.window e.station → IsInOrderIfUp c (end_of e)
-in_order c e running said = record { sound = λ up. (running up).sound; said = λ _. said }
+then_hand : (w u x : Sessions) → HandNothingDown w u → HandNothingDown u x → HandNothingDown w x
+then_hand w u x h k = record { near = λ n. k.near n ∙ h.near n; far = λ n. k.far n ∙ h.far n }
 
-has_tries : (c : Settings) (e : SessionEnd) → HasTries c (end_of e) → SessionHasTries c e
-has_tries c e h = record { up = h.up; tries = h.tries }
+hand_turned : (w u : Sessions) → HandNothingDown (swapped w) u → HandNothingDown w (swapped u)
+hand_turned w u h = record { near = h.far; far = h.near }
 
-module _ (reads : ReadsSpelled) (laws : HealingLaws) where
-  -- where the sessions of two ends that are Up and have tries left heal
-  session_ends : (c d : Settings) → AreJoined c d → (begin : Sessions) → (begin ≡ from_nothing) ⊎ (begin ≡ from_set_up) → (events : List Event) → AreTimely c d events begin
-      → (let w = run c d events begin in w.out ≡ [] → w.back ≡ [] → (es : List Event) → AreDeliveries es
-      → (let u = run c d (Near T1 ∷ Far T1 ∷ es) w in u.out ≡ [] → u.back ≡ [] → (SessionHasTries c w.near → SessionHasTries d w.far → SessionsAreHealed w u) → IsSessionAtRestOrOut u.near × IsSessionAtRestOrOut u.far))
-  session_ends c d joined begin is events timely no_out no_back es are out_after back_after heals = (subst RestsOrOut alike.near.station ended.0, subst RestsOrOut alike.far.station ended.1)
-    where
-      w : Sessions
-      w = run c d events begin
+step_hands : (c : Settings) (w : Sessions) (es : List Entry) (met : List Meeting) (step : Step) → HandNothingDown w (after_step c w es met [] step)
+step_hands c w es met step = record { near = extended_nil w.near.down (begun_by step.notes.up w.near.begun); far = λ _. refl }
 
-      u : Sessions
-      u = run c d (Near T1 ∷ Far T1 ∷ es) w
+fire_hands : (c : Settings) (w : Sessions) → HandNothingDown w (acts c T1 w)
+fire_hands c w = by (timer_refusal w.near.station)
+  where
+    by : (o : Option LinkError) → HandNothingDown w (unless o w (after_step c w w.back w.met [] (timer_step c w.near.station)))
+    by (Some e) = record { near = λ _. refl; far = λ _. refl }
+    by None = step_hands c w w.back w.met (timer_step c w.near.station)
 
-      turn : AreJoined d c
-      turn = joined_swapped c d joined
+deliver_hands : (c : Settings) (w : Sessions) → HandNothingDown w (acts c Deliver w)
+deliver_hands c w = by w.back
+  where
+    by : (es : List Entry) → HandNothingDown w (delivered c es w)
+    by [] = record { near = λ _. refl; far = λ _. refl }
+    by (e ∷ es) = step_hands c w es _ (take_step c e.octets w.near.station)
 
-      both : Both c d turn joined w
-      both = throughout_both reads laws.sessions c d joined begin is events timely
+healing_hands : (c d : Settings) (es : List Event) (w : Sessions) → AreDeliveries es → HandNothingDown w (run c d es (after_firings c d w))
+healing_hands c d es w are =
+    let x : Sessions = acts c T1 w in
+    deliveries_keep (HandNothingDown w) c d (λ u h. then_hand w u (acts c Deliver u) h (deliver_hands c u))
+    (λ u h. then_hand w u (swapped (acts d Deliver (swapped u))) h (hand_turned u (acts d Deliver (swapped u)) (deliver_hands d (swapped u)))) es (after_firings c d w) are
+    (then_hand w x (after_firings c d w) (fire_hands c w) (hand_turned x (acts d T1 (swapped x)) (fire_hands d (swapped x))))
 
-      said : HasSaidAll c.window w.near.station × HasSaidAll d.window w.far.station
-      said = said_from laws c d joined begin is events
-
-      v0 : Stations
-      v0 = record { near = end_of w.near; far = end_of w.far; out = []; back = []; sent = [] }
-
-      v : Stations
-      v = one.run c d es (after_firings c d v0)
-
-      alike_first : Alike w.near.begun w.far.begun w v0
-      alike_first = record { near = record { station = refl; begun = λ _. refl }; far = record { station = refl; begun = λ _. refl }; out = sym (ap octets_of no_out); back = sym (ap octets_of no_back); sent = λ never. absurd never }
-
-      alike : Alike w.near.begun w.far.begun u v
-      alike =
-          let n = w.near.begun in
-          let m = w.far.begun in
-          events_alike c d n m es (run c d (Near T1 ∷ Far T1 ∷ []) w) (after_firings c d v0) (fired_alike c d n m w v0 alike_first)
-
-      drained : IsDrained v
-      drained = record { out = alike.out ∙ ap octets_of out_after; back = alike.back ∙ ap octets_of back_after }
-
-      ended : RestOrOut c d es (after_firings c d v0)
-      ended =
-          let far_in = in_order d w.far (running reads laws.sessions d c joined turn (swapped w) (both_swapped c d turn joined w both)) said.1 in
-          rest_or_out reads laws c d joined v0 (in_order c w.near (running reads laws.sessions c d turn joined w both) said.0) far_in (record { out = refl; back = refl }) es are drained (λ near_has far_has.
-          let healed = heals (has_tries c w.near near_has) (has_tries d w.far far_has) in
-          (inl (subst IsAtRest (sym alike.near.station) healed.near_rest), inl (subst IsAtRest (sym alike.far.station) healed.far_rest)))
+pub each_rest_shows : ReadsSpelled → HealingLaws → Throughout EachRestShows
+each_rest_shows reads laws c d joined begin is events timely =
+    let w : Sessions = run c d events begin in
+    let orders = in_order_at reads laws c d joined w (record { begin = begin; start = is; events = events; timely = timely; is = refl }) in
+    let arrived = idle_has_arrived reads laws.sessions c d joined begin is events timely in
+    record {
+      near = λ up stopped.
+          let rest : IsAtRest w.near.station = record { idle = laws.rest.no_timer c.window w.near.station joined.near_low (orders.0.sound up) orders.0.said up stopped; no_timer = stopped } in
+          (rest, arrived.near rest.idle);
+      far = λ up stopped.
+          let rest : IsAtRest w.far.station = record { idle = laws.rest.no_timer d.window w.far.station joined.far_low (orders.1.sound up) orders.1.said up stopped; no_timer = stopped } in
+          (rest, arrived.far rest.idle);
+    }
 
 module _ (reads : ReadsSpelled) (laws : HealingLaws) (busy_laws : BusyLaws) where
-  -- both have tries left
-  sessions_heal_busy : (c d : Settings) → AreJoined c d → (begin : Sessions) → (begin ≡ from_nothing) ⊎ (begin ≡ from_set_up) → (events : List Event) → AreTimely c d events begin
-      → (let w = run c d events begin in w.out ≡ [] → w.back ≡ [] → SessionHasTries c w.near → SessionHasTries d w.far → OneIsFree w.near.station w.far.station
-      → (deliveries : List Event) → AreDeliveries deliveries → (let v = run c d (Near T1 ∷ Far T1 ∷ deliveries) w in v.out ≡ [] → v.back ≡ [] → SessionsAreHealed w v))
-  sessions_heal_busy c d joined begin is events timely no_out no_back near_may far_may free es are out_after back_after =
-      sessions_rest reads laws c d joined begin is events timely no_out no_back near_may.up far_may.up es are out_after back_after (λ v sound drained alike after.
-      let near_tries : HasTries c v.near = record {
-        up = ap (λ (s : LinkStation). is_up s.phase) alike.near.station ∙ near_may.up;
-        tries = subst (λ (s : LinkStation). timer_runs s.phase s ≡ true → s.tries < c.retries) (sym alike.near.station) near_may.tries;
-      } in
-      let far_tries : HasTries d v.far = record {
-        up = ap (λ (s : LinkStation). is_up s.phase) alike.far.station ∙ far_may.up;
-        tries = subst (λ (s : LinkStation). timer_runs s.phase s ≡ true → s.tries < d.retries) (sym alike.far.station) far_may.tries;
-      } in
-      let one : OneIsFree v.near.station v.far.station = elim free [ inl f ↦ inl (ap is_busy alike.near.station ∙ f) | inr f ↦ inr (ap is_busy alike.far.station ∙ f) ] in
-      settled reads laws busy_laws c d joined v sound drained near_tries far_tries one es are after)
+  -- two ends that have come to rest in their sessions have handed up all
+  arrive : (c d : Settings) → AreJoined c d → (w v : Sessions) → HealsAt w.near.begun w.far.begun c d v → IsAtRest v.near.station × IsAtRest v.far.station → SessionsHaveArrived w v
+  arrive c d joined w v (r, h) rest =
+      let arrived = at_reached IdleHasArrived (idle_has_arrived reads laws.sessions) c d joined v r in
+      let near = h.near_begun in
+      let far = h.far_begun in
+      record {
+        near_rest = rest.0;
+        far_rest = rest.1;
+        near_session = near;
+        far_session = far;
+        there = ap v.far.up (sym far) ∙ arrived.near rest.0.idle (inl h.far_on) ∙ ap v.near.down near;
+        back = ap v.near.up (sym near) ∙ arrived.far rest.1.idle (inl h.near_on) ∙ ap v.far.down far;
+      }
 
   -- whatever the ends are
   pub sessions_heal_unless_both_busy : SessionsHealUnlessBothBusy
   sessions_heal_unless_both_busy c d joined begin is events timely no_out no_back free es are out_after back_after =
       let w : Sessions = run c d events begin in
-      let heal = λ (near : SessionHasTries c w.near). λ (far : SessionHasTries d w.far). sessions_heal_busy c d joined begin is events timely no_out no_back near far free es are out_after back_after in
-      let each = session_ends reads laws c d joined begin is events timely no_out no_back es are out_after back_after heal in
-      record { near = each.0; far = each.1; healed = heal }
+      let v : Sessions = run c d es (after_firings c d w) in
+      let r : Reached c d w = record { begin = begin; start = is; events = events; timely = timely; is = refl } in
+      let drained : IsDrained w = record { out = no_out; back = no_back } in
+      let after : IsDrained v = record { out = out_after; back = back_after } in
+      let n = w.near.begun in
+      let m = w.far.begun in
+      let orders = in_order_at reads laws c d joined w r in
+      let heals = λ (near : _). λ (far : _). deliveries_heal reads laws busy_laws n m c d joined es (after_firings c d w) are (begins reads laws busy_laws c d joined w r drained near far free) in
+      let each = rest_or_out reads laws c d joined w orders.0 orders.1 drained es are after (λ near far.
+      let rest = both_settle reads laws busy_laws n m c d joined v (heals near far) after in
+      (inl rest.0, inl rest.1)) in
+      record {
+        near = each.0;
+        far = each.1;
+        healed = λ near far.
+            let k = heals near far in
+            let h = arrive c d joined w v k (both_settle reads laws busy_laws n m c d joined v k after) in
+            let hands = healing_hands c d es w are in
+            record { near_rest = h.near_rest; far_rest = h.far_rest; near_session = h.near_session; far_session = h.far_session; there = h.there ∙ hands.near n; back = h.back ∙ hands.far m };
+      }
 
   -- packets are put while two ends heal
   pub puts_heal_sessions : PutsHealSessions
   puts_heal_sessions c d joined begin is events timely no_out no_back near_may far_may es are free out_after back_after =
       let w : Sessions = run c d events begin in
-      sessions_arrive reads laws c d joined begin is events timely no_out no_back near_may.up far_may.up es are out_after back_after (λ v sound drained alike after.
-      let near = may_heal c w.near v.near alike.near.station near_may in
-      let far = may_heal d w.far v.far alike.far.station far_may in
-      let begun = begins reads laws busy_laws c d joined v sound drained (record { up = near.up; tries = near.tries }) (record { up = far.up; tries = far.tries }) (inl near.free) in
-      let v1 : Stations = after_firings c d v in
-      let stays = free_alike c d w.near.begun w.far.begun es (fired c d w) v1 (fired_alike c d w.near.begun w.far.begun w v alike) free in
-      both_settle reads laws busy_laws c d joined (one.run c d es v1) (puts_run reads laws busy_laws c d joined es v1 are begun stays) after)
+      let v : Sessions = run c d es (after_firings c d w) in
+      let r : Reached c d w = record { begin = begin; start = is; events = events; timely = timely; is = refl } in
+      let n = w.near.begun in
+      let m = w.far.begun in
+      let first = begins reads laws busy_laws c d joined w r (record { out = no_out; back = no_back }) (record { up = near_may.up; tries = near_may.tries }) (record { up = far_may.up; tries = far_may.tries }) (inl near_may.free) in
+      let k = puts_run reads laws busy_laws c d joined n m es (after_firings c d w) are first free in
+      arrive c d joined w v k (both_settle reads laws busy_laws n m c d joined v k (record { out = out_after; back = back_after }))

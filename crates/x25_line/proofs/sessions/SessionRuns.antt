@@ -156,7 +156,7 @@ module _ (c d : Settings) (joined : AreJoined c d) (reads : ReadsSpelled) (rests
 
 -- ---- the other end
 
-pub held_swapped : {stand : Standing} (c d : Settings) → AreJoined c d → (w : Sessions) → Held stand c d w → Held (other_way stand) d c (swapped w)
+abbrev pub held_swapped : {stand : Standing} (c d : Settings) → AreJoined c d → (w : Sessions) → Held stand c d w → Held (other_way stand) d c (swapped w)
 held_swapped {stand} c d joined w h =
     record {
       alone = one.swapped h.alone;
@@ -231,7 +231,6 @@ is_session c d joined v holds =
     record { order = holds_order ⊥ c d v holds; lists = holds_lists ⊥ c d v holds; window = holds_window ⊥ c d v holds; no_frmr = holds.1.no_frmr; whole = holds_whole ⊥ c d joined v holds }
 
 stands : {stand : Standing} (c d : Settings) → AreJoined c d → (w : Sessions) → Held stand c d w → is_up w.near.station.phase ≡ true → Stands c d w
-unfolding held_swapped
 stands {stand} c d joined w h up =
     let i = in_session c d w h up in
     record {

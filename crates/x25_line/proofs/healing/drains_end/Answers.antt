@@ -1,4 +1,4 @@
-use Rattle.x25_line.proofs.DrainSessions.{sessions_drain_end, some_sessions_drain}
+use Rattle.x25_line.proofs.DrainRuns.{sessions_drain_end, some_sessions_drain}
 use Rattle.x25_line.proofs.healing.drains_end.Goals as goal
 
 pub returns : goal.returns

@@ -1,4 +1,4 @@
-use Rattle.x25_line.proofs.HealingSessions.{each_rest_shows}
+use Rattle.x25_line.proofs.SessionsHeal.{each_rest_shows}
 use Rattle.x25_line.proofs.healing.rest_shows.Goals as goal
 
 pub returns : goal.returns
