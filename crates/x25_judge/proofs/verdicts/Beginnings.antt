@@ -1,58 +1,23 @@
 -- SABM and UA begin a session of both ends.
-use Rattle.std.proofs.Common.{◌≡◌, ◌==◌, ◌⊎◌, inl, inr, ℕ, arith, Bool, true, false, zero, suc, List, [], ◌∷◌, ◌++◌, length, drop, Option, Some, None, Result, Ok, Err, refl, sym, ap, ◌∙◌, subst}
-use Rattle.std.specs.Prelude.{nat_le, not, ◌&&◌, ◌||◌, if◌then◌else◌, is_some}
+use Rattle.x25_judge.proofs.verdicts.Names.{◌≡◌, ◌==◌, ◌⊎◌, inl, inr, ℕ, arith, Bool, true, false, zero, suc, List, [], ◌∷◌, ◌++◌, length, drop, Option, Some, None, Result, Ok, Err, refl, sym, ap, ◌∙◌, subst, nat_le, not, ◌&&◌, ◌||◌, is_some, both_ways, cond_both, or_parts, Role, Dte, Dce, gap_in, n1, sent_in, Reading, PlainFrame, sabm, ua, frame_of, FrameError, other, Held, no_octets, all_told, answer_to, book_by, gap_of, missed_by, next_missed, no_frame, other_of, own_of, past_gap, read_of, seen_by, sent_of, tallies, Judge, Strictness, End, Minding, Minded, PollAgain, Rule, NotUp, UaUnasked, come, comes, has_answer, has_number, is_new, is_number, is_of_order, IsBegun, rule_of, Shows, after, IsClear, SetUpsBegin, PacketRule, IsIn, Place, at, At, Owes, State, fresh, has_ua, heard, is_asking, may_answer, owed, owes, passes, sends, is_plain, onward, settled, upward, hastened, is_below, numbers_below, sends_to, set_as, shows_to, spot_at, trimmed, Frame, Before, Disc, Info, Ready, Sabm, Ua, Unread, LinkSet, Told, Broken, Nothing, Spot, Numbers, Stand, Asking, Free, Out, Up, AllAre, sent_all, shown_all, ua_told, AreBelow, Below, below_on, below_self, HoldsAt, Leads, Stays, Steps, Has, HasIn, blind_sends, blind_shows, has_less, has_sent, has_shown, has_taken, shows_by, trim_has}
+use Rattle.std.specs.Prelude.{if◌then◌else◌}
+use Rattle.std.proofs.lemmas.Bool.{eq-eqb, le-leb}
+use Rattle.x25_judge.specs.Judge.{begins as judge_begins}
+use Rattle.x25_possible_links.specs.laws.Link.{asks, answers, begins}
+use Rattle.x25_possible_links.specs.laws.Places.{first}
+use Rattle.x25_possible_links.specs.declared.set.Told.TheVariants.{Skips as SkipsOf}
 use Rattle.std.specs.List.{list_any}
 use Rattle.std.proofs.lemmas.List.Folds.{list_any-append}
-use Rattle.std.proofs.lemmas.Bool.{both_ways, cond_both, eq-eqb, le-leb, or_parts}
-use Rattle.x25_bits.specs.declared.role.Role.{Role}
-use Rattle.x25_bits.specs.declared.role.Role.TheVariants.{Dte, Dce}
-use Rattle.x25_decode.specs.Decoding.{gap_in, n1, sent_in}
-use Rattle.x25_decode.specs.declared.answer.Reading.{Reading}
-use Rattle.x25_frame.specs.Frame.{PlainFrame, sabm, ua}
-use Rattle.x25_frame.specs.Reading.{frame_of}
-use Rattle.x25_frame.specs.declared.error.FrameError.{FrameError}
-use Rattle.x25_link.specs.Hearing.{other}
-use Rattle.x25_judge.specs.Held.{Held, no_octets}
-use Rattle.x25_judge.specs.Judge.{all_told, answer_to, begins as judge_begins, book_by, gap_of, missed_by, next_missed, no_frame, other_of, own_of, past_gap, read_of, seen_by, sent_of, tallies}
-use Rattle.x25_judge.specs.Links as links
-use Rattle.x25_judge.specs.Manners as manners
 use Rattle.x25_judge.specs.Rule.{first as first_rule}
-use Rattle.x25_judge.specs.declared.judge.Judge.{Judge}
-use Rattle.x25_judge.specs.declared.judge.Strictness.{Strictness}
-use Rattle.x25_judge.specs.declared.links.End.{End}
-use Rattle.x25_judge.specs.declared.links.Minding.{Minding}
-use Rattle.x25_judge.specs.declared.manners.Minded.{Minded}
-use Rattle.x25_judge.specs.declared.note.Note.TheVariants.{PollAgain}
-use Rattle.x25_judge.specs.declared.rule.Rule.{Rule}
-use Rattle.x25_judge.specs.declared.rule.Rule.TheVariants.{NotUp, UaUnasked}
-use Rattle.x25_judge.specs.laws.Session.{come, comes, has_answer, has_number, is_new, is_number, is_of_order, IsBegun, rule_of, Shows}
-use Rattle.x25_judge.specs.laws.VerdictClaims.{after, IsClear, SetUpsBegin}
-use Rattle.x25_packet_judge.specs.declared.packet_rule.PacketRule.{PacketRule}
-use Rattle.x25_possible.specs.laws.Possible.{IsIn, Place, at}
-use Rattle.x25_possible_links.specs.laws.Link.{At, Owes, State, asks, fresh, has_ua, heard, is_asking, may_answer, owed}
-use Rattle.x25_possible_links.specs.laws.Link.{answers, begins, owes, passes, sends}
-use Rattle.x25_possible_links.specs.laws.Places.{first, is_plain, onward, settled, upward}
-use Rattle.x25_possible_links.specs.laws.Places as place
-use Rattle.x25_possible_links.specs.code.Steps.{hastened, is_below, numbers_below, sends_to, set_as, shows_to, spot_at, trimmed}
-use Rattle.x25_possible_links.specs.declared.frame.Frame.{Frame}
-use Rattle.x25_possible_links.specs.declared.frame.Frame.TheVariants.{Before, Disc, Info, Ready, Sabm, Ua, Unread}
-use Rattle.x25_possible_links.specs.declared.set.LinkSet.{LinkSet}
-use Rattle.x25_possible_links.specs.declared.set.Told.{Told}
-use Rattle.x25_possible_links.specs.declared.set.Told.TheVariants.{Broken, Nothing, Skips as SkipsOf}
-use Rattle.x25_possible_links.specs.declared.spots.Spot.{Spot}
-use Rattle.x25_possible_links.specs.declared.stand.Numbers.{Numbers}
-use Rattle.x25_possible_links.specs.declared.stand.Stand.{Stand}
-use Rattle.x25_possible_links.specs.declared.stand.Stand.TheVariants.{Asking, Free, Out, Up}
-use Rattle.x25_possible_links.proofs.Alike.{AllAre, sent_all, shown_all, ua_told}
-use Rattle.x25_possible_links.proofs.Stands.{AreBelow, Below, below_on, below_self}
 use Rattle.x25_possible_links.proofs.Covers.{Covers, Here, Asked, Later, Begins}
-use Rattle.x25_possible_links.proofs.Leads.{HoldsAt, Leads, Stays, Steps}
-use Rattle.x25_possible_links.proofs.Covering.{Has, HasIn, blind_sends, blind_shows, has_less, has_sent, has_shown, has_taken, shows_by, trim_has}
 use Rattle.x25_judge.proofs.verdicts.Lines.{Goes, goes, next_goes, other_twice}
 use Rattle.x25_judge.proofs.verdicts.Minded.{before}
 use Rattle.x25_judge.proofs.verdicts.Octets.{HasRoom, each_room, keeps_room}
 use Rattle.x25_judge.proofs.verdicts.Silences.{no_numbers}
 use Rattle.x25_judge.proofs.verdicts.Silent.{Fits, IsWithin, comes_on, heard_sent, heard_told, settled_comes, settled_within, upward_within}
+use Rattle.x25_judge.specs.Links as links
+use Rattle.x25_judge.specs.Manners as manners
+use Rattle.x25_possible_links.specs.laws.Places as place
 
 -- ---- a place from which a session may begin
 

@@ -1,26 +1,11 @@
 -- An end that keeps the rules of docs/PEER.md, beside the places in which the judge has it.
-use Rattle.std.proofs.Common.{◌≡◌, ◌⊎◌, inl, inr, ℕ, ◌+◌, ◌%◌, ◌≤◌, ◌==◌, arith, max, Bool, true, false, List, [], ◌∷◌, ◌++◌, length, suc, Option, Some, None, refl, sym, ap, ◌∙◌, subst}
-use Rattle.std.specs.Prelude.{not, ◌&&◌, ◌||◌, nat_le, nat_lt, if◌then◌else◌}
-use Rattle.std.proofs.lemmas.Bool.{and_from, both_ways, cond-true, eq-eqb, eqb-true, le-leb, lt-ltb}
-use Rattle.x25_frame.specs.Frame.{PlainFrame, info, rr, rnr, rej, sabm, disc, ua}
-use Rattle.x25_line.specs.laws.Peer.{Peer, fresh_peer, MayAcknowledge, MayNumber}
+use Rattle.x25_judge.proofs.verdicts.Names.{◌≡◌, ◌⊎◌, inl, inr, ℕ, ◌+◌, ◌%◌, ◌≤◌, ◌==◌, arith, max, Bool, true, false, List, [], ◌∷◌, ◌++◌, length, suc, Option, Some, None, refl, sym, ap, ◌∙◌, subst, not, ◌&&◌, ◌||◌, nat_le, nat_lt, and_from, both_ways, cond-true, eqb-true, lt-ltb, PlainFrame, info, rr, rnr, rej, sabm, disc, ua, Peer, fresh_peer, MayAcknowledge, MayNumber, Said, Tells, In, shown, Way, MaySay, MaySend, HaveNoUa, IsUa, declined, numbered, asks_again, closes, declines, rejects, takes_disc, takes_sabm, waits_on, IsIn, State, At, Owes, owes, fresh, has_ua, is_asking, is_ua, may_acknowledge, may_number, sends_as, Frame, Ready, Sabm, Disc, Ua, Dm, Frmr, Unread, LinkSet, Numbers, Stand, Out, Asking, Up, Free, Has, has_taken}
+use Rattle.std.specs.Prelude.{if◌then◌else◌}
+use Rattle.std.proofs.lemmas.Bool.{eq-eqb, le-leb}
+use Rattle.x25_judge.specs.laws.Sessions.{asks}
 use Rattle.x25_line.specs.laws.Peer as peer
 use Rattle.x25_line.specs.laws.PeerSessions as session
-use Rattle.x25_line.specs.laws.Said.{Said, Tells}
-use Rattle.x25_line.specs.laws.PeerSessions.{In}
-use Rattle.x25_judge.specs.Links.{shown}
-use Rattle.x25_judge.specs.laws.Session.{Way}
-use Rattle.x25_judge.specs.laws.Sessions.{MaySay, MaySend, HaveNoUa, IsUa, declined, numbered, asks, asks_again, closes, declines, rejects, takes_disc, takes_sabm, waits_on}
-use Rattle.x25_possible.specs.laws.Possible.{IsIn}
-use Rattle.x25_possible_links.specs.laws.Link.{State, At, Owes, owes, fresh, has_ua, is_asking, is_ua, may_acknowledge, may_number, sends_as}
 use Rattle.x25_possible_links.specs.laws.Link as link
-use Rattle.x25_possible_links.specs.declared.frame.Frame.{Frame}
-use Rattle.x25_possible_links.specs.declared.frame.Frame.TheVariants.{Ready, Sabm, Disc, Ua, Dm, Frmr, Unread}
-use Rattle.x25_possible_links.specs.declared.set.LinkSet.{LinkSet}
-use Rattle.x25_possible_links.specs.declared.stand.Numbers.{Numbers}
-use Rattle.x25_possible_links.specs.declared.stand.Stand.{Stand}
-use Rattle.x25_possible_links.specs.declared.stand.Stand.TheVariants.{Out, Asking, Up, Free}
-use Rattle.x25_possible_links.proofs.Covering.{Has, has_taken}
 
 abbrev pub numbers_of : Peer → Numbers
 numbers_of p = record { sent = p.sent; acked = p.acked; taken = length p.taken; told = p.told }

@@ -1,31 +1,12 @@
 -- What no run of an end that keeps the rules explains is told, and the first rule of order is told of that alone.
-use Rattle.std.proofs.Common.{◌≡◌, ℕ, Bool, true, false, [], ◌∷◌, None, refl, sym, ap, ◌∙◌, subst}
-use Rattle.std.specs.Prelude.{is_some}
-use Rattle.std.proofs.lemmas.Bool.{both_ways}
-use Rattle.x25_bits.specs.declared.role.Role.{Role}
-use Rattle.x25_frame.specs.Frame.{PlainFrame, info}
-use Rattle.x25_judge.specs.Held.{differs}
-use Rattle.x25_judge.specs.Judge.{own_of, seen_by}
-use Rattle.x25_judge.specs.Links as links
-use Rattle.x25_judge.specs.Manners as manners
-use Rattle.x25_judge.specs.declared.judge.Judge.{Judge}
-use Rattle.x25_judge.specs.declared.links.Minding.{Minding}
-use Rattle.x25_judge.specs.declared.links.Sent.{Sent}
-use Rattle.x25_judge.specs.laws.Session.{is_of_order, rule_of}
-use Rattle.x25_judge.specs.laws.VerdictClaims.{GuiltyAreTold, ToldAreGuilty}
-use Rattle.x25_possible_links.specs.code.Steps.{begun_as, played, sends_to}
-use Rattle.x25_possible_links.specs.declared.frame.Frame.{Frame}
-use Rattle.x25_possible_links.specs.declared.frame.Frame.TheVariants.{Info}
-use Rattle.x25_possible_links.specs.declared.set.LinkSet.{LinkSet}
-use Rattle.x25_possible_links.specs.declared.set.Told.{Told}
-use Rattle.x25_possible_links.specs.declared.set.Told.TheVariants.{Broken, Nothing, Skips}
-use Rattle.x25_possible_links.specs.declared.stand.Stand.{Stand}
-use Rattle.x25_possible_links.specs.declared.stand.Stand.TheVariants.{Free, Up}
-use Rattle.x25_possible_links.proofs.SetLemmas as sets
+use Rattle.x25_judge.proofs.verdicts.Names.{◌≡◌, ℕ, Bool, true, false, [], ◌∷◌, None, refl, sym, ap, ◌∙◌, subst, is_some, both_ways, Role, PlainFrame, info, differs, own_of, seen_by, Judge, Minding, Sent, is_of_order, rule_of, GuiltyAreTold, ToldAreGuilty, begun_as, played, sends_to, Frame, Info, LinkSet, Told, Broken, Nothing, Skips, Stand, Free, Up}
 use Rattle.x25_judge.proofs.verdicts.Innocents.{none_of_order, seen_fair, sent_end}
 use Rattle.x25_judge.proofs.verdicts.Manners.{minds_has}
 use Rattle.x25_judge.proofs.verdicts.Minded.{IsTold, Tells, asks_tells, first_brings, first_keeps, number_tells, tells_of}
 use Rattle.x25_judge.proofs.verdicts.Tapes.{told_is}
+use Rattle.x25_judge.specs.Links as links
+use Rattle.x25_judge.specs.Manners as manners
+use Rattle.x25_possible_links.proofs.SetLemmas as sets
 
 -- ---- what is told of the set is told of the frame
 

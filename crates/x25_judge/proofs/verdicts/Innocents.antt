@@ -1,51 +1,21 @@
 -- No rule of order is told of an end that keeps the rules.
-use Rattle.std.proofs.Common.{◌≡◌, ◌⊎◌, inl, inr, ℕ, ◌+◌, ◌%◌, ◌<◌, ◌≤◌, ◌==◌, arith, max, Bool, true, false, suc, List, [], ◌∷◌, ◌++◌, length, drop, refl, sym, ap, ◌∙◌, subst}
-use Rattle.std.specs.Prelude.{not, ◌&&◌, ◌||◌, if◌then◌else◌, Ok, Option, Some, None}
-use Rattle.std.proofs.lemmas.Bool.{both_ways, cases_eq, eq-eqb}
-use Rattle.x25_bits.specs.declared.role.Role.{Role}
-use Rattle.x25_bits.specs.declared.role.Role.TheVariants.{Dte, Dce}
-use Rattle.x25_frame.specs.Frame.{PlainFrame, info, rr, rnr, rej, ua}
-use Rattle.x25_line.specs.laws.Peer.{Peer, fresh_peer, hearing, taking, MayHear, MayNumber}
-use Rattle.x25_line.specs.laws.Peer as peer
-use Rattle.x25_line.specs.laws.PeerSessions as session
-use Rattle.x25_line.specs.laws.Said.{said as read_as}
-use Rattle.x25_line.specs.laws.PeerSessions.{In}
-use Rattle.x25_link.specs.Hearing.{other}
-use Rattle.x25_packet_judge.specs.Book as book
-use Rattle.x25_judge.specs.Held.{Held, differs, keeps, no_octets, none_held}
+use Rattle.x25_judge.proofs.verdicts.Names.{◌≡◌, ◌⊎◌, inl, inr, ℕ, ◌+◌, ◌%◌, ◌<◌, ◌≤◌, ◌==◌, arith, max, Bool, true, false, suc, List, [], ◌∷◌, ◌++◌, length, drop, refl, sym, ap, ◌∙◌, subst, not, ◌&&◌, ◌||◌, both_ways, cases_eq, Role, Dte, Dce, PlainFrame, info, rr, rnr, rej, ua, Peer, fresh_peer, hearing, taking, MayHear, MayNumber, In, other, Held, differs, keeps, no_octets, none_held, comes, IsBegun, IsDamaged, IsTimely, Shows, Way, is_of_order, answer_to, own_of, seen_by, forgets_each, held_by, shown, breaks_order, Judge, End, MaySay, MaySend, MayStand, declined, numbered, declines, takes_sabm, NoSessionIsAccused, nth, IsIn, is_below, sends_to, shows_to, unknown, State, At, Owes, passes, fresh, heard, may_answer, onward, upward, Frame, Info, Ready, Unread, Before, LinkSet, Nothing, Spot, Numbers, Stand, Out, Asking, Up, Free, AreBelow, Below, below_self, Leads, Stays, Steps, stays_at, below_is, Has, has_taken, has_less, has_sent, has_shown, is_untold}
+use Rattle.std.specs.Prelude.{if◌then◌else◌, Ok, Option, Some, None}
+use Rattle.std.proofs.lemmas.Bool.{eq-eqb}
 use Rattle.x25_judge.specs.laws.Session.{rule_of as told_rule}
-use Rattle.x25_judge.specs.Judge.{answer_to, own_of, seen_by}
-use Rattle.x25_judge.specs.Links.{forgets_each, held_by, rule_of, shown}
-use Rattle.x25_judge.specs.Rule.{breaks_order}
-use Rattle.x25_judge.specs.declared.judge.Judge.{Judge}
-use Rattle.x25_judge.specs.declared.links.End.{End}
-use Rattle.x25_judge.specs.laws.Session.{comes, IsBegun, IsDamaged, IsTimely, Shows, Way, is_of_order}
-use Rattle.x25_judge.specs.laws.Sessions as sessions
-use Rattle.x25_judge.specs.laws.Sessions.{MaySay, MaySend, MayStand, declined, numbered, declines, takes_sabm}
-use Rattle.x25_judge.specs.laws.VerdictClaims.{NoSessionIsAccused}
-use Rattle.x25_possible.specs.Channel.{nth}
-use Rattle.x25_possible.specs.laws.Possible.{IsIn}
-use Rattle.x25_possible_links.specs.code.Steps.{is_below, sends_to, shows_to, unknown}
-use Rattle.x25_possible_links.specs.laws.Link.{State, At, Owes, passes, hears, begins, fresh, heard, may_answer}
-use Rattle.x25_possible_links.specs.laws.Link as link
-use Rattle.x25_possible_links.specs.laws.Places.{onward, upward}
-use Rattle.x25_possible_links.specs.declared.frame.Frame.{Frame}
-use Rattle.x25_possible_links.specs.declared.frame.Frame.TheVariants.{Info, Ready, Unread, Before}
-use Rattle.x25_possible_links.specs.declared.set.LinkSet.{LinkSet}
-use Rattle.x25_possible_links.specs.declared.set.Told.TheVariants.{Nothing}
-use Rattle.x25_possible_links.specs.declared.spots.Spot.{Spot}
-use Rattle.x25_possible_links.specs.declared.stand.Numbers.{Numbers}
-use Rattle.x25_possible_links.specs.declared.stand.Stand.{Stand}
-use Rattle.x25_possible_links.specs.declared.stand.Stand.TheVariants.{Out, Asking, Up, Free}
-use Rattle.x25_possible_links.proofs.Stands.{AreBelow, Below, below_self}
+use Rattle.x25_judge.specs.Links.{rule_of}
+use Rattle.x25_possible_links.specs.laws.Link.{hears, begins}
+use Rattle.x25_line.specs.laws.Said.{said as read_as}
 use Rattle.x25_possible_links.proofs.Covers.{Covers, Here, Asked, Later, Begins}
-use Rattle.x25_possible_links.proofs.Leads.{Leads, Stays, Steps, stays_at}
-use Rattle.x25_possible_links.proofs.StepLemmas.{below_is}
-use Rattle.x25_possible_links.proofs.Covering.{Has, has_taken, has_less, has_sent, has_shown, is_untold}
 use Rattle.x25_judge.proofs.verdicts.Lines.{goes, past, told_of_order}
 use Rattle.x25_judge.proofs.verdicts.Manners.{minds_fair}
 use Rattle.x25_judge.proofs.verdicts.Octets.{HasSent, HasRoom, IsHeld, begun_held, each_room, held_less, held_more, keeps_room, not_each, pushed_held, same_octets, sent_held}
 use Rattle.x25_judge.proofs.verdicts.Following.{heard_keeps, IsPart, IsSame, IsSeen, Means, Says, front, means_on, means_same, numbers_of, says, stand_of}
+use Rattle.x25_line.specs.laws.Peer as peer
+use Rattle.x25_line.specs.laws.PeerSessions as session
+use Rattle.x25_packet_judge.specs.Book as book
+use Rattle.x25_judge.specs.laws.Sessions as sessions
+use Rattle.x25_possible_links.specs.laws.Link as link
 
 -- ---- what comes
 

@@ -1,21 +1,6 @@
 -- An end that keeps the rules, ahead of the trace: what it did since its last octets that the trace has seen.
-use Rattle.std.proofs.Common.{◌≡◌, ◌⊎◌, inl, inr, ℕ, ◌≤◌, arith, length, zero, suc, List, [], ◌∷◌, ◌++◌, true, false, Option, Some, None, Result, Ok, Err, refl, sym, ap, ◌∙◌, subst, remove}
-use Rattle.x25_bits.specs.declared.role.Role.{Role}
-use Rattle.x25_decode.specs.Decoding.{n1}
-use Rattle.x25_frame.specs.Frame.{PlainFrame, info, rr, rnr, rej}
-use Rattle.x25_frame.specs.Reading.{frame_of}
-use Rattle.x25_frame.specs.declared.error.FrameError.{FrameError}
-use Rattle.x25_frame.specs.declared.error.FrameError.TheVariants.{Short, BadFcs}
-use Rattle.x25_link.specs.Hearing.{other}
-use Rattle.x25_line.specs.laws.Peer.{Peer, MayHear}
-use Rattle.x25_line.specs.laws.StationClaims.{number_in}
-use Rattle.x25_line.specs.laws.Stations.{is_visible, replaced}
-use Rattle.x25_line.proofs.StationLines.{visible_reads}
-use Rattle.x25_judge.specs.declared.judge.Judge.{Judge}
+use Rattle.x25_judge.proofs.verdicts.Names.{◌≡◌, ◌⊎◌, inl, inr, ℕ, ◌≤◌, arith, length, zero, suc, List, [], ◌∷◌, ◌++◌, true, false, Option, Some, None, Result, Ok, Err, refl, sym, ap, ◌∙◌, subst, remove, Role, n1, PlainFrame, info, rr, rnr, rej, frame_of, FrameError, Short, BadFcs, other, Peer, MayHear, number_in, is_visible, replaced, visible_reads, Judge, MaySend, MayStand, In, IsNumbered, Way}
 use Rattle.x25_judge.specs.laws.Sessions as sessions
-use Rattle.x25_judge.specs.laws.Sessions.{MaySend, MayStand}
-use Rattle.x25_line.specs.laws.PeerSessions.{In}
-use Rattle.x25_judge.specs.laws.Session.{IsNumbered, Way}
 
 -- From p, with such frames on the way to it, to a state with what is left of these, and with such octets sent.
 pub data Did (from : Role) (p : Peer) (way : Way) : Peer → Way → List (List ℕ) → Type 0 where

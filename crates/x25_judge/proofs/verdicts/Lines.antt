@@ -1,27 +1,7 @@
 -- What a line makes of the judge, where it is a frame.
-use Rattle.std.proofs.Common.{◌≡◌, inl, inr, ℕ, Bool, true, false, List, Option, Some, None, Err, refl, sym, ap, ◌∙◌, subst}
-use Rattle.std.specs.Prelude.{is_some, not, ◌&&◌}
-use Rattle.std.proofs.lemmas.Bool.{both_ways, or_parts, cond_both}
-use Rattle.x25_bits.specs.declared.role.Role.{Role}
-use Rattle.x25_bits.specs.declared.role.Role.TheVariants.{Dte, Dce}
-use Rattle.x25_frame.specs.Frame.{PlainFrame, info}
-use Rattle.x25_link.specs.Hearing.{other}
+use Rattle.x25_judge.proofs.verdicts.Names.{◌≡◌, inl, inr, ℕ, Bool, true, false, List, Option, Some, None, Err, refl, sym, ap, ◌∙◌, subst, is_some, not, ◌&&◌, both_ways, or_parts, cond_both, Role, Dte, Dce, PlainFrame, info, other, PacketRule, Answer, own_of, counts_packet, counts_on, counts_carried, all_told, is_open, told_frame, remark_of, next_by, seen_by, missed_by, next_missed, no_frame, tallies, read_of, sent_of, answer_to, Both, breaks_order, is_of_manners, Judge, Rule, Packet, Shows, IsDamaged, is_of_order, gap_in, n1, frame_of, FrameError, Short, BadFcs, visible_reads}
 use Rattle.x25_packet.specs.Reading.{channel_in}
 use Rattle.x25_packet_judge.specs.Book as book
-use Rattle.x25_packet_judge.specs.declared.packet_rule.PacketRule.{PacketRule}
-use Rattle.x25_judge.specs.Judge.{Answer, own_of, counts_packet, counts_on, counts_carried, all_told, is_open, told_frame, remark_of, next_by}
-use Rattle.x25_judge.specs.Judge.{seen_by, missed_by, next_missed, no_frame, tallies, read_of, sent_of, answer_to}
-use Rattle.x25_judge.specs.Links.{Both}
-use Rattle.x25_judge.specs.Rule.{breaks_order, is_of_manners}
-use Rattle.x25_judge.specs.declared.judge.Judge.{Judge}
-use Rattle.x25_judge.specs.declared.rule.Rule.{Rule}
-use Rattle.x25_judge.specs.declared.rule.Rule.TheVariants.{Packet}
-use Rattle.x25_judge.specs.laws.Session.{Shows, IsDamaged, is_of_order}
-use Rattle.x25_decode.specs.Decoding.{gap_in, n1}
-use Rattle.x25_frame.specs.Reading.{frame_of}
-use Rattle.x25_frame.specs.declared.error.FrameError.{FrameError}
-use Rattle.x25_frame.specs.declared.error.FrameError.TheVariants.{Short, BadFcs}
-use Rattle.x25_line.proofs.StationLines.{visible_reads}
 
 pub other_twice : (from : Role) → other (other from) ≡ from
 other_twice Dte = refl

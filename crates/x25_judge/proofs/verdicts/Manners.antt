@@ -1,26 +1,9 @@
 -- Manners tell no rule of order, and nothing of what is told of the link.
-use Rattle.std.proofs.Common.{◌≡◌, ℕ, ◌<◌, ◌≤◌, ◌%◌, ◌==◌, Bool, true, false, Option, Some, None, refl, arith}
-use Rattle.std.specs.Prelude.{is_some, not, nat_lt, nat_le, ◌&&◌, ◌||◌, if◌then◌else◌}
-use Rattle.std.proofs.lemmas.Bool.{and_parts, cond_both, leb-true, ltb-true}
-use Rattle.x25_frame.specs.Frame.{PlainFrame, info, rr, rnr, rej, sabm, disc, ua, dm, frmr}
-use Rattle.x25_judge.specs.Links.{accepts, answers, asks, begins, bits, by_other, by_own, counts_in, hears}
-use Rattle.x25_judge.specs.Links.{minded_as, minded_by, minds, ready_minded, place_in, reject_minded, skipped_by}
-use Rattle.x25_judge.specs.Manners as manners
-use Rattle.x25_judge.specs.Rule.{first, is_of_manners}
-use Rattle.x25_judge.specs.declared.links.Minding.{Minding}
-use Rattle.x25_judge.specs.declared.links.Sent.{Sent}
-use Rattle.x25_judge.specs.declared.manners.Manners.{Manners}
-use Rattle.x25_judge.specs.declared.manners.Minded.{Minded}
+use Rattle.x25_judge.proofs.verdicts.Names.{◌≡◌, ℕ, ◌<◌, ◌≤◌, ◌%◌, ◌==◌, Bool, true, false, Option, Some, None, refl, arith, is_some, not, nat_lt, nat_le, ◌&&◌, ◌||◌, and_parts, cond_both, leb-true, ltb-true, PlainFrame, info, rr, rnr, rej, sabm, disc, ua, dm, frmr, accepts, answers, asks, bits, by_other, by_own, counts_in, hears, minded_as, minded_by, minds, ready_minded, place_in, reject_minded, skipped_by, first, is_of_manners, Minding, Sent, Manners, Minded, Rule, OverWindow, is_of_order, LinkSet, Told, Nothing, Skips, Broken, Numbers, Stand, Up}
+use Rattle.std.specs.Prelude.{if◌then◌else◌}
+use Rattle.x25_judge.specs.Links.{begins}
 use Rattle.x25_judge.specs.declared.manners.Place.{Place}
-use Rattle.x25_judge.specs.declared.rule.Rule.{Rule}
-use Rattle.x25_judge.specs.declared.rule.Rule.TheVariants.{OverWindow}
-use Rattle.x25_judge.specs.laws.Session.{is_of_order}
-use Rattle.x25_possible_links.specs.declared.set.LinkSet.{LinkSet}
-use Rattle.x25_possible_links.specs.declared.set.Told.{Told}
-use Rattle.x25_possible_links.specs.declared.set.Told.TheVariants.{Nothing, Skips, Broken}
-use Rattle.x25_possible_links.specs.declared.stand.Numbers.{Numbers}
-use Rattle.x25_possible_links.specs.declared.stand.Stand.{Stand}
-use Rattle.x25_possible_links.specs.declared.stand.Stand.TheVariants.{Up}
+use Rattle.x25_judge.specs.Manners as manners
 
 abbrev pub IsFair : Option Rule → Type 0
 IsFair rule = is_of_order rule ≡ false

@@ -1,39 +1,14 @@
 -- What counts as judged is told of: an N(S), and F=1.
-use Rattle.std.proofs.Common.{◌≡◌, ◌==◌, inl, inr, ℕ, ◌≤◌, arith, Bool, true, false, List, Option, Some, None, refl, sym, ap, ◌∙◌, subst, eq-eqb, le-leb}
-use Rattle.std.specs.Prelude.{nat_le, nat_lt, ◌&&◌, ◌||◌, not, is_some}
-use Rattle.std.proofs.lemmas.Bool.{eqb-true, and_parts, and_cases, or_cases, or_parts, both_ways, cond_both}
+use Rattle.x25_judge.proofs.verdicts.Names.{◌≡◌, ◌==◌, inl, inr, ℕ, ◌≤◌, arith, Bool, true, false, List, Option, Some, None, refl, sym, ap, ◌∙◌, subst, eq-eqb, le-leb, nat_le, nat_lt, ◌&&◌, ◌||◌, not, is_some, eqb-true, and_parts, and_cases, or_cases, or_parts, both_ways, cond_both, Role, PlainFrame, info, rr, rnr, rej, dm, frmr, differs, all_told, book_by, other_of, own_of, seen_by, first, is_of_manners, Judge, End, Minding, Sent, Manners, Minded, PollAgain, SentAgain, Rule, Packet, Repeats, is_final, is_up, rule_of, IsOutOfPlace, JudgedFinalsAreTold, JudgedSendingsAreTold, PacketRule, Frame, Info, LinkSet, Told, Broken, Nothing, Numbers, Stand, Up}
+use Rattle.x25_judge.specs.declared.rule.Rule.TheVariants.{Skips}
+use Rattle.x25_possible_links.specs.declared.set.Told.TheVariants.{Skips as SkipsOf}
 use Rattle.std.proofs.lemmas.Bool.Decides.{nat_tests}
-use Rattle.x25_bits.specs.declared.role.Role.{Role}
-use Rattle.x25_frame.specs.Frame.{PlainFrame, info, rr, rnr, rej, dm, frmr}
-use Rattle.x25_judge.specs.Held.{differs}
-use Rattle.x25_judge.specs.Judge.{all_told, book_by, other_of, own_of, seen_by}
-use Rattle.x25_judge.specs.Links as links
-use Rattle.x25_judge.specs.Manners as manners
-use Rattle.x25_judge.specs.Rule.{first, is_of_manners}
-use Rattle.x25_judge.specs.declared.judge.Judge.{Judge}
-use Rattle.x25_judge.specs.declared.links.End.{End}
-use Rattle.x25_judge.specs.declared.links.Minding.{Minding}
-use Rattle.x25_judge.specs.declared.links.Sent.{Sent}
-use Rattle.x25_judge.specs.declared.manners.Manners.{Manners}
-use Rattle.x25_judge.specs.declared.manners.Minded.{Minded}
 use Rattle.x25_judge.specs.declared.manners.Place.{Place}
-use Rattle.x25_judge.specs.declared.note.Note.TheVariants.{PollAgain, SentAgain}
-use Rattle.x25_judge.specs.declared.rule.Rule.{Rule}
-use Rattle.x25_judge.specs.declared.rule.Rule.TheVariants.{Packet, Repeats, Skips}
-use Rattle.x25_judge.specs.laws.Session.{is_final, is_up, rule_of}
-use Rattle.x25_judge.specs.laws.VerdictClaims.{IsOutOfPlace, JudgedFinalsAreTold, JudgedSendingsAreTold}
 use Rattle.x25_judge.proofs.verdicts.Manners.{minds_has}
 use Rattle.x25_packet_judge.specs.Numbers.{apart}
-use Rattle.x25_packet_judge.specs.declared.packet_rule.PacketRule.{PacketRule}
+use Rattle.x25_judge.specs.Links as links
+use Rattle.x25_judge.specs.Manners as manners
 use Rattle.x25_possible_links.specs.code.Steps as steps
-use Rattle.x25_possible_links.specs.declared.frame.Frame.{Frame}
-use Rattle.x25_possible_links.specs.declared.frame.Frame.TheVariants.{Info}
-use Rattle.x25_possible_links.specs.declared.set.LinkSet.{LinkSet}
-use Rattle.x25_possible_links.specs.declared.set.Told.{Told}
-use Rattle.x25_possible_links.specs.declared.set.Told.TheVariants.{Broken, Nothing, Skips as SkipsOf}
-use Rattle.x25_possible_links.specs.declared.stand.Numbers.{Numbers}
-use Rattle.x25_possible_links.specs.declared.stand.Stand.{Stand}
-use Rattle.x25_possible_links.specs.declared.stand.Stand.TheVariants.{Up}
 
 -- a rule is told, or manners are
 abbrev pub IsTold : Option Rule → Type 0

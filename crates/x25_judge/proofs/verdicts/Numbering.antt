@@ -1,23 +1,8 @@
 -- The lines of an end of which nothing is told are those of an end that keeps the rules, and each number carries one
 -- packet, whatever is told of the other end.
-use Rattle.std.proofs.Common.{◌≡◌, ◌⊎◌, inl, inr, ℕ, ◌%◌, ◌≤◌, ◌+◌, ◌==◌, Bool, true, false, List, [], ◌∷◌, ◌++◌, if◌then◌else◌, arith, length, refl, sym, ap, ◌∙◌, subst}
-use Rattle.std.specs.Prelude.{Some, Ok, slice_get}
-use Rattle.std.proofs.lemmas.Bool.{eqb-true}
-use Rattle.std.proofs.lemmas.List.{length_push}
-use Rattle.x25_bits.specs.declared.role.Role.{Role}
-use Rattle.x25_frame.specs.Frame.{PlainFrame, info, rr, rnr, rej}
-use Rattle.x25_frame.specs.laws.ReadingLaw.{ReadsWhatIsSpelled}
-use Rattle.x25_line.specs.laws.Peer.{Peer, fresh_peer, MayHear, IsWanted}
-use Rattle.x25_line.specs.laws.Said.{said}
-use Rattle.x25_line.specs.laws.Tape.{notes}
-use Rattle.x25_link.specs.Hearing.{other}
-use Rattle.x25_judge.specs.Judge.{own_of}
-use Rattle.x25_judge.specs.declared.judge.Judge.{Judge}
+use Rattle.x25_judge.proofs.verdicts.Names.{◌≡◌, ◌⊎◌, inl, inr, ℕ, ◌%◌, ◌≤◌, ◌+◌, ◌==◌, Bool, true, false, List, [], ◌∷◌, ◌++◌, if◌then◌else◌, arith, length, refl, sym, ap, ◌∙◌, subst, slice_get, eqb-true, length_push, Role, PlainFrame, info, rr, rnr, rej, ReadsWhatIsSpelled, Peer, fresh_peer, MayHear, IsWanted, said, notes, other, own_of, Judge, Shows, IsDamaged, IsNumbered, SilenceMeansNumbers, SilenceMeansRules, more, Unread}
+use Rattle.std.specs.Prelude.{Some, Ok}
 use Rattle.x25_judge.specs.laws.Explaining.{IsUntold, Begins, Says, Comes, Fails, IsKept, Fresh, HandsDown, Sends, Hears, Carries, Nothing, Next, Again, Beside, Passes}
-use Rattle.x25_judge.specs.laws.Session.{Shows, IsDamaged, IsNumbered}
-use Rattle.x25_judge.specs.laws.VerdictClaims.{SilenceMeansNumbers, SilenceMeansRules}
-use Rattle.x25_judge.specs.laws.Watching.{more}
-use Rattle.x25_possible_links.specs.declared.frame.Frame.TheVariants.{Unread}
 use Rattle.x25_judge.proofs.verdicts.Innocents.{lost_end}
 use Rattle.x25_judge.proofs.verdicts.Silences.{Explains, Given, begun_knows, noted_line, notes_given, other_by, other_line, own_line, passes_line}
 

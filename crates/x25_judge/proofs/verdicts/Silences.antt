@@ -1,56 +1,19 @@
 -- Behind a set-up the places of an end are within one session. So what it sends is what an end sends that keeps the
 -- rules, and a trace of which nothing is told is a silent tape of `x25_line`.
-use Rattle.std.proofs.Common.{◌≡◌, ◌==◌, ◌⊎◌, inl, inr, ℕ, ◌+◌, ◌-◌, ◌%◌, ◌<◌, ◌≤◌, arith, max, Bool, true, false, if◌then◌else◌, List, [], ◌∷◌, ◌++◌, length, Some, None, Ok, refl, sym, ap, ◌∙◌, subst}
-use Rattle.std.specs.Prelude.{slice_get, nat_lt, nat_le, not, ◌&&◌, ◌||◌}
-use Rattle.std.proofs.lemmas.Bool.{both_ways, eq-eqb, eqb-true, ne_eqb, lt-ltb, le-leb, and_from, and_parts, cond-true, cond-false}
-use Rattle.std.proofs.lemmas.List.{length_push}
-use Rattle.x25_bits.specs.declared.role.Role.{Role}
-use Rattle.x25_decode.specs.Decoding.{n1}
-use Rattle.x25_frame.specs.Frame.{PlainFrame, info, rr, rnr, rej}
-use Rattle.x25_frame.specs.Reading.{frame_of}
+use Rattle.x25_judge.proofs.verdicts.Names.{◌≡◌, ◌==◌, ◌⊎◌, inl, inr, ℕ, ◌+◌, ◌-◌, ◌%◌, ◌<◌, ◌≤◌, arith, max, Bool, true, false, if◌then◌else◌, List, [], ◌∷◌, ◌++◌, length, Some, None, Ok, refl, sym, ap, ◌∙◌, subst, slice_get, nat_lt, nat_le, not, ◌&&◌, ◌||◌, both_ways, eqb-true, ne_eqb, lt-ltb, and_from, and_parts, cond-true, cond-false, length_push, Role, n1, PlainFrame, info, rr, rnr, rej, frame_of, ReadsWhatIsSpelled, Peer, fresh_peer, MayAcknowledge, numbered_to, told_to, hearing, taking, Said, Tells, said, same_octets, is_item, judges_ack, then_ack, judges_item, judges, notes, notes_said, other, Settings, ROOM, Held, differs, keeps, own_of, answer_to, held_by, shown, Judge, End, MaySend, come, is_new, IsBegun, Shows, IsNumbered, Watched, more, IsSilent, Begins, Acts, Rests, Says, Comes, Fails, SilenceMeansOrder, nth, sends_to, shows_to, fresh, heard, may_acknowledge, may_count, may_number, least_of, number_of, Frame, Info, Ready, LinkSet, Nothing, Numbers, Stand, Out, Asking, Up, Free, AllAre, sent_all, shown_all, blind_sends, blind_shows, counted_at, Acknowledges, acknowledges, is_numbered, below_is}
+use Rattle.std.proofs.lemmas.Bool.{eq-eqb, le-leb}
+use Rattle.x25_possible_links.proofs.Stands.{IsNumbered as MayBeNumbered}
 use Rattle.x25_frame.specs.Spelling.{IsWithin as IsWithinLine, information_of}
-use Rattle.x25_frame.specs.laws.ReadingLaw.{ReadsWhatIsSpelled}
 use Rattle.x25_line.specs.laws.InWindow.{IsPrefix}
-use Rattle.x25_line.specs.laws.Peer.{Peer, fresh_peer, MayAcknowledge, numbered_to, told_to, hearing, taking}
 use Rattle.x25_line.specs.laws.PeerClaims.{KeepsOrder, OnAnySilentTape}
 use Rattle.x25_line.specs.laws.PeerJoined.{Joined}
-use Rattle.x25_line.specs.laws.Tape as tape
-use Rattle.x25_line.specs.laws.Said.{Said, Tells, said}
-use Rattle.x25_line.specs.laws.Tape.{same_octets, is_item, judges_ack, then_ack, judges_item, judges, notes, notes_said}
-use Rattle.x25_link.specs.Hearing.{other}
-use Rattle.x25_link.specs.Station.{Settings}
-use Rattle.x25_text.specs.declared.text.TheConstants.{ROOM}
-use Rattle.x25_judge.specs.Held.{Held, differs, keeps}
-use Rattle.x25_judge.specs.Judge.{own_of, answer_to}
-use Rattle.x25_judge.specs.Links.{held_by, shown}
-use Rattle.x25_judge.specs.declared.judge.Judge.{Judge}
-use Rattle.x25_judge.specs.declared.links.End.{End}
-use Rattle.x25_judge.specs.laws.Sessions.{MaySend}
-use Rattle.x25_judge.specs.laws.Session.{come, is_new, IsBegun, Shows, IsNumbered}
-use Rattle.x25_judge.specs.laws.Watching.{Watched, more, IsSilent, Begins, Acts, Rests, Says, Comes, Fails}
-use Rattle.x25_judge.specs.laws.VerdictClaims.{SilenceMeansOrder}
-use Rattle.x25_possible.specs.Channel.{nth}
-use Rattle.x25_possible_links.specs.code.Steps.{sends_to, shows_to}
-use Rattle.x25_possible_links.specs.laws.Link.{fresh, heard, may_acknowledge, may_count, may_number}
-use Rattle.x25_possible_links.specs.laws.Places.{least_of, number_of}
-use Rattle.x25_possible_links.specs.declared.frame.Frame.{Frame}
-use Rattle.x25_possible_links.specs.declared.frame.Frame.TheVariants.{Info, Ready}
-use Rattle.x25_possible_links.specs.declared.set.LinkSet.{LinkSet}
-use Rattle.x25_possible_links.specs.declared.set.Told.TheVariants.{Nothing}
-use Rattle.x25_possible_links.specs.declared.stand.Numbers.{Numbers}
-use Rattle.x25_possible_links.specs.declared.stand.Stand.{Stand}
-use Rattle.x25_possible_links.specs.declared.stand.Stand.TheVariants.{Out, Asking, Up, Free}
-use Rattle.x25_possible_links.proofs.Alike.{AllAre, sent_all, shown_all}
-use Rattle.x25_possible_links.proofs.Covering.{blind_sends, blind_shows}
-use Rattle.x25_possible_links.proofs.Sends.{counted_at}
-use Rattle.x25_possible_links.proofs.Stands.{Acknowledges, IsNumbered as MayBeNumbered, acknowledges, is_numbered}
-use Rattle.x25_possible_links.proofs.StepLemmas.{below_is}
 use Rattle.x25_judge.proofs.verdicts.Following.{numbers_of, sent_is}
 use Rattle.x25_judge.proofs.verdicts.Guilty.{untold}
 use Rattle.x25_judge.proofs.verdicts.Innocents.{IsEnd, sent_end, shown_end}
 use Rattle.x25_judge.proofs.verdicts.Lines.{other_twice, none_told}
 use Rattle.x25_judge.proofs.verdicts.Octets.{AreKnown, IsHeld, begun_held, last_of, old_octets, pushed_held, sent_held, sent_known}
 use Rattle.x25_judge.proofs.verdicts.Silent.{Fits, IsNumber, IsWithin, heard_sent, shown_within, walked_within, walks_within, within_passes}
+use Rattle.x25_line.specs.laws.Tape as tape
 
 -- ---- an end in a session
 

@@ -1,22 +1,9 @@
 -- Places of an end each of which stands no better than one session, in which all is heard and taken as it is shown: what
 -- it sends with a number is what the session allows.
-use Rattle.std.proofs.Common.{◌≡◌, inl, inr, arith, Bool, true, false, List, [], ◌∷◌, ◌++◌, Some, None, Option, refl, sym, ap, ◌∙◌, subst}
+use Rattle.x25_judge.proofs.verdicts.Names.{◌≡◌, inl, inr, arith, Bool, true, false, List, [], ◌∷◌, ◌++◌, Some, None, Option, refl, sym, ap, ◌∙◌, subst, both_ways, cond_both, none-some, cond_some, comes, IsIn, Place, at, counts, fresh, heard, may_answer, may_count, goes, is_plain, least_of, number_of, onward, settle, settled, upward, Frame, Info, Ready, Ua, Unread, Numbers, Stand, Out, Asking, Up, Free, IsPassed, counted_at, swaps, AreBelow, Below, below_on, below_self, counts_more, heard_below, onward_up}
+use Rattle.x25_possible_links.specs.laws.Places.{first, sends}
 use Rattle.std.specs.Prelude.{if◌then◌else◌}
-use Rattle.std.proofs.lemmas.Bool.{both_ways, cond_both}
-use Rattle.std.proofs.lemmas.Option.{none-some, cond_some}
-use Rattle.x25_judge.specs.laws.Session.{comes}
-use Rattle.x25_possible.specs.laws.Possible.{IsIn, Place, at}
-use Rattle.x25_possible_links.specs.laws.Link.{counts, fresh, heard, may_answer, may_count}
-use Rattle.x25_possible_links.specs.laws.Places.{first, goes, is_plain, least_of, number_of, onward, sends, settle, settled, upward}
 use Rattle.x25_possible_links.specs.laws.Places as place
-use Rattle.x25_possible_links.specs.declared.frame.Frame.{Frame}
-use Rattle.x25_possible_links.specs.declared.frame.Frame.TheVariants.{Info, Ready, Ua, Unread}
-use Rattle.x25_possible_links.specs.declared.stand.Numbers.{Numbers}
-use Rattle.x25_possible_links.specs.declared.stand.Stand.{Stand}
-use Rattle.x25_possible_links.specs.declared.stand.Stand.TheVariants.{Out, Asking, Up, Free}
-use Rattle.x25_possible_links.proofs.Alike.{IsPassed}
-use Rattle.x25_possible_links.proofs.Sends.{counted_at, swaps}
-use Rattle.x25_possible_links.proofs.Stands.{AreBelow, Below, below_on, below_self, counts_more, heard_below, onward_up}
 
 -- ---- a session
 

@@ -1,35 +1,16 @@
 -- A station of ours keeps the rules, whatever the other end and the line do.
-use Rattle.std.proofs.Common.{◌≡◌, ℕ, ◌+◌, ◌<◌, ◌≤◌, le_trans, List, [], ◌∷◌, ◌++◌, inl, length, false, Option, Some, None, Result, Ok, Err, refl, sym, ap, ◌∙◌, subst, arith}
-use Rattle.std.proofs.lemmas.List.{length-append}
+use Rattle.x25_judge.proofs.verdicts.Names.{◌≡◌, ℕ, ◌+◌, ◌<◌, ◌≤◌, le_trans, List, [], ◌∷◌, ◌++◌, inl, length, false, Option, Some, None, Result, Ok, Err, refl, sym, ap, ◌∙◌, subst, arith, length-append, same_Some, slice_get_within, n1, PlainFrame, info, rr, rnr, rej, frame_of, ReadsSpelled, FrameError, Short, BadFcs, BadAddress, Settings, other, Peer, fresh_peer, MayHear, Said, Tells, Odd, number_in, EachEventHandsOne, HandsOne, Near, acts, Judge, MayStand, numbered, In, Way, NoSessionIsAccused, NoStationIsAccused, Watched, our_end, IsAny, Begins, Acts, Rests, Says, Comes, Fails}
+use Rattle.x25_line.specs.laws.Said.{said as read_as}
 use Rattle.std.specs.List.{slice_get}
-use Rattle.std.proofs.lemmas.Option.{same_Some, slice_get_within}
-use Rattle.x25_decode.specs.Decoding.{n1}
-use Rattle.x25_frame.specs.Frame.{PlainFrame, info, rr, rnr, rej}
-use Rattle.x25_frame.specs.Reading.{frame_of}
-use Rattle.x25_frame.specs.laws.ReadingLaw.{ReadsSpelled}
-use Rattle.x25_frame.specs.declared.error.FrameError.{FrameError}
-use Rattle.x25_frame.specs.declared.error.FrameError.TheVariants.{Short, BadFcs, BadAddress}
-use Rattle.x25_link.specs.Station.{Settings}
-use Rattle.x25_link.specs.Hearing.{other}
 use Rattle.x25_line.specs.laws.LawsBelow.{Laws}
-use Rattle.x25_line.specs.laws.Peer.{Peer, fresh_peer, MayHear}
-use Rattle.x25_line.specs.laws.Peer as once
-use Rattle.x25_line.specs.laws.Said.{Said, Tells, Odd, said as read_as}
-use Rattle.x25_line.specs.laws.StationClaims.{number_in, EachEventHandsOne, HandsOne}
-use Rattle.x25_line.specs.laws.Stations.{Near, acts}
 use Rattle.x25_line.proofs.StationPeers.{Seen, peer_acts}
 use Rattle.x25_line.proofs.StationRuns.{noted_before}
 use Rattle.x25_line.proofs.StationSays.{MayDo}
 use Rattle.x25_line.proofs.StationSends.{AllWithin, within_push, item_at}
-use Rattle.x25_judge.specs.declared.judge.Judge.{Judge}
-use Rattle.x25_judge.specs.laws.Sessions as sessions
-use Rattle.x25_judge.specs.laws.Sessions.{MayStand, numbered}
-use Rattle.x25_line.specs.laws.PeerSessions.{In}
-use Rattle.x25_judge.specs.laws.Session.{Way}
-use Rattle.x25_judge.specs.laws.VerdictClaims.{NoSessionIsAccused, NoStationIsAccused}
-use Rattle.x25_judge.specs.laws.Watching.{Watched, our_end, IsAny, Begins, Acts, Rests, Says, Comes, Fails}
 use Rattle.x25_judge.proofs.verdicts.Following.{heard_keeps}
 use Rattle.x25_judge.proofs.verdicts.Lag.{Did, did_nothing, was_given, said, freed, comes_behind, front, at_front, OnLine, empty, one_more, one_more_damaged, one_lost, one_damaged, taken, all_lost}
+use Rattle.x25_line.specs.laws.Peer as once
+use Rattle.x25_judge.specs.laws.Sessions as sessions
 
 module _ (c : Settings) (longest : c.longest ≡ n1) (j : Judge) (since : ℕ) where
   -- the trace, and how far the end is ahead of it

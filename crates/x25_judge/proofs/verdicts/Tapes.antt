@@ -1,22 +1,6 @@
 -- What a trace is to an end, and the frames that no run of an end explains.
-use Rattle.std.proofs.Common.{◌≡◌, ℕ, List, [], ◌∷◌, refl, ap, ◌∙◌}
-use Rattle.x25_bits.specs.declared.role.Role.{Role}
-use Rattle.x25_bits.specs.declared.role.Role.TheVariants.{Dte, Dce}
-use Rattle.x25_decode.specs.declared.answer.Reading.{Reading}
-use Rattle.x25_frame.specs.Frame.{PlainFrame}
-use Rattle.x25_judge.specs.Held.{differs}
-use Rattle.x25_judge.specs.Judge.{answer_to, begins, own_of}
-use Rattle.x25_judge.specs.Links.{shown}
-use Rattle.x25_judge.specs.declared.judge.Judge.{Judge}
-use Rattle.x25_judge.specs.declared.judge.Strictness.{Strictness}
-use Rattle.x25_judge.specs.laws.Session.{IsDamaged, Shows}
+use Rattle.x25_judge.proofs.verdicts.Names.{◌≡◌, ℕ, List, [], ◌∷◌, refl, ap, ◌∙◌, Role, Dte, Dce, Reading, PlainFrame, differs, answer_to, begins, own_of, shown, Judge, Strictness, IsDamaged, Shows, Item, Own, Other, begun_as, played, sends_to, shows_to, Frame, Before, Unread, LinkSet, Free}
 use Rattle.x25_judge.specs.laws.Tapes.{IsTape, Begins, Sees, Misses, item_by}
-use Rattle.x25_possible.specs.laws.Possible.{Item, Own, Other}
-use Rattle.x25_possible_links.specs.code.Steps.{begun_as, played, sends_to, shows_to}
-use Rattle.x25_possible_links.specs.declared.frame.Frame.{Frame}
-use Rattle.x25_possible_links.specs.declared.frame.Frame.TheVariants.{Before, Unread}
-use Rattle.x25_possible_links.specs.declared.set.LinkSet.{LinkSet}
-use Rattle.x25_possible_links.specs.declared.stand.Stand.TheVariants.{Free}
 use Rattle.x25_judge.proofs.verdicts.Innocents.{lost_end, missed_end, sent_end, shown_end}
 
 -- the set of an end is what its tape makes of one of which nothing is known
