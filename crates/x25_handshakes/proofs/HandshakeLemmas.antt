@@ -3,7 +3,19 @@ use Rattle.std.proofs.Common.{◌≡◌, inl, inr, ℕ, suc, List, [], ◌∷◌
 use Rattle.std.proofs.lemmas.Bool.{true≢false}
 use Rattle.std.proofs.lemmas.List.{append-nil}
 use Rattle.x25_handshakes.specs.laws.Handshake.{Mark, Inner, Request, Confirm, Side, Live, Left, At, has_left, state_of}
-use Rattle.x25_handshakes.proofs.HandshakeRelation.{Handshaken, kept_before, before, kept_past, past, ends_at, Ends, behind_at, Behind, Extended, Level, Handshake, AllInner}
+use Rattle.x25_handshakes.proofs.HandshakeRelation.{Handshaken, kept_before, before, kept_past, past, ends_at, Ends, behind_at, Behind, Extended, Level, Handshake, Each, AllInner}
+
+pub each_append : {P : Type 0} (A : P → Type 0) (u o : List P) → Each A u → Each A o → Each A (u ++ o)
+each_append A [] o h g = g
+each_append A (p ∷ u) o h g = (h.0, each_append A u o h.1 g)
+
+pub each_back : {P : Type 0} (A : P → Type 0) (u o : List P) → Each A (u ++ o) → Each A o
+each_back A [] o h = h
+each_back A (p ∷ u) o h = each_back A u o h.1
+
+pub each_map : {P : Type 0} (A B : P → Type 0) → ((p : P) → A p → B p) → (u : List P) → Each A u → Each B u
+each_map A B f [] h = tt
+each_map A B f (p ∷ u) h = (f p h.0, each_map A B f u h.1)
 
 -- behind the last marker of a line whose sender is in its epoch
 inner_ends : {P : Type 0} (mark : P → Mark) (o : List P) → AllInner mark o → Ends mark false o

@@ -93,7 +93,11 @@ pub record GoodStep {S T P : Type 0} (l : Level S T P) (error : Option ℕ) (nex
   pub quiet : error ≡ None
   pub kept : Handshaken l next (L ++ out) K y
 
+-- each of these packets
+abbrev pub Each : {P : Type 0} → (P → Type 0) → List P → Type 0
+Each A [] = Unit {0}
+Each A (p ∷ ps) = A p × Each A ps
+
 -- no packet of these is a marker
 abbrev pub AllInner : {P : Type 0} → (P → Mark) → List P → Type 0
-AllInner mark [] = Unit {0}
-AllInner mark (p ∷ ps) = (mark p ≡ Inner) × AllInner mark ps
+AllInner mark ps = Each (λ p. mark p ≡ Inner) ps

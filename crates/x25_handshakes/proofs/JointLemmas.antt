@@ -13,19 +13,15 @@ use Rattle.x25_handshakes.proofs.TransferRelation.{InTransfer, AllInTransfer}
 use Rattle.x25_handshakes.proofs.CallsRelation.{Nil, OneCall, MaybeCall, Accepted, CallAccepted, TalksOf, JointOf}
 use Rattle.x25_handshakes.proofs.ChannelRelation.{clear_mark}
 use Rattle.x25_handshakes.proofs.OwnCallLemmas.{Accepted-some, CallAccepted-some}
+use Rattle.x25_handshakes.proofs.HandshakeLemmas.{each_map}
 
 -- ---- no CLEAR and no confirmation of it is on the way between two clears
 
 abbrev pub Quiet : List Packet → Type 0
 Quiet u = AllInner clear_mark u
 
-pub quiet_back : (u o : List Packet) → Quiet (u ++ o) → Quiet o
-quiet_back [] o h = h
-quiet_back (p ∷ u) o h = quiet_back u o h.1
-
 pub quiet_transfer : (u : List Packet) → AllInTransfer u → Quiet u
-quiet_transfer [] h = tt
-quiet_transfer (p ∷ u) h = (inner p h.0, quiet_transfer u h.1)
+quiet_transfer u h = each_map InTransfer (λ p. clear_mark p ≡ Inner) inner u h
   where
     inner : (p : Packet) → InTransfer p → clear_mark p ≡ Inner
     inner Clear is = absurd is

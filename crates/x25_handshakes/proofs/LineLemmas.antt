@@ -3,7 +3,7 @@ use Rattle.std.proofs.Common.{◌≡◌, ℕ, ◌+◌, ◌%◌, ◌<◌, ◌≤�
 use Rattle.std.proofs.lemmas.List.{append-nil}
 use Rattle.x25_window.specs.code.Modulo.{resolved}
 use Rattle.x25_handshakes.specs.laws.Stretch.{Packet}
-use Rattle.x25_handshakes.proofs.StretchRelation.{Numbering, numbering, ack_in, int_in, conf_in, InFlowControl, AllInFlowControl, piece_of, pieces, number_at, Numbered, hears, heard, ints, confs}
+use Rattle.x25_handshakes.proofs.StretchRelation.{Numbering, numbering, ack_in, int_in, conf_in, piece_of, pieces, number_at, Numbered, hears, heard, ints, confs}
 
 pub resolved_is : (a n : ℕ) → a ≤ n → n < a + 8 → resolved a (n % 8) ≡ n
 resolved_is a n low high = omega arith
@@ -31,10 +31,6 @@ ints_push (q ∷ u) p = ap (λ l. int_in q ++ l) (ints_push u p) ∙ sym (append
 pub confs_push : (u : List Packet) (p : Packet) → confs (u ++ p ∷ []) ≡ confs u + conf_in p
 confs_push [] p = omega arith
 confs_push (q ∷ u) p = omega (arith, confs_push u p)
-
-pub AllOpen_push : (u : List Packet) (p : Packet) → InFlowControl p → AllInFlowControl u → AllInFlowControl (u ++ p ∷ [])
-AllOpen_push [] p is h = (is, tt)
-AllOpen_push (q ∷ u) p is h = (h.0, AllOpen_push u p is h.1)
 
 number_map : (n : ℕ) (c : Option Numbering) (P Q : ℕ → Type 0) → ((m : ℕ) → m ≡ n + length (piece_of c) → P m → Q m) → number_at n c P → number_at n c Q
 number_map n None P Q f h = f n (omega arith) h

@@ -1,6 +1,6 @@
 -- What our own circuit does between two restarts keeps what is kept of it and the other end, whatever kind of end that is.
 use Rattle.std.proofs.Common.{◌≡◌, ℕ, List, [], ◌∷◌, ◌++◌, Option, None, refl, sym, subst, ◌∙◌}
-use Rattle.x25_handshakes.specs.laws.Handshake.{Side, Live, Left, At}
+use Rattle.x25_handshakes.specs.laws.Handshake.{Inner, Side, Live, Left, At}
 use Rattle.x25_bits.specs.declared.role.Role.{Role}
 use Rattle.x25_handshakes.specs.laws.Stretch.{Packet, Clear, ClearConf}
 use Rattle.x25_handshakes.specs.laws.Calls.{Phase, Unused, Connection, CallStep, call_takes, CallAct, call_acts, fresh_call}
@@ -8,8 +8,9 @@ use Rattle.x25_handshakes.specs.laws.Channel.{ChannelStep, live, clr, lifted_cal
 use Rattle.x25_handshakes.proofs.HandshakeRelation.{Level, Handshaken, GoodStep}
 use Rattle.x25_handshakes.proofs.HandshakeSteps.{Any, Goes, Inside, Answers, acts_inside, leaves, stays, answered}
 use Rattle.x25_handshakes.proofs.CallsRelation.{GoodCall, IsCalled}
-use Rattle.x25_handshakes.proofs.JointLemmas.{Quiet, quiet_back}
+use Rattle.x25_handshakes.proofs.JointLemmas.{Quiet}
 use Rattle.x25_handshakes.proofs.ChannelRelation.{clear_mark, own_call_level}
+use Rattle.x25_handshakes.proofs.HandshakeLemmas.{each_back}
 
 pub not_p1 : (a : Phase) → (a ≡ Unused → ⊥) → in_p1 a ≡ None
 not_p1 Unused h = absurd (h refl)
@@ -40,7 +41,7 @@ module _ {T : Type 0} (left : Connection → Type 0) (left_there : T → Type 0)
       at : (u v : List Packet) (y : T) → GoodCall R s u v y → (let k = lifted_call e s s.error in Goes level Any e s.next k.next k.out (f k.error) u v y)
       at u v y g =
           subst (λ (n : Option ℕ). let k = lifted_call e s n in Goes level Any e s.next k.next k.out (f k.error) u v y) (sym g.0)
-          (record { quiet = none; at = refl; inner = quiet_back u s.out (own.quiet _ _ _ _ g.1).0; passes = tt; kept = g.1 })
+          (record { quiet = none; at = refl; inner = each_back (λ p. clear_mark p ≡ Inner) u s.out (own.quiet _ _ _ _ g.1).0; passes = tt; kept = g.1 })
 
   answers : (e : ℕ) (x : Side Connection) (p : Packet) → (let s = channel_side_takes r e x p in Answers level Any e x p (clear_mark p) s.next s.out (finds p s.error))
   answers e (Live x) Clear = record { confirm = ClearConf; is = refl; at = refl; sent = refl; passes = tt; quiet = λ w z gone h. own.clear x w z gone h }

@@ -4,11 +4,12 @@ use Rattle.x25_handshakes.specs.laws.Handshake.{Inner, Side, Live, Left, At}
 use Rattle.x25_circuit.specs.Params.{Terms}
 use Rattle.x25_handshakes.specs.laws.Stretch.{Packet, Data, Rr, Rnr, Int, IntConf, Reset, ResetConf, Call, Accept, Clear, ClearConf, Stretch, fresh, StretchStep, StretchAct, stretch_acts, stretch_takes}
 use Rattle.x25_handshakes.specs.laws.Transfer.{rst, lifted, TransferStep, transfer_side_takes, transfer_takes, TransferAct, Inside, SendsReset, transfer_side_acts, transfer_acts}
-use Rattle.x25_handshakes.proofs.HandshakeRelation.{Level, Handshaken, GoodStep, AllInner}
+use Rattle.x25_handshakes.proofs.HandshakeRelation.{Level, Handshaken, GoodStep}
 use Rattle.x25_handshakes.proofs.HandshakeSteps as hand
 use Rattle.x25_handshakes.proofs.HandshakeSteps.{Goes, Answers, acts_inside, leaves, stays, answered}
 use Rattle.x25_handshakes.proofs.StretchRelation.{InFlowControl, AllInFlowControl, GoodStretch}
 use Rattle.x25_handshakes.proofs.TransferRelation.{reset_mark, InTransfer, AllInTransfer, own_level, OwnTransfer, GoodOwnTransfer}
+use Rattle.x25_handshakes.proofs.HandshakeLemmas.{each_append, each_back, each_map}
 
 pub inner_mark : (p : Packet) → InFlowControl p → reset_mark p ≡ Inner
 inner_mark (Data s r p) is = refl
@@ -25,22 +26,6 @@ in_transfer (Rnr r) is = tt
 in_transfer (Int xs) is = tt
 in_transfer IntConf is = tt
 in_transfer p is = absurd is
-
-pub AllInFlowControl-back : (u o : List Packet) → AllInFlowControl (u ++ o) → AllInFlowControl o
-AllInFlowControl-back [] o h = h
-AllInFlowControl-back (p ∷ u) o h = AllInFlowControl-back u o h.1
-
-pub AllInner-open : (o : List Packet) → AllInFlowControl o → AllInner reset_mark o
-AllInner-open [] h = tt
-AllInner-open (p ∷ o) h = (inner_mark p h.0, AllInner-open o h.1)
-
-pub AllInTransfer-open : (o : List Packet) → AllInFlowControl o → AllInTransfer o
-AllInTransfer-open [] h = tt
-AllInTransfer-open (p ∷ o) h = (in_transfer p h.0, AllInTransfer-open o h.1)
-
-pub AllInTransfer-append : (u o : List Packet) → AllInTransfer u → AllInTransfer o → AllInTransfer (u ++ o)
-AllInTransfer-append [] o h g = g
-AllInTransfer-append (p ∷ u) o h g = (h.0, AllInTransfer-append u o h.1 g)
 
 -- what has to be known of a stretch
 pub record OwnStretches {T : Type 0} (R : Stretch → List Packet → List Packet → T → Type 0) (y₀ : T) (t : Terms) (size : ℕ) : Type 0 where
@@ -60,9 +45,9 @@ module _ {T : Type 0} (R : Stretch → List Packet → List Packet → T → Typ
     where
       at : (u v : List Packet) (y : T) → GoodStretch R s u v y → (let k = lifted e s s.error in Goes level AllInTransfer e s.next k.next k.out k.error u v y)
       at u v y g =
-          let open_out : AllInFlowControl s.out = AllInFlowControl-back u s.out (own.kinds _ _ _ _ g.kept) in
+          let open_out : AllInFlowControl s.out = each_back InFlowControl u s.out (own.kinds _ _ _ _ g.kept) in
           subst (λ (n : Option ℕ). let k = lifted e s n in Goes level AllInTransfer e s.next k.next k.out k.error u v y) (sym g.quiet)
-          (record { quiet = refl; at = refl; inner = AllInner-open s.out open_out; passes = AllInTransfer-open s.out open_out; kept = g.kept })
+          (record { quiet = refl; at = refl; inner = each_map InFlowControl (λ p. reset_mark p ≡ Inner) inner_mark s.out open_out; passes = each_map InFlowControl InTransfer in_transfer s.out open_out; kept = g.kept })
 
   answers : (e : ℕ) (x : Side Stretch) (p : Packet) → InTransfer p → (let s = transfer_side_takes size e x p in Answers level AllInTransfer e x p (reset_mark p) s.next s.out s.error)
   answers e x (Call i) is = absurd is
@@ -76,7 +61,7 @@ module _ {T : Type 0} (R : Stretch → List Packet → List Packet → T → Typ
 
   -- with the kinds of packets on both lines
   kinds : (x : At Stretch) (L K K₂ : List Packet) (y : At T) (s : TransferStep) → OwnTransfer R y₀ x L K y → AllInTransfer K₂ → GoodStep level s.error s.next s.out L K₂ y × AllInTransfer s.out → GoodOwnTransfer R y₀ s L K₂ y
-  kinds x L K K₂ y s h back g = record { quiet = g.0.quiet; kept = record { hand = g.0.kept.hand; there = AllInTransfer-append L s.out h.there g.1; back = back } }
+  kinds x L K K₂ y s h back g = record { quiet = g.0.quiet; kept = record { hand = g.0.kept.hand; there = each_append InTransfer L s.out h.there g.1; back = back } }
 
   pub own_takes : (x : At Stretch) (L : List Packet) (p : Packet) (K : List Packet) (y : At T) → OwnTransfer R y₀ x L (p ∷ K) y → GoodOwnTransfer R y₀ (transfer_takes size x p) L K y
   own_takes x L p K y h =

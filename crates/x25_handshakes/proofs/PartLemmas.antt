@@ -8,7 +8,8 @@ use Rattle.x25_window.specs.code.Modulo.{resolved}
 use Rattle.x25_handshakes.specs.laws.Stretch.{Packet, Data, Int, IntConf}
 use Rattle.x25_handshakes.proofs.StretchRelation.{Numbering, numbering, ack_in, int_in, conf_in, piece_of, pieces, number_at, Numbered, hears, heard, ints, confs, InFlowControl, Line, Acks, Ints, Text}
 use Rattle.x25_handshakes.proofs.TextLemmas.{joining-append, carried-append, AreSound-append, AreSound-cut, joining-cut, carried-cut}
-use Rattle.x25_handshakes.proofs.LineLemmas.{resolved_is, heard_least, heard_push, pieces_push, ints_push, confs_push, AllOpen_push, Numbered_push}
+use Rattle.x25_handshakes.proofs.LineLemmas.{resolved_is, heard_least, heard_push, pieces_push, ints_push, confs_push, Numbered_push}
+use Rattle.x25_handshakes.proofs.HandshakeLemmas.{each_append}
 
 -- the data packets on the way, in their numbers
 
@@ -19,14 +20,14 @@ pub Line-send : (sent taken : List Piece) (u : List Packet) (r : ℕ) (p : Piece
 Line-send sent taken u r p h = record {
   flow = ap (λ l. l ++ p ∷ []) h.flow ∙ append_assoc taken (pieces u) (p ∷ []) ∙ ap (λ l. taken ++ l) (sym (pieces_push u (Data (length sent % 8) r p)));
   numbers = Numbered_push (length taken) u (Data (length sent % 8) r p) h.numbers (ap (λ n. n % 8) (Line-le sent taken u h), tt);
-  kinds = AllOpen_push u (Data (length sent % 8) r p) tt h.kinds;
+  kinds = each_append InFlowControl u (Data (length sent % 8) r p ∷ []) h.kinds (tt, tt);
 }
 
 pub Line-push : (sent taken : List Piece) (u : List Packet) (q : Packet) → numbering q ≡ None → InFlowControl q → Line sent taken u → Line sent taken (u ++ q ∷ [])
 Line-push sent taken u q none is h = record {
   flow = h.flow ∙ ap (λ l. taken ++ l) (sym (pieces_push u q ∙ ap (λ c. pieces u ++ piece_of c) none ∙ append-nil (pieces u)));
   numbers = Numbered_push (length taken) u q h.numbers (subst (λ (c : Option Numbering). number_at (length taken + length (pieces u)) c (λ m. Unit {0})) (sym none) tt);
-  kinds = AllOpen_push u q is h.kinds;
+  kinds = each_append InFlowControl u (q ∷ []) h.kinds (is, tt);
 }
 
 pub Line-take : (sent taken : List Piece) (u : List Packet) (s r : ℕ) (p : Piece) → Line sent taken (Data s r p ∷ u) → Line sent (taken ++ p ∷ []) u

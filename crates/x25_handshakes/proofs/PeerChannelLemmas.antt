@@ -1,6 +1,6 @@
 -- What is kept of a channel of ours and a peer between two restarts, and that each step keeps it and is no procedure error.
 use Rattle.std.proofs.Common.{◌≡◌, ℕ, List, [], ◌∷◌, ◌++◌, None, refl}
-use Rattle.x25_handshakes.specs.laws.Handshake.{Side, Live, Left, At}
+use Rattle.x25_handshakes.specs.laws.Handshake.{Inner, Side, Live, Left, At}
 use Rattle.x25_bits.specs.declared.role.Role.{Role}
 use Rattle.x25_bits.specs.declared.role.Role.TheVariants.{Dte, Dce}
 use Rattle.x25_handshakes.specs.laws.Stretch.{Packet, Clear, ClearConf}
@@ -11,11 +11,11 @@ use Rattle.x25_handshakes.specs.laws.PeerChannel.{fresh_peer_channel, ChannelDee
 use Rattle.x25_handshakes.specs.laws.PeerLayers.{other_role, found}
 use Rattle.x25_handshakes.specs.laws.LawsBelow.{Laws}
 use Rattle.x25_handshakes.proofs.HandshakeRelation.{Level, Handshaken, GoodStep}
-use Rattle.x25_handshakes.proofs.HandshakeLemmas.{flip, both_fresh}
+use Rattle.x25_handshakes.proofs.HandshakeLemmas.{each_back, flip, both_fresh}
 use Rattle.x25_handshakes.proofs.HandshakeSteps.{Any, Answers, acts_inside, leaves, answered, there}
 use Rattle.x25_handshakes.proofs.ChannelRelation.{clear_mark, own_call_level}
 use Rattle.x25_handshakes.proofs.OwnChannelLemmas.{OwnCalls}
-use Rattle.x25_handshakes.proofs.JointLemmas.{Quiet, quiet_back, quiet_transfer, quiet_joint}
+use Rattle.x25_handshakes.proofs.JointLemmas.{Quiet, quiet_transfer, quiet_joint}
 use Rattle.x25_handshakes.specs.laws.Transfer.{fresh_transfer}
 use Rattle.x25_handshakes.specs.laws.PeerTransfer.{fresh_peer_transfer}
 use Rattle.x25_handshakes.proofs.CallsRelation.{stage_of}
@@ -68,7 +68,7 @@ module _ (r : Role) where
       let s : PeerCallStep = call_taking (other_role r) y.stage y.made y.indicated p in
       record {
         after = s.next;
-        goes = λ w v z k. (let kept = PeerSeen-taking r z v p w y k in record { quiet = refl; at = refl; inner = quiet_back w s.out (quiet r z v (w ++ s.out) s.next kept).1; passes = tt; kept = kept });
+        goes = λ w v z k. (let kept = PeerSeen-taking r z v p w y k in record { quiet = refl; at = refl; inner = each_back (λ p. clear_mark p ≡ Inner) w s.out (quiet r z v (w ++ s.out) s.next kept).1; passes = tt; kept = kept });
       }
   answers e (Left y) Clear = (refl, refl, refl)
   answers e (Left y) p = (refl, refl, refl)
@@ -86,7 +86,7 @@ module _ (r : Role) where
       let next : PeerCall = does_call y.stage y.made y.indicated d in
       (acts_inside level Any e y _ _ _ (record {
         after = next;
-        goes = λ w v z k. (let kept = PeerSeen-does laws r z v w y d may k in record { quiet = refl; at = refl; inner = quiet_back w (p ∷ []) (quiet r z v (w ++ p ∷ []) next kept).1; passes = tt; kept = kept });
+        goes = λ w v z k. (let kept = PeerSeen-does laws r z v w y d may k in record { quiet = refl; at = refl; inner = each_back (λ p. clear_mark p ≡ Inner) w (p ∷ []) (quiet r z v (w ++ p ∷ []) next kept).1; passes = tt; kept = kept });
       }) K L x h).0
   does_good laws x L K e (Live y) Clears may h = leaves level Any Clear refl e y tt K L x h
   does_good laws x L K e (Left y) d may h = absurd may

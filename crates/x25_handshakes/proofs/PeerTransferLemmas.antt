@@ -7,13 +7,13 @@ use Rattle.x25_handshakes.specs.laws.Transfer.{TransferStep, transfer_takes, Tra
 use Rattle.x25_handshakes.specs.laws.PeerStretch.{PeerStretch, fresh_peer, Deed, Sends, Says, Interrupts, Confirms, does, packet_of, taking}
 use Rattle.x25_handshakes.proofs.HandshakeRelation.{Level, Handshaken, GoodStep, AllInner}
 use Rattle.x25_handshakes.proofs.TransferRelation.{own_level, OwnTransfer, GoodOwnTransfer, reset_mark, InTransfer, AllInTransfer}
-use Rattle.x25_handshakes.proofs.OwnTransferLemmas.{OwnStretches, own_takes, own_acts, inner_mark, in_transfer, AllInTransfer-append}
+use Rattle.x25_handshakes.proofs.OwnTransferLemmas.{OwnStretches, own_takes, own_acts, inner_mark, in_transfer}
 use Rattle.x25_handshakes.proofs.PeerRelation.{Kept, Kept-start}
 use Rattle.x25_handshakes.proofs.PeerActs.{Good-acts, Good-takes}
 use Rattle.std.proofs.lemmas.List.{append-nil}
 use Rattle.x25_handshakes.proofs.StretchRelation.{InFlowControl}
 use Rattle.x25_handshakes.specs.laws.PeerTransfer.{peer_d1, TransferDeed, InStretch, Resets, MayDoTransfer, does_transfer, transfer_packet_of, PeerStep, transfer_taking, IsNoReset, AreNoResets}
-use Rattle.x25_handshakes.proofs.HandshakeLemmas.{request_skips, flip, turned}
+use Rattle.x25_handshakes.proofs.HandshakeLemmas.{each_append, each_back, request_skips, flip, turned}
 use Rattle.x25_handshakes.proofs.HandshakeSteps.{Answers, acts_inside, leaves, answered}
 use Rattle.x25_handshakes.proofs.PeerDeeds.{does_kept, taking_kept}
 
@@ -56,10 +56,6 @@ no_resets_inner : (ps : List Packet) → AreNoResets ps → AllInner reset_mark 
 no_resets_inner [] h = tt
 no_resets_inner (p ∷ ps) h = (no_reset_mark p h.0, no_resets_inner ps h.1)
 
-transfer_back : (j : List Packet) (p : Packet) (L : List Packet) → AllInTransfer (j ++ p ∷ L) → AllInTransfer L
-transfer_back [] p L h = h.1
-transfer_back (q ∷ j) p L h = transfer_back j p L h.1
-
 module _ (t : Terms) (size : ℕ) where
   -- seen from the peer
   abbrev level : Level PeerStretch Stretch Packet
@@ -70,7 +66,7 @@ module _ (t : Terms) (size : ℕ) where
 
   -- and back, with the kinds of packets on both lines
   unseen : (x : At Stretch) (L K o : List Packet) (y : At PeerStretch) → AllInTransfer L → AllInTransfer K → GoodStep level None y o K L x × AllInTransfer o → KeptTransfer t size x L (K ++ o) y
-  unseen x L K o y there back g = record { hand = (turned level y (K ++ o) L x g.0.kept).hand; there = there; back = AllInTransfer-append K o back g.1 }
+  unseen x L K o y there back g = record { hand = (turned level y (K ++ o) L x g.0.kept).hand; there = there; back = each_append InTransfer K o back g.1 }
 
   does_good : t.window ≤ 7 → (x : At Stretch) (L K : List Packet) (e : ℕ) (y : Side PeerStretch) (d : TransferDeed) → MayDoTransfer size y d → Handshaken level (record { epoch = e; side = y }) K L x
       → GoodStep level None (does_transfer e y d) (transfer_packet_of y d ∷ []) K L x × AllInTransfer (transfer_packet_of y d ∷ [])
@@ -110,7 +106,7 @@ module _ (t : Terms) (size : ℕ) where
       → KeptTransfer t size x L (K ++ ResetConf ∷ []) (peer_d1 (suc e) fresh_peer)
   skips_kept x j L K e side y none is h =
       let h2 : KeptTransfer t size x (j ++ Reset ∷ L) K (peer_d1 e y) = subst (λ (z : Side PeerStretch). KeptTransfer t size x (j ++ Reset ∷ L) K (record { epoch = e; side = z })) is h in
-      unseen x L K (ResetConf ∷ []) (peer_d1 (suc e) fresh_peer) (transfer_back j Reset L h2.there) h2.back (
+      unseen x L K (ResetConf ∷ []) (peer_d1 (suc e) fresh_peer) (each_back InTransfer j (Reset ∷ L) h2.there).1 h2.back (
         record { quiet = refl; kept = record { hand = request_skips level (Kept-start t size) ResetConf Reset j (no_resets_inner j none) refl refl e x.epoch y x.side K L (seen x (j ++ Reset ∷ L) K (peer_d1 e y) h2).hand } },
         (tt, tt),
       )

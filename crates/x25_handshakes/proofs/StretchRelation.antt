@@ -6,6 +6,7 @@ use Rattle.x25_window.specs.code.Modulo.{resolved}
 use Rattle.x25_circuit.specs.Params.{Terms}
 use Rattle.x25_handshakes.specs.laws.Stretch.{Packet, Data, Rr, Rnr, Int, IntConf, Stretch, StretchStep}
 use Rattle.x25_handshakes.specs.laws.Histories.{IsPrefix}
+use Rattle.x25_handshakes.proofs.HandshakeRelation.{Each}
 
 -- a data packet's number and what it carries
 pub record Numbering : Type 0 where
@@ -41,8 +42,7 @@ InFlowControl IntConf = Unit {0}
 InFlowControl other = ⊥
 
 abbrev pub AllInFlowControl : List Packet → Type 0
-AllInFlowControl [] = Unit {0}
-AllInFlowControl (p ∷ u) = InFlowControl p × AllInFlowControl u
+AllInFlowControl u = Each InFlowControl u
 
 -- the data packets on a line
 abbrev pub piece_of : Option Numbering → List Piece

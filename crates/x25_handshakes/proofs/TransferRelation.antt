@@ -1,10 +1,10 @@
 -- What is kept of two circuits in p4.
-use Rattle.std.proofs.Common.{◌≡◌, List, [], ◌∷◌, ◌++◌, None}
+use Rattle.std.proofs.Common.{◌≡◌, List, ◌++◌, None}
 use Rattle.x25_handshakes.specs.laws.Handshake.{Mark, Inner, Request, Confirm, At}
 use Rattle.x25_circuit.specs.Params.{Terms}
 use Rattle.x25_handshakes.specs.laws.Stretch.{Packet, Reset, ResetConf, Call, Accept, Clear, ClearConf, Stretch, fresh}
 use Rattle.x25_handshakes.specs.laws.Transfer.{TransferStep}
-use Rattle.x25_handshakes.proofs.HandshakeRelation.{Level, Handshake}
+use Rattle.x25_handshakes.proofs.HandshakeRelation.{Level, Handshake, Each}
 use Rattle.x25_handshakes.proofs.StretchRelation.{StretchesRelated}
 
 abbrev pub reset_mark : Packet → Mark
@@ -28,8 +28,7 @@ InTransfer ClearConf = ⊥
 InTransfer other = Unit {0}
 
 abbrev pub AllInTransfer : List Packet → Type 0
-AllInTransfer [] = Unit {0}
-AllInTransfer (p ∷ u) = InTransfer p × AllInTransfer u
+AllInTransfer u = Each InTransfer u
 
 pub record OwnTransfer {T : Type 0} (R : Stretch → List Packet → List Packet → T → Type 0) (y₀ : T) (x : At Stretch) (L K : List Packet) (y : At T) : Type 0 where
   pub hand : Handshake (own_level R y₀) x.epoch y.epoch x.side y.side L K
