@@ -1,13 +1,10 @@
 -- How an end heals after its firing, where one of the two may be busy, told of two stations and the frames between them. Its poll is on the line, then
 -- the answer; then what isn't acknowledged goes again, or waits until the other end is heard to be busy no more.
 use Rattle.std.proofs.Common.{◌≡◌, ℕ, ◌+◌, ◌%◌, ◌≤◌, List, [], ◌∷◌, ◌++◌, ◌⊎◌, inl, inr, length, max, Bool, true, false, if◌then◌else◌, Ok, None, refl, sym, ap, ◌∙◌, subst, arith, length-append}
-use Rattle.std.specs.Prelude.{◌&&◌, not}
 use Rattle.std.proofs.lemmas.Bool.{ltb-false, le-ltb, eq-eqb}
-use Rattle.x25_frame.specs.Frame.{PlainFrame, info, rr, rnr, rej}
-use Rattle.x25_frame.specs.Reading.{frame_of}
-use Rattle.x25_link.specs.Station.{Settings, LinkStation, is_up, is_busy, wanted}
-use Rattle.x25_link.specs.Hearing.{Step, other, is_valid, is_taken}
-use Rattle.x25_link.specs.Link.{take_step}
+use Rattle.std.specs.Prelude.{not}
+use Rattle.x25_frame.specs.{Frame.{PlainFrame, info, rr, rnr, rej}, Reading.{frame_of}}
+use Rattle.x25_link.specs.{Station.{Settings, LinkStation, is_up, is_busy, wanted}, Hearing.{Step, other, is_valid, is_taken}, Link.{take_step}}
 use Rattle.x25_link.specs.laws.AnswerLaw.{says, AreNext, Outcome, Answers, heard, goes_on_from, confirms, once_taken, busy_after, passed_over}
 use Rattle.x25_link.specs.laws.BusyLaw.{Says, BusyLaws, NoInfo}
 use Rattle.x25_line.specs.laws.LawsBelow.{HealingLaws}

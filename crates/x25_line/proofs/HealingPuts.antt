@@ -1,27 +1,18 @@
 -- Packets are put while an end heals: in recovery they wait, and behind it each goes in order, as one I frame more at the end of the line.
 use Rattle.std.proofs.Common.{◌≡◌, ℕ, ◌+◌, ◌≤◌, List, [], ◌∷◌, ◌++◌, inl, inr, length, Bool, true, false, if◌then◌else◌, Option, Some, None, refl, sym, ap, ◌∙◌, subst, arith, length-append}
-use Rattle.std.specs.Prelude.{nat_le}
 use Rattle.std.proofs.lemmas.Bool.{lt-ltb, le-ltb, ltb-false}
-use Rattle.x25_frame.specs.Frame.{PlainFrame}
-use Rattle.x25_frame.specs.laws.ReadingLaw.{ReadsSpelled}
-use Rattle.x25_link.specs.declared.error.LinkError.{LinkError}
-use Rattle.x25_link.specs.Outgoing.{waits, is_open}
-use Rattle.x25_link.specs.Station.{Settings, LinkStation, Side, is_up, is_busy, may_send, owes_ready, send_next}
-use Rattle.x25_link.specs.Hearing.{Step, other}
-use Rattle.x25_link.specs.Link.{put_step, put_refusal}
-use Rattle.x25_link.specs.laws.AnswerLaw.{AreNext, says}
+use Rattle.std.specs.Prelude.{nat_le}
+use Rattle.x25_frame.specs.{Frame.{PlainFrame}, laws.ReadingLaw.{ReadsSpelled}}
+use Rattle.x25_link.specs.{declared.error.LinkError.{LinkError}, Outgoing.{waits, is_open}}
+use Rattle.x25_link.specs.{Station.{Settings, LinkStation, Side, is_up, is_busy, may_send, owes_ready, send_next}, Hearing.{Step, other}}
+use Rattle.x25_link.specs.{Link.{put_step, put_refusal}, laws.AnswerLaw.{AreNext}, laws.BusyLaw.{Says, BusyLaws}}
 use Rattle.x25_link.proofs.EndLemmas.{open_is, closed_is, with_packet, put_once, busy_is}
-use Rattle.x25_line.specs.laws.Stations.{Put, Deliver, Event, Near, Far}
-use Rattle.x25_line.specs.laws.Sessions.{Entry, SessionEnd, Sessions, after_step, acts, swapped, run}
-use Rattle.x25_line.specs.laws.StationClaims.{AreJoined}
-use Rattle.x25_line.specs.laws.HealingPuts.{AreDeliveriesAndPuts, AreFree, SessionsFreeThroughout}
+use Rattle.x25_line.specs.{laws.Stations.{Put, Deliver, Event, Near, Far}, laws.Sessions.{Entry, SessionEnd, Sessions, after_step, acts, swapped, run}}
+use Rattle.x25_line.specs.{laws.StationClaims.{AreJoined}, laws.HealingPuts.{AreDeliveriesAndPuts, AreFree, SessionsFreeThroughout}}
 use Rattle.x25_line.specs.laws.LawsBelow.{HealingLaws}
-use Rattle.x25_link.specs.laws.BusyLaw.{Says, BusyLaws}
-use Rattle.x25_line.proofs.StationSteps.{not_both}
-use Rattle.x25_line.proofs.StationRuns.{joined_swapped}
+use Rattle.x25_line.proofs.{StationSteps.{not_both}, StationRuns.{joined_swapped}}
 use Rattle.x25_line.proofs.HealingLines.{Reads, whole_behind, ahead_more, next_ahead, Mild, mild_more, held_mild, no_final_more, next_no_final, Reports}
-use Rattle.x25_line.proofs.HealingSteps.{Reached, then_happens, Sound, sound_swapped, sound_at, SentWhole, whole_at, reads_put}
-use Rattle.x25_line.proofs.BusyLines.{silent_stays}
+use Rattle.x25_line.proofs.{HealingSteps.{Reached, then_happens, Sound, sound_swapped, sound_at, SentWhole, whole_at, reads_put}, BusyLines.{silent_stays}}
 use Rattle.x25_line.proofs.HealingPhases.{Phases, asks_more, SaysMore, answered_more, resent_more, withheld_more}
 use Rattle.x25_line.proofs.HealingBoth.{HealsBoth, HealsAt, both_turned, both_near, both_far}
 
