@@ -2,23 +2,14 @@
 use Rattle.std.proofs.Common.{◌≡◌, ℕ, suc, zero, ◌+◌, ◌*◌, ◌%◌, ◌≤◌, List, [], ◌∷◌, ◌++◌, ◌⊎◌, inl, inr, length, Bool, true, false, Result, Ok, refl, sym, ap, ◌∙◌, subst, arith}
 use Rattle.std.specs.Prelude.{◌==◌}
 use Rattle.x25_bits.specs.declared.role.Role.{Role}
-use Rattle.x25_frame.specs.Frame.{PlainFrame, info}
-use Rattle.x25_frame.specs.Spelling.{spelling_of}
-use Rattle.x25_frame.specs.Reading.{frame_of}
-use Rattle.x25_frame.specs.laws.ReadingLaw.{ReadsSpelled}
+use Rattle.x25_frame.specs.{Frame.{PlainFrame, info}, Spelling.{spelling_of}, Reading.{frame_of}, laws.ReadingLaw.{ReadsSpelled}}
 use Rattle.x25_frame.specs.declared.error.FrameError.{FrameError}
-use Rattle.x25_link.specs.Station.{Settings, LinkStation}
-use Rattle.x25_link.specs.Hearing.{other}
-use Rattle.x25_link.specs.Link.{take_step}
+use Rattle.x25_link.specs.{Station.{Settings, LinkStation}, Hearing.{other}, Link.{take_step}}
 use Rattle.x25_line.specs.laws.Stations.{Deliver, Event, Near, Far}
 use Rattle.x25_line.specs.laws.Sessions.{Entry, Meeting, Sessions, sent_in, begun_by, after_step, delivered, acts, swapped, run, from_nothing, from_set_up}
-use Rattle.x25_line.specs.laws.StationClaims.{AreJoined}
-use Rattle.x25_line.specs.Healing.{AreDeliveries, EachFindsIn, SessionsDrainEnd, SomeSessionsDrain}
+use Rattle.x25_line.specs.{laws.StationClaims.{AreJoined}, Healing.{AreDeliveries, EachFindsIn, SessionsDrainEnd, SomeSessionsDrain}}
 use Rattle.x25_line.specs.laws.LawsBelow.{HealingLaws}
-use Rattle.x25_line.proofs.StationSends.{AllWithin}
-use Rattle.x25_line.proofs.StationRuns.{joined_swapped}
-use Rattle.x25_line.proofs.HealingRuns.{within_of, fit_from}
-use Rattle.x25_line.proofs.HealingSteps.{IsDrained}
+use Rattle.x25_line.proofs.{StationSends.{AllWithin}, StationRuns.{joined_swapped}, HealingRuns.{within_of, fit_from}, HealingSteps.{IsDrained}}
 use Rattle.x25_line.proofs.DrainWeights.{more_if, times, times_more, seven_times, read_weight, weights, to_take, station_weight, AreSpelled}
 use Rattle.x25_line.proofs.DrainSteps.{changes, asks_in, read_weight_some, GoesOn, Changes, Took, took}
 

@@ -1,20 +1,15 @@
 -- What octets that come make of a station: it weighs less with what it sends; or it changes its session or hears a new number, of
 -- which there are only so many.
 use Rattle.std.proofs.Common.{◌≡◌, ℕ, suc, zero, ◌+◌, ◌-◌, ◌*◌, ◌%◌, ◌<◌, ◌≤◌, List, [], ◌∷◌, ◌⊎◌, inl, inr, length, max, Bool, true, false, if◌then◌else◌, Result, Ok, Err, refl, sym, ap, subst, arith}
-use Rattle.std.specs.Prelude.{◌==◌, ◌&&◌}
 use Rattle.std.proofs.lemmas.Bool.{leb-true, eqb-true, eqb-false}
+use Rattle.std.specs.Prelude.{◌==◌, ◌&&◌}
 use Rattle.x25_link.proofs.EndLemmas.{true_false}
-use Rattle.x25_frame.specs.Frame.{PlainFrame, info, rr, rnr, rej, sabm, disc, ua, dm, frmr}
-use Rattle.x25_frame.specs.Spelling.{is_command, poll_or_final}
-use Rattle.x25_frame.specs.Reading.{frame_of}
-use Rattle.x25_frame.specs.declared.error.FrameError.{FrameError}
-use Rattle.x25_frame.specs.declared.error.FrameError.TheVariants.{Undefined, NoInfoAllowed, TooLong}
-use Rattle.x25_link.specs.declared.phase.Phase.{Phase}
-use Rattle.x25_link.specs.declared.phase.Phase.TheVariants.{Down, Waiting, Up, Closed}
+use Rattle.x25_frame.specs.{Frame.{PlainFrame, info, rr, rnr, rej, sabm, disc, ua, dm, frmr}, Spelling.{is_command, poll_or_final}, Reading.{frame_of}}
+use Rattle.x25_frame.specs.{declared.error.FrameError.{FrameError}, declared.error.FrameError.TheVariants.{Undefined, NoInfoAllowed, TooLong}}
+use Rattle.x25_link.specs.{declared.phase.Phase.{Phase}, declared.phase.Phase.TheVariants.{Down, Waiting, Up, Closed}}
 use Rattle.x25_link.specs.Station.{Settings, LinkStation, Side, with_nothing, sends, ended}
 use Rattle.x25_link.specs.Hearing.{Step, quiet, other, is_valid, acknowledged, hears_info, peer_is, goes_back, polls, numbered, rejects, reject_of, row_of_frame, row_of}
-use Rattle.x25_link.specs.Link.{alone, hears, declines, when_down, when_waiting, take_step}
-use Rattle.x25_link.specs.laws.AnswerLaw.{heard}
+use Rattle.x25_link.specs.{Link.{alone, hears, declines, when_down, when_waiting, take_step}, laws.AnswerLaw.{heard}}
 use Rattle.x25_line.proofs.StationSends.{AllWithin}
 use Rattle.x25_line.proofs.DrainWeights.{more_if, times_more, seven_times, ready_weight, rej_weight, weight, read_weight, weights, to_take, station_weight, asks_set_up, IsSpelled, AreSpelled, Weighs, W-sends, W-ended, W-info, W-peer, W-polls, W-rej}
 

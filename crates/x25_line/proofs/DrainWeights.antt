@@ -1,9 +1,8 @@
 -- What comes to a station weighs more than what it brings, as long as the station stays in its phase and hears no new number.
 use Rattle.std.proofs.Common.{◌≡◌, ℕ, suc, zero, ◌+◌, ◌-◌, ◌*◌, ◌%◌, ◌<◌, ◌≤◌, List, [], ◌∷◌, ◌++◌, length, Bool, true, false, not, if◌then◌else◌, Result, Ok, Err, refl, sym, ap, subst, arith, length-append}
-use Rattle.std.specs.Prelude.{◌==◌, slice_index_or}
 use Rattle.std.proofs.lemmas.Bool.{eqb-true, eqb-false, and_parts, not-true}
-use Rattle.x25_frame.specs.Frame.{PlainFrame, info, rr, rnr, rej, sabm, disc}
-use Rattle.x25_frame.specs.Spelling.{information_of, IsInRange, MayCarry, IsWithin}
+use Rattle.std.specs.Prelude.{◌==◌, slice_index_or}
+use Rattle.x25_frame.specs.{Frame.{PlainFrame, info, rr, rnr, rej, sabm, disc}, Spelling.{information_of, IsInRange, MayCarry, IsWithin}}
 use Rattle.x25_frame.specs.declared.error.FrameError.{FrameError}
 use Rattle.x25_link.specs.declared.phase.Phase.{Phase}
 use Rattle.x25_link.specs.Station.{LinkStation, Side, is_up, is_busy, wanted, with_near, sends, ready, next_frame, send_next, may_send, pumped, owes_ready, finished, ended}

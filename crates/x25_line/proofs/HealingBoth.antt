@@ -1,27 +1,16 @@
 -- Both ends fire, one of which may be busy, and everything arrives.
-use Rattle.std.proofs.Common.{◌≡◌, ℕ, ◌%◌, ◌<◌, List, [], ◌∷◌, ◌++◌, ◌⊎◌, inl, inr, length, Bool, Option, Some, None, true, false, refl, sym, ap, ◌∙◌, subst, arith}
-use Rattle.std.specs.Prelude.{◌&&◌, ◌||◌, ◌==◌}
+use Rattle.std.proofs.Common.{◌≡◌, ℕ, List, [], ◌∷◌, ◌++◌, ◌⊎◌, inl, inr, length, Bool, Option, Some, None, true, false, refl, sym, ap, ◌∙◌, subst, arith}
 use Rattle.std.proofs.lemmas.Bool.{le-ltb, eqb-true, and_parts}
-use Rattle.x25_frame.specs.Frame.{PlainFrame, rr}
-use Rattle.x25_frame.specs.laws.ReadingLaw.{ReadsSpelled}
-use Rattle.x25_link.specs.declared.phase.Notes.{Notes}
-use Rattle.x25_link.specs.Outgoing.{waits}
-use Rattle.x25_link.specs.Station.{Settings, LinkStation, is_up, is_busy, wanted}
-use Rattle.x25_link.specs.Hearing.{Step, other}
-use Rattle.x25_link.specs.declared.error.LinkError.{LinkError}
-use Rattle.x25_link.specs.Link.{take_step, timer_refusal, timer_step}
-use Rattle.x25_link.specs.laws.RestLaw.{IsAtRest}
-use Rattle.x25_link.specs.laws.AnswerLaw.{says}
+use Rattle.std.specs.Prelude.{◌&&◌, ◌==◌}
+use Rattle.x25_frame.specs.{Frame.{PlainFrame, rr}, laws.ReadingLaw.{ReadsSpelled}}
+use Rattle.x25_link.specs.{declared.phase.Notes.{Notes}, Outgoing.{waits}, Station.{Settings, LinkStation, is_up, is_busy, wanted}, Hearing.{Step, other}}
+use Rattle.x25_link.specs.{declared.error.LinkError.{LinkError}, Link.{take_step, timer_refusal, timer_step}, laws.RestLaw.{IsAtRest}, laws.AnswerLaw.{says}}
 use Rattle.x25_link.specs.laws.BusyLaw.{BusyLaws}
 use Rattle.x25_link.proofs.EndLemmas.{busy_is}
 use Rattle.x25_line.specs.laws.Stations.{Deliver, T1, Event, Near, Far}
 use Rattle.x25_line.specs.laws.Sessions.{Entry, SessionEnd, Sessions, begun_by, delivered, acts, swapped, after_step, unless, run}
-use Rattle.x25_line.specs.laws.StationClaims.{AreJoined}
-use Rattle.x25_line.specs.Healing.{AreDeliveries, SessionHasTries, OneIsFree}
-use Rattle.x25_line.specs.laws.LawsBelow.{HealingLaws}
-use Rattle.x25_line.proofs.StationSteps.{not_both}
-use Rattle.x25_line.proofs.StationRuns.{joined_swapped}
-use Rattle.x25_line.proofs.HealingLines.{Reads, reads_none, whole_behind, Reports, NoFinal}
+use Rattle.x25_line.specs.{laws.StationClaims.{AreJoined}, Healing.{AreDeliveries, SessionHasTries, OneIsFree}, laws.LawsBelow.{HealingLaws}}
+use Rattle.x25_line.proofs.{StationSteps.{not_both}, StationRuns.{joined_swapped}, HealingLines.{Reads, reads_none, whole_behind, Reports, NoFinal}}
 use Rattle.x25_line.proofs.HealingSteps.{Reached, then_happens, timely_up, Sound, sound_swapped, sound_at, in_order_at, SentWhole, whole_at, IsDrained, counted, all_heard, hears_well, deliveries_keep, reads_put}
 use Rattle.x25_line.proofs.HealingEnds.{after_firings, GoesOn, polls, stays, Fired, BothFired, both_fire}
 use Rattle.x25_line.proofs.HealingPhases.{AsksFirst, Phases, Beside, near_hears, far_hears, stays_free}

@@ -1,31 +1,15 @@
 -- Whatever the two ends are at a quiet moment, once both have fired and all has come each is at rest or not Up.
 use Rattle.std.proofs.Common.{◌≡◌, List, [], ◌∷◌, ◌++◌, ◌⊎◌, inl, inr, length, Bool, true, false, if◌then◌else◌, ℕ, suc, ◌+◌, ◌<◌, Some, None, refl, sym, ap, ◌∙◌, subst, arith}
-use Rattle.std.specs.Prelude.{nat_lt}
 use Rattle.std.proofs.lemmas.Bool.{ltb-true, ltb-false}
-use Rattle.x25_frame.specs.Frame.{PlainFrame, sabm}
-use Rattle.x25_frame.specs.laws.ReadingLaw.{ReadsSpelled}
-use Rattle.x25_link.specs.declared.phase.Phase.{Phase}
-use Rattle.x25_link.specs.declared.phase.Phase.TheVariants.{Down, Waiting, Up}
-use Rattle.x25_link.specs.declared.phase.Reason.TheVariants.{Retries}
-use Rattle.x25_link.specs.Station.{Settings, LinkStation, is_up, is_busy, wanted, with_nothing}
-use Rattle.x25_link.specs.Hearing.{Step, other}
-use Rattle.x25_link.specs.Link.{timer_step, timer_runs}
-use Rattle.x25_link.specs.laws.SetUp.{Is}
-use Rattle.x25_link.specs.laws.WindowMachine.{nothing}
-use Rattle.x25_link.specs.laws.WindowLaw.{Follows, IsOut}
-use Rattle.x25_link.specs.laws.RestLaw.{IsAtRest}
-use Rattle.x25_link.specs.laws.AnswerLaw.{says}
-use Rattle.x25_line.specs.laws.Stations.{T1, Event}
-use Rattle.x25_line.specs.laws.Sessions.{Entry, SessionEnd, Sessions, sent_in, begun_by, acts, swapped, run}
-use Rattle.x25_line.specs.laws.StationClaims.{AreJoined, IsWhole, AreWhole}
-use Rattle.x25_line.specs.Healing.{AreDeliveries, SessionHasTries}
-use Rattle.x25_line.specs.laws.LawsBelow.{HealingLaws}
-use Rattle.x25_line.proofs.DrainWeights.{below_eight}
-use Rattle.x25_line.proofs.StationSteps.{not_both, out_not_up}
-use Rattle.x25_line.proofs.StationRuns.{joined_swapped}
-use Rattle.x25_line.proofs.HealingLines.{Reads}
-use Rattle.x25_line.proofs.StationEvents.{timer_up}
-use Rattle.x25_line.proofs.HealingSteps.{IsDrained, IsInOrderIfUp, up_is, refused, fires_is, reads_put}
+use Rattle.std.specs.Prelude.{nat_lt}
+use Rattle.x25_frame.specs.{Frame.{PlainFrame, sabm}, laws.ReadingLaw.{ReadsSpelled}}
+use Rattle.x25_link.specs.{declared.phase.Phase.{Phase}, declared.phase.Phase.TheVariants.{Down, Waiting, Up}, declared.phase.Reason.TheVariants.{Retries}}
+use Rattle.x25_link.specs.{Station.{Settings, LinkStation, is_up, is_busy, wanted, with_nothing}, Hearing.{Step, other}, Link.{timer_step, timer_runs}}
+use Rattle.x25_link.specs.{laws.SetUp.{Is}, laws.WindowMachine.{nothing}, laws.WindowLaw.{Follows, IsOut}, laws.RestLaw.{IsAtRest}, laws.AnswerLaw.{says}}
+use Rattle.x25_line.specs.{laws.Stations.{T1, Event}, laws.Sessions.{Entry, SessionEnd, Sessions, sent_in, begun_by, acts, swapped, run}}
+use Rattle.x25_line.specs.{laws.StationClaims.{AreJoined, IsWhole, AreWhole}, Healing.{AreDeliveries, SessionHasTries}, laws.LawsBelow.{HealingLaws}}
+use Rattle.x25_line.proofs.{DrainWeights.{below_eight}, StationSteps.{not_both, out_not_up}, StationRuns.{joined_swapped}, HealingLines.{Reads}}
+use Rattle.x25_line.proofs.{StationEvents.{timer_up}, HealingSteps.{IsDrained, IsInOrderIfUp, up_is, refused, fires_is, reads_put}}
 use Rattle.x25_line.proofs.HealingSetUp.{RestsOrOut, AreOfSetUp, Parts, asked, asked_polling, polled, rests, Settles, settle}
 
 poll_whole : (n1 : ℕ) (busy : Bool) (n : ℕ) → n < 8 → IsWhole n1 [] (says busy true n true)

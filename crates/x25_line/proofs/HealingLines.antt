@@ -1,15 +1,11 @@
 -- The frames that stand on a line, and those among them that matter while an end heals.
 use Rattle.std.proofs.Common.{◌≡◌, ℕ, ◌+◌, ◌%◌, ◌≤◌, List, [], ◌∷◌, ◌++◌, false, Ok, refl, sym, subst, arith, length, ap, true}
-use Rattle.std.specs.Prelude.{◌&&◌, not}
 use Rattle.std.proofs.lemmas.Bool.{and_left, and_right}
+use Rattle.std.specs.Prelude.{◌&&◌, not}
 use Rattle.x25_bits.specs.declared.role.Role.{Role}
-use Rattle.x25_frame.specs.Frame.{PlainFrame, info, rr, rnr, rej}
-use Rattle.x25_frame.specs.Spelling.{spelling_of}
-use Rattle.x25_frame.specs.Reading.{frame_of}
-use Rattle.x25_frame.specs.laws.ReadingLaw.{ReadsSpelled}
+use Rattle.x25_frame.specs.{Frame.{PlainFrame, info, rr, rnr, rej}, Spelling.{spelling_of}, Reading.{frame_of}, laws.ReadingLaw.{ReadsSpelled}}
 use Rattle.x25_link.specs.laws.AnswerLaw.{AreNext}
-use Rattle.x25_line.specs.laws.StationClaims.{AreWhole}
-use Rattle.x25_line.specs.laws.Sessions.{Entry, sent_in}
+use Rattle.x25_line.specs.{laws.StationClaims.{AreWhole}, laws.Sessions.{Entry, sent_in}}
 
 -- ---- what octets on a line read as
 

@@ -1,13 +1,10 @@
 -- How an end heals after its firing, where one of the two may be busy, told of two stations and the frames between them. Its poll is on the line, then
 -- the answer; then what isn't acknowledged goes again, or waits until the other end is heard to be busy no more.
 use Rattle.std.proofs.Common.{◌≡◌, ℕ, ◌+◌, ◌%◌, ◌≤◌, List, [], ◌∷◌, ◌++◌, ◌⊎◌, inl, inr, length, max, Bool, true, false, if◌then◌else◌, Ok, None, refl, sym, ap, ◌∙◌, subst, arith, length-append}
-use Rattle.std.specs.Prelude.{◌&&◌, not}
 use Rattle.std.proofs.lemmas.Bool.{ltb-false, le-ltb, eq-eqb}
-use Rattle.x25_frame.specs.Frame.{PlainFrame, info, rr, rnr, rej}
-use Rattle.x25_frame.specs.Reading.{frame_of}
-use Rattle.x25_link.specs.Station.{Settings, LinkStation, is_up, is_busy, wanted}
-use Rattle.x25_link.specs.Hearing.{Step, other, is_valid, is_taken}
-use Rattle.x25_link.specs.Link.{take_step}
+use Rattle.std.specs.Prelude.{not}
+use Rattle.x25_frame.specs.{Frame.{PlainFrame, info, rr, rnr, rej}, Reading.{frame_of}}
+use Rattle.x25_link.specs.{Station.{Settings, LinkStation, is_up, is_busy, wanted}, Hearing.{Step, other, is_valid, is_taken}, Link.{take_step}}
 use Rattle.x25_link.specs.laws.AnswerLaw.{says, AreNext, Outcome, Answers, heard, goes_on_from, confirms, once_taken, busy_after, passed_over}
 use Rattle.x25_link.specs.laws.BusyLaw.{Says, BusyLaws, NoInfo}
 use Rattle.x25_line.specs.laws.LawsBelow.{HealingLaws}
@@ -168,7 +165,7 @@ module _ (s z : LinkStation) (es : List PlainFrame) (k : SaysMore s z es) where
     told = told_more true fs h.told;
   }
 
--- ---- what a station becomes by RR or RNR that neither asks nor answers, by a poll, by F=1, by REJ, and by an I frame that isn't taken
+-- ---- what a station becomes by RR or RNR that neither asks nor answers, by a poll, by F=1 and by REJ
 
 abbrev readied : Bool → ℕ → LinkStation → Outcome
 readied busy nr s = record (goes_on_from nr s) { peer_busy = busy }
@@ -181,9 +178,6 @@ finished busy nr s = record (goes_on_from nr s) { recovery = false; peer_busy = 
 
 abbrev rejected : ℕ → LinkStation → Outcome
 rejected nr s = record (goes_on_from nr s) { peer_busy = false; place = heard nr s }
-
-abbrev passed : ℕ → LinkStation → Outcome
-passed nr s = record (goes_on_from nr s) { said_busy = busy_after false s; first = passed_over false s }
 
 passed_mild : (s : LinkStation) → Mild (passed_over false s)
 passed_mild s = by (is_busy s) s.rejecting
@@ -246,34 +240,23 @@ module _ (c : Settings) (laws : HealingLaws) (busy_laws : BusyLaws) (octets : Li
 
   -- V(S) stays but for what is acknowledged, and no I frame goes first
   record Hears (nr : ℕ) (busy : Bool) : Type 0 where
-    pub o : Outcome
-    pub answers : Answers s o step
-    pub recovery : o.recovery ≡ s.recovery
-    pub peer_busy : o.peer_busy ≡ busy
-    pub acked : o.acked ≡ heard nr s
-    pub place : o.place ≡ max s.outgoing.place (heard nr s)
-    pub first : Mild o.first
+    pub said_busy : Bool
+    pub taken : List (List ℕ)
+    pub first : List PlainFrame
+    pub answers : Answers s (record (goes_on_from nr s) { peer_busy = busy; said_busy = said_busy; taken = taken; first = first }) step
+    pub mild : Mild first
 
   hears_ready : (busy command : Bool) (nr : ℕ) → is_up s.phase ≡ true → IsRead (says busy command nr false) → is_valid nr s ≡ true → Hears nr busy
-  hears_ready busy command nr up read valid = record {
-    o = readied busy nr s;
-    answers = laws.answers.ready busy command nr c octets s (up_is s.phase up) read valid;
-    recovery = refl;
-    peer_busy = refl;
-    acked = refl;
-    place = refl;
-    first = tt;
-  }
+  hears_ready busy command nr up read valid =
+      record { said_busy = s.said_busy; taken = s.taken; first = []; answers = laws.answers.ready busy command nr c octets s (up_is s.phase up) read valid; mild = tt }
 
   hears_poll : (busy : Bool) (nr : ℕ) → is_up s.phase ≡ true → IsRead (says busy true nr true) → is_valid nr s ≡ true → Hears nr busy
   hears_poll busy nr up read valid = record {
-    o = polled busy nr s;
+    said_busy = is_busy s;
+    taken = s.taken;
+    first = says (is_busy s) false (wanted s) true ∷ [];
     answers = laws.answers.poll busy nr c octets s (up_is s.phase up) read valid;
-    recovery = refl;
-    peer_busy = refl;
-    acked = refl;
-    place = refl;
-    first = answer_mild (is_busy s) (wanted s);
+    mild = answer_mild (is_busy s) (wanted s);
   }
 
   hears_info : (ns nr : ℕ) (x : List ℕ) → is_up s.phase ≡ true → IsRead (info ns nr false x) → is_valid nr s ≡ true → Hears nr s.peer_busy
@@ -282,10 +265,14 @@ module _ (c : Settings) (laws : HealingLaws) (busy_laws : BusyLaws) (octets : Li
       by : (b : Bool) → is_taken ns s ≡ b → Hears nr s.peer_busy
       by true is =
           let a = laws.answers.wanted ns nr false x c octets s (up_is s.phase up) read valid is in
-          record { o = once_taken a.0 nr false x s; answers = a.1.answers; recovery = refl; peer_busy = refl; acked = refl; place = refl; first = confirms_mild (length (s.taken ++ x ∷ [])) a.0 }
+          let taken = s.taken ++ x ∷ [] in
+          record { said_busy = if a.0 then s.said_busy else false; taken = taken; first = confirms a.0 false (length taken); answers = a.1.answers; mild = confirms_mild (length taken) a.0 }
       by false is =
           let a = laws.answers.other ns nr false x c octets s (up_is s.phase up) read valid is in
-          record { o = passed nr s; answers = a; recovery = refl; peer_busy = refl; acked = refl; place = refl; first = passed_mild s }
+          record { said_busy = busy_after false s; taken = s.taken; first = passed_over false s; answers = a; mild = passed_mild s }
+
+  abbrev outcome : (nr : ℕ) (busy : Bool) → Hears nr busy → Outcome
+  outcome nr busy h = record (goes_on_from nr s) { peer_busy = busy; said_busy = h.said_busy; taken = h.taken; first = h.first }
 
   -- ---- in recovery no I frame goes
 
@@ -297,14 +284,10 @@ module _ (c : Settings) (laws : HealingLaws) (busy_laws : BusyLaws) (octets : Li
 
   replied : (nr : ℕ) (busy : Bool) → s.recovery ≡ true → Hears nr busy → Replies
   replied nr busy recovery h =
+      let o = outcome nr busy h in
       let a = h.answers in
-      let held : m ≡ h.o.place = a.held (h.recovery ∙ recovery) in
-      record {
-        o = h.o;
-        answers = a;
-        recovery = a.recovery ∙ h.recovery ∙ recovery;
-        mild = subst Mild (sym a.out) (mild_more h.o.first a.next h.first (held_mild (length h.o.taken) h.o.place a.next m a.sends (omega (arith, held))));
-      }
+      let held = a.held recovery in
+      record { o = o; answers = a; recovery = a.recovery ∙ recovery; mild = subst Mild (sym a.out) (mild_more h.first a.next h.mild (held_mild (length o.taken) o.place a.next m a.sends (omega (arith, held)))) }
 
   replies : (g : PlainFrame) → Beside c s t g octets → s.recovery ≡ true → IsNoFinal g → Replies
   replies (info ns nr true x) k recovery is = not_both true refl is
@@ -338,9 +321,8 @@ module _ (c : Settings) (laws : HealingLaws) (busy_laws : BusyLaws) (octets : Li
   goes_on fs gs nr h recovery ahead high tells all free =
       let n = s.outgoing.place in
       let low = ahead_low r fs n ahead in
-      let place = h.place in
-      let stays : h.o.place ≡ n = omega (arith, place, low, high) in
-      resends fs gs nr n h.o h.answers (h.recovery ∙ recovery) h.peer_busy h.acked ahead (subst (Ahead n h.o.first) (sym stays) (mild_ahead n h.o.first h.first)) tells all free
+      let stays : max n (heard nr s) ≡ n = omega (arith, low, high) in
+      resends fs gs nr n (outcome nr false h) h.answers recovery refl refl ahead (subst (Ahead n h.first) (sym stays) (mild_ahead n h.first h.mild)) tells all free
 
   resent_hears : (fs gs : List PlainFrame) (g : PlainFrame) → Beside c s t g octets → s.recovery ≡ false → s.peer_busy ≡ false → Ahead r fs s.outgoing.place → is_busy t ≡ false
       → Reports r s.outgoing.acked (g ∷ gs) → IsNear fs gs
@@ -382,8 +364,8 @@ module _ (c : Settings) (laws : HealingLaws) (busy_laws : BusyLaws) (octets : Li
       → LastTells r nr gs → Told (hears_busy true gs) t → IsNear fs gs
   withholds_on fs gs nr up h well recovery place acked mild tells told =
       let all : heard nr s ≡ r = omega (arith, acked, well.low, well.high) in
-      let stays : h.o.place ≡ r = (let is = h.place in omega (arith, is, place, well.high)) in
-      withholds fs gs nr h.o up h.answers (h.recovery ∙ recovery) h.peer_busy (h.acked ∙ all) stays mild h.first tells told
+      let stays : max s.outgoing.place (heard nr s) ≡ r = omega (arith, place, well.high) in
+      withholds fs gs nr (outcome nr true h) up h.answers recovery refl all stays mild h.mild tells told
 
   -- it is heard to be busy no more
   free_again : (nr : ℕ) (gs : List PlainFrame) → LastTells r nr gs → Told (hears_busy false gs) t → is_busy t ≡ false

@@ -1,38 +1,28 @@
 -- Packets are put while an end heals: in recovery they wait, and behind it each goes in order, as one I frame more at the end of the line.
 use Rattle.std.proofs.Common.{◌≡◌, ℕ, ◌+◌, ◌≤◌, List, [], ◌∷◌, ◌++◌, inl, inr, length, Bool, true, false, if◌then◌else◌, Option, Some, None, refl, sym, ap, ◌∙◌, subst, arith, length-append}
-use Rattle.std.specs.Prelude.{nat_le}
 use Rattle.std.proofs.lemmas.Bool.{lt-ltb, le-ltb, ltb-false}
-use Rattle.x25_frame.specs.Frame.{PlainFrame}
-use Rattle.x25_frame.specs.laws.ReadingLaw.{ReadsSpelled}
-use Rattle.x25_link.specs.declared.error.LinkError.{LinkError}
-use Rattle.x25_link.specs.Outgoing.{waits, is_open}
-use Rattle.x25_link.specs.Station.{Settings, LinkStation, Side, is_up, is_busy, may_send, owes_ready, send_next}
-use Rattle.x25_link.specs.Hearing.{Step, other}
-use Rattle.x25_link.specs.Link.{put_step, put_refusal}
-use Rattle.x25_link.specs.laws.AnswerLaw.{AreNext, says}
+use Rattle.std.specs.Prelude.{nat_le}
+use Rattle.x25_frame.specs.{Frame.{PlainFrame}, laws.ReadingLaw.{ReadsSpelled}}
+use Rattle.x25_link.specs.{declared.error.LinkError.{LinkError}, Outgoing.{waits, is_open}}
+use Rattle.x25_link.specs.{Station.{Settings, LinkStation, Side, is_up, is_busy, may_send, owes_ready, send_next}, Hearing.{Step, other}}
+use Rattle.x25_link.specs.{Link.{put_step, put_refusal}, laws.AnswerLaw.{AreNext}, laws.BusyLaw.{Says, BusyLaws}}
 use Rattle.x25_link.proofs.EndLemmas.{open_is, closed_is, with_packet, put_once, busy_is}
-use Rattle.x25_line.specs.laws.Stations.{Put, Deliver, Event, Near, Far}
-use Rattle.x25_line.specs.laws.Sessions.{Entry, SessionEnd, Sessions, after_step, acts, swapped, run}
-use Rattle.x25_line.specs.laws.StationClaims.{AreJoined}
-use Rattle.x25_line.specs.laws.HealingPuts.{AreDeliveriesAndPuts, AreFree, SessionsFreeThroughout}
+use Rattle.x25_line.specs.{laws.Stations.{Put, Deliver, Event, Near, Far}, laws.Sessions.{Entry, SessionEnd, Sessions, after_step, acts, swapped, run}}
+use Rattle.x25_line.specs.{laws.StationClaims.{AreJoined}, laws.HealingPuts.{AreDeliveriesAndPuts, AreFree, SessionsFreeThroughout}}
 use Rattle.x25_line.specs.laws.LawsBelow.{HealingLaws}
-use Rattle.x25_link.specs.laws.BusyLaw.{Says, BusyLaws}
-use Rattle.x25_line.proofs.StationSteps.{not_both}
-use Rattle.x25_line.proofs.StationRuns.{joined_swapped}
+use Rattle.x25_line.proofs.{StationSteps.{not_both}, StationRuns.{joined_swapped}}
 use Rattle.x25_line.proofs.HealingLines.{Reads, whole_behind, ahead_more, next_ahead, Mild, mild_more, held_mild, no_final_more, next_no_final, Reports}
-use Rattle.x25_line.proofs.HealingSteps.{Reached, then_happens, Sound, sound_swapped, sound_at, SentWhole, whole_at, reads_put}
-use Rattle.x25_line.proofs.BusyLines.{silent_stays}
+use Rattle.x25_line.proofs.{HealingSteps.{Reached, then_happens, Sound, sound_swapped, sound_at, SentWhole, whole_at, reads_put}, BusyLines.{silent_stays}}
 use Rattle.x25_line.proofs.HealingPhases.{Phases, asks_more, SaysMore, answered_more, resent_more, withheld_more}
 use Rattle.x25_line.proofs.HealingBoth.{HealsBoth, HealsAt, both_turned, both_near, both_far}
 
 -- ---- a station to which a packet is put
 
 -- it waits, or goes at once as the next I frame
-pub record TakesDown (packet : List ℕ) (s : LinkStation) (t : Side) : Type 0 where
+record TakesDown (s : LinkStation) (t : Side) : Type 0 where
   pub phase : t.near.phase ≡ s.phase
   pub recovery : t.near.recovery ≡ s.recovery
   pub peer_busy : t.near.peer_busy ≡ s.peer_busy
-  pub tries : t.near.tries ≡ s.tries
   pub taken : t.near.taken ≡ s.taken
   pub acked : t.near.outgoing.acked ≡ s.outgoing.acked
   pub sends : AreNext (length s.taken) s.outgoing.place t.out t.near.outgoing.place
@@ -48,7 +38,7 @@ all_were_sent k packet s settled may =
     ltb-false _ _ test
 
 takes_by : (b : Bool) (k : ℕ) (packet : List ℕ) (s : LinkStation) → s.outgoing.place ≤ s.outgoing.sent → s.outgoing.sent ≤ length s.outgoing.given → may_send k s ≡ false → may_send k (with_packet packet s).near ≡ b
-    → TakesDown packet s (if b then send_next (with_packet packet s) else with_packet packet s)
+    → TakesDown s (if b then send_next (with_packet packet s) else with_packet packet s)
 takes_by true k packet s low high settled may =
     let o = open_is k (with_packet packet s).near may in
     let more = length-append s.outgoing.given (packet ∷ []) in
@@ -56,7 +46,6 @@ takes_by true k packet s low high settled may =
       phase = refl;
       recovery = refl;
       peer_busy = refl;
-      tries = refl;
       taken = refl;
       acked = refl;
       sends = (refl, refl, refl, refl);
@@ -67,7 +56,6 @@ takes_by false k packet s low high settled may = record {
   phase = refl;
   recovery = refl;
   peer_busy = refl;
-  tries = refl;
   taken = refl;
   acked = refl;
   sends = refl;
@@ -75,30 +63,19 @@ takes_by false k packet s low high settled may = record {
   grows = omega (arith, length-append s.outgoing.given (packet ∷ []));
 }
 
-pub takes_down : (c : Settings) (packet : List ℕ) (s : LinkStation) → s.outgoing.place ≤ s.outgoing.sent → s.outgoing.sent ≤ length s.outgoing.given → may_send c.window s ≡ false → owes_ready s ≡ false
-    → TakesDown packet s (put_step c packet s).side
+takes_down : (c : Settings) (packet : List ℕ) (s : LinkStation) → s.outgoing.place ≤ s.outgoing.sent → s.outgoing.sent ≤ length s.outgoing.given → may_send c.window s ≡ false → owes_ready s ≡ false
+    → TakesDown s (put_step c packet s).side
 takes_down c packet s low high settled calm =
-    subst (TakesDown packet s) (sym (put_once c.window s packet low settled calm)) (takes_by (may_send c.window (with_packet packet s).near) c.window packet s low high settled refl)
+    subst (TakesDown s) (sym (put_once c.window s packet low settled calm)) (takes_by (may_send c.window (with_packet packet s).near) c.window packet s low high settled refl)
 
 -- ---- two stations, to one of which a packet is put
-
--- a station that was handed a packet, or refused it
-record Given (s z : LinkStation) (es : List PlainFrame) : Type 0 where
-  pub phase : z.phase ≡ s.phase
-  pub recovery : z.recovery ≡ s.recovery
-  pub peer_busy : z.peer_busy ≡ s.peer_busy
-  pub taken : z.taken ≡ s.taken
-  pub acked : z.outgoing.acked ≡ s.outgoing.acked
-  pub sends : AreNext (length s.taken) s.outgoing.place es z.outgoing.place
-  pub held : s.recovery ≡ true → z.outgoing.place ≡ s.outgoing.place
-  pub grows : waits s.outgoing ≤ waits z.outgoing
-  pub says : Says s.said_busy z.said_busy (is_busy z) z.peer_busy es
 
 -- an end is no less busy for a packet that is put
 free_before : (s z : LinkStation) → waits s.outgoing ≤ waits z.outgoing → is_busy z ≡ false → is_busy s ≡ false
 free_before s z grows free = (let few = ltb-false _ _ free in le-ltb _ _ (omega (arith, few, grows)))
 
-module _ (s z : LinkStation) (es : List PlainFrame) (p : Given s z es) where
+-- a station that was handed a packet, or refused it
+module _ (s z : LinkStation) (es : List PlainFrame) (p : TakesDown s (record { near = z; out = es })) (said : Says s.said_busy z.said_busy (is_busy z) z.peer_busy es) where
   abbrev r : ℕ
   r = length s.taken
 
@@ -119,7 +96,7 @@ module _ (s z : LinkStation) (es : List PlainFrame) (p : Given s z es) where
         free = h.free;
       })))
   near_puts t fs gs free (inr (inr (inr (inl h)))) =
-      let stays = silent_stays r s.outgoing.place es z.outgoing.place p.sends (p.says.held (p.peer_busy ∙ h.peer_busy)) in
+      let stays = silent_stays r s.outgoing.place es z.outgoing.place p.sends (said.held (p.peer_busy ∙ h.peer_busy)) in
       inr (inr (inr (inl (record {
         recovery = p.recovery ∙ h.recovery;
         peer_busy = p.peer_busy ∙ h.peer_busy;
@@ -137,7 +114,7 @@ module _ (s z : LinkStation) (es : List PlainFrame) (p : Given s z es) where
   far_puts t gs fs free unsaid h = by h
     where
       more : SaysMore s z es
-      more = record { taken = p.taken; place = s.outgoing.place; next = p.sends; says = p.says; free = λ _. free }
+      more = record { taken = p.taken; place = s.outgoing.place; next = p.sends; says = said; free = λ _. free }
 
       by : Phases t s gs fs → Phases t z gs (fs ++ es)
       by (inl h) = inl (record { recovery = h.recovery; asks = h.asks; heard = no_final_more fs es h.heard (next_no_final r s.outgoing.place es z.outgoing.place p.sends) })
@@ -150,7 +127,8 @@ module _ (reads : ReadsSpelled) (busy_laws : BusyLaws) (c d : Settings) (joined 
   -- what a packet that is put makes of the world
   record WasPut (w v : Sessions) : Type 0 where
     pub next : List PlainFrame
-    pub given : Given w.near.station v.near.station next
+    pub given : TakesDown w.near.station (record { near = v.near.station; out = next })
+    pub says : Says w.near.station.said_busy v.near.station.said_busy (is_busy v.near.station) v.near.station.peer_busy next
     pub out : (fs : List PlainFrame) → Reads (other d.role) d.longest w.out fs → Reads (other d.role) d.longest v.out (fs ++ next)
     pub back : v.back ≡ w.back
     pub far : v.far ≡ w.far
@@ -173,8 +151,8 @@ module _ (reads : ReadsSpelled) (busy_laws : BusyLaws) (c d : Settings) (joined 
       sends = refl;
       held = λ recovers. refl;
       grows = omega arith;
-      says = record { said = refl; free = λ never. not_both false never refl; held = λ _. tt };
     };
+    says = record { said = refl; free = λ never. not_both false never refl; held = λ _. tt };
     out = λ fs read. subst (Reads (other d.role) d.longest w.out) (sym (append_none fs)) read;
     back = refl;
     far = refl;
@@ -195,21 +173,11 @@ module _ (reads : ReadsSpelled) (busy_laws : BusyLaws) (c d : Settings) (joined 
 
       done : acts c (Put packet) w ≡ v → WasPut w (acts c (Put packet) w)
       done is =
-          let t = takes_down c packet s h.near.sound.place_high h.near.sound.sent_high h.near_said.settled h.near_said.calm in
           let all : SentWhole d.longest v.sent = subst (λ (z : Sessions). SentWhole d.longest z.sent) is whole in
           subst (WasPut w) (sym is) (record {
             next = step.side.out;
-            given = record {
-              phase = t.phase;
-              recovery = t.recovery;
-              peer_busy = t.peer_busy;
-              taken = t.taken;
-              acked = t.acked;
-              sends = t.sends;
-              held = t.held;
-              grows = t.grows;
-              says = busy_laws.put c packet s;
-            };
+            given = takes_down c packet s h.near.sound.place_high h.near.sound.sent_high h.near_said.settled h.near_said.calm;
+            says = busy_laws.put c packet s;
             out = λ fs read. reads_put reads c d joined all.0 w.near.begun w.out fs step.side.out (whole_behind d.longest all.0 w.sent step.side.out all.1) read;
             back = refl;
             far = refl;
@@ -263,8 +231,8 @@ module _ (reads : ReadsSpelled) (laws : HealingLaws) (busy_laws : BusyLaws) wher
           let s = w.near.station in
           let t = w.far.station in
           let old = before free in
-          let near = near_puts s v.near.station p.next p.given t b.there b.behind (λ said. not_both (is_busy t) (busy_is t h.far_said.calm h.far.up said) old.1) b.near in
-          let far = far_puts s v.near.station p.next p.given t b.behind b.there free.0 (λ said. not_both (is_busy s) (busy_is s h.near_said.calm h.near.up said) old.0) b.far in
+          let near = near_puts s v.near.station p.next p.given p.says t b.there b.behind (λ said. not_both (is_busy t) (busy_is t h.far_said.calm h.far.up said) old.1) b.near in
+          let far = far_puts s v.near.station p.next p.given p.says t b.behind b.there free.0 (λ said. not_both (is_busy s) (busy_is s h.near_said.calm h.near.up said) old.0) b.far in
           record {
             near_on = near_on;
             far_on = far_on;

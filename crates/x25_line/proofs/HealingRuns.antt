@@ -1,24 +1,17 @@
 -- What each step of a station keeps stays through all events: an end has said all that it may, and each of its packets may be sent.
-use Rattle.std.proofs.Common.{◌≡◌, ℕ, ◌+◌, ◌*◌, ◌≤◌, ◌⊎◌, inl, inr, List, [], ◌∷◌, length, Bool, true, false, if◌then◌else◌, Option, Some, None, refl, sym, ap, ◌∙◌, subst, arith}
-use Rattle.std.specs.Prelude.{nat_le, nat_lt, ◌&&◌, ◌||◌, ◌==◌}
+use Rattle.std.proofs.Common.{◌≡◌, ℕ, ◌+◌, ◌*◌, ◌≤◌, ◌⊎◌, inl, inr, List, [], ◌∷◌, length, Bool, true, false, if◌then◌else◌, Option, Some, None, refl, sym, ap, subst, arith}
 use Rattle.std.proofs.lemmas.Bool.{leb-true, and_right}
+use Rattle.std.specs.Prelude.{nat_le, nat_lt}
 use Rattle.x25_frame.specs.Reading.{frame_of}
-use Rattle.x25_link.specs.declared.error.LinkError.{LinkError}
-use Rattle.x25_link.specs.declared.phase.Phase.{Phase}
-use Rattle.x25_link.specs.declared.phase.Phase.TheVariants.{Down, Up}
-use Rattle.x25_link.specs.declared.phase.Reason.TheVariants.{Retries}
-use Rattle.x25_link.specs.OrderedLink.{Lists}
-use Rattle.x25_link.specs.Station.{Settings, LinkStation, Side, is_up, is_busy, with_near, with_nothing, fresh, ended}
-use Rattle.x25_link.specs.Hearing.{Step, quiet, leaves, other}
+use Rattle.x25_link.specs.{declared.error.LinkError.{LinkError}, declared.phase.Phase.{Phase}, declared.phase.Phase.TheVariants.{Down, Up}}
+use Rattle.x25_link.specs.{declared.phase.Reason.TheVariants.{Retries}, OrderedLink.{Lists}}
+use Rattle.x25_link.specs.{Station.{Settings, LinkStation, Side, is_up, is_busy, with_near, with_nothing, fresh, ended}, Hearing.{Step, quiet, leaves, other}}
 use Rattle.x25_link.specs.Link.{alone, puts, fires, asks_again, connects, disconnects, take_step, put_step, timer_step, connect_step, disconnect_step, abandon_step, put_refusal, timer_refusal, connect_refusal, disconnect_refusal}
-use Rattle.x25_link.specs.laws.LinkLaws.{ended_lists}
-use Rattle.x25_link.specs.laws.RestLaw.{HasSaidAll}
+use Rattle.x25_link.specs.{laws.LinkLaws.{ended_lists}, laws.RestLaw.{HasSaidAll}}
 use Rattle.x25_line.specs.laws.Stations.{Act, Put, Deliver, T1, Connect, Disconnect, Abandon, Probe, Lose, Damage, Event, Near, Far, is_visible}
 use Rattle.x25_line.specs.laws.Sessions.{Entry, SessionEnd, Sessions, unless, delivered, acts, swapped, run, from_nothing, from_set_up}
-use Rattle.x25_line.specs.laws.StationClaims.{AreJoined}
-use Rattle.x25_line.specs.laws.LawsBelow.{HealingLaws}
-use Rattle.x25_line.proofs.StationSends.{AllWithin, within_push}
-use Rattle.x25_line.proofs.DrainSteps.{took}
+use Rattle.x25_line.specs.{laws.StationClaims.{AreJoined}, laws.LawsBelow.{HealingLaws}}
+use Rattle.x25_line.proofs.{StationSends.{AllWithin, within_push}, DrainSteps.{took}}
 
 pub record Keeps (c : Settings) (P : LinkStation → Type 0) : Type 0 where
   pub takes : (o : List ℕ) (s : LinkStation) → P s → P (take_step c o s).side.near

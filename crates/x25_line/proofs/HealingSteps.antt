@@ -2,37 +2,18 @@
 use Rattle.std.proofs.Common.{◌≡◌, ℕ, ◌+◌, ◌%◌, ◌≤◌, ◌⊎◌, List, [], ◌∷◌, ◌++◌, length, true, false, Option, Some, Result, Ok, refl, sym, ap, ◌∙◌, subst, arith}
 use Rattle.std.proofs.lemmas.Bool.{le-leb}
 use Rattle.x25_bits.specs.declared.role.Role.{Role}
-use Rattle.x25_frame.specs.Frame.{PlainFrame, info, rr, rnr, rej}
-use Rattle.x25_frame.specs.Reading.{frame_of}
-use Rattle.x25_frame.specs.laws.ReadingLaw.{ReadsSpelled}
-use Rattle.x25_frame.specs.declared.error.FrameError.{FrameError}
-use Rattle.x25_window.specs.code.Modulo.{resolved}
-use Rattle.x25_window.specs.laws.Window.{Frame}
-use Rattle.x25_link.specs.declared.phase.Phase.{Phase}
-use Rattle.x25_link.specs.declared.phase.Phase.TheVariants.{Up}
-use Rattle.x25_link.specs.Station.{Settings, LinkStation, is_up}
-use Rattle.x25_link.specs.Hearing.{other, is_valid}
-use Rattle.x25_link.specs.Link.{timer_runs, timer_step}
-use Rattle.x25_link.specs.laws.WindowMachine.{Window, Shows, ShowAll}
-use Rattle.x25_link.specs.laws.WindowLaw.{IsSound}
-use Rattle.x25_link.specs.laws.RestLaw.{HasSaidAll}
-use Rattle.x25_link.specs.laws.AnswerLaw.{heard}
-use Rattle.x25_line.specs.laws.Line.{Line, swapped as line_swapped}
-use Rattle.x25_line.specs.laws.Stations.{Deliver, T1, Event, Near, Far}
+use Rattle.x25_frame.specs.{Frame.{PlainFrame, info, rr, rnr, rej}, Reading.{frame_of}, laws.ReadingLaw.{ReadsSpelled}, declared.error.FrameError.{FrameError}}
+use Rattle.x25_window.specs.{code.Modulo.{resolved}, laws.Window.{Frame}}
+use Rattle.x25_link.specs.{declared.phase.Phase.{Phase}, declared.phase.Phase.TheVariants.{Up}, Station.{Settings, LinkStation, is_up}}
+use Rattle.x25_link.specs.{Hearing.{other, is_valid}, Link.{timer_runs, timer_step}, laws.WindowMachine.{Window, Shows, ShowAll}, laws.WindowLaw.{IsSound}}
+use Rattle.x25_link.specs.{laws.RestLaw.{HasSaidAll}, laws.AnswerLaw.{heard}}
+use Rattle.x25_line.specs.{laws.Line.{Line, swapped as line_swapped}, laws.Stations.{Deliver, T1, Event, Near, Far}}
 use Rattle.x25_line.specs.laws.StationClaims.{AreJoined, number_in, AreWhole}
 use Rattle.x25_line.specs.laws.Sessions.{Entry, SessionEnd, Sessions, sent_in, from_nothing, from_set_up, after_step, acts, swapped, happens, run, IsTimely, IsTimelyAt, AreTimely}
-use Rattle.x25_line.specs.laws.SessionClaims.{Throughout}
-use Rattle.x25_line.specs.Healing.{AreDeliveries}
-use Rattle.x25_line.specs.laws.LawsBelow.{HealingLaws}
-use Rattle.x25_line.proofs.Kept.{Kept, Kept-swapped, Way, hears_valid, Way-acked, resolved_is}
-use Rattle.x25_line.proofs.Frames.{Acks-le}
-use Rattle.x25_line.proofs.StationLines.{front_of, consed}
-use Rattle.x25_line.proofs.StationSteps.{AsUp, not_both}
-use Rattle.x25_line.proofs.sessions.SessionLines.{numbers}
-use Rattle.x25_line.proofs.sessions.SessionActs.{in_session}
-use Rattle.x25_line.proofs.sessions.SessionRuns.{HeldOf, held_swapped, throughout}
-use Rattle.x25_line.proofs.HealingRuns.{fit_from}
-use Rattle.x25_line.proofs.HealingLines.{Reads, reads_more}
+use Rattle.x25_line.specs.{laws.SessionClaims.{Throughout}, Healing.{AreDeliveries}, laws.LawsBelow.{HealingLaws}}
+use Rattle.x25_line.proofs.{Kept.{Kept, Kept-swapped, Way, hears_valid, Way-acked, resolved_is}, Frames.{Acks-le}, StationLines.{front_of, consed}}
+use Rattle.x25_line.proofs.{StationSteps.{AsUp, not_both}, sessions.SessionLines.{numbers}, sessions.SessionActs.{in_session}}
+use Rattle.x25_line.proofs.{sessions.SessionRuns.{HeldOf, held_swapped, throughout}, HealingRuns.{fit_from}, HealingLines.{Reads, reads_more}}
 
 -- ---- worlds that events lead to
 

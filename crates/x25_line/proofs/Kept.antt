@@ -1,11 +1,9 @@
 -- What each move of the window machine keeps, and so each list of moves.
 use Rattle.std.proofs.Common.{◌≡◌, ℕ, ◌+◌, ◌%◌, ◌<◌, ◌≤◌, List, [], ◌∷◌, ◌++◌, length, take, drop, remove, max, Option, Some, None, Bool, true, false, arith, ◌∙◌, sym, ap}
-use Rattle.std.specs.List.{slice_get}
-use Rattle.std.proofs.lemmas.Grind.{common_steps}
-use Rattle.std.proofs.lemmas.List.{take-append-drop, take_all, take_more, length_push, append-nil}
+use Rattle.std.proofs.{lemmas.Grind.{common_steps}, lemmas.List.{take-append-drop, take_all, take_more, length_push, append-nil}}
 use Rattle.std.proofs.lemmas.Option.{slice_get_within, get_or_from_slice_get}
-use Rattle.x25_window.specs.code.Modulo.{resolved}
-use Rattle.x25_window.specs.laws.Window.{End, Frame, Numbered, Allows, after, frames_of, numbered}
+use Rattle.std.specs.List.{slice_get}
+use Rattle.x25_window.specs.{code.Modulo.{resolved}, laws.Window.{End, Frame, Numbered, Allows, after, frames_of, numbered}}
 use Rattle.x25_window.specs.laws.Window.Step.{HandDown, Send, Tell, Hear, Take}
 use Rattle.x25_line.specs.laws.Line.{Line, Move, MayTake, FrontMayBeTaken, AllowsMove, swapped, takes_item, front_arrived, moved}
 use Rattle.x25_line.specs.laws.Line.Move.{HandsDown, Sends, Tells, Arrives, Loses}

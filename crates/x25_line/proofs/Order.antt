@@ -1,22 +1,14 @@
 -- Two ends of one link that is set up once keep the way in both directions, whatever they send, hear and lose within the rules of a peer; and that
 -- says what holds of their order.
 use Rattle.std.proofs.Common.{◌≡◌, ℕ, zero, suc, ◌+◌, ◌%◌, ◌≤◌, arith, max, List, [], ◌∷◌, ◌++◌, length, drop, remove, Bool, true, false, if◌then◌else◌, Option, Some, None, Result, Ok, Err, refl, sym, ap, ◌∙◌, subst, append-nil}
+use Rattle.std.proofs.{lemmas.Bool.{le-leb}, lemmas.List.{take-append-drop, take_all}, lemmas.Option.{slice_get_within}}
 use Rattle.std.specs.Prelude.{nat_le}
-use Rattle.std.proofs.lemmas.Bool.{le-leb}
-use Rattle.std.proofs.lemmas.List.{take-append-drop, take_all}
-use Rattle.std.proofs.lemmas.Option.{slice_get_within}
-use Rattle.x25_frame.specs.Frame.{PlainFrame, info, rr, rnr, rej}
-use Rattle.x25_frame.specs.declared.error.FrameError.{FrameError}
+use Rattle.x25_frame.specs.{Frame.{PlainFrame, info, rr, rnr, rej}, declared.error.FrameError.{FrameError}}
 use Rattle.x25_frame.specs.declared.error.FrameError.TheVariants.{Short, BadFcs, BadAddress}
-use Rattle.x25_window.specs.code.Modulo.{resolved}
-use Rattle.x25_window.specs.laws.Window.{End, Frame, Numbered}
-use Rattle.x25_link.specs.declared.phase.Reason.{Reason}
-use Rattle.x25_link.specs.declared.phase.Reason.TheVariants.{FrmrSent}
-use Rattle.x25_link.specs.laws.WindowMachine.{Window}
+use Rattle.x25_window.specs.{code.Modulo.{resolved}, laws.Window.{End, Frame, Numbered}}
+use Rattle.x25_link.specs.{declared.phase.Reason.{Reason}, declared.phase.Reason.TheVariants.{FrmrSent}, laws.WindowMachine.{Window}}
 use Rattle.x25_link.specs.laws.WindowLaw.{ending_of}
-use Rattle.x25_line.specs.laws.InWindow.{IsPrefix}
-use Rattle.x25_line.specs.laws.WholeNumbers.{taken_out}
-use Rattle.x25_line.specs.laws.Said.{Said, Carried, Tells, Odd as OddSaid, said}
+use Rattle.x25_line.specs.{laws.InWindow.{IsPrefix}, laws.WholeNumbers.{taken_out}, laws.Said.{Said, Carried, Tells, Odd as OddSaid, said}}
 use Rattle.x25_line.specs.laws.Peer.{Peer, fresh_peer, numbered_to, told_to, hearing, IsWanted, taking, MaySay, MayMake}
 use Rattle.x25_line.proofs.Kept.{Way, BothWays, hears_valid, Way-hand, Way-send, Way-tell, Way-told, Way-hears, Way-takes, Way-giver, Way-unheard, Way-passed, Way-acked}
 

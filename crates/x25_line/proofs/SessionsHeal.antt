@@ -1,25 +1,16 @@
 -- The laws of healing: what rest shows; whatever the two ends are on a drained line, with one busy end, and while packets are put.
-use Rattle.std.proofs.Common.{◌≡◌, ℕ, List, [], ◌∷◌, ◌⊎◌, inl, Option, Some, None, refl, sym, ap, ◌∙◌}
+use Rattle.std.proofs.Common.{◌≡◌, ℕ, List, [], ◌∷◌, inl, Option, Some, None, refl, sym, ap, ◌∙◌}
 use Rattle.x25_frame.specs.laws.ReadingLaw.{ReadsSpelled}
-use Rattle.x25_link.specs.declared.error.LinkError.{LinkError}
-use Rattle.x25_link.specs.Station.{Settings}
-use Rattle.x25_link.specs.Hearing.{Step}
-use Rattle.x25_link.specs.Link.{take_step, timer_step, timer_refusal}
-use Rattle.x25_link.specs.laws.RestLaw.{IsAtRest}
-use Rattle.x25_link.specs.laws.BusyLaw.{BusyLaws}
+use Rattle.x25_link.specs.{declared.error.LinkError.{LinkError}, Station.{Settings}, Hearing.{Step}, Link.{take_step, timer_step, timer_refusal}}
+use Rattle.x25_link.specs.{laws.RestLaw.{IsAtRest}, laws.BusyLaw.{BusyLaws}}
 use Rattle.x25_line.specs.laws.Stations.{Deliver, T1, Event}
 use Rattle.x25_line.specs.laws.Sessions.{Entry, Meeting, Sessions, begun_by, after_step, unless, delivered, acts, swapped, run}
-use Rattle.x25_line.specs.laws.StationClaims.{AreJoined}
-use Rattle.x25_line.specs.laws.SessionClaims.{Throughout, IdleHasArrived}
-use Rattle.x25_line.specs.Healing.{EachRestShows, AreDeliveries, SessionsHealUnlessBothBusy}
-use Rattle.x25_line.specs.laws.LawsBelow.{HealingLaws}
+use Rattle.x25_line.specs.{laws.StationClaims.{AreJoined}, laws.SessionClaims.{Throughout, IdleHasArrived}}
+use Rattle.x25_line.specs.{Healing.{EachRestShows, AreDeliveries, SessionsHealUnlessBothBusy}, laws.LawsBelow.{HealingLaws}}
 use Rattle.x25_line.specs.laws.HealingPuts.{SessionsHaveArrived, PutsHealSessions}
-use Rattle.x25_line.proofs.sessions.SessionHeld.{extended_nil}
-use Rattle.x25_line.proofs.sessions.TwoSessions.{idle_has_arrived}
-use Rattle.x25_line.proofs.HealingSteps.{IsDrained, Reached, at_reached, in_order_at, deliveries_keep}
-use Rattle.x25_line.proofs.HealingEnds.{after_firings, rest_or_out}
-use Rattle.x25_line.proofs.HealingBoth.{HealsAt, begins, both_settle, deliveries_heal}
-use Rattle.x25_line.proofs.HealingPuts.{puts_run}
+use Rattle.x25_line.proofs.{sessions.SessionHeld.{extended_nil}, sessions.TwoSessions.{idle_has_arrived}}
+use Rattle.x25_line.proofs.{HealingSteps.{IsDrained, Reached, at_reached, in_order_at, deliveries_keep}, HealingEnds.{after_firings, rest_or_out}}
+use Rattle.x25_line.proofs.{HealingBoth.{HealsAt, begins, both_settle, deliveries_heal}, HealingPuts.{puts_run}}
 
 -- ---- firings and deliveries hand nothing down
 

@@ -1,26 +1,16 @@
 -- What each act of a station keeps, as long as it doesn't note LinkUp, where a few kinds of steps keep it.
 use Rattle.std.proofs.Common.{◌≡◌, ℕ, suc, ◌≤◌, List, [], ◌∷◌, inl, inr, length, remove, Bool, true, false, if◌then◌else◌, Option, Some, None, Result, Ok, refl, sym, ap, ◌∙◌, subst}
-use Rattle.std.specs.Prelude.{nat_le, nat_lt}
 use Rattle.std.proofs.lemmas.Bool.{leb-true}
-use Rattle.x25_frame.specs.Frame.{PlainFrame, sabm, disc}
-use Rattle.x25_frame.specs.Reading.{frame_of}
-use Rattle.x25_frame.specs.declared.error.FrameError.{FrameError}
-use Rattle.x25_link.specs.declared.phase.Phase.{Phase}
-use Rattle.x25_link.specs.declared.phase.Phase.TheVariants.{Down, Waiting, Up, Closed}
-use Rattle.x25_link.specs.declared.phase.Notes.{Notes}
-use Rattle.x25_link.specs.declared.phase.Reason.{Reason}
-use Rattle.x25_link.specs.declared.phase.Reason.TheVariants.{Retries, FrmrSent, Reset, Local, Counts}
-use Rattle.x25_link.specs.declared.error.LinkError.{LinkError}
-use Rattle.x25_link.specs.Station.{Settings, LinkStation, is_up, with_nothing}
-use Rattle.x25_link.specs.Hearing.{Step, other}
+use Rattle.std.specs.Prelude.{nat_le, nat_lt}
+use Rattle.x25_frame.specs.{Frame.{PlainFrame, sabm, disc}, Reading.{frame_of}, declared.error.FrameError.{FrameError}}
+use Rattle.x25_link.specs.{declared.phase.Phase.{Phase}, declared.phase.Phase.TheVariants.{Down, Waiting, Up, Closed}, declared.phase.Notes.{Notes}}
+use Rattle.x25_link.specs.{declared.phase.Reason.{Reason}, declared.phase.Reason.TheVariants.{Retries, FrmrSent, Reset, Local, Counts}}
+use Rattle.x25_link.specs.{declared.error.LinkError.{LinkError}, Station.{Settings, LinkStation, is_up, with_nothing}, Hearing.{Step, other}}
 use Rattle.x25_link.specs.Link.{take_step, put_step, put_refusal, timer_step, timer_refusal, timer_runs, connect_step, connect_refusal, disconnect_step, disconnect_refusal, abandon_step}
-use Rattle.x25_link.specs.laws.NoteLaw.{IsQuiet}
-use Rattle.x25_link.specs.laws.WindowMachine.{Window, nothing}
-use Rattle.x25_link.specs.laws.SetUp.{Is, TakesPart}
+use Rattle.x25_link.specs.{laws.NoteLaw.{IsQuiet}, laws.WindowMachine.{Window, nothing}, laws.SetUp.{Is, TakesPart}}
 use Rattle.x25_link.specs.laws.WindowLaw.{Stays, Ends, Follows, IsOut, sets_up, StaysOut}
 use Rattle.x25_line.specs.laws.Stations.{Stations, Act, Put, Deliver, T1, Connect, Disconnect, Abandon, Probe, Lose, Damage, after_step, unless, delivered, replaced, is_visible, acts}
-use Rattle.x25_line.specs.laws.LawsBelow.{Laws}
-use Rattle.x25_line.specs.laws.PeerClaims.{IsNoFrmr}
+use Rattle.x25_line.specs.{laws.LawsBelow.{Laws}, laws.PeerClaims.{IsNoFrmr}}
 use Rattle.x25_line.proofs.StationLines.{AreParting}
 use Rattle.x25_line.proofs.StationSteps.{MayBeAway, away_is_not_up, out_is_away, AsUp, IsAway, FitsEnd, not_both, Leaves, last_parting, last_away, empty_lists, declining_parting}
 use Rattle.x25_line.proofs.StationAway.{closed_takes, waits_on, waiting_parting, up_takes_part, connects_from, second_false}

@@ -1,24 +1,15 @@
 -- What a station does that is Closed, that awaits UA or that sends FRMR, as far as the laws of a link don't say it in these words.
 use Rattle.std.proofs.Common.{◌≡◌, ℕ, zero, suc, List, [], ◌∷◌, length, Bool, true, false, if◌then◌else◌, Option, Some, None, Result, Ok, Err, refl, sym, ap, ◌∙◌, subst}
 use Rattle.std.specs.Prelude.{◌&&◌, ◌||◌}
-use Rattle.x25_frame.specs.Frame.{PlainFrame, info, rr, rnr, rej, ua, dm, frmr}
-use Rattle.x25_frame.specs.Spelling.{is_command, poll_or_final}
-use Rattle.x25_frame.specs.Reading.{frame_of}
-use Rattle.x25_frame.specs.declared.error.FrameError.{FrameError}
-use Rattle.x25_frame.specs.declared.error.FrameError.TheVariants.{Undefined, NoInfoAllowed, TooLong}
-use Rattle.x25_link.specs.declared.phase.Phase.{Phase}
-use Rattle.x25_link.specs.declared.phase.Phase.TheVariants.{Down, Up, Closed}
-use Rattle.x25_link.specs.declared.phase.Reason.{Reason}
-use Rattle.x25_link.specs.declared.phase.Reason.TheVariants.{FrmrSent}
-use Rattle.x25_link.specs.declared.phase.Notes.{Notes}
-use Rattle.x25_link.specs.laws.NoteLaw.{IsQuiet}
+use Rattle.x25_frame.specs.{Frame.{PlainFrame, info, rr, rnr, rej, ua, dm, frmr}, Spelling.{is_command, poll_or_final}, Reading.{frame_of}}
+use Rattle.x25_frame.specs.{declared.error.FrameError.{FrameError}, declared.error.FrameError.TheVariants.{Undefined, NoInfoAllowed, TooLong}}
+use Rattle.x25_link.specs.{declared.phase.Phase.{Phase}, declared.phase.Phase.TheVariants.{Down, Up, Closed}, declared.phase.Reason.{Reason}}
+use Rattle.x25_link.specs.{declared.phase.Reason.TheVariants.{FrmrSent}, declared.phase.Notes.{Notes}, laws.NoteLaw.{IsQuiet}}
 use Rattle.x25_link.specs.Station.{Settings, LinkStation, Side, is_up, sends, pumped, pumped_once, ended}
 use Rattle.x25_link.specs.Hearing.{Step, quiet, other, rejects, is_valid, acknowledged, hears_info, peer_is, goes_back, polls}
-use Rattle.x25_link.specs.Link.{alone, closed_by, hears, take_step, connect_refusal}
-use Rattle.x25_link.specs.laws.SetUp.{waiting_after, waiting_sends, waiting_up, TakesPart}
+use Rattle.x25_link.specs.{Link.{alone, closed_by, hears, take_step, connect_refusal}, laws.SetUp.{waiting_after, waiting_sends, waiting_up, TakesPart}}
 use Rattle.x25_link.specs.laws.WindowLaw.{window_of, ending_of, IsOut, StaysOut}
-use Rattle.x25_line.proofs.StationLines.{AreParting}
-use Rattle.x25_line.proofs.StationSteps.{away_is_not_up, out_is_away, not_both}
+use Rattle.x25_line.proofs.{StationLines.{AreParting}, StationSteps.{away_is_not_up, out_is_away, not_both}}
 
 -- ---- a station that isn't Up sends nothing at the end of a step
 

@@ -1,24 +1,16 @@
 -- What holds of two stations says the claims.
 use Rattle.std.proofs.Common.{◌≡◌, ◌==◌, ℕ, ◌-◌, zero, suc, ◌≤◌, List, [], ◌∷◌, ◌++◌, inl, inr, length, take, drop, Bool, true, false, refl, sym, ap, ◌∙◌, subst, arith}
+use Rattle.std.proofs.{lemmas.Bool.{eqb-true, and_parts}, lemmas.List.{take-append-drop, take_all}}
 use Rattle.std.specs.Prelude.{replicate, ◌&&◌}
-use Rattle.std.proofs.lemmas.Bool.{eqb-true, and_parts}
-use Rattle.std.proofs.lemmas.List.{take-append-drop, take_all}
 use Rattle.x25_frame.specs.laws.ReadingLaw.{ReadsSpelled}
 use Rattle.x25_window.specs.laws.Window.{End, Frame}
-use Rattle.x25_link.specs.declared.phase.Reason.TheVariants.{Retries}
-use Rattle.x25_link.specs.Outgoing.{waits}
-use Rattle.x25_link.specs.OrderedLink.{Lists, no_packets}
-use Rattle.x25_link.specs.Station.{Settings, LinkStation, is_up, lists_of}
-use Rattle.x25_link.specs.Link.{is_idle}
-use Rattle.x25_link.specs.laws.WindowMachine.{Window}
-use Rattle.x25_line.specs.laws.InWindow.{IsPrefix}
-use Rattle.x25_line.specs.laws.Line.{Line}
-use Rattle.x25_line.specs.laws.Stations.{StationEnd, Stations, Event, run, start}
+use Rattle.x25_link.specs.{declared.phase.Reason.TheVariants.{Retries}, Outgoing.{waits}, OrderedLink.{Lists, no_packets}}
+use Rattle.x25_link.specs.{Station.{Settings, LinkStation, is_up, lists_of}, Link.{is_idle}, laws.WindowMachine.{Window}}
+use Rattle.x25_line.specs.{laws.InWindow.{IsPrefix}, laws.Line.{Line}, laws.Stations.{StationEnd, Stations, Event, run, start}}
 use Rattle.x25_line.specs.laws.WholeNumbers.{machine_run, machine_at_start, MachineGoesAlong}
 use Rattle.x25_line.specs.laws.StationClaims.{AreJoined, IsSetUpOnce, Always, InOrder, BothInOrder, HasItsLists, BothHaveTheirLists, NotesItsEnd, BothNoteTheirEnds, OneLinkUnlessConnected, IsBehind, AreInWindow, NoFrmrSent, AreWhole, AllSentAreWhole}
 use Rattle.x25_line.specs.laws.LawsBelow.{Laws}
-use Rattle.x25_line.proofs.Kept.{Way, Way-acked, InWindow-from_Kept}
-use Rattle.x25_line.proofs.StationSteps.{away_is_not_up, AsUp, FitsEnd, NotesOnce, Joint, Holds, not_both}
+use Rattle.x25_line.proofs.{Kept.{Way, Way-acked, InWindow-from_Kept}, StationSteps.{away_is_not_up, AsUp, FitsEnd, NotesOnce, Joint, Holds, not_both}}
 use Rattle.x25_line.proofs.StationRuns.{run_once, run_unasked, start_machine}
 
 -- beginnings of one list, the shorter is one of the longer

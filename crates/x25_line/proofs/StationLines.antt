@@ -1,20 +1,14 @@
 -- The octets on a line, and the frames of the window machine that they show.
 use Rattle.std.proofs.Common.{◌≡◌, ℕ, zero, suc, ◌%◌, List, [], ◌∷◌, ◌++◌, ◌⊎◌, inl, inr, length, map, remove, Bool, true, false, not, if◌then◌else◌, Option, Some, None, Result, Ok, Err, refl, sym, ap, ◌∙◌, subst}
-use Rattle.std.specs.Prelude.{◌||◌, nat_lt, option_to_list}
-use Rattle.std.specs.List.{Contains}
 use Rattle.std.proofs.lemmas.List.Elements.{Contains-append_left, Contains-append_right, Contains-append_cases}
-use Rattle.x25_bits.specs.FrameCheck.Sealed.{is_sealed}
-use Rattle.x25_bits.specs.declared.role.Role.{Role}
-use Rattle.x25_frame.specs.Frame.{PlainFrame, info, sabm, disc, ua, dm, frmr}
-use Rattle.x25_frame.specs.Spelling.{spelling_of, information_of, IsInRange, MayCarry, IsWithin}
-use Rattle.x25_frame.specs.Reading.{frame_of, addressed_frame}
-use Rattle.x25_frame.specs.declared.error.FrameError.{FrameError}
-use Rattle.x25_frame.specs.declared.error.FrameError.TheVariants.{Short, BadFcs, Undefined, NoInfoAllowed, TooLong}
+use Rattle.std.specs.{Prelude.{◌||◌, nat_lt, option_to_list}, List.{Contains}}
+use Rattle.x25_bits.specs.{FrameCheck.Sealed.{is_sealed}, declared.role.Role.{Role}}
+use Rattle.x25_frame.specs.{Frame.{PlainFrame, info, sabm, disc, ua, dm, frmr}, Spelling.{spelling_of, information_of, IsInRange, MayCarry, IsWithin}}
+use Rattle.x25_frame.specs.{Reading.{frame_of, addressed_frame}, declared.error.FrameError.{FrameError}}
+use Rattle.x25_frame.specs.{declared.error.FrameError.TheVariants.{Short, BadFcs, Undefined, NoInfoAllowed, TooLong}, laws.ReadingLaw.{ReadsSpelled}}
 use Rattle.x25_window.specs.laws.Window.{Numbered, Frame}
-use Rattle.x25_frame.specs.laws.ReadingLaw.{ReadsSpelled}
 use Rattle.x25_link.specs.laws.WindowMachine.{ShowsItem, Shows, ShowAll}
-use Rattle.x25_line.specs.laws.Stations.{replaced, is_visible}
-use Rattle.x25_line.specs.laws.StationClaims.{number_in, numbered_on, NoFrmr, IsHandedDown, AreWhole}
+use Rattle.x25_line.specs.{laws.Stations.{replaced, is_visible}, laws.StationClaims.{number_in, numbered_on, NoFrmr, IsHandedDown, AreWhole}}
 use Rattle.x25_line.specs.laws.WholeNumbers.{first_of, one_more, behind, place_of, taken_out}
 
 -- ---- frames by frames

@@ -1,38 +1,23 @@
 -- Each act of one of two stations is what a peer may do, so each of them is a peer of the other.
 use Rattle.std.proofs.Common.{◌≡◌, ℕ, ◌+◌, ◌%◌, ◌≤◌, List, [], ◌∷◌, ◌++◌, inl, inr, length, remove, Bool, true, false, if◌then◌else◌, Option, Some, None, Result, Ok, Err, refl, sym, ap, ◌∙◌, subst, arith, append-nil}
-use Rattle.std.specs.Prelude.{nat_le, option_to_list}
 use Rattle.std.proofs.lemmas.List.{length_push}
+use Rattle.std.specs.Prelude.{nat_le, option_to_list}
 use Rattle.x25_bits.specs.declared.role.Role.{Role}
-use Rattle.x25_frame.specs.Frame.{PlainFrame, info, rr, rnr, rej, sabm, disc, ua, dm, frmr}
-use Rattle.x25_frame.specs.Reading.{frame_of}
-use Rattle.x25_frame.specs.laws.ReadingLaw.{ReadsSpelled}
-use Rattle.x25_frame.specs.declared.error.FrameError.{FrameError}
-use Rattle.x25_frame.specs.declared.error.FrameError.TheVariants.{Undefined, NoInfoAllowed, TooLong}
-use Rattle.x25_window.specs.code.Modulo.{resolved}
-use Rattle.x25_window.specs.laws.Window.{after}
-use Rattle.x25_window.specs.laws.Window.Step.{HandDown, Hear, Take}
-use Rattle.x25_link.specs.declared.phase.Reason.{Reason}
-use Rattle.x25_link.specs.declared.phase.Reason.TheVariants.{Disc, Dm, FrmrSent, FrmrGot}
-use Rattle.x25_link.specs.declared.error.LinkError.{LinkError}
-use Rattle.x25_link.specs.Station.{Settings, LinkStation, is_up}
-use Rattle.x25_link.specs.Hearing.{Step, other}
+use Rattle.x25_frame.specs.{Frame.{PlainFrame, info, rr, rnr, rej, sabm, disc, ua, dm, frmr}, Reading.{frame_of}, laws.ReadingLaw.{ReadsSpelled}}
+use Rattle.x25_frame.specs.{declared.error.FrameError.{FrameError}, declared.error.FrameError.TheVariants.{Undefined, NoInfoAllowed, TooLong}}
+use Rattle.x25_window.specs.{code.Modulo.{resolved}, laws.Window.{after}, laws.Window.Step.{HandDown, Hear, Take}}
+use Rattle.x25_link.specs.{declared.phase.Reason.{Reason}, declared.phase.Reason.TheVariants.{Disc, Dm, FrmrSent, FrmrGot}}
+use Rattle.x25_link.specs.{declared.error.LinkError.{LinkError}, Station.{Settings, LinkStation, is_up}, Hearing.{Step, other}}
 use Rattle.x25_link.specs.Link.{take_step, put_step, put_refusal, timer_refusal, connect_refusal, disconnect_refusal}
 use Rattle.x25_link.specs.laws.WindowMachine.{Window, Input, hands_down, receives, nothing}
-use Rattle.x25_link.specs.laws.WindowLaw.{window_of, after_input, MayHandUp, ending_of, brought_by, Stays, Ends, Follows}
+use Rattle.x25_link.specs.{laws.WindowLaw.{window_of, after_input, MayHandUp, ending_of, brought_by, Stays, Ends, Follows}, declared.phase.Notes.{Notes}}
 use Rattle.x25_line.specs.laws.Stations.{StationEnd, Stations, Act, Put, Deliver, T1, Connect, Disconnect, Abandon, Probe, Lose, Damage, Event, Near, Far, after_step, unless, delivered, replaced, is_visible, acts, swapped, happens, run, start}
-use Rattle.x25_line.specs.laws.StationClaims.{AreJoined, IsSetUpOnce, Always, HandsOne}
-use Rattle.x25_line.specs.laws.LawsBelow.{Laws}
-use Rattle.x25_line.specs.laws.Said.{Said, Tells, said}
-use Rattle.x25_line.specs.laws.Peer.{Peer, fresh_peer, hearing, IsWanted, taking, MayMake, MaySend, MayHear}
-use Rattle.x25_line.specs.laws.PeerClaims.{NoneIsFrmr}
-use Rattle.x25_link.specs.declared.phase.Notes.{Notes}
+use Rattle.x25_line.specs.{laws.StationClaims.{AreJoined, IsSetUpOnce, Always, HandsOne}, laws.LawsBelow.{Laws}, laws.Said.{Said, Tells, said}}
+use Rattle.x25_line.specs.{laws.Peer.{Peer, fresh_peer, hearing, IsWanted, taking, MayMake, MaySend, MayHear}, laws.PeerClaims.{NoneIsFrmr}}
 use Rattle.x25_line.specs.laws.PeerJoined.{our_end, with_peer, Ours, HandsDown, Sends, Hears, Loses, Damages, IsReached, at_start, goes_on}
 use Rattle.x25_line.specs.laws.StationPeers.{seen, IsPeer, AreBothPeers}
-use Rattle.x25_line.proofs.StationSends.{AllWithin, within_push}
-use Rattle.x25_line.proofs.StationSteps.{MayBeAway, AsUp, IsAway, FitsEnd, no_packet_of, Leaves, empty_lists}
-use Rattle.x25_line.proofs.StationAway.{is_up_phase, frmr_three}
-use Rattle.x25_line.proofs.StationEvents.{each_hands_one}
-use Rattle.x25_line.proofs.StationRuns.{joined_swapped, once_before}
+use Rattle.x25_line.proofs.{StationSends.{AllWithin, within_push}, StationSteps.{MayBeAway, AsUp, IsAway, FitsEnd, no_packet_of, Leaves, empty_lists}}
+use Rattle.x25_line.proofs.{StationAway.{is_up_phase, frmr_three}, StationEvents.{each_hands_one}, StationRuns.{joined_swapped, once_before}}
 use Rattle.x25_line.proofs.StationSays.{machine_of, MayDo, AllFree, parting_free, frmr_free, free_all, runs_said}
 use Rattle.x25_line.proofs.StationActs.{MayAsk, NotesNoFrmr, NoSabm, Parts, ends_parts, Lasts, acts_last}
 

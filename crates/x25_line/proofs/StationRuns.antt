@@ -1,26 +1,16 @@
 -- Each event keeps what holds of two stations, so each run does.
 use Rattle.std.proofs.Common.{◌≡◌, ℕ, suc, ◌≤◌, List, [], ◌∷◌, ◌++◌, inl, inr, length, remove, Bool, true, false, if◌then◌else◌, Option, Some, None, Result, Ok, refl, sym, ap, ◌∙◌, subst, arith, append-nil}
-use Rattle.std.specs.Prelude.{nat_le, nat_lt}
 use Rattle.std.proofs.lemmas.Bool.{leb-true}
-use Rattle.x25_frame.specs.Frame.{PlainFrame, sabm, disc}
-use Rattle.x25_frame.specs.Reading.{frame_of}
-use Rattle.x25_frame.specs.laws.ReadingLaw.{ReadsSpelled}
-use Rattle.x25_frame.specs.declared.error.FrameError.{FrameError}
-use Rattle.x25_window.specs.laws.Window.{Frame, after}
-use Rattle.x25_window.specs.laws.Window.Step.{HandDown}
-use Rattle.x25_link.specs.declared.phase.Phase.{Phase}
-use Rattle.x25_link.specs.declared.phase.Phase.TheVariants.{Down, Waiting, Up, Closed}
-use Rattle.x25_link.specs.declared.phase.Reason.TheVariants.{Retries, Local, Counts}
-use Rattle.x25_link.specs.declared.error.LinkError.{LinkError}
-use Rattle.x25_link.specs.laws.NoteLaw.{Tells}
-use Rattle.x25_link.specs.Station.{Settings, LinkStation, is_up, with_nothing}
-use Rattle.x25_link.specs.Hearing.{Step, other}
+use Rattle.std.specs.Prelude.{nat_le, nat_lt}
+use Rattle.x25_frame.specs.{Frame.{PlainFrame, sabm, disc}, Reading.{frame_of}, laws.ReadingLaw.{ReadsSpelled}, declared.error.FrameError.{FrameError}}
+use Rattle.x25_window.specs.{laws.Window.{Frame, after}, laws.Window.Step.{HandDown}}
+use Rattle.x25_link.specs.{declared.phase.Phase.{Phase}, declared.phase.Phase.TheVariants.{Down, Waiting, Up, Closed}}
+use Rattle.x25_link.specs.{declared.phase.Reason.TheVariants.{Retries, Local, Counts}, declared.error.LinkError.{LinkError}, laws.NoteLaw.{Tells}}
+use Rattle.x25_link.specs.{Station.{Settings, LinkStation, is_up, with_nothing}, Hearing.{Step, other}}
 use Rattle.x25_link.specs.Link.{take_step, put_step, put_refusal, timer_step, timer_refusal, timer_runs, connect_step, connect_refusal, disconnect_step, disconnect_refusal, abandon_step}
-use Rattle.x25_link.specs.laws.WindowMachine.{Window, hands_down, nothing, ShowAll}
-use Rattle.x25_link.specs.laws.SetUp.{Is, TakesPart}
+use Rattle.x25_link.specs.{laws.WindowMachine.{Window, hands_down, nothing, ShowAll}, laws.SetUp.{Is, TakesPart}}
 use Rattle.x25_link.specs.laws.WindowLaw.{Follows, IsOut, sets_up, StaysOut}
-use Rattle.x25_line.specs.laws.Line.{Line, moved, swapped as line_swapped}
-use Rattle.x25_line.specs.laws.Line.Move.{HandsDown, Loses}
+use Rattle.x25_line.specs.{laws.Line.{Line, moved, swapped as line_swapped}, laws.Line.Move.{HandsDown, Loses}}
 use Rattle.x25_line.specs.laws.Stations.{StationEnd, Stations, Act, Put, Deliver, T1, Connect, Disconnect, Abandon, Probe, Lose, Damage, Event, Near, Far, after_step, unless, delivered, replaced, is_visible, acts, swapped, happens, run, fresh_station, start}
 use Rattle.x25_line.specs.laws.WholeNumbers.{first_of, place_of, taken_out, left_at, place_taken, machine_acts, machine_happens, machine_run, machine_at_start}
 use Rattle.x25_line.specs.laws.LawsBelow.{Laws}

@@ -1,25 +1,15 @@
 -- What an end may do that keeps the rules of a peer; and what a station sends, which is that.
 use Rattle.std.proofs.Common.{◌≡◌, ℕ, ◌+◌, ◌≤◌, List, [], ◌∷◌, ◌++◌, length, map, remove, Bool, true, Option, Some, None, Result, Ok, refl, sym, ap, ◌∙◌, subst, arith, append_assoc, append-nil}
-use Rattle.std.specs.List.{slice_get}
 use Rattle.std.proofs.lemmas.List.{map-append}
+use Rattle.std.specs.List.{slice_get}
 use Rattle.x25_bits.specs.declared.role.Role.{Role}
-use Rattle.x25_frame.specs.Frame.{PlainFrame, info, rr, rnr, rej, sabm, disc, ua, dm, frmr}
-use Rattle.x25_frame.specs.Spelling.{spelling_of}
-use Rattle.x25_frame.specs.Reading.{frame_of}
-use Rattle.x25_frame.specs.laws.ReadingLaw.{ReadsSpelled}
-use Rattle.x25_frame.specs.declared.error.FrameError.{FrameError}
-use Rattle.x25_window.specs.laws.Window.{Step, Frame, Allows, after, frame_of as machine_frame, frames_of, numbered}
-use Rattle.x25_window.specs.laws.Window.Step.{Send, Tell}
-use Rattle.x25_link.specs.Station.{Settings}
-use Rattle.x25_link.specs.Hearing.{other}
-use Rattle.x25_link.specs.declared.phase.Reason.TheVariants.{FrmrSent}
-use Rattle.x25_link.specs.laws.WindowLaw.{ending_of}
+use Rattle.x25_frame.specs.{Frame.{PlainFrame, info, rr, rnr, rej, sabm, disc, ua, dm, frmr}, Spelling.{spelling_of}, Reading.{frame_of}}
+use Rattle.x25_frame.specs.{laws.ReadingLaw.{ReadsSpelled}, declared.error.FrameError.{FrameError}}
+use Rattle.x25_window.specs.{laws.Window.{Step, Frame, Allows, after, frame_of as machine_frame, frames_of, numbered}, laws.Window.Step.{Send, Tell}}
+use Rattle.x25_link.specs.{Station.{Settings}, Hearing.{other}, declared.phase.Reason.TheVariants.{FrmrSent}, laws.WindowLaw.{ending_of}}
 use Rattle.x25_link.specs.laws.WindowMachine.{Window, ShowsItem, Shows, ShowAll, IsSent, Runs, rests, goes_on}
-use Rattle.x25_line.specs.laws.Stations.{replaced, is_visible}
-use Rattle.x25_line.specs.laws.StationClaims.{number_in}
-use Rattle.x25_line.specs.laws.Peer.{Peer, MaySend, MayHear, numbered_to, told_to}
-use Rattle.x25_line.proofs.StationLines.{IsGood, AreParting, good_reads}
-use Rattle.x25_line.proofs.StationSends.{AllWithin, Item, item_at, tell_good, send_good, not_none}
+use Rattle.x25_line.specs.{laws.Stations.{replaced, is_visible}, laws.StationClaims.{number_in}, laws.Peer.{Peer, MaySend, MayHear, numbered_to, told_to}}
+use Rattle.x25_line.proofs.{StationLines.{IsGood, AreParting, good_reads}, StationSends.{AllWithin, Item, item_at, tell_good, send_good, not_none}}
 
 -- the peer as an end of the window machine, with a station's k
 abbrev pub machine_of : ℕ → Peer → Window

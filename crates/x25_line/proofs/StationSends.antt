@@ -1,18 +1,14 @@
 -- A run of a station that only sends is moves of the window machine that it allows, and its frames show those of the machine.
 use Rattle.std.proofs.Common.{◌≡◌, ℕ, zero, suc, ◌+◌, ◌%◌, ◌<◌, ◌≤◌, max, List, [], ◌∷◌, ◌++◌, length, Option, Some, None, refl, sym, ap, ◌∙◌, subst, arith, append_assoc, append-nil}
-use Rattle.std.specs.List.{slice_get}
 use Rattle.std.proofs.lemmas.Option.{slice_get_within, get_or_from_slice_get}
+use Rattle.std.specs.List.{slice_get}
 use Rattle.x25_frame.specs.Frame.{PlainFrame, info, rr, rnr, rej}
-use Rattle.x25_window.specs.code.Modulo.{resolved}
-use Rattle.x25_window.specs.laws.Window.{Step, Numbered, Frame, Allows, after, frame_of, frames_of, numbered}
+use Rattle.x25_window.specs.{code.Modulo.{resolved}, laws.Window.{Step, Numbered, Frame, Allows, after, frame_of, frames_of, numbered}}
 use Rattle.x25_window.specs.laws.Window.Step.{Send, Tell}
 use Rattle.x25_link.specs.laws.WindowMachine.{Window, ShowsItem, Shows, ShowAll, IsSent, Runs, rests, goes_on}
-use Rattle.x25_line.specs.laws.Line.{Line, steps}
-use Rattle.x25_line.specs.laws.Line.Move.{Sends, Tells}
-use Rattle.x25_line.specs.laws.StationClaims.{IsReached, near_moves, IsHandedDown}
+use Rattle.x25_line.specs.{laws.Line.{Line, steps}, laws.Line.Move.{Sends, Tells}, laws.StationClaims.{IsReached, near_moves, IsHandedDown}}
 use Rattle.x25_line.specs.laws.WholeNumbers.{given}
-use Rattle.x25_line.proofs.Kept.{Kept, Kept-moved, resolved_is}
-use Rattle.x25_line.proofs.StationLines.{shows_append, IsGood, AllGood, good_append, AllHandedDown, handed_append}
+use Rattle.x25_line.proofs.{Kept.{Kept, Kept-moved, resolved_is}, StationLines.{shows_append, IsGood, AllGood, good_append, AllHandedDown, handed_append}}
 
 -- ---- packets
 

@@ -1,30 +1,17 @@
 -- What holds of two stations and the window machine behind the line, and that a step of the near end keeps it.
 use Rattle.std.proofs.Common.{◌≡◌, ℕ, ◌+◌, ◌%◌, arith, List, [], ◌∷◌, ◌++◌, ◌⊎◌, inl, inr, length, map, remove, Bool, true, false, Option, Some, None, Result, Ok, Err, refl, sym, ap, ◌∙◌, subst, append-nil}
+use Rattle.std.proofs.{lemmas.Bool.{le-leb}, lemmas.List.{replicate_more}}
 use Rattle.std.specs.Prelude.{◌≤◌, option_to_list, replicate, drop, ◌||◌}
-use Rattle.std.proofs.lemmas.Bool.{le-leb}
-use Rattle.std.proofs.lemmas.List.{replicate_more}
 use Rattle.x25_bits.specs.declared.role.Role.{Role}
-use Rattle.x25_frame.specs.Frame.{PlainFrame, info, rr, rnr, rej, disc, ua, dm}
-use Rattle.x25_frame.specs.Spelling.{spelling_of}
-use Rattle.x25_frame.specs.laws.ReadingLaw.{ReadsSpelled}
-use Rattle.x25_frame.specs.declared.error.FrameError.{FrameError}
-use Rattle.x25_frame.specs.declared.error.FrameError.TheVariants.{Short, BadFcs, BadAddress}
-use Rattle.x25_window.specs.laws.Window.{End, Numbered, Frame, after}
-use Rattle.x25_window.specs.laws.Window.Step.{Hear, Take}
-use Rattle.x25_link.specs.declared.phase.Phase.{Phase}
-use Rattle.x25_link.specs.declared.phase.Phase.TheVariants.{Waiting, Up}
-use Rattle.x25_link.specs.declared.phase.Reason.{Reason}
-use Rattle.x25_link.specs.declared.phase.Reason.TheVariants.{Retries, Disc, Dm, FrmrSent, Reset}
-use Rattle.x25_link.specs.declared.phase.Notes.{Notes}
-use Rattle.x25_link.specs.OrderedLink.{no_packets}
-use Rattle.x25_link.specs.laws.NoteLaw.{IsQuiet, Tells}
-use Rattle.x25_link.specs.Outgoing.{Outgoing, no_packet}
-use Rattle.x25_link.specs.Station.{Settings, LinkStation, is_up, lists_of}
-use Rattle.x25_link.specs.Hearing.{Step, other}
-use Rattle.x25_link.specs.laws.WindowMachine.{Window, Input, receives, nothing, Shows, ShowAll}
+use Rattle.x25_frame.specs.{Frame.{PlainFrame, info, rr, rnr, rej, disc, ua, dm}, Spelling.{spelling_of}, laws.ReadingLaw.{ReadsSpelled}}
+use Rattle.x25_frame.specs.{declared.error.FrameError.{FrameError}, declared.error.FrameError.TheVariants.{Short, BadFcs, BadAddress}}
+use Rattle.x25_window.specs.{laws.Window.{End, Numbered, Frame, after}, laws.Window.Step.{Hear, Take}}
+use Rattle.x25_link.specs.{declared.phase.Phase.{Phase}, declared.phase.Phase.TheVariants.{Waiting, Up}, declared.phase.Reason.{Reason}}
+use Rattle.x25_link.specs.{declared.phase.Reason.TheVariants.{Retries, Disc, Dm, FrmrSent, Reset}, declared.phase.Notes.{Notes}, OrderedLink.{no_packets}}
+use Rattle.x25_link.specs.{laws.NoteLaw.{IsQuiet, Tells}, Outgoing.{Outgoing, no_packet}, Station.{Settings, LinkStation, is_up, lists_of}}
+use Rattle.x25_link.specs.{Hearing.{Step, other}, laws.WindowMachine.{Window, Input, receives, nothing, Shows, ShowAll}}
 use Rattle.x25_link.specs.laws.WindowLaw.{IsSound, window_of, brought_by, after_input, MayHandUp, if_valid, ending_of, ends_in, AreLast, Stays, Ends, Follows, IsOut, AreDeclining}
-use Rattle.x25_line.specs.laws.Line.{Line, MayTake, FrontMayBeTaken, arrived, front_arrived, takes_item}
-use Rattle.x25_line.specs.laws.Line.Move.{Arrives, Loses}
+use Rattle.x25_line.specs.{laws.Line.{Line, MayTake, FrontMayBeTaken, arrived, front_arrived, takes_item}, laws.Line.Move.{Arrives, Loses}}
 use Rattle.x25_line.specs.laws.Stations.{StationEnd, Stations, after_step}
 use Rattle.x25_line.specs.laws.StationClaims.{AreJoined, IsReached, near_moves, number_in, numbered_on, NoFrmr, AreWhole}
 use Rattle.x25_line.specs.laws.WholeNumbers.{given, first_of, taken_out, counted}

@@ -1,23 +1,15 @@
 -- A tape of which nothing is told is one of a station and a peer that keeps the rules.
 use Rattle.std.proofs.Common.{◌≡◌, ◌==◌, ◌⊎◌, inl, inr, ℕ, ◌+◌, ◌-◌, ◌%◌, ◌<◌, ◌≤◌, arith, max, List, [], ◌∷◌, ◌++◌, length, Bool, true, false, if◌then◌else◌, Option, Some, None, refl, sym, ap, ◌∙◌, subst}
-use Rattle.std.specs.Prelude.{nat_le, nat_lt, ◌&&◌}
-use Rattle.std.specs.List.{slice_get}
-use Rattle.std.proofs.lemmas.Bool.{eqb-true, leb-true, ltb-true, and_parts}
-use Rattle.std.proofs.lemmas.List.{length_push}
-use Rattle.x25_frame.specs.Reading.{frame_of}
-use Rattle.x25_frame.specs.laws.ReadingLaw.{ReadsSpelled}
+use Rattle.std.proofs.{lemmas.Bool.{eqb-true, leb-true, ltb-true, and_parts}, lemmas.List.{length_push}}
+use Rattle.std.specs.{Prelude.{nat_le, nat_lt, ◌&&◌}, List.{slice_get}}
+use Rattle.x25_frame.specs.{Reading.{frame_of}, laws.ReadingLaw.{ReadsSpelled}}
 use Rattle.x25_window.specs.code.Modulo.{resolved}
-use Rattle.x25_link.specs.Station.{Settings}
-use Rattle.x25_link.specs.Hearing.{other}
-use Rattle.x25_line.specs.laws.LawsBelow.{Laws}
-use Rattle.x25_line.proofs.StationPeers.{low_resolved}
-use Rattle.x25_line.proofs.Frames.{slice_get-last}
-use Rattle.x25_line.specs.laws.Peer.{Peer, MayNumber, MayAcknowledge, numbered_to, told_to, MaySay, hearing, IsWanted, taking, MayMake}
-use Rattle.x25_line.specs.laws.PeerJoined.{Joined, Ours, HandsDown, Sends, Hears, IsReached, at_start, goes_on}
-use Rattle.x25_line.specs.laws.Said.{Said, Carried, Tells, Odd, said}
+use Rattle.x25_link.specs.{Station.{Settings}, Hearing.{other}}
+use Rattle.x25_line.specs.{laws.LawsBelow.{Laws}, laws.Peer.{Peer, MayNumber, MayAcknowledge, numbered_to, told_to, MaySay, hearing, IsWanted, taking, MayMake}}
+use Rattle.x25_line.specs.{laws.PeerJoined.{Joined, Ours, HandsDown, Sends, Hears, IsReached, at_start, goes_on}, laws.Said.{Said, Carried, Tells, Odd, said}}
 use Rattle.x25_line.specs.laws.Tape.{same_octets, is_item, judges_ack, then_ack, judges_item, judges_number, judges_said, notes, notes_said, IsSilent, Begins, Acts, Shows, Comes}
 use Rattle.x25_line.specs.laws.PeerClaims.{KeepsOrder, OnAnySilentTape}
-use Rattle.x25_line.proofs.PeerOrder.{keeps_order}
+use Rattle.x25_line.proofs.{StationPeers.{low_resolved}, Frames.{slice_get-last}, PeerOrder.{keeps_order}}
 
 -- ---- packets that are the same
 

@@ -2,14 +2,10 @@
 -- each end where it runs; and then all that is on the line comes, in any order of the two directions, while nothing is
 -- lost.
 use Rattle.std.specs.Prelude.{◌≡◌, ℕ, ◌<◌, ◌≤◌, ◌⊎◌, false, true, List, [], ◌∷◌, length}
-use Rattle.x25_link.specs.Station.{Settings, LinkStation, is_up, is_busy}
-use Rattle.x25_link.specs.Link.{timer_runs}
-use Rattle.x25_link.specs.laws.RestLaw.{IsAtRest}
-use Rattle.x25_line.specs.laws.Stations.{Act, Deliver, T1, Event, Near, Far}
-use Rattle.x25_line.specs.laws.StationClaims.{AreJoined}
+use Rattle.x25_link.specs.{Station.{Settings, LinkStation, is_up, is_busy}, Link.{timer_runs}, laws.RestLaw.{IsAtRest}}
+use Rattle.x25_line.specs.{laws.Stations.{Act, Deliver, T1, Event, Near, Far}, laws.StationClaims.{AreJoined}}
 use Rattle.x25_line.specs.laws.Sessions.{SessionEnd, Sessions, Meeting, from_nothing, from_set_up, AreTimely, happens}
-use Rattle.x25_line.specs.laws.Sessions.{run}
-use Rattle.x25_line.specs.laws.SessionClaims.{SomeMet}
+use Rattle.x25_line.specs.{laws.Sessions.{run}, laws.SessionClaims.{SomeMet}}
 
 -- ---- deliveries
 

@@ -1,9 +1,8 @@
 -- What holds of two ends over sessions: one session of each stands, which meet or may yet meet; and what is on the lines is of these.
 use Rattle.std.proofs.Common.{◌≡◌, ◌≤◌, ◌+◌, ℕ, suc, List, [], ◌∷◌, ◌++◌, refl, arith}
-use Rattle.x25_line.specs.laws.Said.{Sabm, Disc, Ua}
-use Rattle.x25_line.proofs.sessions.SessionHeld.{View, Live, Soon, Gone}
-use Rattle.x25_line.specs.laws.PeerSessions.{Stand, Out, Asking, In}
+use Rattle.x25_line.specs.{laws.Said.{Sabm, Disc, Ua}, laws.PeerSessions.{Stand, Out, Asking, In}}
 use Rattle.x25_line.specs.laws.Ends.{Letter, letter, sabm_in, ua_in, disc_in, how_many, OfTells, AreOf}
+use Rattle.x25_line.proofs.sessions.SessionHeld.{View, Live, Soon, Gone}
 use Rattle.x25_line.proofs.ends.Lines.{count_push, Less, count_less, AllTold, AllTags, tags_push, tags_more, tags_less, told_push, told_less, of_tells, sabm_free, Of, AfterUa, after_none, after_push, after_less, after_base, AllAsked, asked_none, asked_map, asked_now, asked_push, asked_less}
 
 abbrev pub NotIn : Stand → Type 0

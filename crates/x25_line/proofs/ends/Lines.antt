@@ -1,8 +1,7 @@
 -- The lines between two ends over sessions, and what is said of them.
 use Rattle.std.proofs.Common.{◌≡◌, ◌≤◌, ◌<◌, ◌+◌, ◌⊎◌, inl, inr, ℕ, zero, suc, List, [], ◌∷◌, ◌++◌, remove, refl, sym, subst, arith}
-use Rattle.x25_line.specs.laws.Said.{Said, Tells, Sabm, Else}
+use Rattle.x25_line.specs.{laws.Said.{Said, Tells, Sabm, Else}, laws.Ends.{Letter, letter, spoilt, sabm_in, ua_in, how_many, OfSabm, OfTells, AreOf}}
 use Rattle.x25_line.proofs.sessions.SessionHeld.{choose, choose_map}
-use Rattle.x25_line.specs.laws.Ends.{Letter, letter, spoilt, sabm_in, ua_in, how_many, OfSabm, OfTells, AreOf}
 
 pub count_push : (k : Said → ℕ) (es : List Letter) (e : Letter) → how_many k (es ++ e ∷ []) ≡ how_many k es + k e.said
 count_push k [] e = omega arith

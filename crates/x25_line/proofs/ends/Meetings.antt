@@ -1,7 +1,6 @@
 -- Which sessions meet: one to one, and in order at both ends; and the same as the other end has it.
 use Rattle.std.proofs.Common.{◌≡◌, ◌≤◌, ◌<◌, ℕ, List, [], ◌∷◌, ◌⊎◌, inl, inr, map, refl, ap, ◌∙◌, arith}
-use Rattle.x25_line.specs.laws.Sessions.{Meeting, turned}
-use Rattle.x25_line.specs.laws.SessionClaims.{AllMet, SomeMet, IsNoEarlier, IsAbove, InStep}
+use Rattle.x25_line.specs.{laws.Sessions.{Meeting, turned}, laws.SessionClaims.{AllMet, SomeMet, IsNoEarlier, IsAbove, InStep}}
 
 -- ---- of all that met, and of some
 

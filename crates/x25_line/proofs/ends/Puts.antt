@@ -1,8 +1,6 @@
 -- What is known of an end in each session, once one of these is another.
-use Rattle.std.proofs.Common.{◌≡◌, ◌==◌, ◌⊎◌, inl, inr, ℕ, Bool, true, false, if◌then◌else◌, refl, ap, ◌∙◌, sym}
-use Rattle.std.proofs.lemmas.Bool.{eq-eqb, eqb-true}
-use Rattle.x25_line.specs.laws.Peer.{Peer}
-use Rattle.x25_line.specs.laws.PeerSessions.{put_for}
+use Rattle.std.proofs.{Common.{◌≡◌, ◌==◌, ◌⊎◌, inl, inr, ℕ, Bool, true, false, if◌then◌else◌, refl, ap, ◌∙◌, sym}, lemmas.Bool.{eq-eqb, eqb-true}}
+use Rattle.x25_line.specs.{laws.Peer.{Peer}, laws.PeerSessions.{put_for}}
 
 pub same_or_other : (n b : ℕ) → (n ≡ b) ⊎ ((n == b) ≡ false)
 same_or_other n b = go (n == b) refl

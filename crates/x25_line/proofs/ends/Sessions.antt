@@ -1,17 +1,13 @@
 -- The session that stands has a line of its own: what of the line has its number. So what holds of a link set up once holds of it.
 use Rattle.std.proofs.Common.{◌≡◌, ◌≤◌, ◌<◌, ◌==◌, ◌⊎◌, inl, inr, ℕ, suc, List, [], ◌∷◌, ◌++◌, map, Bool, true, false, Option, Some, None, refl, sym, ap, ◌∙◌, subst, arith, append-nil, length}
 use Rattle.x25_window.specs.code.Modulo.{resolved}
-use Rattle.x25_line.specs.laws.InWindow.{IsPrefix}
-use Rattle.x25_line.specs.laws.Said.{Said, Carried, Tells, Sabm, Disc, Ua, Else, Odd}
-use Rattle.x25_line.specs.laws.Sessions.{Meeting, turned}
-use Rattle.x25_line.specs.laws.SessionClaims.{AllMet, SomeMet}
-use Rattle.x25_line.specs.laws.Peer.{Peer, fresh_peer, MaySay, MayMake}
-use Rattle.x25_line.proofs.Order.{Told, told, only, IsApart, only_append, only_quiet, Left, left_front, left_deeper, Hold, starts, hold_turned, handed, says, left, makes, in_order, valid_front}
-use Rattle.x25_line.proofs.sessions.SessionHeld.{View, Live, Soon, Gone}
-use Rattle.x25_line.proofs.ends.Meetings.{IsPaired, near_turned, far_turned, all_meet, some_meets}
+use Rattle.x25_line.specs.{laws.InWindow.{IsPrefix}, laws.Said.{Said, Carried, Tells, Sabm, Disc, Ua, Else, Odd}, laws.Sessions.{Meeting, turned}}
+use Rattle.x25_line.specs.{laws.SessionClaims.{AllMet, SomeMet}, laws.Peer.{Peer, fresh_peer, MaySay, MayMake}}
 use Rattle.x25_line.specs.laws.PeerSessions.{Stand, Out, Asking, In, put_for}
 use Rattle.x25_line.specs.laws.Ends.{Stander, Letter, letter, Two, sabm_in, how_many, meets, heard, OfTells, AreOf, Moves, free, odd, asks, closes, hears, takes_ua, takes_sabm, waits_on, takes_disc, loses, damages, Ends, ends_swapped, near_now, with_near, begins, fresh_where, Does, is_handed, sends, listens, moves, begin_at, IsReached, at_start, set_up, near_does, far_does}
 use Rattle.x25_line.specs.laws.EndClaims.{InOrder, MetInOrder, KeepSessions, OfAnyTwoEnds}
+use Rattle.x25_line.proofs.Order.{Told, told, only, IsApart, only_append, only_quiet, Left, left_front, left_deeper, Hold, starts, hold_turned, handed, says, left, makes, in_order, valid_front}
+use Rattle.x25_line.proofs.{sessions.SessionHeld.{View, Live, Soon, Gone}, ends.Meetings.{IsPaired, near_turned, far_turned, all_meet, some_meets}}
 use Rattle.x25_line.proofs.ends.Lines.{Less, whole, gone, hurt, deeper, less_removes, less_spoils, AllTold, AllTags, Of, tags_less}
 use Rattle.x25_line.proofs.ends.Held.{Side, NotIn, ViewIs}
 use Rattle.x25_line.proofs.ends.Moves.{Held, held_turned, in_session, nothing_held, set_up_held, moves_held, told_held, come_held, popped}

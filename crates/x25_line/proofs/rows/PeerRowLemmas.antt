@@ -1,19 +1,15 @@
 -- The worked rows, by computing.
 use Rattle.std.proofs.Common.{◌≡◌, [], ◌∷◌, ◌++◌, true, false, Result, Ok, arith, refl, sym, ap, subst}
 use Rattle.x25_bits.specs.declared.role.Role.TheVariants.{Dte, Dce}
-use Rattle.x25_frame.specs.Frame.{PlainFrame, rr}
-use Rattle.x25_frame.specs.Spelling.{spelling_of}
-use Rattle.x25_frame.specs.Reading.{frame_of}
-use Rattle.x25_frame.specs.laws.ReadingLaw.{ReadsSpelled}
+use Rattle.x25_frame.specs.{Frame.{PlainFrame, rr}, Spelling.{spelling_of}, Reading.{frame_of}, laws.ReadingLaw.{ReadsSpelled}}
 use Rattle.x25_frame.specs.declared.error.FrameError.{FrameError}
 use Rattle.x25_link.specs.Station.{pumped}
-use Rattle.x25_line.specs.laws.Stations.{Stations, Put, Deliver, acts}
-use Rattle.x25_line.specs.rows.StationRows.{dte}
-use Rattle.x25_line.proofs.rows.StationRowLemmas.{taken_as, comes, packet_frame, packet_reads}
+use Rattle.x25_line.specs.{laws.Stations.{Stations, Put, Deliver, acts}, rows.StationRows.{dte}}
 use Rattle.x25_line.specs.laws.Peer.{Peer, fresh_peer, MaySend, MayHear, numbered_to, told_to}
 use Rattle.x25_line.specs.laws.PeerJoined.{Joined, start, our_end, with_peer, Ours, HandsDown, Sends, Hears, IsReached, at_start, goes_on}
 use Rattle.x25_line.specs.laws.Tape.{judges, notes, IsSilent, Begins, Acts, Shows, Comes}
 use Rattle.x25_line.specs.rows.PeerRows.{polling_frame, OddPeerMoves, SilentTapeMoves, TapeTells}
+use Rattle.x25_line.proofs.rows.StationRowLemmas.{taken_as, comes, packet_frame, packet_reads}
 
 module _ (reads : ReadsSpelled) where
   polling_reads : frame_of Dce 128 (spelling_of Dce polling_frame) ≡ Ok polling_frame

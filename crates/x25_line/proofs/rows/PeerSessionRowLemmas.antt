@@ -1,23 +1,16 @@
 -- The worked row, by computing.
 use Rattle.std.proofs.Common.{◌≡◌, ℕ, List, [], ◌∷◌, ◌++◌, true, Result, Ok, arith, refl, sym, ap, subst}
-use Rattle.x25_bits.specs.declared.role.Role.{Role}
-use Rattle.x25_bits.specs.declared.role.Role.TheVariants.{Dte, Dce}
-use Rattle.x25_frame.specs.Frame.{PlainFrame, info, sabm, ua}
-use Rattle.x25_frame.specs.Spelling.{spelling_of}
-use Rattle.x25_frame.specs.Reading.{frame_of}
-use Rattle.x25_frame.specs.laws.ReadingLaw.{ReadsSpelled}
+use Rattle.x25_bits.specs.{declared.role.Role.{Role}, declared.role.Role.TheVariants.{Dte, Dce}}
+use Rattle.x25_frame.specs.{Frame.{PlainFrame, info, sabm, ua}, Spelling.{spelling_of}, Reading.{frame_of}, laws.ReadingLaw.{ReadsSpelled}}
 use Rattle.x25_frame.specs.declared.error.FrameError.{FrameError}
 use Rattle.x25_link.specs.Station.{pumped}
-use Rattle.x25_line.specs.laws.Stations.{Deliver, Connect}
-use Rattle.x25_line.specs.rows.StationRows.{dte}
-use Rattle.x25_line.specs.laws.StationClaims.{number_in}
-use Rattle.x25_line.specs.laws.Sessions.{Entry, Sessions, acts, from_nothing}
-use Rattle.x25_line.specs.laws.Peer.{Peer, numbered_to, told_to}
-use Rattle.x25_line.specs.laws.Peer as once
+use Rattle.x25_line.specs.{laws.Stations.{Deliver, Connect}, rows.StationRows.{dte}, laws.StationClaims.{number_in}}
+use Rattle.x25_line.specs.{laws.Sessions.{Entry, Sessions, acts, from_nothing}, laws.Peer.{Peer, numbered_to, told_to}}
 use Rattle.x25_line.specs.laws.PeerSessions.{PeerSessions, Out, Asking, begins, stands, now, with_now, both_ends, with_peer, begin_with, IsReached}
-use Rattle.x25_line.specs.laws.PeerSessions as sessions
 use Rattle.x25_line.specs.rows.PeerSessionRows.{CrossingPeerMoves}
 use Rattle.x25_line.proofs.rows.SessionRowLemmas.{taken_as, comes}
+use Rattle.x25_line.specs.laws.Peer as once
+use Rattle.x25_line.specs.laws.PeerSessions as sessions
 
 abbrev polling : PlainFrame
 polling = info 0 0 true (7 ∷ [])

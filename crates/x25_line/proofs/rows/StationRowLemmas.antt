@@ -1,18 +1,10 @@
 -- The worked rows, by computing: what comes is what the frame is that was spelled, so no frame check sequence is computed.
 use Rattle.std.proofs.Common.{◌≡◌, ℕ, ◌<◌, List, [], ◌∷◌, Bool, true, false, Result, Ok, Err, arith, refl, sym, ap, ◌∙◌, subst}
-use Rattle.x25_bits.specs.declared.role.Role.{Role}
-use Rattle.x25_bits.specs.declared.role.Role.TheVariants.{Dte, Dce}
-use Rattle.x25_frame.specs.Frame.{PlainFrame, info, rr, sabm, disc, ua, dm}
-use Rattle.x25_frame.specs.Spelling.{spelling_of}
-use Rattle.x25_frame.specs.Reading.{frame_of}
-use Rattle.x25_frame.specs.laws.ReadingLaw.{ReadsSpelled}
-use Rattle.x25_frame.specs.declared.error.FrameError.{FrameError}
-use Rattle.x25_frame.specs.declared.error.FrameError.TheVariants.{Short}
-use Rattle.x25_link.specs.declared.phase.Phase.TheVariants.{Down, Waiting, Closed}
-use Rattle.x25_link.specs.declared.phase.Reason.TheVariants.{Reset, Counts, Disc}
-use Rattle.x25_link.specs.Station.{Settings, fresh, pumped}
-use Rattle.x25_link.specs.Hearing.{other}
-use Rattle.x25_link.specs.Link.{alone, closed_by, hears, is_idle}
+use Rattle.x25_bits.specs.{declared.role.Role.{Role}, declared.role.Role.TheVariants.{Dte, Dce}}
+use Rattle.x25_frame.specs.{Frame.{PlainFrame, info, rr, sabm, disc, ua, dm}, Spelling.{spelling_of}, Reading.{frame_of}, laws.ReadingLaw.{ReadsSpelled}}
+use Rattle.x25_frame.specs.{declared.error.FrameError.{FrameError}, declared.error.FrameError.TheVariants.{Short}}
+use Rattle.x25_link.specs.{declared.phase.Phase.TheVariants.{Down, Waiting, Closed}, declared.phase.Reason.TheVariants.{Reset, Counts, Disc}}
+use Rattle.x25_link.specs.{Station.{Settings, fresh, pumped}, Hearing.{other}, Link.{alone, closed_by, hears, is_idle}}
 use Rattle.x25_line.specs.laws.Stations.{Stations, Put, Deliver, T1, Connect, Disconnect, Abandon, Event, Near, Far, after_step, acts, delivered, swapped, happens, run, start}
 use Rattle.x25_line.specs.rows.StationRows.{dte, dce, IsAcrossFive, PacketGoes, PacketsCross, lost, LostComesAgain, damaged, DamagedComesAgain, DisconnectEnds, AbandonEnds, ConnectSetsUp, ConnectIsDeclined}
 

@@ -1,14 +1,10 @@
 -- What is lost or damaged on a line of octets, and what that leaves.
 use Rattle.std.proofs.Common.{◌≡◌, ◌≤◌, ℕ, zero, suc, List, [], ◌∷◌, inl, inr, remove, true, Result, Err, ap, ◌∙◌, arith}
 use Rattle.x25_bits.specs.declared.role.Role.{Role}
-use Rattle.x25_frame.specs.Frame.{PlainFrame}
-use Rattle.x25_frame.specs.Reading.{frame_of}
-use Rattle.x25_frame.specs.declared.error.FrameError.{FrameError}
+use Rattle.x25_frame.specs.{Frame.{PlainFrame}, Reading.{frame_of}, declared.error.FrameError.{FrameError}}
 use Rattle.x25_frame.specs.declared.error.FrameError.TheVariants.{Short, BadFcs}
-use Rattle.x25_line.specs.laws.Stations.{is_visible}
-use Rattle.x25_line.specs.laws.Sessions.{Entry, sabm_in, how_many, replaced}
+use Rattle.x25_line.specs.{laws.Stations.{is_visible}, laws.Sessions.{Entry, sabm_in, how_many, replaced}, laws.PeerSessions.{AllAskedIn}}
 use Rattle.x25_line.proofs.StationLines.{visible_reads}
-use Rattle.x25_line.specs.laws.PeerSessions.{AllAskedIn}
 
 -- one entry at most is lost or damaged
 pub data Less : List Entry → List Entry → Type 0 where

@@ -1,23 +1,13 @@
 -- What the rules look at in the octets on a line.
 use Rattle.std.proofs.Common.{◌≡◌, ◌⊎◌, inl, inr, ℕ, zero, suc, List, [], ◌∷◌, ◌++◌, map, remove, true, Option, Some, None, Ok, Err, refl, sym, ap, ◌∙◌, arith}
 use Rattle.x25_bits.specs.declared.role.Role.{Role}
-use Rattle.x25_frame.specs.Frame.{PlainFrame, sabm, disc, ua}
-use Rattle.x25_frame.specs.Reading.{frame_of}
-use Rattle.x25_frame.specs.declared.error.FrameError.TheVariants.{Short}
-use Rattle.x25_link.specs.declared.phase.Phase.{Phase}
-use Rattle.x25_link.specs.declared.phase.Phase.TheVariants.{Up}
-use Rattle.x25_link.specs.Station.{is_up}
-use Rattle.x25_line.specs.laws.Stations.{is_visible}
-use Rattle.x25_line.specs.laws.StationClaims.{number_in}
-use Rattle.x25_line.specs.laws.Said.{Said, Else, said}
+use Rattle.x25_frame.specs.{Frame.{PlainFrame, sabm, disc, ua}, Reading.{frame_of}, declared.error.FrameError.TheVariants.{Short}}
+use Rattle.x25_link.specs.{declared.phase.Phase.{Phase}, declared.phase.Phase.TheVariants.{Up}, Station.{is_up}}
+use Rattle.x25_line.specs.{laws.Stations.{is_visible}, laws.StationClaims.{number_in}, laws.Said.{Said, Else, said}}
 use Rattle.x25_line.specs.laws.Sessions.{Entry, Meeting, turned, sabm_in, ua_in, disc_in, how_many, heard, replaced}
-use Rattle.x25_line.proofs.StationLines.{visible_reads}
-use Rattle.x25_line.proofs.ends.Meetings.{twice_turned}
-use Rattle.x25_line.proofs.sessions.SessionLines.{Read}
-use Rattle.x25_line.specs.laws.PeerSessions.{Stand, In, is_in, AllAskedIn}
-use Rattle.x25_line.specs.laws.Ends.{Letter, letter, OfSabm, AreOf, meets, spoilt}
+use Rattle.x25_line.specs.{laws.PeerSessions.{Stand, In, is_in, AllAskedIn}, laws.Ends.{Letter, letter, OfSabm, AreOf, meets, spoilt}}
+use Rattle.x25_line.proofs.{StationLines.{visible_reads}, ends.Meetings.{twice_turned}, sessions.SessionLines.{Read}, sessions.SessionMay.{entry, stand_of}}
 use Rattle.x25_line.specs.laws.Ends as ends
-use Rattle.x25_line.proofs.sessions.SessionMay.{entry, stand_of}
 
 -- ---- one of them
 

@@ -1,33 +1,23 @@
 -- A station over sessions and a peer are two ends that keep the rules, whatever the peer does within these and the line to it loses.
 use Rattle.std.proofs.Common.{◌≡◌, ◌⊎◌, inl, inr, ℕ, suc, ◌+◌, List, [], ◌∷◌, ◌++◌, map, remove, Bool, true, Option, Some, None, Ok, Err, refl, sym, ap, ◌∙◌, subst, arith}
 use Rattle.x25_bits.specs.declared.role.Role.{Role}
-use Rattle.x25_frame.specs.Frame.{info, rr, rnr, rej, sabm, disc, ua, dm, frmr}
-use Rattle.x25_frame.specs.Reading.{frame_of}
+use Rattle.x25_frame.specs.{Frame.{info, rr, rnr, rej, sabm, disc, ua, dm, frmr}, Reading.{frame_of}}
 use Rattle.x25_frame.specs.declared.error.FrameError.TheVariants.{Short, BadFcs, BadAddress}
-use Rattle.x25_link.specs.declared.phase.Phase.{Phase}
-use Rattle.x25_link.specs.declared.phase.Phase.TheVariants.{Down, Waiting, Up, Closed}
-use Rattle.x25_link.specs.Station.{Settings}
-use Rattle.x25_link.specs.Hearing.{other}
-use Rattle.x25_line.specs.laws.Stations.{Act}
-use Rattle.x25_line.specs.laws.StationClaims.{number_in}
-use Rattle.x25_line.specs.laws.Said.{Said, Carried, Tells, Sabm, Disc, Ua, Else, Odd as OddSaid, said}
+use Rattle.x25_link.specs.{declared.phase.Phase.{Phase}, declared.phase.Phase.TheVariants.{Down, Waiting, Up, Closed}, Station.{Settings}, Hearing.{other}}
+use Rattle.x25_line.specs.{laws.Stations.{Act}, laws.StationClaims.{number_in}, laws.Said.{Said, Carried, Tells, Sabm, Disc, Ua, Else, Odd as OddSaid, said}}
 use Rattle.x25_line.specs.laws.Sessions.{Entry, Meeting, turned, sabm_in, ua_in, disc_in, how_many, replaced, acts}
-use Rattle.x25_line.specs.laws.Peer as once
-use Rattle.x25_line.proofs.sessions.SessionLines.{Read, none_is_some, many_append}
-use Rattle.x25_line.proofs.sessions.SessionHeld.{Owes, owes_less}
 use Rattle.x25_line.specs.laws.PeerSessions.{Stand, Out, Asking, PeerEnd, PeerSessions, now, with_now, begins, stands, both_ends, with_peer, AllAskedIn, IsFree, heard_by}
-use Rattle.x25_line.specs.laws.PeerSessions as sessions
 use Rattle.x25_line.specs.laws.PeerSessionClaims.{frmr_in}
 use Rattle.x25_line.specs.laws.Ends.{Letter, letter, free, odd, asks, closes, leaves, hears, takes_ua, takes_sabm, waits_on, takes_disc, loses, damages, Ends, ends_swapped, Does, is_handed, sends, listens, moves, IsReached, far_does}
-use Rattle.x25_line.specs.laws.Ends as ends
-use Rattle.x25_line.proofs.sessions.EntryLines.{Less, whole, gone, less_removes, less_replaces, many_less, asked_fewer}
-use Rattle.x25_line.proofs.ends.Meetings.{twice_turned}
+use Rattle.x25_line.proofs.{sessions.SessionLines.{Read, none_is_some, many_append}, sessions.SessionHeld.{Owes, owes_less}}
+use Rattle.x25_line.proofs.{sessions.EntryLines.{Less, whole, gone, less_removes, less_replaces, many_less, asked_fewer}, ends.Meetings.{twice_turned}}
 use Rattle.x25_line.proofs.sessions.Letters.{heard_turned, letters_push, letters_removed, letters_replaced, sabms, uas, discs, asked_letters, letters_asked}
-use Rattle.x25_line.proofs.sessions.SessionMay.{stand_of, hears_read}
-use Rattle.x25_line.proofs.sessions.SessionSeen.{Seen}
-use Rattle.x25_line.proofs.sessions.SessionWith.{NoneOdd, Where, outs, backs, Kept, at, IsWith}
-use Rattle.x25_line.proofs.ends.Lines.{are_none}
+use Rattle.x25_line.proofs.{sessions.SessionMay.{stand_of, hears_read}, sessions.SessionSeen.{Seen}}
+use Rattle.x25_line.proofs.{sessions.SessionWith.{NoneOdd, Where, outs, backs, Kept, at, IsWith}, ends.Lines.{are_none}}
 use Rattle.x25_line.proofs.ends.Sessions.{all_turned, reached_all, ua_present}
+use Rattle.x25_line.specs.laws.Peer as once
+use Rattle.x25_line.specs.laws.PeerSessions as sessions
+use Rattle.x25_line.specs.laws.Ends as ends
 
 -- ---- what is put behind the line to the station
 

@@ -1,35 +1,20 @@
 -- What a station and a peer reach are two ends that keep the rules, and that says the claims.
-use Rattle.std.proofs.Common.{◌≡◌, inl, inr, ◌≤◌, ℕ, List, [], ◌∷◌, map, length, true, refl, sym, ap, ◌∙◌, subst}
-use Rattle.std.proofs.lemmas.Bool.{and_parts}
+use Rattle.std.proofs.{Common.{◌≡◌, inl, inr, ◌≤◌, ℕ, List, [], ◌∷◌, map, length, true, refl, sym, ap, ◌∙◌, subst}, lemmas.Bool.{and_parts}}
 use Rattle.x25_frame.specs.laws.ReadingLaw.{ReadsSpelled}
-use Rattle.x25_link.specs.declared.phase.Phase.{Phase}
-use Rattle.x25_link.specs.declared.phase.Phase.TheVariants.{Down, Up}
-use Rattle.x25_link.specs.Station.{Settings, is_up}
-use Rattle.x25_link.specs.Hearing.{other}
-use Rattle.x25_link.specs.Link.{is_idle}
-use Rattle.x25_link.specs.laws.WindowMachine.{Window}
-use Rattle.x25_line.specs.laws.Stations.{Act, T1}
-use Rattle.x25_line.specs.laws.InWindow.{IsPrefix}
-use Rattle.x25_line.specs.laws.Sessions.{Meeting, turned, acts, start_with}
-use Rattle.x25_line.specs.laws.SessionClaims.{AllMet, IsInOrder, MeetInStep, MetAreInOrder, UnmetHandNothingUp}
-use Rattle.x25_line.specs.laws.LawsBelow.{SessionLaws}
+use Rattle.x25_link.specs.{declared.phase.Phase.{Phase}, declared.phase.Phase.TheVariants.{Down, Up}, Station.{Settings, is_up}, Hearing.{other}}
+use Rattle.x25_link.specs.{Link.{is_idle}, laws.WindowMachine.{Window}}
+use Rattle.x25_line.specs.{laws.Stations.{Act, T1}, laws.InWindow.{IsPrefix}, laws.Sessions.{Meeting, turned, acts, start_with}}
+use Rattle.x25_line.specs.{laws.SessionClaims.{AllMet, IsInOrder, MeetInStep, MetAreInOrder, UnmetHandNothingUp}, laws.LawsBelow.{SessionLaws}}
 use Rattle.x25_line.specs.laws.Peer.{fresh_peer}
-use Rattle.x25_line.proofs.StationClaimLemmas.{idle_all}
-use Rattle.x25_line.proofs.StationAway.{is_up_phase}
-use Rattle.x25_line.proofs.sessions.SessionHeld.{View, Live, Soon, Gone}
 use Rattle.x25_line.specs.laws.PeerSessions.{Stand, PeerSessions, Out, In, both_ends, as_end, with_peer, begin_with, IsReached, at_start, set_up, goes_on}
-use Rattle.x25_line.specs.laws.PeerSessions as sessions
 use Rattle.x25_line.specs.laws.PeerSessionClaims.{WithAnyPeer, WithAnyLapbPeer, OfBothEnds, IdleHasArrived, EachMeetsLatest, SendsNoFrmr}
-use Rattle.x25_line.specs.laws.Ends.{Ends, ends_swapped}
-use Rattle.x25_line.specs.laws.Ends as ends
-use Rattle.x25_line.specs.laws.EndClaims.{MetInOrder, KeepSessions}
-use Rattle.x25_line.proofs.sessions.SessionMay.{stand_of}
-use Rattle.x25_line.proofs.sessions.SessionSeen.{Seen, start_seen}
-use Rattle.x25_line.proofs.sessions.SessionSeenSteps.{IsTimely, station_acts}
-use Rattle.x25_line.proofs.sessions.SessionWith.{outs, backs, at, IsWith, station_may, Kept}
-use Rattle.x25_line.proofs.sessions.PeerMoves.{peer_held}
-use Rattle.x25_line.proofs.ends.Held.{ViewIs, NotIn}
+use Rattle.x25_line.specs.{laws.Ends.{Ends, ends_swapped}, laws.EndClaims.{MetInOrder, KeepSessions}}
+use Rattle.x25_line.proofs.{StationClaimLemmas.{idle_all}, StationAway.{is_up_phase}, sessions.SessionHeld.{View, Live, Soon, Gone}}
+use Rattle.x25_line.proofs.{sessions.SessionMay.{stand_of}, sessions.SessionSeen.{Seen, start_seen}, sessions.SessionSeenSteps.{IsTimely, station_acts}}
+use Rattle.x25_line.proofs.{sessions.SessionWith.{outs, backs, at, IsWith, station_may, Kept}, sessions.PeerMoves.{peer_held}, ends.Held.{ViewIs, NotIn}}
 use Rattle.x25_line.proofs.ends.Sessions.{All, all_turned, reached_all, keep_sessions, latest, some_stands, all_taken}
+use Rattle.x25_line.specs.laws.PeerSessions as sessions
+use Rattle.x25_line.specs.laws.Ends as ends
 
 -- what holds of a station and a peer
 abbrev Joined : Type 0 → Settings → PeerSessions → Type 0

@@ -2,34 +2,19 @@
 -- and abandon.
 use Rattle.std.proofs.Common.{◌≡◌, ◌≤◌, ℕ, suc, ◌+◌, List, [], ◌∷◌, length, Bool, true, false, if◌then◌else◌, Option, Some, None, refl, sym, ap, ◌∙◌, subst, arith}
 use Rattle.std.specs.Prelude.{nat_lt}
-use Rattle.x25_frame.specs.Frame.{PlainFrame, sabm, disc}
-use Rattle.x25_frame.specs.laws.ReadingLaw.{ReadsSpelled}
+use Rattle.x25_frame.specs.{Frame.{PlainFrame, sabm, disc}, laws.ReadingLaw.{ReadsSpelled}}
+use Rattle.x25_link.specs.{declared.phase.Phase.{Phase}, declared.phase.Phase.TheVariants.{Down, Waiting, Up, Closed}, declared.phase.Reason.{Reason}}
+use Rattle.x25_link.specs.{declared.phase.Reason.TheVariants.{Retries, Local, Counts}, laws.SetUp.{Is}, Station.{Settings, LinkStation, is_up, with_nothing}}
+use Rattle.x25_link.specs.{Hearing.{Step, other}, Link.{put_step, timer_step, connect_step, disconnect_step, disconnect_refusal, abandon_step}}
+use Rattle.x25_link.specs.{laws.WindowMachine.{hands_down, nothing}, laws.NoteLaw.{Tells}, laws.WindowLaw.{IsRunning, IsSound, IsOut, Ends}}
+use Rattle.x25_line.specs.{laws.StationClaims.{AreJoined}, laws.SessionNumbers.{Standing}}
+use Rattle.x25_line.specs.{laws.Sessions.{Entry, Meeting, Sessions, sabm_in, ua_in, how_many, begun_by, after_step}, laws.LawsBelow.{Laws}}
+use Rattle.x25_line.proofs.{sessions.SessionSeenActs.{by_disc, by_reset, by_neither}, StationLines.{AreParting}}
+use Rattle.x25_line.proofs.{StationSteps.{AsUp, Leads, Leaves, not_both, ends_joint}, StationRuns.{put_up, timer_by}, StationClaimLemmas.{up_of}}
+use Rattle.x25_line.proofs.{sessions.SessionLines.{count}, sessions.SessionHeld.{OnLine, View, Live, Soon, Gone, IsView, IsHeard, Comes, Owes, Held, near_high}}
+use Rattle.x25_line.proofs.{sessions.SessionSteps.{stepped, went_by, apart_held}, sessions.SessionUp.{stays_answers, follows_answers, live_goes_on}}
 use Rattle.x25_link.specs.declared.error.LinkError.TheVariants as error
-use Rattle.x25_link.specs.declared.phase.Phase.{Phase}
-use Rattle.x25_link.specs.declared.phase.Phase.TheVariants.{Down, Waiting, Up, Closed}
-use Rattle.x25_link.specs.declared.phase.Reason.{Reason}
-use Rattle.x25_link.specs.declared.phase.Reason.TheVariants.{Retries, Local, Counts}
-use Rattle.x25_link.specs.laws.SetUp.{Is}
-use Rattle.x25_link.specs.Station.{Settings, LinkStation, is_up, with_nothing}
-use Rattle.x25_link.specs.Hearing.{Step, other}
-use Rattle.x25_link.specs.Link.{put_step, timer_step, connect_step, disconnect_step, disconnect_refusal, abandon_step}
-use Rattle.x25_link.specs.laws.WindowMachine.{hands_down, nothing}
-use Rattle.x25_link.specs.laws.NoteLaw.{Tells}
-use Rattle.x25_link.specs.laws.WindowLaw.{IsRunning, IsSound, IsOut, Ends}
 use Rattle.x25_line.specs.laws.Stations as one
-use Rattle.x25_line.specs.laws.StationClaims.{AreJoined}
-use Rattle.x25_line.specs.laws.SessionNumbers.{Standing}
-use Rattle.x25_line.specs.laws.Sessions.{Entry, Meeting, Sessions, sabm_in, ua_in, how_many, begun_by, after_step}
-use Rattle.x25_line.specs.laws.LawsBelow.{Laws}
-use Rattle.x25_line.proofs.sessions.SessionSeenActs.{by_disc, by_reset, by_neither}
-use Rattle.x25_line.proofs.StationLines.{AreParting}
-use Rattle.x25_line.proofs.StationSteps.{AsUp, Leads, Leaves, not_both, ends_joint}
-use Rattle.x25_line.proofs.StationRuns.{put_up, timer_by}
-use Rattle.x25_line.proofs.StationClaimLemmas.{up_of}
-use Rattle.x25_line.proofs.sessions.SessionLines.{count}
-use Rattle.x25_line.proofs.sessions.SessionHeld.{OnLine, View, Live, Soon, Gone, IsView, IsHeard, Comes, Owes, Held, near_high}
-use Rattle.x25_line.proofs.sessions.SessionSteps.{stepped, went_by, apart_held}
-use Rattle.x25_line.proofs.sessions.SessionUp.{stays_answers, follows_answers, live_goes_on}
 
 -- what holds of a step in which no LinkUp is noted
 pub quiet_held : {stand : Standing} (c d : Settings) (w : Sessions) (es : List Entry) (met : List Meeting) (down : List (List ℕ)) (step : Step) → step.notes.up ≡ false

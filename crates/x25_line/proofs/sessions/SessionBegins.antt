@@ -1,18 +1,11 @@
 -- A SABM that comes to an end that isn't Closed begins two sessions, and keeps what holds of two stations.
 use Rattle.std.proofs.Common.{◌≡◌, ◌≤◌, ℕ, suc, ◌+◌, List, [], ◌∷◌, ◌++◌, inl, inr, map, Bool, None, refl, sym, ap, ◌∙◌, subst, arith}
 use Rattle.x25_bits.specs.declared.role.Role.{Role}
-use Rattle.x25_frame.specs.Frame.{PlainFrame, ua}
-use Rattle.x25_frame.specs.Spelling.{spelling_of}
-use Rattle.x25_frame.specs.Reading.{frame_of}
-use Rattle.x25_frame.specs.laws.ReadingLaw.{ReadsSpelled}
-use Rattle.x25_link.specs.Station.{Settings, is_up, fresh}
-use Rattle.x25_link.specs.Hearing.{Step, other}
-use Rattle.x25_line.specs.laws.Stations.{start}
-use Rattle.x25_line.specs.laws.StationClaims.{AreJoined, NoFrmr, numbered_on}
-use Rattle.x25_line.specs.laws.Sessions.{Entry, Meeting, Sessions, sabm_in, ua_in, how_many, sent_in}
-use Rattle.x25_line.specs.laws.SessionNumbers.{Standing, anew}
-use Rattle.x25_line.proofs.StationLines.{AreParting, no_frmr_append, parting_numbered, parting_whole}
-use Rattle.x25_line.proofs.StationRuns.{start_machine}
+use Rattle.x25_frame.specs.{Frame.{PlainFrame, ua}, Spelling.{spelling_of}, Reading.{frame_of}, laws.ReadingLaw.{ReadsSpelled}}
+use Rattle.x25_link.specs.{Station.{Settings, is_up, fresh}, Hearing.{Step, other}}
+use Rattle.x25_line.specs.{laws.Stations.{start}, laws.StationClaims.{AreJoined, NoFrmr, numbered_on}}
+use Rattle.x25_line.specs.{laws.Sessions.{Entry, Meeting, Sessions, sabm_in, ua_in, how_many, sent_in}, laws.SessionNumbers.{Standing, anew}}
+use Rattle.x25_line.proofs.{StationLines.{AreParting, no_frmr_append, parting_numbered, parting_whole}, StationRuns.{start_machine}}
 use Rattle.x25_line.proofs.sessions.SessionLines.{Read, octets_sent, numbers}
 use Rattle.x25_line.proofs.sessions.SessionHeld.{View, Soon, Gone, IsView, IsHeard, AfterUa, OnLine, HasLists, SameLists, Held, whole_apart, after_answer}
 use Rattle.x25_line.proofs.sessions.SessionSteps.{end_after, stepped, nothing_handed, waiting_is_closed, asked_by, many_out}

@@ -1,26 +1,14 @@
 -- A frame on the line to the near end is lost or damaged, which keeps what holds of two stations.
 use Rattle.std.proofs.Common.{Option, None, length, ◌≡◌, ◌≤◌, ℕ, zero, suc, List, [], ◌∷◌, ◌++◌, ◌⊎◌, inl, inr, remove, true, false, refl, sym, ap, ◌∙◌, subst, arith}
 use Rattle.x25_bits.specs.declared.role.Role.{Role}
-use Rattle.x25_frame.specs.Frame.{PlainFrame}
-use Rattle.x25_frame.specs.Reading.{frame_of}
-use Rattle.x25_frame.specs.laws.ReadingLaw.{ReadsSpelled}
-use Rattle.x25_link.specs.declared.phase.Phase.{Phase}
-use Rattle.x25_link.specs.declared.phase.Phase.TheVariants.{Waiting, Up}
-use Rattle.x25_link.specs.Station.{Settings, is_up}
-use Rattle.x25_link.specs.Hearing.{other}
+use Rattle.x25_frame.specs.{Frame.{PlainFrame}, Reading.{frame_of}, laws.ReadingLaw.{ReadsSpelled}}
+use Rattle.x25_link.specs.{declared.phase.Phase.{Phase}, declared.phase.Phase.TheVariants.{Waiting, Up}, Station.{Settings, is_up}, Hearing.{other}}
 use Rattle.x25_link.specs.laws.WindowMachine.{ShowAll}
-use Rattle.x25_line.specs.laws.Line.{Line}
-use Rattle.x25_line.specs.laws.Stations.{Stations, is_visible}
-use Rattle.x25_line.specs.laws.StationClaims.{AreJoined, numbered_on}
-use Rattle.x25_line.specs.laws.WholeNumbers.{given, behind, taken_out, counted}
-use Rattle.x25_line.specs.laws.Sessions.{Entry, Sessions, ua_in, how_many, replaced}
-use Rattle.x25_line.specs.laws.SessionClaims.{octets_of}
-use Rattle.x25_line.specs.laws.SessionNumbers.{Standing, by_answers, place_to_hear, standing_after}
-use Rattle.x25_line.specs.laws.LawsBelow.{Laws}
-use Rattle.x25_line.proofs.sessions.SessionActs.{waiting_owes}
-use Rattle.x25_line.proofs.StationSteps.{Joint, Leads, counted_fits, nothing_put, stands_still, not_both}
-use Rattle.x25_line.proofs.StationRuns.{taken_off}
-use Rattle.x25_line.proofs.sessions.EntryLines.{Less, whole, gone, hurt, deeper, less_removes, less_replaces, many_less}
+use Rattle.x25_line.specs.{laws.Line.{Line}, laws.Stations.{Stations, is_visible}, laws.StationClaims.{AreJoined, numbered_on}}
+use Rattle.x25_line.specs.{laws.WholeNumbers.{given, behind, taken_out, counted}, laws.Sessions.{Entry, Sessions, ua_in, how_many, replaced}}
+use Rattle.x25_line.specs.{laws.SessionClaims.{octets_of}, laws.SessionNumbers.{Standing, by_answers, place_to_hear, standing_after}, laws.LawsBelow.{Laws}}
+use Rattle.x25_line.proofs.{sessions.SessionActs.{waiting_owes}, StationSteps.{Joint, Leads, counted_fits, nothing_put, stands_still, not_both}}
+use Rattle.x25_line.proofs.{StationRuns.{taken_off}, sessions.EntryLines.{Less, whole, gone, hurt, deeper, less_removes, less_replaces, many_less}}
 use Rattle.x25_line.proofs.StationLines.{visible_reads}
 use Rattle.x25_line.proofs.sessions.SessionLines.{numbers, carried, carried_numbers, carried_orderly, change_of, change_place, place_removes, place_replaces, change_behind_ua, behind_removes, behind_replaces, change_shows}
 use Rattle.x25_line.proofs.sessions.SessionHeld.{View, Live, Soon, Gone, IsView, IsHeard, Comes, AfterUa, choose, OnLine, Held, counted_view, with_machine, standing_after_is}

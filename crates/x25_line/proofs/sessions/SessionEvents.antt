@@ -1,34 +1,22 @@
 -- What one event does to the sessions of two link stations, by cases of the event.
 use Rattle.std.proofs.Common.{◌≡◌, ◌<◌, ◌⊎◌, ℕ, suc, List, [], ◌∷◌, length, map, inl, inr, Bool, true, false, if◌then◌else◌, Option, Some, None, Ok, refl, sym, ap, ◌∙◌, subst, arith, append-nil}
 use Rattle.std.specs.Prelude.{nat_le, option_to_list}
-use Rattle.x25_frame.specs.Frame.{PlainFrame, info, rr, rnr, rej}
-use Rattle.x25_frame.specs.laws.ReadingLaw.{ReadsSpelled}
-use Rattle.x25_link.specs.declared.error.LinkError.{LinkError}
-use Rattle.x25_link.specs.declared.phase.Notes.{Notes}
-use Rattle.x25_link.specs.declared.phase.Reason.{Reason}
-use Rattle.x25_link.specs.declared.phase.Reason.TheVariants.{FrmrSent}
-use Rattle.x25_link.specs.laws.NoteLaw.{Tells, HandsUp, TakeHandsUp}
-use Rattle.x25_link.specs.Station.{Settings, LinkStation, is_up}
+use Rattle.x25_frame.specs.{Frame.{PlainFrame, info, rr, rnr, rej}, laws.ReadingLaw.{ReadsSpelled}}
+use Rattle.x25_link.specs.{declared.error.LinkError.{LinkError}, declared.phase.Notes.{Notes}, declared.phase.Reason.{Reason}}
+use Rattle.x25_link.specs.{declared.phase.Reason.TheVariants.{FrmrSent}, laws.NoteLaw.{Tells, HandsUp, TakeHandsUp}, Station.{Settings, LinkStation, is_up}}
 use Rattle.x25_link.specs.Hearing.{Step, other}
 use Rattle.x25_link.specs.Link.{take_step, put_step, put_refusal, timer_step, timer_refusal, connect_step, connect_refusal, disconnect_step, disconnect_refusal, abandon_step}
-use Rattle.x25_link.specs.laws.WindowMachine.{Window, Input}
-use Rattle.x25_link.specs.laws.WindowLaw.{window_of, brought_by, ending_of, Follows}
+use Rattle.x25_link.specs.{laws.WindowMachine.{Window, Input}, laws.WindowLaw.{window_of, brought_by, ending_of, Follows}}
 use Rattle.x25_line.specs.laws.Stations.{Act, Put, Deliver, T1, Connect, Disconnect, Abandon, Probe, Lose, Damage, Near, Far, is_visible}
 use Rattle.x25_line.specs.laws.StationClaims.{AreJoined, number_in}
 use Rattle.x25_line.specs.laws.Sessions.{Entry, SessionEnd, Meeting, Sessions, turned, swapped, begun_by, after_step, unless, heard, delivered, replaced, acts}
 use Rattle.x25_line.specs.laws.SessionClaims.{Throughout, AllOf}
 use Rattle.x25_line.specs.laws.SessionEvents.{NextBegins, GoesOn, HandsInSession, EachEventHandsInSession, latest, BeginsAfresh, MeetsNone, MeetsOne, EachEventMeetsLatest}
 use Rattle.x25_line.specs.laws.LawsBelow.{SessionLaws}
-use Rattle.x25_line.proofs.StationSteps.{not_both, not_afresh}
-use Rattle.x25_line.proofs.StationEvents.{timer_packet, timer_up}
-use Rattle.x25_line.proofs.sessions.SessionLines.{Read, none_is_some}
-use Rattle.x25_line.proofs.sessions.SessionHeld.{extended_same, extended_other}
-use Rattle.x25_line.proofs.sessions.SessionSteps.{end_after, nothing_handed}
-use Rattle.x25_line.proofs.sessions.SessionUp.{follows_no_packet}
-use Rattle.x25_line.proofs.sessions.SessionTakes.{read_of}
-use Rattle.x25_line.proofs.sessions.SessionSeenRuns.{Both, both_swapped}
-use Rattle.x25_line.proofs.sessions.TwoSessions.{hears_latest, running, throughout_of}
-use Rattle.x25_line.proofs.ends.Meetings.{twice_turned}
+use Rattle.x25_line.proofs.{StationSteps.{not_both, not_afresh}, StationEvents.{timer_packet, timer_up}, sessions.SessionLines.{Read, none_is_some}}
+use Rattle.x25_line.proofs.{sessions.SessionHeld.{extended_same, extended_other}, sessions.SessionSteps.{end_after, nothing_handed}}
+use Rattle.x25_line.proofs.{sessions.SessionUp.{follows_no_packet}, sessions.SessionTakes.{read_of}, sessions.SessionSeenRuns.{Both, both_swapped}}
+use Rattle.x25_line.proofs.{sessions.TwoSessions.{hears_latest, running, throughout_of}, ends.Meetings.{twice_turned}}
 
 -- ---- a step
 

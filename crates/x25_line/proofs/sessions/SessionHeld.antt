@@ -1,22 +1,15 @@
 -- What holds of two stations over set-up and re-set-up at any moment.
 use Rattle.std.proofs.Common.{◌≡◌, ◌≤◌, ◌==◌, ℕ, zero, suc, ◌+◌, List, [], ◌∷◌, ◌++◌, ◌⊎◌, inl, inr, Bool, true, false, if◌then◌else◌, length, Option, None, refl, sym, ap, ◌∙◌, subst, arith, append-nil}
+use Rattle.std.proofs.{lemmas.Bool.{eq-eqb, eqb-true}, lemmas.List.Elements.{Contains-append_left, Contains-append_right, Contains-append_cases}}
 use Rattle.std.specs.List.{Contains}
-use Rattle.std.proofs.lemmas.Bool.{eq-eqb, eqb-true}
-use Rattle.std.proofs.lemmas.List.Elements.{Contains-append_left, Contains-append_right, Contains-append_cases}
 use Rattle.x25_bits.specs.declared.role.Role.{Role}
-use Rattle.x25_frame.specs.Frame.{PlainFrame}
-use Rattle.x25_frame.specs.Reading.{frame_of}
+use Rattle.x25_frame.specs.{Frame.{PlainFrame}, Reading.{frame_of}}
 use Rattle.x25_window.specs.laws.Window.{End, Frame}
-use Rattle.x25_link.specs.declared.phase.Phase.{Phase}
-use Rattle.x25_link.specs.declared.phase.Phase.TheVariants.{Waiting, Closed}
-use Rattle.x25_link.specs.Station.{Settings, LinkStation, is_up, fresh}
+use Rattle.x25_link.specs.{declared.phase.Phase.{Phase}, declared.phase.Phase.TheVariants.{Waiting, Closed}, Station.{Settings, LinkStation, is_up, fresh}}
 use Rattle.x25_link.specs.Hearing.{other}
-use Rattle.x25_line.specs.laws.Stations.{StationEnd, Stations}
-use Rattle.x25_line.specs.laws.StationClaims.{NoFrmr, AreWhole, numbered_on}
-use Rattle.x25_line.specs.laws.Sessions.{Entry, SessionEnd, Sessions, sabm_in, ua_in, disc_in, how_many, extended}
-use Rattle.x25_line.specs.laws.Line.{Line}
-use Rattle.x25_line.specs.laws.WholeNumbers.{given, taken_out, counted}
-use Rattle.x25_line.specs.laws.SessionNumbers.{Standing, standing_after}
+use Rattle.x25_line.specs.{laws.Stations.{StationEnd, Stations}, laws.StationClaims.{NoFrmr, AreWhole, numbered_on}}
+use Rattle.x25_line.specs.{laws.Sessions.{Entry, SessionEnd, Sessions, sabm_in, ua_in, disc_in, how_many, extended}, laws.Line.{Line}}
+use Rattle.x25_line.specs.{laws.WholeNumbers.{given, taken_out, counted}, laws.SessionNumbers.{Standing, standing_after}}
 use Rattle.x25_line.specs.laws.SessionClaims.{AllOf, AreWholeIn}
 use Rattle.x25_line.proofs.StationLines.{numbered_append, AreParting, whole_more, whole_append, parting_whole, IsOrderly}
 use Rattle.x25_line.proofs.StationSteps.{Joint, FitsEnd, counted_off, counted_fits, none_put, not_both}

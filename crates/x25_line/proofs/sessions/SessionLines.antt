@@ -3,19 +3,13 @@
 use Rattle.std.proofs.Common.{◌≡◌, ℕ, zero, suc, ◌+◌, List, [], ◌∷◌, ◌++◌, inl, inr, map, remove, true, Option, Some, None, Result, Ok, Err, refl, sym, ap, ◌∙◌, subst, arith}
 use Rattle.std.proofs.lemmas.Option.{none-some}
 use Rattle.x25_bits.specs.declared.role.Role.{Role}
-use Rattle.x25_frame.specs.Frame.{PlainFrame, info, rr, rnr, rej, sabm, disc, ua, dm, frmr}
-use Rattle.x25_frame.specs.Spelling.{spelling_of}
-use Rattle.x25_frame.specs.Reading.{frame_of}
-use Rattle.x25_frame.specs.laws.ReadingLaw.{ReadsSpelled}
-use Rattle.x25_frame.specs.declared.error.FrameError.{FrameError}
+use Rattle.x25_frame.specs.{Frame.{PlainFrame, info, rr, rnr, rej, sabm, disc, ua, dm, frmr}, Spelling.{spelling_of}, Reading.{frame_of}}
+use Rattle.x25_frame.specs.{laws.ReadingLaw.{ReadsSpelled}, declared.error.FrameError.{FrameError}}
 use Rattle.x25_window.specs.laws.Window.{Frame}
 use Rattle.x25_link.specs.laws.WindowMachine.{ShowAll}
-use Rattle.x25_line.specs.laws.Stations.{is_visible}
-use Rattle.x25_line.specs.laws.StationClaims.{number_in, numbered_on, AreWhole}
-use Rattle.x25_line.specs.laws.Sessions.{Entry, sabm_in, ua_in, disc_in, how_many, sent_in, replaced}
-use Rattle.x25_line.specs.laws.SessionClaims.{octets_of, AllOf}
-use Rattle.x25_line.specs.laws.WholeNumbers.{first_of, behind, place_of, taken_out}
-use Rattle.x25_line.specs.laws.SessionNumbers.{by_answers, place_behind_ua}
+use Rattle.x25_line.specs.{laws.Stations.{is_visible}, laws.StationClaims.{number_in, numbered_on, AreWhole}}
+use Rattle.x25_line.specs.{laws.Sessions.{Entry, sabm_in, ua_in, disc_in, how_many, sent_in, replaced}, laws.SessionClaims.{octets_of, AllOf}}
+use Rattle.x25_line.specs.{laws.WholeNumbers.{first_of, behind, place_of, taken_out}, laws.SessionNumbers.{by_answers, place_behind_ua}}
 use Rattle.x25_line.proofs.sessions.EntryLines.{Less, whole, gone, hurt, deeper, less_removes, less_replaces}
 use Rattle.x25_line.proofs.StationLines.{IsOrderly, AreOrderly, consed, numbered_append, shows_first, shows_behind, visible_reads}
 

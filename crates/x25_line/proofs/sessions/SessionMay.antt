@@ -1,21 +1,13 @@
 -- What an end over sessions may do, as what is known of it goes on: the rules of a peer, of an end that is in one of our phases.
 use Rattle.std.proofs.Common.{◌≡◌, ℕ, suc, List, [], ◌∷◌, ◌++◌, Bool, true, Some, Ok, remove}
-use Rattle.x25_frame.specs.Frame.{PlainFrame, sabm, disc, ua, dm, frmr}
-use Rattle.x25_frame.specs.Reading.{frame_of}
-use Rattle.x25_link.specs.declared.phase.Phase.{Phase}
-use Rattle.x25_link.specs.declared.phase.Phase.TheVariants.{Down, Waiting, Up, Closed}
-use Rattle.x25_link.specs.declared.phase.Reason.TheVariants.{FrmrSent}
-use Rattle.x25_link.specs.Station.{Settings, is_up}
-use Rattle.x25_link.specs.Hearing.{other}
-use Rattle.x25_link.specs.laws.SetUp.{TakesPart}
+use Rattle.x25_frame.specs.{Frame.{PlainFrame, sabm, disc, ua, dm, frmr}, Reading.{frame_of}}
+use Rattle.x25_link.specs.{declared.phase.Phase.{Phase}, declared.phase.Phase.TheVariants.{Down, Waiting, Up, Closed}}
+use Rattle.x25_link.specs.{declared.phase.Reason.TheVariants.{FrmrSent}, Station.{Settings, is_up}, Hearing.{other}, laws.SetUp.{TakesPart}}
 use Rattle.x25_link.specs.laws.WindowLaw.{ending_of}
-use Rattle.x25_line.specs.laws.Stations.{is_visible}
-use Rattle.x25_line.specs.laws.StationClaims.{number_in}
-use Rattle.x25_line.specs.laws.Sessions.{Entry, Meeting, sabm_in, ua_in, disc_in, how_many, heard, replaced}
-use Rattle.x25_line.specs.laws.Peer.{Peer, fresh_peer, MaySend, MayHear}
-use Rattle.x25_line.proofs.StationSays.{machine_of}
-use Rattle.x25_line.proofs.sessions.SessionLines.{Read}
+use Rattle.x25_line.specs.{laws.Stations.{is_visible}, laws.StationClaims.{number_in}}
+use Rattle.x25_line.specs.{laws.Sessions.{Entry, Meeting, sabm_in, ua_in, disc_in, how_many, heard, replaced}, laws.Peer.{Peer, fresh_peer, MaySend, MayHear}}
 use Rattle.x25_line.specs.laws.PeerSessions.{Stand, Out, Asking, In, put_for}
+use Rattle.x25_line.proofs.{StationSays.{machine_of}, sessions.SessionLines.{Read}}
 
 abbrev pub stand_of : Phase → Stand
 stand_of Waiting = Asking

@@ -1,38 +1,27 @@
 -- Each event keeps what holds of two stations over sessions, so each run does, and what holds says the claims.
 use Rattle.std.proofs.Common.{◌≡◌, ℕ, List, [], ◌∷◌, ◌++◌, ◌⊎◌, inl, inr, length, map, drop, remove, Bool, true, false, if◌then◌else◌, Option, Some, None, refl, sym, ap, ◌∙◌, subst, arith}
-use Rattle.std.specs.Prelude.{nat_le}
 use Rattle.std.proofs.lemmas.Bool.{leb-true}
+use Rattle.std.specs.Prelude.{nat_le}
 use Rattle.x25_bits.specs.declared.role.Role.{Role}
-use Rattle.x25_frame.specs.Frame.{PlainFrame}
-use Rattle.x25_frame.specs.Spelling.{spelling_of}
-use Rattle.x25_frame.specs.laws.ReadingLaw.{ReadsSpelled}
-use Rattle.x25_link.specs.declared.error.LinkError.{LinkError}
-use Rattle.x25_link.specs.declared.phase.Phase.{Phase}
-use Rattle.x25_link.specs.declared.phase.Phase.TheVariants.{Down, Waiting, Up}
-use Rattle.x25_link.specs.Station.{Settings, is_up}
-use Rattle.x25_link.specs.Hearing.{Step, other}
+use Rattle.x25_frame.specs.{Frame.{PlainFrame}, Spelling.{spelling_of}, laws.ReadingLaw.{ReadsSpelled}}
+use Rattle.x25_link.specs.{declared.error.LinkError.{LinkError}, declared.phase.Phase.{Phase}, declared.phase.Phase.TheVariants.{Down, Waiting, Up}}
+use Rattle.x25_link.specs.{Station.{Settings, is_up}, Hearing.{Step, other}}
 use Rattle.x25_link.specs.Link.{take_step, put_step, put_refusal, timer_step, timer_refusal, timer_runs, connect_step, connect_refusal, disconnect_step, disconnect_refusal, abandon_step}
 use Rattle.x25_line.specs.laws.Stations.{Stations, Act, Put, Deliver, T1, Connect, Disconnect, Abandon, Probe, Lose, Damage, Event, Near, Far, is_visible, start}
-use Rattle.x25_line.specs.laws.Stations as one
 use Rattle.x25_line.specs.laws.StationClaims.{AreJoined, AreWhole}
 use Rattle.x25_line.specs.laws.Sessions.{Entry, Meeting, Sessions, swapped, begun_by, sent_in, after_step, unless, delivered, replaced, acts, happens, run, start_with, from_nothing, from_set_up, IsTimely, IsTimelyAt, AreTimely}
 use Rattle.x25_line.specs.laws.SessionNumbers.{Standing, turned as other_way, is_set_up, front_sets_up, anew, place_to_hear, gone_at, standing_after, same_two, standing_acts, standing_happens, standing_run, standing_at, StandsWith, EachUpStandsWith, StandingGoesAlong}
 use Rattle.x25_line.specs.laws.SessionClaims.{Throughout, octets_of, AllOf, IsSession, Stands, EachUpStands, NoSessionSendsFrmr, AllSessionsSendWhole}
 use Rattle.x25_line.specs.laws.LawsBelow.{SessionLaws}
-use Rattle.x25_line.proofs.StationSteps.{Holds}
-use Rattle.x25_line.proofs.StationAway.{connects_from}
-use Rattle.x25_line.proofs.StationRuns.{joined_swapped, joint_swapped, start_machine}
-use Rattle.x25_line.proofs.StationClaimLemmas.{is_behind, holds_order, holds_lists, holds_window, holds_whole}
-use Rattle.x25_line.proofs.sessions.SessionLines.{octets_sent}
+use Rattle.x25_line.proofs.{StationSteps.{Holds}, StationAway.{connects_from}, StationRuns.{joined_swapped, joint_swapped, start_machine}}
+use Rattle.x25_line.proofs.{StationClaimLemmas.{is_behind, holds_order, holds_lists, holds_window, holds_whole}, sessions.SessionLines.{octets_sent}}
 use Rattle.x25_line.proofs.sessions.EntryLines.{less_removes, less_replaces}
 use Rattle.x25_line.proofs.sessions.SessionHeld.{View, Live, Gone, IsView, IsHeard, OnLine, Held, counted_view, stays_on, up_begun}
-use Rattle.x25_line.proofs.sessions.SessionSteps.{went_by}
-use Rattle.x25_line.proofs.sessions.SessionChanges.{heard_removes, heard_replaces, change_held}
+use Rattle.x25_line.proofs.{sessions.SessionSteps.{went_by}, sessions.SessionChanges.{heard_removes, heard_replaces, change_held}}
 use Rattle.x25_line.proofs.sessions.SessionActs.{in_session, put_held, timer_up_held, abandon_held, connect_held, timer_waiting_held, disconnect_held}
-use Rattle.x25_line.proofs.sessions.SessionTakes.{read_of, heard_by, take_held}
-use Rattle.x25_line.proofs.sessions.SessionSeenSteps.{put_accepted}
-use Rattle.x25_line.proofs.sessions.SessionSeenRuns.{Both, both_swapped, event_both, begin_both}
-use Rattle.x25_line.proofs.sessions.TwoSessions.{on_line}
+use Rattle.x25_line.proofs.{sessions.SessionTakes.{read_of, heard_by, take_held}, sessions.SessionSeenSteps.{put_accepted}}
+use Rattle.x25_line.proofs.{sessions.SessionSeenRuns.{Both, both_swapped, event_both, begin_both}, sessions.TwoSessions.{on_line}}
+use Rattle.x25_line.specs.laws.Stations as one
 
 -- with what stands once `w` is `v`, by the definition
 abbrev HeldNow : Standing → Settings → Settings → Option ℕ → Sessions → Sessions → Type 0

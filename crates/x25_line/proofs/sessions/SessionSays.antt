@@ -1,21 +1,11 @@
 -- What a station sends in its session, an end that keeps the rules may send.
 use Rattle.std.proofs.Common.{◌≡◌, ℕ, ◌+◌, ◌≤◌, List, [], ◌∷◌, ◌++◌, length, Ok, refl, sym, ap, ◌∙◌, subst, append_assoc, append-nil}
 use Rattle.x25_bits.specs.declared.role.Role.{Role}
-use Rattle.x25_frame.specs.Frame.{PlainFrame}
-use Rattle.x25_frame.specs.Spelling.{spelling_of}
-use Rattle.x25_frame.specs.laws.ReadingLaw.{ReadsSpelled}
-use Rattle.x25_link.specs.Station.{Settings}
-use Rattle.x25_link.specs.declared.phase.Phase.{Phase}
-use Rattle.x25_link.specs.declared.phase.Phase.TheVariants.{Up}
-use Rattle.x25_link.specs.laws.WindowMachine.{Window, Runs}
-use Rattle.x25_line.specs.laws.Sessions.{Entry, Meeting, sent_in}
-use Rattle.x25_line.specs.laws.Peer.{Peer, MaySend}
-use Rattle.x25_line.proofs.StationSays.{machine_of, Said, MaySay, said_run}
-use Rattle.x25_line.proofs.StationLines.{good_reads}
-use Rattle.x25_line.proofs.StationSends.{AllWithin}
-use Rattle.x25_line.specs.laws.PeerSessions.{put_for}
-use Rattle.x25_line.proofs.sessions.SessionMay.{entry, MayDo}
-use Rattle.x25_line.proofs.ends.Puts.{put_same, put_alike}
+use Rattle.x25_frame.specs.{Frame.{PlainFrame}, Spelling.{spelling_of}, laws.ReadingLaw.{ReadsSpelled}}
+use Rattle.x25_link.specs.{Station.{Settings}, declared.phase.Phase.{Phase}, declared.phase.Phase.TheVariants.{Up}, laws.WindowMachine.{Window, Runs}}
+use Rattle.x25_line.specs.{laws.Sessions.{Entry, Meeting, sent_in}, laws.Peer.{Peer, MaySend}, laws.PeerSessions.{put_for}}
+use Rattle.x25_line.proofs.{StationSays.{machine_of, Said, MaySay, said_run}, StationLines.{good_reads}, StationSends.{AllWithin}}
+use Rattle.x25_line.proofs.{sessions.SessionMay.{entry, MayDo}, ends.Puts.{put_same, put_alike}}
 
 pub sent_append : (b : ℕ) (from : Role) (fs es : List PlainFrame) → sent_in b from (fs ++ es) ≡ sent_in b from fs ++ sent_in b from es
 sent_append b from [] es = refl

@@ -1,30 +1,17 @@
 -- A station over sessions, and what is known of it as an end that keeps the rules, after each of its steps.
 use Rattle.std.proofs.Common.{◌≡◌, ◌≤◌, ◌<◌, ◌==◌, ℕ, suc, ◌+◌, List, [], ◌∷◌, ◌++◌, inl, inr, length, Bool, true, false, Option, None, refl, sym, ap, ◌∙◌, subst, arith}
-use Rattle.std.specs.Prelude.{option_to_list}
 use Rattle.std.proofs.lemmas.Bool.{eq-eqb}
+use Rattle.std.specs.Prelude.{option_to_list}
 use Rattle.x25_bits.specs.declared.role.Role.{Role}
-use Rattle.x25_frame.specs.Frame.{PlainFrame}
-use Rattle.x25_frame.specs.Reading.{frame_of}
-use Rattle.x25_frame.specs.laws.ReadingLaw.{ReadsSpelled}
-use Rattle.x25_link.specs.declared.phase.Phase.{Phase}
-use Rattle.x25_link.specs.declared.phase.Phase.TheVariants.{Up}
-use Rattle.x25_link.specs.declared.phase.Notes.{Notes}
-use Rattle.x25_link.specs.Station.{Settings, LinkStation, is_up, with_nothing, fresh}
-use Rattle.x25_link.specs.Hearing.{Step}
-use Rattle.x25_link.specs.laws.WindowMachine.{Window, Input}
+use Rattle.x25_frame.specs.{Frame.{PlainFrame}, Reading.{frame_of}, laws.ReadingLaw.{ReadsSpelled}}
+use Rattle.x25_link.specs.{declared.phase.Phase.{Phase}, declared.phase.Phase.TheVariants.{Up}, declared.phase.Notes.{Notes}}
+use Rattle.x25_link.specs.{Station.{Settings, LinkStation, is_up, with_nothing, fresh}, Hearing.{Step}, laws.WindowMachine.{Window, Input}}
 use Rattle.x25_link.specs.laws.WindowLaw.{window_of, after_input, Stays, IsSound}
 use Rattle.x25_line.specs.laws.Sessions.{Entry, SessionEnd, start_with, Meeting, Sessions, sabm_in, how_many, sent_in, begun_by, extended, after_step}
-use Rattle.x25_line.specs.laws.Peer.{Peer, fresh_peer}
-use Rattle.x25_line.proofs.StationSays.{machine_of}
-use Rattle.x25_line.proofs.StationSends.{AllWithin}
-use Rattle.x25_line.proofs.StationSteps.{not_both}
-use Rattle.x25_line.proofs.StationAway.{is_up_phase}
-use Rattle.x25_line.proofs.sessions.SessionHeld.{extended_nil, extended_same, extended_other}
-use Rattle.x25_line.proofs.sessions.SessionSteps.{stepped}
-use Rattle.x25_line.specs.laws.PeerSessions.{put_for, AllAskedIn}
-use Rattle.x25_line.proofs.sessions.SessionMay.{MayDo}
-use Rattle.x25_line.proofs.sessions.SessionSays.{runs_said}
-use Rattle.x25_line.proofs.ends.Puts.{same_or_other, put_same, put_apart}
+use Rattle.x25_line.specs.{laws.Peer.{Peer, fresh_peer}, laws.PeerSessions.{put_for, AllAskedIn}}
+use Rattle.x25_line.proofs.{StationSays.{machine_of}, StationSends.{AllWithin}, StationSteps.{not_both}, StationAway.{is_up_phase}}
+use Rattle.x25_line.proofs.{sessions.SessionHeld.{extended_nil, extended_same, extended_other}, sessions.SessionSteps.{stepped}, sessions.SessionMay.{MayDo}}
+use Rattle.x25_line.proofs.{sessions.SessionSays.{runs_said}, ends.Puts.{same_or_other, put_same, put_apart}}
 
 asked_append : (from : Role) (n1 b : ℕ) (xs ys : List Entry) → AllAskedIn from n1 b xs → AllAskedIn from n1 b ys → AllAskedIn from n1 b (xs ++ ys)
 asked_append from n1 b [] ys f g = g

@@ -1,35 +1,20 @@
 -- Each act of a station over sessions is what an end that keeps the rules may do, by its phase and by what comes.
 use Rattle.std.proofs.Common.{◌≡◌, ◌≤◌, ◌%◌, ℕ, suc, List, [], ◌∷◌, ◌++◌, ◌⊎◌, inl, inr, length, Bool, true, false, if◌then◌else◌, Option, Some, None, Ok, Err, refl, sym, ap, ◌∙◌, subst, arith, append-nil, append_assoc}
-use Rattle.std.specs.Prelude.{option_to_list}
 use Rattle.std.proofs.lemmas.List.{length_push}
-use Rattle.x25_frame.specs.Frame.{PlainFrame, info, rr, rnr, rej, sabm, disc, ua, dm, frmr}
-use Rattle.x25_frame.specs.Spelling.{spelling_of}
-use Rattle.x25_frame.specs.laws.ReadingLaw.{ReadsSpelled}
+use Rattle.std.specs.Prelude.{option_to_list}
+use Rattle.x25_frame.specs.{Frame.{PlainFrame, info, rr, rnr, rej, sabm, disc, ua, dm, frmr}, Spelling.{spelling_of}, laws.ReadingLaw.{ReadsSpelled}}
 use Rattle.x25_frame.specs.declared.error.FrameError.TheVariants.{Short}
-use Rattle.x25_window.specs.code.Modulo.{resolved}
-use Rattle.x25_window.specs.laws.Window.{after}
-use Rattle.x25_window.specs.laws.Window.Step.{Hear, Take}
-use Rattle.x25_link.specs.declared.phase.Phase.{Phase}
-use Rattle.x25_link.specs.declared.phase.Phase.TheVariants.{Down, Waiting, Up, Closed}
-use Rattle.x25_link.specs.declared.phase.Reason.{Reason}
-use Rattle.x25_link.specs.declared.phase.Reason.TheVariants.{Retries, Disc, Dm, FrmrSent, FrmrGot, Reset, Local, Counts}
-use Rattle.x25_link.specs.declared.phase.Notes.{Notes}
-use Rattle.x25_link.specs.Station.{Settings, LinkStation, is_up, fresh}
-use Rattle.x25_link.specs.Hearing.{Step}
-use Rattle.x25_link.specs.Link.{take_step}
+use Rattle.x25_window.specs.{code.Modulo.{resolved}, laws.Window.{after}, laws.Window.Step.{Hear, Take}}
+use Rattle.x25_link.specs.{declared.phase.Phase.{Phase}, declared.phase.Phase.TheVariants.{Down, Waiting, Up, Closed}, declared.phase.Reason.{Reason}}
+use Rattle.x25_link.specs.{declared.phase.Reason.TheVariants.{Retries, Disc, Dm, FrmrSent, FrmrGot, Reset, Local, Counts}, declared.phase.Notes.{Notes}}
+use Rattle.x25_link.specs.{Station.{Settings, LinkStation, is_up, fresh}, Hearing.{Step}, Link.{take_step}}
 use Rattle.x25_link.specs.laws.SetUp.{Is, TakesPart, reset_from, waiting_after, waiting_sends, waiting_up}
 use Rattle.x25_link.specs.laws.WindowMachine.{Window, Input, receives, nothing}
 use Rattle.x25_link.specs.laws.WindowLaw.{window_of, brought_by, after_input, MayHandUp, ending_of, ends_in, Stays, Ends, Follows, AreDeclining, StaysOut}
-use Rattle.x25_line.specs.laws.StationClaims.{number_in}
-use Rattle.x25_line.specs.laws.Sessions.{Entry, Meeting, Sessions, sabm_in, disc_in, how_many, sent_in, after_step, heard}
-use Rattle.x25_line.specs.laws.LawsBelow.{SessionLaws}
-use Rattle.x25_line.specs.laws.Peer.{Peer, fresh_peer, MayHear, hearing, taking, IsWanted}
-use Rattle.x25_line.proofs.StationSays.{machine_of}
-use Rattle.x25_line.proofs.StationPeers.{low_resolved}
-use Rattle.x25_line.proofs.StationSteps.{no_packet_of, not_afresh}
-use Rattle.x25_line.proofs.StationAway.{is_up_phase, frmr_three, waits_on}
-use Rattle.x25_line.proofs.sessions.SessionLines.{Read}
-use Rattle.x25_line.specs.laws.PeerSessions.{put_for}
+use Rattle.x25_line.specs.{laws.StationClaims.{number_in}, laws.Sessions.{Entry, Meeting, Sessions, sabm_in, disc_in, how_many, sent_in, after_step, heard}}
+use Rattle.x25_line.specs.{laws.LawsBelow.{SessionLaws}, laws.Peer.{Peer, fresh_peer, MayHear, hearing, taking, IsWanted}, laws.PeerSessions.{put_for}}
+use Rattle.x25_line.proofs.{StationSays.{machine_of}, StationPeers.{low_resolved}, StationSteps.{no_packet_of, not_afresh}}
+use Rattle.x25_line.proofs.{StationAway.{is_up_phase, frmr_three, waits_on}, sessions.SessionLines.{Read}}
 use Rattle.x25_line.proofs.sessions.SessionMay.{entry, sends_read, hears_read, heard_in, IsClear, MayAsk, MayDo}
 use Rattle.x25_line.proofs.sessions.SessionSeen.{UpFacts, Seen, build_quiet, build_up, stays_seen, unchanged, changed}
 

@@ -2,34 +2,22 @@
 use Rattle.std.proofs.Common.{◌≡◌, ◌<◌, ℕ, ◌+◌, List, [], ◌∷◌, ◌++◌, ◌⊎◌, inl, inr, length, map, Bool, true, false, if◌then◌else◌, Option, Some, None, Ok, refl, sym, ap, ◌∙◌, subst, arith}
 use Rattle.std.specs.Prelude.{nat_le}
 use Rattle.x25_bits.specs.declared.role.Role.{Role}
-use Rattle.x25_frame.specs.Frame.{PlainFrame, ua}
-use Rattle.x25_frame.specs.Reading.{frame_of}
-use Rattle.x25_frame.specs.laws.ReadingLaw.{ReadsSpelled}
-use Rattle.x25_link.specs.declared.error.LinkError.{LinkError}
-use Rattle.x25_link.specs.declared.phase.Phase.{Phase}
-use Rattle.x25_link.specs.declared.phase.Phase.TheVariants.{Down, Waiting, Up}
-use Rattle.x25_link.specs.Station.{Settings, is_up}
-use Rattle.x25_link.specs.Hearing.{other}
-use Rattle.x25_link.specs.Link.{put_step, put_refusal, timer_refusal, connect_refusal, disconnect_refusal}
+use Rattle.x25_frame.specs.{Frame.{PlainFrame, ua}, Reading.{frame_of}, laws.ReadingLaw.{ReadsSpelled}}
+use Rattle.x25_link.specs.{declared.error.LinkError.{LinkError}, declared.phase.Phase.{Phase}, declared.phase.Phase.TheVariants.{Down, Waiting, Up}}
+use Rattle.x25_link.specs.{Station.{Settings, is_up}, Hearing.{other}, Link.{put_step, put_refusal, timer_refusal, connect_refusal, disconnect_refusal}}
 use Rattle.x25_line.specs.laws.Stations.{Act, Put, Deliver, T1, Connect, Disconnect, Abandon, Probe, Lose, Damage, Event, Near, Far, is_visible}
 use Rattle.x25_line.specs.laws.StationClaims.{AreJoined, number_in}
 use Rattle.x25_line.specs.laws.Sessions.{Entry, SessionEnd, Meeting, Sessions, turned, swapped, sabm_in, ua_in, disc_in, how_many, after_step, unless, heard, delivered, replaced, acts, happens, run, from_nothing, from_set_up, IsTimely, IsTimelyAt, AreTimely}
-use Rattle.x25_line.specs.laws.SessionClaims.{Throughout}
-use Rattle.x25_line.specs.laws.LawsBelow.{SessionLaws}
-use Rattle.x25_line.specs.laws.Peer.{Peer, fresh_peer}
-use Rattle.x25_line.specs.laws.Peer as once
-use Rattle.x25_line.proofs.StationRuns.{joined_swapped}
-use Rattle.x25_line.proofs.sessions.SessionLines.{Read}
-use Rattle.x25_line.proofs.sessions.SessionHeld.{Owes}
+use Rattle.x25_line.specs.{laws.SessionClaims.{Throughout}, laws.LawsBelow.{SessionLaws}, laws.Peer.{Peer, fresh_peer}}
 use Rattle.x25_line.specs.laws.PeerSessions.{Out, Asking, PeerEnd, PeerSessions, is_in, both_ends, with_peer, with_now, begins, stands, AllAskedIn, IsFree, IsReached, goes_on}
-use Rattle.x25_line.specs.laws.PeerSessions as sessions
 use Rattle.x25_line.specs.laws.SessionPeers.{IsPeer, AreBothPeers}
+use Rattle.x25_line.proofs.{StationRuns.{joined_swapped}, sessions.SessionLines.{Read}, sessions.SessionHeld.{Owes}}
 use Rattle.x25_line.proofs.sessions.EntryLines.{Less, whole, gone, less_removes, less_replaces, asked_fewer}
-use Rattle.x25_line.proofs.sessions.SessionMay.{stand_of, sends_read, hears_read, heard_in, MayDo}
-use Rattle.x25_line.proofs.ends.Meetings.{twice_turned}
-use Rattle.x25_line.proofs.sessions.SessionSeen.{UpFacts, Seen, start_seen}
+use Rattle.x25_line.proofs.{sessions.SessionMay.{stand_of, sends_read, hears_read, heard_in, MayDo}, ends.Meetings.{twice_turned}}
+use Rattle.x25_line.proofs.{sessions.SessionSeen.{UpFacts, Seen, start_seen}, sessions.PeerSessionRuns.{lines}}
+use Rattle.x25_line.specs.laws.Peer as once
+use Rattle.x25_line.specs.laws.PeerSessions as sessions
 use Rattle.x25_line.proofs.sessions.SessionSeenSteps as own
-use Rattle.x25_line.proofs.sessions.PeerSessionRuns.{lines}
 
 -- ---- a station is known as a peer
 

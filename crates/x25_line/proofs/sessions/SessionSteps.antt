@@ -1,28 +1,19 @@
 -- Steps of the near end keep what holds of two stations over sessions: of an end that is in the session, of one that is out of it,
 -- and where sessions begin.
 use Rattle.std.proofs.Common.{◌≡◌, ◌≤◌, ℕ, List, [], ◌∷◌, ◌++◌, ◌⊎◌, inl, inr, map, length, Option, None, refl, sym, ap, ◌∙◌, subst, arith, append-nil}
-use Rattle.std.specs.Prelude.{option_to_list}
-use Rattle.std.specs.List.{Contains}
 use Rattle.std.proofs.lemmas.List.Elements.{Contains-append_cases}
+use Rattle.std.specs.{Prelude.{option_to_list}, List.{Contains}}
 use Rattle.x25_bits.specs.declared.role.Role.{Role}
-use Rattle.x25_frame.specs.Frame.{PlainFrame, frmr}
-use Rattle.x25_frame.specs.Spelling.{spelling_of}
-use Rattle.x25_frame.specs.laws.ReadingLaw.{ReadsSpelled}
-use Rattle.x25_link.specs.declared.phase.Phase.{Phase}
-use Rattle.x25_link.specs.declared.phase.Phase.TheVariants.{Waiting, Closed}
-use Rattle.x25_link.specs.Station.{Settings}
-use Rattle.x25_link.specs.Hearing.{Step, other}
-use Rattle.x25_line.specs.laws.Stations.{Stations}
-use Rattle.x25_line.specs.laws.Stations as one
-use Rattle.x25_line.specs.laws.StationClaims.{AreJoined, NoFrmr, AreWhole, numbered_on}
-use Rattle.x25_line.specs.laws.Sessions.{Entry, SessionEnd, Meeting, Sessions, ua_in, how_many, sent_in, extended}
-use Rattle.x25_line.specs.laws.WholeNumbers.{given, taken_out}
-use Rattle.x25_line.specs.laws.SessionNumbers.{Standing, standing_after}
-use Rattle.x25_line.specs.laws.SessionClaims.{AllOf}
+use Rattle.x25_frame.specs.{Frame.{PlainFrame, frmr}, Spelling.{spelling_of}, laws.ReadingLaw.{ReadsSpelled}}
+use Rattle.x25_link.specs.{declared.phase.Phase.{Phase}, declared.phase.Phase.TheVariants.{Waiting, Closed}, Station.{Settings}, Hearing.{Step, other}}
+use Rattle.x25_line.specs.{laws.Stations.{Stations}, laws.StationClaims.{AreJoined, NoFrmr, AreWhole, numbered_on}}
+use Rattle.x25_line.specs.{laws.Sessions.{Entry, SessionEnd, Meeting, Sessions, ua_in, how_many, sent_in, extended}, laws.WholeNumbers.{given, taken_out}}
+use Rattle.x25_line.specs.{laws.SessionNumbers.{Standing, standing_after}, laws.SessionClaims.{AllOf}}
 use Rattle.x25_line.proofs.StationLines.{AreParting, no_frmr_append, parting_no_frmr, parting_numbered, parting_whole}
 use Rattle.x25_line.proofs.StationSteps.{MayBeAway, away_is_not_up, Leads, put_behind, FitsEnd}
 use Rattle.x25_line.proofs.sessions.SessionLines.{Read, octets_sent, count, numbers, quiet_of, of_sent, many_sent}
 use Rattle.x25_line.proofs.sessions.SessionHeld.{View, Live, Gone, IsView, IsHeard, Comes, Owes, HasLists, SameLists, lists_same, Held, counted_view, with_machine, standing_after_is, stays_on, extended_nil, extended_same, extended_more, whole_on, whole_apart, heard_more}
+use Rattle.x25_line.specs.laws.Stations as one
 
 -- ---- the end, and both, after a step, in which its session is n
 

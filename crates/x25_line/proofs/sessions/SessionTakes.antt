@@ -1,35 +1,22 @@
 -- What comes to the near end keeps what holds of two stations over sessions.
 use Rattle.std.proofs.Common.{◌≡◌, ◌≤◌, ℕ, zero, suc, ◌+◌, List, [], ◌∷◌, ◌⊎◌, inl, inr, Bool, true, false, if◌then◌else◌, Option, None, Ok, refl, sym, ap, ◌∙◌, subst, arith}
-use Rattle.x25_frame.specs.Frame.{PlainFrame, sabm, disc, ua, dm}
-use Rattle.x25_frame.specs.Reading.{frame_of}
-use Rattle.x25_frame.specs.laws.ReadingLaw.{ReadsSpelled}
-use Rattle.x25_link.specs.declared.phase.Phase.{Phase}
-use Rattle.x25_link.specs.declared.phase.Phase.TheVariants.{Down, Waiting, Up, Closed}
-use Rattle.x25_link.specs.declared.phase.Notes.{Notes}
-use Rattle.x25_link.specs.laws.SetUp.{Is, TakesPart, waiting_after, waiting_sends, waiting_up}
-use Rattle.x25_link.specs.Station.{Settings, LinkStation, is_up, fresh}
-use Rattle.x25_link.specs.Hearing.{Step, other}
-use Rattle.x25_link.specs.Link.{take_step}
-use Rattle.x25_link.specs.laws.WindowMachine.{ShowAll}
+use Rattle.x25_frame.specs.{Frame.{PlainFrame, sabm, disc, ua, dm}, Reading.{frame_of}, laws.ReadingLaw.{ReadsSpelled}}
+use Rattle.x25_link.specs.{declared.phase.Phase.{Phase}, declared.phase.Phase.TheVariants.{Down, Waiting, Up, Closed}, declared.phase.Notes.{Notes}}
+use Rattle.x25_link.specs.{laws.SetUp.{Is, TakesPart, waiting_after, waiting_sends, waiting_up}, Station.{Settings, LinkStation, is_up, fresh}}
+use Rattle.x25_link.specs.{Hearing.{Step, other}, Link.{take_step}, laws.WindowMachine.{ShowAll}}
 use Rattle.x25_link.specs.laws.WindowLaw.{window_of, brought_by, ending_of, IsOut, AreDeclining, StaysOut}
-use Rattle.x25_line.specs.laws.Stations as one
-use Rattle.x25_line.specs.laws.StationClaims.{AreJoined, number_in, numbered_on}
-use Rattle.x25_line.specs.laws.WholeNumbers.{first_of, taken_out}
-use Rattle.x25_line.specs.laws.SessionClaims.{octets_of}
+use Rattle.x25_line.specs.{laws.StationClaims.{AreJoined, number_in, numbered_on}, laws.WholeNumbers.{first_of, taken_out}, laws.SessionClaims.{octets_of}}
 use Rattle.x25_line.specs.laws.SessionNumbers.{Standing, is_sabm, is_set_up, anew, place_to_hear}
-use Rattle.x25_line.specs.laws.Sessions.{Entry, Meeting, Sessions, sabm_in, ua_in, disc_in, how_many, begun_by, after_step, heard}
-use Rattle.x25_line.specs.laws.LawsBelow.{Laws}
+use Rattle.x25_line.specs.{laws.Sessions.{Entry, Meeting, Sessions, sabm_in, ua_in, disc_in, how_many, begun_by, after_step, heard}, laws.LawsBelow.{Laws}}
 use Rattle.x25_line.proofs.StationLines.{IsOrderly, orderly_where, consed, AreParting}
-use Rattle.x25_line.proofs.StationSteps.{Leads, not_both, read_joint, declining_parting, out_not_up}
-use Rattle.x25_line.proofs.StationAway.{closed_takes, waits_on, waiting_parting}
+use Rattle.x25_line.proofs.{StationSteps.{Leads, not_both, read_joint, declining_parting, out_not_up}, StationAway.{closed_takes, waits_on, waiting_parting}}
 use Rattle.x25_line.proofs.sessions.SessionLines.{Read, count, numbers, quiet_of, carried, carried_numbers, carried_orderly}
 use Rattle.x25_line.proofs.sessions.SessionHeld.{View, Live, Soon, Gone, IsView, IsHeard, Comes, AfterUa, Owes, OnLine, Held, near_high, front_answers, front_passes, after_quiet}
-use Rattle.x25_line.proofs.sessions.SessionSteps.{end_after, stepped, went_by, Answers, apart_held}
-use Rattle.x25_line.proofs.sessions.SessionBegins.{begins_held}
-use Rattle.x25_line.proofs.sessions.SessionUp.{follows_answers, live_goes_on}
-use Rattle.x25_line.proofs.sessions.SessionSeenActs.{left_by}
+use Rattle.x25_line.proofs.{sessions.SessionSteps.{end_after, stepped, went_by, Answers, apart_held}, sessions.SessionBegins.{begins_held}}
+use Rattle.x25_line.proofs.{sessions.SessionUp.{follows_answers, live_goes_on}, sessions.SessionSeenActs.{left_by}}
 use Rattle.x25_line.proofs.sessions.SessionSeenSteps.{is_answer, sabm_or_not, sets_none_up}
 use Rattle.x25_line.proofs.sessions.SessionActs.{InSession, quiet_held, in_session, waiting_owes}
+use Rattle.x25_line.specs.laws.Stations as one
 
 -- ---- what comes
 

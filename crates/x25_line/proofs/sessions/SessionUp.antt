@@ -1,27 +1,16 @@
 -- What an end does that is Up, over sessions, and what it sends.
 use Rattle.std.proofs.Common.{◌≡◌, ℕ, List, [], ◌∷◌, ◌++◌, inl, inr, Bool, false, Option, Some, None, Ok, refl, sym, ap, subst, arith}
-use Rattle.x25_frame.specs.Frame.{PlainFrame, info, rr, rnr, rej}
-use Rattle.x25_frame.specs.laws.ReadingLaw.{ReadsSpelled}
+use Rattle.x25_frame.specs.{Frame.{PlainFrame, info, rr, rnr, rej}, laws.ReadingLaw.{ReadsSpelled}}
 use Rattle.x25_window.specs.laws.Window.{Frame, frames_of}
-use Rattle.x25_link.specs.declared.phase.Phase.TheVariants.{Closed}
-use Rattle.x25_link.specs.declared.phase.Reason.{Reason}
-use Rattle.x25_link.specs.declared.phase.Reason.TheVariants.{Disc, FrmrSent, Reset}
-use Rattle.x25_link.specs.Station.{Settings, LinkStation}
-use Rattle.x25_link.specs.Hearing.{Step, other}
-use Rattle.x25_link.specs.laws.WindowMachine.{Window, Input, Runs, rests, goes_on, Shows, ShowAll}
+use Rattle.x25_link.specs.{declared.phase.Phase.TheVariants.{Closed}, declared.phase.Reason.{Reason}, declared.phase.Reason.TheVariants.{Disc, FrmrSent, Reset}}
+use Rattle.x25_link.specs.{Station.{Settings, LinkStation}, Hearing.{Step, other}, laws.WindowMachine.{Window, Input, Runs, rests, goes_on, Shows, ShowAll}}
 use Rattle.x25_link.specs.laws.WindowLaw.{brought_by, MayHandUp, InputMayHandUp, Stays, Follows}
-use Rattle.x25_line.specs.laws.Stations.{Stations}
-use Rattle.x25_line.specs.laws.Stations as one
-use Rattle.x25_line.specs.laws.StationClaims.{AreJoined, number_in}
-use Rattle.x25_line.specs.laws.Sessions.{Entry, Meeting, Sessions, ua_in, begun_by, after_step}
-use Rattle.x25_line.specs.laws.SessionNumbers.{Standing}
-use Rattle.x25_line.specs.laws.WholeNumbers.{taken_out}
-use Rattle.x25_line.proofs.sessions.SessionSeenActs.{by_disc, by_reset}
-use Rattle.x25_line.proofs.StationSteps.{Holds, Leads}
-use Rattle.x25_line.proofs.StationAway.{second_false}
+use Rattle.x25_line.specs.{laws.Stations.{Stations}, laws.StationClaims.{AreJoined, number_in}}
+use Rattle.x25_line.specs.{laws.Sessions.{Entry, Meeting, Sessions, ua_in, begun_by, after_step}, laws.SessionNumbers.{Standing}, laws.WholeNumbers.{taken_out}}
+use Rattle.x25_line.proofs.{sessions.SessionSeenActs.{by_disc, by_reset}, StationSteps.{Holds, Leads}, StationAway.{second_false}}
 use Rattle.x25_line.proofs.sessions.SessionLines.{Read, of_ua, none_is_some, count, AllNumbered, numbered_count}
-use Rattle.x25_line.proofs.sessions.SessionHeld.{Live, IsView, Comes, Held}
-use Rattle.x25_line.proofs.sessions.SessionSteps.{stepped, went_by, Answers, live_held}
+use Rattle.x25_line.proofs.{sessions.SessionHeld.{Live, IsView, Comes, Held}, sessions.SessionSteps.{stepped, went_by, Answers, live_held}}
+use Rattle.x25_line.specs.laws.Stations as one
 
 -- ---- a run that only sends, sends frames that carry a number
 

@@ -1,25 +1,15 @@
 -- A station over sessions and a peer are two ends that keep the rules, whatever the station does.
 use Rattle.std.proofs.Common.{◌≡◌, ℕ, suc, ◌+◌, List, [], ◌∷◌, ◌++◌, inl, inr, remove, Bool, true, Some, None, Ok, refl, sym, ap, ◌∙◌, subst, arith}
 use Rattle.x25_bits.specs.declared.role.Role.{Role}
-use Rattle.x25_frame.specs.Frame.{PlainFrame, info, rr, rnr, rej, sabm, disc, ua, dm, frmr}
-use Rattle.x25_frame.specs.Reading.{frame_of}
-use Rattle.x25_link.specs.declared.phase.Phase.{Phase}
-use Rattle.x25_link.specs.declared.phase.Phase.TheVariants.{Down, Waiting, Up}
-use Rattle.x25_link.specs.Station.{Settings}
-use Rattle.x25_link.specs.Hearing.{other}
+use Rattle.x25_frame.specs.{Frame.{PlainFrame, info, rr, rnr, rej, sabm, disc, ua, dm, frmr}, Reading.{frame_of}}
+use Rattle.x25_link.specs.{declared.phase.Phase.{Phase}, declared.phase.Phase.TheVariants.{Down, Waiting, Up}, Station.{Settings}, Hearing.{other}}
 use Rattle.x25_link.specs.laws.SetUp.{TakesPart}
-use Rattle.x25_line.specs.laws.StationClaims.{number_in}
-use Rattle.x25_line.specs.laws.Said.{Else, Odd as OddSaid, said}
-use Rattle.x25_line.specs.laws.Sessions.{Entry, Meeting, sabm_in, ua_in, disc_in, how_many, replaced}
-use Rattle.x25_line.specs.laws.Peer.{Peer, MaySay}
-use Rattle.x25_line.proofs.Order.{by_frmr, no_fault}
-use Rattle.x25_line.proofs.StationLines.{visible_reads}
-use Rattle.x25_line.proofs.StationSays.{machine_of}
-use Rattle.x25_line.proofs.sessions.SessionLines.{Read, none_is_some, of_sabm, of_disc, number_kind, many_append}
-use Rattle.x25_line.proofs.sessions.SessionHeld.{Owes, owes_less}
-use Rattle.x25_line.specs.laws.PeerSessions.{Stand, Out, Asking, In, PeerEnd, put_for, AllAskedIn}
-use Rattle.x25_line.specs.laws.PeerSessionClaims.{frmr_in}
+use Rattle.x25_line.specs.{laws.StationClaims.{number_in}, laws.Said.{Else, Odd as OddSaid, said}}
+use Rattle.x25_line.specs.{laws.Sessions.{Entry, Meeting, sabm_in, ua_in, disc_in, how_many, replaced}, laws.Peer.{Peer, MaySay}}
+use Rattle.x25_line.specs.{laws.PeerSessions.{Stand, Out, Asking, In, PeerEnd, put_for, AllAskedIn}, laws.PeerSessionClaims.{frmr_in}}
 use Rattle.x25_line.specs.laws.Ends.{Letter, letter, free, asks, closes, leaves, hears, takes_ua, takes_sabm, waits_on, takes_disc, loses, damages, Ends, with_near, is_handed, sends, listens, moves, IsReached, near_does}
+use Rattle.x25_line.proofs.{Order.{by_frmr, no_fault}, StationLines.{visible_reads}, StationSays.{machine_of}}
+use Rattle.x25_line.proofs.{sessions.SessionLines.{Read, none_is_some, of_sabm, of_disc, number_kind, many_append}, sessions.SessionHeld.{Owes, owes_less}}
 use Rattle.x25_line.proofs.sessions.EntryLines.{Less, whole, gone, hurt, deeper, less_removes, less_replaces, many_less, asked_fewer}
 use Rattle.x25_line.proofs.sessions.Letters.{heard_said, letters, letters_push, letters_removed, letters_replaced, sabms, uas, discs, asked_letters, letters_asked}
 use Rattle.x25_line.proofs.sessions.SessionMay.{stand_of, sends_read, hears_read, entry, heard_in, MayAsk, MayDo}

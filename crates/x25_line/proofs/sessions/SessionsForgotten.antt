@@ -2,17 +2,14 @@
 use Rattle.std.proofs.Common.{◌≡◌, ◌≤◌, ◌<◌, ℕ, zero, suc, List, [], ◌∷◌, ◌++◌, length, map, remove, Bool, true, false, if◌then◌else◌, Option, Some, None, refl, sym, ap, ◌∙◌, subst, arith, append-nil, append_assoc}
 use Rattle.std.specs.Prelude.{nat_le, option_to_list, ◌||◌}
 use Rattle.x25_frame.specs.Spelling.{spelling_of}
-use Rattle.x25_link.specs.declared.error.LinkError.{LinkError}
-use Rattle.x25_link.specs.Station.{Settings, LinkStation, is_up}
-use Rattle.x25_link.specs.Hearing.{Step}
+use Rattle.x25_link.specs.{declared.error.LinkError.{LinkError}, Station.{Settings, LinkStation, is_up}, Hearing.{Step}}
 use Rattle.x25_link.specs.Link.{take_step, put_step, put_refusal, timer_step, timer_refusal, connect_step, connect_refusal, disconnect_step, disconnect_refusal, abandon_step}
 use Rattle.x25_line.specs.laws.Stations.{StationEnd, Stations, Act, Put, Deliver, T1, Connect, Disconnect, Abandon, Probe, Lose, Damage, Event, Near, Far, is_visible, start}
-use Rattle.x25_line.specs.laws.Stations as one
 use Rattle.x25_line.specs.laws.Sessions.{Entry, SessionEnd, Meeting, Sessions, extended, begun_by, after_step, unless, delivered, replaced, acts, swapped, happens, from_set_up, run}
 use Rattle.x25_line.specs.laws.SessionClaims.{octets_of, all_of, IsEndOf, SessionsAreStations, SetUpIsTheStart}
-use Rattle.x25_line.proofs.sessions.SessionSteps.{end_after}
-use Rattle.x25_line.proofs.sessions.SessionLines.{octets_append, octets_sent}
+use Rattle.x25_line.proofs.{sessions.SessionSteps.{end_after}, sessions.SessionLines.{octets_append, octets_sent}}
 use Rattle.x25_line.proofs.sessions.SessionHeld.{extended_same, extended_other}
+use Rattle.x25_line.specs.laws.Stations as one
 
 -- ---- lists of all sessions
 

@@ -1,35 +1,19 @@
 -- Two stations over sessions, of which each has the other as its peer: what is claimed of who meets whom, and of order.
 use Rattle.std.proofs.Common.{◌≡◌, ◌≤◌, ◌+◌, ℕ, List, [], ◌∷◌, ◌⊎◌, inl, inr, true, None, Ok, Err, refl, sym, ap, ◌∙◌, subst, arith, suc}
 use Rattle.x25_bits.specs.declared.role.Role.{Role}
-use Rattle.x25_frame.specs.Frame.{PlainFrame, info, rr, rnr, rej, sabm, frmr}
-use Rattle.x25_frame.specs.Reading.{frame_of}
-use Rattle.x25_frame.specs.laws.ReadingLaw.{ReadsSpelled}
-use Rattle.x25_link.specs.Station.{Settings, is_up}
-use Rattle.x25_link.specs.Hearing.{other}
-use Rattle.x25_link.specs.Link.{is_idle}
-use Rattle.x25_link.specs.laws.WindowLaw.{IsRunning}
-use Rattle.x25_line.specs.laws.InWindow.{IsPrefix}
-use Rattle.x25_line.specs.laws.StationClaims.{AreJoined, number_in}
-use Rattle.x25_line.specs.laws.Said.{said, Odd}
+use Rattle.x25_frame.specs.{Frame.{PlainFrame, info, rr, rnr, rej, sabm, frmr}, Reading.{frame_of}, laws.ReadingLaw.{ReadsSpelled}}
+use Rattle.x25_frame.specs.declared.error.FrameError.TheVariants.{Undefined, NoInfoAllowed, TooLong}
+use Rattle.x25_link.specs.{Station.{Settings, is_up}, Hearing.{other}, Link.{is_idle}, laws.WindowLaw.{IsRunning}}
+use Rattle.x25_line.specs.{laws.InWindow.{IsPrefix}, laws.StationClaims.{AreJoined, number_in}, laws.Said.{said, Odd}}
 use Rattle.x25_line.specs.laws.Sessions.{Entry, Meeting, Sessions, swapped, sabm_in, ua_in, disc_in, how_many, run}
 use Rattle.x25_line.specs.laws.SessionClaims.{Throughout, AllOf, AllMet, SomeMet, IsInOrder, MeetInStep, MetAreInOrder, UnmetHandNothingUp, OnlyBegunHaveLists, EachHearsLatest, EachMeetsLatest, IdleHasArrived}
-use Rattle.x25_line.specs.laws.LawsBelow.{SessionLaws}
-use Rattle.x25_line.specs.laws.PeerSessions.{PeerEnd, as_end, with_peer, AllAskedIn, IsReached}
-use Rattle.x25_line.specs.laws.Ends.{letter, OfSabm, OfTells}
-use Rattle.x25_line.specs.laws.PeerSessionClaims.{frmr_in}
-use Rattle.x25_frame.specs.declared.error.FrameError.TheVariants.{Undefined, NoInfoAllowed, TooLong}
-use Rattle.x25_line.proofs.sessions.SessionWith.{NoneOdd}
-use Rattle.x25_line.proofs.StationAway.{is_up_phase}
-use Rattle.x25_line.proofs.StationLines.{consed, IsOrderly}
-use Rattle.x25_line.proofs.sessions.SessionLines.{Read, numbers}
-use Rattle.x25_line.proofs.sessions.SessionHeld.{Owes, OnLine}
-use Rattle.x25_line.proofs.sessions.SessionMay.{stand_of}
-use Rattle.x25_line.proofs.sessions.Letters.{letters}
+use Rattle.x25_line.specs.{laws.LawsBelow.{SessionLaws}, laws.PeerSessions.{PeerEnd, as_end, with_peer, AllAskedIn, IsReached}}
+use Rattle.x25_line.specs.{laws.Ends.{letter, OfSabm, OfTells}, laws.PeerSessionClaims.{frmr_in}}
+use Rattle.x25_line.proofs.{sessions.SessionWith.{NoneOdd}, StationAway.{is_up_phase}, StationLines.{consed, IsOrderly}, sessions.SessionLines.{Read, numbers}}
+use Rattle.x25_line.proofs.{sessions.SessionHeld.{Owes, OnLine}, sessions.SessionMay.{stand_of}, sessions.Letters.{letters}}
 use Rattle.x25_line.proofs.sessions.PeerSessionRuns.{two, all_of, lines, up_in, step_is, order_is, unmet_is, idle_is, latest_is}
-use Rattle.x25_line.proofs.sessions.SessionSeenRuns.{end, tags_there, Both, both_swapped, throughout_both}
-use Rattle.x25_line.proofs.ends.Meetings.{twice_turned, far_turned}
-use Rattle.x25_line.proofs.ends.Lines.{AllTold, Never, Of, AllTags, IsAsked, AllAsked}
-use Rattle.x25_line.proofs.ends.Sessions.{far_high, live}
+use Rattle.x25_line.proofs.{sessions.SessionSeenRuns.{end, tags_there, Both, both_swapped, throughout_both}, ends.Meetings.{twice_turned, far_turned}}
+use Rattle.x25_line.proofs.{ends.Lines.{AllTold, Never, Of, AllTags, IsAsked, AllAsked}, ends.Sessions.{far_high, live}}
 
 -- what is of the session that stands is of the latest, where that is begun
 hears : (from : Role) (n1 q begun : ℕ) → begun ≤ q → (es : List Entry) → AllTold (Of q) (letters from n1 es) → AllTags begun (letters from n1 es) → AllOf from n1 begun es

@@ -1,12 +1,8 @@
 -- What holds of any two ends that keep the rules, over set-up and re-set-up at any moment.
 use Rattle.std.specs.Prelude.{◌≡◌, ◌≤◌, ◌⊎◌, ℕ, List, [], ◌∷◌, length, Option}
 use Rattle.x25_window.specs.code.Modulo.{resolved}
-use Rattle.x25_line.specs.laws.InWindow.{IsPrefix}
-use Rattle.x25_line.specs.laws.Said.{Carried, Tells}
-use Rattle.x25_line.specs.laws.Sessions.{Meeting}
-use Rattle.x25_line.specs.laws.SessionClaims.{AllMet, SomeMet, InStep}
-use Rattle.x25_line.specs.laws.Peer.{Peer}
-use Rattle.x25_line.specs.laws.PeerSessions.{In}
+use Rattle.x25_line.specs.{laws.InWindow.{IsPrefix}, laws.Said.{Carried, Tells}, laws.Sessions.{Meeting}}
+use Rattle.x25_line.specs.{laws.SessionClaims.{AllMet, SomeMet, InStep}, laws.Peer.{Peer}, laws.PeerSessions.{In}}
 use Rattle.x25_line.specs.laws.Ends.{Letter, Ends, near_now, IsReached}
 
 abbrev pub OfAnyTwoEnds : (Ends → Type 0) → Type 0

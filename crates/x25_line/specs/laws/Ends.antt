@@ -1,11 +1,9 @@
 -- Two ends of any kind, set up and set up again by either at any moment: the rules of docs/PEER.md, the same for both.
 -- A letter on the line is what the rules look at in a frame, and the session in which it was sent, which no end reads.
 -- Each move is of the near end, or of the line to it. The far end's moves are those of the two swapped.
-use Rattle.std.specs.Prelude.{◌≡◌, ◌+◌, ℕ, zero, suc, Bool, true, false, List, [], ◌∷◌, ◌++◌, map, remove}
-use Rattle.std.specs.Prelude.{Option}
+use Rattle.std.specs.Prelude.{◌≡◌, ◌+◌, ℕ, zero, suc, Bool, true, false, List, [], ◌∷◌, ◌++◌, map, remove, Option}
 use Rattle.x25_line.specs.laws.Said.{Said, Carried, Tells, Sabm, Disc, Ua, Else, Odd}
-use Rattle.x25_line.specs.laws.Sessions.{Meeting, turned}
-use Rattle.x25_line.specs.laws.Peer.{Peer, fresh_peer, MaySay, MayMake}
+use Rattle.x25_line.specs.{laws.Sessions.{Meeting, turned}, laws.Peer.{Peer, fresh_peer, MaySay, MayMake}}
 use Rattle.x25_line.specs.laws.PeerSessions.{Stand, Out, Asking, In, put_for}
 
 -- where an end stands, and how many sessions it began

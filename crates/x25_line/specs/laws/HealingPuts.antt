@@ -1,11 +1,8 @@
 -- Healing while packets are handed down: both ends fire, and then what is on the line comes and packets are put, in any
 -- order, while nothing is lost.
 use Rattle.std.specs.Prelude.{◌≡◌, ◌<◌, ◌⊎◌, true, false, List, [], ◌∷◌}
-use Rattle.x25_link.specs.Station.{Settings, LinkStation, is_up, is_busy}
-use Rattle.x25_link.specs.Link.{timer_runs}
-use Rattle.x25_link.specs.laws.RestLaw.{IsAtRest}
-use Rattle.x25_line.specs.laws.Stations.{Act, Put, Deliver, T1, Event, Near, Far}
-use Rattle.x25_line.specs.laws.StationClaims.{AreJoined}
+use Rattle.x25_link.specs.{Station.{Settings, LinkStation, is_up, is_busy}, Link.{timer_runs}, laws.RestLaw.{IsAtRest}}
+use Rattle.x25_line.specs.{laws.Stations.{Act, Put, Deliver, T1, Event, Near, Far}, laws.StationClaims.{AreJoined}}
 use Rattle.x25_line.specs.laws.Sessions.{SessionEnd, Sessions, from_nothing, from_set_up, AreTimely, happens, run}
 
 -- ---- deliveries and puts

@@ -1,8 +1,6 @@
 -- What the laws of frames and of one link say, in the crates below, which the laws of two links rest on.
 use Rattle.x25_link.specs.laws.NoteLaw.{TakeTells, TakeContinues, TimerTells, DisconnectTells, AbandonTells}
-use Rattle.x25_link.specs.laws.WindowLaw.{StationLaws}
-use Rattle.x25_link.specs.laws.RestLaw.{RestLaws}
-use Rattle.x25_link.specs.laws.AnswerLaw.{AnswerLaws}
+use Rattle.x25_link.specs.{laws.WindowLaw.{StationLaws}, laws.RestLaw.{RestLaws}, laws.AnswerLaw.{AnswerLaws}}
 use Rattle.x25_link.specs.laws.SetUp.{SetUpLaws}
 
 -- those of a link that is set up once

@@ -4,8 +4,7 @@
 -- words.
 use Rattle.std.specs.Prelude.{◌≡◌, ℕ, ◌+◌, ◌%◌, ◌<◌, ◌≤◌, List, [], ◌∷◌, ◌++◌, length, slice_get, max, Bool}
 use Rattle.std.specs.Prelude.{true, false, Some, None, Result}
-use Rattle.x25_frame.specs.Frame.{PlainFrame}
-use Rattle.x25_frame.specs.declared.error.FrameError.{FrameError}
+use Rattle.x25_frame.specs.{Frame.{PlainFrame}, declared.error.FrameError.{FrameError}}
 use Rattle.x25_window.specs.code.Modulo.{resolved}
 use Rattle.x25_line.specs.laws.Said.{Said, Tells, Odd as OddSaid, said}
 

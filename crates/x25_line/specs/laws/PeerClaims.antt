@@ -1,13 +1,9 @@
 -- What holds of a station and any peer, as long as the station doesn't note LinkUp, by which the link would be set up
 -- anew.
 use Rattle.std.specs.Prelude.{◌≡◌, ◌≤◌, true, false, List, [], ◌∷◌, length, take}
-use Rattle.x25_link.specs.declared.phase.Reason.{Reason}
-use Rattle.x25_link.specs.declared.phase.Reason.TheVariants.{FrmrSent}
-use Rattle.x25_link.specs.Station.{Settings}
-use Rattle.x25_link.specs.Link.{is_idle}
-use Rattle.x25_line.specs.laws.InWindow.{IsPrefix}
-use Rattle.x25_line.specs.laws.PeerJoined.{Joined, IsReached}
-use Rattle.x25_line.specs.laws.Tape.{IsSilent}
+use Rattle.x25_link.specs.{declared.phase.Reason.{Reason}, declared.phase.Reason.TheVariants.{FrmrSent}}
+use Rattle.x25_link.specs.{Station.{Settings}, Link.{is_idle}}
+use Rattle.x25_line.specs.{laws.InWindow.{IsPrefix}, laws.PeerJoined.{Joined, IsReached}, laws.Tape.{IsSilent}}
 
 -- whatever happens, with any peer that keeps the rules of `Peer`
 abbrev pub WithAnyPeer : (Joined → Type 0) → Type 0

@@ -2,8 +2,7 @@
 -- (profile: the line).
 use Rattle.std.specs.Prelude.{◌≡◌, ℕ, true, List, [], ◌∷◌, ◌++◌, remove}
 use Rattle.x25_frame.specs.Reading.{frame_of}
-use Rattle.x25_link.specs.Station.{Settings}
-use Rattle.x25_link.specs.Hearing.{other}
+use Rattle.x25_link.specs.{Station.{Settings}, Hearing.{other}}
 use Rattle.x25_line.specs.laws.Stations.{StationEnd, Stations, Act, acts, fresh_station, is_visible, replaced}
 use Rattle.x25_line.specs.laws.Peer.{Peer, fresh_peer, MaySend, MayHear}
 

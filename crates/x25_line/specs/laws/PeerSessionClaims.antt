@@ -1,11 +1,8 @@
 -- What holds of a station and any peer over set-up and re-set-up at any moment.
 use Rattle.std.specs.Prelude.{◌≡◌, ◌≤◌, ◌⊎◌, ℕ, true, Result, Ok, Err}
-use Rattle.x25_frame.specs.Frame.{PlainFrame, frmr}
-use Rattle.x25_frame.specs.declared.error.FrameError.{FrameError}
-use Rattle.x25_link.specs.Station.{Settings, is_up}
-use Rattle.x25_link.specs.Link.{is_idle}
-use Rattle.x25_line.specs.laws.Sessions.{Meeting, Sessions, how_many}
-use Rattle.x25_line.specs.laws.SessionClaims.{AllMet, SomeMet}
+use Rattle.x25_frame.specs.{Frame.{PlainFrame, frmr}, declared.error.FrameError.{FrameError}}
+use Rattle.x25_link.specs.{Station.{Settings, is_up}, Link.{is_idle}}
+use Rattle.x25_line.specs.{laws.Sessions.{Meeting, Sessions, how_many}, laws.SessionClaims.{AllMet, SomeMet}}
 use Rattle.x25_line.specs.laws.PeerSessions.{PeerSessions, IsReached, In, now, both_ends}
 
 -- whatever happens, with any peer that keeps the rules of `Peer` and of set-up

@@ -5,16 +5,13 @@
 use Rattle.std.specs.Prelude.{◌≡◌, ◌⊎◌, ℕ, suc, ◌==◌, Bool, true, false, if◌then◌else◌, List, [], ◌∷◌, ◌++◌, remove}
 use Rattle.std.specs.Prelude.{Some, Result, Ok, Err}
 use Rattle.x25_bits.specs.declared.role.Role.{Role}
-use Rattle.x25_frame.specs.Frame.{PlainFrame, sabm, disc, ua, dm, frmr}
-use Rattle.x25_frame.specs.Reading.{frame_of}
+use Rattle.x25_frame.specs.{Frame.{PlainFrame, sabm, disc, ua, dm, frmr}, Reading.{frame_of}}
 use Rattle.x25_frame.specs.declared.error.FrameError.{FrameError}
 use Rattle.x25_frame.specs.declared.error.FrameError.TheVariants.{Short, BadFcs, BadAddress, Undefined}
 use Rattle.x25_frame.specs.declared.error.FrameError.TheVariants.{NoInfoAllowed, TooLong}
-use Rattle.x25_link.specs.declared.phase.Phase.TheVariants.{Down, Waiting}
-use Rattle.x25_link.specs.Station.{Settings, with_nothing}
+use Rattle.x25_link.specs.{declared.phase.Phase.TheVariants.{Down, Waiting}, Station.{Settings, with_nothing}}
 use Rattle.x25_link.specs.Hearing.{other}
-use Rattle.x25_line.specs.laws.Stations.{Act, T1, is_visible}
-use Rattle.x25_line.specs.laws.StationClaims.{number_in}
+use Rattle.x25_line.specs.{laws.Stations.{Act, T1, is_visible}, laws.StationClaims.{number_in}}
 use Rattle.x25_line.specs.laws.Sessions.{Entry, SessionEnd, Meeting, Sessions, acts, heard, replaced, from_nothing}
 use Rattle.x25_line.specs.laws.Sessions.{from_set_up, sabm_in, ua_in, disc_in, how_many}
 use Rattle.x25_line.specs.laws.Peer.{Peer, fresh_peer}

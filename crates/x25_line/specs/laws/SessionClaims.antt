@@ -1,13 +1,9 @@
 -- What holds of two link stations and the line between them after each list of events, over set-up and re-set-up at any
 -- moment.
-use Rattle.std.specs.Prelude.{◌≡◌, ◌≤◌, ◌<◌, ◌⊎◌, ℕ, zero, suc, true, List, [], ◌∷◌, ◌++◌, None}
-use Rattle.std.specs.List.{Contains}
+use Rattle.std.specs.{Prelude.{◌≡◌, ◌≤◌, ◌<◌, ◌⊎◌, ℕ, zero, suc, true, List, [], ◌∷◌, ◌++◌, None}, List.{Contains}}
 use Rattle.x25_bits.specs.declared.role.Role.{Role}
-use Rattle.x25_frame.specs.Frame.{PlainFrame}
-use Rattle.x25_frame.specs.Reading.{frame_of}
-use Rattle.x25_link.specs.Station.{Settings, is_up}
-use Rattle.x25_link.specs.Hearing.{other}
-use Rattle.x25_link.specs.Link.{is_idle}
+use Rattle.x25_frame.specs.{Frame.{PlainFrame}, Reading.{frame_of}}
+use Rattle.x25_link.specs.{Station.{Settings, is_up}, Hearing.{other}, Link.{is_idle}}
 use Rattle.x25_line.specs.laws.InWindow.{IsPrefix}
 use Rattle.x25_line.specs.laws.Stations.{StationEnd, Stations, Event, start, run as run_alone}
 use Rattle.x25_line.specs.laws.StationClaims.{AreJoined, BothInOrder, BothHaveTheirLists, AreInWindow, NoFrmr}

@@ -4,20 +4,14 @@
 use Rattle.std.specs.Prelude.{◌≡◌, ◌⊎◌, ℕ, zero, suc, Bool, true, false, if◌then◌else◌, List, [], ◌∷◌, ◌++◌, length}
 use Rattle.std.specs.Prelude.{drop, Option, Some, None, Result, Ok, Err}
 use Rattle.x25_bits.specs.declared.role.Role.{Role}
-use Rattle.x25_frame.specs.Frame.{PlainFrame, sabm}
-use Rattle.x25_frame.specs.Reading.{frame_of}
-use Rattle.x25_frame.specs.declared.error.FrameError.{FrameError}
-use Rattle.x25_link.specs.declared.phase.Phase.{Phase}
-use Rattle.x25_link.specs.declared.phase.Phase.TheVariants.{Waiting, Up, Closed}
-use Rattle.x25_link.specs.Station.{Settings, LinkStation, is_up}
-use Rattle.x25_link.specs.Hearing.{other}
-use Rattle.x25_line.specs.laws.Line.{Line, swapped as line_swapped}
-use Rattle.x25_line.specs.laws.Stations.{Act, Deliver, Event, Near, Far}
+use Rattle.x25_frame.specs.{Frame.{PlainFrame, sabm}, Reading.{frame_of}, declared.error.FrameError.{FrameError}}
+use Rattle.x25_link.specs.{declared.phase.Phase.{Phase}, declared.phase.Phase.TheVariants.{Waiting, Up, Closed}}
+use Rattle.x25_link.specs.{Station.{Settings, LinkStation, is_up}, Hearing.{other}}
+use Rattle.x25_line.specs.{laws.Line.{Line, swapped as line_swapped}, laws.Stations.{Act, Deliver, Event, Near, Far}}
 use Rattle.x25_line.specs.laws.StationClaims.{AreJoined, numbered_on, IsBehind}
 use Rattle.x25_line.specs.laws.WholeNumbers.{given, place_of, taken_out, place_taken, counted, machine_at_start}
 use Rattle.x25_line.specs.laws.Sessions.{Entry, Sessions, ua_in, acts, happens, run, swapped, from_nothing, from_set_up}
-use Rattle.x25_line.specs.laws.Sessions.{AreTimely}
-use Rattle.x25_line.specs.laws.SessionClaims.{octets_of, Stands}
+use Rattle.x25_line.specs.{laws.Sessions.{AreTimely}, laws.SessionClaims.{octets_of, Stands}}
 
 -- a session of each end, and the window machine behind the two
 pub record Standing : Type 0 where

@@ -4,20 +4,15 @@
 use Rattle.std.specs.Prelude.{◌≡◌, ℕ, zero, suc, ◌+◌, ◌==◌, nat_le, Bool, true, false, if◌then◌else◌, List, [], ◌∷◌}
 use Rattle.std.specs.Prelude.{◌++◌, length, map, remove, Option, Some, None, option_to_list, Result, Ok, Err}
 use Rattle.x25_bits.specs.declared.role.Role.{Role}
-use Rattle.x25_frame.specs.Frame.{PlainFrame, sabm, disc, ua}
-use Rattle.x25_frame.specs.Spelling.{spelling_of}
-use Rattle.x25_frame.specs.Reading.{frame_of}
+use Rattle.x25_frame.specs.{Frame.{PlainFrame, sabm, disc, ua}, Spelling.{spelling_of}, Reading.{frame_of}}
 use Rattle.x25_frame.specs.declared.error.FrameError.{FrameError}
-use Rattle.x25_link.specs.declared.error.LinkError.{LinkError}
-use Rattle.x25_link.specs.declared.phase.Phase.{Phase}
+use Rattle.x25_link.specs.{declared.error.LinkError.{LinkError}, declared.phase.Phase.{Phase}}
 use Rattle.x25_link.specs.declared.phase.Phase.TheVariants.{Down, Up, Waiting}
-use Rattle.x25_link.specs.Station.{Settings, LinkStation, is_up, with_nothing}
-use Rattle.x25_link.specs.Hearing.{Step, other}
+use Rattle.x25_link.specs.{Station.{Settings, LinkStation, is_up, with_nothing}, Hearing.{Step, other}}
 use Rattle.x25_link.specs.Link.{take_step, put_step, put_refusal, timer_step, timer_refusal, connect_step}
 use Rattle.x25_link.specs.Link.{connect_refusal, disconnect_step, disconnect_refusal, abandon_step}
 use Rattle.x25_line.specs.laws.Stations.{Act, Put, Deliver, T1, Connect, Disconnect, Abandon, Probe, Lose, Damage}
-use Rattle.x25_line.specs.laws.Stations.{Event, Near}
-use Rattle.x25_line.specs.laws.Stations.{Far, is_visible}
+use Rattle.x25_line.specs.{laws.Stations.{Event, Near}, laws.Stations.{Far, is_visible}}
 use Rattle.x25_line.specs.laws.StationClaims.{number_in}
 
 -- octets on the line, and the session in which they were sent

@@ -1,22 +1,15 @@
 -- What holds of two link stations and the line between them after each list of events, as long as the link isn't set up
 -- anew.
 use Rattle.std.specs.Prelude.{◌≡◌, ℕ, ◌≤◌, Bool, true, false, ◌||◌, if◌then◌else◌, List, [], ◌∷◌, ◌++◌, length, take}
-use Rattle.std.specs.Prelude.{replicate, Option, Some, None, option_to_list, Result, Ok, Err}
-use Rattle.std.specs.List.{Contains}
+use Rattle.std.specs.{Prelude.{replicate, Option, Some, None, option_to_list, Result, Ok, Err}, List.{Contains}}
 use Rattle.x25_bits.specs.declared.role.Role.{Role}
 use Rattle.x25_frame.specs.Frame.{PlainFrame, info, rr, rnr, rej, frmr}
-use Rattle.x25_frame.specs.Spelling.{information_of, IsInRange, MayCarry, IsWithin}
-use Rattle.x25_frame.specs.Reading.{frame_of}
+use Rattle.x25_frame.specs.{Spelling.{information_of, IsInRange, MayCarry, IsWithin}, Reading.{frame_of}}
 use Rattle.x25_frame.specs.declared.error.FrameError.{FrameError}
 use Rattle.x25_window.specs.laws.Window.{End, fresh_end}
-use Rattle.x25_link.specs.declared.phase.Reason.{Reason}
-use Rattle.x25_link.specs.declared.phase.Reason.TheVariants.{Retries}
-use Rattle.x25_link.specs.OrderedLink.{no_packets}
-use Rattle.x25_link.specs.Station.{Settings, is_up, lists_of}
-use Rattle.x25_link.specs.Hearing.{other}
-use Rattle.x25_link.specs.Link.{connect_refusal, is_idle}
-use Rattle.x25_link.specs.laws.WindowMachine.{ShowAll}
-use Rattle.x25_link.specs.laws.WindowLaw.{window_of}
+use Rattle.x25_link.specs.{declared.phase.Reason.{Reason}, declared.phase.Reason.TheVariants.{Retries}}
+use Rattle.x25_link.specs.{OrderedLink.{no_packets}, Station.{Settings, is_up, lists_of}, Hearing.{other}}
+use Rattle.x25_link.specs.{Link.{connect_refusal, is_idle}, laws.WindowMachine.{ShowAll}, laws.WindowLaw.{window_of}}
 use Rattle.x25_line.specs.laws.InWindow.{InWindow, IsPrefix}
 use Rattle.x25_line.specs.laws.Line.{Line, Move, AllowsMove, moved, swapped as line_swapped}
 use Rattle.x25_line.specs.laws.Stations.{StationEnd, Stations, Act, Put, Deliver, Connect, Event, Near, Far, happens}

@@ -1,9 +1,7 @@
 -- Our own station keeps the rules of a peer: each of two link stations is one of the other.
 use Rattle.std.specs.Prelude.{◌≡◌}
 use Rattle.x25_link.specs.Station.{Settings}
-use Rattle.x25_line.specs.laws.Stations.{Stations, swapped}
-use Rattle.x25_line.specs.laws.Peer.{Peer}
-use Rattle.x25_line.specs.laws.PeerJoined.{Joined, IsReached}
+use Rattle.x25_line.specs.{laws.Stations.{Stations, swapped}, laws.Peer.{Peer}, laws.PeerJoined.{Joined, IsReached}}
 
 -- what a station with these settings sees of the near end, which is the peer
 abbrev pub seen : Peer → Stations → Joined

@@ -3,12 +3,9 @@
 use Rattle.std.specs.Prelude.{ℕ, zero, suc, nat_lt, nat_le, Bool, false, not, ◌||◌, if◌then◌else◌, List, [], ◌∷◌, ◌++◌}
 use Rattle.std.specs.Prelude.{length, map, remove, Option, Some, None, option_to_list}
 use Rattle.x25_bits.specs.FrameCheck.Sealed.{is_sealed}
-use Rattle.x25_frame.specs.Frame.{PlainFrame}
-use Rattle.x25_frame.specs.Spelling.{spelling_of}
-use Rattle.x25_link.specs.declared.error.LinkError.{LinkError}
-use Rattle.x25_link.specs.declared.phase.Reason.{Reason}
-use Rattle.x25_link.specs.Station.{Settings, LinkStation, is_up, fresh}
-use Rattle.x25_link.specs.Hearing.{Step}
+use Rattle.x25_frame.specs.{Frame.{PlainFrame}, Spelling.{spelling_of}}
+use Rattle.x25_link.specs.{declared.error.LinkError.{LinkError}, declared.phase.Reason.{Reason}}
+use Rattle.x25_link.specs.{Station.{Settings, LinkStation, is_up, fresh}, Hearing.{Step}}
 use Rattle.x25_link.specs.Link.{take_step, put_step, put_refusal, timer_step, timer_refusal, connect_step}
 use Rattle.x25_link.specs.Link.{connect_refusal, disconnect_step, disconnect_refusal, abandon_step}
 

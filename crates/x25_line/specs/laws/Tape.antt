@@ -3,16 +3,11 @@
 -- to it, and was handed down what it sent, by number. ITU-T X.25 (10/96), sections 2.3.2, 2.3.4.9, 2.4.5 and 2.4.8.6.
 use Rattle.std.specs.Prelude.{◌≡◌, ℕ, ◌+◌, ◌-◌, ◌%◌, ◌==◌, nat_lt, nat_le, List, [], ◌∷◌, ◌++◌, length, slice_get}
 use Rattle.std.specs.Prelude.{Bool, true, false, ◌&&◌, if◌then◌else◌, Option, Some, None, Result}
-use Rattle.x25_frame.specs.Frame.{PlainFrame}
-use Rattle.x25_frame.specs.Reading.{frame_of}
-use Rattle.x25_frame.specs.declared.error.FrameError.{FrameError}
+use Rattle.x25_frame.specs.{Frame.{PlainFrame}, Reading.{frame_of}, declared.error.FrameError.{FrameError}}
 use Rattle.x25_window.specs.code.Modulo.{resolved}
-use Rattle.x25_link.specs.Station.{Settings}
-use Rattle.x25_link.specs.Hearing.{other}
-use Rattle.x25_line.specs.laws.Stations.{Act, acts}
-use Rattle.x25_line.specs.laws.Peer.{Peer, numbered_to, told_to, hearing, taking}
-use Rattle.x25_line.specs.laws.Said.{Said, Tells, said}
-use Rattle.x25_line.specs.laws.PeerJoined.{Joined, start, our_end, with_peer}
+use Rattle.x25_link.specs.{Station.{Settings}, Hearing.{other}}
+use Rattle.x25_line.specs.{laws.Stations.{Act, acts}, laws.Peer.{Peer, numbered_to, told_to, hearing, taking}}
+use Rattle.x25_line.specs.{laws.Said.{Said, Tells, said}, laws.PeerJoined.{Joined, start, our_end, with_peer}}
 
 -- ---- what the peer sends: what is known of it then, or nothing where a rule is broken
 

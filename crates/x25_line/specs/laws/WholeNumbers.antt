@@ -4,13 +4,9 @@
 use Rattle.std.specs.Prelude.{ℕ, zero, suc, ◌+◌, max, if◌then◌else◌, List, [], ◌∷◌, ◌++◌, length, drop, remove, Option}
 use Rattle.std.specs.Prelude.{Some, None}
 use Rattle.x25_bits.specs.declared.role.Role.{Role}
-use Rattle.x25_frame.specs.Frame.{PlainFrame, info}
-use Rattle.x25_frame.specs.Reading.{frame_of}
-use Rattle.x25_window.specs.code.Modulo.{resolved}
-use Rattle.x25_window.specs.laws.Window.{Frame, fresh_end}
-use Rattle.x25_link.specs.Station.{Settings, LinkStation, is_up}
-use Rattle.x25_link.specs.Hearing.{other}
-use Rattle.x25_link.specs.laws.WindowMachine.{Window}
+use Rattle.x25_frame.specs.{Frame.{PlainFrame, info}, Reading.{frame_of}}
+use Rattle.x25_window.specs.{code.Modulo.{resolved}, laws.Window.{Frame, fresh_end}}
+use Rattle.x25_link.specs.{Station.{Settings, LinkStation, is_up}, Hearing.{other}, laws.WindowMachine.{Window}}
 use Rattle.x25_link.specs.laws.WindowLaw.{window_of}
 use Rattle.x25_line.specs.laws.Line.{Line, swapped as line_swapped}
 use Rattle.x25_line.specs.laws.Stations.{Stations, Act, Deliver, Lose, Damage, Event, Near, Far, is_visible, acts}

@@ -1,9 +1,7 @@
 -- Worked rows of peers that our own station isn't like, and of the rules of a tape.
 use Rattle.std.specs.Prelude.{◌≡◌, true, false, [], ◌∷◌, None, Ok}
 use Rattle.x25_frame.specs.Frame.{PlainFrame, info, rr}
-use Rattle.x25_line.specs.laws.Peer.{Peer}
-use Rattle.x25_line.specs.laws.PeerJoined.{Joined, IsReached}
-use Rattle.x25_line.specs.laws.Tape.{judges, IsSilent}
+use Rattle.x25_line.specs.{laws.Peer.{Peer}, laws.PeerJoined.{Joined, IsReached}, laws.Tape.{judges, IsSilent}}
 use Rattle.x25_line.specs.rows.StationRows.{dte}
 
 abbrev pub polling_frame : PlainFrame

@@ -1,7 +1,6 @@
 -- A worked row of a peer that our own station isn't like.
 use Rattle.std.specs.Prelude.{◌≡◌, [], ◌∷◌}
-use Rattle.x25_line.specs.rows.StationRows.{dte}
-use Rattle.x25_line.specs.laws.PeerSessions.{PeerSessions, IsReached}
+use Rattle.x25_line.specs.{rows.StationRows.{dte}, laws.PeerSessions.{PeerSessions, IsReached}}
 
 -- SABM of the station and SABM of the peer cross. The peer begins its session as it answers, and polls by an I frame;
 -- the station answers too, and takes UA and that frame behind it, each end in its first session.

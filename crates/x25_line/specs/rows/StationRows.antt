@@ -3,8 +3,7 @@
 use Rattle.std.specs.Prelude.{◌≡◌, true, false, [], ◌∷◌}
 use Rattle.x25_bits.specs.declared.role.Role.TheVariants.{Dte, Dce}
 use Rattle.x25_link.specs.declared.phase.Phase.TheVariants.{Down, Waiting, Closed}
-use Rattle.x25_link.specs.declared.phase.Reason.TheVariants.{Reset, Counts, Disc}
-use Rattle.x25_link.specs.Station.{Settings, fresh}
+use Rattle.x25_link.specs.{declared.phase.Reason.TheVariants.{Reset, Counts, Disc}, Station.{Settings, fresh}}
 use Rattle.x25_link.specs.Link.{is_idle}
 use Rattle.x25_line.specs.laws.Stations.{Stations, Put, Deliver, T1, Connect, Disconnect, Abandon, Lose, Damage, Near}
 use Rattle.x25_line.specs.laws.Stations.{Far, run, start}

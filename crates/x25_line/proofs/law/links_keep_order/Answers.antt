@@ -1,5 +1,4 @@
-use Rattle.x25_line.proofs.StationRuns.{once_before}
-use Rattle.x25_line.proofs.PeerOrder.{stations_keep_order}
+use Rattle.x25_line.proofs.{StationRuns.{once_before}, PeerOrder.{stations_keep_order}}
 use Rattle.x25_line.proofs.StationClaimLemmas.{keeps_lists, keeps_notes, goes_along, sends_no_frmr, sends_whole, stays_one_link}
 use Rattle.x25_line.proofs.law.links_keep_order.Goals as goal
 

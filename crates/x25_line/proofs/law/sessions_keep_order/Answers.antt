@@ -1,6 +1,5 @@
 use Rattle.x25_line.proofs.sessions.TwoSessions.{meet_in_step, met_in_order, unmet_nothing, only_begun, each_hears_latest, each_meets_latest, idle_has_arrived}
-use Rattle.x25_line.proofs.sessions.SessionRuns.{each_stands, standing_goes_along, never_frmr, send_whole}
-use Rattle.x25_line.proofs.sessions.SessionEvents.{each_event_meets_latest}
+use Rattle.x25_line.proofs.{sessions.SessionRuns.{each_stands, standing_goes_along, never_frmr, send_whole}, sessions.SessionEvents.{each_event_meets_latest}}
 use Rattle.x25_line.proofs.law.sessions_keep_order.Goals as goal
 
 pub returns : goal.returns
