@@ -133,11 +133,8 @@ calm_declines f s off = calm_if (is_command f && poll_or_final f) _ _ (λ _. cal
 
 calm_down : (f : PlainFrame) (s : LinkStation) → is_up s.phase ≡ false → IsOfSetUp f → IsCalm (when_down f (alone s)).side
 calm_down (sabm p) s off is = begun (ua p) tt
-calm_down (ua f) s off is = calm_declines (ua f) s off
-calm_down (dm f) s off is = calm_declines (dm f) s off
-calm_down (frmr f why) s off is = calm_declines (frmr f why) s off
-calm_down (rr command nr pf) s off is = calm_declines (rr command nr pf) s off
-calm_down f s off is = absurd is
+calm_down (disc p) s off is = absurd is
+calm_down f s off is = calm_declines f s off
 
 calm_waiting : (f : PlainFrame) (s : LinkStation) → is_up s.phase ≡ false → IsOfSetUp f → IsCalm (when_waiting f (alone s)).side
 calm_waiting (sabm p) s off is = calm_sends (ua p) (alone s) tt (calm_off s off)
