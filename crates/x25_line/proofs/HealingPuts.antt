@@ -11,10 +11,10 @@ use Rattle.x25_line.specs.{laws.Stations.{Put, Deliver, Event, Near, Far}, laws.
 use Rattle.x25_line.specs.{laws.StationClaims.{AreJoined}, laws.HealingPuts.{AreDeliveriesAndPuts, AreFree, SessionsFreeThroughout}}
 use Rattle.x25_line.specs.laws.LawsBelow.{HealingLaws}
 use Rattle.x25_line.proofs.{StationSteps.{not_both}, StationRuns.{joined_swapped}}
-use Rattle.x25_line.proofs.HealingLines.{Reads, whole_behind, ahead_more, next_ahead, Mild, mild_more, held_mild, no_final_more, next_no_final, Reports}
+use Rattle.x25_line.proofs.HealingLines.{Reads, ahead_more, next_ahead, Mild, mild_more, held_mild, no_final_more, next_no_final, Reports}
 use Rattle.x25_line.proofs.{HealingSteps.{Reached, then_happens, Sound, sound_swapped, sound_at, SentWhole, whole_at, reads_put}, BusyLines.{silent_stays}}
 use Rattle.x25_line.proofs.HealingPhases.{Phases, asks_more, SaysMore, answered_more, resent_more, withheld_more}
-use Rattle.x25_line.proofs.HealingBoth.{HealsBoth, HealsAt, both_turned, both_near, both_far}
+use Rattle.x25_line.proofs.{HealingBoth.{HealsBoth, HealsAt, both_turned, both_near, both_far}, sessions.SessionSteps.{whole_behind}}
 
 -- ---- a station to which a packet is put
 

@@ -15,7 +15,7 @@ use Rattle.x25_line.specs.laws.Stations.{Deliver, Event}
 use Rattle.x25_line.specs.laws.Sessions.{Entry, Meeting, Sessions, sent_in, begun_by, after_step, delivered, acts, swapped, run}
 use Rattle.x25_line.specs.{laws.StationClaims.{AreJoined, IsWhole, AreWhole}, Healing.{AreDeliveries}, laws.LawsBelow.{HealingLaws}}
 use Rattle.x25_line.proofs.{DrainWeights.{below_eight}, StationSteps.{not_both, out_not_up}, StationRuns.{joined_swapped}, HealingLines.{Reads}}
-use Rattle.x25_line.proofs.{HealingSteps.{IsDrained, up_is, deliveries_keep, reads_put}, StationAway.{up_takes_part}}
+use Rattle.x25_line.proofs.{HealingSteps.{IsDrained, deliveries_keep, reads_put}, StationAway.{up_takes_part, is_up_phase}}
 
 -- an end is at rest, or not Up
 abbrev pub RestsOrOut : LinkStation → Type 0
@@ -294,7 +294,7 @@ module _ (c d : Settings) (joined : AreJoined c d) (reads : ReadsSpelled) (laws 
         let a = laws.sessions.laws.set_up.sets_up c e.octets s (up_takes_part s.phase up) true back.0 in
         goes e es _ [] (ua true ∷ []) (rnr true n true ∷ []) fresh out back.1 a.near a.out (tt, tt) (inl (granted n fresh_blank is))
     up_hears (e ∷ es) fs gs out back (declined up gone) =
-        let a = laws.answers.dm c e.octets s (up_is s.phase up) true back.0 in
+        let a = laws.answers.dm c e.octets s (is_up_phase s.phase up) true back.0 in
         goes e es _ [] [] [] (with_nothing Down s.tries) out back.1 a.0 a.1 tt (inr (inr (record { near = inr refl; far = inr (out_not_up t.phase gone); there = tt; back = tt })))
     up_hears (e ∷ es) fs gs out back p = absurd back
 

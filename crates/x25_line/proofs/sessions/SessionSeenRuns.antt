@@ -11,10 +11,9 @@ use Rattle.x25_line.specs.laws.Sessions.{Entry, SessionEnd, Meeting, Sessions, t
 use Rattle.x25_line.specs.{laws.SessionClaims.{Throughout}, laws.LawsBelow.{SessionLaws}, laws.Peer.{Peer, fresh_peer}}
 use Rattle.x25_line.specs.laws.PeerSessions.{Out, Asking, PeerEnd, PeerSessions, is_in, both_ends, with_peer, with_now, begins, stands, AllAskedIn, IsFree, IsReached, goes_on}
 use Rattle.x25_line.specs.laws.SessionPeers.{IsPeer, AreBothPeers}
-use Rattle.x25_line.proofs.{StationRuns.{joined_swapped}, sessions.SessionLines.{Read}, sessions.SessionHeld.{Owes}}
-use Rattle.x25_line.proofs.sessions.{EntryLines.{asked_fewer}, Acts.{Stays, Anything, acts_still}}
-use Rattle.x25_line.proofs.{sessions.SessionMay.{stand_of, sends_read, hears_read, heard_in, MayDo}, ends.Meetings.{twice_turned}}
-use Rattle.x25_line.proofs.{sessions.SessionSeen.{UpFacts, Seen, start_seen}, sessions.PeerSessionRuns.{lines}}
+use Rattle.x25_line.proofs.{StationRuns.{joined_swapped}, sessions.SessionLines.{Read}, sessions.SessionHeld.{Owes}, sessions.EntryLines.{asked_fewer}}
+use Rattle.x25_line.proofs.{sessions.Acts.{Stays, Anything, acts_still}, sessions.SessionMay.{stand_of, sends_read, hears_read, heard_in, MayDo}}
+use Rattle.x25_line.proofs.{ends.Meetings.{twice_turned}, sessions.SessionSeen.{UpFacts, Seen, start_seen}, sessions.PeerSessionRuns.{lines}}
 use Rattle.x25_line.specs.laws.Peer as once
 use Rattle.x25_line.specs.laws.PeerSessions as sessions
 use Rattle.x25_line.proofs.sessions.SessionSeenSteps as own
