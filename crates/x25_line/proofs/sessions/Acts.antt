@@ -8,6 +8,15 @@ use Rattle.x25_line.specs.laws.Stations.{Act, Put, Deliver, T1, Connect, Disconn
 use Rattle.x25_line.specs.laws.Sessions.{Entry, Sessions, unless, delivered, acts}
 use Rattle.x25_line.proofs.sessions.EntryLines.{Less, whole, gone, less_removes, less_replaces}
 
+-- an act that is refused changes nothing
+pub unless_by : (Q : Sessions → Type 0) (o : Option LinkError) (w v : Sessions) → Q w → (o ≡ None → Q v) → Q (unless o w v)
+unless_by Q (Some e) w v h k = h
+unless_by Q None w v h k = k refl
+
+pub if_by : (Q : Sessions → Type 0) (b : Bool) (w v : Sessions) → Q w → (b ≡ true → Q v) → Q (if b then v else w)
+if_by Q true w v h k = k refl
+if_by Q false w v h k = h
+
 pub record Keeps (c : Settings) (P : LinkStation → Type 0) : Type 0 where
   pub takes : (o : List ℕ) (s : LinkStation) → P s → P (take_step c o s).side.near
   pub puts : (packet : List ℕ) (s : LinkStation) → length packet ≤ c.longest → P s → P (put_step c packet s).side.near
@@ -28,29 +37,22 @@ module _ (c : Settings) (P : LinkStation → Type 0) (keeps : Keeps c P) (w : Se
   as_it_was : Stays P w w
   as_it_was = record { near = h; far = refl; less = whole w.back }
 
-  stays_unless : (o : Option LinkError) (v : Sessions) → Stays P w v → Stays P w (unless o w v)
-  stays_unless (Some e) v k = as_it_was
-  stays_unless None v k = k
-
-  stays_if : (b : Bool) (v : Sessions) → (b ≡ true → Stays P w v) → Stays P w (if b then v else w)
-  stays_if true v k = k refl
-  stays_if false v k = as_it_was
-
   delivered_stays : (es : List Entry) → w.back ≡ es → Stays P w (delivered c es w)
   delivered_stays [] is = as_it_was
   delivered_stays (e ∷ es) is = record { near = keeps.takes e.octets s h; far = refl; less = subst (λ (xs : List Entry). Less xs es) (sym is) (gone e es) }
 
   pub act_stays : (a : Act) → Stays P w (acts c a w)
   act_stays (Put packet) =
-      stays_if (nat_le (length packet) c.longest) _ (λ short. stays_unless (put_refusal s) _ (record { near = keeps.puts packet s (leb-true _ _ short) h; far = refl; less = whole w.back }))
+      if_by (Stays P w) (nat_le (length packet) c.longest) w _ as_it_was
+      (λ short. unless_by (Stays P w) (put_refusal s) w _ as_it_was (λ _. record { near = keeps.puts packet s (leb-true _ _ short) h; far = refl; less = whole w.back }))
   act_stays Deliver = delivered_stays w.back refl
-  act_stays T1 = stays_unless (timer_refusal s) _ (record { near = keeps.fires s h; far = refl; less = whole w.back })
-  act_stays Connect = stays_unless (connect_refusal s.phase) _ (record { near = keeps.connects s h; far = refl; less = whole w.back })
-  act_stays Disconnect = stays_unless (disconnect_refusal s.phase) _ (record { near = keeps.disconnects s h; far = refl; less = whole w.back })
-  act_stays Abandon = stays_if (is_up s.phase) _ (λ _. record { near = keeps.abandons s h; far = refl; less = whole w.back })
-  act_stays Probe = stays_if (is_up s.phase) _ (λ _. record { near = keeps.fires s h; far = refl; less = whole w.back })
+  act_stays T1 = unless_by (Stays P w) (timer_refusal s) w _ as_it_was (λ _. record { near = keeps.fires s h; far = refl; less = whole w.back })
+  act_stays Connect = unless_by (Stays P w) (connect_refusal s.phase) w _ as_it_was (λ _. record { near = keeps.connects s h; far = refl; less = whole w.back })
+  act_stays Disconnect = unless_by (Stays P w) (disconnect_refusal s.phase) w _ as_it_was (λ _. record { near = keeps.disconnects s h; far = refl; less = whole w.back })
+  act_stays Abandon = if_by (Stays P w) (is_up s.phase) w _ as_it_was (λ _. record { near = keeps.abandons s h; far = refl; less = whole w.back })
+  act_stays Probe = if_by (Stays P w) (is_up s.phase) w _ as_it_was (λ _. record { near = keeps.fires s h; far = refl; less = whole w.back })
   act_stays (Lose i) = record { near = h; far = refl; less = less_removes w.back i }
-  act_stays (Damage i octets) = stays_if (is_visible octets) _ (λ visible. record { near = h; far = refl; less = less_replaces octets visible w.back i })
+  act_stays (Damage i octets) = if_by (Stays P w) (is_visible octets) w _ as_it_was (λ visible. record { near = h; far = refl; less = less_replaces octets visible w.back i })
 
 -- where nothing is asked of the station
 abbrev pub Anything : LinkStation → Type 0
