@@ -245,25 +245,22 @@ module _ (reads : ReadsSpelled) (c d : Settings) (joined : AreJoined c d) (back 
   not_nil : (o : Entry) (os line : List Entry) → line ≡ o ∷ os → line ≡ [] → ⊥
   not_nil o os line is none = absurd (omega (arith, ap length (sym is ∙ none)))
 
-  pub drains : (bound : ℕ) (w : Sessions) → Fit c d w → Enough back w → at_most back c d w ≤ bound → Drains w
-  drains zero w fit enough le = by w.out refl w.back refl
+  -- where what weighs less drains
+  drains_on : (w : Sessions) → Fit c d w → Enough back w → ((v : Sessions) → Falls back c d w v → Drains v) → Drains w
+  drains_on w fit enough go = by w.out refl w.back refl
     where
       by : (out : List Entry) → w.out ≡ out → (bs : List Entry) → w.back ≡ bs → Drains w
       by [] no_out [] no_back = record { deliveries = []; are = tt; drained = record { out = no_out; back = no_back } }
-      by [] no_out (o ∷ os) is = absurd (omega (arith, le, (near_falls reads c d joined back w fit enough (not_nil o os w.back is)).less))
-      by (o ∷ os) is bs any = absurd (omega (arith, le, (far_falls w fit enough (not_nil o os w.out is)).less))
-  drains (suc bound) w fit enough le = by (λ v f e k. drains bound v f e k) w.out refl w.back refl
-    where
-      by : ((v : Sessions) → Fit c d v → Enough back v → at_most back c d v ≤ bound → Drains v) → (out : List Entry) → w.out ≡ out → (bs : List Entry) → w.back ≡ bs → Drains w
-      by go [] no_out [] no_back = record { deliveries = []; are = tt; drained = record { out = no_out; back = no_back } }
-      by go [] no_out (o ∷ os) is =
-          let f = near_falls reads c d joined back w fit enough (not_nil o os w.back is) in
-          let rest = go (acts c Deliver w) f.fit f.enough (omega (arith, le, f.less)) in
+      by [] no_out (o ∷ os) is =
+          let rest = go (acts c Deliver w) (near_falls reads c d joined back w fit enough (not_nil o os w.back is)) in
           record { deliveries = Near Deliver ∷ rest.deliveries; are = (tt, rest.are); drained = rest.drained }
-      by go (o ∷ os) is bs any =
-          let f = far_falls w fit enough (not_nil o os w.out is) in
-          let rest = go (swapped (acts d Deliver (swapped w))) f.fit f.enough (omega (arith, le, f.less)) in
+      by (o ∷ os) is bs any =
+          let rest = go (swapped (acts d Deliver (swapped w))) (far_falls w fit enough (not_nil o os w.out is)) in
           record { deliveries = Far Deliver ∷ rest.deliveries; are = (tt, rest.are); drained = rest.drained }
+
+  drains : (bound : ℕ) (w : Sessions) → Fit c d w → Enough back w → at_most back c d w ≤ bound → Drains w
+  drains zero w fit enough le = drains_on w fit enough (λ v f. absurd (omega (arith, le, f.less)))
+  drains (suc bound) w fit enough le = drains_on w fit enough (λ v f. drains bound v f.fit f.enough (omega (arith, le, f.less)))
 
 -- ---- the laws
 

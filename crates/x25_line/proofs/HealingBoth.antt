@@ -10,10 +10,10 @@ use Rattle.x25_link.proofs.EndLemmas.{busy_is}
 use Rattle.x25_line.specs.laws.Stations.{Deliver, T1, Event, Near, Far}
 use Rattle.x25_line.specs.laws.Sessions.{Entry, SessionEnd, Sessions, begun_by, delivered, acts, swapped, after_step, unless, run}
 use Rattle.x25_line.specs.{laws.StationClaims.{AreJoined}, Healing.{AreDeliveries, SessionHasTries, OneIsFree}, laws.LawsBelow.{HealingLaws}}
-use Rattle.x25_line.proofs.{StationSteps.{not_both}, StationRuns.{joined_swapped}, HealingLines.{Reads, reads_none, whole_behind, Reports, NoFinal}}
+use Rattle.x25_line.proofs.{StationSteps.{not_both}, StationRuns.{joined_swapped}, HealingLines.{Reads, reads_none, Reports, NoFinal}}
 use Rattle.x25_line.proofs.HealingSteps.{Reached, then_happens, timely_up, Sound, sound_swapped, sound_at, in_order_at, SentWhole, whole_at, IsDrained, counted, all_heard, hears_well, deliveries_keep, reads_put}
 use Rattle.x25_line.proofs.HealingEnds.{after_firings, GoesOn, polls, stays, Fired, BothFired, both_fire}
-use Rattle.x25_line.proofs.HealingPhases.{AsksFirst, Phases, Beside, near_hears, far_hears, stays_free}
+use Rattle.x25_line.proofs.{HealingPhases.{AsksFirst, Phases, Beside, near_hears, far_hears, stays_free}, sessions.SessionSteps.{whole_behind}}
 
 -- nothing waits at an end at rest, so it isn't busy
 rest_free : (s : LinkStation) → IsAtRest s → is_busy s ≡ false

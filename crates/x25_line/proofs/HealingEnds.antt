@@ -9,8 +9,8 @@ use Rattle.x25_link.specs.{laws.SetUp.{Is}, laws.WindowMachine.{nothing}, laws.W
 use Rattle.x25_line.specs.{laws.Stations.{T1, Event}, laws.Sessions.{Entry, SessionEnd, Sessions, sent_in, begun_by, acts, swapped, run}}
 use Rattle.x25_line.specs.{laws.StationClaims.{AreJoined, IsWhole, AreWhole}, Healing.{AreDeliveries, SessionHasTries}, laws.LawsBelow.{HealingLaws}}
 use Rattle.x25_line.proofs.{DrainWeights.{below_eight}, StationSteps.{not_both, out_not_up}, StationRuns.{joined_swapped}, HealingLines.{Reads}}
-use Rattle.x25_line.proofs.{StationEvents.{timer_up}, HealingSteps.{IsDrained, IsInOrderIfUp, up_is, refused, fires_is, reads_put}}
-use Rattle.x25_line.proofs.HealingSetUp.{RestsOrOut, AreOfSetUp, Parts, asked, asked_polling, polled, rests, Settles, settle}
+use Rattle.x25_line.proofs.{StationEvents.{timer_up}, HealingSteps.{IsDrained, IsInOrderIfUp, refused, fires_is, reads_put}}
+use Rattle.x25_line.proofs.{HealingSetUp.{RestsOrOut, AreOfSetUp, Parts, asked, asked_polling, polled, rests, Settles, settle}, StationAway.{is_up_phase}}
 
 poll_whole : (n1 : ℕ) (busy : Bool) (n : ℕ) → n < 8 → IsWhole n1 [] (says busy true n true)
 poll_whole n1 true n small = record { in_range = small; carries = refl; within = tt; packet = tt }
@@ -109,7 +109,7 @@ module _ (c d : Settings) (joined : AreJoined c d) (reads : ReadsSpelled) (laws 
     up_runs : IsInOrderIfUp c w.near → is_up s.phase ≡ true → timer_runs s.phase s ≡ true → (b : Bool) → nat_lt s.tries c.retries ≡ b → HasFired c d w (acts c T1 w)
     up_runs h up running true few =
         let left = ltb-true _ _ few in
-        let a = laws.answers.timer c s (up_is s.phase up) left in
+        let a = laws.answers.timer c s (is_up_phase s.phase up) left in
         fires running (record s { tries = s.tries + 1; recovery = true; said_busy = is_busy s }) (says (is_busy s) true (wanted s) true ∷ []) a.near a.out
         (poll_whole d.longest (is_busy s) (wanted s) (below_eight (length s.taken)), tt) (inl (record { tries = record { up = up; tries = λ _. left }; busy = refl; is = polls up refl refl }))
     up_runs h up running false over =

@@ -27,10 +27,6 @@ reads_more reads from n1 given session [] [] gs h whole = spelled gs whole
 reads_more reads from n1 given session (e ∷ es) (f ∷ fs) gs h whole = (h.0, reads_more reads from n1 given session es fs gs h.1 whole)
 reads_more reads from n1 given session es fs gs h whole = absurd h
 
-pub whole_behind : (n1 : ℕ) (given : List (List ℕ)) (fs es : List PlainFrame) → AreWhole n1 given (fs ++ es) → AreWhole n1 given es
-whole_behind n1 given [] es h = h
-whole_behind n1 given (f ∷ fs) es h = whole_behind n1 given fs es h.1
-
 pub reads_none : (from : Role) (n1 : ℕ) (es : List Entry) (fs : List PlainFrame) → Reads from n1 es fs → es ≡ [] → fs ≡ []
 reads_none from n1 [] [] h e = refl
 reads_none from n1 (o ∷ es) (f ∷ fs) h e = absurd (omega (arith, ap length e))

@@ -10,8 +10,8 @@ use Rattle.x25_link.specs.laws.BusyLaw.{Says, BusyLaws, NoInfo}
 use Rattle.x25_line.specs.laws.LawsBelow.{HealingLaws}
 use Rattle.x25_line.proofs.StationSteps.{not_both}
 use Rattle.x25_line.proofs.HealingLines.{LastTells, next_tells, tells_behind, Reports, reports_more, reports_new, reports_heard, Ahead, ahead_low, ahead_more, next_ahead, IsMild, Mild, mild_ahead, mild_more, held_mild, IsNoFinal, NoFinal}
-use Rattle.x25_line.proofs.HealingSteps.{up_is, IsNumbered, number_of, HearsWell}
-use Rattle.x25_line.proofs.BusyLines.{silent_stays, none_behind, hears_busy, hears_more, tells_free, Told, told_on, told_first}
+use Rattle.x25_line.proofs.HealingSteps.{IsNumbered, number_of, HearsWell}
+use Rattle.x25_line.proofs.{BusyLines.{silent_stays, none_behind, hears_busy, hears_more, tells_free, Told, told_on, told_first}, StationAway.{is_up_phase}}
 
 -- ---- what is on the line
 
@@ -248,14 +248,14 @@ module _ (c : Settings) (laws : HealingLaws) (busy_laws : BusyLaws) (octets : Li
 
   hears_ready : (busy command : Bool) (nr : ℕ) → is_up s.phase ≡ true → IsRead (says busy command nr false) → is_valid nr s ≡ true → Hears nr busy
   hears_ready busy command nr up read valid =
-      record { said_busy = s.said_busy; taken = s.taken; first = []; answers = laws.answers.ready busy command nr c octets s (up_is s.phase up) read valid; mild = tt }
+      record { said_busy = s.said_busy; taken = s.taken; first = []; answers = laws.answers.ready busy command nr c octets s (is_up_phase s.phase up) read valid; mild = tt }
 
   hears_poll : (busy : Bool) (nr : ℕ) → is_up s.phase ≡ true → IsRead (says busy true nr true) → is_valid nr s ≡ true → Hears nr busy
   hears_poll busy nr up read valid = record {
     said_busy = is_busy s;
     taken = s.taken;
     first = says (is_busy s) false (wanted s) true ∷ [];
-    answers = laws.answers.poll busy nr c octets s (up_is s.phase up) read valid;
+    answers = laws.answers.poll busy nr c octets s (is_up_phase s.phase up) read valid;
     mild = answer_mild (is_busy s) (wanted s);
   }
 
@@ -264,11 +264,11 @@ module _ (c : Settings) (laws : HealingLaws) (busy_laws : BusyLaws) (octets : Li
     where
       by : (b : Bool) → is_taken ns s ≡ b → Hears nr s.peer_busy
       by true is =
-          let a = laws.answers.wanted ns nr false x c octets s (up_is s.phase up) read valid is in
+          let a = laws.answers.wanted ns nr false x c octets s (is_up_phase s.phase up) read valid is in
           let taken = s.taken ++ x ∷ [] in
           record { said_busy = if a.0 then s.said_busy else false; taken = taken; first = confirms a.0 false (length taken); answers = a.1.answers; mild = confirms_mild (length taken) a.0 }
       by false is =
-          let a = laws.answers.other ns nr false x c octets s (up_is s.phase up) read valid is in
+          let a = laws.answers.other ns nr false x c octets s (is_up_phase s.phase up) read valid is in
           record { said_busy = busy_after false s; taken = s.taken; first = passed_over false s; answers = a; mild = passed_mild s }
 
   abbrev outcome : (nr : ℕ) (busy : Bool) → Hears nr busy → Outcome
@@ -392,11 +392,11 @@ module _ (c : Settings) (laws : HealingLaws) (busy_laws : BusyLaws) (octets : Li
   -- F=1 comes: what isn't acknowledged goes again, or the far end is busy
   answered_hears : (fs gs : List PlainFrame) (g : PlainFrame) → Beside c s t g octets → s.recovery ≡ true → Mild fs → Brings t (g ∷ gs) → IsNear fs gs
   answered_hears fs gs (rr false nr true) k recovery mild brings =
-      resends fs gs nr r (finished false nr s) (laws.answers.recovery false nr c octets s (up_is s.phase k.up) k.read (k.well tt).valid) refl refl refl (mild_ahead r fs mild) (sym (k.all nr brings.is))
+      resends fs gs nr r (finished false nr s) (laws.answers.recovery false nr c octets s (is_up_phase s.phase k.up) k.read (k.well tt).valid) refl refl refl (mild_ahead r fs mild) (sym (k.all nr brings.is))
       brings.tells (k.all nr) (free_again nr gs brings.tells brings.told)
   answered_hears fs gs (rnr false nr true) k recovery mild brings =
       let all = k.all nr brings.is in
-      withholds fs gs nr (finished true nr s) k.up (laws.answers.recovery true nr c octets s (up_is s.phase k.up) k.read (k.well tt).valid) refl refl all all mild tt brings.tells brings.told
+      withholds fs gs nr (finished true nr s) k.up (laws.answers.recovery true nr c octets s (is_up_phase s.phase k.up) k.read (k.well tt).valid) refl refl all all mild tt brings.tells brings.told
   answered_hears fs gs g k recovery mild brings =
       let a = replies g k recovery brings.0 in
       record { o = a.o; answers = a.answers; phase = inr (inl (record { recovery = a.recovery; mild = mild_more fs step.side.out mild a.mild; brings = brings.1 })) }
@@ -436,10 +436,10 @@ module _ (c : Settings) (laws : HealingLaws) (busy_laws : BusyLaws) (octets : Li
   }
 
   plain_ready : (busy command : Bool) (nr : ℕ) → is_up s.phase ≡ true → IsRead (says busy command nr false) → is_valid nr s ≡ true → Plain
-  plain_ready busy command nr up read valid = plain_by (readied busy nr s) up (laws.answers.ready busy command nr c octets s (up_is s.phase up) read valid) refl refl
+  plain_ready busy command nr up read valid = plain_by (readied busy nr s) up (laws.answers.ready busy command nr c octets s (is_up_phase s.phase up) read valid) refl refl
 
   plain_final : (busy : Bool) (nr : ℕ) → is_up s.phase ≡ true → IsRead (says busy false nr true) → is_valid nr s ≡ true → Plain
-  plain_final busy nr up read valid = plain_by (finished busy nr s) up (laws.answers.recovery busy nr c octets s (up_is s.phase up) read valid) refl refl
+  plain_final busy nr up read valid = plain_by (finished busy nr s) up (laws.answers.recovery busy nr c octets s (is_up_phase s.phase up) read valid) refl refl
 
   plain : (f : PlainFrame) → Beside c s t f octets → IsMild f → Plain
   plain (rr true nr true) k is = not_both true refl is
@@ -449,7 +449,7 @@ module _ (c : Settings) (laws : HealingLaws) (busy_laws : BusyLaws) (octets : Li
   plain (rnr false nr true) k is = plain_final true nr k.up k.read (k.well tt).valid
   plain (rnr command nr false) k is = plain_ready true command nr k.up k.read (k.well tt).valid
   plain (rej command nr true) k is = not_both true refl is
-  plain (rej command nr false) k is = plain_by (rejected nr s) k.up (laws.answers.rej command nr c octets s (up_is s.phase k.up) k.read (k.well tt).valid) refl refl
+  plain (rej command nr false) k is = plain_by (rejected nr s) k.up (laws.answers.rej command nr c octets s (is_up_phase s.phase k.up) k.read (k.well tt).valid) refl refl
   plain f k is = absurd is
 
   abbrev IsFar : List PlainFrame → List PlainFrame → Type 0
@@ -459,7 +459,7 @@ module _ (c : Settings) (laws : HealingLaws) (busy_laws : BusyLaws) (octets : Li
   poll_comes : (busy : Bool) (nr : ℕ) (fs gs : List PlainFrame) → is_up s.phase ≡ true → IsRead (says busy true nr true) → is_valid nr s ≡ true → t.recovery ≡ true → Mild gs → NoFinal fs → IsFar fs gs
   poll_comes busy nr fs gs up read valid recovery mild heard =
       let o = polled busy nr s in
-      let a : Answers s o step = laws.answers.poll busy nr c octets s (up_is s.phase up) read valid in
+      let a : Answers s o step = laws.answers.poll busy nr c octets s (is_up_phase s.phase up) read valid in
       let is : wanted s ≡ length z.taken % 8 = ap (λ (xs : List (List ℕ)). length xs % 8) (sym a.taken) in
       let next : AreNext (length z.taken) o.place a.next m = subst (λ (xs : List (List ℕ)). AreNext (length xs) o.place a.next m) (sym a.taken) a.sends in
       let said : Says s.said_busy z.said_busy (is_busy z) z.peer_busy (says (is_busy s) false (wanted s) true ∷ a.next) =
@@ -489,7 +489,7 @@ module _ (c : Settings) (laws : HealingLaws) (busy_laws : BusyLaws) (octets : Li
   info_comes ns nr x fs gs hs up read valid h wants ahead =
       let free = h.free in
       let is : is_taken ns s ≡ true = rw (free, eq-eqb ns (length s.taken % 8) wants) refl in
-      let k = laws.answers.wanted ns nr false x c octets s (up_is s.phase up) read valid is in
+      let k = laws.answers.wanted ns nr false x c octets s (is_up_phase s.phase up) read valid is in
       let o = once_taken k.0 nr false x s in
       let a : Answers s o step = k.1.answers in
       let more : length z.taken ≡ length s.taken + 1 = ap length a.taken ∙ length-append s.taken (x ∷ []) in

@@ -7,14 +7,14 @@ use Rattle.x25_link.specs.{declared.error.LinkError.{LinkError}, Outgoing.{waits
 use Rattle.x25_link.specs.{Station.{Settings, LinkStation, Side, is_up, is_busy, may_send, owes_ready, send_next}, Hearing.{Step, other}}
 use Rattle.x25_link.specs.{Link.{put_step, put_refusal}, laws.AnswerLaw.{AreNext}, laws.BusyLaw.{Says, BusyLaws}}
 use Rattle.x25_link.proofs.EndLemmas.{open_is, closed_is, with_packet, put_once, busy_is}
-use Rattle.x25_line.specs.{laws.Stations.{Put, Deliver, Event, Near, Far}, laws.Sessions.{Entry, SessionEnd, Sessions, after_step, acts, swapped, run}}
+use Rattle.x25_line.specs.{laws.Stations.{Put, Deliver, Event, Near, Far}, laws.Sessions.{Entry, SessionEnd, Sessions, after_step, unless, acts, swapped, run}}
 use Rattle.x25_line.specs.{laws.StationClaims.{AreJoined}, laws.HealingPuts.{AreDeliveriesAndPuts, AreFree, SessionsFreeThroughout}}
 use Rattle.x25_line.specs.laws.LawsBelow.{HealingLaws}
 use Rattle.x25_line.proofs.{StationSteps.{not_both}, StationRuns.{joined_swapped}}
-use Rattle.x25_line.proofs.HealingLines.{Reads, whole_behind, ahead_more, next_ahead, Mild, mild_more, held_mild, no_final_more, next_no_final, Reports}
+use Rattle.x25_line.proofs.HealingLines.{Reads, ahead_more, next_ahead, Mild, mild_more, held_mild, no_final_more, next_no_final, Reports}
 use Rattle.x25_line.proofs.{HealingSteps.{Reached, then_happens, Sound, sound_swapped, sound_at, SentWhole, whole_at, reads_put}, BusyLines.{silent_stays}}
 use Rattle.x25_line.proofs.HealingPhases.{Phases, asks_more, SaysMore, answered_more, resent_more, withheld_more}
-use Rattle.x25_line.proofs.HealingBoth.{HealsBoth, HealsAt, both_turned, both_near, both_far}
+use Rattle.x25_line.proofs.{HealingBoth.{HealsBoth, HealsAt, both_turned, both_near, both_far}, sessions.SessionSteps.{whole_behind}}
 
 -- ---- a station to which a packet is put
 
@@ -139,28 +139,19 @@ module _ (reads : ReadsSpelled) (busy_laws : BusyLaws) (c d : Settings) (joined 
   append_none (f ∷ fs) = ap (λ (gs : List PlainFrame). f ∷ gs) (append_none fs)
 
   -- it is refused
-  not_put : (w v : Sessions) → v ≡ w → WasPut w v
-  not_put w v same = subst (WasPut w) (sym same) (record {
+  not_put : (w : Sessions) → WasPut w w
+  not_put w = record {
     next = [];
-    given = record {
-      phase = refl;
-      recovery = refl;
-      peer_busy = refl;
-      taken = refl;
-      acked = refl;
-      sends = refl;
-      held = λ recovers. refl;
-      grows = omega arith;
-    };
+    given = record { phase = refl; recovery = refl; peer_busy = refl; taken = refl; acked = refl; sends = refl; held = λ recovers. refl; grows = omega arith };
     says = record { said = refl; free = λ never. not_both false never refl; held = λ _. tt };
     out = λ fs read. subst (Reads (other d.role) d.longest w.out) (sym (append_none fs)) read;
     back = refl;
     far = refl;
     begun = refl;
-  })
+  }
 
   puts : (packet : List ℕ) (w : Sessions) → Sound c d w → SentWhole d.longest (acts c (Put packet) w).sent → WasPut w (acts c (Put packet) w)
-  puts packet w h whole = by_length (nat_le (length packet) c.longest) refl
+  puts packet w h = by (nat_le (length packet) c.longest) (put_refusal s)
     where
       s : LinkStation
       s = w.near.station
@@ -171,32 +162,18 @@ module _ (reads : ReadsSpelled) (busy_laws : BusyLaws) (c d : Settings) (joined 
       v : Sessions
       v = after_step c w w.back w.met (packet ∷ []) step
 
-      done : acts c (Put packet) w ≡ v → WasPut w (acts c (Put packet) w)
-      done is =
-          let all : SentWhole d.longest v.sent = subst (λ (z : Sessions). SentWhole d.longest z.sent) is whole in
-          subst (WasPut w) (sym is) (record {
-            next = step.side.out;
-            given = takes_down c packet s h.near.sound.place_high h.near.sound.sent_high h.near_said.settled h.near_said.calm;
-            says = busy_laws.put c packet s;
-            out = λ fs read. reads_put reads c d joined all.0 w.near.begun w.out fs step.side.out (whole_behind d.longest all.0 w.sent step.side.out all.1) read;
-            back = refl;
-            far = refl;
-            begun = refl;
-          })
-
-      by_refusal : nat_le (length packet) c.longest ≡ true → (o : Option LinkError) → put_refusal s ≡ o → WasPut w (acts c (Put packet) w)
-      by_refusal short (Some e) is = not_put w (acts c (Put packet) w) (refused short e is)
-        where
-          refused : nat_le (length packet) c.longest ≡ true → (e : LinkError) → put_refusal s ≡ Some e → acts c (Put packet) w ≡ w
-          refused short e is = rw (short, is) refl
-      by_refusal short None is = done (rw (short, is) refl)
-
-      by_length : (b : Bool) → nat_le (length packet) c.longest ≡ b → WasPut w (acts c (Put packet) w)
-      by_length true short = by_refusal short (put_refusal s) refl
-      by_length false long = not_put w (acts c (Put packet) w) (too_long long)
-        where
-          too_long : nat_le (length packet) c.longest ≡ false → acts c (Put packet) w ≡ w
-          too_long long = rw long refl
+      by : (short : Bool) (refusal : Option LinkError) → (let z : Sessions = if short then unless refusal w v else w in SentWhole d.longest z.sent → WasPut w z)
+      by true None whole = record {
+        next = step.side.out;
+        given = takes_down c packet s h.near.sound.place_high h.near.sound.sent_high h.near_said.settled h.near_said.calm;
+        says = busy_laws.put c packet s;
+        out = λ fs read. reads_put reads c d joined whole.0 w.near.begun w.out fs step.side.out (whole_behind d.longest whole.0 w.sent step.side.out whole.1) read;
+        back = refl;
+        far = refl;
+        begun = refl;
+      }
+      by true (Some e) whole = not_put w
+      by false refusal whole = not_put w
 
 -- ---- both ends, packet by packet
 

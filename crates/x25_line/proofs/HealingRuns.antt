@@ -1,57 +1,15 @@
--- What each step of a station keeps stays through all events: an end has said all that it may, and each of its packets may be sent.
-use Rattle.std.proofs.Common.{◌≡◌, ℕ, ◌+◌, ◌*◌, ◌≤◌, ◌⊎◌, inl, inr, List, [], ◌∷◌, length, Bool, true, false, if◌then◌else◌, Option, Some, None, refl, sym, ap, subst, arith}
-use Rattle.std.proofs.lemmas.Bool.{leb-true, and_right}
-use Rattle.std.specs.Prelude.{nat_le, nat_lt}
+-- After all events an end has said all that it may, and each of its packets may be sent.
+use Rattle.std.proofs.Common.{◌≡◌, ℕ, ◌+◌, ◌*◌, ◌≤◌, ◌⊎◌, inl, inr, List, [], ◌∷◌, length, Bool, true, false, if◌then◌else◌, refl, sym, ap, subst, arith}
+use Rattle.std.proofs.lemmas.Bool.{and_right}
+use Rattle.std.specs.Prelude.{nat_lt}
 use Rattle.x25_frame.specs.Reading.{frame_of}
-use Rattle.x25_link.specs.{declared.error.LinkError.{LinkError}, declared.phase.Phase.{Phase}, declared.phase.Phase.TheVariants.{Down, Up}}
-use Rattle.x25_link.specs.{declared.phase.Reason.TheVariants.{Retries}, OrderedLink.{Lists}}
-use Rattle.x25_link.specs.{Station.{Settings, LinkStation, Side, is_up, is_busy, with_near, with_nothing, fresh, ended}, Hearing.{Step, quiet, leaves, other}}
-use Rattle.x25_link.specs.Link.{alone, puts, fires, asks_again, connects, disconnects, take_step, put_step, timer_step, connect_step, disconnect_step, abandon_step, put_refusal, timer_refusal, connect_refusal, disconnect_refusal}
+use Rattle.x25_link.specs.{declared.phase.Phase.{Phase}, declared.phase.Phase.TheVariants.{Down, Up}, declared.phase.Reason.TheVariants.{Retries}}
+use Rattle.x25_link.specs.{OrderedLink.{Lists}, Station.{Settings, LinkStation, Side, is_busy, with_near, with_nothing, fresh, ended}}
+use Rattle.x25_link.specs.{Hearing.{Step, quiet, leaves, other}, Link.{alone, puts, fires, asks_again, connects, disconnects, take_step}}
 use Rattle.x25_link.specs.{laws.LinkLaws.{ended_lists}, laws.RestLaw.{HasSaidAll}}
-use Rattle.x25_line.specs.laws.Stations.{Act, Put, Deliver, T1, Connect, Disconnect, Abandon, Probe, Lose, Damage, Event, Near, Far, is_visible}
-use Rattle.x25_line.specs.laws.Sessions.{Entry, SessionEnd, Sessions, unless, delivered, acts, swapped, run, from_nothing, from_set_up}
+use Rattle.x25_line.specs.{laws.Stations.{Event, Near, Far}, laws.Sessions.{SessionEnd, Sessions, acts, swapped, run, from_nothing, from_set_up}}
 use Rattle.x25_line.specs.{laws.StationClaims.{AreJoined}, laws.LawsBelow.{HealingLaws}}
-use Rattle.x25_line.proofs.{StationSends.{AllWithin, within_push}, DrainSteps.{took}}
-
-pub record Keeps (c : Settings) (P : LinkStation → Type 0) : Type 0 where
-  pub takes : (o : List ℕ) (s : LinkStation) → P s → P (take_step c o s).side.near
-  pub puts : (packet : List ℕ) (s : LinkStation) → length packet ≤ c.longest → P s → P (put_step c packet s).side.near
-  pub fires : (s : LinkStation) → P s → P (timer_step c s).side.near
-  pub connects : (s : LinkStation) → P s → P (connect_step c s).side.near
-  pub disconnects : (s : LinkStation) → P s → P (disconnect_step c s).side.near
-  pub abandons : (s : LinkStation) → P s → P (abandon_step c s).side.near
-
-module _ (c : Settings) (P : LinkStation → Type 0) (keeps : Keeps c P) (w : Sessions) (h : P w.near.station) where
-  abbrev s : LinkStation
-  s = w.near.station
-
-  -- the far end is as it was
-  record Stays (v : Sessions) : Type 0 where
-    pub near : P v.near.station
-    pub far : v.far ≡ w.far
-
-  stays_unless : (o : Option LinkError) (v : Sessions) → Stays v → Stays (unless o w v)
-  stays_unless (Some e) v k = record { near = h; far = refl }
-  stays_unless None v k = k
-
-  stays_if : (b : Bool) (v : Sessions) → (b ≡ true → Stays v) → Stays (if b then v else w)
-  stays_if true v k = k refl
-  stays_if false v k = record { near = h; far = refl }
-
-  delivered_stays : (es : List Entry) → Stays (delivered c es w)
-  delivered_stays [] = record { near = h; far = refl }
-  delivered_stays (e ∷ es) = record { near = keeps.takes e.octets s h; far = refl }
-
-  act_stays : (a : Act) → Stays (acts c a w)
-  act_stays (Put packet) = stays_if (nat_le (length packet) c.longest) _ (λ short. stays_unless (put_refusal s) _ (record { near = keeps.puts packet s (leb-true _ _ short) h; far = refl }))
-  act_stays Deliver = delivered_stays w.back
-  act_stays T1 = stays_unless (timer_refusal s) _ (record { near = keeps.fires s h; far = refl })
-  act_stays Connect = stays_unless (connect_refusal s.phase) _ (record { near = keeps.connects s h; far = refl })
-  act_stays Disconnect = stays_unless (disconnect_refusal s.phase) _ (record { near = keeps.disconnects s h; far = refl })
-  act_stays Abandon = stays_if (is_up s.phase) _ (λ _. record { near = keeps.abandons s h; far = refl })
-  act_stays Probe = stays_if (is_up s.phase) _ (λ _. record { near = keeps.fires s h; far = refl })
-  act_stays (Lose i) = record { near = h; far = refl }
-  act_stays (Damage i octets) = stays_if (is_visible octets) _ (λ _. record { near = h; far = refl })
+use Rattle.x25_line.proofs.{StationSends.{AllWithin, within_push}, DrainSteps.{took}, sessions.Acts.{Keeps, act_stays}}
 
 run_stays : (c d : Settings) (P Q : LinkStation → Type 0) → Keeps c P → Keeps d Q → (es : List Event) (w : Sessions) → P w.near.station → Q w.far.station
     → (let v = run c d es w in P v.near.station × Q v.far.station)

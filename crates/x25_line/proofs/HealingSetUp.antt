@@ -15,7 +15,7 @@ use Rattle.x25_line.specs.laws.Stations.{Deliver, Event}
 use Rattle.x25_line.specs.laws.Sessions.{Entry, Meeting, Sessions, sent_in, begun_by, after_step, delivered, acts, swapped, run}
 use Rattle.x25_line.specs.{laws.StationClaims.{AreJoined, IsWhole, AreWhole}, Healing.{AreDeliveries}, laws.LawsBelow.{HealingLaws}}
 use Rattle.x25_line.proofs.{DrainWeights.{below_eight}, StationSteps.{not_both, out_not_up}, StationRuns.{joined_swapped}, HealingLines.{Reads}}
-use Rattle.x25_line.proofs.{HealingSteps.{IsDrained, up_is, deliveries_keep, reads_put}, StationAway.{up_takes_part}}
+use Rattle.x25_line.proofs.{HealingSteps.{IsDrained, deliveries_keep, reads_put}, StationAway.{up_takes_part, is_up_phase}}
 
 -- an end is at rest, or not Up
 abbrev pub RestsOrOut : LinkStation → Type 0
@@ -133,11 +133,8 @@ calm_declines f s off = calm_if (is_command f && poll_or_final f) _ _ (λ _. cal
 
 calm_down : (f : PlainFrame) (s : LinkStation) → is_up s.phase ≡ false → IsOfSetUp f → IsCalm (when_down f (alone s)).side
 calm_down (sabm p) s off is = begun (ua p) tt
-calm_down (ua f) s off is = calm_declines (ua f) s off
-calm_down (dm f) s off is = calm_declines (dm f) s off
-calm_down (frmr f why) s off is = calm_declines (frmr f why) s off
-calm_down (rr command nr pf) s off is = calm_declines (rr command nr pf) s off
-calm_down f s off is = absurd is
+calm_down (disc p) s off is = absurd is
+calm_down f s off is = calm_declines f s off
 
 calm_waiting : (f : PlainFrame) (s : LinkStation) → is_up s.phase ≡ false → IsOfSetUp f → IsCalm (when_waiting f (alone s)).side
 calm_waiting (sabm p) s off is = calm_sends (ua p) (alone s) tt (calm_off s off)
@@ -297,7 +294,7 @@ module _ (c d : Settings) (joined : AreJoined c d) (reads : ReadsSpelled) (laws 
         let a = laws.sessions.laws.set_up.sets_up c e.octets s (up_takes_part s.phase up) true back.0 in
         goes e es _ [] (ua true ∷ []) (rnr true n true ∷ []) fresh out back.1 a.near a.out (tt, tt) (inl (granted n fresh_blank is))
     up_hears (e ∷ es) fs gs out back (declined up gone) =
-        let a = laws.answers.dm c e.octets s (up_is s.phase up) true back.0 in
+        let a = laws.answers.dm c e.octets s (is_up_phase s.phase up) true back.0 in
         goes e es _ [] [] [] (with_nothing Down s.tries) out back.1 a.0 a.1 tt (inr (inr (record { near = inr refl; far = inr (out_not_up t.phase gone); there = tt; back = tt })))
     up_hears (e ∷ es) fs gs out back p = absurd back
 

@@ -4,16 +4,15 @@ use Rattle.std.proofs.lemmas.Bool.{le-leb}
 use Rattle.x25_bits.specs.declared.role.Role.{Role}
 use Rattle.x25_frame.specs.{Frame.{PlainFrame, info, rr, rnr, rej}, Reading.{frame_of}, laws.ReadingLaw.{ReadsSpelled}, declared.error.FrameError.{FrameError}}
 use Rattle.x25_window.specs.{code.Modulo.{resolved}, laws.Window.{Frame}}
-use Rattle.x25_link.specs.{declared.phase.Phase.{Phase}, declared.phase.Phase.TheVariants.{Up}, Station.{Settings, LinkStation, is_up}}
-use Rattle.x25_link.specs.{Hearing.{other, is_valid}, Link.{timer_runs, timer_step}, laws.WindowMachine.{Window, Shows, ShowAll}, laws.WindowLaw.{IsSound}}
-use Rattle.x25_link.specs.{laws.RestLaw.{HasSaidAll}, laws.AnswerLaw.{heard}}
-use Rattle.x25_line.specs.{laws.Line.{Line, swapped as line_swapped}, laws.Stations.{Deliver, T1, Event, Near, Far}}
+use Rattle.x25_link.specs.{Station.{Settings, LinkStation, is_up}, Hearing.{other, is_valid}, Link.{timer_runs, timer_step}}
+use Rattle.x25_link.specs.{laws.WindowMachine.{Window, Shows, ShowAll}, laws.WindowLaw.{IsSound}, laws.RestLaw.{HasSaidAll}, laws.AnswerLaw.{heard}}
 use Rattle.x25_line.specs.laws.StationClaims.{AreJoined, number_in, AreWhole}
 use Rattle.x25_line.specs.laws.Sessions.{Entry, SessionEnd, Sessions, sent_in, from_nothing, from_set_up, after_step, acts, swapped, happens, run, IsTimely, IsTimelyAt, AreTimely}
 use Rattle.x25_line.specs.{laws.SessionClaims.{Throughout}, Healing.{AreDeliveries}, laws.LawsBelow.{HealingLaws}}
 use Rattle.x25_line.proofs.{Kept.{Kept, Kept-swapped, Way, hears_valid, Way-acked, resolved_is}, Frames.{Acks-le}, StationLines.{front_of, consed}}
 use Rattle.x25_line.proofs.{StationSteps.{AsUp, not_both}, sessions.SessionLines.{numbers}, sessions.SessionActs.{in_session}}
 use Rattle.x25_line.proofs.{sessions.SessionRuns.{HeldOf, held_swapped, throughout}, HealingRuns.{fit_from}, HealingLines.{Reads, reads_more}}
+use Rattle.x25_line.specs.{laws.Line.{Line, swapped as line_swapped}, laws.Stations.{Deliver, T1, Event, Near, Far}}
 
 -- ---- worlds that events lead to
 
@@ -108,10 +107,6 @@ module _ (reads : ReadsSpelled) (laws : HealingLaws) (c d : Settings) (joined : 
 
   pub whole_at : SentWhole d.longest w.sent
   whole_at = (let h = held.1.whole in (h.given, h.whole))
-
-pub up_is : (p : Phase) → is_up p ≡ true → p ≡ Up
-up_is Up e = refl
-up_is p e = not_both false e refl
 
 -- what the near end counts as acknowledged was taken by the far end, and what that took was sent
 pub record Counted (k : ℕ) (near far : LinkStation) : Type 0 where

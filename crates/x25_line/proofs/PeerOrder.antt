@@ -6,13 +6,13 @@ use Rattle.x25_window.specs.code.Modulo.{resolved}
 use Rattle.x25_link.specs.{Station.{Settings, fresh}, Hearing.{other}}
 use Rattle.x25_line.specs.{laws.InWindow.{IsPrefix}, laws.Stations.{StationEnd, Stations, Act, Near, replaced, is_visible, acts, swapped, run, start}}
 use Rattle.x25_line.specs.{laws.StationClaims.{Always, BothInOrder, InOrder, HandsOne}, laws.LawsBelow.{Laws}}
-use Rattle.x25_line.specs.{laws.Said.{Said, Carried, Tells, Else, Odd as OddSaid, said}, laws.Peer.{Peer, fresh_peer, MaySay}}
 use Rattle.x25_line.specs.laws.PeerJoined.{Joined, our_end, with_peer, Happens, Ours, HandsDown, Sends, Hears, Loses, Damages, IsReached, at_start, goes_on}
 use Rattle.x25_line.specs.{laws.PeerClaims.{WithAnyPeer, WithAnyLapbPeer, KeepsOrder, FindsNoFault}, laws.StationPeers.{seen, IsPeer}}
 use Rattle.x25_line.proofs.{sessions.Letters.{visible_said}, Kept.{Way}}
 use Rattle.x25_line.proofs.Order.{Told, only, only_append, Left, left_front, left_deeper, Hold, starts, hold_turned, handed, says, left, makes, in_order as peers_in_order, valid_front, by_frmr, no_fault}
 use Rattle.x25_line.proofs.{StationRuns.{noted_before}, StationEvents.{each_hands_one}, StationClaimLemmas.{in_order}, StationActs.{MayAsk}}
 use Rattle.x25_line.proofs.{StationSays.{machine_of, MayDo}, StationPeers.{Seen, peer_acts, both_peers}}
+use Rattle.x25_line.specs.{laws.Said.{Said, Carried, Tells, Else, Odd as OddSaid, said}, laws.Peer.{Peer, fresh_peer, MaySay}}
 use Rattle.x25_line.specs.laws.PeerJoined as joined
 
 -- ---- what is told on a line of octets

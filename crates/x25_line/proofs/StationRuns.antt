@@ -10,7 +10,6 @@ use Rattle.x25_link.specs.{Station.{Settings, LinkStation, is_up, with_nothing},
 use Rattle.x25_link.specs.Link.{take_step, put_step, put_refusal, timer_step, timer_refusal, timer_runs, connect_step, connect_refusal, disconnect_step, disconnect_refusal, abandon_step}
 use Rattle.x25_link.specs.{laws.WindowMachine.{Window, hands_down, nothing, ShowAll}, laws.SetUp.{Is, TakesPart}}
 use Rattle.x25_link.specs.laws.WindowLaw.{Follows, IsOut, sets_up, StaysOut}
-use Rattle.x25_line.specs.{laws.Line.{Line, moved, swapped as line_swapped}, laws.Line.Move.{HandsDown, Loses}}
 use Rattle.x25_line.specs.laws.Stations.{StationEnd, Stations, Act, Put, Deliver, T1, Connect, Disconnect, Abandon, Probe, Lose, Damage, Event, Near, Far, after_step, unless, delivered, replaced, is_visible, acts, swapped, happens, run, fresh_station, start}
 use Rattle.x25_line.specs.laws.WholeNumbers.{first_of, place_of, taken_out, left_at, place_taken, machine_acts, machine_happens, machine_run, machine_at_start}
 use Rattle.x25_line.specs.laws.LawsBelow.{Laws}
@@ -21,6 +20,7 @@ use Rattle.x25_line.proofs.StationSends.{AllWithin, within_push}
 use Rattle.x25_line.proofs.StationSteps.{MayBeAway, away_is_not_up, out_is_away, AsUp, IsAway, FitsEnd, NotesOnce, Joint, Leads, goes_is, left_alone, stands_still, J-stays, not_both, quiet_notes, vain_notes, quiet_joint, parts_joint, ends_joint, read_joint, away_joint, declining_parting}
 use Rattle.x25_line.proofs.StationAway.{closed_takes, waits_on, waiting_parting, quiet_by, up_takes_part, connects_from, first_false, second_false}
 use Rattle.x25_line.proofs.StationEvents.{each_hands_one}
+use Rattle.x25_line.specs.{laws.Line.{Line, moved, swapped as line_swapped}, laws.Line.Move.{HandsDown, Loses}}
 
 reached_swapped : (k j : ℕ) (l : Line (List ℕ)) → IsReached k j l → IsReached j k (line_swapped l)
 reached_swapped k j l at_start = at_start

@@ -5,11 +5,11 @@ use Rattle.std.specs.List.{slice_get}
 use Rattle.x25_bits.specs.declared.role.Role.{Role}
 use Rattle.x25_frame.specs.{Frame.{PlainFrame, info, rr, rnr, rej, sabm, disc, ua, dm, frmr}, Spelling.{spelling_of}, Reading.{frame_of}}
 use Rattle.x25_frame.specs.{laws.ReadingLaw.{ReadsSpelled}, declared.error.FrameError.{FrameError}}
-use Rattle.x25_window.specs.{laws.Window.{Step, Frame, Allows, after, frame_of as machine_frame, frames_of, numbered}, laws.Window.Step.{Send, Tell}}
 use Rattle.x25_link.specs.{Station.{Settings}, Hearing.{other}, declared.phase.Reason.TheVariants.{FrmrSent}, laws.WindowLaw.{ending_of}}
 use Rattle.x25_link.specs.laws.WindowMachine.{Window, ShowsItem, Shows, ShowAll, IsSent, Runs, rests, goes_on}
 use Rattle.x25_line.specs.{laws.Stations.{replaced, is_visible}, laws.StationClaims.{number_in}, laws.Peer.{Peer, MaySend, MayHear, numbered_to, told_to}}
 use Rattle.x25_line.proofs.{StationLines.{IsGood, AreParting, good_reads}, StationSends.{AllWithin, Item, item_at, tell_good, send_good, not_none}}
+use Rattle.x25_window.specs.{laws.Window.{Step, Frame, Allows, after, frame_of as machine_frame, frames_of, numbered}, laws.Window.Step.{Send, Tell}}
 
 -- the peer as an end of the window machine, with a station's k
 abbrev pub machine_of : ℕ → Peer → Window

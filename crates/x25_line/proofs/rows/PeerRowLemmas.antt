@@ -25,7 +25,7 @@ module _ (reads : ReadsSpelled) where
       let p3 : Peer = record w2.peer { taken = (5 ∷ []) ∷ [] } in
       let w3 : Joined = record w2 { peer = p3; out = [] } in
       let r3 : IsReached ⊥ dte w3 = goes_on w2 w3 r2
-      (Hears (spelling_of Dte packet_frame) [] p3 refl (subst (λ (r : Result PlainFrame FrameError). MayHear w2.peer r p3) (sym (packet_reads reads)) (false, true, refl, refl)))
+      (Hears (spelling_of Dte packet_frame) [] p3 refl (subst (λ (r : Result PlainFrame FrameError). MayHear w2.peer r p3) (sym (packet_reads reads Dte)) (false, true, refl, refl)))
       in
       let q : Peer = told_to 0 (numbered_to 0 p3) in
       let w4 : Joined = record w3 { peer = q; back = spelling_of Dce polling_frame ∷ [] } in

@@ -1,12 +1,13 @@
 -- The worked rows of sessions, by computing: what comes is what the frame is that was spelled.
 use Rattle.std.proofs.Common.{◌≡◌, ℕ, ◌+◌, List, [], ◌∷◌, inl, inr, true, false, Result, Ok, arith, refl, sym, ap, ◌∙◌, subst}
 use Rattle.x25_bits.specs.{declared.role.Role.{Role}, declared.role.Role.TheVariants.{Dte, Dce}}
-use Rattle.x25_frame.specs.{Frame.{PlainFrame, info, rr, sabm, ua}, Spelling.{spelling_of}, Reading.{frame_of}, laws.ReadingLaw.{ReadsSpelled}}
+use Rattle.x25_frame.specs.{Frame.{PlainFrame, rr, sabm, ua}, Spelling.{spelling_of}, Reading.{frame_of}, laws.ReadingLaw.{ReadsSpelled}}
 use Rattle.x25_frame.specs.declared.error.FrameError.{FrameError}
 use Rattle.x25_link.specs.{Station.{Settings, is_up, pumped}, Hearing.{other}, Link.{alone, closed_by, hears}}
 use Rattle.x25_line.specs.{laws.Stations.{Put, Deliver, T1, Connect, Abandon, Lose, Near, Far}, rows.StationRows.{dte, dce}, laws.StationClaims.{number_in}}
 use Rattle.x25_line.specs.laws.Sessions.{Entry, Sessions, after_step, heard, delivered, swapped, acts, happens, run, from_nothing, from_set_up, AreTimely, sabm_in, how_many}
 use Rattle.x25_line.specs.rows.SessionRows.{IsFirst, SetsUpFromNothing, IsSecond, SetsUpAgain, untimely, IsOutOfStep, UntimelyIsOutOfStep}
+use Rattle.x25_line.proofs.rows.StationRowLemmas.{packet_frame, crossing_frame, packet_reads, crossing_reads, sabm_reads, ua_reads}
 
 -- the two stations once octets that read as this have come to the near end
 abbrev pub taken_as : Settings → Result PlainFrame FrameError → Entry → List Entry → Sessions → Sessions
@@ -30,25 +31,7 @@ far_takes : (f : PlainFrame) (session : ℕ) (out : List Entry) (w : Sessions) �
     → happens dte dce (Far Deliver) w ≡ swapped (taken_as dce (Ok f) (sent session Dte f) out (swapped w))
 far_takes f session out w reads is = ap swapped (comes dce (Ok f) (sent session Dte f) out (swapped w) reads is)
 
-abbrev pub five : PlainFrame
-five = info 0 0 false (5 ∷ [])
-
-abbrev pub seven : PlainFrame
-seven = info 0 0 false (7 ∷ [])
-
 module _ (reads : ReadsSpelled) where
-  five_reads : (from : Role) → frame_of from 128 (spelling_of from five) ≡ Ok five
-  five_reads from = reads from 128 five _ (record { in_range = (omega arith, omega arith); carries = tt; within = omega arith; spelling = refl })
-
-  seven_reads : (from : Role) → frame_of from 128 (spelling_of from seven) ≡ Ok seven
-  seven_reads from = reads from 128 seven _ (record { in_range = (omega arith, omega arith); carries = tt; within = omega arith; spelling = refl })
-
-  sabm_reads : frame_of Dte 128 (spelling_of Dte (sabm true)) ≡ Ok (sabm true)
-  sabm_reads = reads Dte 128 (sabm true) _ (record { in_range = tt; carries = refl; within = tt; spelling = refl })
-
-  ua_reads : frame_of Dce 128 (spelling_of Dce (ua true)) ≡ Ok (ua true)
-  ua_reads = reads Dce 128 (ua true) _ (record { in_range = tt; carries = refl; within = tt; spelling = refl })
-
   ready_reads : frame_of Dce 128 (spelling_of Dce (rr false 1 false)) ≡ Ok (rr false 1 false)
   ready_reads = reads Dce 128 (rr false 1 false) _ (record { in_range = omega arith; carries = refl; within = tt; spelling = refl })
 
@@ -59,10 +42,10 @@ module _ (reads : ReadsSpelled) where
       let v = swapped (taken_as dce (Ok (sabm true)) (sent 0 Dte (sabm true)) [] (swapped w)) in
       let u = taken_as dte (Ok (ua true)) (sent 1 Dce (ua true)) [] v in
       let t = happens dte dce (Near (Put (5 ∷ []))) u in
-      let s = swapped (taken_as dce (Ok five) (sent 1 Dte five) [] (swapped t)) in
-      let first = far_takes (sabm true) 0 [] w sabm_reads refl in
-      let second = near_takes (ua true) 1 [] v ua_reads refl in
-      let third = far_takes five 1 [] t (five_reads Dte) refl in (
+      let s = swapped (taken_as dce (Ok packet_frame) (sent 1 Dte packet_frame) [] (swapped t)) in
+      let first = far_takes (sabm true) 0 [] w (sabm_reads reads Dte) refl in
+      let second = near_takes (ua true) 1 [] v (ua_reads reads Dce) refl in
+      let third = far_takes packet_frame 1 [] t (packet_reads reads Dte) refl in (
         (tt, (tt, ((λ waiting. refl), (tt, (tt, (tt, (tt, tt))))))),
         subst IsFirst (sym (ap (run dte dce (Near Deliver ∷ Near (Put (5 ∷ [])) ∷ Far Deliver ∷ [])) first ∙ ap (run dte dce (Near (Put (5 ∷ [])) ∷ Far Deliver ∷ [])) second ∙ third))
             (refl, refl, refl, refl),
@@ -72,16 +55,16 @@ module _ (reads : ReadsSpelled) where
   unfolding pumped
   sets_up_again =
       let w = happens dte dce (Near Connect) (happens dte dce (Near Abandon) (happens dte dce (Near (Put (5 ∷ []))) from_set_up)) in
-      let v = swapped (taken_as dce (Ok five) (sent 1 Dte five) (sent 1 Dte (sabm true) ∷ []) (swapped w)) in
+      let v = swapped (taken_as dce (Ok packet_frame) (sent 1 Dte packet_frame) (sent 1 Dte (sabm true) ∷ []) (swapped w)) in
       let u = swapped (taken_as dce (Ok (sabm true)) (sent 1 Dte (sabm true)) [] (swapped v)) in
       let t = taken_as dte (Ok (rr false 1 false)) (sent 1 Dce (rr false 1 false)) (sent 2 Dce (ua true) ∷ []) u in
       let s = taken_as dte (Ok (ua true)) (sent 2 Dce (ua true)) [] t in
       let r = happens dte dce (Near (Put (7 ∷ []))) s in
-      let first = far_takes five 1 (sent 1 Dte (sabm true) ∷ []) w (five_reads Dte) refl in
-      let second = far_takes (sabm true) 1 [] v sabm_reads refl in
+      let first = far_takes packet_frame 1 (sent 1 Dte (sabm true) ∷ []) w (packet_reads reads Dte) refl in
+      let second = far_takes (sabm true) 1 [] v (sabm_reads reads Dte) refl in
       let third = near_takes (rr false 1 false) 1 (sent 2 Dce (ua true) ∷ []) u ready_reads refl in
-      let fourth = near_takes (ua true) 2 [] t ua_reads refl in
-      let fifth = far_takes seven 2 [] r (seven_reads Dte) refl in (
+      let fourth = near_takes (ua true) 2 [] t (ua_reads reads Dce) refl in
+      let fifth = far_takes crossing_frame 2 [] r (crossing_reads reads Dte) refl in (
         (tt, (tt, (tt, (tt, (tt, (tt, (tt, (tt, (tt, tt))))))))),
         subst IsSecond
             (sym (ap (run dte dce (Far Deliver ∷ Near Deliver ∷ Near Deliver ∷ Near (Put (7 ∷ [])) ∷ Far Deliver ∷ [])) first
@@ -101,7 +84,7 @@ module _ (reads : ReadsSpelled) where
       none = timely.1.0 refl
 
       some : how_many sabm_in Dte 128 (sent 0 Dte (sabm true) ∷ []) ≡ 1 + 0
-      some = ap (λ (z : Result PlainFrame FrameError). sabm_in z + 0) sabm_reads
+      some = ap (λ (z : Result PlainFrame FrameError). sabm_in z + 0) (sabm_reads reads Dte)
 
   pub untimely_is_out_of_step : UntimelyIsOutOfStep
   unfolding pumped
@@ -111,15 +94,15 @@ module _ (reads : ReadsSpelled) where
       let u = taken_as dte (Ok (ua true)) (sent 1 Dce (ua true)) [] v in
       let t = happens dte dce (Far (Put (5 ∷ []))) u in
       let s = swapped (taken_as dce (Ok (sabm true)) (sent 0 Dte (sabm true)) [] (swapped t)) in
-      let r = taken_as dte (Ok five) (sent 1 Dce five) (sent 2 Dce (ua true) ∷ []) s in
+      let r = taken_as dte (Ok packet_frame) (sent 1 Dce packet_frame) (sent 2 Dce (ua true) ∷ []) s in
       let q = taken_as dte (Ok (ua true)) (sent 2 Dce (ua true)) [] r in
       let p = happens dte dce (Far (Put (7 ∷ []))) q in
-      let first = far_takes (sabm true) 0 (sent 0 Dte (sabm true) ∷ []) w sabm_reads refl in
-      let second = near_takes (ua true) 1 [] v ua_reads refl in
-      let third = far_takes (sabm true) 0 [] t sabm_reads refl in
-      let fourth = near_takes five 1 (sent 2 Dce (ua true) ∷ []) s (five_reads Dce) refl in
-      let fifth = near_takes (ua true) 2 [] r ua_reads refl in
-      let sixth = near_takes seven 2 [] p (seven_reads Dce) refl in (
+      let first = far_takes (sabm true) 0 (sent 0 Dte (sabm true) ∷ []) w (sabm_reads reads Dte) refl in
+      let second = near_takes (ua true) 1 [] v (ua_reads reads Dce) refl in
+      let third = far_takes (sabm true) 0 [] t (sabm_reads reads Dte) refl in
+      let fourth = near_takes packet_frame 1 (sent 2 Dce (ua true) ∷ []) s (packet_reads reads Dce) refl in
+      let fifth = near_takes (ua true) 2 [] r (ua_reads reads Dce) refl in
+      let sixth = near_takes crossing_frame 2 [] p (crossing_reads reads Dce) refl in (
         untimely_by,
         subst IsOutOfStep
             (sym (ap (run dte dce (Near Deliver ∷ Far (Put (5 ∷ [])) ∷ Far Deliver ∷ Near Deliver ∷ Near Deliver ∷ Far (Put (7 ∷ [])) ∷ Near Deliver ∷ [])) first

@@ -34,7 +34,7 @@ abbrev pub packet_frame : PlainFrame
 packet_frame = info 0 0 false (5 ∷ [])
 
 -- the one of the far end
-abbrev crossing_frame : PlainFrame
+abbrev pub crossing_frame : PlainFrame
 crossing_frame = info 0 0 false (7 ∷ [])
 
 -- RR with N(R)=1; RR with P=1 of the end whose timer ran out, and the answer to it with F=1
@@ -52,11 +52,11 @@ unfolding frame_of
 short_reads = refl
 
 module _ (reads : ReadsSpelled) where
-  pub packet_reads : frame_of Dte 128 (spelling_of Dte packet_frame) ≡ Ok packet_frame
-  packet_reads = reads Dte 128 packet_frame _ (record { in_range = (omega arith, omega arith); carries = tt; within = omega arith; spelling = refl })
+  pub packet_reads : (from : Role) → frame_of from 128 (spelling_of from packet_frame) ≡ Ok packet_frame
+  packet_reads from = reads from 128 packet_frame _ (record { in_range = (omega arith, omega arith); carries = tt; within = omega arith; spelling = refl })
 
-  crossing_reads : frame_of Dce 128 (spelling_of Dce crossing_frame) ≡ Ok crossing_frame
-  crossing_reads = reads Dce 128 crossing_frame _ (record { in_range = (omega arith, omega arith); carries = tt; within = omega arith; spelling = refl })
+  pub crossing_reads : (from : Role) → frame_of from 128 (spelling_of from crossing_frame) ≡ Ok crossing_frame
+  crossing_reads from = reads from 128 crossing_frame _ (record { in_range = (omega arith, omega arith); carries = tt; within = omega arith; spelling = refl })
 
   disc_reads : frame_of Dte 128 (spelling_of Dte (disc true)) ≡ Ok (disc true)
   disc_reads = reads Dte 128 (disc true) _ (record { in_range = tt; carries = refl; within = tt; spelling = refl })
@@ -64,10 +64,10 @@ module _ (reads : ReadsSpelled) where
   far_disc_reads : frame_of Dce 128 (spelling_of Dce (disc true)) ≡ Ok (disc true)
   far_disc_reads = reads Dce 128 (disc true) _ (record { in_range = tt; carries = refl; within = tt; spelling = refl })
 
-  sabm_reads : frame_of Dte 128 (spelling_of Dte (sabm true)) ≡ Ok (sabm true)
-  sabm_reads = reads Dte 128 (sabm true) _ (record { in_range = tt; carries = refl; within = tt; spelling = refl })
+  pub sabm_reads : (from : Role) → frame_of from 128 (spelling_of from (sabm true)) ≡ Ok (sabm true)
+  sabm_reads from = reads from 128 (sabm true) _ (record { in_range = tt; carries = refl; within = tt; spelling = refl })
 
-  ua_reads : (from : Role) → frame_of from 128 (spelling_of from (ua true)) ≡ Ok (ua true)
+  pub ua_reads : (from : Role) → frame_of from 128 (spelling_of from (ua true)) ≡ Ok (ua true)
   ua_reads from = reads from 128 (ua true) _ (record { in_range = tt; carries = refl; within = tt; spelling = refl })
 
   dm_reads : frame_of Dce 128 (spelling_of Dce (dm true)) ≡ Ok (dm true)
@@ -81,7 +81,7 @@ module _ (reads : ReadsSpelled) where
   packet_goes =
       let w = happens dte dce (Near (Put (5 ∷ []))) start in
       let v = swapped (told dce packet_frame (swapped w)) in
-      subst IsAcrossFive (sym (two_come packet_frame acknowledging packet_reads (ready_reads Dce false 1 false (omega arith)) w v refl refl refl [])) (refl, refl)
+      subst IsAcrossFive (sym (two_come packet_frame acknowledging (packet_reads Dte) (ready_reads Dce false 1 false (omega arith)) w v refl refl refl [])) (refl, refl)
 
   -- both are on the line: each end takes one and answers, and then takes the answer
   pub packets_cross : PacketsCross
@@ -92,8 +92,8 @@ module _ (reads : ReadsSpelled) where
       let u = taken_as dte (Ok crossing_frame) (spelling_of Dce crossing_frame) (spelling_of Dce acknowledging ∷ []) v in
       let t = told dte acknowledging u in
       let s = swapped (told dce acknowledging (swapped t)) in
-      let first : happens dte dce (Far Deliver) w ≡ v = ap swapped (comes dce (Ok packet_frame) (spelling_of Dte packet_frame) [] (swapped w) packet_reads refl) in
-      let second : happens dte dce (Near Deliver) v ≡ u = comes dte (Ok crossing_frame) (spelling_of Dce crossing_frame) (spelling_of Dce acknowledging ∷ []) v crossing_reads refl in
+      let first : happens dte dce (Far Deliver) w ≡ v = ap swapped (comes dce (Ok packet_frame) (spelling_of Dte packet_frame) [] (swapped w) (packet_reads Dte) refl) in
+      let second : happens dte dce (Near Deliver) v ≡ u = comes dte (Ok crossing_frame) (spelling_of Dce crossing_frame) (spelling_of Dce acknowledging ∷ []) v (crossing_reads Dce) refl in
       let third : happens dte dce (Near Deliver) u ≡ t = comes dte (Ok acknowledging) (spelling_of Dce acknowledging) [] u (ready_reads Dce false 1 false (omega arith)) refl in
       let fourth : happens dte dce (Far Deliver) t ≡ s = ap swapped (comes dce (Ok acknowledging) (spelling_of Dte acknowledging) [] (swapped t) (ready_reads Dte false 1 false (omega arith)) refl) in
       subst (λ (z : Stations). (z.far.up ≡ (5 ∷ []) ∷ []) × (z.near.up ≡ (7 ∷ []) ∷ []) × (is_idle z.near.station ≡ true) × (is_idle z.far.station ≡ true))
@@ -108,7 +108,7 @@ module _ (reads : ReadsSpelled) where
   poll_brings w out v is back u is_next again t is_last acks =
       two_come polling answering (ready_reads Dte true 0 true (omega arith)) (ready_reads Dce false 0 true (omega arith)) w v out is back (Far Deliver ∷ Near Deliver ∷ [])
       ∙ ap (run dte dce (Far Deliver ∷ Near Deliver ∷ [])) (sym is_next)
-      ∙ two_come packet_frame acknowledging packet_reads (ready_reads Dce false 1 false (omega arith)) u t again is_last acks []
+      ∙ two_come packet_frame acknowledging (packet_reads Dte) (ready_reads Dce false 1 false (omega arith)) u t again is_last acks []
 
   pub lost_comes_again : LostComesAgain
   unfolding pumped
@@ -140,7 +140,7 @@ module _ (reads : ReadsSpelled) where
       let w = happens dte dce (Near Disconnect) (happens dte dce (Near (Put (5 ∷ []))) start) in
       let v = swapped (taken_as dce (Ok packet_frame) (spelling_of Dte packet_frame) (spelling_of Dte (disc true) ∷ []) (swapped w)) in
       let u = swapped (told dce (disc true) (swapped v)) in
-      let first : happens dte dce (Far Deliver) w ≡ v = ap swapped (comes dce (Ok packet_frame) (spelling_of Dte packet_frame) (spelling_of Dte (disc true) ∷ []) (swapped w) packet_reads refl) in
+      let first : happens dte dce (Far Deliver) w ≡ v = ap swapped (comes dce (Ok packet_frame) (spelling_of Dte packet_frame) (spelling_of Dte (disc true) ∷ []) (swapped w) (packet_reads Dte) refl) in
       let second : happens dte dce (Far Deliver) v ≡ u = ap swapped (comes dce (Ok (disc true)) (spelling_of Dte (disc true)) [] (swapped v) disc_reads refl) in
       subst (λ (z : Stations). (z.near.station.phase ≡ Closed) × (z.far.up ≡ (5 ∷ []) ∷ []) × (z.far.station.phase ≡ Down))
       (sym (ap (happens dte dce (Far Deliver)) first ∙ second))
@@ -152,7 +152,7 @@ module _ (reads : ReadsSpelled) where
       let w = happens dte dce (Near Connect) (happens dte dce (Near Abandon) start) in
       let v = swapped (told dce (sabm true) (swapped w)) in
       subst (λ (z : Stations). (z.far.station ≡ fresh) × (z.far.reasons ≡ Reset ∷ []) × (z.far.came_up ≡ true) × (z.near.station ≡ fresh) × (z.near.reasons ≡ Counts ∷ []) × (z.near.came_up ≡ true))
-      (sym (two_come (sabm true) (ua true) sabm_reads (ua_reads Dce) w v refl refl refl []))
+      (sym (two_come (sabm true) (ua true) (sabm_reads Dte) (ua_reads Dce) w v refl refl refl []))
       (refl, refl, refl, refl, refl, refl)
 
   pub connect_is_declined : ConnectIsDeclined
@@ -168,7 +168,7 @@ module _ (reads : ReadsSpelled) where
       subst (λ (z : Stations). (z.far.station.phase ≡ Closed) × (z.near.station.phase ≡ Waiting) × (z.near.reasons ≡ Disc ∷ []) × (z.near.came_up ≡ false) × (z.back ≡ []))
       (sym (ap (run dte dce (Far Deliver ∷ Near Connect ∷ Far Deliver ∷ Near Deliver ∷ [])) first
       ∙ ap (run dte dce (Near Connect ∷ Far Deliver ∷ Near Deliver ∷ [])) second
-      ∙ two_come (sabm true) (dm true) sabm_reads dm_reads t s refl refl refl []))
+      ∙ two_come (sabm true) (dm true) (sabm_reads Dte) dm_reads t s refl refl refl []))
       (refl, refl, refl, refl, refl)
 
 pub abandon_ends : AbandonEnds

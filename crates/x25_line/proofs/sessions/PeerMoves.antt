@@ -4,7 +4,6 @@ use Rattle.x25_bits.specs.declared.role.Role.{Role}
 use Rattle.x25_frame.specs.{Frame.{info, rr, rnr, rej, sabm, disc, ua, dm, frmr}, Reading.{frame_of}}
 use Rattle.x25_frame.specs.declared.error.FrameError.TheVariants.{Short, BadFcs, BadAddress}
 use Rattle.x25_link.specs.{declared.phase.Phase.{Phase}, declared.phase.Phase.TheVariants.{Down, Waiting, Up, Closed}, Station.{Settings}, Hearing.{other}}
-use Rattle.x25_line.specs.{laws.Stations.{Act}, laws.StationClaims.{number_in}, laws.Said.{Said, Carried, Tells, Sabm, Disc, Ua, Else, Odd as OddSaid, said}}
 use Rattle.x25_line.specs.laws.Sessions.{Entry, Meeting, turned, sabm_in, ua_in, disc_in, how_many, replaced, acts}
 use Rattle.x25_line.specs.laws.PeerSessions.{Stand, Out, Asking, PeerEnd, PeerSessions, now, with_now, begins, stands, both_ends, with_peer, AllAskedIn, IsFree, heard_by}
 use Rattle.x25_line.specs.laws.PeerSessionClaims.{frmr_in}
@@ -15,6 +14,7 @@ use Rattle.x25_line.proofs.sessions.Letters.{heard_turned, letters_push, letters
 use Rattle.x25_line.proofs.{sessions.SessionMay.{stand_of, hears_read}, sessions.SessionSeen.{Seen}}
 use Rattle.x25_line.proofs.{sessions.SessionWith.{NoneOdd, Where, outs, backs, Kept, at, IsWith}, ends.Lines.{are_none}}
 use Rattle.x25_line.proofs.ends.Sessions.{all_turned, reached_all, ua_present}
+use Rattle.x25_line.specs.{laws.Stations.{Act}, laws.StationClaims.{number_in}, laws.Said.{Said, Carried, Tells, Sabm, Disc, Ua, Else, Odd as OddSaid, said}}
 use Rattle.x25_line.specs.laws.Peer as once
 use Rattle.x25_line.specs.laws.PeerSessions as sessions
 use Rattle.x25_line.specs.laws.Ends as ends

@@ -16,7 +16,7 @@ use Rattle.x25_line.specs.laws.LawsBelow.{SessionLaws}
 use Rattle.x25_line.proofs.{StationSteps.{not_both, not_afresh}, StationEvents.{timer_packet, timer_up}, sessions.SessionLines.{Read, none_is_some}}
 use Rattle.x25_line.proofs.{sessions.SessionHeld.{extended_same, extended_other}, sessions.SessionSteps.{end_after, nothing_handed}}
 use Rattle.x25_line.proofs.{sessions.SessionUp.{follows_no_packet}, sessions.SessionTakes.{read_of}, sessions.SessionSeenRuns.{Both, both_swapped}}
-use Rattle.x25_line.proofs.{sessions.TwoSessions.{hears_latest, running, throughout_of}, ends.Meetings.{twice_turned}}
+use Rattle.x25_line.proofs.{sessions.TwoSessions.{hears_latest, running, throughout_of}, ends.Meetings.{twice_turned}, sessions.Acts.{unless_by, if_by}}
 
 -- ---- a step
 
@@ -73,13 +73,8 @@ Hands act w v = HandsInSession act w.near v.near × (v.far ≡ w.far)
 abbrev HandsNothing : Sessions → Sessions → Type 0
 HandsNothing w v = GoesOn [] [] w.near v.near × (v.far ≡ w.far)
 
-nothing_unless : (o : Option LinkError) (w v : Sessions) → HandsNothing w v → HandsNothing w (unless o w v)
-nothing_unless (Some e) w v h = (stays w.near, refl)
-nothing_unless None w v h = h
-
-nothing_if : (b : Bool) (w v : Sessions) → HandsNothing w v → HandsNothing w (if b then v else w)
-nothing_if true w v h = h
-nothing_if false w v h = (stays w.near, refl)
+as_it_was : (w : Sessions) → HandsNothing w w
+as_it_was w = (stays w.near, refl)
 
 put_hands : (o : Option LinkError) (c : Settings) (packet : List ℕ) (w : Sessions) → Hands (Put packet) w (unless o w (after_step c w w.back w.met (packet ∷ []) (put_step c packet w.near.station)))
 put_hands (Some e) c packet w = ((false, stays w.near), refl)
@@ -107,21 +102,21 @@ acts_hands hands_up c (Put packet) w =
 acts_hands hands_up c Deliver w = deliver_hands hands_up c w.back w
 acts_hands hands_up c T1 w =
     let step = timer_step c w.near.station in
-    nothing_unless (timer_refusal w.near.station) w (after_step c w w.back w.met [] step) (quiet_goes w.near step (timer_packet c w.near.station) (timer_up c w.near.station), refl)
+    unless_by (HandsNothing w) (timer_refusal w.near.station) w (after_step c w w.back w.met [] step) (as_it_was w) (λ _. (quiet_goes w.near step (timer_packet c w.near.station) (timer_up c w.near.station), refl))
 acts_hands hands_up c Connect w =
     let step = connect_step c w.near.station in
-    nothing_unless (connect_refusal w.near.station.phase) w (after_step c w w.back w.met [] step) (quiet_goes w.near step refl refl, refl)
+    unless_by (HandsNothing w) (connect_refusal w.near.station.phase) w (after_step c w w.back w.met [] step) (as_it_was w) (λ _. (quiet_goes w.near step refl refl, refl))
 acts_hands hands_up c Disconnect w =
     let step = disconnect_step c w.near.station in
-    nothing_unless (disconnect_refusal w.near.station.phase) w (after_step c w w.back w.met [] step) (quiet_goes w.near step refl refl, refl)
+    unless_by (HandsNothing w) (disconnect_refusal w.near.station.phase) w (after_step c w w.back w.met [] step) (as_it_was w) (λ _. (quiet_goes w.near step refl refl, refl))
 acts_hands hands_up c Probe w =
     let step = timer_step c w.near.station in
-    nothing_if (is_up w.near.station.phase) w (after_step c w w.back w.met [] step) (quiet_goes w.near step (timer_packet c w.near.station) (timer_up c w.near.station), refl)
+    if_by (HandsNothing w) (is_up w.near.station.phase) w (after_step c w w.back w.met [] step) (as_it_was w) (λ _. (quiet_goes w.near step (timer_packet c w.near.station) (timer_up c w.near.station), refl))
 acts_hands hands_up c Abandon w =
     let step = abandon_step c w.near.station in
-    nothing_if (is_up w.near.station.phase) w (after_step c w w.back w.met [] step) (quiet_goes w.near step refl refl, refl)
+    if_by (HandsNothing w) (is_up w.near.station.phase) w (after_step c w w.back w.met [] step) (as_it_was w) (λ _. (quiet_goes w.near step refl refl, refl))
 acts_hands hands_up c (Lose i) w = (stays w.near, refl)
-acts_hands hands_up c (Damage i octets) w = nothing_if (is_visible octets) w (record w { back = replaced w.back i octets }) (stays w.near, refl)
+acts_hands hands_up c (Damage i octets) w = if_by (HandsNothing w) (is_visible octets) w (record w { back = replaced w.back i octets }) (as_it_was w) (λ _. (stays w.near, refl))
 
 pub each_hands_in_session : TakeHandsUp → EachEventHandsInSession
 each_hands_in_session hands_up c d (Near act) w = acts_hands hands_up c act w
@@ -142,13 +137,8 @@ number_quiet r f k v s step some tells h = none_is_some f some
 
 -- ---- which sessions meet
 
-met_unless : (o : Option LinkError) (w v : Sessions) → v.met ≡ w.met → (unless o w v).met ≡ w.met
-met_unless (Some e) w v same = refl
-met_unless None w v same = same
-
-met_if : (b : Bool) (w v : Sessions) → v.met ≡ w.met → (if b then v else w).met ≡ w.met
-met_if true w v same = same
-met_if false w v same = refl
+abbrev SameMet : Sessions → Sessions → Type 0
+SameMet w v = v.met ≡ w.met
 
 -- the session that begins has no lists
 afresh : (old new : SessionEnd) → ((n : ℕ) → old.begun < n → (old.down n ≡ []) × (old.up n ≡ [])) → NextBegins old new → BeginsAfresh old new
@@ -216,15 +206,15 @@ module _ (reads : ReadsSpelled) (rests : SessionLaws) (hands_up : TakeHandsUp) w
   acts_meet : (c d : Settings) (near_joined : AreJoined d c) (far_joined : AreJoined c d) (a : Act) (w : Sessions) → Both c d near_joined far_joined w → MeetsOne a (latest w) w.near (acts c a w).near w.met (acts c a w).met
   acts_meet c d near_joined far_joined (Put packet) w h =
       let done = after_step c w w.back w.met (packet ∷ []) (put_step c packet w.near.station) in
-      met_if (nat_le (length packet) c.longest) w (unless (put_refusal w.near.station) w done) (met_unless (put_refusal w.near.station) w done refl)
+      if_by (SameMet w) (nat_le (length packet) c.longest) w (unless (put_refusal w.near.station) w done) refl (λ _. unless_by (SameMet w) (put_refusal w.near.station) w done refl (λ _. refl))
   acts_meet c d near_joined far_joined Deliver w h = deliver_meets c d near_joined far_joined w h w.back refl
-  acts_meet c d near_joined far_joined T1 w h = met_unless (timer_refusal w.near.station) w (after_step c w w.back w.met [] (timer_step c w.near.station)) refl
-  acts_meet c d near_joined far_joined Connect w h = met_unless (connect_refusal w.near.station.phase) w (after_step c w w.back w.met [] (connect_step c w.near.station)) refl
-  acts_meet c d near_joined far_joined Disconnect w h = met_unless (disconnect_refusal w.near.station.phase) w (after_step c w w.back w.met [] (disconnect_step c w.near.station)) refl
-  acts_meet c d near_joined far_joined Abandon w h = met_if (is_up w.near.station.phase) w (after_step c w w.back w.met [] (abandon_step c w.near.station)) refl
-  acts_meet c d near_joined far_joined Probe w h = met_if (is_up w.near.station.phase) w (after_step c w w.back w.met [] (timer_step c w.near.station)) refl
+  acts_meet c d near_joined far_joined T1 w h = unless_by (SameMet w) (timer_refusal w.near.station) w (after_step c w w.back w.met [] (timer_step c w.near.station)) refl (λ _. refl)
+  acts_meet c d near_joined far_joined Connect w h = unless_by (SameMet w) (connect_refusal w.near.station.phase) w (after_step c w w.back w.met [] (connect_step c w.near.station)) refl (λ _. refl)
+  acts_meet c d near_joined far_joined Disconnect w h = unless_by (SameMet w) (disconnect_refusal w.near.station.phase) w (after_step c w w.back w.met [] (disconnect_step c w.near.station)) refl (λ _. refl)
+  acts_meet c d near_joined far_joined Abandon w h = if_by (SameMet w) (is_up w.near.station.phase) w (after_step c w w.back w.met [] (abandon_step c w.near.station)) refl (λ _. refl)
+  acts_meet c d near_joined far_joined Probe w h = if_by (SameMet w) (is_up w.near.station.phase) w (after_step c w w.back w.met [] (timer_step c w.near.station)) refl (λ _. refl)
   acts_meet c d near_joined far_joined (Lose i) w h = refl
-  acts_meet c d near_joined far_joined (Damage i octets) w h = met_if (is_visible octets) w (record w { back = replaced w.back i octets }) refl
+  acts_meet c d near_joined far_joined (Damage i octets) w h = if_by (SameMet w) (is_visible octets) w (record w { back = replaced w.back i octets }) refl (λ _. refl)
 
   -- ---- the other end
 

@@ -7,14 +7,13 @@ use Rattle.x25_link.specs.{declared.error.LinkError.{LinkError}, declared.phase.
 use Rattle.x25_link.specs.{Station.{Settings, is_up}, Hearing.{other}, Link.{put_step, put_refusal, timer_refusal, connect_refusal, disconnect_refusal}}
 use Rattle.x25_line.specs.laws.Stations.{Act, Put, Deliver, T1, Connect, Disconnect, Abandon, Probe, Lose, Damage, Event, Near, Far, is_visible}
 use Rattle.x25_line.specs.laws.StationClaims.{AreJoined, number_in}
-use Rattle.x25_line.specs.laws.Sessions.{Entry, SessionEnd, Meeting, Sessions, turned, swapped, sabm_in, ua_in, disc_in, how_many, after_step, unless, heard, delivered, replaced, acts, happens, run, from_nothing, from_set_up, IsTimely, IsTimelyAt, AreTimely}
+use Rattle.x25_line.specs.laws.Sessions.{Entry, SessionEnd, Meeting, Sessions, turned, swapped, sabm_in, ua_in, disc_in, how_many, after_step, unless, heard, delivered, acts, happens, run, from_nothing, from_set_up, IsTimely, IsTimelyAt, AreTimely}
 use Rattle.x25_line.specs.{laws.SessionClaims.{Throughout}, laws.LawsBelow.{SessionLaws}, laws.Peer.{Peer, fresh_peer}}
 use Rattle.x25_line.specs.laws.PeerSessions.{Out, Asking, PeerEnd, PeerSessions, is_in, both_ends, with_peer, with_now, begins, stands, AllAskedIn, IsFree, IsReached, goes_on}
 use Rattle.x25_line.specs.laws.SessionPeers.{IsPeer, AreBothPeers}
-use Rattle.x25_line.proofs.{StationRuns.{joined_swapped}, sessions.SessionLines.{Read}, sessions.SessionHeld.{Owes}}
-use Rattle.x25_line.proofs.sessions.EntryLines.{Less, whole, gone, less_removes, less_replaces, asked_fewer}
-use Rattle.x25_line.proofs.{sessions.SessionMay.{stand_of, sends_read, hears_read, heard_in, MayDo}, ends.Meetings.{twice_turned}}
-use Rattle.x25_line.proofs.{sessions.SessionSeen.{UpFacts, Seen, start_seen}, sessions.PeerSessionRuns.{lines}}
+use Rattle.x25_line.proofs.{StationRuns.{joined_swapped}, sessions.SessionLines.{Read}, sessions.SessionHeld.{Owes}, sessions.EntryLines.{asked_fewer}}
+use Rattle.x25_line.proofs.{sessions.Acts.{Stays, Anything, acts_still}, sessions.SessionMay.{stand_of, sends_read, hears_read, heard_in, MayDo}}
+use Rattle.x25_line.proofs.{ends.Meetings.{twice_turned}, sessions.SessionSeen.{UpFacts, Seen, start_seen}, sessions.PeerSessionRuns.{lines}}
 use Rattle.x25_line.specs.laws.Peer as once
 use Rattle.x25_line.specs.laws.PeerSessions as sessions
 use Rattle.x25_line.proofs.sessions.SessionSeenSteps as own
@@ -133,38 +132,6 @@ alike c p Probe w = alike_if p (is_up w.near.station.phase) w _ (both_ends (with
 alike c p (Lose i) w = refl
 alike c p (Damage i octets) w = alike_if p (is_visible octets) w _ (both_ends (with_peer p w)) _ refl refl
 
--- it stays as it was, and something is taken off the line to the end that acts, or nothing
-record Still (w v : Sessions) : Type 0 where
-  pub far : v.far ≡ w.far
-  pub less : Less w.back v.back
-
-still_unless : (o : Option LinkError) (w v : Sessions) → Still w v → Still w (unless o w v)
-still_unless (Some e) w v h = record { far = refl; less = whole w.back }
-still_unless None w v h = h
-
-still_if : (b : Bool) (w v : Sessions) → Still w v → Still w (if b then v else w)
-still_if true w v h = h
-still_if false w v h = record { far = refl; less = whole w.back }
-
-still_delivered : (c : Settings) (w : Sessions) (es : List Entry) → w.back ≡ es → Still w (delivered c es w)
-still_delivered c w [] is = record { far = refl; less = whole w.back }
-still_delivered c w (e ∷ es) is = record { far = refl; less = subst (λ (xs : List Entry). Less xs es) (sym is) (gone e es) }
-
-acts_still : (c : Settings) (a : Act) (w : Sessions) → Still w (acts c a w)
-acts_still c (Put packet) w = still_if (nat_le (length packet) c.longest) w _ (still_unless (put_refusal w.near.station) w (after_step c w w.back w.met (packet ∷ []) (put_step c packet w.near.station)) (record { far = refl; less = whole w.back }))
-acts_still c Deliver w = still_delivered c w w.back refl
-acts_still c T1 w = still_unless (timer_refusal w.near.station) w _ (record { far = refl; less = whole w.back })
-acts_still c Connect w = still_unless (connect_refusal w.near.station.phase) w _ (record { far = refl; less = whole w.back })
-acts_still c Disconnect w = still_unless (disconnect_refusal w.near.station.phase) w _ (record { far = refl; less = whole w.back })
-acts_still c Abandon w = still_if (is_up w.near.station.phase) w _ (record { far = refl; less = whole w.back })
-acts_still c Probe w = still_if (is_up w.near.station.phase) w _ (record { far = refl; less = whole w.back })
-acts_still c (Lose i) w = record { far = refl; less = less_removes w.back i }
-acts_still c (Damage i octets) w = by (is_visible octets) refl
-  where
-    by : (b : Bool) → is_visible octets ≡ b → Still w (if b then record w { back = replaced w.back i octets } else w)
-    by true visible = record { far = refl; less = less_replaces octets visible w.back i }
-    by false hidden = record { far = refl; less = whole w.back }
-
 -- a station, with settings d, as a peer of the other end of these sessions
 abbrev pub SeenAt : (c d : Settings) → AreJoined c d → Sessions → Type 0
 SeenAt c d joined w = Seen d (IsPeerOf c d joined w.far) w
@@ -197,7 +164,7 @@ module _ (c d : Settings) (joined : AreJoined c d) (reads : ReadsSpelled) (rests
       v : Sessions
       v = acts c a w
 
-      still : Still w v
+      still : Stays Anything w v
       still = acts_still c a w
 
       p : PeerEnd

@@ -17,6 +17,7 @@ use Rattle.x25_line.proofs.{StationSends.{within_push}, StationSteps.{no_packet_
 use Rattle.x25_line.proofs.{sessions.SessionLines.{Read}, sessions.SessionHeld.{Owes}, sessions.SessionMay.{hears_read, IsClear, MayAsk, MayDo}}
 use Rattle.x25_line.proofs.sessions.SessionSeen.{Seen, build_quiet, stays_seen, reached_in, unchanged, changed}
 use Rattle.x25_line.proofs.sessions.SessionSeenActs.{put_none, put_asks, put_closes, sets_up_seen, up_seen, out_seen, answer_seen, waiting_seen}
+use Rattle.x25_line.proofs.sessions.Acts.{unless_by, if_by}
 use Rattle.x25_link.specs.declared.error.LinkError.TheVariants as error
 
 -- the UA that is awaited, or none such
@@ -61,14 +62,6 @@ module _ (d : Settings) (high : d.window ≤ 7) (reads : ReadsSpelled) (rests : 
   abbrev pub IsTimely : Act → Sessions → Type 0
   IsTimely T1 w = w.near.station.phase ≡ Waiting → IsOver w
   IsTimely act w = Unit {0}
-
-  seen_unless : (o : Option LinkError) (w v : Sessions) → S w → (o ≡ None → S v) → S (unless o w v)
-  seen_unless (Some e) w v h g = h
-  seen_unless None w v h g = g refl
-
-  seen_if : (b : Bool) (w v : Sessions) → S w → (b ≡ true → S v) → S (if b then v else w)
-  seen_if true w v h g = g refl
-  seen_if false w v h g = h
 
   put_seen : (w : Sessions) (h : S w) (packet : List ℕ) → length packet ≤ d.longest → is_up w.near.station.phase ≡ true → S (after_step d w w.back w.met (packet ∷ []) (put_step d packet w.near.station))
   put_seen w h packet short up =
@@ -136,8 +129,8 @@ module _ (d : Settings) (high : d.window ≤ 7) (reads : ReadsSpelled) (rests : 
       done = after_step d w w.back w.met [] (timer_step d w.near.station)
 
       by : (p : Phase) → w.near.station.phase ≡ p → S (unless (timer_refusal w.near.station) w done)
-      by Waiting is = seen_unless (timer_refusal w.near.station) w done h (λ _. timer_waiting w h is (timely is) owes)
-      by Up is = seen_unless (timer_refusal w.near.station) w done h (λ _. timer_up w h (ap is_up is))
+      by Waiting is = unless_by S (timer_refusal w.near.station) w done h (λ _. timer_waiting w h is (timely is) owes)
+      by Up is = unless_by S (timer_refusal w.near.station) w done h (λ _. timer_up w h (ap is_up is))
       by phase is = rw (ap (λ (p : Phase). timer_runs p w.near.station) is) h
 
   connect_seen : (w : Sessions) (h : S w) → w.near.station.phase ≡ Down → OwesAt w → S (after_step d w w.back w.met [] (connect_step d w.near.station))
@@ -220,17 +213,17 @@ module _ (d : Settings) (high : d.window ≤ 7) (reads : ReadsSpelled) (rests : 
   pub station_acts : (a : Act) (w : Sessions) → IsTimely a w → OwesAt w → S w → S (acts d a w)
   station_acts (Put packet) w timely owes h =
       let done = after_step d w w.back w.met (packet ∷ []) (put_step d packet w.near.station) in
-      seen_if (nat_le (length packet) d.longest) w (unless (put_refusal w.near.station) w done) h
-      (λ short. seen_unless (put_refusal w.near.station) w done h (λ accepted. put_seen w h packet (leb-true _ _ short) (put_accepted w.near.station accepted)))
+      if_by S (nat_le (length packet) d.longest) w (unless (put_refusal w.near.station) w done) h
+      (λ short. unless_by S (put_refusal w.near.station) w done h (λ accepted. put_seen w h packet (leb-true _ _ short) (put_accepted w.near.station accepted)))
   station_acts Deliver w timely owes h = deliver_seen w h owes w.back refl
   station_acts T1 w timely owes h = timer_seen w h timely owes
   station_acts Connect w timely owes h =
-      seen_unless (connect_refusal w.near.station.phase) w (after_step d w w.back w.met [] (connect_step d w.near.station)) h (λ accepted. connect_seen w h (connects_from w.near.station.phase accepted) owes)
+      unless_by S (connect_refusal w.near.station.phase) w (after_step d w w.back w.met [] (connect_step d w.near.station)) h (λ accepted. connect_seen w h (connects_from w.near.station.phase accepted) owes)
   station_acts Disconnect w timely owes h =
-      seen_unless (disconnect_refusal w.near.station.phase) w (after_step d w w.back w.met [] (disconnect_step d w.near.station)) h (λ accepted. disconnect_seen w h accepted)
-  station_acts Abandon w timely owes h = seen_if (is_up w.near.station.phase) w (after_step d w w.back w.met [] (abandon_step d w.near.station)) h (λ up. abandon_seen w h up)
-  station_acts Probe w timely owes h = seen_if (is_up w.near.station.phase) w (after_step d w w.back w.met [] (timer_step d w.near.station)) h (λ up. timer_up w h up)
+      unless_by S (disconnect_refusal w.near.station.phase) w (after_step d w w.back w.met [] (disconnect_step d w.near.station)) h (λ accepted. disconnect_seen w h accepted)
+  station_acts Abandon w timely owes h = if_by S (is_up w.near.station.phase) w (after_step d w w.back w.met [] (abandon_step d w.near.station)) h (λ up. abandon_seen w h up)
+  station_acts Probe w timely owes h = if_by S (is_up w.near.station.phase) w (after_step d w w.back w.met [] (timer_step d w.near.station)) h (λ up. timer_up w h up)
   station_acts (Lose i) w timely owes h = line_seen w h (remove w.back i) (does.loses w.back w.met w.near.station.phase w.near.begun h.all w.out i h.reached)
   station_acts (Damage i octets) w timely owes h =
-      seen_if (is_visible octets) w (record w { back = replaced w.back i octets }) h (λ visible. line_seen w h (replaced w.back i octets)
+      if_by S (is_visible octets) w (record w { back = replaced w.back i octets }) h (λ visible. line_seen w h (replaced w.back i octets)
       (does.damages w.back w.met w.near.station.phase w.near.begun h.all w.out i octets visible h.reached))

@@ -49,7 +49,7 @@ live_lists c e p v os down step is h =
 
 -- ---- what stands behind
 
-whole_behind : (n1 : ℕ) (given : List (List ℕ)) (xs ys : List PlainFrame) → AreWhole n1 given (xs ++ ys) → AreWhole n1 given ys
+pub whole_behind : (n1 : ℕ) (given : List (List ℕ)) (xs ys : List PlainFrame) → AreWhole n1 given (xs ++ ys) → AreWhole n1 given ys
 whole_behind n1 given [] ys h = h
 whole_behind n1 given (f ∷ xs) ys h = whole_behind n1 given xs ys h.1
 

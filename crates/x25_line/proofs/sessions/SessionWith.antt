@@ -4,7 +4,6 @@ use Rattle.x25_bits.specs.declared.role.Role.{Role}
 use Rattle.x25_frame.specs.{Frame.{PlainFrame, info, rr, rnr, rej, sabm, disc, ua, dm, frmr}, Reading.{frame_of}}
 use Rattle.x25_link.specs.{declared.phase.Phase.{Phase}, declared.phase.Phase.TheVariants.{Down, Waiting, Up}, Station.{Settings}, Hearing.{other}}
 use Rattle.x25_link.specs.laws.SetUp.{TakesPart}
-use Rattle.x25_line.specs.{laws.StationClaims.{number_in}, laws.Said.{Else, Odd as OddSaid, said}}
 use Rattle.x25_line.specs.{laws.Sessions.{Entry, Meeting, sabm_in, ua_in, disc_in, how_many, replaced}, laws.Peer.{Peer, MaySay}}
 use Rattle.x25_line.specs.{laws.PeerSessions.{Stand, Out, Asking, In, PeerEnd, put_for, AllAskedIn}, laws.PeerSessionClaims.{frmr_in}}
 use Rattle.x25_line.specs.laws.Ends.{Letter, letter, free, asks, closes, leaves, hears, takes_ua, takes_sabm, waits_on, takes_disc, loses, damages, Ends, with_near, is_handed, sends, listens, moves, IsReached, near_does}
@@ -14,6 +13,7 @@ use Rattle.x25_line.proofs.sessions.EntryLines.{Less, whole, gone, hurt, deeper,
 use Rattle.x25_line.proofs.sessions.Letters.{heard_said, letters, letters_push, letters_removed, letters_replaced, sabms, uas, discs, asked_letters, letters_asked}
 use Rattle.x25_line.proofs.sessions.SessionMay.{stand_of, sends_read, hears_read, entry, heard_in, MayAsk, MayDo}
 use Rattle.x25_line.proofs.ends.Sessions.{reached_all, ua_present, valid}
+use Rattle.x25_line.specs.{laws.StationClaims.{number_in}, laws.Said.{Else, Odd as OddSaid, said}}
 
 number_frmr : (r : Read) (f : PlainFrame) → number_in r ≡ Some f → frmr_in r ≡ 0
 number_frmr (Ok (frmr g why)) f is = none_is_some f is

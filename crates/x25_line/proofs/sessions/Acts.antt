@@ -1,0 +1,63 @@
+-- What each act leaves: of its end what each step of a station keeps, the other end as it was, and of the line to it all but one entry at most.
+use Rattle.std.proofs.Common.{◌≡◌, ℕ, ◌≤◌, List, [], ◌∷◌, length, Bool, true, false, if◌then◌else◌, Option, Some, None, refl, sym, subst}
+use Rattle.std.proofs.lemmas.Bool.{leb-true}
+use Rattle.std.specs.Prelude.{nat_le}
+use Rattle.x25_link.specs.{declared.error.LinkError.{LinkError}, Station.{Settings, LinkStation, is_up}}
+use Rattle.x25_link.specs.Link.{take_step, put_step, timer_step, connect_step, disconnect_step, abandon_step, put_refusal, timer_refusal, connect_refusal, disconnect_refusal}
+use Rattle.x25_line.specs.laws.Stations.{Act, Put, Deliver, T1, Connect, Disconnect, Abandon, Probe, Lose, Damage, is_visible}
+use Rattle.x25_line.specs.laws.Sessions.{Entry, Sessions, unless, delivered, acts}
+use Rattle.x25_line.proofs.sessions.EntryLines.{Less, whole, gone, less_removes, less_replaces}
+
+-- an act that is refused changes nothing
+pub unless_by : (Q : Sessions → Type 0) (o : Option LinkError) (w v : Sessions) → Q w → (o ≡ None → Q v) → Q (unless o w v)
+unless_by Q (Some e) w v h k = h
+unless_by Q None w v h k = k refl
+
+pub if_by : (Q : Sessions → Type 0) (b : Bool) (w v : Sessions) → Q w → (b ≡ true → Q v) → Q (if b then v else w)
+if_by Q true w v h k = k refl
+if_by Q false w v h k = h
+
+pub record Keeps (c : Settings) (P : LinkStation → Type 0) : Type 0 where
+  pub takes : (o : List ℕ) (s : LinkStation) → P s → P (take_step c o s).side.near
+  pub puts : (packet : List ℕ) (s : LinkStation) → length packet ≤ c.longest → P s → P (put_step c packet s).side.near
+  pub fires : (s : LinkStation) → P s → P (timer_step c s).side.near
+  pub connects : (s : LinkStation) → P s → P (connect_step c s).side.near
+  pub disconnects : (s : LinkStation) → P s → P (disconnect_step c s).side.near
+  pub abandons : (s : LinkStation) → P s → P (abandon_step c s).side.near
+
+pub record Stays (P : LinkStation → Type 0) (w v : Sessions) : Type 0 where
+  pub near : P v.near.station
+  pub far : v.far ≡ w.far
+  pub less : Less w.back v.back
+
+module _ (c : Settings) (P : LinkStation → Type 0) (keeps : Keeps c P) (w : Sessions) (h : P w.near.station) where
+  abbrev s : LinkStation
+  s = w.near.station
+
+  as_it_was : Stays P w w
+  as_it_was = record { near = h; far = refl; less = whole w.back }
+
+  delivered_stays : (es : List Entry) → w.back ≡ es → Stays P w (delivered c es w)
+  delivered_stays [] is = as_it_was
+  delivered_stays (e ∷ es) is = record { near = keeps.takes e.octets s h; far = refl; less = subst (λ (xs : List Entry). Less xs es) (sym is) (gone e es) }
+
+  pub act_stays : (a : Act) → Stays P w (acts c a w)
+  act_stays (Put packet) =
+      if_by (Stays P w) (nat_le (length packet) c.longest) w _ as_it_was
+      (λ short. unless_by (Stays P w) (put_refusal s) w _ as_it_was (λ _. record { near = keeps.puts packet s (leb-true _ _ short) h; far = refl; less = whole w.back }))
+  act_stays Deliver = delivered_stays w.back refl
+  act_stays T1 = unless_by (Stays P w) (timer_refusal s) w _ as_it_was (λ _. record { near = keeps.fires s h; far = refl; less = whole w.back })
+  act_stays Connect = unless_by (Stays P w) (connect_refusal s.phase) w _ as_it_was (λ _. record { near = keeps.connects s h; far = refl; less = whole w.back })
+  act_stays Disconnect = unless_by (Stays P w) (disconnect_refusal s.phase) w _ as_it_was (λ _. record { near = keeps.disconnects s h; far = refl; less = whole w.back })
+  act_stays Abandon = if_by (Stays P w) (is_up s.phase) w _ as_it_was (λ _. record { near = keeps.abandons s h; far = refl; less = whole w.back })
+  act_stays Probe = if_by (Stays P w) (is_up s.phase) w _ as_it_was (λ _. record { near = keeps.fires s h; far = refl; less = whole w.back })
+  act_stays (Lose i) = record { near = h; far = refl; less = less_removes w.back i }
+  act_stays (Damage i octets) = if_by (Stays P w) (is_visible octets) w _ as_it_was (λ visible. record { near = h; far = refl; less = less_replaces octets visible w.back i })
+
+-- where nothing is asked of the station
+abbrev pub Anything : LinkStation → Type 0
+Anything s = Unit {0}
+
+pub acts_still : (c : Settings) (a : Act) (w : Sessions) → Stays Anything w (acts c a w)
+acts_still c a w =
+    act_stays c Anything (record { takes = λ _ _ _. tt; puts = λ _ _ _ _. tt; fires = λ _ _. tt; connects = λ _ _. tt; disconnects = λ _ _. tt; abandons = λ _ _. tt }) w tt a
