@@ -379,7 +379,7 @@ static void take(end_t *end)
     size_t frames = x25_frames(&end->station), entries = x25_entries(&end->station), passed = 0, i = 0, count = 0;
     x25_event event;
     size_t all = 0;
-    if (frames > 24 * came || entries > 3 * came)
+    if (frames > 17 * came || entries > 3 * came)
         fail("many frames or entries", (uint32_t)(frames * 100 + entries));
     for (; x25_take(&end->station, i, &event, NULL, 0); i++) {
         uint8_t *taken = room(1, event.count), *told;
