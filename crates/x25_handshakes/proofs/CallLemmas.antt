@@ -1,21 +1,39 @@
--- Calls keep their relation, and have no procedure error.
-use Rattle.std.proofs.Common.{◌≡◌, List, [], ◌∷◌, ◌++◌, refl, sym, subst}
-use Rattle.x25_bits.specs.declared.role.Role.TheVariants.{Dte, Dce}
-use Rattle.x25_circuit.specs.Params.{Terms}
-use Rattle.x25_circuit.specs.Notice.{CallRequest}
+-- Two circuits in p4 and their calls keep their relation, and have no procedure error.
+use Rattle.std.proofs.Common.{List, [], ◌≡◌, ◌∷◌, ◌++◌, refl, sym, subst}
 use Rattle.x25_handshakes.specs.laws.Handshake.{At}
+use Rattle.x25_circuit.specs.Params.{Terms}
+use Rattle.x25_handshakes.proofs.TermsLemmas.{IsSound}
 use Rattle.x25_handshakes.specs.laws.Stretch.{Packet, Stretch, fresh}
 use Rattle.x25_handshakes.specs.laws.Transfer.{fresh_transfer, transfer_takes, transfer_acts}
+use Rattle.x25_handshakes.proofs.HandshakeLemmas.{hand_flip, hand_map}
+use Rattle.x25_handshakes.proofs.StretchRelation.{StretchesRelated}
+use Rattle.x25_handshakes.proofs.TransferRelation.{reset_mark, stretch_level, TransfersRelated}
+use Rattle.x25_handshakes.proofs.StretchLemmas.{StretchesRelated-flip, StretchesRelated-fresh, GoodStretch-acts, GoodStretch-takes}
+use Rattle.x25_handshakes.proofs.OwnTransferLemmas.{OwnStretches}
+use Rattle.x25_bits.specs.declared.role.Role.TheVariants.{Dte, Dce}
+use Rattle.x25_circuit.specs.Notice.{CallRequest}
 use Rattle.x25_handshakes.specs.laws.Calls.{Phase, Unused, Waiting, Connection, call_takes, CallAct, call_acts, fresh_call}
 use Rattle.x25_handshakes.specs.laws.LawsBelow.{Laws}
-use Rattle.x25_handshakes.proofs.TermsLemmas.{IsSound}
-use Rattle.x25_handshakes.proofs.TransferRelation.{TransfersRelated}
-use Rattle.x25_handshakes.proofs.StretchRelation.{StretchesRelated}
 use Rattle.x25_handshakes.proofs.CallsRelation.{TalksRelated, stage_of, Joint, GoodCall, IsCalled}
 use Rattle.x25_handshakes.proofs.ChannelRelation.{Seen}
 use Rattle.x25_bits.specs.declared.role.Role.{Role}
-use Rattle.x25_handshakes.proofs.TransferLemmas.{TransfersRelated-flip, own_stretches}
 use Rattle.x25_handshakes.proofs.OwnCallLemmas.{own_dte_talks, DteTalks, DceTalks, dte_takes, dte_acts, dce_takes, dce_acts}
+
+pub TransfersRelated-flip : (t b : Terms) (x : At Stretch) (L K : List Packet) (y : At Stretch) → TransfersRelated t b x L K y → TransfersRelated b t y K L x
+TransfersRelated-flip t b x L K y h = record {
+  hand = hand_flip (record { mark = reset_mark; fresh = fresh; fresh_there = fresh; gone = λ x. Unit {0}; gone_there = λ x. Unit {0}; related = λ x u v y. StretchesRelated b t y v u x }) x.epoch y.epoch x.side y.side L K
+      (hand_map (stretch_level t b) (λ x u v y. StretchesRelated b t y v u x) (λ x u v y r. StretchesRelated-flip t b x u v y r) x.epoch y.epoch x.side y.side L K h.hand);
+  there = h.back;
+  back = h.there;
+}
+
+pub own_stretches : (t b : Terms) → IsSound t → IsSound b → OwnStretches (StretchesRelated t b) fresh t b.size
+own_stretches t b st sb = record {
+  empty = StretchesRelated-fresh t b;
+  kinds = λ x u v y h. h.there.line.kinds;
+  acts = λ x u v y a h. GoodStretch-acts t b st sb x u v y a h;
+  takes = λ x u p v y h. GoodStretch-takes t b sb x u p v y h;
+}
 
 -- two ends in p4
 

@@ -13,7 +13,6 @@ pub mod PartLemmas
 pub mod ToldLemmas
 pub mod StretchLemmas
 pub mod OwnTransferLemmas
-pub mod TransferLemmas
 pub mod OwnCallLemmas
 pub mod JointLemmas
 pub mod CallLemmas
