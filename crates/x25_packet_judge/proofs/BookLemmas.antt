@@ -1,29 +1,13 @@
 -- What a packet makes of a book, and what is told of it.
-use Rattle.std.proofs.Common.{◌≡◌, ◌∙◌, ℕ, Bool, true, false, Some, None, refl, sym, ap, arith}
+use Rattle.x25_packet_judge.proofs.Names.{◌≡◌, ◌∙◌, ℕ, Bool, true, false, Some, None, refl, sym, ap, arith, ◌%◌, ◌==◌, ◌&&◌, ◌||◌, not, if◌then◌else◌, unwrap_or, Role, Dte, Dce, PlainPacket, is_of_all, is_restart, any_channel, rule_of, sent, Channels, all_happens, channel_of, put, item_of, Book, Channel, RestartAwaited, asked_of, awaits, behind_item, end_of, is_quiet, refuses, seen_by, set_of, BooksFollowTapes, is_known, sends_to, Packet, Elsewhere, Set, Nothing}
 use Rattle.std.proofs.lemmas.Bool.Decides.{nat_tests}
-use Rattle.std.specs.Prelude.{◌%◌, ◌==◌, ◌&&◌, ◌||◌, not, if◌then◌else◌, slice_index_or, unwrap_or}
-use Rattle.x25_bits.specs.declared.role.Role.{Role}
-use Rattle.x25_bits.specs.declared.role.Role.TheVariants.{Dte, Dce}
-use Rattle.x25_packet.specs.Packet.{PlainPacket}
-use Rattle.x25_packet_judge.specs.Book as book
-use Rattle.x25_packet_judge.specs.Book.{is_of_all, is_restart}
-use Rattle.x25_packet_judge.specs.Channel as channels
-use Rattle.x25_packet_judge.specs.Channel.{any_channel, rule_of, sent}
-use Rattle.x25_packet_judge.specs.Channels.{Channels, all_happens, channel_of, put}
-use Rattle.x25_packet_judge.specs.Item.{item_of}
-use Rattle.x25_packet_judge.specs.declared.book.Book.{Book}
+use Rattle.std.specs.Prelude.{slice_index_or}
 use Rattle.x25_packet_judge.specs.declared.book.Verdict.{Verdict}
-use Rattle.x25_packet_judge.specs.declared.channel.Channel.{Channel}
 use Rattle.x25_packet_judge.specs.declared.channel.Event.TheVariants.{Sends}
-use Rattle.x25_packet_judge.specs.declared.packet_rule.PacketRule.TheVariants.{RestartAwaited}
-use Rattle.x25_packet_judge.specs.laws.BookClaims.{asked_of, awaits, behind_item, end_of, is_quiet, refuses, seen_by, set_of, BooksFollowTapes}
 use Rattle.x25_packet_judge.proofs.ChannelsLemmas.{happens_on, put_other, put_same}
 use Rattle.x25_packet_judge.proofs.TellingLemmas.{ends_move, judged_ends, judged_is, judged_rule, neither}
-use Rattle.x25_possible.specs.code.Steps.{is_known, sends_to}
-use Rattle.x25_possible.specs.declared.packet.Packet.{Packet}
-use Rattle.x25_possible.specs.declared.packet.Packet.TheVariants.{Elsewhere}
-use Rattle.x25_possible.specs.declared.set.Set.{Set}
-use Rattle.x25_possible.specs.declared.set.Told.TheVariants.{Nothing}
+use Rattle.x25_packet_judge.specs.Book as book
+use Rattle.x25_packet_judge.specs.Channel as channels
 
 -- which packet it is
 pub is_channels : (from : Role) (of : ℕ) (packet : PlainPacket) (b : Book) → is_of_all packet ≡ false

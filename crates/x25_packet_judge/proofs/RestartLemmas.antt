@@ -1,19 +1,8 @@
 -- Behind a set-up of the link, a RESTART and its confirmation.
-use Rattle.std.proofs.Common.{◌≡◌, ◌∙◌, ℕ, true, false, refl, ap}
-use Rattle.std.proofs.lemmas.Bool.{both_ways}
-use Rattle.x25_bits.specs.declared.role.Role.{Role}
-use Rattle.x25_bits.specs.declared.role.Role.TheVariants.{Dte, Dce}
-use Rattle.x25_packet.specs.Packet.{restart, restart_conf}
-use Rattle.x25_packet_judge.specs.Book as book
-use Rattle.x25_packet_judge.specs.Channel.{begun_channel, ready_channel}
-use Rattle.x25_packet_judge.specs.Channels.{all_alike, channel_of}
-use Rattle.x25_packet_judge.specs.Item.{item_of}
-use Rattle.x25_packet_judge.specs.declared.book.Book.{Book}
+use Rattle.x25_packet_judge.proofs.Names.{◌≡◌, ◌∙◌, ℕ, true, false, refl, ap, both_ways, Role, Dte, Dce, restart, restart_conf, begun_channel, ready_channel, all_alike, channel_of, item_of, Book, begins_with, behind_item, end_of, is_its, is_quiet, seen_by, set_of, RestartsBegin, behind, Restart, RestartConf}
 use Rattle.x25_packet_judge.specs.declared.layers.Layers.{Layers}
-use Rattle.x25_packet_judge.specs.laws.BookClaims.{begins_with, behind_item, end_of, is_its, is_quiet, seen_by, set_of, RestartsBegin}
 use Rattle.x25_packet_judge.proofs.BookLemmas.{books_follow_tapes, restarts_of_all, sends_first}
-use Rattle.x25_possible.specs.code.Steps.{behind}
-use Rattle.x25_possible.specs.declared.packet.Packet.TheVariants.{Restart, RestartConf}
+use Rattle.x25_packet_judge.specs.Book as book
 
 module _ (t : Layers) (b : Book) where
   up_channels : (r : Role) → (book.begins r t b).channels ≡ all_alike ready_channel

@@ -1,31 +1,13 @@
 -- What is told of a packet, by the set of its sender.
-use Rattle.std.proofs.Common.{◌≡◌, ◌∙◌, ℕ, Bool, true, false, Option, Some, None, refl, sym, ap}
-use Rattle.std.proofs.lemmas.Bool.{both_ways, cond_both}
-use Rattle.std.specs.Prelude.{◌-◌, ◌%◌, ◌==◌, is_some, not, ◌&&◌, ◌||◌, if◌then◌else◌, nat_lt, nat_le, unwrap_or}
-use Rattle.x25_bits.specs.declared.role.Role.{Role}
-use Rattle.x25_bits.specs.declared.role.Role.TheVariants.{Dte, Dce}
-use Rattle.x25_packet_judge.specs.Channel as channels
-use Rattle.x25_packet_judge.specs.Channel.{rule_of, sent}
+use Rattle.x25_packet_judge.proofs.Names.{◌≡◌, ◌∙◌, ℕ, Bool, true, false, Option, Some, None, refl, sym, ap, both_ways, cond_both, ◌-◌, ◌%◌, ◌==◌, is_some, not, ◌&&◌, ◌||◌, if◌then◌else◌, nat_lt, nat_le, unwrap_or, Role, Dte, Dce, rule_of, sent, is_of_manners, is_order, Channel, ClearAwaited, NoCall, PacketUnsent, ResetAwaited, RestartAwaited, end_of, is_manners, seen_by, behind_item, IsBroken, IsRude, IsUntold, begun, is_known, sends_to, shows_to, Packet, Data, Rr, Rnr, Elsewhere, Set, Told, Nothing, Rude, Broken}
 use Rattle.x25_packet_judge.specs.Numbers.{apart}
-use Rattle.x25_packet_judge.specs.PacketRule.{is_of_manners, is_order}
-use Rattle.x25_packet_judge.specs.Reason as reason
-use Rattle.x25_packet_judge.specs.declared.channel.Channel.{Channel}
 use Rattle.x25_packet_judge.specs.declared.channel.Finding.{Finding}
 use Rattle.x25_packet_judge.specs.declared.packet_rule.PacketRule.{PacketRule}
-use Rattle.x25_packet_judge.specs.declared.packet_rule.PacketRule.TheVariants.{ClearAwaited, NoCall, PacketUnsent, ResetAwaited, RestartAwaited}
-use Rattle.x25_packet_judge.specs.laws.BookClaims.{end_of, is_manners, seen_by, behind_item}
-use Rattle.x25_possible.specs.laws.Sets.{IsBroken, IsRude, IsUntold}
-use Rattle.x25_possible.specs.code.Steps.{begun, is_known, sends_to, shows_to}
-use Rattle.x25_possible.specs.declared.packet.Packet.{Packet}
-use Rattle.x25_possible.specs.declared.packet.Packet.TheVariants.{Data, Rr, Rnr}
-use Rattle.x25_possible.specs.declared.packet.Packet.TheVariants.{Elsewhere}
 use Rattle.x25_possible.specs.declared.phase.Phase.{Phase}
-use Rattle.x25_possible.specs.declared.phase.Phase.TheVariants.{Talks, Resets}
-use Rattle.x25_possible.specs.declared.phase.Phase.TheVariants.{Clears, Restarts}
+use Rattle.x25_possible.specs.declared.phase.Phase.TheVariants.{Talks, Resets, Clears, Restarts}
 use Rattle.x25_possible.specs.declared.phase.Talk.{Talk}
-use Rattle.x25_possible.specs.declared.set.Set.{Set}
-use Rattle.x25_possible.specs.declared.set.Told.{Told}
-use Rattle.x25_possible.specs.declared.set.Told.TheVariants.{Nothing, Rude, Broken}
+use Rattle.x25_packet_judge.specs.Channel as channels
+use Rattle.x25_packet_judge.specs.Reason as reason
 
 -- ---- reasons are of order, manners are not
 

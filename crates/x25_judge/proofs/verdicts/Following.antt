@@ -161,6 +161,10 @@ counts p q end frame d may same = absurd may
 
 -- ---- what it sends
 
+pub owed_first : (s : Stand) → IsIn fresh (link.owed s Sabm)
+owed_first Out = inl refl
+owed_first s = inl refl
+
 -- where it stands before it sends this, once it has taken what it answers
 pub record Says (set : LinkSet) (x : Frame) (stand : session.Stand) (p : Peer) (way : Way) : Type 0 where
   pub state : State
@@ -194,27 +198,18 @@ module _ (set : LinkSet) where
   owes_disc s b y (inr h) = subst (λ z. IsIn Out (link.owed s z)) (sym h) (any s)
     where
       any : (s : Stand) → IsIn Out (link.asked s)
-      any Out = inr (inl refl)
       any Asking = inr (inr (inl refl))
-      any (Up k) = inr (inl refl)
       any Free = inr (inr (inl refl))
+      any s = inr (inl refl)
 
   owes_fresh : (s : Stand) (b : Bool) (y : Frame) → IsSeen y (sabm b) → IsIn fresh (link.owed s y)
   unfolding shown
-  owes_fresh s b y (inl h) = subst (λ z. IsIn fresh (link.owed s z)) (sym h.1) (one s)
-    where
-      one : (s : Stand) → IsIn fresh (link.owed s Sabm)
-      one Out = inl refl
-      one Asking = inl refl
-      one (Up k) = inl refl
-      one Free = inl refl
+  owes_fresh s b y (inl h) = subst (λ z. IsIn fresh (link.owed s z)) (sym h.1) (owed_first s)
   owes_fresh s b y (inr h) = subst (λ z. IsIn fresh (link.owed s z)) (sym h) (any s)
     where
       any : (s : Stand) → IsIn fresh (link.asked s)
       any Out = inl refl
-      any Asking = inl refl
-      any (Up k) = inl refl
-      any Free = inl refl
+      any s = inl refl
 
   owes_waits : (b : Bool) (y : Frame) → IsSeen y (sabm b) → IsIn Asking (link.owed Asking y)
   unfolding shown

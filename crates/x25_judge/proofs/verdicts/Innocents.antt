@@ -9,7 +9,7 @@ use Rattle.x25_line.specs.laws.Said.{said as read_as}
 use Rattle.x25_possible_links.proofs.Covers.{Covers, Here, Asked, Later, Begins}
 use Rattle.x25_judge.proofs.verdicts.Lines.{goes, past, told_of_order}
 use Rattle.x25_judge.proofs.verdicts.Manners.{minds_fair}
-use Rattle.x25_judge.proofs.verdicts.Octets.{HasSent, HasRoom, IsHeld, begun_held, each_room, held_less, held_more, keeps_room, not_each, pushed_held, same_octets, sent_held}
+use Rattle.x25_judge.proofs.verdicts.Octets.{HasSent, HasRoom, IsHeld, begun_held, each_room, held_less, held_more, keeps_room, pushed_held, same_octets, sent_held}
 use Rattle.x25_judge.proofs.verdicts.Following.{heard_keeps, IsPart, IsSame, IsSeen, Means, Says, front, means_on, means_same, numbers_of, says, stand_of}
 use Rattle.x25_line.specs.laws.Peer as peer
 use Rattle.x25_line.specs.laws.PeerSessions as session
@@ -274,7 +274,7 @@ lost_counted qs held p q (info ns nr pf packet) may at is =
     go : ((may.0 ≡ p.sent) ⊎ (may.0 ≡ p.sent → ⊥)) → IsHeld (forgets_each qs held) p.given (max p.sent (may.0 + 1))
     go (inl e) =
         subst (λ m. IsHeld (forgets_each qs held) p.given m) (more may.0 p.sent e)
-        (held_more qs held p.given p.sent is (not_each p.sent qs at.0 held is.marks at.1 at.2))
+        (held_more qs held p.given p.sent is at)
     go (inr ne) =
         subst (λ m. IsHeld (forgets_each qs held) p.given m) (same may.0 p.sent may.3 ne) (held_less qs held p.given p.sent is)
 lost_counted qs held p q (rr command nr pf) may at is =
@@ -319,7 +319,7 @@ module _ {set : LinkSet} {held : Held} {stand : session.Stand} {p : Peer} {way :
           means = said.means;
           room = room;
           octets = next_held held (keeps held frame) stand next p q way rest frame (λ is may was. counted_held held p q frame may was)
-              (begun_held (keeps held frame) [] room.octets room.known) may h.octets;
+              (begun_held (keeps held frame) [] room) may h.octets;
         }
 
   garbled : (next : session.Stand) (q : Peer) (rest : Way) (state : State) (end : List Frame)
@@ -343,7 +343,7 @@ module _ {set : LinkSet} {held : Held} {stand : session.Stand} {p : Peer} {way :
       (next_held held (forgets_each set.spots.items held) stand next p q way rest frame
       (λ is may was. lost_counted set.spots.items held p q frame may
       (up_has_sent set (numbers_of p) h.end (subst (λ s. Has set (At (stand_of s p)) h.end) is h.has)) was)
-      (begun_held (forgets_each set.spots.items held) [] room.octets room.known) may h.octets)
+      (begun_held (forgets_each set.spots.items held) [] room) may h.octets)
 
   noise_on : Follows (sends_to Unread set).set (forgets_each set.spots.items held) stand p way
   noise_on = garbled stand p way (At (stand_of stand p)) h.end (link.was_none (stand_of stand p) h.end) h.has h.means (less stand h.octets)
@@ -419,7 +419,7 @@ module _ {set : LinkSet} {held : Held} {p : Peer} {way : Way} where
         has = accepted_has set p g.rest g.first f g.is g.has;
         means = g.means;
         room = h.room;
-        octets = begun_held held [] h.room.octets h.room.known;
+        octets = begun_held held [] h.room;
       }
 
 -- ---- what a line makes of the ends
@@ -503,7 +503,7 @@ begun from j h =
       has = (q, h.up.1, stays_at q.stand way fresh fresh [] (below_self fresh) (comes_to way q.stand h.up.2));
       means = tt;
       room = record { octets = h.octets; known = h.known };
-      octets = begun_held (own_of from j).held [] h.octets h.known;
+      octets = begun_held (own_of from j).held [] (record { octets = h.octets; known = h.known });
     }
 
 at_first : Follows unknown none_held session.Out fresh_peer []

@@ -23,6 +23,9 @@ comes_behind from p way q left out frame (freed r octets l o none d) = freed q o
 
 -- ---- its front octets come to the trace
 
+not_some : (octets : List ℕ) (out : List (List ℕ)) → octets ∷ out ≡ [] → ⊥
+not_some octets out e = cc
+
 no_more : (out : List (List ℕ)) (octets : List ℕ) → out ++ octets ∷ [] ≡ [] → ⊥
 no_more [] octets e = cc
 no_more (o ∷ out) octets e = cc
@@ -45,6 +48,10 @@ pub record Front (from : Role) (j : Judge) (way : Way) (q : Peer) (left : Way) (
   pub sends : MaySend before frame after
   pub did : Did from after on_way q left rest
   pub few : length on_way ≤ length way
+
+then_did : {from : Role} {j : Judge} {way : Way} {q r : Peer} {left now : Way} {frame : PlainFrame} {rest more : List (List ℕ)}
+    → (f : Front from j way q left frame rest) → Did from f.after f.on_way r now more → Front from j way r now frame more
+then_did f d = record { before = f.before; after = f.after; on_way = f.on_way; may = f.may; sends = f.sends; did = d; few = f.few }
 
 -- what is left is no more than there was
 did_fewer : (from : Role) (p : Peer) (way : Way) (q : Peer) (left : Way) (out : List (List ℕ)) → Did from p way q left out → length left ≤ length way
@@ -73,19 +80,10 @@ ok_is f g r e h = cc
 
 module _ (from : Role) (j : Judge) (p : Peer) (way : Way) (octets : List ℕ) (frame : PlainFrame) (reads : frame_of from n1 octets ≡ Ok frame) (is : IsNumbered frame) (may : MayStand from j In p way) where
   pub front : (q : Peer) (left : Way) (out rest : List (List ℕ)) → out ≡ octets ∷ rest → Did from p way q left out → Front from j way q left frame rest
-  front q left out rest e did_nothing = absurd (never e)
-    where
-      never : [] ≡ octets ∷ rest → ⊥
-      never x = cc
-  front q left out rest e (was_given r l o packet d) =
-      let f = front r left out rest e d in
-      record { before = f.before; after = f.after; on_way = f.on_way; may = f.may; sends = f.sends; did = was_given r left rest packet f.did; few = f.few }
-  front q left out rest e (heard r s g l o hears d) =
-      let f = front r (Some g ∷ left) out rest e d in
-      record { before = f.before; after = f.after; on_way = f.on_way; may = f.may; sends = f.sends; did = heard r q g left rest hears f.did; few = f.few }
-  front q left out rest e (faded r l o d) =
-      let f = front q (None ∷ left) out rest e d in
-      record { before = f.before; after = f.after; on_way = f.on_way; may = f.may; sends = f.sends; did = faded q left rest f.did; few = f.few }
+  front q left out rest e did_nothing = absurd (not_some octets rest (sym e))
+  front q left out rest e (was_given r l o packet d) = let f = front r left out rest e d in then_did f (was_given r left rest packet f.did)
+  front q left out rest e (heard r s g l o hears d) = let f = front r (Some g ∷ left) out rest e d in then_did f (heard r q g left rest hears f.did)
+  front q left out rest e (faded r l o d) = let f = front q (None ∷ left) out rest e d in then_did f (faded q left rest f.did)
   front q left all rest e (said r s g last l o read sends d) = go o (λ more is. front r left o more is d) d e
     where
       go : (out : List (List ℕ)) → ((more : List (List ℕ)) → out ≡ octets ∷ more → Front from j way r left frame more) → Did from p way r left out → out ++ last ∷ [] ≡ octets ∷ rest → Front from j way q left frame rest
@@ -102,30 +100,14 @@ module _ (from : Role) (j : Judge) (p : Peer) (way : Way) (octets : List ℕ) (f
           }
       go (x ∷ out) before d e =
           let f = before out (ap (λ (y : List ℕ). y ∷ out) (first_is x octets (out ++ last ∷ []) rest e)) in
-          record {
-            before = f.before;
-            after = f.after;
-            on_way = f.on_way;
-            may = f.may;
-            sends = f.sends;
-            did = subst (λ (y : List (List ℕ)). Did from f.after f.on_way q left y) (others_are x octets (out ++ last ∷ []) rest e) (said r q g last left out read sends f.did);
-            few = f.few;
-          }
+          then_did f (subst (λ (y : List (List ℕ)). Did from f.after f.on_way q left y) (others_are x octets (out ++ last ∷ []) rest e) (said r q g last left out read sends f.did))
   front q left all rest e (freed r last l o none d) = go o (λ more is. front q left o more is d) e
     where
       go : (out : List (List ℕ)) → ((more : List (List ℕ)) → out ≡ octets ∷ more → Front from j way q left frame more) → out ++ last ∷ [] ≡ octets ∷ rest → Front from j way q left frame rest
       go [] before e = absurd (none_numbered frame is (ap number_in (sym reads) ∙ ap (λ (x : List ℕ). number_in (frame_of from n1 x)) (sym (first_is last octets [] rest e)) ∙ none))
       go (x ∷ out) before e =
           let f = before out (ap (λ (y : List ℕ). y ∷ out) (first_is x octets (out ++ last ∷ []) rest e)) in
-          record {
-            before = f.before;
-            after = f.after;
-            on_way = f.on_way;
-            may = f.may;
-            sends = f.sends;
-            did = subst (λ (y : List (List ℕ)). Did from f.after f.on_way q left y) (others_are x octets (out ++ last ∷ []) rest e) (freed q last left out none f.did);
-            few = f.few;
-          }
+          then_did f (subst (λ (y : List (List ℕ)). Did from f.after f.on_way q left y) (others_are x octets (out ++ last ∷ []) rest e) (freed q last left out none f.did))
 
 -- ---- the octets on the line to it
 
@@ -200,10 +182,7 @@ pub record Taken (from : Role) (p : Peer) (way : Way) (q : Peer) (octets : List 
 
 pub taken : (from : Role) (p q : Peer) (way left : Way) (octets : List ℕ) (all back out : List (List ℕ)) → all ≡ octets ∷ back → OnLine (other from) left all → Did from p way q left out
     → Taken from p way q octets back out
-taken from p q way left octets all back out e empty d = absurd (never e)
-  where
-    never : [] ≡ octets ∷ back → ⊥
-    never x = cc
+taken from p q way left octets all back out e empty d = absurd (not_some octets back (sym e))
 taken from p q way left octets all back out e (lost None l b h) d = taken from p q way l octets all back out e h (faded q l out d)
 taken from p q way left octets all back out e (lost (Some f) l b h) d = taken from p q way l octets all back out e h (heard q q f l out (passes q (Ok f)) d)
 taken from p q way left octets all back out e (there f l o b is h) d = record {
@@ -224,11 +203,5 @@ pub all_lost : (from end : Role) (j : Judge) (p : Peer) (left : Way) (back : Lis
 all_lost from end j p left back none empty may = may
 all_lost from end j p left back none (lost None l b h) may = all_lost from end j p l back none h (sessions.Passes j In p None l may)
 all_lost from end j p left back none (lost (Some f) l b h) may = all_lost from end j p l back none h (sessions.Passes j In p (Some f) l may)
-all_lost from end j p left all none (there f l octets back reads h) may = absurd (some none)
-  where
-    some : octets ∷ back ≡ [] → ⊥
-    some e = cc
-all_lost from end j p left all none (damaged l octets back e reads h) may = absurd (some none)
-  where
-    some : octets ∷ back ≡ [] → ⊥
-    some e = cc
+all_lost from end j p left all none (there f l octets back reads h) may = absurd (not_some octets back none)
+all_lost from end j p left all none (damaged l octets back e reads h) may = absurd (not_some octets back none)

@@ -21,7 +21,6 @@ answered j line from octets frame shows =
 pub record Goes (j k : Judge) (from : Role) (t : Both) : Type 0 where
   pub own : own_of from k ≡ t.own
   pub opposite : own_of (other from) k ≡ t.other
-  pub window : k.window ≡ j.window
 
 on_any : (from : Role) (channel : Option ℕ) (is_judged : Bool) (j : Judge) (P : Judge → Type 0)
     → ((c : ℕ) → P (counts_packet from c is_judged j)) → P (counts_on from channel is_judged j)
@@ -38,10 +37,10 @@ pub next_goes : (from : Role) (j : Judge) (frame : PlainFrame) (t : Both) (s : b
     → Goes j (tallies in_doubt rule (next_by from frame t s j)) from t
 next_goes Dte j frame t s in_doubt rule =
     carried_any Dte frame t.seen.is_again s.verdict.is_judged _ (λ k. Goes j (tallies in_doubt rule k) Dte t)
-    (record { own = refl; opposite = refl; window = refl }) (λ c. record { own = refl; opposite = refl; window = refl })
+    (record { own = refl; opposite = refl }) (λ c. record { own = refl; opposite = refl })
 next_goes Dce j frame t s in_doubt rule =
     carried_any Dce frame t.seen.is_again s.verdict.is_judged _ (λ k. Goes j (tallies in_doubt rule k) Dce t)
-    (record { own = refl; opposite = refl; window = refl }) (λ c. record { own = refl; opposite = refl; window = refl })
+    (record { own = refl; opposite = refl }) (λ c. record { own = refl; opposite = refl })
 
 pub goes : (j : Judge) (line : List ℕ) (from : Role) (octets : List ℕ) (frame : PlainFrame) → Shows line from octets frame
     → Goes j (answer_to j line).next from (seen_by j from frame)
@@ -56,12 +55,11 @@ goes j line from octets frame shows =
 pub record Past (j k : Judge) (from : Role) : Type 0 where
   pub own : own_of from k ≡ (missed_by j from).own
   pub opposite : own_of (other from) k ≡ (missed_by j from).other
-  pub window : k.window ≡ j.window
 
 next_past : (from : Role) (e : FrameError) (in_doubt : Bool) (j : Judge)
     → Past j (tallies in_doubt (no_frame e) (next_missed from e (missed_by j from) j)) from
-next_past Dte e in_doubt j = record { own = refl; opposite = refl; window = refl }
-next_past Dce e in_doubt j = record { own = refl; opposite = refl; window = refl }
+next_past Dte e in_doubt j = record { own = refl; opposite = refl }
+next_past Dce e in_doubt j = record { own = refl; opposite = refl }
 
 pub past : (j : Judge) (line : List ℕ) (from : Role) (octets : List ℕ) → IsDamaged line from octets → Past j (answer_to j line).next from
 unfolding answer_to

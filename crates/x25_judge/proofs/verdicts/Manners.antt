@@ -19,7 +19,7 @@ either false x y h g = g
 
 -- ---- manners alone
 
-small_window : (window : ℕ) → nat_lt window 7 ≡ true → nat_le 7 window ≡ false
+pub small_window : (window : ℕ) → nat_lt window 7 ≡ true → nat_le 7 window ≡ false
 small_window window h = go (nat_le 7 window) refl
   where
     none : window < 7 → 7 ≤ window → ⊥

@@ -1,7 +1,8 @@
 -- What counts as judged is told of: an N(S), and F=1.
-use Rattle.x25_judge.proofs.verdicts.Names.{◌≡◌, ◌==◌, inl, inr, ℕ, ◌≤◌, arith, Bool, true, false, List, Option, Some, None, refl, sym, ap, ◌∙◌, subst, eq-eqb, le-leb, nat_le, nat_lt, ◌&&◌, ◌||◌, not, is_some, eqb-true, and_parts, and_cases, or_cases, or_parts, both_ways, cond_both, Role, PlainFrame, info, rr, rnr, rej, dm, frmr, differs, all_told, book_by, other_of, own_of, seen_by, first, is_of_manners, Judge, End, Minding, Sent, Manners, Minded, PollAgain, SentAgain, Rule, Packet, Repeats, is_final, is_up, rule_of, IsOutOfPlace, JudgedFinalsAreTold, JudgedSendingsAreTold, PacketRule, Frame, Info, LinkSet, Told, Broken, Nothing, Numbers, Stand, Up}
+use Rattle.x25_judge.proofs.verdicts.Names.{◌≡◌, ◌==◌, inl, inr, ℕ, ◌≤◌, arith, Bool, true, false, List, Option, Some, None, refl, sym, ap, ◌∙◌, subst, eq-eqb, le-leb, nat_le, nat_lt, ◌&&◌, ◌||◌, not, is_some, eqb-true, and_parts, and_cases, or_cases, or_parts, both_ways, cond_both, Role, PlainFrame, info, rr, rnr, rej, dm, frmr, differs, all_told, book_by, other_of, own_of, seen_by, first, is_of_manners, Judge, End, Minding, Sent, Manners, Minded, Rule, Packet, Repeats, is_final, is_up, rule_of, IsOutOfPlace, JudgedFinalsAreTold, JudgedSendingsAreTold, PacketRule, Frame, Info, LinkSet, Told, Broken, Nothing, Numbers, Stand, Up}
 use Rattle.x25_judge.specs.declared.rule.Rule.TheVariants.{Skips}
 use Rattle.x25_possible_links.specs.declared.set.Told.TheVariants.{Skips as SkipsOf}
+use Rattle.x25_judge.specs.declared.note.Note.TheVariants.{PollAgain, SentAgain}
 use Rattle.std.proofs.lemmas.Bool.Decides.{nat_tests}
 use Rattle.x25_judge.specs.declared.manners.Place.{Place}
 use Rattle.x25_judge.proofs.verdicts.Manners.{minds_has}

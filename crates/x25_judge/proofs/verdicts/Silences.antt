@@ -47,7 +47,7 @@ begun_knows j from b room = record {
   sees = room;
   within = λ q is. fits_new (come (own_of from j).set q) (b.new q is);
   all = refl;
-  octets = begun_held (own_of from j).held [] b.octets b.known;
+  octets = begun_held (own_of from j).held [] (record { octets = b.octets; known = b.known });
   known = λ n lt near. absurd (never n lt);
 }
   where
@@ -197,7 +197,7 @@ module _ (set : LinkSet) (h : Held) (p : Peer) (e : Knows set h p) where
                   (sent_is n p.sent is_it.up_to) (now_within y tt room told);
               all = all;
               octets = sent_held h now p.sent n ns nr pf packet is_it.number is_it.up_to is_it.near fits same held;
-              known = sent_known h p.sent n ns nr pf packet is_it.number is_it.up_to fits e.octets.marks e.known;
+              known = sent_known h p.sent n ns nr pf packet is_it.number is_it.up_to fits e.octets.room.known e.known;
             };
           }
 

@@ -53,28 +53,18 @@ module _ (c : Settings) (longest : c.longest ≡ n1) (j : Judge) (since : ℕ) w
   sends before p q way left out octets (Err BadAddress) read may next within d = subst (λ (z : Peer). Did c.role before way z left (out ++ octets ∷ [])) (sym may) (freed p octets left out (ap number_in read) d)
   sends before p q way left out octets (Err e) read may next within d = absurd may.0
 
+  goes_on : {os is : List (List ℕ)} {p q : Peer} {out now : List (List ℕ)} → (h : OnTrace os p out)
+      → Did c.role h.before h.way q h.left now → OnLine (other c.role) h.left is → AllWithin c.longest q.given → OnTrace is q now
+  goes_on h did line within =
+      record { before = h.before; way = h.way; may = h.may; left = h.left; did = did; line = line; within = within; few = h.few }
+
   trace_may : MayDo c ⊥ OnTrace
   trace_may = record {
-    handed = λ os p out packet short h. record {
-      before = h.before;
-      way = h.way;
-      may = h.may;
-      left = h.left;
-      did = was_given p h.left out packet h.did;
-      line = h.line;
-      within = within_push c.longest p.given packet h.within short;
-      few = h.few;
-    };
-    sends = λ os p q out octets may next h. record {
-      before = h.before;
-      way = h.way;
-      may = h.may;
-      left = h.left;
-      did = sends h.before p q h.way h.left out octets (frame_of c.role n1 octets) refl (subst (λ (n : ℕ). once.MaySend ⊥ p (frame_of c.role n octets) q) longest may) next h.within h.did;
-      line = h.line;
-      within = subst (AllWithin c.longest) (sym (same_given p q (read_as (frame_of c.role c.longest octets)) may)) h.within;
-      few = h.few;
-    };
+    handed = λ os p out packet short h.
+        goes_on h (was_given p h.left out packet h.did) h.line (within_push c.longest p.given packet h.within short);
+    sends = λ os p q out octets may next h.
+        goes_on h (sends h.before p q h.way h.left out octets (frame_of c.role n1 octets) refl (subst (λ (n : ℕ). once.MaySend ⊥ p (frame_of c.role n octets) q) longest may) next h.within h.did)
+        h.line (subst (AllWithin c.longest) (sym (same_given p q (read_as (frame_of c.role c.longest octets)) may)) h.within);
     hears = λ o os p q out may h.
         (let t = taken c.role h.before p h.way h.left o (o ∷ os) os out refl h.line h.did in
         record {
@@ -87,17 +77,8 @@ module _ (c : Settings) (longest : c.longest ≡ n1) (j : Judge) (since : ℕ) w
           within = heard_keeps (λ given sent. AllWithin c.longest given) p q (read_as (frame_of (other c.role) c.longest o)) may h.within;
           few = h.few;
         });
-    loses = λ os p out i h. record { before = h.before; way = h.way; may = h.may; left = h.left; did = h.did; line = one_lost (other c.role) h.left os i h.line; within = h.within; few = h.few };
-    damages = λ os p out i octets visible h. record {
-      before = h.before;
-      way = h.way;
-      may = h.may;
-      left = h.left;
-      did = h.did;
-      line = one_damaged (other c.role) h.left os i octets visible h.line;
-      within = h.within;
-      few = h.few;
-    };
+    loses = λ os p out i h. goes_on h h.did (one_lost (other c.role) h.left os i h.line) h.within;
+    damages = λ os p out i octets visible h. goes_on h h.did (one_damaged (other c.role) h.left os i octets visible h.line) h.within;
     faultless = λ o os p out ending h never. never;
   }
 
