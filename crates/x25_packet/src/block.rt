@@ -4,15 +4,12 @@ ghost use Rattle.x25_packet.specs.Block.{AreAddresses, called_in, calling_in, ho
 ghost use Rattle.x25_packet.specs.Block.{plain_fields};
 ghost use Rattle.x25_packet.specs.Block.{plain_optional};
 ghost use Rattle.x25_packet.specs.Narrowing.{called_taken, calling_taken, digits_behind};
-ghost use Rattle.x25_packet.specs.WideReading.{Gives, addressed, block_of, field_read, fields_of, is_over, no_fields};
-ghost use Rattle.x25_packet.specs.WideReading.{optional_block};
+ghost use Rattle.x25_packet.specs.WideReading.{Gives, addressed, block_of, fields_of, optional_block};
 
 use crate::digits::{Digits, hold_digits};
 use crate::error::PacketError;
-use crate::facilities::Facilities;
 use crate::halves::Halves;
 use crate::wide_facilities::are_facilities;
-use crate::wide_packet::Forms;
 
 /// The most octets of a facility field, section 7.1.
 const FIELD_OCTETS: usize = 109;
@@ -37,61 +34,23 @@ pub struct Block<'a> {
     pub fields: Option<Fields<'a>>,
 }
 
-fn no_fields<'a>(forms: Forms) -> Result<Option<Fields<'a>>, PacketError>
-    ensures { Gives plain_fields result (no_fields forms) }
-{
-    match forms {
-        Forms::Written => Err(PacketError::TooShort),
-        Forms::Any => Ok(None),
-    }
-}
-
-/// Whether a facility field is longer than any.
-fn is_over(forms: Forms, size: usize) -> bool
-    ensures { result ≡ is_over forms size }
-{
-    match forms {
-        Forms::Written => false,
-        Forms::Any => size > FIELD_OCTETS,
-    }
-}
-
-fn read_field(forms: Forms, field: &[u8]) -> Result<(), PacketError>
-    ensures { result ≡ field_read forms field.now }
-{
-    match forms {
-        Forms::Written => {
-            Facilities::of(field)?;
-            Ok(())
-        }
-        Forms::Any => {
-            if !are_facilities(field) {
-                return Err(PacketError::BadParameter);
-            }
-            Ok(())
-        }
-    }
-}
-
-fn read_fields<'a>(
-    forms: Forms,
-    most: usize,
-    octets: &'a [u8],
-) -> Result<Option<Fields<'a>>, PacketError>
-    ensures { Gives plain_fields result (fields_of forms most octets.now) }
+fn read_fields<'a>(most: usize, octets: &'a [u8]) -> Result<Option<Fields<'a>>, PacketError>
+    ensures { Gives plain_fields result (fields_of most octets.now) }
 {
     let [size, rest @ ..] = octets else {
-        return no_fields(forms);
+        return Ok(None);
     };
     let size = usize::from(*size);
-    if is_over(forms, size) {
+    if size > FIELD_OCTETS {
         return Err(PacketError::TooLong);
     }
     if rest.len() < size {
         return Err(PacketError::TooShort);
     }
     let (facilities, user) = rest.split_at(size);
-    read_field(forms, facilities)?;
+    if !are_facilities(facilities) {
+        return Err(PacketError::BadParameter);
+    }
     if user.len() > most {
         return Err(PacketError::TooLong);
     }
@@ -114,14 +73,13 @@ fn hold_addresses(a: bool, count: usize, octets: &[u8]) -> bool
 
 /// What stands behind the lengths of the addresses.
 fn read_addresses<'a>(
-    forms: Forms,
     a: bool,
     most: usize,
     called: u8,
     calling: u8,
     octets: &'a [u8],
 ) -> Result<Block<'a>, PacketError>
-    ensures { Gives plain_block result (addressed forms a most called calling octets.now) }
+    ensures { Gives plain_block result (addressed a most called calling octets.now) }
 {
     let count = usize::from(called) + usize::from(calling);
     let size = (count + 1) / 2;
@@ -132,7 +90,7 @@ fn read_addresses<'a>(
     if !hold_addresses(a, count, addresses) {
         return Err(PacketError::BadDigit);
     }
-    let fields = read_fields(forms, most, rest)?;
+    let fields = read_fields(most, rest)?;
     Ok(Block {
         called,
         calling,
@@ -143,38 +101,36 @@ fn read_addresses<'a>(
 
 /// A block with at most `most` octets of user data, in the format that the A bit says.
 pub(crate) fn read_block<'a>(
-    forms: Forms,
     a: bool,
     most: usize,
     octets: &'a [u8],
 ) -> Result<Block<'a>, PacketError>
-    ensures { Gives plain_block result (block_of forms a most octets.now) }
+    ensures { Gives plain_block result (block_of a most octets.now) }
 {
     if a {
         let [called, calling, octets @ ..] = octets else {
             return Err(PacketError::TooShort);
         };
-        return read_addresses(forms, true, most, *called, *calling, octets);
+        return read_addresses(true, most, *called, *calling, octets);
     }
     let [lengths, octets @ ..] = octets else {
         return Err(PacketError::TooShort);
     };
-    read_addresses(forms, false, most, *lengths % 16, *lengths / 16, octets)
+    read_addresses(false, most, *lengths % 16, *lengths / 16, octets)
 }
 
 /// A block where there are octets.
 pub(crate) fn read_optional_block<'a>(
-    forms: Forms,
     a: bool,
     most: usize,
     octets: &'a [u8],
 ) -> Result<Option<Block<'a>>, PacketError>
-    ensures { Gives plain_optional result (optional_block forms a most octets.now) }
+    ensures { Gives plain_optional result (optional_block a most octets.now) }
 {
     if octets.is_empty() {
         return Ok(None);
     }
-    let block = read_block(forms, a, most, octets)?;
+    let block = read_block(a, most, octets)?;
     Ok(Some(block))
 }
 

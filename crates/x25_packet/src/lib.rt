@@ -6,6 +6,7 @@
 #![tactic(auto)]
 
 mod block;
+mod call;
 pub mod codes;
 mod digits;
 mod error;
@@ -35,6 +36,6 @@ pub use reading::{CALL_OCTETS, LONG_CALL_OCTETS, channel, decode_within, longest
 pub use spelling::encode;
 pub use taking::{read, take};
 pub use wide_facilities::{Own, are_facilities, own_facilities};
-pub use wide_packet::{Forms, Kind, WidePacket};
+pub use wide_packet::{Kind, WidePacket};
 pub use wide_reading::{FAST_SELECT_OCTETS, decode};
 pub use x25_bits::{NoMemory, Seq};

@@ -8,7 +8,6 @@ ghost use Rattle.x25_packet.specs.Spelling.{IsInRange};
 ghost use Rattle.x25_packet.specs.WidePacket.{plain, plain_kind};
 ghost use Rattle.x25_packet.specs.WidePacket.Spelling.{IsPacket};
 ghost use Rattle.x25_packet.specs.WideReading.{Gives};
-ghost use Rattle.x25_packet.specs.declared.wide_packet.Forms.TheVariants.{Any};
 
 use crate::block::Fields;
 use crate::error::PacketError;
@@ -146,8 +145,7 @@ pub fn narrow<'a>(packet: &WidePacket<'a>) -> Result<Packet<'a>, PacketError>
     requires { HasAddresses packet.now.bit_8 (plain_kind packet.now.kind) }
     ensures exact { Gives plain_written result (narrow_of (plain packet.now)) }
     // Its fields are in their ranges, so that it can be spelled.
-    ensures range { (most : ℕ) → IsPacket Any most (plain packet.now)
-        → IfOk result (λ p. IsInRange 128 (plain_written p)) }
+    ensures range { (most : ℕ) → IsPacket most (plain packet.now) → IfOk result (λ p. IsInRange 128 (plain_written p)) }
 {
     let field = field_in(packet)?;
     with_field(packet, field)

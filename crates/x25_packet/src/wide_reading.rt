@@ -1,21 +1,19 @@
 //! Packets read from their octets.
-ghost use Rattle.std.specs.Prelude.{◌≡◌, IfOk, IsOkAnd};
-ghost use Rattle.x25_packet.specs.Block.{plain_fields};
-ghost use Rattle.x25_packet.specs.Narrowing.{HasAddresses};
+ghost use Rattle.std.specs.Prelude.{◌≡◌, ◌/◌, ◌%◌, ◌==◌, ◌&&◌, IfOk, IsOkAnd};
 ghost use Rattle.x25_packet.specs.WidePacket.{PlainWide, plain, plain_kind};
+ghost use Rattle.x25_packet.specs.WideReading.{Gives, bare, channelled, clear_of, data_of, diagnostic_of, has_format};
+ghost use Rattle.x25_packet.specs.WideReading.{interrupt_of, is_short, kind_of, named, reason_of, unchannelled};
+ghost use Rattle.x25_packet.specs.WideReading.{wide_of};
+ghost use Rattle.x25_packet.specs.WideReading.{called, block_of, registered};
+ghost use Rattle.x25_packet.specs.Block.{plain_block, plain_fields};
+ghost use Rattle.x25_packet.specs.Narrowing.{HasAddresses};
 ghost use Rattle.x25_packet.specs.WidePacket.Spelling.{Spells, may_have};
-ghost use Rattle.x25_packet.specs.WideReading.{Gives, accept_of, answer_most, answer_read, bare, call_of, cause_alone};
-ghost use Rattle.x25_packet.specs.WideReading.{channelled, clear_conf_of, clear_of, data_of, diagnostic_of};
-ghost use Rattle.x25_packet.specs.WideReading.{extended_of, has_format, interrupt_of, is_short, kind_of, named};
-ghost use Rattle.x25_packet.specs.WideReading.{read_of};
-ghost use Rattle.x25_packet.specs.WideReading.{reason_of, registered, rej_of, unchannelled, unwritten, wide_of};
-ghost use Rattle.x25_packet.specs.declared.wide_packet.Forms.TheVariants.{Any};
 
 use crate::block::{Fields, read_block, read_optional_block};
 use crate::codes;
 use crate::error::PacketError;
 use crate::wide_facilities::own_facilities;
-use crate::wide_packet::{Forms, Kind, WidePacket};
+use crate::wide_packet::{Kind, WidePacket};
 use x25_bits::Seq;
 
 /// The most octets of user data in CALL, ACCEPT and CLEAR with fast select, section 6.16.
@@ -59,126 +57,48 @@ fn is_short(most: usize, fields: Option<Fields>) -> bool
     }
 }
 
-fn call<'a>(forms: Forms, a: bool, most: usize, body: &'a [u8]) -> Result<Kind<'a>, PacketError>
-    ensures { Gives plain_kind result (call_of forms a most body.now) }
+fn call<'a>(a: bool, most: usize, body: &'a [u8]) -> Result<Kind<'a>, PacketError>
+    ensures { Gives plain_kind result (called most (block_of a 128 body.now)) }
 {
-    match forms {
-        Forms::Written => {
-            let block = read_block(forms, a, most, body)?;
-            Ok(Kind::Call { block })
-        }
-        Forms::Any => {
-            let block = read_block(forms, a, FAST_SELECT_OCTETS, body)?;
-            if !is_short(most, block.fields) {
-                return Err(PacketError::TooLong);
-            }
-            Ok(Kind::Call { block })
-        }
+    let block = read_block(a, FAST_SELECT_OCTETS, body)?;
+    if !is_short(most, block.fields) {
+        return Err(PacketError::TooLong);
     }
-}
-
-/// What stands first in an ACCEPT: in the form that a station writes address lengths of 0, and facilities.
-fn read_answer(forms: Forms, body: &[u8]) -> Result<(), PacketError>
-    ensures { result ≡ answer_read forms body.now }
-{
-    match forms {
-        Forms::Any => Ok(()),
-        Forms::Written => match body {
-            [0, 0, ..] => Err(PacketError::BadParameter),
-            [] | [0, ..] => Ok(()),
-            _ => Err(PacketError::BadDigit),
-        },
-    }
-}
-
-/// The most octets of user data in an ACCEPT.
-fn answer_most(forms: Forms) -> usize
-    ensures { result ≡ answer_most forms }
-{
-    match forms {
-        Forms::Written => 0,
-        Forms::Any => FAST_SELECT_OCTETS,
-    }
-}
-
-fn accept<'a>(forms: Forms, a: bool, body: &'a [u8]) -> Result<Kind<'a>, PacketError>
-    ensures { Gives plain_kind result (accept_of forms a body.now) }
-{
-    read_answer(forms, body)?;
-    let block = read_optional_block(forms, a, answer_most(forms), body)?;
-    Ok(Kind::Accept { block })
-}
-
-/// A cause alone, which a station doesn't write.
-fn cause_alone(forms: Forms, cause: u8) -> Result<(u8, Option<u8>), PacketError>
-    ensures { result ≡ cause_alone forms cause }
-{
-    match forms {
-        Forms::Written => Err(PacketError::TooShort),
-        Forms::Any => Ok((cause, None)),
-    }
+    Ok(Kind::Call { block })
 }
 
 /// The cause that ends a packet, and the diagnostic that may follow it.
-fn reason(forms: Forms, body: &[u8]) -> Result<(u8, Option<u8>), PacketError>
-    ensures { result ≡ reason_of forms body.now }
+fn reason(body: &[u8]) -> Result<(u8, Option<u8>), PacketError>
+    ensures { result ≡ reason_of body.now }
 {
     match body {
-        [cause] => cause_alone(forms, *cause),
+        [cause] => Ok((*cause, None)),
         [cause, diagnostic] => Ok((*cause, Some(*diagnostic))),
         [] => Err(PacketError::TooShort),
         _ => Err(PacketError::TooLong),
     }
 }
 
-/// What stands behind the diagnostic of a CLEAR.
-fn extended<'a>(
-    forms: Forms,
-    a: bool,
-    cause: u8,
-    diagnostic: u8,
-    octets: &'a [u8],
-) -> Result<Kind<'a>, PacketError>
-    ensures { Gives plain_kind result (extended_of forms a cause diagnostic octets.now) }
-{
-    match forms {
-        Forms::Written => Err(PacketError::TooLong),
-        Forms::Any => {
-            let block = read_block(forms, a, FAST_SELECT_OCTETS, octets)?;
-            Ok(Kind::ExtendedClear {
-                cause,
-                diagnostic,
-                block,
-            })
-        }
-    }
-}
-
-fn clear<'a>(forms: Forms, a: bool, body: &'a [u8]) -> Result<Kind<'a>, PacketError>
-    ensures { Gives plain_kind result (clear_of forms a body.now) }
+fn clear<'a>(a: bool, body: &'a [u8]) -> Result<Kind<'a>, PacketError>
+    ensures { Gives plain_kind result (clear_of a body.now) }
 {
     match body {
         [] => Err(PacketError::TooShort),
-        [cause] => {
-            let (cause, diagnostic) = cause_alone(forms, *cause)?;
-            Ok(Kind::Clear { cause, diagnostic })
-        }
+        [cause] => Ok(Kind::Clear {
+            cause: *cause,
+            diagnostic: None,
+        }),
         [cause, diagnostic] => Ok(Kind::Clear {
             cause: *cause,
             diagnostic: Some(*diagnostic),
         }),
-        [cause, diagnostic, rest @ ..] => extended(forms, a, *cause, *diagnostic, rest),
-    }
-}
-
-fn clear_conf<'a>(forms: Forms, a: bool, body: &'a [u8]) -> Result<Kind<'a>, PacketError>
-    ensures { Gives plain_kind result (clear_conf_of forms a body.now) }
-{
-    match forms {
-        Forms::Written => bare(Kind::ClearConf { block: None }, body),
-        Forms::Any => {
-            let block = read_optional_block(forms, a, 0, body)?;
-            Ok(Kind::ClearConf { block })
+        [cause, diagnostic, rest @ ..] => {
+            let block = read_block(a, FAST_SELECT_OCTETS, rest)?;
+            Ok(Kind::ExtendedClear {
+                cause: *cause,
+                diagnostic: *diagnostic,
+                block,
+            })
         }
     }
 }
@@ -234,11 +154,16 @@ fn registered<'a>(body: &'a [u8]) -> Result<&'a [u8], PacketError>
     Ok(body)
 }
 
-/// A packet of no channel that a station doesn't write.
-fn unwritten<'a>(kind: u8, body: &'a [u8]) -> Result<Kind<'a>, PacketError>
-    ensures { Gives plain_kind result (unwritten kind body.now) }
+/// A packet of no channel.
+fn unchannelled<'a>(kind: u8, body: &'a [u8]) -> Result<Kind<'a>, PacketError>
+    ensures { Gives plain_kind result (unchannelled kind body.now) }
 {
     match kind {
+        codes::RESTART => {
+            let (cause, diagnostic) = reason(body)?;
+            Ok(Kind::Restart { cause, diagnostic })
+        }
+        codes::RESTART_CONF => bare(Kind::RestartConf, body),
         DIAGNOSTIC => diagnostic(body),
         REGISTRATION => {
             let octets = registered(body)?;
@@ -252,42 +177,25 @@ fn unwritten<'a>(kind: u8, body: &'a [u8]) -> Result<Kind<'a>, PacketError>
     }
 }
 
-/// A packet of no channel.
-fn unchannelled<'a>(forms: Forms, kind: u8, body: &'a [u8]) -> Result<Kind<'a>, PacketError>
-    ensures { Gives plain_kind result (unchannelled forms kind body.now) }
-{
-    match kind {
-        codes::RESTART => {
-            let (cause, diagnostic) = reason(forms, body)?;
-            Ok(Kind::Restart { cause, diagnostic })
-        }
-        codes::RESTART_CONF => bare(Kind::RestartConf, body),
-        _ => match forms {
-            Forms::Written => Err(PacketError::Unidentified),
-            Forms::Any => unwritten(kind, body),
-        },
-    }
-}
-
 /// A packet of a channel whose type has no number.
-fn named<'a>(
-    forms: Forms,
-    a: bool,
-    most: usize,
-    kind: u8,
-    body: &'a [u8],
-) -> Result<Kind<'a>, PacketError>
-    ensures { Gives plain_kind result (named forms a most kind body.now) }
+fn named<'a>(a: bool, most: usize, kind: u8, body: &'a [u8]) -> Result<Kind<'a>, PacketError>
+    ensures { Gives plain_kind result (named a most kind body.now) }
 {
     match kind {
-        codes::CALL => call(forms, a, most, body),
-        codes::ACCEPT => accept(forms, a, body),
-        codes::CLEAR => clear(forms, a, body),
-        codes::CLEAR_CONF => clear_conf(forms, a, body),
+        codes::CALL => call(a, most, body),
+        codes::ACCEPT => {
+            let block = read_optional_block(a, FAST_SELECT_OCTETS, body)?;
+            Ok(Kind::Accept { block })
+        }
+        codes::CLEAR => clear(a, body),
+        codes::CLEAR_CONF => {
+            let block = read_optional_block(a, 0, body)?;
+            Ok(Kind::ClearConf { block })
+        }
         codes::INTERRUPT => interrupt(body),
         codes::INTERRUPT_CONF => bare(Kind::InterruptConf, body),
         codes::RESET => {
-            let (cause, diagnostic) = reason(forms, body)?;
+            let (cause, diagnostic) = reason(body)?;
             Ok(Kind::Reset { cause, diagnostic })
         }
         codes::RESET_CONF => bare(Kind::ResetConf, body),
@@ -295,24 +203,9 @@ fn named<'a>(
     }
 }
 
-fn rej<'a>(forms: Forms, pr: Seq, body: &[u8]) -> Result<Kind<'a>, PacketError>
-    ensures { Gives plain_kind result (rej_of forms pr.number body.now) }
-{
-    match forms {
-        Forms::Written => Err(PacketError::Unidentified),
-        Forms::Any => bare(Kind::Rej { pr }, body),
-    }
-}
-
 /// A packet of a channel.
-fn channelled<'a>(
-    forms: Forms,
-    a: bool,
-    most: usize,
-    kind: u8,
-    body: &'a [u8],
-) -> Result<Kind<'a>, PacketError>
-    ensures { Gives plain_kind result (channelled forms a most kind body.now) }
+fn channelled<'a>(a: bool, most: usize, kind: u8, body: &'a [u8]) -> Result<Kind<'a>, PacketError>
+    ensures { Gives plain_kind result (channelled a most kind body.now) }
 {
     if kind % 2 == 0 {
         return data(kind, body);
@@ -321,92 +214,59 @@ fn channelled<'a>(
     match kind % 32 {
         codes::RR => bare(Kind::Rr { pr }, body),
         codes::RNR => bare(Kind::Rnr { pr }, body),
-        REJ => rej(forms, pr, body),
-        _ => named(forms, a, most, kind, body),
+        REJ => bare(Kind::Rej { pr }, body),
+        _ => named(a, most, kind, body),
     }
 }
 
 fn kind<'a>(
-    forms: Forms,
     a: bool,
     most: usize,
     channel: u16,
     kind: u8,
     body: &'a [u8],
 ) -> Result<Kind<'a>, PacketError>
-    ensures { Gives plain_kind result (kind_of forms a most channel kind body.now) }
+    ensures { Gives plain_kind result (kind_of a most channel kind body.now) }
 {
     if channel == 0 {
-        unchannelled(forms, kind, body)
+        unchannelled(kind, body)
     } else {
-        channelled(forms, a, most, kind, body)
-    }
-}
-
-/// Whether a packet of this type may have these bits 7 and 8 in its first octet.
-fn may_have(forms: Forms, bit_8: bool, d: bool, kind: u8) -> bool
-    ensures { result ≡ may_have forms bit_8 d kind }
-{
-    let is_data = kind % 2 == 0;
-    match forms {
-        Forms::Written => (!bit_8 || is_data) && !d,
-        Forms::Any => {
-            let is_call = kind == codes::CALL || kind == codes::ACCEPT;
-            let is_clear = kind == codes::CLEAR || kind == codes::CLEAR_CONF;
-            let may_8 = !bit_8 || is_data || is_call || is_clear;
-            let may_d = !d || is_data || is_call;
-            may_8 && may_d
-        }
+        channelled(a, most, kind, body)
     }
 }
 
 /// Whether the first octet is of a packet modulo 8 with this type.
-fn has_format(forms: Forms, first: u8, kind: u8) -> bool
-    ensures { result ≡ has_format forms first kind }
+fn has_format(first: u8, bit_8: bool, d: bool, kind: u8) -> bool
+    ensures { result ≡ (first / 16 % 4 == 1 && may_have bit_8 d kind) }
 {
-    first / 16 % 4 == 1 && may_have(forms, first / 128 == 1, first / 64 % 2 == 1, kind)
+    let is_data = kind % 2 == 0;
+    let is_call = kind == codes::CALL || kind == codes::ACCEPT;
+    let is_clear = kind == codes::CLEAR || kind == codes::CLEAR_CONF;
+    let may_8 = !bit_8 || is_data || is_call || is_clear;
+    let may_d = !d || is_data || is_call;
+    first / 16 % 4 == 1 && may_8 && may_d
 }
 
-#[tactic(auto, unfolding(crate::specs::WideReading::read_of))]
-fn read_octets<'a>(
-    forms: Forms,
-    most: usize,
-    octets: &'a [u8],
-) -> Result<WidePacket<'a>, PacketError>
-    ensures { Gives plain result (read_of forms most octets.now) }
+#[tactic(auto, unfolding(crate::specs::WideReading::wide_of))]
+fn read<'a>(most: usize, octets: &'a [u8]) -> Result<WidePacket<'a>, PacketError>
+    ensures { Gives plain result (wide_of most octets.now) }
 {
     let [first, second, kind_octet, body @ ..] = octets else {
         return Err(PacketError::TooShort);
     };
-    if !has_format(forms, *first, *kind_octet) {
+    let bit_8 = *first / 128 == 1;
+    let d = *first / 64 % 2 == 1;
+    if !has_format(*first, bit_8, d, *kind_octet) {
         return Err(PacketError::BadFormat);
     }
-    let bit_8 = *first / 128 == 1;
     let channel = u16::from(*first % 16) * 256 + u16::from(*second);
-    let kind = kind(forms, bit_8, most, channel, *kind_octet, body)?;
+    let kind = kind(bit_8, most, channel, *kind_octet, body)?;
     Ok(WidePacket {
         channel,
         bit_8,
-        d: *first / 64 % 2 == 1,
+        d,
         kind,
     })
-}
-
-/// The packet of these forms that the octets spell.
-pub(crate) fn read<'a>(
-    forms: Forms,
-    most: usize,
-    octets: &'a [u8],
-) -> Result<WidePacket<'a>, PacketError>
-    ensures exact { Gives plain result (read_of forms most octets.now) }
-    // What is read is spelled so.
-    ensures found { IfOk result (λ w. Spells forms most (plain w) octets.now) }
-    // What is spelled so is read.
-    ensures only { (v : PlainWide) → Spells forms most v octets.now → IsOkAnd result (λ w. plain w ≡ v) }
-    // So that `narrow` takes it.
-    ensures addresses { IfOk result (λ w. HasAddresses w.bit_8 (plain_kind w.kind)) }
-{
-    read_octets(forms, most, octets)
 }
 
 /// The packet that the octets spell, with at most `most` octets of user data in a CALL without fast select.
@@ -418,11 +278,11 @@ pub(crate) fn read<'a>(
 pub fn decode<'a>(most: usize, octets: &'a [u8]) -> Result<WidePacket<'a>, PacketError>
     ensures exact { Gives plain result (wide_of most octets.now) }
     // What is read is spelled so.
-    ensures found { IfOk result (λ w. Spells Any most (plain w) octets.now) }
+    ensures found { IfOk result (λ w. Spells most (plain w) octets.now) }
     // What is spelled so is read.
-    ensures only { (v : PlainWide) → Spells Any most v octets.now → IsOkAnd result (λ w. plain w ≡ v) }
+    ensures only { (v : PlainWide) → Spells most v octets.now → IsOkAnd result (λ w. plain w ≡ v) }
     // So that `narrow` takes it.
     ensures addresses { IfOk result (λ w. HasAddresses w.bit_8 (plain_kind w.kind)) }
 {
-    read(Forms::Any, most, octets)
+    read(most, octets)
 }
