@@ -20,6 +20,7 @@ use Rattle.x25_packet.specs.WideReading.{wide_of}
 use Rattle.x25_packet.specs.Taking.{taken_in, or_taken}
 use Rattle.x25_packet.specs.laws.NarrowLaw.{ReadsAlike}
 use Rattle.x25_packet.specs.laws.TakingLaw.{TakesWhatIsSpelled}
+use Rattle.x25_packet.specs.declared.wide_packet.Forms.TheVariants.{Any}
 use Rattle.x25_packet.proofs.AgainLaws.{only_found}
 use Rattle.x25_packet.proofs.FacilityLemmas.{own_stepped}
 use Rattle.x25_given.specs.Given.{PlainGiven}
@@ -184,22 +185,22 @@ says_still field b (f, allowed, e) is = subst (λ (xs : List ℕ). SaysStill xs 
 -- the octets spell a packet, which is taken for v
 record Taken (most : ℕ) (b : PlainGiven) (v : strict.PlainPacket) : Type 0 where
   pub wide : PlainWide
-  pub packet : IsPacket most wide
+  pub packet : IsPacket Any most wide
   pub spelling : written b v ≡ spelling_of wide
   pub taken : narrow_of wide ≡ Ok v
 
 taken_as : (most : ℕ) (b : PlainGiven) (v : strict.PlainPacket) → Taken most b v → taken_of (wide_of most (written b v)) ≡ Ok v
-taken_as most b v t = ap taken_of (only_found most (written b v) t.wide (record { packet = t.packet; spelling = t.spelling })) ∙ t.taken
+taken_as most b v t = ap taken_of (only_found Any most (written b v) t.wide (record { packet = t.packet; spelling = t.spelling })) ∙ t.taken
 
 no_digits : hold_digits 0 [] ≡ true
 unfolding halves_of
 no_digits = refl
 
-call_marks : (d : Bool) → may_have false d 11 ≡ true
+call_marks : (d : Bool) → may_have Any false d 11 ≡ true
 call_marks true = refl
 call_marks false = refl
 
-accept_marks : (d : Bool) → may_have false d 15 ≡ true
+accept_marks : (d : Bool) → may_have Any false d 15 ≡ true
 accept_marks true = refl
 accept_marks false = refl
 
@@ -300,7 +301,7 @@ written_is_read spelled alike b most strict.restart_conf within allowed h may sm
 -- ---- and read in the form in which it was written
 
 found_as : (most : ℕ) (b : PlainGiven) (v : strict.PlainPacket) (w : PlainWide) → (t : Taken most b v) → Some t.wide ≡ Some w → wide_of most (written b v) ≡ Ok w
-found_as most b v w t is = only_found most (written b v) t.wide (record { packet = t.packet; spelling = t.spelling }) ∙ ap (λ (x : PlainWide). Ok x) (same_Some t.wide w is)
+found_as most b v w t is = only_found Any most (written b v) t.wide (record { packet = t.packet; spelling = t.spelling }) ∙ ap (λ (x : PlainWide). Ok x) (same_Some t.wide w is)
 
 none_some : {A : Type 0} (x : A) → None ≡ Some x → ⊥
 none_some x e = cc

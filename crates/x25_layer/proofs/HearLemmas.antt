@@ -4,9 +4,9 @@ use Rattle.std.proofs.lemmas.Option.{same_Some}
 use Rattle.x25_packet.specs.declared.packet.Packet.{Packet}
 use Rattle.x25_packet.specs.declared.error.PacketError.{PacketError}
 use Rattle.x25_packet.specs.Packet.{PlainPacket, plain, call, accept, clear, clear_conf, user_data, rr, rnr, interrupt, interrupt_conf, reset, reset_conf, restart, restart_conf}
-use Rattle.x25_packet.specs.Reading.{packet_of, channel_in}
+use Rattle.x25_packet.specs.Reading.{channel_in}
 use Rattle.x25_packet.specs.Spelling.{HasChannel, channel_of}
-use Rattle.x25_packet.specs.WideReading.{Gives, wide_of}
+use Rattle.x25_packet.specs.WideReading.{Gives, read_of}
 use Rattle.x25_packet.specs.Taking.{read_in}
 use Rattle.x25_packet.specs.laws.TakingLaw.{TakesOnItsChannel, TakesWithoutMemory}
 use Rattle.x25_layer.specs.Ranges.{is_number}
@@ -92,7 +92,7 @@ heard_same g old below new below₂ told left f h same by = record {
 
 -- fewer than three octets are dropped
 pub hears_none : (wide : Bool) (most : ℕ) (c : LayerSettings) (l : Layer) (octets : List ℕ) → channel_in octets ≡ None → answer_to c l octets (read_in wide most octets) ≡ drops l.restarting l.restarts l.circuits
-unfolding packet_of wide_of
+unfolding read_of
 hears_none true most c l [] none = refl
 hears_none true most c l (a ∷ []) none = refl
 hears_none true most c l (a ∷ b ∷ []) none = refl

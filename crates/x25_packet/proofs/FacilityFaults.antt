@@ -9,7 +9,6 @@ use Rattle.x25_packet.specs.declared.facilities.Directions.{Directions}
 use Rattle.x25_packet.specs.Facilities.{AreAllowed, AreWithin, IfGiven, facilities_of, facility, field_of, is_within, last, windows_of, with_sizes}
 use Rattle.x25_packet.specs.Reading.FirstError.{FieldError, MayFollow}
 use Rattle.x25_packet.specs.Reading.FirstError.FieldError.{wrong_code, cut_off, out_of_range}
-use Rattle.x25_packet.proofs.PacketLaws.{other}
 use Rattle.x25_packet.proofs.FacilityLaws.{chosen, within, both_within}
 
 pub err_ok : {A : Type 0} {v : A} {e : PacketError} → (let x : Result A PacketError = Ok v in let y : Result A PacketError = Err e in x ≡ y) → ⊥

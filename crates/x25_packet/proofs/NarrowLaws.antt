@@ -1,75 +1,44 @@
--- What a station writes is read alike in both ways.
-use Rattle.std.proofs.Common.{ℕ, ◌+◌, ◌*◌, ◌/◌, ◌%◌, ◌<◌, ◌≤◌, ◌≡◌, ◌∙◌, Bool, true, false, List, [], ◌∷◌, ◌++◌, length, refl, ap, sym, subst, inl, arith, Option, Some, None, Ok}
-use Rattle.std.specs.Prelude.{◌&&◌}
-use Rattle.std.proofs.lemmas.Bool.{and_from, le-leb}
+-- What a station writes is read alike in both forms.
+use Rattle.std.proofs.Common.{ℕ, ◌+◌, ◌*◌, ◌/◌, ◌%◌, ◌<◌, ◌≤◌, ◌≡◌, ◌≢◌, ◌∙◌, Bool, true, false, List, [], ◌∷◌, ◌++◌, length, drop, refl, ap, sym, subst, inl, arith, nat_eq, not, Option, Some, None, Result, Ok, Err}
+use Rattle.std.specs.Prelude.{◌||◌}
+use Rattle.std.proofs.lemmas.Bool.{and_parts, eqb-true}
 use Rattle.x25_bits.specs.Bits.{bit}
-use Rattle.x25_packet.proofs.AddressLaws.{called_again, calling_again, length-pairs, packed_holds}
+use Rattle.x25_packet.specs.declared.error.PacketError.{PacketError}
 use Rattle.x25_packet.specs.declared.marks.Marks.{Marks}
-use Rattle.x25_packet.specs.Digits.{IsAddress, halves_of, hold_digits, packed}
+use Rattle.x25_packet.specs.declared.wide_packet.Forms.{Forms}
+use Rattle.x25_packet.specs.declared.wide_packet.Forms.TheVariants.{Written, Any}
+use Rattle.x25_packet.specs.Digits.{IsAddress, halves_at, halves_of, hold_digits, packed}
 use Rattle.x25_packet.specs.Facilities as strict_field
 use Rattle.x25_packet.specs.Packet as strict
+use Rattle.x25_packet.specs.Reading.{packet_of}
 use Rattle.x25_packet.specs.Spelling as strict_spelling
-use Rattle.x25_packet.specs.declared.facilities.Directions.{Directions}
-use Rattle.x25_packet.specs.Block.{PlainBlock}
-use Rattle.x25_packet.specs.WideFacilities.{class_b, none_own, own_in, IsFacilityField}
-use Rattle.x25_packet.specs.Narrowing.{field_said, narrow_of, narrowed, taken_of}
-use Rattle.x25_packet.specs.WidePacket.{PlainKind, PlainWide, call, accept, clear, clear_conf, user_data, rr, rnr, interrupt, interrupt_conf, reset, reset_conf, restart, restart_conf}
-use Rattle.x25_packet.specs.WidePacket.Spelling.{spelling_of, type_of, may_have, HasPlace, IsKind, IsPacket}
-use Rattle.x25_packet.specs.WideReading.{wide_of}
-use Rattle.x25_packet.proofs.AgainLaws.{only_found}
+use Rattle.x25_packet.specs.Block.{PlainBlock, PlainFields, IsBlock, MayBeFields}
+use Rattle.x25_packet.specs.Narrowing.{narrow_of, narrowed, taken_of}
+use Rattle.x25_packet.specs.WidePacket.{PlainKind, PlainWide, call, accept, clear, extended_clear, clear_conf, user_data, rr, rnr, rej, interrupt, interrupt_conf, reset, reset_conf, restart, restart_conf, diagnostic, registration, registration_conf}
+use Rattle.x25_packet.specs.WidePacket.Spelling.{spelling_of, type_of, may_have, HasFacilities, HasPlace, IsAnswer, IsKind, IsPacket, IsShort, MayLack, Spells}
+use Rattle.x25_packet.specs.WideReading.{read_of, wide_of}
+use Rattle.x25_packet.proofs.AddressLaws.{drop_first, address_at, block_packed, block_when, called_again, calling_again, length-halves_at, length-pairs, packed_holds}
+use Rattle.x25_packet.proofs.AgainLaws.{read_again}
+use Rattle.x25_packet.proofs.FacilityLaws.{ok_err, ok_same}
+use Rattle.x25_packet.proofs.FieldLaws.{no_field, says_itself}
+use Rattle.x25_packet.proofs.FoundLaws.{AreSmall, empty_of, found_spells}
 
--- ---- the facility field that a station writes
-
-within_when : (least most : ℕ) (v : Directions) → strict_field.AreWithin least most v
-    → (strict_field.is_within least most v.called && strict_field.is_within least most v.calling) ≡ true
-within_when least most v h =
-    and_from _ _ (and_from _ _ (le-leb _ _ h.called_least) (le-leb _ _ h.called_most)) (and_from _ _ (le-leb _ _ h.calling_least) (le-leb _ _ h.calling_most))
-
--- a field is facilities, is short, and says itself
-record SaysItself (field : List ℕ) : Type 0 where
-  pub whole : IsFacilityField field
-  pub few : length field ≤ 6
-  pub said : field_said (own_in none_own 0 field) ≡ Ok field
-
-says : (sizes windows : Option Directions) → strict_field.IfGiven sizes (strict_field.AreWithin 4 12) → strict_field.IfGiven windows (strict_field.AreWithin 1 7)
-    → SaysItself (strict_field.facility 66 sizes ++ strict_field.facility 67 windows)
-unfolding own_in
-says None None h k = record { whole = ([], tt, refl); few = omega arith; said = refl }
-says (Some s) None h k = record {
-  whole = (class_b 66 s.called s.calling ∷ [], (refl, tt), refl);
-  few = omega arith;
-  said = rw (within_when 4 12 s h) refl;
-}
-says None (Some w) h k = record {
-  whole = (class_b 67 w.called w.calling ∷ [], (refl, tt), refl);
-  few = omega arith;
-  said = rw (within_when 1 7 w k) refl;
-}
-says (Some s) (Some w) h k = record {
-  whole = (class_b 66 s.called s.calling ∷ class_b 67 w.called w.calling ∷ [], (refl, (refl, tt)), refl);
-  few = omega arith;
-  said = rw (within_when 4 12 s h, within_when 1 7 w k) refl;
-}
-
-says_itself : (field : List ℕ) → strict_field.IsFacilityField field → SaysItself field
-says_itself field (facilities, allowed, e) = subst SaysItself (sym e) (says facilities.packet_size facilities.window_size allowed.sizes allowed.windows)
-
--- ---- packets but CALL
+-- ---- a packet that a station writes is spelled in its form
 
 abbrev headed : ℕ → Bool → PlainKind → PlainWide
 headed channel q kind = record { channel = channel; bit_8 = q; d = false; kind = kind }
 
 -- the octets of v spell w, which is taken for v
-record Taken (most : ℕ) (v : strict.PlainPacket) : Type 0 where
+record Taken (forms : Forms) (most : ℕ) (v : strict.PlainPacket) : Type 0 where
   pub wide : PlainWide
-  pub packet : IsPacket most wide
+  pub packet : IsPacket forms most wide
   pub spelling : strict_spelling.spelling_of v ≡ spelling_of wide
   pub taken : narrow_of wide ≡ Ok v
 
-taken_as : (most : ℕ) (v : strict.PlainPacket) → Taken most v → taken_of (wide_of most (strict_spelling.spelling_of v)) ≡ Ok v
-taken_as most v t = ap taken_of (only_found most (strict_spelling.spelling_of v) t.wide (record { packet = t.packet; spelling = t.spelling })) ∙ t.taken
+taken_as : (forms : Forms) (most : ℕ) (v : strict.PlainPacket) → Taken forms most v → taken_of (read_of forms most (strict_spelling.spelling_of v)) ≡ Ok v
+taken_as forms most v t = ap (λ (o : List ℕ). taken_of (read_of forms most o)) t.spelling ∙ ap taken_of (read_again forms most t.wide t.packet) ∙ t.taken
 
-nothing_behind : (xs : List ℕ) → xs ≡ xs ++ []
+nothing_behind : (xs : List ℕ) → xs ++ [] ≡ xs
 nothing_behind [] = refl
 nothing_behind (x ∷ xs) = ap (λ (ys : List ℕ). x ∷ ys) (nothing_behind xs)
 
@@ -77,7 +46,7 @@ no_digits : hold_digits 0 [] ≡ true
 unfolding halves_of
 no_digits = refl
 
-accept_taken : (most channel : ℕ) (field : List ℕ) → strict_spelling.IsChannel channel → strict_field.IsFacilityField field → Taken most (strict.accept channel field)
+accept_taken : (most channel : ℕ) (field : List ℕ) → strict_spelling.IsChannel channel → strict_field.IsFacilityField field → Taken Written most (strict.accept channel field)
 accept_taken most channel [] on f = record {
   wide = headed channel false (accept None);
   packet = record { channel = on.1; place = on.0; marks = refl; kind = tt };
@@ -95,18 +64,23 @@ accept_taken most channel (octet ∷ rest) on f =
         channel = on.1;
         place = on.0;
         marks = refl;
-        kind = record {
-          addresses = record { called = omega arith; calling = omega arith; size = refl; halves = no_digits };
-          fields = record { facilities = itself.whole; few = omega arith; short = omega arith };
-        };
+        kind = (
+          record {
+            addresses = record { called = omega arith; calling = omega arith; size = refl; halves = no_digits };
+            fields = record { facilities = f; few = omega arith; short = omega arith };
+          },
+          refl,
+          refl,
+          omega arith,
+        );
       };
-      spelling = ap (λ (o : List ℕ). (16 + channel / 256) ∷ channel % 256 ∷ 15 ∷ 0 ∷ length field ∷ o) (nothing_behind field);
+      spelling = ap (λ (o : List ℕ). (16 + channel / 256) ∷ channel % 256 ∷ 15 ∷ 0 ∷ length field ∷ o) (sym (nothing_behind field));
       taken = ap (narrowed (headed channel false (accept (Some block)))) itself.said;
     }
 
-call_taken : (most channel : ℕ) (called calling field user : List ℕ) → most ≤ 128 → strict_spelling.IsChannel channel → IsAddress called → IsAddress calling
-    → strict_field.IsFacilityField field → length user ≤ most → Taken most (strict.call channel called calling field user)
-call_taken most channel called calling field user within on a b f short =
+call_taken : (most channel : ℕ) (called calling field user : List ℕ) → strict_spelling.IsChannel channel → IsAddress called → IsAddress calling
+    → strict_field.IsFacilityField field → length user ≤ most → Taken Written most (strict.call channel called calling field user)
+call_taken most channel called calling field user on a b f short =
     let itself = says_itself field f in
     let few = a.short in
     let also = b.short in
@@ -123,85 +97,320 @@ call_taken most channel called calling field user within on a b f short =
         channel = on.1;
         place = on.0;
         marks = refl;
-        kind = (
-          record {
-            addresses = record {
-              called = omega arith;
-              calling = omega arith;
-              size = length-pairs called calling;
-              halves = packed_holds called calling a b;
-            };
-            fields = record { facilities = itself.whole; few = omega arith; short = omega arith };
-          },
-          inl short,
-        );
+        kind = record {
+          addresses = record {
+            called = omega arith;
+            calling = omega arith;
+            size = length-pairs called calling;
+            halves = packed_holds called calling a b;
+          };
+          fields = record { facilities = f; few = omega arith; short = short };
+        };
       };
       spelling = refl;
       taken = ap (narrowed (headed channel false (call block))) itself.said
           ∙ rw (called_again called calling a b, calling_again called calling a b) refl;
     }
 
-data_taken : (most channel : ℕ) (marks : Marks) (m : Bool) (ps pr : ℕ) (user : List ℕ) → strict_spelling.IsChannel channel → ps < 8 → pr < 8 → length user ≤ 4096
-    → Taken most (strict.user_data channel marks m ps pr user)
-data_taken most channel marks m ps pr user on h k few = record {
+-- the first octet of a data packet
+first_data : (channel : ℕ) (q d : Bool) → 16 * (1 + 4 * bit d + 8 * bit q) + channel / 256 ≡ 128 * bit q + 64 * bit d + 16 + channel / 256
+first_data channel true true = refl
+first_data channel true false = refl
+first_data channel false true = refl
+first_data channel false false = refl
+
+data_taken : (forms : Forms) (most channel : ℕ) (marks : Marks) (m : Bool) (ps pr : ℕ) (user : List ℕ) → may_have forms marks.q marks.d (2 * ps + 16 * bit m + 32 * pr) ≡ true
+    → strict_spelling.IsChannel channel → ps < 8 → pr < 8 → length user ≤ 4096 → Taken forms most (strict.user_data channel marks m ps pr user)
+data_taken forms most channel marks m ps pr user may on h k few = record {
   wide = record { channel = channel; bit_8 = marks.q; d = marks.d; kind = user_data m ps pr user };
-  packet = record { channel = on.1; place = on.0; marks = marked marks.q marks.d; kind = (h, k, few) };
-  spelling = ap (λ n. n ∷ channel % 256 ∷ (2 * ps + 16 * bit m + 32 * pr) ∷ user) (first marks.q marks.d);
+  packet = record { channel = on.1; place = on.0; marks = may; kind = (h, k, few) };
+  spelling = ap (λ n. n ∷ channel % 256 ∷ (2 * ps + 16 * bit m + 32 * pr) ∷ user) (first_data channel marks.q marks.d);
   taken = refl;
 }
+
+written_marks : (q d : Bool) (m : Bool) (ps pr : ℕ) → d ≡ false → may_have Written q d (2 * ps + 16 * bit m + 32 * pr) ≡ true
+written_marks q true m ps pr none = absurd (let bad : true ≡ false = none in cc)
+written_marks false false m ps pr none = refl
+written_marks true false m ps pr none = let even : (2 * ps + 16 * bit m + 32 * pr) % 2 ≡ 0 = omega arith in rw even refl
+
+any_marks : (q d : Bool) (m : Bool) (ps pr : ℕ) → may_have Any q d (2 * ps + 16 * bit m + 32 * pr) ≡ true
+any_marks q d m ps pr = by q d
   where
     even : (2 * ps + 16 * bit m + 32 * pr) % 2 ≡ 0
     even = omega arith
 
-    marked : (q d : Bool) → may_have q d (2 * ps + 16 * bit m + 32 * pr) ≡ true
-    marked true true = rw even refl
-    marked true false = rw even refl
-    marked false true = rw even refl
-    marked false false = refl
-
-    first : (q d : Bool) → 16 * (1 + 4 * bit d + 8 * bit q) + channel / 256 ≡ 128 * bit q + 64 * bit d + 16 + channel / 256
-    first true true = refl
-    first true false = refl
-    first false true = refl
-    first false false = refl
+    by : (q d : Bool) → may_have Any q d (2 * ps + 16 * bit m + 32 * pr) ≡ true
+    by true true = rw even refl
+    by true false = rw even refl
+    by false true = rw even refl
+    by false false = refl
 
 -- a packet of a channel without Q
-on_channel : (most channel : ℕ) (kind : PlainKind) → strict_spelling.IsChannel channel → HasPlace channel kind → may_have false false (type_of kind) ≡ true → IsKind false most kind
-    → IsPacket most (headed channel false kind)
+on_channel : (most channel : ℕ) (kind : PlainKind) → strict_spelling.IsChannel channel → HasPlace channel kind → may_have Written false false (type_of kind) ≡ true → IsKind Written false most kind
+    → IsPacket Written most (headed channel false kind)
 on_channel most channel kind on place marks is = record { channel = on.1; place = place; marks = marks; kind = is }
 
-taken : (most : ℕ) (v : strict.PlainPacket) → most ≤ 128 → strict_spelling.IsInRange most v → Taken most v
-taken most (strict.call channel called calling field user) few h = call_taken most channel called calling field user few h.0 h.1 h.2 h.3 h.4
-taken most (strict.accept channel field) few h = accept_taken most channel field h.0 h.1
-taken most (strict.clear channel cause reason) few h =
+taken : (most : ℕ) (v : strict.PlainPacket) → strict_spelling.IsInRange most v → strict_spelling.IsWithoutD v → Taken Written most v
+taken most (strict.call channel called calling field user) h plain = call_taken most channel called calling field user h.0 h.1 h.2 h.3 h.4
+taken most (strict.accept channel field) h plain = accept_taken most channel field h.0 h.1
+taken most (strict.clear channel cause reason) h plain =
     record { wide = headed channel false (clear cause (Some reason)); packet = on_channel most channel (clear cause (Some reason)) h h.0 refl tt; spelling = refl; taken = refl }
-taken most (strict.clear_conf channel) few h =
-    record { wide = headed channel false (clear_conf None); packet = on_channel most channel (clear_conf None) h h.0 refl tt; spelling = refl; taken = refl }
-taken most (strict.user_data channel marks m ps pr user) few h = data_taken most channel marks m ps pr user h.0 h.1 h.2 h.3
-taken most (strict.rr channel pr) few h =
+taken most (strict.clear_conf channel) h plain =
+    record { wide = headed channel false (clear_conf None); packet = on_channel most channel (clear_conf None) h h.0 refl refl; spelling = refl; taken = refl }
+taken most (strict.user_data channel marks m ps pr user) h plain =
+    data_taken Written most channel marks m ps pr user (written_marks marks.q marks.d m ps pr plain) h.0 h.1 h.2 h.3
+taken most (strict.rr channel pr) h plain =
     record { wide = headed channel false (rr pr); packet = on_channel most channel (rr pr) h.0 h.0.0 refl h.1; spelling = refl; taken = refl }
-taken most (strict.rnr channel pr) few h =
+taken most (strict.rnr channel pr) h plain =
     record { wide = headed channel false (rnr pr); packet = on_channel most channel (rnr pr) h.0 h.0.0 refl h.1; spelling = refl; taken = refl }
-taken most (strict.interrupt channel user) few h =
+taken most (strict.interrupt channel user) h plain =
     record { wide = headed channel false (interrupt user); packet = on_channel most channel (interrupt user) h.0 h.0.0 refl (h.1, h.2); spelling = refl; taken = refl }
-taken most (strict.interrupt_conf channel) few h =
+taken most (strict.interrupt_conf channel) h plain =
     record { wide = headed channel false interrupt_conf; packet = on_channel most channel interrupt_conf h h.0 refl tt; spelling = refl; taken = refl }
-taken most (strict.reset channel cause reason) few h =
+taken most (strict.reset channel cause reason) h plain =
     record { wide = headed channel false (reset cause (Some reason)); packet = on_channel most channel (reset cause (Some reason)) h h.0 refl tt; spelling = refl; taken = refl }
-taken most (strict.reset_conf channel) few h =
+taken most (strict.reset_conf channel) h plain =
     record { wide = headed channel false reset_conf; packet = on_channel most channel reset_conf h h.0 refl tt; spelling = refl; taken = refl }
-taken most (strict.restart cause reason) few h = record {
+taken most (strict.restart cause reason) h plain = record {
   wide = headed 0 false (restart cause (Some reason));
   packet = record { channel = omega arith; place = refl; marks = refl; kind = tt };
   spelling = refl;
   taken = refl;
 }
-taken most strict.restart_conf few h =
+taken most strict.restart_conf h plain =
     record { wide = headed 0 false restart_conf; packet = record { channel = omega arith; place = refl; marks = refl; kind = tt }; spelling = refl; taken = refl }
 
-pub alike : (most : ℕ) (v : strict.PlainPacket) (octets : List ℕ) → most ≤ 128 → strict_spelling.Spells most v octets → taken_of (wide_of most octets) ≡ Ok v
-alike most v octets few spells = ap (λ (o : List ℕ). taken_of (wide_of most o)) spells.spelling ∙ taken_as most v (taken most v few spells.in_range)
+-- what is spelled so is read
+pub written_again : (most : ℕ) (v : strict.PlainPacket) → strict_spelling.IsInRange most v → strict_spelling.IsWithoutD v → packet_of most (strict_spelling.spelling_of v) ≡ Ok v
+written_again most v h plain = taken_as Written most v (taken most v h plain)
+
+pub only_written : (most : ℕ) (octets : List ℕ) (v : strict.PlainPacket) → strict_spelling.Spells most v octets → packet_of most octets ≡ Ok v
+only_written most octets v spells = ap (packet_of most) spells.spelling ∙ written_again most v spells.in_range spells.without_d
+
+-- what is appended reads as the packet
+pub appended_again : (most : ℕ) (v : strict.PlainPacket) (before after : List ℕ) → strict_spelling.IsInRange most v → strict_spelling.IsWithoutD v → after ≡ before ++ strict_spelling.spelling_of v
+    → packet_of most (drop (length before) after) ≡ Ok v
+appended_again most v before after h plain e =
+    ap (λ (o : List ℕ). packet_of most (drop (length before) o)) e ∙ ap (packet_of most) (drop_first before (strict_spelling.spelling_of v)) ∙ written_again most v h plain
+
+-- ---- it is one of any form
+
+wider_fields : (most more : ℕ) (f : Option PlainFields) → most ≤ more → MayBeFields Written most f → MayBeFields Any more f
+wider_fields most more None within h = absurd h
+wider_fields most more (Some f) within h = let short = h.short in
+    record { facilities = (says_itself f.facilities h.facilities).whole; few = h.few; short = omega (arith, within, short) }
+
+wider_block : (a : Bool) (most more : ℕ) (b : PlainBlock) → most ≤ more → IsBlock Written a most b → IsBlock Any a more b
+wider_block a most more b within h = record { addresses = h.addresses; fields = wider_fields most more b.fields within h.fields }
+
+short_in : (most : ℕ) (f : Option PlainFields) → MayBeFields Written most f → IsShort most f
+short_in most None h = absurd h
+short_in most (Some f) h = inl h.short
+
+any_may_lack : (reason : Option ℕ) → MayLack Any reason
+any_may_lack None = tt
+any_may_lack (Some reason) = tt
+
+wider_kind : (a : Bool) (most : ℕ) (k : PlainKind) → most ≤ 128 → IsKind Written a most k → IsKind Any a most k
+wider_kind a most (call block) within h = (wider_block a most 128 block within h, short_in most block.fields h.fields)
+wider_kind a most (accept None) within h = tt
+wider_kind a most (accept (Some block)) within h = wider_block a 0 128 block (omega arith) h.0
+wider_kind a most (clear cause reason) within h = any_may_lack reason
+wider_kind a most (extended_clear cause reason block) within h = absurd h
+wider_kind a most (clear_conf None) within h = tt
+wider_kind a most (clear_conf (Some block)) within h = absurd (cc)
+wider_kind a most (user_data m ps pr user) within h = h
+wider_kind a most (rr pr) within h = h
+wider_kind a most (rnr pr) within h = h
+wider_kind a most (rej pr) within h = absurd h
+wider_kind a most (interrupt user) within h = h
+wider_kind a most interrupt_conf within h = tt
+wider_kind a most (reset cause reason) within h = any_may_lack reason
+wider_kind a most reset_conf within h = tt
+wider_kind a most (restart cause reason) within h = any_may_lack reason
+wider_kind a most restart_conf within h = tt
+wider_kind a most (diagnostic number explanation) within h = absurd h
+wider_kind a most (registration octets) within h = absurd h
+wider_kind a most (registration_conf octets) within h = absurd h
+
+-- of a packet in the form that a station writes
+pub no_d : (a d : Bool) (type : ℕ) → may_have Written a d type ≡ true → d ≡ false
+no_d a false type h = refl
+no_d a true type h = let bad : false ≡ true = (and_parts (not a || nat_eq (type % 2) 0) false h).1 in absurd (cc)
+
+wider_marks : (a d : Bool) (type : ℕ) → may_have Written a d type ≡ true → may_have Any a d type ≡ true
+wider_marks false false type h = refl
+wider_marks true false type h = rw (and_parts (nat_eq (type % 2) 0) true h).0 refl
+wider_marks a true type h = let bad : true ≡ false = no_d a true type h in absurd (cc)
+
+pub wider : (most : ℕ) (w : PlainWide) → most ≤ 128 → IsPacket Written most w → IsPacket Any most w
+wider most w within h = record {
+  channel = h.channel;
+  place = h.place;
+  marks = wider_marks w.bit_8 w.d (type_of w.kind) h.marks;
+  kind = wider_kind w.bit_8 most w.kind within h.kind;
+}
+
+taken_wide : (most : ℕ) (v : strict.PlainPacket) → most ≤ 128 → Taken Written most v → Taken Any most v
+taken_wide most v within t = record { wide = t.wide; packet = wider most t.wide within t.packet; spelling = t.spelling; taken = t.taken }
 
 -- the octets of a packet in its ranges, of data with D too, are taken for it
 pub spelled_taken : (most : ℕ) (v : strict.PlainPacket) → most ≤ 128 → strict_spelling.IsInRange most v → taken_of (wide_of most (strict_spelling.spelling_of v)) ≡ Ok v
-spelled_taken most v few h = taken_as most v (taken most v few h)
+spelled_taken most v few h = taken_as Any most v (by v h)
+  where
+    by : (v : strict.PlainPacket) → strict_spelling.IsInRange most v → Taken Any most v
+    by (strict.call channel called calling field user) h = taken_wide most (strict.call channel called calling field user) few (taken most (strict.call channel called calling field user) h tt)
+    by (strict.accept channel field) h = taken_wide most (strict.accept channel field) few (taken most (strict.accept channel field) h tt)
+    by (strict.clear channel cause reason) h = taken_wide most (strict.clear channel cause reason) few (taken most (strict.clear channel cause reason) h tt)
+    by (strict.clear_conf channel) h = taken_wide most (strict.clear_conf channel) few (taken most (strict.clear_conf channel) h tt)
+    by (strict.user_data channel marks m ps pr user) h = data_taken Any most channel marks m ps pr user (any_marks marks.q marks.d m ps pr) h.0 h.1 h.2 h.3
+    by (strict.rr channel pr) h = taken_wide most (strict.rr channel pr) few (taken most (strict.rr channel pr) h tt)
+    by (strict.rnr channel pr) h = taken_wide most (strict.rnr channel pr) few (taken most (strict.rnr channel pr) h tt)
+    by (strict.interrupt channel user) h = taken_wide most (strict.interrupt channel user) few (taken most (strict.interrupt channel user) h tt)
+    by (strict.interrupt_conf channel) h = taken_wide most (strict.interrupt_conf channel) few (taken most (strict.interrupt_conf channel) h tt)
+    by (strict.reset channel cause reason) h = taken_wide most (strict.reset channel cause reason) few (taken most (strict.reset channel cause reason) h tt)
+    by (strict.reset_conf channel) h = taken_wide most (strict.reset_conf channel) few (taken most (strict.reset_conf channel) h tt)
+    by (strict.restart cause reason) h = taken_wide most (strict.restart cause reason) few (taken most (strict.restart cause reason) h tt)
+    by strict.restart_conf h = taken_wide most strict.restart_conf few (taken most strict.restart_conf h tt)
+
+pub alike : (most : ℕ) (v : strict.PlainPacket) (octets : List ℕ) → most ≤ 128 → strict_spelling.Spells most v octets → taken_of (wide_of most octets) ≡ Ok v
+alike most v octets few spells = ap (λ (o : List ℕ). taken_of (wide_of most o)) spells.spelling ∙ spelled_taken most v few spells.in_range
+
+-- ---- what is read in the form that a station writes is taken for a packet that is spelled so
+
+record Narrowed (most : ℕ) (w : PlainWide) : Type 0 where
+  pub v : strict.PlainPacket
+  pub taken : narrow_of w ≡ Ok v
+  pub in_range : strict_spelling.IsInRange most v
+  pub without_d : strict_spelling.IsWithoutD v
+  pub spelling : spelling_of w ≡ strict_spelling.spelling_of v
+
+-- an odd type has neither bit
+unmarked : (most channel : ℕ) (a d : Bool) (k : PlainKind) → type_of k % 2 ≢ 0 → may_have Written a d (type_of k) ≡ true → IsKind Written a most k
+    → (IsKind Written false most k → Narrowed most (headed channel false k)) → Narrowed most (record { channel = channel; bit_8 = a; d = d; kind = k })
+unmarked most channel false false k odd marks h n = n h
+unmarked most channel true false k odd marks h n = absurd (odd (eqb-true _ _ (and_parts (nat_eq (type_of k % 2) 0) true marks).0))
+unmarked most channel a true k odd marks h n = let bad : true ≡ false = no_d a true (type_of k) marks in absurd (cc)
+
+call_narrowed : (most channel called calling : ℕ) (addresses : List ℕ) (f : Option PlainFields) → strict_spelling.IsChannel channel
+    → (let b : PlainBlock = record { called = called; calling = calling; addresses = addresses; fields = f } in IsBlock Written false most b → Narrowed most (headed channel false (call b)))
+call_narrowed most channel called calling addresses None on h = absurd h.fields
+call_narrowed most channel called calling addresses (Some f) on h =
+    let itself = says_itself f.facilities h.fields.facilities in
+    let size : length addresses ≡ (called + calling + 1) / 2 = h.addresses.size in
+    let low : called < 16 = h.addresses.called in
+    let high : calling < 16 = h.addresses.calling in
+    let digits = block_when (called + calling) addresses h.addresses.halves in
+    let first : length (halves_at addresses 0 called) ≡ called = length-halves_at addresses 0 called (omega arith) in
+    let second : length (halves_at addresses called calling) ≡ calling = length-halves_at addresses called calling (omega arith) in
+    let block : PlainBlock = record { called = called; calling = calling; addresses = addresses; fields = Some f } in
+    record {
+      v = strict.call channel (halves_at addresses 0 called) (halves_at addresses called calling) f.facilities f.user;
+      taken = ap (narrowed (headed channel false (call block))) itself.said;
+      in_range = (
+        on,
+        address_at (called + calling) 0 called addresses digits (omega arith) (omega arith),
+        address_at (called + calling) called calling addresses digits (omega arith) (omega arith),
+        h.fields.facilities,
+        h.fields.short,
+      );
+      without_d = tt;
+      spelling = ap (λ (o : List ℕ). (16 + channel / 256) ∷ channel % 256 ∷ 11 ∷ o)
+          (rw (first, second, block_packed called calling addresses size digits) refl);
+    }
+
+accept_narrowed : (most channel called calling : ℕ) (addresses facilities user : List ℕ) → strict_spelling.IsChannel channel → called ≡ 0 → calling ≡ 0 → 1 ≤ length facilities
+    → (let b : PlainBlock = record { called = called; calling = calling; addresses = addresses; fields = Some (record { facilities = facilities; user = user }) } in
+    IsBlock Written false 0 b → Narrowed most (headed channel false (accept (Some b))))
+accept_narrowed most channel called calling addresses [] user on none also some h = absurd (omega (arith, some))
+accept_narrowed most channel called calling addresses (octet ∷ more) user on none also some h =
+    let itself = says_itself (octet ∷ more) h.fields.facilities in
+    let size : length addresses ≡ (called + calling + 1) / 2 = h.addresses.size in
+    let short : length user ≤ 0 = h.fields.short in
+    let empty : addresses ≡ [] = empty_of addresses (omega (arith, size, none, also)) in
+    let alone : user ≡ [] = empty_of user (omega (arith, short)) in
+    let block : PlainBlock = record { called = called; calling = calling; addresses = addresses; fields = Some (record { facilities = octet ∷ more; user = user }) } in
+    record {
+      v = strict.accept channel (octet ∷ more);
+      taken = ap (narrowed (headed channel false (accept (Some block)))) itself.said;
+      in_range = (on, h.fields.facilities);
+      without_d = tt;
+      spelling = ap (λ (o : List ℕ). (16 + channel / 256) ∷ channel % 256 ∷ 15 ∷ o) (rw (none, also, empty, alone, nothing_behind more) refl);
+    }
+
+answer_narrowed : (most channel : ℕ) (b : Option PlainBlock) → strict_spelling.IsChannel channel → IsAnswer Written false b → Narrowed most (headed channel false (accept b))
+answer_narrowed most channel None on h =
+    record { v = strict.accept channel []; taken = refl; in_range = (on, no_field); without_d = tt; spelling = refl }
+answer_narrowed most channel (Some b) on h = by b.fields h.3 h.0
+  where
+    by : (f : Option PlainFields) → HasFacilities f → (let c : PlainBlock = record { called = b.called; calling = b.calling; addresses = b.addresses; fields = f } in
+        IsBlock Written false 0 c → Narrowed most (headed channel false (accept (Some c))))
+    by None some is = absurd some
+    by (Some f) some is = accept_narrowed most channel b.called b.calling b.addresses f.facilities f.user on h.1 h.2 some is
+
+kind_narrowed : (most channel : ℕ) (a d : Bool) (k : PlainKind) → channel ≤ 4095 → HasPlace channel k → may_have Written a d (type_of k) ≡ true → IsKind Written a most k
+    → Narrowed most (record { channel = channel; bit_8 = a; d = d; kind = k })
+kind_narrowed most channel a d (call b) few place marks h = unmarked most channel a d (call b) (λ e. absurd (omega (arith, e))) marks h
+    (call_narrowed most channel b.called b.calling b.addresses b.fields (place, few))
+kind_narrowed most channel a d (accept b) few place marks h = unmarked most channel a d (accept b) (λ e. absurd (omega (arith, e))) marks h
+    (answer_narrowed most channel b (place, few))
+kind_narrowed most channel a d (clear cause None) few place marks h = absurd h
+kind_narrowed most channel a d (clear cause (Some reason)) few place marks h = unmarked most channel a d (clear cause (Some reason)) (λ e. absurd (omega (arith, e))) marks h
+    (λ _. record { v = strict.clear channel cause reason; taken = refl; in_range = (place, few); without_d = tt; spelling = refl })
+kind_narrowed most channel a d (extended_clear cause reason b) few place marks h = absurd h
+kind_narrowed most channel a d (clear_conf None) few place marks h = unmarked most channel a d (clear_conf None) (λ e. absurd (omega (arith, e))) marks h
+    (λ _. record { v = strict.clear_conf channel; taken = refl; in_range = (place, few); without_d = tt; spelling = refl })
+kind_narrowed most channel a d (clear_conf (Some b)) few place marks h = absurd (cc)
+kind_narrowed most channel a d (user_data m ps pr user) few place marks h = record {
+  v = strict.user_data channel (record { q = a; d = d }) m ps pr user;
+  taken = refl;
+  in_range = ((place, few), h.0, h.1, h.2);
+  without_d = no_d a d (2 * ps + 16 * bit m + 32 * pr) marks;
+  spelling = ap (λ n. n ∷ channel % 256 ∷ (2 * ps + 16 * bit m + 32 * pr) ∷ user) (sym (first_data channel a d));
+}
+kind_narrowed most channel a d (rr pr) few place marks h = unmarked most channel a d (rr pr) (λ e. absurd (omega (arith, e))) marks h
+    (λ less. record { v = strict.rr channel pr; taken = refl; in_range = ((place, few), less); without_d = tt; spelling = refl })
+kind_narrowed most channel a d (rnr pr) few place marks h = unmarked most channel a d (rnr pr) (λ e. absurd (omega (arith, e))) marks h
+    (λ less. record { v = strict.rnr channel pr; taken = refl; in_range = ((place, few), less); without_d = tt; spelling = refl })
+kind_narrowed most channel a d (rej pr) few place marks h = absurd h
+kind_narrowed most channel a d (interrupt user) few place marks h = unmarked most channel a d (interrupt user) (λ e. absurd (omega (arith, e))) marks h
+    (λ is. record { v = strict.interrupt channel user; taken = refl; in_range = ((place, few), is.0, is.1); without_d = tt; spelling = refl })
+kind_narrowed most channel a d interrupt_conf few place marks h = unmarked most channel a d interrupt_conf (λ e. absurd (omega (arith, e))) marks h
+    (λ _. record { v = strict.interrupt_conf channel; taken = refl; in_range = (place, few); without_d = tt; spelling = refl })
+kind_narrowed most channel a d (reset cause None) few place marks h = absurd h
+kind_narrowed most channel a d (reset cause (Some reason)) few place marks h = unmarked most channel a d (reset cause (Some reason)) (λ e. absurd (omega (arith, e))) marks h
+    (λ _. record { v = strict.reset channel cause reason; taken = refl; in_range = (place, few); without_d = tt; spelling = refl })
+kind_narrowed most channel a d reset_conf few place marks h = unmarked most channel a d reset_conf (λ e. absurd (omega (arith, e))) marks h
+    (λ _. record { v = strict.reset_conf channel; taken = refl; in_range = (place, few); without_d = tt; spelling = refl })
+kind_narrowed most channel a d (restart cause None) few place marks h = absurd h
+kind_narrowed most channel a d (restart cause (Some reason)) few place marks h = unmarked most channel a d (restart cause (Some reason)) (λ e. absurd (omega (arith, e))) marks h
+    (λ _. record { v = strict.restart cause reason; taken = refl; in_range = tt; without_d = tt; spelling = rw place refl })
+kind_narrowed most channel a d restart_conf few place marks h = unmarked most channel a d restart_conf (λ e. absurd (omega (arith, e))) marks h
+    (λ _. record { v = strict.restart_conf; taken = refl; in_range = tt; without_d = tt; spelling = rw place refl })
+kind_narrowed most channel a d (diagnostic number explanation) few place marks h = absurd h
+kind_narrowed most channel a d (registration octets) few place marks h = absurd h
+kind_narrowed most channel a d (registration_conf octets) few place marks h = absurd h
+
+module _ (most : ℕ) (octets : List ℕ) (small : AreSmall octets) where
+  narrowed_of : (w : PlainWide) → Spells Written most w octets → Narrowed most w
+  narrowed_of w spells = kind_narrowed most w.channel w.bit_8 w.d w.kind spells.packet.channel spells.packet.place spells.packet.marks spells.packet.kind
+
+  -- what is read is spelled so
+  pub found_written : (v : strict.PlainPacket) → packet_of most octets ≡ Ok v → strict_spelling.Spells most v octets
+  found_written v e = by (read_of Written most octets) refl e
+    where
+      by : (r : Result PlainWide PacketError) → read_of Written most octets ≡ r → taken_of r ≡ Ok v → strict_spelling.Spells most v octets
+      by (Err x) is h = absurd (ok_err h)
+      by (Ok w) is h =
+          let spells = found_spells Written most octets w small is in
+          let n = narrowed_of w spells in
+          subst (λ u. strict_spelling.Spells most u octets) (ok_same (sym n.taken ∙ h))
+          (record { in_range = n.in_range; without_d = n.without_d; spelling = spells.spelling ∙ n.spelling })
+
+  -- an error is one of the octets
+  pub error_read : (e : PacketError) → packet_of most octets ≡ Err e → read_of Written most octets ≡ Err e
+  error_read e h = by (read_of Written most octets) refl h
+    where
+      by : (r : Result PlainWide PacketError) → read_of Written most octets ≡ r → taken_of r ≡ Err e → r ≡ Err e
+      by (Err x) is h = cc
+      by (Ok w) is h = absurd (ok_err (sym h ∙ (narrowed_of w (found_spells Written most octets w small is)).taken))

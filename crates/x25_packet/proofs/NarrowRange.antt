@@ -16,7 +16,9 @@ use Rattle.x25_packet.specs.WidePacket.{PlainKind, call, accept, clear, extended
 use Rattle.x25_packet.specs.WidePacket.Spelling.{HasPlace, IsKind}
 use Rattle.x25_packet.specs.WideReading.{Gives}
 use Rattle.x25_packet.specs.declared.wide_facilities.Own.{Own}
+use Rattle.x25_packet.specs.declared.wide_packet.Forms.TheVariants.{Any}
 use Rattle.x25_packet.proofs.FacilityLaws.{chosen, ok_err, ok_same}
+use Rattle.x25_packet.proofs.FieldLaws.{no_field}
 
 -- ---- the facility field
 
@@ -32,9 +34,6 @@ given least most (Some v) h =
       calling_least = leb-true _ _ second.0;
       calling_most = leb-true _ _ second.1;
     }
-
-no_field : strict_field.IsFacilityField []
-no_field = (record { packet_size = None; window_size = None }, record { sizes = tt; windows = tt }, refl)
 
 said_fits : (own : Own) (field : List ℕ) → field_said own ≡ Ok field → strict_field.IsFacilityField field
 said_fits own field e = elim (chosen (are_within 4 12 own.packet_size && are_within 1 7 own.window_size) _ _ _ e) [
@@ -77,7 +76,7 @@ field_fits (registration_conf octets) field e = nothing_fits field e
 
 -- ---- the packet
 
-user_few : (f : Option PlainFields) → MayBeFields 128 f → length (user_taken f) ≤ 128
+user_few : (f : Option PlainFields) → MayBeFields Any 128 f → length (user_taken f) ≤ 128
 user_few None h = omega arith
 user_few (Some f) h = h.short
 
@@ -119,7 +118,7 @@ abbrev pub InRange : Result strict.PlainPacket PacketError → Type 0
 InRange (Ok v) = strict_spelling.IsInRange 128 v
 InRange (Err e) = Unit {0}
 
-pub in_range : (most channel : ℕ) (q d : Bool) (k : PlainKind) (field : List ℕ) → channel ≤ 4095 → HasPlace channel k → IsKind q most k
+pub in_range : (most channel : ℕ) (q d : Bool) (k : PlainKind) (field : List ℕ) → channel ≤ 4095 → HasPlace channel k → IsKind Any q most k
     → strict_field.IsFacilityField field → InRange (with_field channel q d k field)
 in_range most channel q d (call block) field few place h f =
     ((place, few), called_address q block h.0.addresses, calling_address q block h.0.addresses, f, user_few block.fields h.0.fields)

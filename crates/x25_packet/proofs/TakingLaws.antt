@@ -1,7 +1,8 @@
 -- What a station takes octets for: its channel, its user data, and the ranges of its fields.
 use Rattle.std.proofs.Common.{ℕ, zero, suc, lit≤, ◌+◌, ◌*◌, ◌/◌, ◌%◌, ◌<◌, ◌≤◌, ◌≡◌, ◌∙◌, Bool, true, false, List, [], ◌∷◌, ◌++◌, length, take, refl, ap, sym, subst, arith, All, Some, Result, Ok, Err}
 use Rattle.x25_bits.specs.Bits.{bit}
-use Rattle.x25_packet.specs.declared.marks.Marks.{Marks}
+use Rattle.x25_packet.specs.declared.wide_packet.Forms.{Forms}
+use Rattle.x25_packet.specs.declared.wide_packet.Forms.TheVariants.{Written, Any}
 use Rattle.x25_packet.specs.Packet as strict
 use Rattle.x25_packet.specs.Reading.{packet_of, channel_in}
 use Rattle.x25_packet.specs.Spelling as strict_spelling
@@ -10,11 +11,11 @@ use Rattle.x25_packet.specs.declared.error.PacketError.{PacketError}
 use Rattle.x25_packet.specs.laws.ReadingLaw.{ReadsWhatIsSpelled}
 use Rattle.x25_packet.specs.Narrowing.{field_in, narrow_of, narrowed, taken_of, with_field}
 use Rattle.x25_packet.specs.WidePacket.{PlainKind, PlainWide, call, accept, clear, extended_clear, clear_conf, user_data, rr, rnr, rej, interrupt, interrupt_conf, reset, reset_conf, restart, restart_conf, diagnostic, registration, registration_conf}
-use Rattle.x25_packet.specs.WidePacket.Spelling.{spelling_of, body_of, Spells}
-use Rattle.x25_packet.specs.WideReading.{wide_of}
+use Rattle.x25_packet.specs.WidePacket.Spelling.{spelling_of, body_of, IsPacket, Spells}
+use Rattle.x25_packet.specs.WideReading.{read_of, wide_of}
 use Rattle.x25_packet.specs.Taking.{or_taken, read_in}
 use Rattle.x25_packet.specs.laws.TakingLaw.{TakesWhatIsWritten, TakesWhatIsSpelled, TakesOnItsChannel, TakesItsUserData, TakesAllBehindThree, TakesInRange}
-use Rattle.x25_packet.proofs.NarrowLaws.{alike, spelled_taken}
+use Rattle.x25_packet.proofs.NarrowLaws.{alike, spelled_taken, wider}
 use Rattle.x25_packet.proofs.NarrowRange.{InRange, in_range, field_fits}
 use Rattle.x25_packet.proofs.FacilityLaws.{ok_err, ok_same}
 use Rattle.x25_packet.proofs.FoundLaws.{AreSmall, found_spells}
@@ -24,24 +25,6 @@ takes_what_is_written false most v octets e = e
 takes_what_is_written true most v octets e = ap (λ r. or_taken r (taken_of (wide_of most octets))) e
 
 -- ---- the channel that the first two octets name
-
-on : (channel f : ℕ) → channel ≤ 4095 → Some ((16 * f + channel / 256) % 16 * 256 + channel % 256) ≡ Some channel
-on channel f few = ap (λ (n : ℕ). Some n) (omega (arith, few))
-
-strict_names : (most : ℕ) (v : strict.PlainPacket) → strict_spelling.IsInRange most v → HasChannel v → channel_in (strict_spelling.spelling_of v) ≡ Some (channel_of v)
-strict_names most (strict.call channel called calling field user) h has = on channel 1 h.0.1
-strict_names most (strict.accept channel field) h has = on channel 1 h.0.1
-strict_names most (strict.clear channel cause reason) h has = on channel 1 h.1
-strict_names most (strict.clear_conf channel) h has = on channel 1 h.1
-strict_names most (strict.user_data channel marks m ps pr user) h has = on channel (1 + 4 * bit marks.d + 8 * bit marks.q) h.0.1
-strict_names most (strict.rr channel pr) h has = on channel 1 h.0.1
-strict_names most (strict.rnr channel pr) h has = on channel 1 h.0.1
-strict_names most (strict.interrupt channel user) h has = on channel 1 h.0.1
-strict_names most (strict.interrupt_conf channel) h has = on channel 1 h.1
-strict_names most (strict.reset channel cause reason) h has = on channel 1 h.1
-strict_names most (strict.reset_conf channel) h has = on channel 1 h.1
-strict_names most (strict.restart cause reason) h has = absurd has
-strict_names most strict.restart_conf h has = absurd has
 
 wide_names : (w : PlainWide) → w.channel ≤ 4095 → channel_in (spelling_of w) ≡ Some w.channel
 wide_names w few = at w.channel (bit w.bit_8) (bit w.d) few
@@ -115,68 +98,56 @@ all_small [] small i = lit≤ tt
 all_small (octet ∷ octets) small zero = small zero 0 (omega arith)
 all_small (octet ∷ octets) small (suc i) = all_small octets (λ k d low. small (suc k) d (omega (arith, low))) i
 
--- octets are read in the form that a station writes, or else in any
-module _ (reads : ReadsWhatIsSpelled) (most : ℕ) (v : strict.PlainPacket) (octets : List ℕ) (small : All (λ octet. octet < 256) octets) (P : Type 0) (strictly : strict_spelling.Spells most v octets → P)
-    (widely : (w : PlainWide) → Spells most w octets → narrow_of w ≡ Ok v → P) where
-  by_wide : (r : Result PlainWide PacketError) → wide_of most octets ≡ r → taken_of r ≡ Ok v → P
-  by_wide (Ok w) is e = widely w (found_spells most octets w (all_small octets small) is) e
-  by_wide (Err x) is e = absurd (ok_err e)
+-- what is read is a packet of either form, and what it is taken for
+module _ (most : ℕ) (v : strict.PlainPacket) (octets : List ℕ) (small : All (λ octet. octet < 256) octets) (P : Type 0)
+    (of : (forms : Forms) (w : PlainWide) → Spells forms most w octets → narrow_of w ≡ Ok v → P) where
+  by_form : (forms : Forms) (r : Result PlainWide PacketError) → read_of forms most octets ≡ r → taken_of r ≡ Ok v → P
+  by_form forms (Ok w) is e = of forms w (found_spells forms most octets w (all_small octets small) is) e
+  by_form forms (Err x) is e = absurd (ok_err e)
 
   by_strict : (r : Result strict.PlainPacket PacketError) → packet_of most octets ≡ r → or_taken r (taken_of (wide_of most octets)) ≡ Ok v → P
-  by_strict (Ok u) is e = strictly ((reads most v octets small).0 (is ∙ ap (λ p. Ok p) (ok_same e)))
-  by_strict (Err x) is e = by_wide (wide_of most octets) refl e
+  by_strict (Ok u) is e = by_form Written (read_of Written most octets) refl (is ∙ ap (λ p. Ok p) (ok_same e))
+  by_strict (Err x) is e = by_form Any (wide_of most octets) refl e
 
   in_either : (wide : Bool) → read_in wide most octets ≡ Ok v → P
-  in_either false e = strictly ((reads most v octets small).0 e)
+  in_either false e = by_form Written (read_of Written most octets) refl e
   in_either true e = by_strict (packet_of most octets) refl e
 
-pub takes_on_its_channel : ReadsWhatIsSpelled → TakesOnItsChannel
-takes_on_its_channel reads wide most v octets small e has = in_either reads most v octets small (channel_in octets ≡ Some (channel_of v))
-    (λ spells. ap channel_in spells.spelling ∙ strict_names most v spells.in_range has)
-    (λ w spells is. ap channel_in spells.spelling ∙ wide_names w spells.packet.channel
+pub takes_on_its_channel : TakesOnItsChannel
+takes_on_its_channel wide most v octets small e has = in_either most v octets small (channel_in octets ≡ Some (channel_of v))
+    (λ forms w spells is. ap channel_in spells.spelling ∙ wide_names w spells.packet.channel
     ∙ taken_with w v is (λ field said h. ap (λ (n : ℕ). Some n) (sym (with_names w.channel w.bit_8 w.d w.kind field v h has))))
     wide e
 
 header : (n : ℕ) → suc (suc (suc n)) ≡ 3 + n
 header n = omega arith
 
-pub takes_its_user_data : ReadsWhatIsSpelled → TakesItsUserData
-takes_its_user_data reads wide most channel marks m ps pr user octets small e =
+pub takes_its_user_data : TakesItsUserData
+takes_its_user_data wide most channel marks m ps pr user octets small e =
     let v : strict.PlainPacket = strict.user_data channel marks m ps pr user in
-    in_either reads most v octets small (length octets ≡ 3 + length user)
-    (λ spells. ap length spells.spelling ∙ header (length user))
-    (λ w spells is. ap length spells.spelling ∙ header (length (body_of w.bit_8 w.kind)) ∙ taken_with w v is (λ field said h. ap (λ (body : List ℕ). 3 + length body) (with_user w.channel w.bit_8 w.d w.kind field v h tt)))
+    in_either most v octets small (length octets ≡ 3 + length user)
+    (λ forms w spells is. ap length spells.spelling ∙ header (length (body_of w.bit_8 w.kind)) ∙ taken_with w v is (λ field said h. ap (λ (body : List ℕ). 3 + length body) (with_user w.channel w.bit_8 w.d w.kind field v h tt)))
     wide e
 
-pub takes_all_behind_three : ReadsWhatIsSpelled → TakesAllBehindThree
-takes_all_behind_three reads wide most channel marks m ps pr user octets small e =
+pub takes_all_behind_three : TakesAllBehindThree
+takes_all_behind_three wide most channel marks m ps pr user octets small e =
     let v : strict.PlainPacket = strict.user_data channel marks m ps pr user in
-    in_either reads most v octets small (octets ≡ take 3 octets ++ user)
-    (λ spells. subst (λ o. o ≡ take 3 o ++ user) (sym spells.spelling) refl)
-    (λ w spells is. subst (λ o. o ≡ take 3 o ++ user) (sym spells.spelling)
+    in_either most v octets small (octets ≡ take 3 octets ++ user)
+    (λ forms w spells is. subst (λ o. o ≡ take 3 o ++ user) (sym spells.spelling)
     (taken_with w v is (λ field said h. ap (λ (body : List ℕ). take 3 (spelling_of w) ++ body) (with_user w.channel w.bit_8 w.d w.kind field v h tt))))
     wide e
 
 -- ---- the ranges of its fields
 
-more_in_range : (most : ℕ) (v : strict.PlainPacket) → most ≤ 128 → strict_spelling.IsInRange most v → strict_spelling.IsInRange 128 v
-more_in_range most (strict.call channel called calling field user) few h = let least = h.4 in (h.0, h.1, h.2, h.3, omega (arith, few, least))
-more_in_range most (strict.accept channel field) few h = h
-more_in_range most (strict.clear channel cause reason) few h = h
-more_in_range most (strict.clear_conf channel) few h = h
-more_in_range most (strict.user_data channel q m ps pr user) few h = h
-more_in_range most (strict.rr channel pr) few h = h
-more_in_range most (strict.rnr channel pr) few h = h
-more_in_range most (strict.interrupt channel user) few h = h
-more_in_range most (strict.interrupt_conf channel) few h = h
-more_in_range most (strict.reset channel cause reason) few h = h
-more_in_range most (strict.reset_conf channel) few h = h
-more_in_range most (strict.restart cause reason) few h = h
-more_in_range most strict.restart_conf few h = h
+any_form : (forms : Forms) (most : ℕ) (w : PlainWide) → most ≤ 128 → IsPacket forms most w → IsPacket Any most w
+any_form Written most w few h = wider most w few h
+any_form Any most w few h = h
 
-pub takes_in_range : ReadsWhatIsSpelled → TakesInRange
-takes_in_range reads wide most v octets few small e = in_either reads most v octets small (strict_spelling.IsInRange 128 v) (λ spells. more_in_range most v few spells.in_range)
-    (λ w spells is. taken_with w v is (λ field said h. subst InRange h (in_range most w.channel w.bit_8 w.d w.kind field spells.packet.channel spells.packet.place spells.packet.kind (field_fits w.kind field said))))
+pub takes_in_range : TakesInRange
+takes_in_range wide most v octets few small e = in_either most v octets small (strict_spelling.IsInRange 128 v)
+    (λ forms w spells is.
+    let packet = any_form forms most w few spells.packet in
+    taken_with w v is (λ field said h. subst InRange h (in_range most w.channel w.bit_8 w.d w.kind field packet.channel packet.place packet.kind (field_fits w.kind field said))))
     wide e
 
 -- ---- what is spelled

@@ -3,9 +3,12 @@ use Rattle.std.specs.Prelude.{ℕ, ◌+◌, ◌*◌, ◌/◌, ◌<◌, ◌≤◌
 use Rattle.std.specs.Prelude.{drop, Option, Some, None}
 use Rattle.std.specs.List.{list_all}
 use Rattle.x25_packet.specs.Digits.{halves_at, halves_of, hold_digits}
+use Rattle.x25_packet.specs.Facilities as written_field
 use Rattle.x25_packet.specs.WideFacilities.{IsFacilityField}
 use Rattle.x25_packet.specs.declared.block.Block.{Block}
 use Rattle.x25_packet.specs.declared.block.Fields.{Fields}
+use Rattle.x25_packet.specs.declared.wide_packet.Forms.{Forms}
+use Rattle.x25_packet.specs.declared.wide_packet.Forms.TheVariants.{Written, Any}
 
 pub record PlainFields : Type 0 where
   pub facilities : List ℕ
@@ -69,20 +72,31 @@ called_in b = halves_at b.addresses 0 b.called
 abbrev pub calling_in : PlainBlock → List ℕ
 calling_in b = halves_at b.addresses b.called b.calling
 
+-- what a station doesn't write
+abbrev pub OfAny : Forms → Type 0 → Type 0
+OfAny Written P = ⊥
+OfAny Any P = P
+
+-- a station writes the facilities that it allows
+abbrev pub IsField : Forms → List ℕ → Type 0
+IsField Written field = written_field.IsFacilityField field
+IsField Any field = IsFacilityField field
+
 -- a facility field has at most 109 octets: section 7.1
-pub record AreFields (most : ℕ) (f : PlainFields) : Type 0 where
-  pub facilities : IsFacilityField f.facilities
+pub record AreFields (forms : Forms) (most : ℕ) (f : PlainFields) : Type 0 where
+  pub facilities : IsField forms f.facilities
   pub few : length f.facilities ≤ 109
   pub short : length f.user ≤ most
 
-abbrev pub MayBeFields : ℕ → Option PlainFields → Type 0
-MayBeFields most None = Unit {0}
-MayBeFields most (Some f) = AreFields most f
+-- which a station always writes
+abbrev pub MayBeFields : Forms → ℕ → Option PlainFields → Type 0
+MayBeFields forms most None = OfAny forms (Unit {0})
+MayBeFields forms most (Some f) = AreFields forms most f
 
-pub record IsBlock (a : Bool) (most : ℕ) (b : PlainBlock) : Type 0 where
+pub record IsBlock (forms : Forms) (a : Bool) (most : ℕ) (b : PlainBlock) : Type 0 where
   pub addresses : AreAddresses a b
-  pub fields : MayBeFields most b.fields
+  pub fields : MayBeFields forms most b.fields
 
-abbrev pub MayBeBlock : Bool → ℕ → Option PlainBlock → Type 0
-MayBeBlock a most None = Unit {0}
-MayBeBlock a most (Some b) = IsBlock a most b
+abbrev pub MayBeBlock : Forms → Bool → ℕ → Option PlainBlock → Type 0
+MayBeBlock forms a most None = Unit {0}
+MayBeBlock forms a most (Some b) = IsBlock forms a most b

@@ -10,6 +10,7 @@ pub mod Block
 pub mod WidePacket
 pub mod WideReading
 pub mod Narrowing
+pub mod Made
 pub mod Taking
 pub mod laws
 pub mod code

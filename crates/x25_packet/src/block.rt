@@ -1,15 +1,18 @@
 //! Addresses, facilities and user data, as CALL, ACCEPT, CLEAR and CLEAR CONFIRMATION have them.
-ghost use Rattle.std.specs.Prelude.{◌≡◌, ◌≤◌, ◌/◌, ◌+◌, [], false, length, true};
+ghost use Rattle.std.specs.Prelude.{◌≡◌, ◌≤◌, ◌/◌, ◌+◌, [], false, length, true, IfOk};
 ghost use Rattle.x25_packet.specs.Block.{AreAddresses, called_in, calling_in, hold_addresses, plain_block};
 ghost use Rattle.x25_packet.specs.Block.{plain_fields};
 ghost use Rattle.x25_packet.specs.Block.{plain_optional};
 ghost use Rattle.x25_packet.specs.Narrowing.{called_taken, calling_taken, digits_behind};
-ghost use Rattle.x25_packet.specs.WideReading.{Gives, addressed, block_of, fields_of, optional_block};
+ghost use Rattle.x25_packet.specs.WideReading.{Gives, addressed, block_of, field_read, fields_of, is_over, no_fields};
+ghost use Rattle.x25_packet.specs.WideReading.{optional_block};
 
 use crate::digits::{Digits, hold_digits};
 use crate::error::PacketError;
+use crate::facilities::Facilities;
 use crate::halves::Halves;
 use crate::wide_facilities::are_facilities;
+use crate::wide_packet::Forms;
 
 /// The most octets of a facility field, section 7.1.
 const FIELD_OCTETS: usize = 109;
@@ -34,23 +37,63 @@ pub struct Block<'a> {
     pub fields: Option<Fields<'a>>,
 }
 
-fn read_fields<'a>(most: usize, octets: &'a [u8]) -> Result<Option<Fields<'a>>, PacketError>
-    ensures { Gives plain_fields result (fields_of most octets.now) }
+fn no_fields<'a>(forms: Forms) -> Result<Option<Fields<'a>>, PacketError>
+    ensures { Gives plain_fields result (no_fields forms) }
+{
+    match forms {
+        Forms::Written => Err(PacketError::TooShort),
+        Forms::Any => Ok(None),
+    }
+}
+
+/// Whether a facility field is longer than any.
+fn is_over(forms: Forms, size: usize) -> bool
+    ensures { result ≡ is_over forms size }
+{
+    match forms {
+        Forms::Written => false,
+        Forms::Any => size > FIELD_OCTETS,
+    }
+}
+
+#[inline(always)]
+fn read_field(forms: Forms, field: &[u8]) -> Result<(), PacketError>
+    ensures { result ≡ field_read forms field.now }
+{
+    match forms {
+        Forms::Written => {
+            Facilities::of(field)?;
+            Ok(())
+        }
+        Forms::Any => {
+            if !are_facilities(field) {
+                return Err(PacketError::BadParameter);
+            }
+            Ok(())
+        }
+    }
+}
+
+#[inline(always)]
+fn read_fields<'a>(
+    forms: Forms,
+    most: usize,
+    octets: &'a [u8],
+) -> Result<Option<Fields<'a>>, PacketError>
+    ensures { Gives plain_fields result (fields_of forms most octets.now) }
 {
     let [size, rest @ ..] = octets else {
-        return Ok(None);
+        return no_fields(forms);
     };
     let size = usize::from(*size);
-    if size > FIELD_OCTETS {
+    if is_over(forms, size) {
         return Err(PacketError::TooLong);
     }
     if rest.len() < size {
         return Err(PacketError::TooShort);
     }
     let (facilities, user) = rest.split_at(size);
-    if !are_facilities(facilities) {
-        return Err(PacketError::BadParameter);
-    }
+    read_field(forms, facilities)?;
     if user.len() > most {
         return Err(PacketError::TooLong);
     }
@@ -72,14 +115,16 @@ fn hold_addresses(a: bool, count: usize, octets: &[u8]) -> bool
 }
 
 /// What stands behind the lengths of the addresses.
+#[inline(always)]
 fn read_addresses<'a>(
+    forms: Forms,
     a: bool,
     most: usize,
     called: u8,
     calling: u8,
     octets: &'a [u8],
 ) -> Result<Block<'a>, PacketError>
-    ensures { Gives plain_block result (addressed a most called calling octets.now) }
+    ensures { Gives plain_block result (addressed forms a most called calling octets.now) }
 {
     let count = usize::from(called) + usize::from(calling);
     let size = (count + 1) / 2;
@@ -90,7 +135,7 @@ fn read_addresses<'a>(
     if !hold_addresses(a, count, addresses) {
         return Err(PacketError::BadDigit);
     }
-    let fields = read_fields(most, rest)?;
+    let fields = read_fields(forms, most, rest)?;
     Ok(Block {
         called,
         calling,
@@ -99,38 +144,55 @@ fn read_addresses<'a>(
     })
 }
 
-/// A block with at most `most` octets of user data, in the format that the A bit says.
-pub(crate) fn read_block<'a>(
+/// What a block is read as.
+#[inline(always)]
+fn block_in<'a>(
+    forms: Forms,
     a: bool,
     most: usize,
     octets: &'a [u8],
 ) -> Result<Block<'a>, PacketError>
-    ensures { Gives plain_block result (block_of a most octets.now) }
+    ensures { Gives plain_block result (block_of forms a most octets.now) }
 {
     if a {
         let [called, calling, octets @ ..] = octets else {
             return Err(PacketError::TooShort);
         };
-        return read_addresses(true, most, *called, *calling, octets);
+        return read_addresses(forms, true, most, *called, *calling, octets);
     }
     let [lengths, octets @ ..] = octets else {
         return Err(PacketError::TooShort);
     };
-    read_addresses(false, most, *lengths % 16, *lengths / 16, octets)
+    read_addresses(forms, false, most, *lengths % 16, *lengths / 16, octets)
+}
+
+/// A block with at most `most` octets of user data, in the format that the A bit says.
+#[inline(always)]
+pub(crate) fn read_block<'a>(
+    forms: Forms,
+    a: bool,
+    most: usize,
+    octets: &'a [u8],
+) -> Result<Block<'a>, PacketError>
+    ensures exact { Gives plain_block result (block_of forms a most octets.now) }
+    ensures addresses { IfOk result (λ block. AreAddresses a (plain_block block)) }
+{
+    block_in(forms, a, most, octets)
 }
 
 /// A block where there are octets.
 pub(crate) fn read_optional_block<'a>(
+    forms: Forms,
     a: bool,
     most: usize,
     octets: &'a [u8],
 ) -> Result<Option<Block<'a>>, PacketError>
-    ensures { Gives plain_optional result (optional_block a most octets.now) }
+    ensures { Gives plain_optional result (optional_block forms a most octets.now) }
 {
     if octets.is_empty() {
         return Ok(None);
     }
-    let block = read_block(a, most, octets)?;
+    let block = read_block(forms, a, most, octets)?;
     Ok(Some(block))
 }
 
@@ -194,6 +256,7 @@ impl<'a> Block<'a> {
     }
 
     /// What a station takes the called address for.
+    #[inline(always)]
     pub(crate) fn called_taken(&self, a: bool) -> Digits
         requires { AreAddresses a (plain_block self.now) }
         ensures { result ≡ called_taken a (plain_block self.now) }
@@ -206,6 +269,7 @@ impl<'a> Block<'a> {
     }
 
     /// What a station takes the calling address for.
+    #[inline(always)]
     pub(crate) fn calling_taken(&self, a: bool) -> Digits
         requires { AreAddresses a (plain_block self.now) }
         ensures { result ≡ calling_taken a (plain_block self.now) }

@@ -6,13 +6,13 @@
 #![tactic(auto)]
 
 mod block;
-mod call;
 pub mod codes;
 mod digits;
 mod error;
 mod facilities;
 mod halves;
 mod law;
+mod made;
 mod marks;
 mod narrowing;
 mod packet;
@@ -36,6 +36,6 @@ pub use reading::{CALL_OCTETS, LONG_CALL_OCTETS, channel, decode_within, longest
 pub use spelling::encode;
 pub use taking::{read, take};
 pub use wide_facilities::{Own, are_facilities, own_facilities};
-pub use wide_packet::{Kind, WidePacket};
+pub use wide_packet::{Forms, Kind, WidePacket};
 pub use wide_reading::{FAST_SELECT_OCTETS, decode};
 pub use x25_bits::{NoMemory, Seq};

@@ -8,6 +8,7 @@ ghost use Rattle.x25_packet.specs.Spelling.{IsInRange};
 ghost use Rattle.x25_packet.specs.WidePacket.{plain, plain_kind};
 ghost use Rattle.x25_packet.specs.WidePacket.Spelling.{IsPacket};
 ghost use Rattle.x25_packet.specs.WideReading.{Gives};
+ghost use Rattle.x25_packet.specs.declared.wide_packet.Forms.TheVariants.{Any};
 
 use crate::block::Fields;
 use crate::error::PacketError;
@@ -52,6 +53,7 @@ fn field_taken(fields: &Option<Fields>) -> Result<FacilityField, PacketError>
 }
 
 // The facility field of what a packet is taken for: the facilities before a marker that a station knows.
+#[inline(always)]
 fn field_in(packet: &WidePacket) -> Result<FacilityField, PacketError>
     ensures { result ≡ field_in (plain_kind packet.now.kind) }
 {
@@ -71,6 +73,7 @@ fn user_taken<'a>(fields: &Option<Fields<'a>>) -> &'a [u8]
     }
 }
 
+#[inline(always)]
 fn with_field<'a>(packet: &WidePacket<'a>, field: FacilityField) -> Result<Packet<'a>, PacketError>
     requires { HasAddresses packet.now.bit_8 (plain_kind packet.now.kind) }
     ensures { Gives plain_written result (with_field packet.now.channel packet.now.bit_8 packet.now.d
@@ -141,11 +144,13 @@ fn with_field<'a>(packet: &WidePacket<'a>, field: FacilityField) -> Result<Packe
 ///
 /// 26: a packet size or window size out of its range. 22: REJ, DIAGNOSTIC and REGISTRATION, which a station doesn't
 /// know.
+#[inline(always)]
 pub fn narrow<'a>(packet: &WidePacket<'a>) -> Result<Packet<'a>, PacketError>
     requires { HasAddresses packet.now.bit_8 (plain_kind packet.now.kind) }
     ensures exact { Gives plain_written result (narrow_of (plain packet.now)) }
     // Its fields are in their ranges, so that it can be spelled.
-    ensures range { (most : ℕ) → IsPacket most (plain packet.now) → IfOk result (λ p. IsInRange 128 (plain_written p)) }
+    ensures range { (most : ℕ) → IsPacket Any most (plain packet.now)
+        → IfOk result (λ p. IsInRange 128 (plain_written p)) }
 {
     let field = field_in(packet)?;
     with_field(packet, field)

@@ -1,6 +1,13 @@
 use crate::block::Block;
 use x25_bits::Seq;
 
+/// Which forms of packets are read: of each packet the one that a station writes (profile), or all that X.25 has.
+#[derive(Clone, Copy, Debug, PartialEq, Eq)]
+pub enum Forms {
+    Written,
+    Any,
+}
+
 /// What a packet is, but for its channel and the bits of its first octet. ITU-T X.25 (10/96), section 5.
 #[derive(Clone, Copy, Debug)]
 pub enum Kind<'a> {

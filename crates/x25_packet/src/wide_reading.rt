@@ -1,19 +1,23 @@
 //! Packets read from their octets.
-ghost use Rattle.std.specs.Prelude.{◌≡◌, ◌/◌, ◌%◌, ◌==◌, ◌&&◌, IfOk, IsOkAnd};
-ghost use Rattle.x25_packet.specs.WidePacket.{PlainWide, plain, plain_kind};
-ghost use Rattle.x25_packet.specs.WideReading.{Gives, bare, channelled, clear_of, data_of, diagnostic_of, has_format};
-ghost use Rattle.x25_packet.specs.WideReading.{interrupt_of, is_short, kind_of, named, reason_of, unchannelled};
-ghost use Rattle.x25_packet.specs.WideReading.{wide_of};
-ghost use Rattle.x25_packet.specs.WideReading.{called, block_of, registered};
-ghost use Rattle.x25_packet.specs.Block.{plain_block, plain_fields};
+ghost use Rattle.std.specs.Prelude.{◌≡◌, IfOk, IsOkAnd};
+ghost use Rattle.x25_packet.specs.Block.{plain_fields};
+ghost use Rattle.x25_packet.specs.Made.{Makes, Reads};
 ghost use Rattle.x25_packet.specs.Narrowing.{HasAddresses};
+ghost use Rattle.x25_packet.specs.WidePacket.{PlainWide, plain, plain_kind};
 ghost use Rattle.x25_packet.specs.WidePacket.Spelling.{Spells, may_have};
+ghost use Rattle.x25_packet.specs.WideReading.{Gives, accept_of, answer_most, answer_read, bare, call_of, cause_alone};
+ghost use Rattle.x25_packet.specs.WideReading.{channelled, clear_conf_of, clear_of, data_of, diagnostic_of};
+ghost use Rattle.x25_packet.specs.WideReading.{extended_of, has_format, interrupt_of, is_short, kind_of, named};
+ghost use Rattle.x25_packet.specs.WideReading.{read_of, reason_of, registered, rej_of, unchannelled, unwritten};
+ghost use Rattle.x25_packet.specs.WideReading.{wide_of};
+ghost use Rattle.x25_packet.specs.declared.wide_packet.Forms.TheVariants.{Any};
 
 use crate::block::{Fields, read_block, read_optional_block};
 use crate::codes;
 use crate::error::PacketError;
+use crate::made::{Head, Made};
 use crate::wide_facilities::own_facilities;
-use crate::wide_packet::{Kind, WidePacket};
+use crate::wide_packet::{Forms, Kind, WidePacket};
 use x25_bits::Seq;
 
 /// The most octets of user data in CALL, ACCEPT and CLEAR with fast select, section 6.16.
@@ -37,11 +41,12 @@ const INTERRUPT_OCTETS: usize = 32;
 /// The most octets of explanation in a diagnostic packet.
 const EXPLANATION_OCTETS: usize = 3;
 
-fn bare<'a>(kind: Kind<'a>, body: &[u8]) -> Result<Kind<'a>, PacketError>
-    ensures { Gives plain_kind result (bare (plain_kind kind.entry) body.now) }
+fn bare<'a, M: Made<'a>>(head: Head, kind: Kind<'a>, body: &[u8]) -> Result<M, PacketError>
+    requires { HasAddresses head.bit_8 (plain_kind kind) }
+    ensures { Makes M.gives head result (bare (plain_kind kind.entry) body.now) }
 {
     match body {
-        [] => Ok(kind),
+        [] => M::made(head, kind),
         _ => Err(PacketError::TooLong),
     }
 }
@@ -57,54 +62,143 @@ fn is_short(most: usize, fields: Option<Fields>) -> bool
     }
 }
 
-fn call<'a>(a: bool, most: usize, body: &'a [u8]) -> Result<Kind<'a>, PacketError>
-    ensures { Gives plain_kind result (called most (block_of a 128 body.now)) }
+fn call<'a, M: Made<'a>>(
+    head: Head,
+    forms: Forms,
+    most: usize,
+    body: &'a [u8],
+) -> Result<M, PacketError>
+    ensures { Makes M.gives head result (call_of forms head.bit_8 most body.now) }
 {
-    let block = read_block(a, FAST_SELECT_OCTETS, body)?;
-    if !is_short(most, block.fields) {
-        return Err(PacketError::TooLong);
+    match forms {
+        Forms::Written => {
+            let block = read_block(forms, head.bit_8, most, body)?;
+            M::made(head, Kind::Call { block })
+        }
+        Forms::Any => {
+            let block = read_block(forms, head.bit_8, FAST_SELECT_OCTETS, body)?;
+            if !is_short(most, block.fields) {
+                return Err(PacketError::TooLong);
+            }
+            M::made(head, Kind::Call { block })
+        }
     }
-    Ok(Kind::Call { block })
+}
+
+/// What stands first in an ACCEPT: in the form that a station writes address lengths of 0, and facilities.
+fn read_answer(forms: Forms, body: &[u8]) -> Result<(), PacketError>
+    ensures { result ≡ answer_read forms body.now }
+{
+    match forms {
+        Forms::Any => Ok(()),
+        Forms::Written => match body {
+            [0, 0, ..] => Err(PacketError::BadParameter),
+            [] | [0, ..] => Ok(()),
+            _ => Err(PacketError::BadDigit),
+        },
+    }
+}
+
+/// The most octets of user data in an ACCEPT.
+fn answer_most(forms: Forms) -> usize
+    ensures { result ≡ answer_most forms }
+{
+    match forms {
+        Forms::Written => 0,
+        Forms::Any => FAST_SELECT_OCTETS,
+    }
+}
+
+fn accept<'a, M: Made<'a>>(head: Head, forms: Forms, body: &'a [u8]) -> Result<M, PacketError>
+    ensures { Makes M.gives head result (accept_of forms head.bit_8 body.now) }
+{
+    read_answer(forms, body)?;
+    let block = read_optional_block(forms, head.bit_8, answer_most(forms), body)?;
+    M::made(head, Kind::Accept { block })
+}
+
+/// A cause alone, which a station doesn't write.
+fn cause_alone(forms: Forms, cause: u8) -> Result<(u8, Option<u8>), PacketError>
+    ensures { result ≡ cause_alone forms cause }
+{
+    match forms {
+        Forms::Written => Err(PacketError::TooShort),
+        Forms::Any => Ok((cause, None)),
+    }
 }
 
 /// The cause that ends a packet, and the diagnostic that may follow it.
-fn reason(body: &[u8]) -> Result<(u8, Option<u8>), PacketError>
-    ensures { result ≡ reason_of body.now }
+fn reason(forms: Forms, body: &[u8]) -> Result<(u8, Option<u8>), PacketError>
+    ensures { result ≡ reason_of forms body.now }
 {
     match body {
-        [cause] => Ok((*cause, None)),
+        [cause] => cause_alone(forms, *cause),
         [cause, diagnostic] => Ok((*cause, Some(*diagnostic))),
         [] => Err(PacketError::TooShort),
         _ => Err(PacketError::TooLong),
     }
 }
 
-fn clear<'a>(a: bool, body: &'a [u8]) -> Result<Kind<'a>, PacketError>
-    ensures { Gives plain_kind result (clear_of a body.now) }
+/// What stands behind the diagnostic of a CLEAR.
+fn extended<'a, M: Made<'a>>(
+    head: Head,
+    forms: Forms,
+    cause: u8,
+    diagnostic: u8,
+    octets: &'a [u8],
+) -> Result<M, PacketError>
+    ensures { Makes M.gives head result (extended_of forms head.bit_8 cause diagnostic octets.now) }
 {
-    match body {
-        [] => Err(PacketError::TooShort),
-        [cause] => Ok(Kind::Clear {
-            cause: *cause,
-            diagnostic: None,
-        }),
-        [cause, diagnostic] => Ok(Kind::Clear {
-            cause: *cause,
-            diagnostic: Some(*diagnostic),
-        }),
-        [cause, diagnostic, rest @ ..] => {
-            let block = read_block(a, FAST_SELECT_OCTETS, rest)?;
-            Ok(Kind::ExtendedClear {
-                cause: *cause,
-                diagnostic: *diagnostic,
-                block,
-            })
+    match forms {
+        Forms::Written => Err(PacketError::TooLong),
+        Forms::Any => {
+            let block = read_block(forms, head.bit_8, FAST_SELECT_OCTETS, octets)?;
+            M::made(
+                head,
+                Kind::ExtendedClear {
+                    cause,
+                    diagnostic,
+                    block,
+                },
+            )
         }
     }
 }
 
-fn interrupt<'a>(body: &'a [u8]) -> Result<Kind<'a>, PacketError>
-    ensures { Gives plain_kind result (interrupt_of body.now) }
+fn clear<'a, M: Made<'a>>(head: Head, forms: Forms, body: &'a [u8]) -> Result<M, PacketError>
+    ensures { Makes M.gives head result (clear_of forms head.bit_8 body.now) }
+{
+    match body {
+        [] => Err(PacketError::TooShort),
+        [cause] => {
+            let (cause, diagnostic) = cause_alone(forms, *cause)?;
+            M::made(head, Kind::Clear { cause, diagnostic })
+        }
+        [cause, diagnostic] => M::made(
+            head,
+            Kind::Clear {
+                cause: *cause,
+                diagnostic: Some(*diagnostic),
+            },
+        ),
+        [cause, diagnostic, rest @ ..] => extended(head, forms, *cause, *diagnostic, rest),
+    }
+}
+
+fn clear_conf<'a, M: Made<'a>>(head: Head, forms: Forms, body: &'a [u8]) -> Result<M, PacketError>
+    ensures { Makes M.gives head result (clear_conf_of forms head.bit_8 body.now) }
+{
+    match forms {
+        Forms::Written => bare(head, Kind::ClearConf { block: None }, body),
+        Forms::Any => {
+            let block = read_optional_block(forms, head.bit_8, 0, body)?;
+            M::made(head, Kind::ClearConf { block })
+        }
+    }
+}
+
+fn interrupt<'a, M: Made<'a>>(head: Head, body: &'a [u8]) -> Result<M, PacketError>
+    ensures { Makes M.gives head result (interrupt_of body.now) }
 {
     if body.is_empty() {
         return Err(PacketError::TooShort);
@@ -112,25 +206,28 @@ fn interrupt<'a>(body: &'a [u8]) -> Result<Kind<'a>, PacketError>
     if body.len() > INTERRUPT_OCTETS {
         return Err(PacketError::TooLong);
     }
-    Ok(Kind::Interrupt { user: body })
+    M::made(head, Kind::Interrupt { user: body })
 }
 
-fn data<'a>(kind: u8, body: &'a [u8]) -> Result<Kind<'a>, PacketError>
-    ensures { Gives plain_kind result (data_of kind body.now) }
+fn data<'a, M: Made<'a>>(head: Head, kind: u8, body: &'a [u8]) -> Result<M, PacketError>
+    ensures { Makes M.gives head result (data_of kind body.now) }
 {
     if body.len() > DATA_OCTETS {
         return Err(PacketError::TooLong);
     }
-    Ok(Kind::Data {
-        m: kind / 16 % 2 == 1,
-        ps: Seq::modulo(kind / 2),
-        pr: Seq::modulo(kind / 32),
-        user: body,
-    })
+    M::made(
+        head,
+        Kind::Data {
+            m: kind / 16 % 2 == 1,
+            ps: Seq::modulo(kind / 2),
+            pr: Seq::modulo(kind / 32),
+            user: body,
+        },
+    )
 }
 
-fn diagnostic<'a>(body: &'a [u8]) -> Result<Kind<'a>, PacketError>
-    ensures { Gives plain_kind result (diagnostic_of body.now) }
+fn diagnostic<'a, M: Made<'a>>(head: Head, body: &'a [u8]) -> Result<M, PacketError>
+    ensures { Makes M.gives head result (diagnostic_of body.now) }
 {
     let [code, explanation @ ..] = body else {
         return Err(PacketError::TooShort);
@@ -138,10 +235,13 @@ fn diagnostic<'a>(body: &'a [u8]) -> Result<Kind<'a>, PacketError>
     if explanation.len() > EXPLANATION_OCTETS {
         return Err(PacketError::TooLong);
     }
-    Ok(Kind::Diagnostic {
-        code: *code,
-        explanation,
-    })
+    M::made(
+        head,
+        Kind::Diagnostic {
+            code: *code,
+            explanation,
+        },
+    )
 }
 
 /// What REGISTRATION and its confirmation have.
@@ -154,119 +254,170 @@ fn registered<'a>(body: &'a [u8]) -> Result<&'a [u8], PacketError>
     Ok(body)
 }
 
-/// A packet of no channel.
-fn unchannelled<'a>(kind: u8, body: &'a [u8]) -> Result<Kind<'a>, PacketError>
-    ensures { Gives plain_kind result (unchannelled kind body.now) }
+/// A packet of no channel that a station doesn't write.
+fn unwritten<'a, M: Made<'a>>(head: Head, kind: u8, body: &'a [u8]) -> Result<M, PacketError>
+    ensures { Makes M.gives head result (unwritten kind body.now) }
 {
     match kind {
-        codes::RESTART => {
-            let (cause, diagnostic) = reason(body)?;
-            Ok(Kind::Restart { cause, diagnostic })
-        }
-        codes::RESTART_CONF => bare(Kind::RestartConf, body),
-        DIAGNOSTIC => diagnostic(body),
+        DIAGNOSTIC => diagnostic(head, body),
         REGISTRATION => {
             let octets = registered(body)?;
-            Ok(Kind::Registration { octets })
+            M::made(head, Kind::Registration { octets })
         }
         REGISTRATION_CONF => {
             let octets = registered(body)?;
-            Ok(Kind::RegistrationConf { octets })
+            M::made(head, Kind::RegistrationConf { octets })
         }
         _ => Err(PacketError::Unidentified),
+    }
+}
+
+/// A packet of no channel.
+fn unchannelled<'a, M: Made<'a>>(
+    head: Head,
+    forms: Forms,
+    kind: u8,
+    body: &'a [u8],
+) -> Result<M, PacketError>
+    ensures { Makes M.gives head result (unchannelled forms kind body.now) }
+{
+    match kind {
+        codes::RESTART => {
+            let (cause, diagnostic) = reason(forms, body)?;
+            M::made(head, Kind::Restart { cause, diagnostic })
+        }
+        codes::RESTART_CONF => bare(head, Kind::RestartConf, body),
+        _ => match forms {
+            Forms::Written => Err(PacketError::Unidentified),
+            Forms::Any => unwritten(head, kind, body),
+        },
     }
 }
 
 /// A packet of a channel whose type has no number.
-fn named<'a>(a: bool, most: usize, kind: u8, body: &'a [u8]) -> Result<Kind<'a>, PacketError>
-    ensures { Gives plain_kind result (named a most kind body.now) }
+fn named<'a, M: Made<'a>>(
+    head: Head,
+    forms: Forms,
+    most: usize,
+    kind: u8,
+    body: &'a [u8],
+) -> Result<M, PacketError>
+    ensures { Makes M.gives head result (named forms head.bit_8 most kind body.now) }
 {
     match kind {
-        codes::CALL => call(a, most, body),
-        codes::ACCEPT => {
-            let block = read_optional_block(a, FAST_SELECT_OCTETS, body)?;
-            Ok(Kind::Accept { block })
-        }
-        codes::CLEAR => clear(a, body),
-        codes::CLEAR_CONF => {
-            let block = read_optional_block(a, 0, body)?;
-            Ok(Kind::ClearConf { block })
-        }
-        codes::INTERRUPT => interrupt(body),
-        codes::INTERRUPT_CONF => bare(Kind::InterruptConf, body),
+        codes::CALL => call(head, forms, most, body),
+        codes::ACCEPT => accept(head, forms, body),
+        codes::CLEAR => clear(head, forms, body),
+        codes::CLEAR_CONF => clear_conf(head, forms, body),
+        codes::INTERRUPT => interrupt(head, body),
+        codes::INTERRUPT_CONF => bare(head, Kind::InterruptConf, body),
         codes::RESET => {
-            let (cause, diagnostic) = reason(body)?;
-            Ok(Kind::Reset { cause, diagnostic })
+            let (cause, diagnostic) = reason(forms, body)?;
+            M::made(head, Kind::Reset { cause, diagnostic })
         }
-        codes::RESET_CONF => bare(Kind::ResetConf, body),
+        codes::RESET_CONF => bare(head, Kind::ResetConf, body),
         _ => Err(PacketError::Unidentified),
     }
 }
 
-/// A packet of a channel.
-fn channelled<'a>(a: bool, most: usize, kind: u8, body: &'a [u8]) -> Result<Kind<'a>, PacketError>
-    ensures { Gives plain_kind result (channelled a most kind body.now) }
+fn rej<'a, M: Made<'a>>(head: Head, forms: Forms, pr: Seq, body: &[u8]) -> Result<M, PacketError>
+    ensures { Makes M.gives head result (rej_of forms pr.number body.now) }
 {
-    if kind % 2 == 0 {
-        return data(kind, body);
-    }
-    let pr = Seq::modulo(kind / 32);
-    match kind % 32 {
-        codes::RR => bare(Kind::Rr { pr }, body),
-        codes::RNR => bare(Kind::Rnr { pr }, body),
-        REJ => bare(Kind::Rej { pr }, body),
-        _ => named(a, most, kind, body),
+    match forms {
+        Forms::Written => Err(PacketError::Unidentified),
+        Forms::Any => bare(head, Kind::Rej { pr }, body),
     }
 }
 
-fn kind<'a>(
-    a: bool,
+/// A packet of a channel.
+fn channelled<'a, M: Made<'a>>(
+    head: Head,
+    forms: Forms,
     most: usize,
-    channel: u16,
     kind: u8,
     body: &'a [u8],
-) -> Result<Kind<'a>, PacketError>
-    ensures { Gives plain_kind result (kind_of a most channel kind body.now) }
+) -> Result<M, PacketError>
+    ensures { Makes M.gives head result (channelled forms head.bit_8 most kind body.now) }
 {
-    if channel == 0 {
-        unchannelled(kind, body)
+    if kind % 2 == 0 {
+        return data(head, kind, body);
+    }
+    let pr = Seq::modulo(kind / 32);
+    match kind % 32 {
+        codes::RR => bare(head, Kind::Rr { pr }, body),
+        codes::RNR => bare(head, Kind::Rnr { pr }, body),
+        REJ => rej(head, forms, pr, body),
+        _ => named(head, forms, most, kind, body),
+    }
+}
+
+fn kind<'a, M: Made<'a>>(
+    head: Head,
+    forms: Forms,
+    most: usize,
+    kind: u8,
+    body: &'a [u8],
+) -> Result<M, PacketError>
+    ensures { Makes M.gives head result (kind_of forms head.bit_8 most head.channel kind body.now) }
+{
+    if head.channel == 0 {
+        unchannelled(head, forms, kind, body)
     } else {
-        channelled(a, most, kind, body)
+        channelled(head, forms, most, kind, body)
+    }
+}
+
+/// Whether a packet of this type may have these bits 7 and 8 in its first octet.
+fn may_have(forms: Forms, bit_8: bool, d: bool, kind: u8) -> bool
+    ensures { result ≡ may_have forms bit_8 d kind }
+{
+    let is_data = kind % 2 == 0;
+    match forms {
+        Forms::Written => (!bit_8 || is_data) && !d,
+        Forms::Any => {
+            let is_call = kind == codes::CALL || kind == codes::ACCEPT;
+            let is_clear = kind == codes::CLEAR || kind == codes::CLEAR_CONF;
+            let may_8 = !bit_8 || is_data || is_call || is_clear;
+            let may_d = !d || is_data || is_call;
+            may_8 && may_d
+        }
     }
 }
 
 /// Whether the first octet is of a packet modulo 8 with this type.
-fn has_format(first: u8, bit_8: bool, d: bool, kind: u8) -> bool
-    ensures { result ≡ (first / 16 % 4 == 1 && may_have bit_8 d kind) }
+fn has_format(forms: Forms, first: u8, kind: u8) -> bool
+    ensures { result ≡ has_format forms first kind }
 {
-    let is_data = kind % 2 == 0;
-    let is_call = kind == codes::CALL || kind == codes::ACCEPT;
-    let is_clear = kind == codes::CLEAR || kind == codes::CLEAR_CONF;
-    let may_8 = !bit_8 || is_data || is_call || is_clear;
-    let may_d = !d || is_data || is_call;
-    first / 16 % 4 == 1 && may_8 && may_d
+    first / 16 % 4 == 1 && may_have(forms, first / 128 == 1, first / 64 % 2 == 1, kind)
 }
 
-#[tactic(auto, unfolding(crate::specs::WideReading::wide_of))]
-fn read<'a>(most: usize, octets: &'a [u8]) -> Result<WidePacket<'a>, PacketError>
-    ensures { Gives plain result (wide_of most octets.now) }
+/// What the octets are read to, as a packet of these forms.
+#[tactic(auto, unfolding(crate::specs::WideReading::read_of))]
+pub(crate) fn read<'a, M: Made<'a>>(
+    forms: Forms,
+    most: usize,
+    octets: &'a [u8],
+) -> Result<M, PacketError>
+    ensures { Reads M.gives result (read_of forms most octets.now) }
 {
     let [first, second, kind_octet, body @ ..] = octets else {
         return Err(PacketError::TooShort);
     };
-    let bit_8 = *first / 128 == 1;
-    let d = *first / 64 % 2 == 1;
-    if !has_format(*first, bit_8, d, *kind_octet) {
+    if !has_format(forms, *first, *kind_octet) {
         return Err(PacketError::BadFormat);
     }
-    let channel = u16::from(*first % 16) * 256 + u16::from(*second);
-    let kind = kind(bit_8, most, channel, *kind_octet, body)?;
-    Ok(WidePacket {
-        channel,
-        bit_8,
-        d,
-        kind,
-    })
+    let head = Head {
+        channel: u16::from(*first % 16) * 256 + u16::from(*second),
+        bit_8: *first / 128 == 1,
+        d: *first / 64 % 2 == 1,
+    };
+    kind(head, forms, most, *kind_octet, body)
+}
+
+fn read_any<'a>(most: usize, octets: &'a [u8]) -> Result<WidePacket<'a>, PacketError>
+    ensures { Gives plain result (wide_of most octets.now) }
+{
+    read(Forms::Any, most, octets)
 }
 
 /// The packet that the octets spell, with at most `most` octets of user data in a CALL without fast select.
@@ -278,11 +429,11 @@ fn read<'a>(most: usize, octets: &'a [u8]) -> Result<WidePacket<'a>, PacketError
 pub fn decode<'a>(most: usize, octets: &'a [u8]) -> Result<WidePacket<'a>, PacketError>
     ensures exact { Gives plain result (wide_of most octets.now) }
     // What is read is spelled so.
-    ensures found { IfOk result (λ w. Spells most (plain w) octets.now) }
+    ensures found { IfOk result (λ w. Spells Any most (plain w) octets.now) }
     // What is spelled so is read.
-    ensures only { (v : PlainWide) → Spells most v octets.now → IsOkAnd result (λ w. plain w ≡ v) }
+    ensures only { (v : PlainWide) → Spells Any most v octets.now → IsOkAnd result (λ w. plain w ≡ v) }
     // So that `narrow` takes it.
     ensures addresses { IfOk result (λ w. HasAddresses w.bit_8 (plain_kind w.kind)) }
 {
-    read(most, octets)
+    read_any(most, octets)
 }

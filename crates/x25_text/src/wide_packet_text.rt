@@ -5,6 +5,7 @@ ghost use Rattle.x25_packet.specs.Block.{AreAddresses, IsBlock, MayBeBlock, MayB
 ghost use Rattle.x25_packet.specs.Block.{plain_block, plain_fields, plain_optional};
 ghost use Rattle.x25_packet.specs.WidePacket.{plain, plain_kind};
 ghost use Rattle.x25_packet.specs.WidePacket.Spelling.{IsKind};
+ghost use Rattle.x25_packet.specs.declared.wide_packet.Forms.TheVariants.{Any};
 ghost use Rattle.x25_text.specs.PacketText.{confirmation_text, marks_text, numbers_text};
 ghost use Rattle.x25_text.specs.WidePacketText.{block_text, format_text, halves_text, kind_text};
 ghost use Rattle.x25_text.specs.WidePacketText.{optional_block_text, typed_addresses_text, typed_text};
@@ -60,7 +61,7 @@ fn push_bits(m: bool, q: bool, text: &mut Text)
 }
 
 fn push_wide_fields(fields: &Option<Fields>, text: &mut Text)
-    requires fields { MayBeFields 128 (plain_fields fields.now) }
+    requires fields { MayBeFields Any 128 (plain_fields fields.now) }
     requires room { length text.old + 487 ≤ ROOM }
     ensures text { text.new ≡ text.old ++ wide_fields_text (plain_fields fields.now) }
     ensures size { length text.new ≤ length text.old + 487 }
@@ -148,7 +149,7 @@ fn push_typed_addresses(block: &Block, text: &mut Text)
 
 /// Appends addresses in the format that the A bit says, and what follows them.
 fn push_block(a: bool, block: &Block, text: &mut Text)
-    requires block { IsBlock a 128 (plain_block block.now) }
+    requires block { IsBlock Any a 128 (plain_block block.now) }
     requires room { length text.old + 1_020 ≤ ROOM }
     ensures text { text.new ≡ text.old ++ block_text a (plain_block block.now) }
     ensures size { length text.new ≤ length text.old + 1_020 }
@@ -163,7 +164,7 @@ fn push_block(a: bool, block: &Block, text: &mut Text)
 }
 
 fn push_optional_block(a: bool, block: &Option<Block>, text: &mut Text)
-    requires block { MayBeBlock a 128 (plain_optional block.now) }
+    requires block { MayBeBlock Any a 128 (plain_optional block.now) }
     requires room { length text.old + 1_020 ≤ ROOM }
     ensures text { text.new ≡ text.old ++ optional_block_text a (plain_optional block.now) }
     ensures size { length text.new ≤ length text.old + 1_020 }
@@ -187,7 +188,7 @@ fn push_wide_reason(cause: u8, diagnostic: Option<u8>, text: &mut Text)
 /// Appends a packet without the mark of its form.
 #[tactic(auto, using(crate::proofs::BlockLength::with_user_data))]
 fn push_kind(packet: &WidePacket, text: &mut Text)
-    requires range { IsKind packet.now.bit_8 128 (plain_kind packet.now.kind) }
+    requires range { IsKind Any packet.now.bit_8 128 (plain_kind packet.now.kind) }
     requires room { length text.old + 8_250 ≤ ROOM }
     ensures text { text.new ≡ text.old
         ++ kind_text packet.now.channel packet.now.bit_8 packet.now.d (plain_kind packet.now.kind) }
@@ -271,7 +272,7 @@ fn push_kind(packet: &WidePacket, text: &mut Text)
 
 /// Appends a packet that has another form than a station writes, with the mark of that.
 pub fn push_wide_packet(packet: &WidePacket, text: &mut Text)
-    requires range { IsKind packet.now.bit_8 128 (plain_kind packet.now.kind) }
+    requires range { IsKind Any packet.now.bit_8 128 (plain_kind packet.now.kind) }
     requires room { length text.old + MOST_PACKET_TEXT ≤ ROOM }
     ensures text { text.new ≡ text.old ++ wide_packet_text (plain packet.now) }
     ensures size { length text.new ≤ length text.old + MOST_PACKET_TEXT }

@@ -13,9 +13,8 @@ use Rattle.x25_frame.specs.declared.error.FrameError.{FrameError}
 use Rattle.x25_packet.specs.Packet.{call, restart, restart_conf}
 use Rattle.x25_packet.specs.Digits.{halves_of, packed}
 use Rattle.x25_packet.specs.Facilities.{facilities_of}
-use Rattle.x25_packet.specs.Reading.{packet_of}
 use Rattle.x25_packet.specs.WideFacilities.{are_facilities, own_in}
-use Rattle.x25_packet.specs.WideReading.{wide_of}
+use Rattle.x25_packet.specs.WideReading.{read_of}
 use Rattle.x25_circuit.specs.Hearing.{request_in}
 use Rattle.x25_link.specs.Station.{pumped}
 use Rattle.x25_line.specs.laws.Sessions.{Entry, Meeting}
@@ -83,23 +82,23 @@ abbrev sent : ℕ → List ℕ → Entry
 sent session octets = record { session = session; octets = octets }
 
 sabm_reads : frame_of Dte 4099 sabm_octets ≡ Ok (sabm true)
-unfolding digits decode_pairs piped event_turn turn turns event_in lines_of line_in parts_of number_in lose_in damage_in drain_in command_in with_fields small_number_in params_in with_params_in call_in accept_in send_in interrupt_in saying_line entry_line frame_line refusal_line pumped frame_of packet_of halves_of packed facilities_of is_sealed fcs_of number_of divided low_bits add divisor
+unfolding digits decode_pairs piped event_turn turn turns event_in lines_of line_in parts_of number_in lose_in damage_in drain_in command_in with_fields small_number_in params_in with_params_in call_in accept_in send_in interrupt_in saying_line entry_line frame_line refusal_line pumped frame_of read_of halves_of packed own_in facilities_of is_sealed fcs_of number_of divided low_bits add divisor
 sabm_reads = refl
 
 ua_reads : frame_of Dce 4099 ua_octets ≡ Ok (ua true)
-unfolding digits decode_pairs piped event_turn turn turns event_in lines_of line_in parts_of number_in lose_in damage_in drain_in command_in with_fields small_number_in params_in with_params_in call_in accept_in send_in interrupt_in saying_line entry_line frame_line refusal_line pumped frame_of packet_of halves_of packed facilities_of is_sealed fcs_of number_of divided low_bits add divisor
+unfolding digits decode_pairs piped event_turn turn turns event_in lines_of line_in parts_of number_in lose_in damage_in drain_in command_in with_fields small_number_in params_in with_params_in call_in accept_in send_in interrupt_in saying_line entry_line frame_line refusal_line pumped frame_of read_of halves_of packed own_in facilities_of is_sealed fcs_of number_of divided low_bits add divisor
 ua_reads = refl
 
 restart_reads : frame_of Dte 4099 restart_octets ≡ Ok (info 0 0 false restart_packet)
-unfolding digits decode_pairs piped event_turn turn turns event_in lines_of line_in parts_of number_in lose_in damage_in drain_in command_in with_fields small_number_in params_in with_params_in call_in accept_in send_in interrupt_in saying_line entry_line frame_line refusal_line pumped frame_of packet_of halves_of packed facilities_of is_sealed fcs_of number_of divided low_bits add divisor
+unfolding digits decode_pairs piped event_turn turn turns event_in lines_of line_in parts_of number_in lose_in damage_in drain_in command_in with_fields small_number_in params_in with_params_in call_in accept_in send_in interrupt_in saying_line entry_line frame_line refusal_line pumped frame_of read_of halves_of packed own_in facilities_of is_sealed fcs_of number_of divided low_bits add divisor
 restart_reads = refl
 
 confirmation_reads : frame_of Dce 4099 confirmation_octets ≡ Ok (info 0 1 false confirmation_packet)
-unfolding digits decode_pairs piped event_turn turn turns event_in lines_of line_in parts_of number_in lose_in damage_in drain_in command_in with_fields small_number_in params_in with_params_in call_in accept_in send_in interrupt_in saying_line entry_line frame_line refusal_line pumped frame_of packet_of halves_of packed facilities_of is_sealed fcs_of number_of divided low_bits add divisor
+unfolding digits decode_pairs piped event_turn turn turns event_in lines_of line_in parts_of number_in lose_in damage_in drain_in command_in with_fields small_number_in params_in with_params_in call_in accept_in send_in interrupt_in saying_line entry_line frame_line refusal_line pumped frame_of read_of halves_of packed own_in facilities_of is_sealed fcs_of number_of divided low_bits add divisor
 confirmation_reads = refl
 
 call_reads : frame_of Dce 4099 call_octets ≡ Ok (info 1 1 false call_packet)
-unfolding digits decode_pairs piped event_turn turn turns event_in lines_of line_in parts_of number_in lose_in damage_in drain_in command_in with_fields small_number_in params_in with_params_in call_in accept_in send_in interrupt_in saying_line entry_line frame_line refusal_line pumped frame_of packet_of halves_of packed facilities_of is_sealed fcs_of number_of divided low_bits add divisor
+unfolding digits decode_pairs piped event_turn turn turns event_in lines_of line_in parts_of number_in lose_in damage_in drain_in command_in with_fields small_number_in params_in with_params_in call_in accept_in send_in interrupt_in saying_line entry_line frame_line refusal_line pumped frame_of read_of halves_of packed own_in facilities_of is_sealed fcs_of number_of divided low_bits add divisor
 call_reads = refl
 
 none_fit : AreOfFrame []
@@ -129,7 +128,7 @@ layer_does c p deed = does_layer (their_layer (bare c p)).epoch (their_layer (ba
 -- ---- the history
 
 pub call_is_accepted : CallIsAccepted
-unfolding with_in part_in wide_of are_facilities own_in digits decode_pairs piped event_turn turn turns event_in lines_of line_in parts_of number_in lose_in damage_in drain_in command_in with_fields small_number_in params_in with_params_in call_in accept_in send_in interrupt_in saying_line entry_line frame_line refusal_line pumped frame_of packet_of halves_of packed facilities_of is_sealed fcs_of number_of divided low_bits add divisor
+unfolding with_in part_in are_facilities own_in digits decode_pairs piped event_turn turn turns event_in lines_of line_in parts_of number_in lose_in damage_in drain_in command_in with_fields small_number_in params_in with_params_in call_in accept_in send_in interrupt_in saying_line entry_line frame_line refusal_line pumped frame_of read_of halves_of packed facilities_of is_sealed fcs_of number_of divided low_bits add divisor
 call_is_accepted =
     let p0 : Program = nothing_read in
     let p1 : Program = record p0 { read = codes "dte connect\n"; out = sent 0 sabm_octets ∷ [] } in

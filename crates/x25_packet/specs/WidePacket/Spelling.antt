@@ -3,7 +3,9 @@ use Rattle.std.specs.Prelude.{ℕ, ◌+◌, ◌*◌, ◌/◌, ◌%◌, ◌<◌, 
 use Rattle.std.specs.Prelude.{◌∷◌, length}
 use Rattle.std.specs.Prelude.{Option, Some, None}
 use Rattle.x25_bits.specs.Bits.{bit}
-use Rattle.x25_packet.specs.Block.{PlainFields, block_octets, optional_octets, IsBlock, MayBeBlock}
+use Rattle.x25_packet.specs.Block.{PlainBlock, PlainFields, block_octets, optional_octets, IsBlock, MayBeBlock, OfAny}
+use Rattle.x25_packet.specs.declared.wide_packet.Forms.{Forms}
+use Rattle.x25_packet.specs.declared.wide_packet.Forms.TheVariants.{Written, Any}
 use Rattle.x25_packet.specs.WideFacilities.{asks_fast_select}
 use Rattle.x25_packet.specs.WidePacket.{PlainKind, PlainWide, call, accept, clear, extended_clear, clear_conf}
 use Rattle.x25_packet.specs.WidePacket.{user_data, rr}
@@ -65,9 +67,10 @@ spelling_of w = first_of w ∷ w.channel % 256 ∷ type_of w.kind ∷ body_of w.
 -- ---- which values are packets
 
 -- Q is of DATA, whose type is even, A of CALL, ACCEPT, CLEAR and CLEAR CONFIRMATION, D of DATA, CALL and ACCEPT:
--- section 5.1.1
-abbrev pub may_have : Bool → Bool → ℕ → Bool
-may_have bit_8 d kind = (not bit_8 || kind % 2 == 0 || kind == 11 || kind == 15 || kind == 19 || kind == 23)
+-- section 5.1.1. A station writes neither A nor D (profile).
+abbrev pub may_have : Forms → Bool → Bool → ℕ → Bool
+may_have Written bit_8 d kind = (not bit_8 || kind % 2 == 0) && not d
+may_have Any bit_8 d kind = (not bit_8 || kind % 2 == 0 || kind == 11 || kind == 15 || kind == 19 || kind == 23)
     && (not d || kind % 2 == 0 || kind == 11 || kind == 15)
 
 -- RESTART, DIAGNOSTIC and REGISTRATION are of channel 0, all others of a logical channel: section 5.1.2
@@ -86,28 +89,54 @@ IsShort most (Some f) = (length f.user ≤ most) ⊎ (asks_fast_select f.facilit
 
 -- User data is at most 128 octets with fast select (section 6.16): called in ACCEPT, clear user data in CLEAR. Without
 -- it a CALL has at most `most`, which is 16 in the standard.
-abbrev pub IsKind : Bool → ℕ → PlainKind → Type 0
-IsKind a most (call block) = IsBlock a 128 block × IsShort most block.fields
-IsKind a most (accept block) = MayBeBlock a 128 block
-IsKind a most (extended_clear cause reason block) = IsBlock a 128 block
-IsKind a most (clear_conf block) = MayBeBlock a 0 block
-IsKind a most (user_data m ps pr user) = (ps < 8) × (pr < 8) × (length user ≤ 4096)
-IsKind a most (rr pr) = pr < 8
-IsKind a most (rnr pr) = pr < 8
-IsKind a most (rej pr) = pr < 8
-IsKind a most (interrupt user) = (1 ≤ length user) × (length user ≤ 32)
-IsKind a most (diagnostic number explanation) = length explanation ≤ 3
-IsKind a most (registration octets) = length octets ≤ 4096
-IsKind a most (registration_conf octets) = length octets ≤ 4096
-IsKind a most _ = Unit {0}
+abbrev pub IsCall : Forms → Bool → ℕ → PlainBlock → Type 0
+IsCall Written a most block = IsBlock Written a most block
+IsCall Any a most block = IsBlock Any a 128 block × IsShort most block.fields
 
-pub record IsPacket (most : ℕ) (w : PlainWide) : Type 0 where
+abbrev pub HasFacilities : Option PlainFields → Type 0
+HasFacilities None = ⊥
+HasFacilities (Some f) = 1 ≤ length f.facilities
+
+-- a station writes no addresses and no user data in it, and no empty facility field (profile)
+abbrev pub IsAnswer : Forms → Bool → Option PlainBlock → Type 0
+IsAnswer Any a block = MayBeBlock Any a 128 block
+IsAnswer Written a None = Unit {0}
+IsAnswer Written a (Some b) = IsBlock Written a 0 b × (b.called ≡ 0) × (b.calling ≡ 0) × HasFacilities b.fields
+
+-- which a station always writes
+abbrev pub MayLack : Forms → Option ℕ → Type 0
+MayLack forms None = OfAny forms (Unit {0})
+MayLack forms (Some reason) = Unit {0}
+
+abbrev pub IsCleared : Forms → Bool → Option PlainBlock → Type 0
+IsCleared Written a block = block ≡ None
+IsCleared Any a block = MayBeBlock Any a 0 block
+
+abbrev pub IsKind : Forms → Bool → ℕ → PlainKind → Type 0
+IsKind forms a most (call block) = IsCall forms a most block
+IsKind forms a most (accept block) = IsAnswer forms a block
+IsKind forms a most (clear cause reason) = MayLack forms reason
+IsKind forms a most (extended_clear cause reason block) = OfAny forms (IsBlock Any a 128 block)
+IsKind forms a most (clear_conf block) = IsCleared forms a block
+IsKind forms a most (user_data m ps pr user) = (ps < 8) × (pr < 8) × (length user ≤ 4096)
+IsKind forms a most (rr pr) = pr < 8
+IsKind forms a most (rnr pr) = pr < 8
+IsKind forms a most (rej pr) = OfAny forms (pr < 8)
+IsKind forms a most (interrupt user) = (1 ≤ length user) × (length user ≤ 32)
+IsKind forms a most (reset cause reason) = MayLack forms reason
+IsKind forms a most (restart cause reason) = MayLack forms reason
+IsKind forms a most (diagnostic number explanation) = OfAny forms (length explanation ≤ 3)
+IsKind forms a most (registration octets) = OfAny forms (length octets ≤ 4096)
+IsKind forms a most (registration_conf octets) = OfAny forms (length octets ≤ 4096)
+IsKind forms a most _ = Unit {0}
+
+pub record IsPacket (forms : Forms) (most : ℕ) (w : PlainWide) : Type 0 where
   pub channel : w.channel ≤ 4095
   pub place : HasPlace w.channel w.kind
-  pub marks : may_have w.bit_8 w.d (type_of w.kind) ≡ true
-  pub kind : IsKind w.bit_8 most w.kind
+  pub marks : may_have forms w.bit_8 w.d (type_of w.kind) ≡ true
+  pub kind : IsKind forms w.bit_8 most w.kind
 
 -- the octets spell the packet
-pub record Spells (most : ℕ) (w : PlainWide) (octets : List ℕ) : Type 0 where
-  pub packet : IsPacket most w
+pub record Spells (forms : Forms) (most : ℕ) (w : PlainWide) (octets : List ℕ) : Type 0 where
+  pub packet : IsPacket forms most w
   pub spelling : octets ≡ spelling_of w

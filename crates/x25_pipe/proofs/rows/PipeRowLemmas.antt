@@ -7,7 +7,8 @@ use Rattle.x25_bits.specs.FrameCheck.Sealed.{is_sealed}
 use Rattle.x25_frame.specs.Reading.{frame_of}
 use Rattle.x25_packet.specs.Digits.{halves_of, packed}
 use Rattle.x25_packet.specs.Facilities.{facilities_of}
-use Rattle.x25_packet.specs.Reading.{packet_of}
+use Rattle.x25_packet.specs.WideFacilities.{own_in}
+use Rattle.x25_packet.specs.WideReading.{read_of}
 use Rattle.x25_link.specs.Station.{pumped}
 use Rattle.x25_script.specs.Reading.{parts_of, number_in, small_number_in, params_in, with_params_in, call_in, accept_in, send_in, interrupt_in, with_fields, command_in, lose_in, damage_in, drain_in, line_in}
 use Rattle.x25_io.specs.Lines.{lines_of}
@@ -21,9 +22,9 @@ unfolding digits decode_pairs piped event_turn turn turns event_in lines_of sayi
 mark_comes_first = (refl, refl)
 
 pub call_goes_out : CallGoesOut
-unfolding digits decode_pairs piped event_turn turn turns event_in lines_of line_in parts_of number_in lose_in damage_in drain_in command_in with_fields small_number_in params_in with_params_in call_in accept_in send_in interrupt_in saying_line entry_line frame_line refusal_line pumped frame_of packet_of halves_of packed facilities_of is_sealed fcs_of number_of divided low_bits add divisor
+unfolding digits decode_pairs piped event_turn turn turns event_in lines_of line_in parts_of number_in lose_in damage_in drain_in command_in with_fields small_number_in params_in with_params_in call_in accept_in send_in interrupt_in saying_line entry_line frame_line refusal_line pumped frame_of read_of halves_of packed own_in facilities_of is_sealed fcs_of number_of divided low_bits add divisor
 call_goes_out = (refl, refl)
 
 pub others_are_refused : OthersAreRefused
-unfolding digits decode_pairs piped event_turn turn turns event_in lines_of line_in parts_of number_in lose_in damage_in drain_in command_in with_fields small_number_in params_in with_params_in call_in accept_in send_in interrupt_in saying_line entry_line frame_line refusal_line pumped frame_of packet_of halves_of packed facilities_of is_sealed fcs_of number_of divided low_bits add divisor
+unfolding digits decode_pairs piped event_turn turn turns event_in lines_of line_in parts_of number_in lose_in damage_in drain_in command_in with_fields small_number_in params_in with_params_in call_in accept_in send_in interrupt_in saying_line entry_line frame_line refusal_line pumped frame_of read_of halves_of packed own_in facilities_of is_sealed fcs_of number_of divided low_bits add divisor
 others_are_refused = (refl, refl)

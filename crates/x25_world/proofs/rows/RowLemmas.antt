@@ -6,29 +6,28 @@ use Rattle.x25_frame.specs.Reading.{frame_of}
 use Rattle.x25_link.specs.Station.{pumped}
 use Rattle.x25_packet.specs.Digits.{packed, halves_of}
 use Rattle.x25_packet.specs.Facilities.{facilities_of}
-use Rattle.x25_packet.specs.Reading.{packet_of}
 use Rattle.x25_packet.specs.WideFacilities.{are_facilities, own_in}
-use Rattle.x25_packet.specs.WideReading.{wide_of}
+use Rattle.x25_packet.specs.WideReading.{read_of}
 use Rattle.x25_world.specs.rows.WorldRows.{SetsUp, MessageArrives, LostArrives, DamagedArrives, MoreArrives, GivenArrives, ConfirmedArrives, DisconnectEndsBoth, ConnectSetsUp, ConnectGoesAgain, SecondMeetsFirst, SecondMeet, TimerWaits, IsRefused}
 
 pub sets_up : SetsUp
-unfolding pumped frame_of packet_of is_sealed fcs_of number_of low_bits add divisor divided
+unfolding pumped frame_of read_of is_sealed fcs_of number_of low_bits add divisor divided
 sets_up = refl
 
 pub message_arrives : MessageArrives
-unfolding pumped frame_of packed halves_of facilities_of packet_of is_sealed fcs_of number_of low_bits add divisor divided
+unfolding pumped frame_of packed halves_of own_in facilities_of read_of is_sealed fcs_of number_of low_bits add divisor divided
 message_arrives = (refl, refl, refl, refl)
 
 pub lost_arrives : LostArrives
-unfolding pumped frame_of packed halves_of facilities_of packet_of is_sealed fcs_of number_of low_bits add divisor divided
+unfolding pumped frame_of packed halves_of own_in facilities_of read_of is_sealed fcs_of number_of low_bits add divisor divided
 lost_arrives = (refl, refl, refl, refl)
 
 pub damaged_arrives : DamagedArrives
-unfolding pumped frame_of packed halves_of facilities_of packet_of is_sealed fcs_of number_of low_bits add divisor divided
+unfolding pumped frame_of packed halves_of own_in facilities_of read_of is_sealed fcs_of number_of low_bits add divisor divided
 damaged_arrives = (refl, refl, refl, refl)
 
 pub more_arrives : MoreArrives
-unfolding pumped frame_of packed halves_of facilities_of packet_of is_sealed fcs_of number_of low_bits add divisor divided
+unfolding pumped frame_of packed halves_of own_in facilities_of read_of is_sealed fcs_of number_of low_bits add divisor divided
 more_arrives = (
   record {
     drained = record { out = refl; back = refl };
@@ -43,36 +42,36 @@ more_arrives = (
 )
 
 pub given_arrives : GivenArrives
-unfolding are_facilities own_in wide_of pumped frame_of packed halves_of facilities_of packet_of is_sealed fcs_of number_of low_bits add divisor divided
+unfolding are_facilities own_in pumped frame_of packed halves_of facilities_of read_of is_sealed fcs_of number_of low_bits add divisor divided
 given_arrives = (refl, refl, refl, refl)
 
 pub confirmed_arrives : ConfirmedArrives
-unfolding are_facilities own_in wide_of pumped frame_of packed halves_of facilities_of packet_of is_sealed fcs_of number_of low_bits add divisor divided
+unfolding are_facilities own_in pumped frame_of packed halves_of facilities_of read_of is_sealed fcs_of number_of low_bits add divisor divided
 confirmed_arrives = (refl, refl, refl, refl)
 
 pub disconnect_ends_both : DisconnectEndsBoth
-unfolding pumped frame_of packed halves_of facilities_of packet_of is_sealed fcs_of number_of low_bits add divisor divided
+unfolding pumped frame_of packed halves_of own_in facilities_of read_of is_sealed fcs_of number_of low_bits add divisor divided
 disconnect_ends_both = refl
 
 pub connect_sets_up : ConnectSetsUp
-unfolding pumped frame_of packet_of is_sealed fcs_of number_of low_bits add divisor divided
+unfolding pumped frame_of read_of is_sealed fcs_of number_of low_bits add divisor divided
 connect_sets_up = (refl, refl)
 
 pub connect_goes_again : ConnectGoesAgain
-unfolding pumped frame_of packet_of is_sealed fcs_of number_of low_bits add divisor divided
+unfolding pumped frame_of read_of is_sealed fcs_of number_of low_bits add divisor divided
 connect_goes_again = refl
 
 pub second_meets_first : SecondMeetsFirst
 second_meets_first = (refl, refl, refl, refl, refl)
 
 pub second_meet : SecondMeet
-unfolding pumped frame_of packet_of is_sealed fcs_of number_of low_bits add divisor divided
+unfolding pumped frame_of read_of is_sealed fcs_of number_of low_bits add divisor divided
 second_meet = (refl, refl, refl, refl, refl)
 
 pub timer_waits : TimerWaits
-unfolding pumped frame_of packet_of is_sealed fcs_of number_of low_bits add divisor divided
+unfolding pumped frame_of read_of is_sealed fcs_of number_of low_bits add divisor divided
 timer_waits = (refl, refl, refl)
 
 pub is_refused : IsRefused
-unfolding pumped frame_of packed halves_of facilities_of packet_of is_sealed fcs_of number_of low_bits add divisor divided
+unfolding pumped frame_of packed halves_of own_in facilities_of read_of is_sealed fcs_of number_of low_bits add divisor divided
 is_refused = (refl, refl, refl, refl, refl)

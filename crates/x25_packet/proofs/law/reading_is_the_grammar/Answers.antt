@@ -2,7 +2,7 @@ use Rattle.std.proofs.Common.{ℕ, ◌<◌, List, length, inl, inr, arith, get_o
 use Rattle.std.proofs.lemmas.Bool.{cases_lt}
 use Rattle.std.proofs.Math.ListN.{get_or-eq_default}
 use Rattle.std.specs.Prelude.{All}
-use Rattle.x25_packet.proofs.PacketLaws.{found_spells, only_found}
+use Rattle.x25_packet.proofs.NarrowLaws.{found_written, only_written}
 use Rattle.x25_packet.proofs.FaultLaws.{fault_first}
 use Rattle.x25_packet.proofs.law.reading_is_the_grammar.Goals as goal
 
@@ -13,7 +13,7 @@ each_small octets small k = elim (cases_lt k (length octets)) [
 ]
 
 pub returns-clause-spelled : goal.returns-clause-spelled
-returns-clause-spelled c = λ most v octets small. (found_spells most octets v (each_small octets small), only_found most octets v)
+returns-clause-spelled c = λ most v octets small. (found_written most octets (each_small octets small) v, only_written most octets v)
 
 pub returns-clause-error : goal.returns-clause-error
 returns-clause-error c = λ most octets e small. fault_first most octets e (each_small octets small)

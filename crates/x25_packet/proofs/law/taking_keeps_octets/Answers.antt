@@ -6,9 +6,9 @@ pub returns : goal.returns
 returns c = record {
   written = takes_what_is_written;
   spelled = takes_what_is_spelled c.reading_is_the_grammar.ensures.spelled;
-  channel = takes_on_its_channel c.reading_is_the_grammar.ensures.spelled;
-  octets = takes_its_user_data c.reading_is_the_grammar.ensures.spelled;
-  user = takes_all_behind_three c.reading_is_the_grammar.ensures.spelled;
-  range = takes_in_range c.reading_is_the_grammar.ensures.spelled;
-  memory = takes_without_memory c.reading_is_the_grammar.ensures.error;
+  channel = takes_on_its_channel;
+  octets = takes_its_user_data;
+  user = takes_all_behind_three;
+  range = takes_in_range;
+  memory = takes_without_memory;
 }

@@ -7,18 +7,18 @@ use Rattle.x25_packet.specs.Reading.{packet_of, Gives}
 use Rattle.x25_packet.proofs.FacilityLaws.{ok_err, ok_same}
 use Rattle.x25_packet.specs.Reading.FirstError.{IsFirstError}
 use Rattle.x25_packet.proofs.FaultLaws.{fault_first}
-use Rattle.x25_packet.proofs.PacketLaws.{found_spells, only_found}
+use Rattle.x25_packet.proofs.NarrowLaws.{found_written, only_written}
 use Rattle.x25_packet.proofs.reading.decode_within.Goals as goal
 
 pub returns-clause-found : goal.returns-clause-found
-returns-clause-found c = go c.read.result c.read.ensures
+returns-clause-found c = go c.read_written.result c.read_written.ensures
   where
     go : (r : Result Packet PacketError) → Gives r (packet_of c.args.most c.args.octets.now) → IfOk r (λ v. Spells c.args.most (plain v) c.args.octets.now)
-    go (Ok v) e = found_spells c.args.most c.args.octets.now (plain v) (λ i. omega (arith, c.type_inv.octets i)) e
+    go (Ok v) e = found_written c.args.most c.args.octets.now (λ i. omega (arith, c.type_inv.octets i)) (plain v) e
     go (Err f) e = tt
 
 pub returns-clause-only : goal.returns-clause-only
-returns-clause-only c = λ v spells. go c.read.result c.read.ensures v (only_found c.args.most c.args.octets.now v spells)
+returns-clause-only c = λ v spells. go c.read_written.result c.read_written.ensures v (only_written c.args.most c.args.octets.now v spells)
   where
     go : (r : Result Packet PacketError) → Gives r (packet_of c.args.most c.args.octets.now) → (v : PlainPacket)
         → packet_of c.args.most c.args.octets.now ≡ Ok v → IsOkAnd r (λ w. plain w ≡ v)
@@ -26,7 +26,7 @@ returns-clause-only c = λ v spells. go c.read.result c.read.ensures v (only_fou
     go (Err f) e v h = absurd (ok_err (sym e ∙ h))
 
 pub returns-clause-fault : goal.returns-clause-fault
-returns-clause-fault c = go c.read.result c.read.ensures
+returns-clause-fault c = go c.read_written.result c.read_written.ensures
   where
     go : (r : Result Packet PacketError) → Gives r (packet_of c.args.most c.args.octets.now) → IfErr r (IsFirstError c.args.most c.args.octets.now)
     go (Ok v) e = tt

@@ -4,7 +4,7 @@ use Rattle.x25_bits.specs.declared.no_memory.NoMemory.{NoMemory}
 use Rattle.x25_packet.specs.Packet.{plain}
 use Rattle.x25_packet.specs.Spelling.{IsInRange, IsWithoutD, spelling_of}
 use Rattle.x25_packet.specs.Reading.{packet_of}
-use Rattle.x25_packet.proofs.PacketLaws.{appended_again}
+use Rattle.x25_packet.proofs.NarrowLaws.{appended_again}
 use Rattle.x25_packet.proofs.spelling.encode.Goals as goal
 
 pub returns-clause-again : goal.returns-clause-again

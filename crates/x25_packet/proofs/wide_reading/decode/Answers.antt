@@ -4,6 +4,7 @@ use Rattle.x25_packet.specs.WidePacket.{PlainWide, plain, plain_kind}
 use Rattle.x25_packet.specs.WideReading.{Gives, wide_of}
 use Rattle.x25_packet.specs.WidePacket.Spelling.{Spells}
 use Rattle.x25_packet.specs.declared.wide_packet.WidePacket.{WidePacket}
+use Rattle.x25_packet.specs.declared.wide_packet.Forms.TheVariants.{Any}
 use Rattle.x25_packet.proofs.AgainLaws.{only_found}
 use Rattle.x25_packet.specs.Narrowing.{HasAddresses}
 use Rattle.x25_packet.proofs.FacilityLaws.{ok_err, ok_same}
@@ -11,14 +12,14 @@ use Rattle.x25_packet.proofs.FoundLaws.{found_spells, has_addresses}
 use Rattle.x25_packet.proofs.wide_reading.decode.Goals as goal
 
 pub returns-clause-found : goal.returns-clause-found
-returns-clause-found c = go c.read.result c.read.ensures
+returns-clause-found c = go c.read_any.result c.read_any.ensures
   where
-    go : (r : Result WidePacket PacketError) → Gives plain r (wide_of c.args.most c.args.octets.now) → IfOk r (λ w. Spells c.args.most (plain w) c.args.octets.now)
-    go (Ok w) e = found_spells c.args.most c.args.octets.now (plain w) (λ i. omega (arith, c.type_inv.octets i)) e
+    go : (r : Result WidePacket PacketError) → Gives plain r (wide_of c.args.most c.args.octets.now) → IfOk r (λ w. Spells Any c.args.most (plain w) c.args.octets.now)
+    go (Ok w) e = found_spells Any c.args.most c.args.octets.now (plain w) (λ i. omega (arith, c.type_inv.octets i)) e
     go (Err f) e = tt
 
 pub returns-clause-only : goal.returns-clause-only
-returns-clause-only c = λ v spells. go c.read.result c.read.ensures v (only_found c.args.most c.args.octets.now v spells)
+returns-clause-only c = λ v spells. go c.read_any.result c.read_any.ensures v (only_found Any c.args.most c.args.octets.now v spells)
   where
     go : (r : Result WidePacket PacketError) → Gives plain r (wide_of c.args.most c.args.octets.now) → (v : PlainWide)
         → wide_of c.args.most c.args.octets.now ≡ Ok v → IsOkAnd r (λ w. plain w ≡ v)
@@ -26,8 +27,8 @@ returns-clause-only c = λ v spells. go c.read.result c.read.ensures v (only_fou
     go (Err f) e v h = absurd (ok_err (sym e ∙ h))
 
 pub returns-clause-addresses : goal.returns-clause-addresses
-returns-clause-addresses c = go c.read.result c.read.ensures
+returns-clause-addresses c = go c.read_any.result c.read_any.ensures
   where
     go : (r : Result WidePacket PacketError) → Gives plain r (wide_of c.args.most c.args.octets.now) → IfOk r (λ w. HasAddresses w.bit_8 (plain_kind w.kind))
-    go (Ok w) e = has_addresses w.bit_8 c.args.most (plain_kind w.kind) (found_spells c.args.most c.args.octets.now (plain w) (λ i. omega (arith, c.type_inv.octets i)) e).packet.kind
+    go (Ok w) e = has_addresses Any w.bit_8 c.args.most (plain_kind w.kind) (found_spells Any c.args.most c.args.octets.now (plain w) (λ i. omega (arith, c.type_inv.octets i)) e).packet.kind
     go (Err f) e = tt

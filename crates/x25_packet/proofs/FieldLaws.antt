@@ -1,0 +1,41 @@
+-- The facility field that a station writes is facilities of all classes, is short, and says itself.
+use Rattle.std.proofs.Common.{ℕ, ◌≤◌, ◌≡◌, List, [], ◌∷◌, ◌++◌, length, refl, subst, sym, arith, Option, Some, None, Ok}
+use Rattle.x25_packet.specs.declared.facilities.Directions.{Directions}
+use Rattle.x25_packet.specs.Facilities as strict_field
+use Rattle.x25_packet.specs.Narrowing.{field_said}
+use Rattle.x25_packet.specs.WideFacilities.{class_b, none_own, own_in, IsFacilityField}
+use Rattle.x25_packet.proofs.FacilityLaws.{both_within}
+
+pub record SaysItself (field : List ℕ) : Type 0 where
+  pub whole : IsFacilityField field
+  pub few : length field ≤ 6
+  pub said : field_said (own_in none_own 0 field) ≡ Ok field
+
+says : (sizes windows : Option Directions) → strict_field.IfGiven sizes (strict_field.AreWithin 4 12) → strict_field.IfGiven windows (strict_field.AreWithin 1 7)
+    → SaysItself (strict_field.facility 66 sizes ++ strict_field.facility 67 windows)
+unfolding own_in
+says None None h k = record { whole = ([], tt, refl); few = omega arith; said = refl }
+says (Some s) None h k = record {
+  whole = (class_b 66 s.called s.calling ∷ [], (refl, tt), refl);
+  few = omega arith;
+  said = rw (both_within 4 12 s h) refl;
+}
+says None (Some w) h k = record {
+  whole = (class_b 67 w.called w.calling ∷ [], (refl, tt), refl);
+  few = omega arith;
+  said = rw (both_within 1 7 w k) refl;
+}
+says (Some s) (Some w) h k = record {
+  whole = (class_b 66 s.called s.calling ∷ class_b 67 w.called w.calling ∷ [], (refl, (refl, tt)), refl);
+  few = omega arith;
+  said = rw (both_within 4 12 s h, both_within 1 7 w k) refl;
+}
+
+pub says_itself : (field : List ℕ) → strict_field.IsFacilityField field → SaysItself field
+says_itself field (facilities, allowed, e) = subst SaysItself (sym e) (says facilities.packet_size facilities.window_size allowed.sizes allowed.windows)
+
+pub field_few : (field : List ℕ) → strict_field.IsFacilityField field → length field ≤ 6
+field_few field f = (says_itself field f).few
+
+pub no_field : strict_field.IsFacilityField []
+no_field = (record { packet_size = None; window_size = None }, record { sizes = tt; windows = tt }, refl)

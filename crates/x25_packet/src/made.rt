@@ -1,0 +1,59 @@
+//! What a packet is read to.
+ghost use Rattle.x25_packet.specs.Made.{head_with};
+ghost use Rattle.x25_packet.specs.Narrowing.{HasAddresses, narrow_of};
+ghost use Rattle.x25_packet.specs.Packet.{plain as plain_written};
+ghost use Rattle.x25_packet.specs.WidePacket.{PlainWide, plain, plain_kind};
+ghost use Rattle.x25_packet.specs.WideReading.{Gives};
+ghost use Rattle.x25_packet.specs.declared.error.PacketError.{PacketError};
+ghost use Rattle.std.specs.Prelude.{Result, Ok};
+
+use crate::error::PacketError;
+use crate::narrowing::narrow;
+use crate::packet::Packet;
+use crate::wide_packet::{Kind, WidePacket};
+
+/// What the first two octets say.
+#[derive(Clone, Copy, Debug)]
+pub(crate) struct Head {
+    pub(crate) channel: u16,
+    pub(crate) bit_8: bool,
+    pub(crate) d: bool,
+}
+
+/// What a packet is read to: the packet as it is, or the one that a station takes it for.
+pub(crate) trait Made<'a>: Sized {
+    /// This is the answer for the packet.
+    ghost gives: { Result Self PacketError → PlainWide → Type 0 };
+
+    fn made(head: Head, kind: Kind<'a>) -> Result<Self, PacketError>
+        requires { HasAddresses head.bit_8 (plain_kind kind) }
+        ensures { gives result (head_with head (plain_kind kind.entry)) };
+}
+
+impl<'a> Made<'a> for WidePacket<'a> {
+    ghost gives = { λ r w. Gives plain r (Ok w) };
+
+    #[inline(always)]
+    fn made(head: Head, kind: Kind<'a>) -> Result<WidePacket<'a>, PacketError> {
+        Ok(WidePacket {
+            channel: head.channel,
+            bit_8: head.bit_8,
+            d: head.d,
+            kind,
+        })
+    }
+}
+
+impl<'a> Made<'a> for Packet<'a> {
+    ghost gives = { λ r w. Gives plain_written r (narrow_of w) };
+
+    #[inline(always)]
+    fn made(head: Head, kind: Kind<'a>) -> Result<Packet<'a>, PacketError> {
+        narrow(&WidePacket {
+            channel: head.channel,
+            bit_8: head.bit_8,
+            d: head.d,
+            kind,
+        })
+    }
+}
