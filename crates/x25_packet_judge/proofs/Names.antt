@@ -1,6 +1,6 @@
 -- The names that several of these proofs cite, passed on from one place.
 pub use Rattle.std.proofs.Common.{◌≡◌, ◌∙◌, ℕ, Bool, true, false, Some, None, refl, sym, ap, arith, ◌+◌, ◌<◌, zero, suc, List, [], ◌∷◌, ◌++◌, Option, length, replicate, ◌≤◌, map, slice_set, slice_index_or, take, drop, append-nil}
-pub use Rattle.std.proofs.lemmas.Bool.{both_ways, cond_both}
+pub use Rattle.std.proofs.lemmas.Bool.{or_parts, both_ways, and_parts, cond_both}
 pub use Rattle.std.proofs.lemmas.List.{get_or-set_same, get_or-set_other, length-append, length-replicate, take_all, drop_all}
 pub use Rattle.std.specs.Prelude.{◌%◌, ◌==◌, ◌&&◌, ◌||◌, not, if◌then◌else◌, unwrap_or, ◌-◌, is_some, nat_lt, nat_le}
 pub use Rattle.x25_bits.specs.declared.role.Role.{Role}

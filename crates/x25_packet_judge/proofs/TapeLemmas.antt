@@ -1,5 +1,5 @@
 -- What is told of an end, packet by packet and over whole tapes, by the laws of its sets.
-use Rattle.x25_packet_judge.proofs.Names.{◌≡◌, ◌∙◌, ℕ, Bool, true, false, List, [], ◌∷◌, Some, refl, sym, ap, both_ways, ◌||◌, ◌&&◌, is_some, if◌then◌else◌, not, Role, Dte, Dce, PlainPacket, is_of_all, is_restart, takes, any_channel, rule_of, item_of, is_order, Book, RestartAwaited, asked_of, awaits, behind_all, behind_item, end_of, is_manners, is_on, is_quiet, moved, of_restarts, refuses, seen_by, set_of, tape_of_restarts, tape_on, rule_told, BooksTellExactly, InnocentTapesStayUntold, IsBehind, MaySend, Spoken, InnocentsStayUntold, IsRude, PoliteStayUntold, SendsExactly, behind, is_known, sends_to, Packet, Elsewhere, Told}
+use Rattle.x25_packet_judge.proofs.Names.{and_parts, ◌≡◌, ◌∙◌, ℕ, Bool, true, false, List, [], ◌∷◌, Some, refl, sym, ap, ◌||◌, ◌&&◌, is_some, if◌then◌else◌, not, Role, Dte, Dce, PlainPacket, is_of_all, is_restart, takes, any_channel, rule_of, item_of, is_order, Book, RestartAwaited, asked_of, awaits, behind_all, behind_item, end_of, is_manners, is_on, is_quiet, moved, of_restarts, refuses, seen_by, set_of, tape_of_restarts, tape_on, rule_told, BooksTellExactly, InnocentTapesStayUntold, IsBehind, MaySend, Spoken, InnocentsStayUntold, IsRude, PoliteStayUntold, SendsExactly, behind, is_known, sends_to, Packet, Elsewhere, Told}
 use Rattle.x25_packet_judge.proofs.BookLemmas.{books_follow_tapes, judged_so, told_is}
 use Rattle.x25_packet_judge.proofs.TellingLemmas.{broken, polite, rude, unbroken, untold}
 use Rattle.x25_possible.specs.laws.Possible.{Item, Own, Other}
@@ -19,11 +19,7 @@ module _ (sets : SendsExactly) where
   refused : (from : Role) (packet : PlainPacket) (b : Book) → awaits from packet b ≡ true → is_quiet from b ≡ false
       → is_order (rule_of (sends_to Elsewhere (end_of from b.restarts)).told Elsewhere) ≡ true
   refused from packet b is loud =
-      second (not (is_of_all packet)) _ (ap (λ q. not (is_of_all packet) && refuses from (if q then any_channel else b.restarts)) (sym loud) ∙ is)
-    where
-      second : (a c : Bool) → (a && c) ≡ true → c ≡ true
-      second true c h = h
-      second false c h = absurd (both_ways false refl h)
+      (and_parts (not (is_of_all packet)) _ (ap (λ q. not (is_of_all packet) && refuses from (if q then any_channel else b.restarts)) (sym loud) ∙ is)).1
 
   pub tell_exactly : BooksTellExactly
   tell_exactly = record {

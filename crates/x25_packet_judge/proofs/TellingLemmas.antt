@@ -1,5 +1,5 @@
 -- What is told of a packet, by the set of its sender.
-use Rattle.x25_packet_judge.proofs.Names.{◌≡◌, ◌∙◌, ℕ, Bool, true, false, Option, Some, None, refl, sym, ap, both_ways, cond_both, ◌-◌, ◌%◌, ◌==◌, is_some, not, ◌&&◌, ◌||◌, if◌then◌else◌, nat_lt, nat_le, unwrap_or, Role, Dte, Dce, rule_of, sent, is_of_manners, is_order, Channel, ClearAwaited, NoCall, PacketUnsent, ResetAwaited, RestartAwaited, end_of, is_manners, seen_by, behind_item, IsBroken, IsRude, IsUntold, begun, is_known, sends_to, shows_to, Packet, Data, Rr, Rnr, Elsewhere, Set, Told, Nothing, Rude, Broken}
+use Rattle.x25_packet_judge.proofs.Names.{and_parts, or_parts, both_ways, cond_both, ◌≡◌, ◌∙◌, ℕ, Bool, true, false, Option, Some, None, refl, sym, ap, ◌-◌, ◌%◌, ◌==◌, is_some, not, ◌&&◌, ◌||◌, if◌then◌else◌, nat_lt, nat_le, unwrap_or, Role, Dte, Dce, rule_of, sent, is_of_manners, is_order, Channel, ClearAwaited, NoCall, PacketUnsent, ResetAwaited, RestartAwaited, end_of, is_manners, seen_by, behind_item, IsBroken, IsRude, IsUntold, begun, is_known, sends_to, shows_to, Packet, Data, Rr, Rnr, Elsewhere, Set, Told, Nothing, Rude, Broken}
 use Rattle.x25_packet_judge.specs.Numbers.{apart}
 use Rattle.x25_packet_judge.specs.declared.channel.Finding.{Finding}
 use Rattle.x25_packet_judge.specs.declared.packet_rule.PacketRule.{PacketRule}
@@ -11,18 +11,10 @@ use Rattle.x25_packet_judge.specs.Reason as reason
 
 -- ---- reasons are of order, manners are not
 
-first : (a b : Bool) → (a && b) ≡ true → a ≡ true
-first true b h = refl
-first false b h = absurd (both_ways false refl h)
-
-second : (a b : Bool) → (a && b) ≡ true → b ≡ true
-second true b h = h
-second false b h = absurd (both_ways false refl h)
-
 manners_are : (s : Phase) → is_of_manners (reason.manners s) ≡ true
 manners_are (Talks k) = cond_both (nat_lt 0 k.window && (nat_lt k.window 7 && nat_le k.window (k.sent - k.acked))) _ _
     (λ r. is_of_manners r ≡ true)
-    (λ h. first (nat_lt k.window 7) _ (second (nat_lt 0 k.window) _ h)) (λ _. refl)
+    (λ h. (and_parts (nat_lt k.window 7) _ (and_parts (nat_lt 0 k.window) _ h).1).0) (λ _. refl)
 manners_are s = refl
 
 strays_are : (ahead pending : ℕ) (k : Talk) (rule : PacketRule) → is_of_manners rule ≡ false
@@ -131,14 +123,10 @@ none_of : (r : Option PacketRule) → is_some r ≡ false → None ≡ r
 none_of None h = refl
 none_of (Some rule) h = absurd (both_ways true h refl)
 
-pub neither : (a b : Bool) → (a || b) ≡ false → a ≡ false
-neither true b h = h
-neither false b h = refl
-
 none_known : (x : Packet) (s : Set) → Unknown x s → (known : Bool) → is_known s ≡ known
     → (known && (is_some (rule_of (sends_to x s).told x) || is_known (sends_to x s).set)) ≡ false
     → None ≡ rule_of (sends_to x s).told x
-none_known x s unknown true is h = none_of _ (neither _ _ h)
+none_known x s unknown true is h = none_of _ (or_parts _ _ h).0
 none_known x s unknown false is h = sym (ap (λ (t : Told). rule_of t x) (unknown is))
 
 marked_judged : (g h : Finding) (b : Bool) → h.is_judged ≡ false → g.is_judged ≡ b → (if b then g else h).is_judged ≡ b
