@@ -364,7 +364,7 @@ told_room told h g = g
 abbrev RoomOf : End → Type 0
 RoomOf e = HasRoom e.held
 
-goes_stay : (j k : Judge) (from : Role) (frame : PlainFrame) → Goes j k from (seen_by j from frame) → AreRoomy j → AreRoomy k
+goes_stay : (j k : Judge) (from : Role) (frame : PlainFrame) → Goes k from (seen_by j from frame).own (seen_by j from frame).other → AreRoomy j → AreRoomy k
 goes_stay j k from frame g stays =
     by_roles from k RoomOf
     (subst RoomOf (sym g.own) (keeps_room _ frame (told_room _ (own_of from j).held (stays from))))

@@ -11,6 +11,7 @@ use Rattle.x25_judge.proofs.verdicts.Lines.{goes, past, told_of_order}
 use Rattle.x25_judge.proofs.verdicts.Manners.{minds_fair}
 use Rattle.x25_judge.proofs.verdicts.Octets.{HasSent, HasRoom, IsHeld, begun_held, each_room, held_less, held_more, keeps_room, pushed_held, same_octets, sent_held}
 use Rattle.x25_judge.proofs.verdicts.Following.{heard_keeps, IsPart, IsSame, IsSeen, Means, Says, front, means_on, means_same, numbers_of, says, stand_of}
+use Rattle.x25_judge.proofs.verdicts.Silent.{heard_sent}
 use Rattle.x25_line.specs.laws.Peer as peer
 use Rattle.x25_line.specs.laws.PeerSessions as session
 use Rattle.x25_packet_judge.specs.Book as book
@@ -146,10 +147,6 @@ MayHaveSent n Free = Unit {0}
 MayHaveSent n Out = ⊥
 MayHaveSent n Asking = ⊥
 
-heard_sent : (k : Numbers) (x : Frame) → (heard true true k x).sent ≡ k.sent
-heard_sent k (Info ns nr d) = refl
-heard_sent k x = refl
-
 onward_has : (n : ℕ) (u : Stand) (x : Frame) → HasSent n (onward u x) → HasSent n u
 onward_has n (Up k) x h = sym (heard_sent k x) ∙ h
 onward_has n u x h = tt
@@ -159,12 +156,9 @@ onward_may_have n (Up k) x h = heard_sent k x ∙ h
 onward_may_have n Free x h = tt
 onward_may_have n u x h = absurd h
 
-below_has : (n : ℕ) (s u : Stand) → Below s u → MayHaveSent n s → HasSent n u
-below_has n (Up k) (Up j) b h = b.sent ∙ h
-below_has n Free (Up j) b h = absurd b
-below_has n Out u b h = absurd h
-below_has n Asking u b h = absurd h
-below_has n s u b h = tt
+may_has : (n : ℕ) (s : Stand) → MayHaveSent n s → HasSent n s
+may_has n (Up k) h = h
+may_has n s h = tt
 
 below_may_have : (n : ℕ) (s u : Stand) → Below s u → MayHaveSent n s → MayHaveSent n u
 below_may_have n (Up k) (Up j) b h = b.sent ∙ h
@@ -180,7 +174,7 @@ StateHas n (Owes s) = ⊥
 
 covers_has : (n : ℕ) (u : Stand) (v : List Frame) (s : State) (end : List Frame) → Covers u v s end → StateHas n s → HasSent n u
 unfolding StateHas
-covers_has n _ _ _ end (Here s u _ b) h = below_has n s u b h
+covers_has n _ _ _ end (Here s u _ b) h = may_has n u (below_may_have n s u b h)
 covers_has n _ _ _ end (Asked s u q x _ b is) h = absurd h
 covers_has n _ _ s end (Later u x v _ _ k) h = onward_has n u x (covers_has n (onward u x) v s end k h)
 covers_has n _ _ s end (Begins x v _ _ a k) h = tt

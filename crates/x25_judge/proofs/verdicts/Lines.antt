@@ -1,5 +1,5 @@
 -- What a line makes of the judge, where it is a frame.
-use Rattle.x25_judge.proofs.verdicts.Names.{◌≡◌, inl, inr, ℕ, Bool, true, false, List, Option, Some, None, Err, refl, sym, ap, ◌∙◌, subst, is_some, not, ◌&&◌, both_ways, or_parts, cond_both, Role, Dte, Dce, PlainFrame, info, other, PacketRule, Answer, own_of, counts_packet, counts_on, counts_carried, all_told, is_open, told_frame, remark_of, next_by, seen_by, missed_by, next_missed, no_frame, tallies, read_of, sent_of, answer_to, Both, breaks_order, is_of_manners, Judge, Rule, Packet, Shows, IsDamaged, is_of_order, gap_in, n1, frame_of, FrameError, Short, BadFcs, visible_reads}
+use Rattle.x25_judge.proofs.verdicts.Names.{◌≡◌, inl, inr, ℕ, Bool, true, false, List, Option, Some, None, Err, refl, sym, ap, ◌∙◌, subst, is_some, not, ◌&&◌, both_ways, or_parts, cond_both, Role, Dte, Dce, PlainFrame, info, other, PacketRule, Answer, own_of, counts_packet, counts_on, counts_carried, all_told, is_open, told_frame, remark_of, next_by, seen_by, missed_by, next_missed, no_frame, tallies, read_of, sent_of, answer_to, Both, breaks_order, is_of_manners, Judge, Rule, Packet, Shows, IsDamaged, is_of_order, gap_in, n1, frame_of, FrameError, Short, BadFcs, visible_reads, End}
 use Rattle.x25_packet.specs.Reading.{channel_in}
 use Rattle.x25_packet_judge.specs.Book as book
 
@@ -18,9 +18,9 @@ answered j line from octets frame shows =
 -- ---- the judge behind it
 
 -- its ends are those that it shows
-pub record Goes (j k : Judge) (from : Role) (t : Both) : Type 0 where
-  pub own : own_of from k ≡ t.own
-  pub opposite : own_of (other from) k ≡ t.other
+pub record Goes (k : Judge) (from : Role) (sender hearer : End) : Type 0 where
+  pub own : own_of from k ≡ sender
+  pub opposite : own_of (other from) k ≡ hearer
 
 on_any : (from : Role) (channel : Option ℕ) (is_judged : Bool) (j : Judge) (P : Judge → Type 0)
     → ((c : ℕ) → P (counts_packet from c is_judged j)) → P (counts_on from channel is_judged j)
@@ -34,27 +34,26 @@ carried_any from (info ns nr p octets) false is_judged j P h g = on_any from (ch
 carried_any from frame is_again is_judged j P h g = h
 
 pub next_goes : (from : Role) (j : Judge) (frame : PlainFrame) (t : Both) (s : book.Seen) (in_doubt : Bool) (rule : Option Rule)
-    → Goes j (tallies in_doubt rule (next_by from frame t s j)) from t
+    → Goes (tallies in_doubt rule (next_by from frame t s j)) from t.own t.other
 next_goes Dte j frame t s in_doubt rule =
-    carried_any Dte frame t.seen.is_again s.verdict.is_judged _ (λ k. Goes j (tallies in_doubt rule k) Dte t)
+    carried_any Dte frame t.seen.is_again s.verdict.is_judged _ (λ k. Goes (tallies in_doubt rule k) Dte t.own t.other)
     (record { own = refl; opposite = refl }) (λ c. record { own = refl; opposite = refl })
 next_goes Dce j frame t s in_doubt rule =
-    carried_any Dce frame t.seen.is_again s.verdict.is_judged _ (λ k. Goes j (tallies in_doubt rule k) Dce t)
+    carried_any Dce frame t.seen.is_again s.verdict.is_judged _ (λ k. Goes (tallies in_doubt rule k) Dce t.own t.other)
     (record { own = refl; opposite = refl }) (λ c. record { own = refl; opposite = refl })
 
 pub goes : (j : Judge) (line : List ℕ) (from : Role) (octets : List ℕ) (frame : PlainFrame) → Shows line from octets frame
-    → Goes j (answer_to j line).next from (seen_by j from frame)
+    → Goes (answer_to j line).next from (seen_by j from frame).own (seen_by j from frame).other
 goes j line from octets frame shows =
     let t = seen_by j from frame in
     let s = book.sees from j.reading frame (breaks_order t.seen.rule) j.book in
-    subst (λ (a : Answer). Goes j a.next from t) (sym (answered j line from octets frame shows))
+    subst (λ (a : Answer). Goes a.next from t.own t.other) (sym (answered j line from octets frame shows))
     (next_goes from j frame t s _ (all_told t.seen.rule s.verdict.rule))
 
 -- ---- the judge behind octets that are damaged
 
-pub record Past (j k : Judge) (from : Role) : Type 0 where
-  pub own : own_of from k ≡ (missed_by j from).own
-  pub opposite : own_of (other from) k ≡ (missed_by j from).other
+abbrev Past : Judge → Judge → Role → Type 0
+Past j k from = Goes k from (missed_by j from).own (missed_by j from).other
 
 next_past : (from : Role) (e : FrameError) (in_doubt : Bool) (j : Judge)
     → Past j (tallies in_doubt (no_frame e) (next_missed from e (missed_by j from) j)) from

@@ -44,7 +44,7 @@ pub use Rattle.x25_link.specs.Hearing.{other}
 pub use Rattle.x25_link.specs.Station.{Settings}
 pub use Rattle.x25_packet_judge.specs.declared.packet_rule.PacketRule.{PacketRule}
 pub use Rattle.x25_possible.specs.Channel.{nth}
-pub use Rattle.x25_possible.specs.laws.Possible.{IsIn, Place, at, Item, Own, Other}
+pub use Rattle.x25_possible.specs.laws.Possible.{IsIn, Place, at, Item, Other}
 pub use Rattle.x25_possible_links.proofs.Alike.{AllAre, sent_all, shown_all, IsPassed}
 pub use Rattle.x25_possible_links.proofs.Covering.{Has, HasIn, blind_sends, blind_shows, has_less, has_sent, has_shown, has_taken, shows_by, trim_has, is_untold}
 pub use Rattle.x25_possible_links.proofs.Leads.{HoldsAt, Leads, Stays, Steps, stays_at}
