@@ -63,7 +63,8 @@ asked_event channel name (Calls called calling user proposal) =
 asked_event channel name (Accepts None) = on 24 channel
 asked_event channel name (Accepts (Some answer)) = record (on 24 channel) { sizes = sizes_told answer.params }
 asked_event channel name (Clears cause diagnostic) = for_reason cause diagnostic (on 25 channel)
-asked_event channel name (Sends q user) = record (under 26 channel name) { q = q.q; d = q.d; count = length user }
+asked_event channel name (Sends marks user) =
+    record (under 26 channel name) { q = marks.q; d = marks.d; count = length user }
 asked_event channel name (Interrupts user) = record (under 27 channel name) { count = length user }
 asked_event channel name (Resets cause diagnostic) = for_reason cause diagnostic (on 28 channel)
 asked_event channel name SaysReady = on 29 channel
@@ -80,7 +81,7 @@ told_event channel name clear_done = on 14 channel
 told_event channel name (was_reset cause diagnostic) = for_reason cause diagnostic (on 15 channel)
 told_event channel name reset_done = on 16 channel
 told_event channel name (delivered message) =
-    record (under 17 channel name) { q = message.q.q; d = message.q.d; count = length message.user }
+    record (under 17 channel name) { q = message.marks.q; d = message.marks.d; count = length message.user }
 told_event channel name (interrupted user) = record (under 18 channel name) { count = length user }
 told_event channel name interrupt_done = on 19 channel
 told_event channel name (fault diagnostic) = record (on 7 channel) { diagnostic = diagnostic }
@@ -113,7 +114,7 @@ figure digit = (48 + digit) % 256
 -- user data
 abbrev pub asked_user : Request → List ℕ
 asked_user (Calls called calling user proposal) = user
-asked_user (Sends q user) = user
+asked_user (Sends marks user) = user
 asked_user (Interrupts user) = user
 asked_user _ = []
 

@@ -154,9 +154,9 @@ impl Event {
                 diagnostic: *diagnostic,
                 ..Event::on(CLEAR_ASKED, channel)
             },
-            Asked::Send { q, user } => Event {
-                q: q.q,
-                d: q.d,
+            Asked::Send { marks, user } => Event {
+                q: marks.q,
+                d: marks.d,
                 count: user.as_slice().len(),
                 ..Event::under(SEND_ASKED, channel, name)
             },
@@ -202,8 +202,8 @@ impl Event {
             },
             Told::ResetDone => Event::on(RESET_DONE, channel),
             Told::Delivered(message) => Event {
-                q: message.q.q,
-                d: message.q.d,
+                q: message.marks.q,
+                d: message.marks.d,
                 count: message.user.as_slice().len(),
                 ..Event::under(MESSAGE, channel, name)
             },

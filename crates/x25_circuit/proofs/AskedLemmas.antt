@@ -20,14 +20,14 @@ drop_sent (suc n) [] rest low = absurd (omega (arith, low))
 drop_sent (suc n) (p ∷ sent) rest low = drop_sent n sent rest (omega (arith, low))
 
 -- a message asks in its last packet alone
-asked_if : (b : Bool) (q : Marks) (user part : List ℕ) (rest : List Piece) → asked_in rest ≡ bit q.d
-    → asked_in (if b then Last q user ∷ [] else More (with_q q.q) part ∷ rest) ≡ bit q.d
-asked_if true q user part rest h = omega arith
-asked_if false q user part rest h = omega (arith, h)
+asked_if : (b : Bool) (marks : Marks) (user part : List ℕ) (rest : List Piece) → asked_in rest ≡ bit marks.d
+    → asked_in (if b then Last marks user ∷ [] else More (with_q marks.q) part ∷ rest) ≡ bit marks.d
+asked_if true marks user part rest h = omega arith
+asked_if false marks user part rest h = omega (arith, h)
 
-pub asked_cut : (n size : ℕ) (q : Marks) (user : List ℕ) → asked_in (cut_from n size q user) ≡ bit q.d
-asked_cut zero size q user = omega arith
-asked_cut (suc n) size q user = asked_if (nat_le (length user) size) q user (take size user) (cut_from n size q (drop size user)) (asked_cut n size q (drop size user))
+pub asked_cut : (n size : ℕ) (marks : Marks) (user : List ℕ) → asked_in (cut_from n size marks user) ≡ bit marks.d
+asked_cut zero size marks user = omega arith
+asked_cut (suc n) size marks user = asked_if (nat_le (length user) size) marks user (take size user) (cut_from n size marks (drop size user)) (asked_cut n size marks (drop size user))
 
 pub bit_few : (b : Bool) → bit b ≤ 1
 bit_few true = omega arith
@@ -39,8 +39,8 @@ byte_is_bit false = refl
 
 -- no more than messages that end in them
 asked_end : (p : Piece) → bit (asks p) ≤ ends_of p
-asked_end (More q user) = omega arith
-asked_end (Last q user) = bit_few q.d
+asked_end (More marks user) = omega arith
+asked_end (Last marks user) = bit_few marks.d
 
 pub asked_few : (ps : List Piece) → asked_in ps ≤ wholes ps
 asked_few [] = omega arith
@@ -75,20 +75,20 @@ asked_fewer n count ps = subst (λ (rs : List Piece). asked_in rs ≤ asked_in (
 -- ---- the packet cut next: where it has D a message ends with it
 
 abbrev d_of : Piece → Bool
-d_of (More q user) = q.d
-d_of (Last q user) = q.d
+d_of (More marks user) = marks.d
+d_of (Last marks user) = marks.d
 
-d_of_piece : (q : Marks) (m : Bool) (user : List ℕ) → d_of (piece_of q m user) ≡ q.d
-d_of_piece q true user = refl
-d_of_piece q false user = refl
+d_of_piece : (marks : Marks) (m : Bool) (user : List ℕ) → d_of (piece_of marks m user) ≡ marks.d
+d_of_piece marks true user = refl
+d_of_piece marks false user = refl
 
-asks_by : (b : Bool) (q : Marks) (user part : List ℕ) → asks (if b then Last q user else More (with_q q.q) part) ≡ d_of (if b then Last q user else More (with_q q.q) part)
-asks_by true q user part = refl
-asks_by false q user part = refl
+asks_by : (b : Bool) (marks : Marks) (user part : List ℕ) → asks (if b then Last marks user else More (with_q marks.q) part) ≡ d_of (if b then Last marks user else More (with_q marks.q) part)
+asks_by true marks user part = refl
+asks_by false marks user part = refl
 
 asks_by_d : (size : ℕ) (ms : List Message) → asks (first_cut size ms) ≡ d_of (first_cut size ms)
 asks_by_d size [] = refl
-asks_by_d size (m ∷ ms) = asks_by (nat_le (length m.user) size) m.q m.user (take size m.user)
+asks_by_d size (m ∷ ms) = asks_by (nat_le (length m.user) size) m.marks m.user (take size m.user)
 
-pub asks_as_marked : (size : ℕ) (ms : List Message) (q : Marks) (m : Bool) (user : List ℕ) → piece_of q m user ≡ first_cut size ms → asks (piece_of q m user) ≡ q.d
-asks_as_marked size ms q m user e = ap asks e ∙ asks_by_d size ms ∙ sym (ap d_of e) ∙ d_of_piece q m user
+pub asks_as_marked : (size : ℕ) (ms : List Message) (marks : Marks) (m : Bool) (user : List ℕ) → piece_of marks m user ≡ first_cut size ms → asks (piece_of marks m user) ≡ marks.d
+asks_as_marked size ms marks m user e = ap asks e ∙ asks_by_d size ms ∙ sym (ap d_of e) ∙ d_of_piece marks m user

@@ -18,48 +18,48 @@ carried_append j (p ∷ ps) rs =
     ap (λ (ms : List Message). completed j p ++ ms) (carried_append (joined j p) ps rs)
     ∙ sym (append_assoc (completed j p) (carried_from (joined j p) ps) (carried_from (joining (joined j p) ps) rs))
 
-joining_by : (b : Bool) (j : Partial) (q : Marks) (user : List ℕ) (p : Piece) (ps : List Piece) → joining (joined j p) ps ≡ no_part
-    → joining j (if b then Last q user ∷ [] else p ∷ ps) ≡ no_part
-joining_by true j q user p ps e = refl
-joining_by false j q user p ps e = e
+joining_by : (b : Bool) (j : Partial) (marks : Marks) (user : List ℕ) (p : Piece) (ps : List Piece) → joining (joined j p) ps ≡ no_part
+    → joining j (if b then Last marks user ∷ [] else p ∷ ps) ≡ no_part
+joining_by true j marks user p ps e = refl
+joining_by false j marks user p ps e = e
 
-cut_whole : (n size : ℕ) (q : Marks) (user : List ℕ) (j : Partial) → joining j (cut_from n size q user) ≡ no_part
-cut_whole zero size q user j = refl
-cut_whole (suc n) size q user j =
-    joining_by (nat_le (length user) size) j q user (More (with_q q.q) (take size user)) (cut_from n size q (drop size user))
-    (cut_whole n size q (drop size user) (joined j (More (with_q q.q) (take size user))))
+cut_whole : (n size : ℕ) (marks : Marks) (user : List ℕ) (j : Partial) → joining j (cut_from n size marks user) ≡ no_part
+cut_whole zero size marks user j = refl
+cut_whole (suc n) size marks user j =
+    joining_by (nat_le (length user) size) j marks user (More (with_q marks.q) (take size user)) (cut_from n size marks (drop size user))
+    (cut_whole n size marks (drop size user) (joined j (More (with_q marks.q) (take size user))))
 
-carried_by : (b : Bool) (j : Partial) (q : Marks) (user part : List ℕ) (ps : List Piece)
-    → carried_from (joined j (More (with_q q.q) part)) ps ≡ record { q = q; user = j.user ++ user } ∷ []
-    → carried_from j (if b then Last q user ∷ [] else More (with_q q.q) part ∷ ps) ≡ record { q = q; user = j.user ++ user } ∷ []
-carried_by true j q user part ps e = refl
-carried_by false j q user part ps e = e
+carried_by : (b : Bool) (j : Partial) (marks : Marks) (user part : List ℕ) (ps : List Piece)
+    → carried_from (joined j (More (with_q marks.q) part)) ps ≡ record { marks = marks; user = j.user ++ user } ∷ []
+    → carried_from j (if b then Last marks user ∷ [] else More (with_q marks.q) part ∷ ps) ≡ record { marks = marks; user = j.user ++ user } ∷ []
+carried_by true j marks user part ps e = refl
+carried_by false j marks user part ps e = e
 
-cut_carried : (n size : ℕ) (q : Marks) (user : List ℕ) (j : Partial) → carried_from j (cut_from n size q user) ≡ record { q = q; user = j.user ++ user } ∷ []
-cut_carried zero size q user j = refl
-cut_carried (suc n) size q user j =
-    carried_by (nat_le (length user) size) j q user (take size user) (cut_from n size q (drop size user))
-    (cut_carried n size q (drop size user) (joined j (More (with_q q.q) (take size user)))
-    ∙ ap (λ (xs : List ℕ). record { q = q; user = xs } ∷ []) (append_assoc j.user (take size user) (drop size user) ∙ ap (λ (xs : List ℕ). j.user ++ xs) (take-append-drop size user)))
+cut_carried : (n size : ℕ) (marks : Marks) (user : List ℕ) (j : Partial) → carried_from j (cut_from n size marks user) ≡ record { marks = marks; user = j.user ++ user } ∷ []
+cut_carried zero size marks user j = refl
+cut_carried (suc n) size marks user j =
+    carried_by (nat_le (length user) size) j marks user (take size user) (cut_from n size marks (drop size user))
+    (cut_carried n size marks (drop size user) (joined j (More (with_q marks.q) (take size user)))
+    ∙ ap (λ (xs : List ℕ). record { marks = marks; user = xs } ∷ []) (append_assoc j.user (take size user) (drop size user) ∙ ap (λ (xs : List ℕ). j.user ++ xs) (take-append-drop size user)))
 
 pub cut_carries : CutCarries
-cut_carries size q user = cut_carried (length user) size q user no_part
+cut_carries size marks user = cut_carried (length user) size marks user no_part
 
 pub take_adds : TakeAdds
 take_adds taken piece = carried_append no_part taken (piece ∷ []) ∙ ap (λ (ms : List Message). carried taken ++ ms) (append-nil (completed (joining no_part taken) piece))
 
 pub send_adds : SendAdds
-send_adds size q user sent rest whole =
-    ap carried (sym (append_assoc sent rest (cut size q user)))
-    ∙ carried_append no_part (sent ++ rest) (cut size q user)
-    ∙ ap (λ (j : Partial). carried (sent ++ rest) ++ carried_from j (cut size q user)) whole
-    ∙ ap (λ (ms : List Message). carried (sent ++ rest) ++ ms) (cut_carries size q user)
+send_adds size marks user sent rest whole =
+    ap carried (sym (append_assoc sent rest (cut size marks user)))
+    ∙ carried_append no_part (sent ++ rest) (cut size marks user)
+    ∙ ap (λ (j : Partial). carried (sent ++ rest) ++ carried_from j (cut size marks user)) whole
+    ∙ ap (λ (ms : List Message). carried (sent ++ rest) ++ ms) (cut_carries size marks user)
 
 pub send_stays_whole : SendStaysWhole
-send_stays_whole size q user sent rest whole =
-    ap (joining no_part) (sym (append_assoc sent rest (cut size q user)))
-    ∙ joining_append no_part (sent ++ rest) (cut size q user)
-    ∙ cut_whole (length user) size q user (joining no_part (sent ++ rest))
+send_stays_whole size marks user sent rest whole =
+    ap (joining no_part) (sym (append_assoc sent rest (cut size marks user)))
+    ∙ joining_append no_part (sent ++ rest) (cut size marks user)
+    ∙ cut_whole (length user) size marks user (joining no_part (sent ++ rest))
 
 -- ---- none of them is refused
 
@@ -70,28 +70,28 @@ same_as_itself false = refl
 sound_ground : (size : ℕ) (j : Partial) (n : ℕ) (q : Bool) → n ≤ size → length j.user + n ≤ 65535 → may_have_q j.begun q ≡ true → ground_of size j n q ≡ None
 sound_ground size j n q a b e = rw (le-leb _ _ a, le-leb _ _ b, e) refl
 
-sound_by : (b : Bool) (size : ℕ) (j : Partial) (q : Marks) (user : List ℕ) (ps : List Piece) → nat_le (length user) size ≡ b
-    → length j.user + length user ≤ 65535 → may_have_q j.begun q.q ≡ true
-    → (nat_le (length user) size ≡ false → AreSound size (joined j (More (with_q q.q) (take size user))) ps)
-    → AreSound size j (if b then Last q user ∷ [] else More (with_q q.q) (take size user) ∷ ps)
-sound_by true size j q user ps e short same rest = (sound_ground size j (length user) q.q (leb-true _ _ e) short same, tt)
-sound_by false size j q user ps e short same rest =
+sound_by : (b : Bool) (size : ℕ) (j : Partial) (marks : Marks) (user : List ℕ) (ps : List Piece) → nat_le (length user) size ≡ b
+    → length j.user + length user ≤ 65535 → may_have_q j.begun marks.q ≡ true
+    → (nat_le (length user) size ≡ false → AreSound size (joined j (More (with_q marks.q) (take size user))) ps)
+    → AreSound size j (if b then Last marks user ∷ [] else More (with_q marks.q) (take size user) ∷ ps)
+sound_by true size j marks user ps e short same rest = (sound_ground size j (length user) marks.q (leb-true _ _ e) short same, tt)
+sound_by false size j marks user ps e short same rest =
     let more = leb-false _ _ e in
     let taken = length-take-le size user (omega (arith, more)) in
-    (sound_ground size j (length (take size user)) q.q (omega (arith, taken)) (omega (arith, taken, more, short)) same, rest e)
+    (sound_ground size j (length (take size user)) marks.q (omega (arith, taken)) (omega (arith, taken, more, short)) same, rest e)
 
-cut_sound : (n size : ℕ) (q : Marks) (user : List ℕ) (j : Partial) → length user ≤ n → 1 ≤ size → length j.user + length user ≤ 65535 → may_have_q j.begun q.q ≡ true
-    → AreSound size j (cut_from n size q user)
-cut_sound zero size q user j few some short same = (sound_ground size j (length user) q.q (omega (arith, few, some)) short same, tt)
-cut_sound (suc n) size q user j few some short same =
-    sound_by (nat_le (length user) size) size j q user (cut_from n size q (drop size user)) refl short same
+cut_sound : (n size : ℕ) (marks : Marks) (user : List ℕ) (j : Partial) → length user ≤ n → 1 ≤ size → length j.user + length user ≤ 65535 → may_have_q j.begun marks.q ≡ true
+    → AreSound size j (cut_from n size marks user)
+cut_sound zero size marks user j few some short same = (sound_ground size j (length user) marks.q (omega (arith, few, some)) short same, tt)
+cut_sound (suc n) size marks user j few some short same =
+    sound_by (nat_le (length user) size) size j marks user (cut_from n size marks (drop size user)) refl short same
     (λ e.
     let more = leb-false _ _ e in
     let taken = length-take-le size user (omega (arith, more)) in
     let dropped = length-drop size user in
     let joined_length = length-append j.user (take size user) in
-    cut_sound n size q (drop size user) (joined j (More (with_q q.q) (take size user))) (omega (arith, few, some, dropped)) some
-    (omega (arith, short, taken, dropped, joined_length, more)) (same_as_itself q.q))
+    cut_sound n size marks (drop size user) (joined j (More (with_q marks.q) (take size user))) (omega (arith, few, some, dropped)) some
+    (omega (arith, short, taken, dropped, joined_length, more)) (same_as_itself marks.q))
 
 pub cut_is_sound : CutIsSound
-cut_is_sound size q user some short = cut_sound (length user) size q user no_part (omega (arith)) some (omega (arith, short)) refl
+cut_is_sound size marks user some short = cut_sound (length user) size marks user no_part (omega (arith)) some (omega (arith, short)) refl

@@ -102,20 +102,20 @@ unconfirmed_few size v t fits =
     omega (arith, fits.unconfirmed, sent_more size v t t.rest fits, sent_few size v t fits, asked_few t.rest, waits_are size v t fits)
 
 -- a message more waits
-pub asked_more : (size : ℕ) (v : Transfer) (t : Talk) (q : Marks) (user : List ℕ) (byte unconfirmed : ℕ) → length (waiting v.queue) < 8 → byte ≡ from_bool q.d
-    → unconfirmed ≡ min (v.unconfirmed + byte) 255 → FitsTalk size v t → unconfirmed ≡ asked_in (drop t.acked (t.sent ++ (t.rest ++ cut size q user)))
-asked_more size v t q user byte unconfirmed few is sum fits =
+pub asked_more : (size : ℕ) (v : Transfer) (t : Talk) (marks : Marks) (user : List ℕ) (byte unconfirmed : ℕ) → length (waiting v.queue) < 8 → byte ≡ from_bool marks.d
+    → unconfirmed ≡ min (v.unconfirmed + byte) 255 → FitsTalk size v t → unconfirmed ≡ asked_in (drop t.acked (t.sent ++ (t.rest ++ cut size marks user)))
+asked_more size v t marks user byte unconfirmed few is sum fits =
     omega (
       arith,
       unconfirmed_few size v t fits,
       few,
       sent_more size v t t.rest fits,
-      sent_more size v t (t.rest ++ cut size q user) fits,
-      asked_append t.rest (cut size q user),
-      asked_cut (length user) size q user,
+      sent_more size v t (t.rest ++ cut size marks user) fits,
+      asked_append t.rest (cut size marks user),
+      asked_cut (length user) size marks user,
       is,
-      byte_is_bit q.d,
-      bit_few q.d,
+      byte_is_bit marks.d,
+      bit_few marks.d,
       sum,
       fits.unconfirmed,
     )

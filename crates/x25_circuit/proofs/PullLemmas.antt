@@ -58,23 +58,23 @@ nothing_is : (c : Settings) (x : Circuit) → x.state ≡ Open → IsHeld (outgo
 nothing_is c x is_open (inl e) = ap (λ (s : State). pull_in c x s) is_open ∙ ap (λ (ps : List Piece). pull_open c x x.talk ps) e
 nothing_is c x is_open (inr e) = ap (λ (s : State). pull_in c x s) is_open ∙ held_back c x x.talk.rest e
 
-data_packet_of : (ps pr : ℕ) (q : Marks) (m : Bool) (user : List ℕ) → data_packet ps pr (piece_of q m user) ≡ user_data 1 q m ps pr user
-data_packet_of ps pr q true user = refl
-data_packet_of ps pr q false user = refl
+data_packet_of : (ps pr : ℕ) (marks : Marks) (m : Bool) (user : List ℕ) → data_packet ps pr (piece_of marks m user) ≡ user_data 1 marks m ps pr user
+data_packet_of ps pr marks true user = refl
+data_packet_of ps pr marks false user = refl
 
 pub pulls_next : (c : Settings) (v : code.Circuit) (x : Circuit) (u : Transfer) (made : has_memory v.state ≡ true → u.partial.made ≡ true) (header : Header) → FitsCircuit c v x → x.state ≡ Open
     → IsSent (outgoing x).window (outgoing x).size x.talk u header → FitsCircuit c (record v { transfer = u; made = made }) (pulled c x).next
 pulls_next c v x u made header fits is_open sent =
-    let piece = piece_of header.q header.m u.queue.cutter.lent in
+    let piece = piece_of header.marks header.m u.queue.cutter.lent in
     subst (λ (p : Pulled). FitsCircuit c (record v { transfer = u; made = made }) p.next) (sym (pulled_is c x piece sent.others is_open sent.first sent.allowed))
     (with_transfer c v x u made _ fits sent.fits)
 
 pub pulls_packet : (c : Settings) (x : Circuit) (u : Transfer) (header : Header) → x.state ≡ Open
     → IsSent (outgoing x).window (outgoing x).size x.talk u header → packet_with (Some header) u.queue.cutter.lent ≡ (pulled c x).packet
 pulls_packet c x u header is_open sent =
-    let piece = piece_of header.q header.m u.queue.cutter.lent in
+    let piece = piece_of header.marks header.m u.queue.cutter.lent in
     let e = pulled_is c x piece sent.others is_open sent.first sent.allowed in
-    rw (sent.ps, sent.pr) (ap Some (sym (data_packet_of _ _ header.q header.m u.queue.cutter.lent)) ∙ ap (λ (p : Pulled). p.packet) (sym e))
+    rw (sent.ps, sent.pr) (ap Some (sym (data_packet_of _ _ header.marks header.m u.queue.cutter.lent)) ∙ ap (λ (p : Pulled). p.packet) (sym e))
 
 pub holds_next : (c : Settings) (v : code.Circuit) (x : Circuit) (u : Transfer) (made : has_memory v.state ≡ true → u.partial.made ≡ true) → FitsCircuit c v x → x.state ≡ Open
     → IsHeld (outgoing x).window x.talk → FitsTalk (outgoing x).size u x.talk → FitsCircuit c (record v { transfer = u; made = made }) (pulled c x).next

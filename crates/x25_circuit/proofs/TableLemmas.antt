@@ -131,8 +131,8 @@ clear_done c x Clearing cause diagnostic f g = absurd (g refl)
 pub ready_at : (x : Circuit) (s : State) (b : Bool) → s ≡ Open → ready_in x s b ≡ ready_open x x.talk b
 ready_at x s b e = ap (λ (r : State). ready_in x r b) e
 
-pub send_at : (c : Settings) (x : Circuit) (s : State) (q : Marks) (user : List ℕ) → s ≡ Open → send_in c x s q user ≡ send_open c x x.talk q user
-send_at c x s q user e = ap (λ (r : State). send_in c x r q user) e
+pub send_at : (c : Settings) (x : Circuit) (s : State) (marks : Marks) (user : List ℕ) → s ≡ Open → send_in c x s marks user ≡ send_open c x x.talk marks user
+send_at c x s marks user e = ap (λ (r : State). send_in c x r marks user) e
 
 pub call_at : (c : Settings) (x : Circuit) (s : State) (called calling user : List ℕ) (proposal : Proposal) → s ≡ Free → call_in c x s called calling user proposal ≡ call_in c x Free called calling user proposal
 call_at c x s called calling user proposal e = ap (λ (r : State). call_in c x r called calling user proposal) e
@@ -140,9 +140,9 @@ call_at c x s called calling user proposal e = ap (λ (r : State). call_in c x r
 pub accept_at : (x : Circuit) (s : State) (answer : Option Proposal) → s ≡ Arriving → accept_in x s answer ≡ accept_with x answer
 accept_at x s answer e = ap (λ (r : State). accept_in x r answer) e
 
-pub send_full : (c : Settings) (x : Circuit) (q : Marks) (user : List ℕ) → length user ≤ 65535 → waits x ≡ 8 → send_open c x x.talk q user ≡ Refused error.Full
-send_full c x q user short e = rw (le-leb _ _ short, e) refl
+pub send_full : (c : Settings) (x : Circuit) (marks : Marks) (user : List ℕ) → length user ≤ 65535 → waits x ≡ 8 → send_open c x x.talk marks user ≡ Refused error.Full
+send_full c x marks user short e = rw (le-leb _ _ short, e) refl
 
-pub send_waits : (c : Settings) (x : Circuit) (q : Marks) (user : List ℕ) → length user ≤ 65535 → waits x < 8
-    → send_open c x x.talk q user ≡ keeps_on x (with_rest (x.talk.rest ++ cut (outgoing x).size q user) x.talk) None
-send_waits c x q user short e = rw (le-leb _ _ short, lt-ltb _ _ e) refl
+pub send_waits : (c : Settings) (x : Circuit) (marks : Marks) (user : List ℕ) → length user ≤ 65535 → waits x < 8
+    → send_open c x x.talk marks user ≡ keeps_on x (with_rest (x.talk.rest ++ cut (outgoing x).size marks user) x.talk) None
+send_waits c x marks user short e = rw (le-leb _ _ short, lt-ltb _ _ e) refl

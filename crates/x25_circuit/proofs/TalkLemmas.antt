@@ -60,9 +60,9 @@ pub taken_more : (r : Receiver) (b : Bool) (n m : ℕ) → IsTrue b → FitsTake
 taken_more r true n m h fits e = rw e fits
 taken_more r false n m h fits e = absurd (cc)
 
-pub piece_ground_of : (size : ℕ) (j : Partial) (q : Marks) (m : Bool) (user : List ℕ) → piece_ground size j (piece_of q m user) ≡ ground_of size j (length user) q.q
-piece_ground_of size j q true user = refl
-piece_ground_of size j q false user = refl
+pub piece_ground_of : (size : ℕ) (j : Partial) (marks : Marks) (m : Bool) (user : List ℕ) → piece_ground size j (piece_of marks m user) ≡ ground_of size j (length user) marks.q
+piece_ground_of size j marks true user = refl
+piece_ground_of size j marks false user = refl
 
 pub queue_fits : (size : ℕ) (v : Transfer) (t : Talk) (queue : Queue) (rest : List Piece) (unconfirmed : ℕ) → FitsTalk size v t → rest ≡ cut_all size (waiting queue)
     → unconfirmed ≡ asked_in (drop t.acked (t.sent ++ rest)) → FitsTalk size (record v { queue = queue; unconfirmed = unconfirmed }) (with_rest rest t)
@@ -81,10 +81,10 @@ waits_are size v t fits = ap wholes fits.rest ∙ wholes_all size (waiting v.que
 
 -- ---- the grounds of a data packet
 
-pub same_ground : (size least ps : ℕ) (t : Talk) (q : Marks) (m : Bool) (user : List ℕ) → least ≡ size
-    → (if ps == length t.taken % 8 then ground_of least (joining no_part t.taken) (length user) q.q else Some 1)
-    ≡ (if ps == length t.taken % 8 then piece_ground size (joining no_part t.taken) (piece_of q m user) else Some 1)
-same_ground size least ps t q m user e = rw (e, sym (piece_ground_of size (joining no_part t.taken) q m user)) refl
+pub same_ground : (size least ps : ℕ) (t : Talk) (marks : Marks) (m : Bool) (user : List ℕ) → least ≡ size
+    → (if ps == length t.taken % 8 then ground_of least (joining no_part t.taken) (length user) marks.q else Some 1)
+    ≡ (if ps == length t.taken % 8 then piece_ground size (joining no_part t.taken) (piece_of marks m user) else Some 1)
+same_ground size least ps t marks m user e = rw (e, sym (piece_ground_of size (joining no_part t.taken) marks m user)) refl
 
 first_of_two : (b : Bool) (ground : Option ℕ) (n : ℕ) → ground ≡ Some n → (if b then ground else Some 2) ≡ Some (if b then n else 2)
 first_of_two true ground n e = e

@@ -31,7 +31,7 @@ pub data Request : Type 0 where
   Calls : (called : List ℕ) → (calling : List ℕ) → (user : List ℕ) → (proposal : Proposal) → Request
   Accepts : (answer : Option Proposal) → Request
   Clears : (cause : ℕ) → (diagnostic : ℕ) → Request
-  Sends : (q : Marks) → (user : List ℕ) → Request
+  Sends : (marks : Marks) → (user : List ℕ) → Request
   Interrupts : (user : List ℕ) → Request
   Resets : (cause : ℕ) → (diagnostic : ℕ) → Request
   SaysReady : Request
@@ -100,7 +100,7 @@ clear_in c x state cause diagnostic = clear_with c x cause diagnostic
 
 -- a message of at most 65,535 octets waits behind at most seven others
 abbrev pub send_open : Settings → Circuit → Talk → Marks → List ℕ → Outcome
-send_open c x t q user =
+send_open c x t marks user =
     if nat_le (length user) 65535
     then (if nat_lt (waits x) 8
     then keeps_on x (record {
@@ -108,7 +108,7 @@ send_open c x t q user =
       taken = t.taken;
       acked = t.acked;
       rest = t.rest
-          ++ cut (outgoing x).size q user;
+          ++ cut (outgoing x).size marks user;
       int_out = t.int_out;
       peer_ready = t.peer_ready;
       own_ready = t.own_ready;
@@ -148,8 +148,8 @@ ready_open x t is_ready =
     (Some (status is_ready (length t.taken)))
 
 abbrev pub send_in : Settings → Circuit → State → Marks → List ℕ → Outcome
-send_in c x Open q user = send_open c x x.talk q user
-send_in c x state q user = Refused WrongState
+send_in c x Open marks user = send_open c x x.talk marks user
+send_in c x state marks user = Refused WrongState
 
 abbrev pub interrupt_in : Circuit → State → List ℕ → Outcome
 interrupt_in x Open user = interrupt_open x x.talk user
@@ -171,7 +171,7 @@ abbrev pub outcome : Settings → Circuit → Request → Outcome
 outcome c x (Calls called calling user proposal) = call_in c x x.state called calling user proposal
 outcome c x (Accepts answer) = accept_in x x.state answer
 outcome c x (Clears cause diagnostic) = clear_in c x x.state cause diagnostic
-outcome c x (Sends q user) = send_in c x x.state q user
+outcome c x (Sends marks user) = send_in c x x.state marks user
 outcome c x (Interrupts user) = interrupt_in x x.state user
 outcome c x (Resets cause diagnostic) = reset_in c x x.state cause diagnostic
 outcome c x SaysReady = ready_in x x.state true
@@ -187,8 +187,8 @@ abbrev pub pulls_nothing : Circuit → Pulled
 pulls_nothing x = record { next = x; packet = None }
 
 abbrev pub data_packet : ℕ → ℕ → Piece → PlainPacket
-data_packet ps pr (More q user) = user_data 1 q true ps pr user
-data_packet ps pr (Last q user) = user_data 1 q false ps pr user
+data_packet ps pr (More marks user) = user_data 1 marks true ps pr user
+data_packet ps pr (Last marks user) = user_data 1 marks false ps pr user
 
 -- It is sent where the other end is ready and fewer than the window are unacknowledged (section 4.4.1.2), with P(S) and
 -- P(R).

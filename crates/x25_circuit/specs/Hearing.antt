@@ -231,8 +231,8 @@ confirms c x t true =
 confirms c x t false = resets_for c x 43
 
 abbrev pub row_open : Settings → Circuit → Talk → PlainPacket → Answer
-row_open c x t (user_data channel q m ps pr user) =
-    unless c x (data_ground (terms_in x).size t ps pr (piece_of q m user)) (takes x t pr (piece_of q m user))
+row_open c x t (user_data channel marks m ps pr user) =
+    unless c x (data_ground (terms_in x).size t ps pr (piece_of marks m user)) (takes x t pr (piece_of marks m user))
 row_open c x t (rr channel pr) = unless c x (number_ground t pr) (hears_status x t true pr)
 row_open c x t (rnr channel pr) = unless c x (number_ground t pr) (hears_status x t false pr)
 row_open c x t (interrupt channel user) = talks x t (Some (interrupt_conf 1)) (interrupted user ∷ [])

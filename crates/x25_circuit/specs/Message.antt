@@ -10,20 +10,20 @@ use Rattle.x25_circuit.specs.declared.message.Message.{Message}
 -- the user data of a data packet with its marks: the more data mark is 1 or 0, Q is the qualifier, and D asks for
 -- confirmation of delivery
 pub data Piece : Type 0 where
-  More : (q : Marks) → (user : List ℕ) → Piece
-  Last : (q : Marks) → (user : List ℕ) → Piece
+  More : (marks : Marks) → (user : List ℕ) → Piece
+  Last : (marks : Marks) → (user : List ℕ) → Piece
 
 abbrev pub piece_of : Marks → Bool → List ℕ → Piece
-piece_of q true user = More q user
-piece_of q false user = Last q user
+piece_of marks true user = More marks user
+piece_of marks false user = Last marks user
 
 abbrev pub q_of : Piece → Bool
-q_of (More q user) = q.q
-q_of (Last q user) = q.q
+q_of (More marks user) = marks.q
+q_of (Last marks user) = marks.q
 
 abbrev pub user_of : Piece → List ℕ
-user_of (More q user) = user
-user_of (Last q user) = user
+user_of (More marks user) = user
+user_of (Last marks user) = user
 
 -- a message of which some packets have come: Q, where one has, and the octets so far
 pub record Partial : Type 0 where
@@ -34,8 +34,8 @@ abbrev pub no_part : Partial
 no_part = record { begun = None; user = [] }
 
 abbrev pub joined : Partial → Piece → Partial
-joined j (More q user) = record { begun = Some q.q; user = j.user ++ user }
-joined j (Last q user) = no_part
+joined j (More marks user) = record { begun = Some marks.q; user = j.user ++ user }
+joined j (Last marks user) = no_part
 
 -- what is begun, and not ended, behind these packets
 abbrev pub joining : Partial → List Piece → Partial
@@ -44,8 +44,8 @@ joining j (p ∷ ps) = joining (joined j p) ps
 
 -- the message that ends with this packet, where one does
 abbrev pub completed : Partial → Piece → List Message
-completed j (More q user) = []
-completed j (Last q user) = record { q = q; user = j.user ++ user } ∷ []
+completed j (More marks user) = []
+completed j (Last marks user) = record { marks = marks; user = j.user ++ user } ∷ []
 
 abbrev pub carried_from : Partial → List Piece → List Message
 carried_from j [] = []
@@ -88,24 +88,24 @@ AreSound size j (p ∷ ps) = (piece_ground size j p ≡ None) × AreSound size (
 
 -- the first number is at least how many are cut off
 abbrev pub cut_from : ℕ → ℕ → Marks → List ℕ → List Piece
-cut_from zero size q user = Last q user ∷ []
-cut_from (suc n) size q user =
+cut_from zero size marks user = Last marks user ∷ []
+cut_from (suc n) size marks user =
     if nat_le (length user) size
-    then Last q user ∷ []
-    else More (with_q q.q) (take size user) ∷ cut_from n size q (drop size user)
+    then Last marks user ∷ []
+    else More (with_q marks.q) (take size user) ∷ cut_from n size marks (drop size user)
 
 abbrev pub cut : ℕ → Marks → List ℕ → List Piece
-cut size q user = cut_from (length user) size q user
+cut size marks user = cut_from (length user) size marks user
 
 -- the packets of messages, one message after another
 abbrev pub cut_all : ℕ → List Message → List Piece
 cut_all size [] = []
-cut_all size (m ∷ ms) = cut size m.q m.user ++ cut_all size ms
+cut_all size (m ∷ ms) = cut size m.marks m.user ++ cut_all size ms
 
 -- how many messages end in these
 abbrev pub ends_of : Piece → ℕ
-ends_of (More q user) = 0
-ends_of (Last q user) = 1
+ends_of (More marks user) = 0
+ends_of (Last marks user) = 1
 
 abbrev pub wholes : List Piece → ℕ
 wholes [] = 0
@@ -115,8 +115,8 @@ wholes (p ∷ ps) = ends_of p + wholes ps
 
 -- whether a message ends with it of which confirmation was asked
 abbrev pub asks : Piece → Bool
-asks (More q user) = false
-asks (Last q user) = q.d
+asks (More marks user) = false
+asks (Last marks user) = marks.d
 
 -- how many such are in these
 abbrev pub asked_in : List Piece → ℕ

@@ -13,7 +13,7 @@ use Rattle.x25_circuit.specs.code.FitsCircuit.{FitsCircuit, clears_of, resets_of
 -- what the header says, with this user data
 abbrev pub packet_with : Option Header → List ℕ → Option PlainPacket
 packet_with None user = None
-packet_with (Some header) user = Some (user_data 1 header.q header.m header.ps.number header.pr.number user)
+packet_with (Some header) user = Some (user_data 1 header.marks header.m header.ps.number header.pr.number user)
 
 -- for each state that it fitted, it fits the one after the pull; the counts are kept
 abbrev pub EndsPulled : MutBor code.Circuit → Fml

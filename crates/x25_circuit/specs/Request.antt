@@ -29,7 +29,7 @@ abbrev pub plain_request : declared.Request → Request
 plain_request (code.Call called calling user proposal) = Calls called.now calling.now user.now proposal.now
 plain_request (code.Accept answer) = Accepts (plain_answer answer)
 plain_request (code.Clear cause diagnostic) = Clears cause diagnostic
-plain_request (code.Send q user) = Sends q user.now
+plain_request (code.Send marks user) = Sends marks user.now
 plain_request (code.Interrupt user) = Interrupts user.now
 plain_request (code.Reset cause diagnostic) = Resets cause diagnostic
 plain_request code.Ready = SaysReady
@@ -53,20 +53,20 @@ AnswersRequest c v result (Refused e) = result ≡ Err e
 
 -- a message waits, and there is no packet at once
 abbrev pub MayPut : Request → Option Packet → Type 0
-MayPut (Sends q user) packet = packet ≡ None
+MayPut (Sends marks user) packet = packet ≡ None
 MayPut request packet = Unit {0}
 
 -- whether a circuit asks for memory for it: a message is copied, and a call and an acceptance make the memory of
 -- messages that come, where that isn't made yet
 abbrev pub asks_memory : circuit_code.Circuit → Request → Bool
-asks_memory v (Sends q user) = true
+asks_memory v (Sends marks user) = true
 asks_memory v (Calls called calling user proposal) = not (made_of v)
 asks_memory v (Accepts answer) = not (made_of v)
 asks_memory v request = false
 
 -- whether any circuit does
 abbrev pub may_ask_memory : Request → Bool
-may_ask_memory (Sends q user) = true
+may_ask_memory (Sends marks user) = true
 may_ask_memory (Calls called calling user proposal) = true
 may_ask_memory (Accepts answer) = true
 may_ask_memory request = false

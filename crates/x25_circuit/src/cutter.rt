@@ -13,14 +13,14 @@ const MOST_KEPT: usize = 4096;
 /// What is cut off says beside its user data: its marks, and the more data mark.
 #[derive(Clone, Copy)]
 pub struct Cut {
-    pub q: Marks,
+    pub marks: Marks,
     pub m: bool,
 }
 
 /// A message while it is cut into data packets: what is left of it, and the packet cut last, which is lent from it.
 #[derive(Drop)]
 pub struct Cutter {
-    q: Marks,
+    marks: Marks,
     user: Vec<u8>,
     /// Where the packet cut last begins, and where it ends.
     lent: usize,
@@ -50,7 +50,7 @@ impl Cutter {
         ensures { result.left ≡ [] }
     {
         Cutter {
-            q: Marks::with_q(false),
+            marks: Marks::with_q(false),
             user: Vec::new(alloc),
             lent: 0,
             start: 0,
@@ -71,7 +71,7 @@ impl Cutter {
     pub fn load(&mut self, message: Sent)
         ensures { self.new.left ≡ message ∷ [] }
     {
-        self.q = message.marks();
+        self.marks = message.marks();
         self.user = message.into_vec();
         self.lent = 0;
         self.start = 0;
@@ -90,7 +90,7 @@ impl Cutter {
         requires { 0 < length self.old.left }
         ensures left { self.new.left ≡ first_left size self.old.left }
         ensures short { length self.new.lent ≤ size }
-        ensures packet { marked result.q result.m self.new.lent ≡ first_cut size self.old.left }
+        ensures packet { marked result.marks result.m self.new.lent ≡ first_cut size self.old.left }
     {
         let left = self.user.len() - self.start;
         self.lent = self.start;
@@ -98,14 +98,14 @@ impl Cutter {
             self.start += left;
             self.is_cut = true;
             Cut {
-                q: self.q,
+                marks: self.marks,
                 m: false,
             }
         } else {
             self.start += size;
             // A network may join it with the next one: section 4.3.4.
             Cut {
-                q: Marks::with_q(self.q.q),
+                marks: Marks::with_q(self.marks.q),
                 m: true,
             }
         }

@@ -90,7 +90,7 @@ impl Circuit {
     // A data packet that isn't refused, but perhaps for its P(R).
     fn join<'a>(
         &mut self,
-        q: Marks,
+        marks: Marks,
         m: bool,
         ps: Seq,
         pr: Seq,
@@ -102,12 +102,13 @@ impl Circuit {
         requires spare { spares spare.old ≡ 1 }
         requires short { length self.old.transfer.partial.part.user + length user.now ≤ 65535 }
         ensures { RepliesWith self.old self.new result (spares spare.new)
-            (λ c x. unless c x (number_ground x.talk pr.number) (takes x x.talk pr.number (piece_of q m user.now))) }
+            (λ c x. unless c x (number_ground x.talk pr.number)
+            (takes x x.talk pr.number (piece_of marks m user.now))) }
     {
         if !self.transfer.ack(pr) {
             return self.reset_for(INVALID_PR);
         }
-        let message = self.transfer.take(ps, q, m, user, spare);
+        let message = self.transfer.take(ps, marks, m, user, spare);
         let owed = self.status();
         Reply {
             packet: Some(owed),
@@ -119,7 +120,7 @@ impl Circuit {
     // DATA.
     fn hear_data<'a>(
         &mut self,
-        q: Marks,
+        marks: Marks,
         m: bool,
         ps: Seq,
         pr: Seq,
@@ -129,14 +130,14 @@ impl Circuit {
         requires made { made_of self.old ≡ true }
         requires spare { spares spare.old ≡ 1 }
         ensures { RepliesWith self.old self.new result (spares spare.new)
-            (λ c x. row_open c x x.talk (user_data 1 q m ps.number pr.number user.now)) }
+            (λ c x. row_open c x x.talk (user_data 1 marks m ps.number pr.number user.now)) }
     {
         match self
             .transfer
-            .ground(self.incoming().size, ps, q.q, user.len())
+            .ground(self.incoming().size, ps, marks.q, user.len())
         {
             Some(diagnostic) => self.refuse(pr, diagnostic),
-            None => self.join(q, m, ps, pr, user, spare),
+            None => self.join(marks, m, ps, pr, user, spare),
         }
     }
 

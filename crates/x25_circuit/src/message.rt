@@ -7,6 +7,6 @@ use x25_packet::Marks;
 /// ITU-T X.25 (10/96), sections 4.3.3 to 4.3.6; the most octets are of the profile.
 #[derive(Debug, Drop)]
 pub struct Message {
-    pub q: Marks,
+    pub marks: Marks,
     pub user: Octets,
 }

@@ -89,7 +89,7 @@ impl PartialMessage {
     /// next comes in the spare memory then.
     pub fn join(
         &mut self,
-        q: Marks,
+        marks: Marks,
         m: bool,
         user: &[u8],
         spare: &mut Option<Octets>,
@@ -97,18 +97,18 @@ impl PartialMessage {
         requires made { self.old.made ≡ true }
         requires short { length self.old.part.user + length user.now ≤ 65535 }
         requires spare { spares spare.old ≡ 1 }
-        ensures part { self.new.part ≡ joined self.old.part (piece_of q m user.now) }
+        ensures part { self.new.part ≡ joined self.old.part (piece_of marks m user.now) }
         ensures made { self.new.made ≡ true }
-        ensures message { option_to_list result ≡ completed self.old.part (piece_of q m user.now) }
+        ensures message { option_to_list result ≡ completed self.old.part (piece_of marks m user.now) }
         ensures short { length self.new.part.user ≤ 65535 }
         ensures spare { spares spare.new + length (option_to_list result) ≡ 1 }
     {
         self.append(user);
         if m {
-            self.begun = Some(q.q);
+            self.begun = Some(marks.q);
             return None;
         }
-        Some(self.finish(q, spare))
+        Some(self.finish(marks, spare))
     }
 
     // The octets that have come, and these behind them.
@@ -125,10 +125,10 @@ impl PartialMessage {
     }
 
     // The message of all octets that have come. The next one comes in the spare memory.
-    fn finish(&mut self, q: Marks, spare: &mut Option<Octets>) -> Message
+    fn finish(&mut self, marks: Marks, spare: &mut Option<Octets>) -> Message
         requires made { self.old.made ≡ true }
         requires spare { spares spare.old ≡ 1 }
-        ensures message { result ≡ record { q = q; user = self.old.part.user } }
+        ensures message { result ≡ record { marks = marks; user = self.old.part.user } }
         ensures part { self.new.part ≡ no_part }
         ensures made { self.new.made ≡ true }
         ensures spare { spares spare.new ≡ 0 }
@@ -141,7 +141,7 @@ impl PartialMessage {
             unreachable!();
         };
         self.begun = None;
-        Message { q, user }
+        Message { marks, user }
     }
 
     /// Drops it, and keeps its memory.

@@ -30,7 +30,7 @@ impl<'a> DataPacket<'a> {
     {
         Packet::Data {
             channel: 1,
-            marks: self.header.q,
+            marks: self.header.marks,
             m: self.header.m,
             ps: self.header.ps,
             pr: self.header.pr,

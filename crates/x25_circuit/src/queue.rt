@@ -80,7 +80,7 @@ impl Queue {
     pub fn cut(&mut self, size: usize) -> Option<Cut>
         ensures some { IfSome result (λ cut. 0 < length (waiting self.old)) }
         ensures left { IfSome result (λ cut. waiting self.new ≡ first_left size (waiting self.old)) }
-        ensures packet { IfSome result (λ cut. marked cut.q cut.m self.new.cutter.lent
+        ensures packet { IfSome result (λ cut. marked cut.marks cut.m self.new.cutter.lent
             ≡ first_cut size (waiting self.old)) }
         ensures short { IfSome result (λ cut. length self.new.cutter.lent ≤ size) }
         ensures none { IfNone result (waiting self.old ≡ []) }

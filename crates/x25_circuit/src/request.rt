@@ -45,7 +45,7 @@ pub enum Request<'a> {
         diagnostic: u8,
     },
     Send {
-        q: Marks,
+        marks: Marks,
         user: &'a [u8],
     },
     Interrupt {
@@ -101,8 +101,8 @@ impl Circuit {
             } => with_packet(self.call(called, calling, user, proposal)),
             Request::Accept { answer } => with_packet(self.accept(answer)),
             Request::Clear { cause, diagnostic } => with_packet(self.clear(cause, diagnostic)),
-            Request::Send { q, user } => {
-                self.send(q, user)?;
+            Request::Send { marks, user } => {
+                self.send(marks, user)?;
                 Ok(None)
             }
             Request::Interrupt { user } => with_packet(self.interrupt(user)),
@@ -171,10 +171,10 @@ impl Circuit {
     }
 
     pub(crate) fn send_refusal(&self, count: usize) -> Option<CircuitError>
-        ensures refusal { (c : Settings) (x : Channel) (q : Marks) (user : List ℕ) → length user ≡ count
-            → FitsCircuit c self.now x → result ≡ refusal_of (send_in c x x.state q user) }
-        ensures refused { (c : Settings) (x : Channel) (q : Marks) (user : List ℕ) → length user ≡ count
-            → FitsCircuit c self.now x → IfSome result (λ e. send_in c x x.state q user ≡ Refused e) }
+        ensures refusal { (c : Settings) (x : Channel) (marks : Marks) (user : List ℕ) → length user ≡ count
+            → FitsCircuit c self.now x → result ≡ refusal_of (send_in c x x.state marks user) }
+        ensures refused { (c : Settings) (x : Channel) (marks : Marks) (user : List ℕ) → length user ≡ count
+            → FitsCircuit c self.now x → IfSome result (λ e. send_in c x x.state marks user ≡ Refused e) }
         ensures open { IfNone result (self.now.state ≡ State.Open) }
         ensures short { IfNone result (count ≤ 65535) }
         ensures few { IfNone result (length (waiting self.now.transfer.queue) < 8) }

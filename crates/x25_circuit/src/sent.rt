@@ -6,7 +6,7 @@ use x25_packet::Marks;
 /// A message that waits to be sent, in memory of its own. Contracts see the message.
 #[derive(Drop)]
 pub struct Sent {
-    q: Marks,
+    marks: Marks,
     octets: Vec<u8>,
 }
 
@@ -16,26 +16,26 @@ impl Model for Sent {
 
     ghost Value = { Message };
 
-    ghost view = { λ s. record { q = s.q; user = s.octets.items } };
+    ghost view = { λ s. record { marks = s.marks; user = s.octets.items } };
 
     ghost invariant = { λ s. (vec_len s.octets ≤ 65535) × (vec_capacity s.octets ≤ 65535) };
 }
 
 impl Sent {
     /// The message of these octets. It takes no memory.
-    pub fn of(q: Marks, octets: Vec<u8>) -> Sent
+    pub fn of(marks: Marks, octets: Vec<u8>) -> Sent
         requires short { vec_len octets ≤ 65535 }
         requires memory { vec_capacity octets ≤ 65535 }
-        ensures { result ≡ record { q = q; user = octets.items } }
+        ensures { result ≡ record { marks = marks; user = octets.items } }
     {
-        Sent { q, octets }
+        Sent { marks, octets }
     }
 
     /// Its marks.
     pub fn marks(&self) -> Marks
-        ensures { result ≡ self.now.q }
+        ensures { result ≡ self.now.marks }
     {
-        self.q
+        self.marks
     }
 
     /// The list of its octets. It takes no memory.

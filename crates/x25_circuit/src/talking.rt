@@ -21,17 +21,17 @@ impl Circuit {
     /// 30 WrongState outside of p4 with d1, then 32 TooLong, then 31 Full exactly where 8 messages wait, and else 70
     /// alone.
     #[inline(always)]
-    pub(crate) fn send(&mut self, q: Marks, user: &[u8]) -> Result<(), CircuitError>
+    pub(crate) fn send(&mut self, marks: Marks, user: &[u8]) -> Result<(), CircuitError>
         ensures outcome { (c : Settings) (x : Channel) → FitsCircuit c self.old x
-            → Keeps c self.new result (outcome c x (CallSends q user.now)) }
+            → Keeps c self.new result (outcome c x (CallSends marks user.now)) }
         ensures keeps { KeepsCounts self.old self.new }
         ensures unchanged { OnErr result (self.new ≡ self.old) }
-        ensures memory { IsErrOf result CircuitError.NoMemory → MayLack self.old (CallSends q user.now) }
+        ensures memory { IsErrOf result CircuitError.NoMemory → MayLack self.old (CallSends marks user.now) }
     {
         if let Some(error) = self.send_refusal(user.len()) {
             return Err(error);
         }
-        self.transfer.push(q, user)?;
+        self.transfer.push(marks, user)?;
         Ok(())
     }
 

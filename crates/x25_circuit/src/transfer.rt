@@ -31,7 +31,7 @@ pub const PACKETS: u8 = 7;
 /// What a data packet says beside its user data.
 #[derive(Clone, Copy)]
 pub struct Header {
-    pub q: Marks,
+    pub marks: Marks,
     pub m: bool,
     pub ps: Seq,
     pub pr: Seq,
@@ -175,7 +175,7 @@ impl Transfer {
     pub fn take(
         &mut self,
         ps: Seq,
-        q: Marks,
+        marks: Marks,
         m: bool,
         user: &[u8],
         spare: &mut Option<Octets>,
@@ -185,29 +185,29 @@ impl Transfer {
         requires spare { spares spare.old ≡ 1 }
         requires short { length self.old.partial.part.user + length user.now ≤ 65535 }
         ensures fits { (size : ℕ) (t : Talk) → FitsTalk size self.old t
-            → FitsTalk size self.new (with_taken (piece_of q m user.now) t) }
+            → FitsTalk size self.new (with_taken (piece_of marks m user.now) t) }
         ensures message { (size : ℕ) (t : Talk) → FitsTalk size self.old t
-            → option_to_list result ≡ completed (joining no_part t.taken) (piece_of q m user.now) }
+            → option_to_list result ≡ completed (joining no_part t.taken) (piece_of marks m user.now) }
         ensures queue { self.new.queue ≡ self.old.queue }
         ensures made { self.new.partial.made ≡ true }
         ensures spare { spares spare.new + length (option_to_list result) ≡ 1 }
     {
         self.receiver.accept(ps);
-        self.partial.join(q, m, user, spare)
+        self.partial.join(marks, m, user, spare)
     }
 
     /// Lets a copy of a message wait. Err: no memory; all is as it was then.
-    pub fn push(&mut self, q: Marks, user: &[u8]) -> Result<(), AllocError>
+    pub fn push(&mut self, marks: Marks, user: &[u8]) -> Result<(), AllocError>
         requires few { length (waiting self.old.queue) < 8 }
         requires short { length user.now ≤ 65535 }
         ensures fits { (size : ℕ) (t : Talk) → FitsTalk size self.old t
-            → OnOk result (FitsTalk size self.new (with_rest (t.rest ++ cut size q user.now) t)) }
+            → OnOk result (FitsTalk size self.new (with_rest (t.rest ++ cut size marks user.now) t)) }
         ensures partial { self.new.partial ≡ self.old.partial }
         ensures unchanged { OnErr result (self.new ≡ self.old) }
     {
         let memory = self.queue.memory(user.len())?;
-        self.queue.push(Sent::of(q, with_octets(memory, user)));
-        self.unconfirmed = self.unconfirmed.saturating_add(u8::from(q.d));
+        self.queue.push(Sent::of(marks, with_octets(memory, user)));
+        self.unconfirmed = self.unconfirmed.saturating_add(u8::from(marks.d));
         Ok(())
     }
 
@@ -227,9 +227,9 @@ impl Transfer {
         let Some(cut) = self.queue.cut(terms.size) else {
             return None;
         };
-        let ps = count_sent(&mut self.sender, cut.q.d);
+        let ps = count_sent(&mut self.sender, cut.marks.d);
         Some(Header {
-            q: cut.q,
+            marks: cut.marks,
             m: cut.m,
             ps,
             pr: self.receiver.wanted(),

@@ -38,7 +38,7 @@ impl Proposals {
             },
             5 => clear(0),
             6 => Request::Send {
-                q: Marks::with_q(false),
+                marks: Marks::with_q(false),
                 user: &[],
             },
             7 => Request::Interrupt { user: b"1" },
@@ -51,7 +51,7 @@ impl Proposals {
             14 => reset(128),
             15 => reset(255),
             _ => Request::Send {
-                q: Marks { q: false, d: true },
+                marks: Marks { q: false, d: true },
                 user: &[],
             },
         }

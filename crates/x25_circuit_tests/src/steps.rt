@@ -242,7 +242,10 @@ fn asked(circuit: &mut Circuit, index: usize) -> Answer {
 fn replied(reply: &Reply) -> Answer {
     let (number, message) = match &reply.notice {
         Some(Notice::Fault { diagnostic }) => (*diagnostic, None),
-        Some(Notice::Delivered(message)) => (0, Some((message.q, message.user.as_slice().len()))),
+        Some(Notice::Delivered(message)) => (
+            0,
+            Some((message.marks, message.user.as_slice().len())),
+        ),
         _ => (0, None),
     };
     (number, message, shape_of(&reply.packet))

@@ -68,7 +68,7 @@ does_interrupt size x xs =
 
 does_send : (t : Terms) (x : Stretch) (q : Marks) (xs : List ℕ) → Does t.size x (sends t x q xs)
 does_send t x q xs =
-    let sent : StretchStep = stretch_does (record x { rest = x.rest ++ cut t.size q xs; down = x.down ++ record { q = q; user = xs } ∷ [] }) [] in
+    let sent : StretchStep = stretch_does (record x { rest = x.rest ++ cut t.size q xs; down = x.down ++ record { marks = q; user = xs } ∷ [] }) [] in
     cond_both (nat_le (length xs) 65535) (if nat_lt (wholes x.rest) 8 then sent else stretch_does x []) (stretch_does x []) (λ s. Does t.size x s)
     (λ _. cond_both (nat_lt (wholes x.rest) 8) sent (stretch_does x []) (λ s. Does t.size x s) (λ _. Nothing refl refl) (λ _. does_still t.size x))
     (λ _. does_still t.size x)

@@ -98,7 +98,7 @@ Ints-conf down up u v h = record { count = omega arith; flow = h.flow }
 -- messages
 
 pub Text-send : (size : ℕ) (sent rest : List Piece) (down : List Message) (q : Marks) (xs : List ℕ) → 1 ≤ size → length xs ≤ 65535 → Text size sent rest down
-    → Text size sent (rest ++ cut size q xs) (down ++ record { q = q; user = xs } ∷ [])
+    → Text size sent (rest ++ cut size q xs) (down ++ record { marks = q; user = xs } ∷ [])
 Text-send size sent rest down q xs one small h =
     let e : (sent ++ rest) ++ cut size q xs ≡ sent ++ (rest ++ cut size q xs) = append_assoc sent rest (cut size q xs) in
     let far : length xs ≤ size + length xs = omega arith in
@@ -107,7 +107,7 @@ Text-send size sent rest down q xs one small h =
           (AreSound-append size no_part (sent ++ rest) (cut size q xs) h.fits
           (subst (λ j. AreSound size j (cut size q xs)) (sym h.whole) (AreSound-cut (length xs) size q xs no_part one far (omega arith) refl)));
       whole = ap (joining no_part) (sym e) ∙ joining-append no_part (sent ++ rest) (cut size q xs) ∙ joining-cut (length xs) size q xs (joining no_part (sent ++ rest));
-      messages = ap (λ l. l ++ record { q = q; user = xs } ∷ []) h.messages
+      messages = ap (λ l. l ++ record { marks = q; user = xs } ∷ []) h.messages
           ∙ sym (ap carried (sym e) ∙ carried-append no_part (sent ++ rest) (cut size q xs)
           ∙ ap (λ j. carried (sent ++ rest) ++ carried_from j (cut size q xs)) h.whole
           ∙ ap (λ l. carried (sent ++ rest) ++ l) (carried-cut (length xs) size q xs no_part));

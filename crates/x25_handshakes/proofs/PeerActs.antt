@@ -62,7 +62,7 @@ Kept-own_ready t size x u v y ready h = record {
 
 Good-sends : (t : Terms) (size : ℕ) (x : Stretch) (u v : List Packet) (y : PeerStretch) (q : Marks) (xs : List ℕ) → 1 ≤ t.size → Kept t size x u v y → Good t size (sends t x q xs) u v y
 Good-sends t size x u v y q xs sound h =
-    let sent : Stretch = record x { rest = x.rest ++ cut t.size q xs; down = x.down ++ record { q = q; user = xs } ∷ [] } in
+    let sent : Stretch = record x { rest = x.rest ++ cut t.size q xs; down = x.down ++ record { marks = q; user = xs } ∷ [] } in
     cond_both (nat_le (length xs) 65535) (if nat_lt (wholes x.rest) 8 then stretch_does sent [] else stretch_does x []) (stretch_does x []) (λ s. Good t size s u v y)
     (λ small. cond_both (nat_lt (wholes x.rest) 8) (stretch_does sent []) (stretch_does x []) (λ s. Good t size s u v y)
     (λ _. Good-still t size sent u v y (record {

@@ -205,7 +205,7 @@ pulled t x (p ∷ ps) =
 acted : (t : Terms) (x : Stretch) (a : StretchAct) → Quiet x (stretch_acts t x a)
 acted t x (Send q xs) =
     if_quiet x (nat_le (length xs) 65535) _ _
-    (if_quiet x (nat_lt (wholes x.rest) 8) _ _ (record { messages = ((record { q = q; user = xs } ∷ [], refl), refl); interrupts = (alike x.int_down, refl) }) (none_done x)) (none_done x)
+    (if_quiet x (nat_lt (wholes x.rest) 8) _ _ (record { messages = ((record { marks = q; user = xs } ∷ [], refl), refl); interrupts = (alike x.int_down, refl) }) (none_done x)) (none_done x)
 acted t x Pull = pulled t x x.rest
 acted t x (Interrupt xs) =
     if_quiet x (nat_le 1 (length xs)) _ _

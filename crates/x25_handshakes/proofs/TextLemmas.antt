@@ -59,10 +59,10 @@ joining-cut (suc n) size q xs j =
     (λ _. refl)
     (λ _. joining-cut n size q (drop size xs) (record { begun = Some q.q; user = j.user ++ take size xs }))
 
-pub carried-cut : (n size : ℕ) (q : Marks) (xs : List ℕ) (j : Partial) → carried_from j (cut_from n size q xs) ≡ record { q = q; user = j.user ++ xs } ∷ []
+pub carried-cut : (n size : ℕ) (q : Marks) (xs : List ℕ) (j : Partial) → carried_from j (cut_from n size q xs) ≡ record { marks = q; user = j.user ++ xs } ∷ []
 carried-cut zero size q xs j = refl
 carried-cut (suc n) size q xs j =
-    cond_both (nat_le (length xs) size) (Last q xs ∷ []) (More (with_q q.q) (take size xs) ∷ cut_from n size q (drop size xs)) (λ ps. carried_from j ps ≡ record { q = q; user = j.user ++ xs } ∷ [])
+    cond_both (nat_le (length xs) size) (Last q xs ∷ []) (More (with_q q.q) (take size xs) ∷ cut_from n size q (drop size xs)) (λ ps. carried_from j ps ≡ record { marks = q; user = j.user ++ xs } ∷ [])
     (λ _. refl)
     (λ _. carried-cut n size q (drop size xs) (record { begun = Some q.q; user = j.user ++ take size xs })
-    ∙ ap (λ (l : List ℕ). record { q = q; user = l } ∷ []) (append_assoc j.user (take size xs) (drop size xs) ∙ ap (λ l. j.user ++ l) (take-append-drop size xs)))
+    ∙ ap (λ (l : List ℕ). record { marks = q; user = l } ∷ []) (append_assoc j.user (take size xs) (drop size xs) ∙ ap (λ l. j.user ++ l) (take-append-drop size xs)))

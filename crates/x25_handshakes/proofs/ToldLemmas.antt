@@ -47,7 +47,7 @@ told_status x₂ u y false m taken n before is few same ready = told_number x₂
 
 told_sends : (t : Terms) (x : Stretch) (u v : List Packet) (y : Stretch) (q : Marks) (xs : List ℕ) → Told x v y → Told y u x → BothTold (sends t x q xs) u v y
 told_sends t x u v y q xs told told_back =
-    let sent : Stretch = record x { rest = x.rest ++ cut t.size q xs; down = x.down ++ record { q = q; user = xs } ∷ [] } in
+    let sent : Stretch = record x { rest = x.rest ++ cut t.size q xs; down = x.down ++ record { marks = q; user = xs } ∷ [] } in
     cond_both (nat_le (length xs) 65535) (if nat_lt (wholes x.rest) 8 then stretch_does sent [] else stretch_does x []) (stretch_does x []) (λ s. BothTold s u v y)
     (λ _. cond_both (nat_lt (wholes x.rest) 8) (stretch_does sent []) (stretch_does x []) (λ s. BothTold s u v y)
     (λ _. told_still sent u v y (record { acks = told.acks; ready = told.ready }) (record { acks = told_back.acks; ready = told_back.ready }))

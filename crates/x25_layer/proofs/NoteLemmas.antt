@@ -215,7 +215,7 @@ asked_send c g e m i s x q user =
     if_notes (nat_le (length user) 65535) _ _ (in_open g e m i s x) (λ st. (channel_step g e m i s st).next) _ _ _
     (if_notes (nat_lt (wholes x.rest) 8) _ _ (in_open g e m i s x) (λ st. (channel_step g e m i s st).next) _ _ _
     (Adds refl refl
-    (handed_is m _ (none m) i _ (none i) (x.down ++ record { q = q; user = user } ∷ []) _ refl x.up _ (none x.up) x.int_down _ (none x.int_down) x.int_up _ (none x.int_up)) (inl (refl, refl)))
+    (handed_is m _ (none m) i _ (none i) (x.down ++ record { marks = q; user = user } ∷ []) _ refl x.up _ (none x.up) x.int_down _ (none x.int_down) x.int_up _ (none x.int_up)) (inl (refl, refl)))
     tt)
     tt
 

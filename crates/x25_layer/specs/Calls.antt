@@ -59,7 +59,7 @@ free_channel role circuits channels = where_callable role channels (first_free r
 
 -- a message puts no packet at once, so a full queue doesn't refuse it
 abbrev pub puts_at_once : Request → Bool
-puts_at_once (Sends q user) = false
+puts_at_once (Sends marks user) = false
 puts_at_once request = true
 
 -- whether memory may be asked for it in a circuit

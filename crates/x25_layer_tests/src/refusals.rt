@@ -15,7 +15,7 @@ pub fn request(index: usize) -> Request<'static> {
             diagnostic: 0,
         },
         2 => Request::Send {
-            q: Marks::with_q(false),
+            marks: Marks::with_q(false),
             user: &[],
         },
         3 => Request::Interrupt { user: &[7] },
@@ -26,7 +26,7 @@ pub fn request(index: usize) -> Request<'static> {
         5 => Request::Ready,
         6 => Request::NotReady,
         _ => Request::Send {
-            q: Marks { q: false, d: true },
+            marks: Marks { q: false, d: true },
             user: &[],
         },
     }

@@ -404,7 +404,7 @@ fn sends(
         return NO_MEMORY;
     };
     let request = Request::Send {
-        q: Marks::with_q(false),
+        marks: Marks::with_q(false),
         user: user.as_slice(),
     };
     answered(ask(layer, link, channel, request))

@@ -34,9 +34,9 @@ cut_whole (suc n) size q user = test (nat_le (length user) size) (cut_whole n si
 all_whole : (size : ℕ) (messages : List Message) → wholes (cut_all size messages) ≡ length messages
 all_whole size [] = refl
 all_whole size (m ∷ messages) =
-    let one : wholes (cut_from (length m.user) size m.q m.user) ≡ 1 = cut_whole (length m.user) size m.q m.user in
+    let one : wholes (cut_from (length m.user) size m.marks m.user) ≡ 1 = cut_whole (length m.user) size m.marks m.user in
     let rest : wholes (cut_all size messages) ≡ length messages = all_whole size messages in
-    let both = wholes_append (cut_from (length m.user) size m.q m.user) (cut_all size messages) in
+    let both = wholes_append (cut_from (length m.user) size m.marks m.user) (cut_all size messages) in
     omega (arith, one, rest, both)
 
 record Found {T : Type 0} (xs : List T) (k : ℕ) : Type 0 where

@@ -63,8 +63,8 @@ fn asked_of(memory: &mut Memory, layer: &Layer, channel: u16, request: &Request<
             cause: *cause,
             diagnostic: *diagnostic,
         },
-        Request::Send { q, user } => Asked::Send {
-            q: *q,
+        Request::Send { marks, user } => Asked::Send {
+            marks: *marks,
             user: memory.message(user),
         },
         Request::Interrupt { user } => Asked::Interrupt {
@@ -101,7 +101,7 @@ fn may_ask(wide: bool, request: &Request<'_>) -> bool
     ensures { (h : ℕ) → result ≡ may_ask wide (Asks h (plain_request request.now)) }
 {
     match request {
-        Request::Send { q, .. } => !q.d || wide,
+        Request::Send { marks, .. } => !marks.d || wide,
         _ => true,
     }
 }
@@ -165,7 +165,7 @@ impl Station {
             } => self.ask(
                 *channel,
                 Request::Send {
-                    q: Marks { q: *q, d: *d },
+                    marks: Marks { q: *q, d: *d },
                     user,
                 },
                 out,

@@ -91,7 +91,7 @@ pub enum Asked {
     },
     /// That a message be sent: its qualifier, whether confirmation of its delivery is asked, and at most 65,535 octets.
     Send {
-        q: Marks,
+        marks: Marks,
         user: Octets,
     },
     /// That an interrupt of 1 to 32 octets be sent.

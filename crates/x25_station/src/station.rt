@@ -149,9 +149,9 @@ impl Station {
     /// 0, but for want of memory.
     pub fn room(&self, channel: u16) -> usize
         ensures value { (c : Settings) (s : State) → FitsStation c self.now s → result ≡ room c s channel }
-        ensures takes { (c : Settings) (s : State) (q : Marks) (user : List ℕ) → FitsStation c self.now s
-            → may_mark c.wide q ≡ true → length user ≤ 65535
-            → (result == 0) ≡ is_refused (requests c s (Asks channel (Sends q user))) }
+        ensures takes { (c : Settings) (s : State) (marks : Marks) (user : List ℕ) → FitsStation c self.now s
+            → may_mark c.wide marks ≡ true → length user ≤ 65535
+            → (result == 0) ≡ is_refused (requests c s (Asks channel (Sends marks user))) }
         ensures few { result ≤ 8 }
     {
         if !self.link.is_up() {

@@ -108,7 +108,7 @@ fn is_asked(step: &Step) -> bool {
                 said: Said::Told(Told::Delivered(message)),
                 ..
             },
-        ) => message.q.d,
+        ) => message.marks.d,
         _ => false,
     }
 }

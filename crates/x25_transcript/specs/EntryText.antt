@@ -51,10 +51,10 @@ user_text user = codes " data=" ++ octets_text user
 
 -- the qualifier, and whether confirmation is asked
 abbrev pub marks_text : Marks → List ℕ
-marks_text q = codes " q=" ++ decimal (bit q.q) ++ (if q.d then codes " d=1" else [])
+marks_text marks = codes " q=" ++ decimal (bit marks.q) ++ (if marks.d then codes " d=1" else [])
 
 abbrev pub message_text : Message → List ℕ
-message_text message = marks_text message.q ++ user_text message.user
+message_text message = marks_text message.marks ++ user_text message.user
 
 abbrev pub are_same : Params → Params → Bool
 are_same p q = p.size_called == q.size_called && (p.size_calling == q.size_calling
@@ -88,7 +88,7 @@ request_text channel name (Accepts None) = codes "accept" ++ channel_text channe
 request_text channel name (Accepts (Some answer)) = codes "accept" ++ channel_text channel ++ params_text answer.params
 request_text channel name (Clears cause diagnostic) = codes "clear" ++ channel_text channel
     ++ given_text cause diagnostic
-request_text channel name (Sends q user) = codes "send" ++ stretch_text channel name ++ marks_text q ++ user_text user
+request_text channel name (Sends marks user) = codes "send" ++ stretch_text channel name ++ marks_text marks ++ user_text user
 request_text channel name (Interrupts user) = codes "int" ++ stretch_text channel name ++ user_text user
 request_text channel name (Resets cause diagnostic) = codes "reset" ++ channel_text channel
     ++ given_text cause diagnostic

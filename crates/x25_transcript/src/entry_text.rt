@@ -73,16 +73,16 @@ fn push_message(
     word: &[u8],
     channel: u16,
     name: &Stretch,
-    q: Marks,
+    marks: Marks,
     user: &[u8],
     text: &mut Text,
 ) -> Result<(), AllocError>
     ensures { OnOk result (text.new ≡ text.old ++ (word.now ++ stretch_text channel (plain_name name.now)
-        ++ marks_text q ++ user_text user.now)) }
+        ++ marks_text marks ++ user_text user.now)) }
 {
     push_under(word, channel, name, text)?;
-    text.try_push_number(b" q=", u64::from(q.q))?;
-    if q.d {
+    text.try_push_number(b" q=", u64::from(marks.q))?;
+    if marks.d {
         text.try_push(b" d=1")?;
     }
     push_user(user, text)
@@ -178,7 +178,14 @@ fn push_asked(
             push_at(b"clear", channel, text)?;
             push_given(*cause, *diagnostic, text)
         }
-        Asked::Send { q, user } => push_message(b"send", channel, name, *q, user.as_slice(), text),
+        Asked::Send { marks, user } => push_message(
+            b"send",
+            channel,
+            name,
+            *marks,
+            user.as_slice(),
+            text,
+        ),
         Asked::Interrupt { user } => {
             push_under(b"int", channel, name, text)?;
             push_user(user.as_slice(), text)
@@ -223,7 +230,7 @@ fn push_told(channel: u16, name: &Stretch, told: &Told, text: &mut Text) -> Resu
         Told::ResetDone => push_at(b"resetdone", channel, text),
         Told::Delivered(message) => {
             let user = message.user.as_slice();
-            push_message(b"message", channel, name, message.q, user, text)
+            push_message(b"message", channel, name, message.marks, user, text)
         }
         Told::Interrupted { user } => {
             push_under(b"interrupt", channel, name, text)?;

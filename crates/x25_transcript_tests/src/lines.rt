@@ -53,7 +53,7 @@ const LATE: Stretch = Stretch {
 // A message of no octets that came.
 fn delivered(alloc: Global) -> Result<Entry, AllocError> {
     let message = Message {
-        q: Marks::with_q(true),
+        marks: Marks::with_q(true),
         user: Octets::new(alloc)?,
     };
     Ok(Entry::OnChannel {
@@ -78,7 +78,7 @@ fn asking(alloc: Global) -> Result<Entry, AllocError> {
         channel: 16,
         name: LATE,
         said: Said::Asked(Asked::Send {
-            q: Marks { q: false, d: true },
+            marks: Marks { q: false, d: true },
             user: Octets::new(alloc)?,
         }),
     })
@@ -102,7 +102,7 @@ fn sent(alloc: Global, channel: u16, name: Stretch, count: u16) -> Result<Entry,
         channel,
         name,
         said: Said::Asked(Asked::Send {
-            q: Marks::with_q(true),
+            marks: Marks::with_q(true),
             user,
         }),
     })

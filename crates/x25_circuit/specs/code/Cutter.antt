@@ -13,13 +13,14 @@ pub record ShownCutter : Type 0 where
 -- the next packet of these messages, of at most this size
 abbrev pub first_cut : ℕ → List Message → Piece
 first_cut size [] = Last (with_q false) []
-first_cut size (m ∷ ms) = if nat_le (length m.user) size then Last m.q m.user
-    else More (with_q m.q.q) (take size m.user)
+first_cut size (m ∷ ms) = if nat_le (length m.user) size then Last m.marks m.user
+    else More (with_q m.marks.q) (take size m.user)
 
 -- what is left of them then
 abbrev pub first_left : ℕ → List Message → List Message
 first_left size [] = []
-first_left size (m ∷ ms) = if nat_le (length m.user) size then ms else record { q = m.q; user = drop size m.user } ∷ ms
+first_left size (m ∷ ms) = if nat_le (length m.user) size then ms
+    else record { marks = m.marks; user = drop size m.user } ∷ ms
 
 abbrev pub marked : Marks → Bool → List ℕ → Piece
-marked q m user = piece_of q m user
+marked marks m user = piece_of marks m user

@@ -5,7 +5,7 @@ use Rattle.x25_circuit.specs.code.Cutter.{ShownCutter}
 
 abbrev pub shown : Inside → ShownCutter
 shown c = record {
-  left = if c.is_cut then [] else record { q = c.q; user = drop c.start c.user.items } ∷ [];
+  left = if c.is_cut then [] else record { marks = c.marks; user = drop c.start c.user.items } ∷ [];
   lent = take (c.start - c.lent) (drop c.lent c.user.items);
 }
 

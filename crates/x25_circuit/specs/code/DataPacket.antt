@@ -4,7 +4,7 @@ use Rattle.x25_packet.specs.Packet.{PlainPacket, user_data}
 use Rattle.x25_circuit.specs.declared.pulling.DataPacket.{DataPacket}
 
 abbrev pub plain_data : DataPacket → PlainPacket
-plain_data d = user_data 1 d.header.q d.header.m d.header.ps.number d.header.pr.number d.user.now
+plain_data d = user_data 1 d.header.marks d.header.m d.header.ps.number d.header.pr.number d.user.now
 
 abbrev pub plain_pulled : Option DataPacket → Option PlainPacket
 plain_pulled None = None

@@ -31,9 +31,9 @@ IsHeld window t = (t.rest ≡ []) ⊎ ((t.peer_ready && nat_lt (length t.sent) (
 -- the next data packet was sent, and the queue lends its user data
 pub record IsSent (window size : ℕ) (t : Talk) (v : Transfer) (header : Header) : Type 0 where
   pub others : List Piece
-  pub first : t.rest ≡ piece_of header.q header.m v.queue.cutter.lent ∷ others
+  pub first : t.rest ≡ piece_of header.marks header.m v.queue.cutter.lent ∷ others
   pub allowed : (t.peer_ready && nat_lt (length t.sent) (t.acked + window)) ≡ true
-  pub fits : FitsTalk size v (with_sent (piece_of header.q header.m v.queue.cutter.lent) others t)
+  pub fits : FitsTalk size v (with_sent (piece_of header.marks header.m v.queue.cutter.lent) others t)
   pub ps : header.ps.number ≡ length t.sent % 8
   pub pr : header.pr.number ≡ length t.taken % 8
 

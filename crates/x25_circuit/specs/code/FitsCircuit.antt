@@ -66,7 +66,7 @@ IsDone (Refused e) = ⊥
 
 -- the user data that a packet brings for a message
 abbrev pub user_octets : PlainPacket → List ℕ
-user_octets (user_data channel q m ps pr user) = user
+user_octets (user_data channel marks m ps pr user) = user
 user_octets other = []
 
 -- What is asked is done so, by a packet that can be spelled and brings no user data for a message, or it is refused,

@@ -9,21 +9,23 @@ IsWhole ps = joining no_part ps ≡ no_part
 
 -- the packets of a message carry it alone
 abbrev pub CutCarries : Type 0
-CutCarries = (size : ℕ) (q : Marks) (user : List ℕ) → carried (cut size q user) ≡ record { q = q; user = user } ∷ []
+CutCarries = (size : ℕ) (marks : Marks) (user : List ℕ)
+    → carried (cut size marks user) ≡ record { marks = marks; user = user } ∷ []
 
 -- the other end refuses none of them: each is within the size, with one qualifier
 abbrev pub CutIsSound : Type 0
-CutIsSound = (size : ℕ) (q : Marks) (user : List ℕ) → 1 ≤ size → length user ≤ 65535
-    → AreSound size no_part (cut size q user)
+CutIsSound = (size : ℕ) (marks : Marks) (user : List ℕ) → 1 ≤ size → length user ≤ 65535
+    → AreSound size no_part (cut size marks user)
 
 -- a message that is sent is carried behind all others, by the packets sent and those that wait
 abbrev pub SendAdds : Type 0
-SendAdds = (size : ℕ) (q : Marks) (user : List ℕ) (sent rest : List Piece) → IsWhole (sent ++ rest)
-    → carried (sent ++ (rest ++ cut size q user)) ≡ carried (sent ++ rest) ++ record { q = q; user = user } ∷ []
+SendAdds = (size : ℕ) (marks : Marks) (user : List ℕ) (sent rest : List Piece) → IsWhole (sent ++ rest)
+    → carried (sent ++ (rest ++ cut size marks user))
+    ≡ carried (sent ++ rest) ++ record { marks = marks; user = user } ∷ []
 
 abbrev pub SendStaysWhole : Type 0
-SendStaysWhole = (size : ℕ) (q : Marks) (user : List ℕ) (sent rest : List Piece) → IsWhole (sent ++ rest)
-    → IsWhole (sent ++ (rest ++ cut size q user))
+SendStaysWhole = (size : ℕ) (marks : Marks) (user : List ℕ) (sent rest : List Piece) → IsWhole (sent ++ rest)
+    → IsWhole (sent ++ (rest ++ cut size marks user))
 
 -- what a packet that is taken completes is what the packets taken carry more
 abbrev pub TakeAdds : Type 0

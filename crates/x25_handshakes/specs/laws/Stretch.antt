@@ -67,7 +67,7 @@ abbrev pub stretch_fails : Stretch → ℕ → StretchStep
 stretch_fails x n = record { next = x; out = []; error = Some n }
 
 pub data StretchAct : Type 0 where
-  Send : (q : Marks) → (user : List ℕ) → StretchAct
+  Send : (marks : Marks) → (user : List ℕ) → StretchAct
   Pull : StretchAct
   Ready : StretchAct
   NotReady : StretchAct
@@ -79,13 +79,13 @@ status true n = Rr (n % 8)
 status false n = Rnr (n % 8)
 
 abbrev pub sends : Terms → Stretch → Marks → List ℕ → StretchStep
-sends t x q xs =
+sends t x marks xs =
     if nat_le (length xs) 65535
     then (if nat_lt (wholes x.rest) 8
     then stretch_does (record x {
-      rest = x.rest ++ cut t.size q xs;
+      rest = x.rest ++ cut t.size marks xs;
       down = x.down
-          ++ record { q = q; user = xs } ∷ [];
+          ++ record { marks = marks; user = xs } ∷ [];
     }) []
     else stretch_does x [])
     else stretch_does x []
@@ -115,7 +115,7 @@ interrupts x xs =
 
 -- a call of the user, or a pull. A refused one changes nothing
 abbrev pub stretch_acts : Terms → Stretch → StretchAct → StretchStep
-stretch_acts t x (Send q xs) = sends t x q xs
+stretch_acts t x (Send marks xs) = sends t x marks xs
 stretch_acts t x Pull = pulls t x x.rest
 stretch_acts t x Ready = stretch_does (record x { own_ready = true }) (Rr (length x.taken % 8) ∷ [])
 stretch_acts t x NotReady = stretch_does (record x { own_ready = false }) (Rnr (length x.taken % 8) ∷ [])

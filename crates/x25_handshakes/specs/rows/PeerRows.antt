@@ -56,7 +56,7 @@ acknowledged = peer_does taken (InStretch (Says true 1))
 
 pub record LatePeerMoves : Type 0 where
   pub reached : IsReached terms 128 acknowledged
-  pub up : (state_of acknowledged.near.side).up ≡ record { q = with_q false; user = 7 ∷ [] } ∷ []
+  pub up : (state_of acknowledged.near.side).up ≡ record { marks = with_q false; user = 7 ∷ [] } ∷ []
   pub there : (state_of acknowledged.peer.side).taken ≡ Last (with_q false) (5 ∷ []) ∷ []
   pub before : (state_of taken.peer.side).told ≡ 0
 
@@ -100,4 +100,4 @@ pub record PeerLayerMoves : Type 0 where
   pub reached : LayersAreReached Dte came
   pub calls : (state_of (state_of came.near.side 1).side).indicated ≡ proposal ∷ []
   pub up : (state_of (transfer_of (state_of (state_of came.near.side 1).side).phase).side).up
-      ≡ record { q = with_q false; user = 7 ∷ [] } ∷ []
+      ≡ record { marks = with_q false; user = 7 ∷ [] } ∷ []

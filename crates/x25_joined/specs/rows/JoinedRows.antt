@@ -78,7 +78,7 @@ first_stretch = record { restarts = 1; clears = 0; resets = 0 }
 abbrev pub MessageArrives : Type 0
 MessageArrives =
     ((messages_in (under 1 first_stretch (handed_by usual Dce (after call_with_message)))).up
-    ≡ record { q = with_q false; user = codes "hi" } ∷ [])
+    ≡ record { marks = with_q false; user = codes "hi" } ∷ [])
     × (is_idle (settings_from Dte usual) (station_by usual Dte (after call_with_message)) ≡ true)
     × (stretch (settings_from Dte usual) (station_by usual Dte (after call_with_message)) 1 ≡ Some first_stretch)
     × (stretch (settings_from Dce usual) (station_by usual Dce (after call_with_message)) 1 ≡ Some first_stretch)

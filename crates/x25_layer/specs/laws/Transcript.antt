@@ -63,10 +63,10 @@ asked_by (Calls called calling user proposal) = record {
   int_down = [];
   int_up = [];
 }
-asked_by (Sends q user) = record {
+asked_by (Sends marks user) = record {
   made = [];
   indicated = [];
-  down = record { q = q; user = user } ∷ [];
+  down = record { marks = marks; user = user } ∷ [];
   up = [];
   int_down = [];
   int_up = [];

@@ -43,7 +43,7 @@ texts_in (entry.Beside channel facilities user) = 2
 texts_in _ = 0
 
 abbrev pub messages_asked : Asked → ℕ
-messages_asked (asked.Send q user) = 1
+messages_asked (asked.Send marks user) = 1
 messages_asked _ = 0
 
 abbrev pub messages_told : Told → ℕ
@@ -63,7 +63,7 @@ messages_in _ = 0
 abbrev pub IsBrief : Request → Type 0
 IsBrief (Calls called calling user proposal) =
     (length called ≤ 128) × ((length calling ≤ 128) × (length user ≤ 128))
-IsBrief (Sends q user) = length user ≤ 65535
+IsBrief (Sends marks user) = length user ≤ 65535
 IsBrief (Interrupts user) = length user ≤ 128
 IsBrief _ = Unit {0}
 

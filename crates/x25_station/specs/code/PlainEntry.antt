@@ -28,7 +28,7 @@ abbrev pub plain_asked : Asked → Request
 plain_asked (asked.Call called calling user params) = Calls called calling user (in_brief params)
 plain_asked (asked.Accept params) = Accepts (Some (in_brief params))
 plain_asked (asked.Clear cause diagnostic) = Clears cause diagnostic
-plain_asked (asked.Send q user) = Sends q user
+plain_asked (asked.Send marks user) = Sends marks user
 plain_asked (asked.Interrupt user) = Interrupts user
 plain_asked (asked.Reset cause diagnostic) = Resets cause diagnostic
 plain_asked asked.Ready = SaysReady

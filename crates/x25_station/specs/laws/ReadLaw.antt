@@ -34,7 +34,7 @@ AreReadable wide long_data (packet ∷ packets) = IsReadable wide long_data pack
 abbrev pub AsksOctets : Request → Type 0
 AsksOctets (Calls called calling user proposal) = AreOctets user
 AsksOctets (Clears cause diagnostic) = (cause < 256) × (diagnostic < 256)
-AsksOctets (Sends q user) = AreOctets user
+AsksOctets (Sends marks user) = AreOctets user
 AsksOctets (Interrupts user) = AreOctets user
 AsksOctets (Resets cause diagnostic) = (cause < 256) × (diagnostic < 256)
 AsksOctets request = Unit {0}

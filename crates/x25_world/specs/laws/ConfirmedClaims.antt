@@ -26,7 +26,7 @@ confirmed_in k name (entry ∷ entries) = confirmed_at k name entry + confirmed_
 -- of how many of these messages confirmation was asked
 abbrev pub asked_among : List Message → ℕ
 asked_among [] = 0
-asked_among (m ∷ messages) = bit m.q.d + asked_among messages
+asked_among (m ∷ messages) = bit m.marks.d + asked_among messages
 
 -- On each channel and under each name of a stretch: of the messages that the other end handed up in the session that
 -- this one meets, at least so many asked for confirmation as were told as confirmed in this one. As these are a

@@ -69,7 +69,7 @@ first_stretch = record { restarts = 1; clears = 0; resets = 0 }
 -- the message was handed up at the DCE, once, and the DTE is idle in that stretch
 abbrev pub HasArrived : World → Type 0
 HasArrived w =
-    ((messages_in (under 2 first_stretch (handed_at Dce w))).up ≡ record { q = with_q false; user = codes "hi" } ∷ [])
+    ((messages_in (under 2 first_stretch (handed_at Dce w))).up ≡ record { marks = with_q false; user = codes "hi" } ∷ [])
     × (is_idle (settings_from Dte two_channels) w.near ≡ true)
     × (stretch (settings_from Dte two_channels) w.near 2 ≡ Some first_stretch)
     × (stretch (settings_from Dce two_channels) w.far 2 ≡ Some first_stretch)
@@ -102,7 +102,7 @@ MoreArrives =
     (firing Dte ∷ firing Dce ∷ []) hi_lost in FreeThroughout two_channels sends_more fired
     × (let u = run two_channels sends_more fired in IsDrained u
     × ((messages_in (under 2 first_stretch (handed_at Dce u))).up
-    ≡ record { q = with_q false; user = codes "hi" } ∷ record { q = with_q false; user = codes "ho" } ∷ [])))
+    ≡ record { marks = with_q false; user = codes "hi" } ∷ record { marks = with_q false; user = codes "ho" } ∷ [])))
 
 -- ---- something given with a call and its acceptance, at stations that read packets in all their forms
 
@@ -142,7 +142,7 @@ abbrev pub ConfirmedArrives : Type 0
 ConfirmedArrives =
     (let w = run in_all_forms (calls_and_accepts ++ asks Dte asked_hi ∷ delivers 2) (established in_all_forms) in
     ((messages_in (under 2 first_stretch (handed_at Dce w))).up
-    ≡ record { q = record { q = false; d = true }; user = codes "hi" } ∷ [])
+    ≡ record { marks = record { q = false; d = true }; user = codes "hi" } ∷ [])
     × (confirmed_in 2 first_stretch (session_at Dte 1 w.transcript) ≡ 1)
     × (confirmed_in 2 first_stretch (session_at Dce 1 w.transcript) ≡ 0)
     × (refusal_of (happens two_channels called (asks Dte asked_hi)) ≡ Some (error.Station not_taken)))

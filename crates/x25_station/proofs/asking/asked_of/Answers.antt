@@ -34,7 +34,7 @@ returns-in-Accept-clause-asked c = λ c' l fits configured brief.
 pub returns-in-Send-clause-asked : goal.returns-in-Send-clause-asked
 returns-in-Send-clause-asked c = λ c' l fits configured brief.
     let now = subst (λ (r : Request). IsBrief (plain_request r)) c.in-Send.is brief in
-    ap (λ (x : List ℕ). Sends c.in-Send.q x) (c.message.ensures.message ∙ take_all 65535 c.in-Send.user.now now)
+    ap (λ (x : List ℕ). Sends c.in-Send.marks x) (c.message.ensures.message ∙ take_all 65535 c.in-Send.user.now now)
     ∙ sym (ap (λ (r : Request). shown (l.circuits c.args.channel) (plain_request r)) c.in-Send.is)
 
 pub returns-in-Interrupt-clause-asked : goal.returns-in-Interrupt-clause-asked

@@ -23,7 +23,7 @@ returns c = record {
   says = λ d x fits.
       let acked = c.ack.ensures.fits (outgoing x).size x.talk fits.talk c.if-not-ack.false in
       let now = with_transfer d c.args.self.now x _ _ _ fits (c.take-message.ensures.fits (outgoing x).size _ acked) in
-      let piece = piece_of c.args.q c.args.m c.args.user.now in
+      let piece = piece_of c.args.marks c.args.m c.args.user.now in
       rw (sym (c.ack.ensures.valid (outgoing x).size x.talk fits.talk) ∙ c.if-not-ack.false) (record {
         owed = ap Some (c.status-owed.ensures.value d _ now ∙ ap (λ (n : ℕ). status x.talk.own_ready n) (length_push x.talk.taken piece));
         notices = c.delivered.ensures.notices ∙ ap deliveries (c.take-message.ensures.message (outgoing x).size _ acked);

@@ -6,13 +6,13 @@ use Rattle.x25_circuit.proofs.circuit.Circuit.send.Goals as goal
 
 pub returns-in-Some-clause-outcome : goal.returns-in-Some-clause-outcome
 returns-in-Some-clause-outcome c = λ d x fits.
-    let refused = c.in-Some.ensures.refused d x c.args.q c.args.user.now (omega arith) fits in
+    let refused = c.in-Some.ensures.refused d x c.args.marks c.args.user.now (omega arith) fits in
     rw refused refl
 
 pub returns-clause-outcome : goal.returns-clause-outcome
 returns-clause-outcome c = λ d x fits.
     let waits = waits_are (outgoing x).size c.args.self.now.transfer x.talk fits.talk in
     rw (
-      send_at d x x.state c.args.q c.args.user.now (sym fits.state ∙ c.in_default.ensures.open),
-      send_waits d x c.args.q c.args.user.now (omega (arith, c.in_default.ensures.short)) (omega (arith, waits, c.in_default.ensures.few)),
+      send_at d x x.state c.args.marks c.args.user.now (sym fits.state ∙ c.in_default.ensures.open),
+      send_waits d x c.args.marks c.args.user.now (omega (arith, c.in_default.ensures.short)) (omega (arith, waits, c.in_default.ensures.few)),
     ) ((with_transfer d c.args.self.now x _ _ _ fits (c.in_ok-push.ensures.fits (outgoing x).size x.talk fits.talk), refl))

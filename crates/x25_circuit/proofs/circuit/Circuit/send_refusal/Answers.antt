@@ -5,28 +5,28 @@ use Rattle.x25_circuit.specs.Circuit.{outgoing}
 use Rattle.x25_circuit.proofs.circuit.Circuit.send_refusal.Goals as goal
 
 pub returns-in-Open-2-clause-refusal : goal.returns-in-Open-2-clause-refusal
-returns-in-Open-2-clause-refusal c = λ d x q user same fits.
+returns-in-Open-2-clause-refusal c = λ d x marks user same fits.
     let waits = waits_are (outgoing x).size c.args.self.now.transfer x.talk fits.talk in
     rw (
-      send_at d x x.state q user (sym fits.state ∙ c.in-Open-2.is),
-      send_full d x q user (omega (arith, same, c.if-count-gt-LONGEST_MESSAGE.false))
+      send_at d x x.state marks user (sym fits.state ∙ c.in-Open-2.is),
+      send_full d x marks user (omega (arith, same, c.if-count-gt-LONGEST_MESSAGE.false))
           (omega (arith, waits, c.len.ensures.value, c.if-len-eq-PLACES.true)),
     ) refl
 
 pub returns-in-Open-2-clause-refused : goal.returns-in-Open-2-clause-refused
-returns-in-Open-2-clause-refused c = λ d x q user same fits.
+returns-in-Open-2-clause-refused c = λ d x marks user same fits.
     let waits = waits_are (outgoing x).size c.args.self.now.transfer x.talk fits.talk in
     rw (
-      send_at d x x.state q user (sym fits.state ∙ c.in-Open-2.is),
-      send_full d x q user (omega (arith, same, c.if-count-gt-LONGEST_MESSAGE.false))
+      send_at d x x.state marks user (sym fits.state ∙ c.in-Open-2.is),
+      send_full d x marks user (omega (arith, same, c.if-count-gt-LONGEST_MESSAGE.false))
           (omega (arith, waits, c.len.ensures.value, c.if-len-eq-PLACES.true)),
     ) refl
 
 pub returns-in-Open-3-clause-refusal : goal.returns-in-Open-3-clause-refusal
-returns-in-Open-3-clause-refusal c = λ d x q user same fits.
+returns-in-Open-3-clause-refusal c = λ d x marks user same fits.
     let waits = waits_are (outgoing x).size c.args.self.now.transfer x.talk fits.talk in
     rw (
-      send_at d x x.state q user (sym fits.state ∙ c.in-Open-3.is),
-      send_waits d x q user (omega (arith, same, c.if-count-gt-LONGEST_MESSAGE.false))
+      send_at d x x.state marks user (sym fits.state ∙ c.in-Open-3.is),
+      send_waits d x marks user (omega (arith, same, c.if-count-gt-LONGEST_MESSAGE.false))
           (omega (arith, waits, c.len.ensures.value, c.len.ensures.few, c.if-len-eq-PLACES.false)),
     ) refl

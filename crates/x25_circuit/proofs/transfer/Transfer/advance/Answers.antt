@@ -13,11 +13,11 @@ returns-clause-some c = λ t fits.
     let size = c.args.terms.size in
     let old = waiting c.args.self.now.queue in
     let others = cut_all size (waiting c.cut.new.self) in
-    let piece = piece_of c.in-Some.cut.q c.in-Some.cut.m c.cut.new.self.cutter.lent in
+    let piece = piece_of c.in-Some.cut.marks c.in-Some.cut.m c.cut.new.self.cutter.lent in
     let first : t.rest ≡ piece ∷ others = fits.rest ∙ next_piece size old (omega arith) c.in-Some.ensures.some
     ∙ ap (λ (p : Piece). p ∷ cut_all size (first_left size old)) (sym c.in-Some.ensures.packet)
     ∙ ap (λ (ps : List Piece). piece ∷ ps) (ap (cut_all size) (sym c.in-Some.ensures.left)) in
-    let asks_same = asks_as_marked size old c.in-Some.cut.q c.in-Some.cut.m c.cut.new.self.cutter.lent c.in-Some.ensures.packet in
+    let asks_same = asks_as_marked size old c.in-Some.cut.marks c.in-Some.cut.m c.cut.new.self.cutter.lent c.in-Some.ensures.packet in
     let unacked = c.unacked.ensures.state fits.numbers.state fits.numbers.fits in
     let numbers = c.count_sent-ps.ensures.fits t.acked t.sent piece fits.numbers asks_same in
     record {

@@ -7,7 +7,7 @@ use Rattle.x25_circuit.proofs.transfer.Transfer.take.Goals as goal
 
 pub returns-clause-fits : goal.returns-clause-fits
 returns-clause-fits c = λ size t fits.
-    let piece = piece_of c.args.q c.args.m c.args.user.now in
+    let piece = piece_of c.args.marks c.args.m c.args.user.now in
     record {
       numbers = fits.numbers;
       taken = taken_more c.accept.new.self c.accept.result (length t.taken) _ (c.accept.ensures.held.1 c.requires.wanted) (c.accept.ensures.step (length t.taken) fits.taken) (length_push t.taken piece);
