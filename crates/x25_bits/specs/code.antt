@@ -9,4 +9,3 @@ pub mod Reading
 pub mod Calls
 pub mod Prefix
 pub mod Register
-pub mod Pool

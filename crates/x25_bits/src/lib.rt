@@ -17,8 +17,6 @@ mod no_memory;
 mod octet_table;
 mod octets;
 mod passing;
-mod pool;
-mod promise;
 mod role;
 mod scan;
 mod seq;
@@ -40,8 +38,6 @@ pub use laws::{
 pub use line_octets::put_octets;
 pub use no_memory::NoMemory;
 pub use octets::{Octets, append_octets, with_octets};
-pub use pool::Pool;
-pub use promise::Promise;
 pub use role::Role;
 pub use seq::Seq;
 pub use stuffing::put;

@@ -17,10 +17,6 @@ mod numbers;
 #[cfg(test)]
 mod octets;
 #[cfg(test)]
-mod pool;
-#[cfg(test)]
-mod promise;
-#[cfg(test)]
 mod raw;
 #[cfg(test)]
 mod receiving;

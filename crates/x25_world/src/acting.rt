@@ -24,7 +24,7 @@ use crate::set_up::is_on_line;
 use crate::told::Entered;
 use x25_bits::{Role, check};
 use x25_link::Frames;
-use x25_station::{Cmd, Entries, Entry, MOST_ENTRIES, MOST_FRAMES, Station, Step};
+use x25_station::{Cmd, Entries, Entry, MOST_ENTRIES, Station, Step};
 
 /// The event happens at its end, or on the line to it. What it tells comes into the step, in place of what was there,
 /// and its frames go on the line. Refused with the one ground that applies, 50, 51, 52, 53 or 54, or with 70; all is
@@ -214,7 +214,7 @@ fn reserve_frames(line: &mut Line) -> Result<(), WorldError>
     ensures few { TakesFew 9 line.old line.new }
     ensures refused { IfErr result (λ e. e ≡ WorldError.NoMemory) }
 {
-    if line.reserve(MOST_FRAMES).is_err() {
+    if line.reserve().is_err() {
         return Err(WorldError::NoMemory);
     }
     Ok(())

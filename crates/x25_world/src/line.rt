@@ -9,11 +9,17 @@ ghost use Rattle.std.specs.VecDeque.{deque_len, deque_capacity};
 use std::alloc::{AllocError, Global};
 use std::collections::VecDeque;
 use std::marker::Model;
-use x25_bits::{Pool, Promise, Role, with_octets};
+use x25_bits::{Role, with_octets};
 use x25_station::MOST_FRAMES;
 
 /// The most octets of a frame: those of a packet, address, control and frame check sequence.
 const LONGEST_FRAME: usize = 4103;
+
+/// The most frames of a direction that are in blanks.
+const FEW_FRAMES: usize = 12;
+
+/// The most blanks that are kept: those that a step may need, and the others for frames on the line.
+const MOST_BLANKS: usize = 34;
 
 // A frame on the line, in memory for its octets, or for those of the longest frame.
 #[derive(Drop)]
@@ -22,21 +28,29 @@ struct Laid {
     ghost memory: { vec_capacity octets ≤ max (vec_len octets) 4103 },
 }
 
+// Memory for the longest frame.
+#[derive(Drop)]
+struct Blank {
+    octets: Vec<u8>,
+    ghost empty: { octets.items ≡ [] },
+    ghost room: { vec_capacity octets ≡ 4103 },
+}
+
 /// The line between two ends in both directions.
 ///
-/// Its frames are copies of those that an end sent. Memory is set aside before it sends them; that of frames that left
-/// the line serves again.
+/// Its frames are copies of those that an end sent. They come in blanks, made before the end sends them; behind few
+/// others they come in memory of their own length, while there is some.
 #[derive(Drop)]
 pub struct Line {
     to_dce: VecDeque<Laid>,
     to_dte: VecDeque<Laid>,
-    room: Promise<LONGEST_FRAME, MOST_FRAMES>,
-    left: Pool<LONGEST_FRAME, MOST_FRAMES>,
+    blanks: Vec<Blank>,
+    room: usize,
     alloc: Global,
 }
 
 impl Model for Line {
-    ghost use Rattle.std.specs.Prelude.{◌+◌, ◌≤◌, map};
+    ghost use Rattle.std.specs.Prelude.{◌+◌, ◌≤◌, map, vec_len, vec_capacity};
     ghost use Rattle.std.specs.VecDeque.{deque_len, deque_capacity};
     ghost use Rattle.x25_world.specs.code.ShownLine.{ShownLine};
 
@@ -51,7 +65,8 @@ impl Model for Line {
     } };
 
     ghost invariant = { λ l. (deque_len l.to_dce + l.room ≤ deque_capacity l.to_dce) ×
-        (deque_len l.to_dte + l.room ≤ deque_capacity l.to_dte) };
+        (deque_len l.to_dte + l.room ≤ deque_capacity l.to_dte) × (l.room ≤ vec_len l.blanks) ×
+        (vec_capacity l.blanks ≤ 34) };
 }
 
 impl Line {
@@ -62,8 +77,8 @@ impl Line {
         Line {
             to_dce: VecDeque::from_vec(Vec::new(alloc)),
             to_dte: VecDeque::from_vec(Vec::new(alloc)),
-            room: Promise::new(alloc),
-            left: Pool::new(alloc),
+            blanks: Vec::new(alloc),
+            room: 0,
             alloc,
         }
     }
@@ -78,18 +93,23 @@ impl Line {
         }
     }
 
-    /// Makes room for so many frames in each direction. Err: no memory. It changes nothing but the room and the places.
-    pub fn reserve(&mut self, frames: usize) -> Result<(), AllocError>
-        ensures room { OnOk result (frames ≤ self.new.room) }
+    /// Makes room for the frames of a step in each direction. Err: no memory. It changes nothing but the room and the
+    /// places.
+    pub fn reserve(&mut self) -> Result<(), AllocError>
+        ensures room { OnOk result (9 ≤ self.new.room) }
         ensures same { self.new ≡ with_room_of self.new self.old }
-        ensures few { TakesFew frames self.old self.new }
+        ensures few { TakesFew 9 self.old self.new }
     {
-        if self.room.promised() >= frames {
+        if self.room >= MOST_FRAMES {
             return Ok(());
         }
-        grow(&mut self.to_dce, frames)?;
-        grow(&mut self.to_dte, frames)?;
-        self.room.reserve(frames)
+        grow(&mut self.to_dce)?;
+        grow(&mut self.to_dte)?;
+        if self.blanks.len() < MOST_FRAMES {
+            make_blanks(&mut self.blanks, self.alloc)?;
+        }
+        self.room = MOST_FRAMES;
+        Ok(())
     }
 
     /// A copy of a frame that an end sent comes on the line, in room that there is.
@@ -99,7 +119,10 @@ impl Line {
         requires short { length octets.now ≤ 4103 }
         ensures { self.new ≡ put_by self.old from (octets.now ∷ []) }
     {
-        let own = with_octets(memory(&mut self.room, &mut self.left, octets.len()), octets);
+        self.room -= 1;
+        let is_long = self.len(from.other()) >= FEW_FRAMES;
+        let memory = memory(&mut self.blanks, self.alloc, is_long, octets.len());
+        let own = with_octets(memory, octets);
         match from {
             Role::Dte => lay(&mut self.to_dce, own),
             Role::Dce => lay(&mut self.to_dte, own),
@@ -132,8 +155,8 @@ impl Line {
         ensures { self.new ≡ with_line_to self.old to (remove (line_to self.old to) place) }
     {
         match to {
-            Role::Dce => keep(&mut self.left, take_off(&mut self.to_dce, place)),
-            Role::Dte => keep(&mut self.left, take_off(&mut self.to_dte, place)),
+            Role::Dce => keep(&mut self.blanks, take_off(&mut self.to_dce, place)),
+            Role::Dte => keep(&mut self.blanks, take_off(&mut self.to_dte, place)),
         }
     }
 
@@ -153,25 +176,41 @@ impl Line {
     }
 }
 
-// Memory for so many octets, of that which was set aside for a frame.
+// Makes blanks, as many as are kept. Err: no memory.
+#[cold]
+fn make_blanks(blanks: &mut Vec<Blank>, alloc: Global) -> Result<(), AllocError>
+    requires places { vec_capacity blanks.old ≤ 34 }
+    requires fewer { vec_len blanks.old < 34 }
+    ensures enough { OnOk result (34 ≤ vec_len blanks.new) }
+    ensures no_fewer { vec_len blanks.old ≤ vec_len blanks.new }
+    ensures few { vec_capacity blanks.new ≤ 34 }
+{
+    blanks.reserve_exact(MOST_BLANKS - blanks.len())?;
+    while blanks.len() < MOST_BLANKS {
+        let octets = Vec::with_capacity(alloc, LONGEST_FRAME)?;
+        blanks.push_reserved(Blank { octets });
+    }
+    Ok(())
+}
+
+// Memory for so many octets: a blank, but on a long line, or where a step may need all of them, of its own, if there is
+// some.
 #[inline(always)]
-fn memory(
-    room: &mut Promise<LONGEST_FRAME, MOST_FRAMES>,
-    left: &mut Pool<LONGEST_FRAME, MOST_FRAMES>,
-    length: usize,
-) -> Vec<u8>
-    requires room { 0 < room.old }
+fn memory(blanks: &mut Vec<Blank>, alloc: Global, is_long: bool, length: usize) -> Vec<u8>
+    requires some { 0 < vec_len blanks.old }
     requires short { length ≤ 4103 }
-    ensures fewer { room.new + 1 ≡ room.old }
+    ensures one { vec_len blanks.old ≤ vec_len blanks.new + 1 }
+    ensures places { vec_capacity blanks.new ≡ vec_capacity blanks.old }
     ensures empty { result.items ≡ [] }
     ensures enough { length ≤ vec_capacity result }
     ensures few { vec_capacity result ≤ 4103 }
 {
-    if let Some(octets) = left.take(length) {
-        room.limit(room.promised() - 1);
+    if (is_long || blanks.len() <= MOST_FRAMES)
+        && let Ok(octets) = Vec::with_capacity(alloc, length)
+    {
         return octets;
     }
-    room.take(length)
+    blanks.pop().unwrap().octets
 }
 
 // A frame goes behind the others, in the memory that it is in.
@@ -187,35 +226,34 @@ fn lay(queue: &mut VecDeque<Laid>, octets: Vec<u8>)
     queue.push_back_reserved(Laid { octets });
 }
 
-// The memory of a frame that left the line serves again.
+// The blank of a frame that left the line serves again.
 #[inline(always)]
-fn keep(left: &mut Pool<LONGEST_FRAME, MOST_FRAMES>, frame: Option<Laid>) {
-    if let Some(Laid { octets }) = frame {
-        left.keep(octets);
+fn keep(blanks: &mut Vec<Blank>, frame: Option<Laid>)
+    ensures no_fewer { vec_len blanks.old ≤ vec_len blanks.new }
+    ensures places { vec_capacity blanks.new ≡ vec_capacity blanks.old }
+{
+    if let Some(Laid { mut octets }) = frame
+        && octets.capacity() == LONGEST_FRAME
+        && blanks.len() < blanks.capacity()
+    {
+        octets.clear();
+        blanks.push_reserved(Blank { octets });
     }
 }
 
-// For how many frames more there are places.
+// Makes room for the frames of a step, by places for as many again as there are, or for those. Err: no memory.
 #[inline(always)]
-fn free(queue: &VecDeque<Laid>) -> usize
-    ensures { deque_len queue.now + result ≡ deque_capacity queue.now }
-{
-    queue.capacity() - queue.len()
-}
-
-// Makes room for so many frames more, by places for as many again as there are, or for those. Err: no memory.
-#[inline(always)]
-fn grow(queue: &mut VecDeque<Laid>, frames: usize) -> Result<(), AllocError>
+fn grow(queue: &mut VecDeque<Laid>) -> Result<(), AllocError>
     ensures items { queue.new.items ≡ queue.old.items }
     ensures len { deque_len queue.new ≡ deque_len queue.old }
-    ensures room { OnOk result (deque_len queue.new + frames ≤ deque_capacity queue.new) }
+    ensures room { OnOk result (deque_len queue.new + 9 ≤ deque_capacity queue.new) }
     ensures more { deque_capacity queue.old ≤ deque_capacity queue.new }
-    ensures few { deque_capacity queue.new ≤ max (deque_capacity queue.old) (2 * deque_len queue.old + frames) }
+    ensures few { deque_capacity queue.new ≤ max (deque_capacity queue.old) (2 * deque_len queue.old + 9) }
 {
-    if free(queue) >= frames {
+    if queue.capacity() - queue.len() >= MOST_FRAMES {
         return Ok(());
     }
-    queue.reserve_exact(queue.len().max(frames))
+    queue.reserve_exact(queue.len().max(MOST_FRAMES))
 }
 
 // The frame at this place is taken out, with no move of others where it is the first.

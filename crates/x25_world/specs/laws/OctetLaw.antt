@@ -19,13 +19,12 @@ line_octets v = sum_by frame_octets v.to_dce + sum_by frame_octets v.to_dte
 abbrev pub step_octets : ℕ
 step_octets = 4103 * 25 + (65535 + 128 * 5)
 
--- those of its stations, 9 frames that memory is set aside for, the memory kept of 9 that left the line, that of a
--- step, and these
+-- those of its stations, the memory kept for 34 frames, that of a step, and these
 abbrev pub octets_held : ShownWorld → ℕ
 octets_held v = (station.octets_held v.dte + station.octets_held v.dce)
-    + (4103 * (9 + 9) + step_octets + line_octets v)
+    + (4103 * 34 + step_octets + line_octets v)
 
 -- with so many channels as its settings say
 abbrev pub FewOctets : Type 0
 FewOctets = (cfg : Cfg) (v : ShownWorld) (w : World) → FitsWorld cfg v w
-    → octets_held v ≤ 715682 + 1310700 * cfg.channels.count + line_octets v
+    → octets_held v ≤ 781330 + 1310700 * cfg.channels.count + line_octets v
