@@ -43,9 +43,6 @@ pushed_held h given packet m is = record {
       pushed given packet (slice_index_or h.octets (n % 8) []) n (is.octets n before near known);
 }
 
-kept_whole : (packet : List ℕ) → length packet ≤ ROOM → kept packet ≡ packet
-kept_whole packet fits = cond-true (nat_le (length packet) ROOM) packet [] (le-leb (length packet) ROOM fits)
-
 -- number n goes, new or again
 pub sent_held : (h : Held) (given : List (List ℕ)) (m n ns nr : ℕ) (pf : Bool) (packet : List ℕ) → ns ≡ n % 8 → n ≤ m → m ≤ n + 7
     → length packet ≤ ROOM → slice_get given n ≡ Some packet → IsHeld h given m
@@ -78,7 +75,7 @@ sent_held h given m n ns nr pf packet number le near fits same is = record {
     go k before low known (inl e) =
         let here : slice_index_or (slice_set h.octets (ns % 8) (kept packet)) (k % 8) [] ≡ packet =
         ap (λ i. slice_index_or (slice_set h.octets (ns % 8) (kept packet)) i []) (ap (λ x. x % 8) e ∙ sym at)
-        ∙ get_or-set_same h.octets (ns % 8) (kept packet) [] in_room ∙ kept_whole packet fits in
+        ∙ get_or-set_same h.octets (ns % 8) (kept packet) [] in_room ∙ cond-true (nat_le (length packet) ROOM) packet [] (le-leb (length packet) ROOM fits) in
         ap (λ x. slice_get given x) e ∙ same ∙ ap (λ (x : List ℕ). Some x) (sym here)
     go k before low known (inr ne) =
         is.octets k (is_old k before ne) (is_near k low)

@@ -264,7 +264,7 @@ number_shown (rnr command nr pf) d is = tt
 number_shown (rej command nr pf) d is = tt
 number_shown frame d is = absurd is
 
-saw : (b c : Bool) → (b ≡ true → c ≡ true) → c ≡ false → b ≡ false
+pub saw : (b c : Bool) → (b ≡ true → c ≡ true) → c ≡ false → b ≡ false
 saw true c h e = absurd (both_ways c e (h refl))
 saw false c h e = refl
 
