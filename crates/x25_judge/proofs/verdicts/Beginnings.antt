@@ -31,7 +31,7 @@ use Rattle.x25_possible_links.specs.laws.Link.{At, Owes, State, asks, fresh, has
 use Rattle.x25_possible_links.specs.laws.Link.{answers, begins, owes, passes, sends}
 use Rattle.x25_possible_links.specs.laws.Places.{first, is_plain, onward, settled, upward}
 use Rattle.x25_possible_links.specs.laws.Places as place
-use Rattle.x25_possible_links.specs.code.Steps.{hastened, is_below, numbers_below, sends_to, set_as, shows_to, spot_at, trimmed}
+use Rattle.x25_possible_links.specs.code.Steps.{set_of, hastened, is_below, numbers_below, sends_to, set_as, shows_to, spot_at, trimmed}
 use Rattle.x25_possible_links.specs.declared.frame.Frame.{Frame}
 use Rattle.x25_possible_links.specs.declared.frame.Frame.TheVariants.{Before, Disc, Info, Ready, Sabm, Ua, Unread}
 use Rattle.x25_possible_links.specs.declared.set.LinkSet.{LinkSet}
@@ -150,7 +150,7 @@ asks_alone (Up k) = refl
 asks_alone Free = refl
 
 abbrev set_in : List Frame → List Spot → Bool → LinkSet
-set_in way qs b = record { way = record { items = way }; spots = record { items = qs }; is_blind = b }
+set_in way qs b = record (set_of way qs) { is_blind = b }
 
 abbrev Asks : LinkSet → Type 0
 Asks s = Has (sends_to Sabm s).set (At Asking) []
