@@ -1,13 +1,14 @@
 -- Loops over a list of states, one by one.
 use Rattle.std.proofs.Common.{Bool, true, false, ◌≡◌, ℕ, suc, ◌+◌, ◌<◌, ◌≤◌, ◌&&◌, nat_le, if◌then◌else◌}
-use Rattle.std.proofs.Common.{List, [], ◌∷◌, drop, length, get_or, sym, ap, ◌∙◌, Option, Some, None, arith}
+use Rattle.std.proofs.Common.{List, [], ◌∷◌, drop, length, get_or, sym, ap, ◌∙◌, Option, Some, None, arith, refl, not}
 use Rattle.std.proofs.Common.{drop_of_length-le}
 use Rattle.std.proofs.Math.Seq.{drop-cons}
-use Rattle.std.proofs.lemmas.Bool.{false_from_ne_true, leb-true, le-leb}
+use Rattle.std.proofs.lemmas.Bool.{false_from_ne_true, false≢true, leb-true, le-leb}
 use Rattle.x25_bits.specs.declared.role.Role.{Role}
-use Rattle.x25_possible.specs.Channel.{at_once, found, takes}
-use Rattle.x25_possible.specs.code.Steps.{kept, is_large, spot_at, taken_on, settles_by, settles}
+use Rattle.x25_possible.specs.Channel.{at_once, found, is_polite, takes}
+use Rattle.x25_possible.specs.code.Steps.{kept, is_large, spot_at, settles_by, settles}
 use Rattle.x25_possible.specs.code.Steps.{all_of, and_then, found_from, made, are_at_end, settles_found}
+use Rattle.x25_possible.specs.code.Steps.{are_polite, may_send, rude_from}
 use Rattle.x25_possible.specs.declared.packet.Packet.{Packet}
 use Rattle.x25_possible.specs.declared.phase.Phase.{Phase}
 use Rattle.x25_possible.specs.declared.spots.Spot.{Spot}
@@ -71,57 +72,10 @@ not_past n qs i d less near before =
 
 -- ---- all to which a state comes
 
-module _ (role : Role) (n : ℕ) (way : List Packet) (s : Phase) (out : List Spot) where
-  abbrev All : Option (List Spot)
-  All = settles role n (drop n way) s out
-
-  large_of : (rest : List Packet) → is_large s ≡ true → None ≡ settles role n rest s out
-  large_of [] large = sym (ap (λ b. if b then None else kept (spot_at n s) out) large)
-  large_of (x ∷ rest) large =
-      sym (ap (λ b. if b then None else settles_by (at_once s x) (takes role s x) (spot_at n s) (settles role (n + 1) rest) out) large)
-
-  pub settles_large : is_large s ≡ true → None ≡ All
-  settles_large large = large_of (drop n way) large
-
-  pub settles_end : is_large s ≡ false → length way ≤ n → kept (spot_at n s) out ≡ All
-  settles_end small far =
-      sym (ap (λ w. settles role n w s out) (drop_of_length-le way far) ∙ ap (λ b. if b then None else kept (spot_at n s) out) small)
-
-module _ (role : Role) (n : ℕ) (way : List Packet) (d : Packet) (s : Phase) (out : List Spot) where
-  abbrev Here : Option (List Spot)
-  Here = settles role n (drop n way) s out
-
-  abbrev Rest : Phase → List Spot → Option (List Spot)
-  Rest = settles role (n + 1) (drop (n + 1) way)
-
-  abbrev X : Packet
-  X = get_or way n d
-
-  settles_front : is_large s ≡ false → n < length way → settles_by (at_once s X) (takes role s X) (spot_at n s) Rest out ≡ Here
-  settles_front small less =
-      sym (ap (λ w. settles role n w s out) (here way n d less)
-      ∙ ap (λ b. if b then None else settles_by (at_once s X) (takes role s X) (spot_at n s) Rest out) small)
-
-  pub settles_once : (u : Phase) → is_large s ≡ false → n < length way → at_once s X ≡ Some u → Rest u out ≡ Here
-  settles_once u small less e =
-      sym (ap (λ o. settles_by o (takes role s X) (spot_at n s) Rest out) e) ∙ settles_front small less
-
-  settles_kept : is_large s ≡ false → n < length way → at_once s X ≡ None → and_then (kept (spot_at n s) out) (taken_on (takes role s X) Rest) ≡ Here
-  settles_kept small less e =
-      sym (ap (λ o. settles_by o (takes role s X) (spot_at n s) Rest out) e) ∙ settles_front small less
-
-  pub settles_full : is_large s ≡ false → n < length way → at_once s X ≡ None → kept (spot_at n s) out ≡ None → None ≡ Here
-  settles_full small less e k = sym (ap (λ o. and_then o (taken_on (takes role s X) Rest)) k) ∙ settles_kept small less e
-
-  pub settles_stop : (mid : List Spot) → is_large s ≡ false → n < length way → at_once s X ≡ None → kept (spot_at n s) out ≡ Some mid
-      → takes role s X ≡ None → Some mid ≡ Here
-  settles_stop mid small less e k t =
-      sym (ap (λ o. and_then o (taken_on (takes role s X) Rest)) k ∙ ap (λ o. taken_on o Rest mid) t) ∙ settles_kept small less e
-
-  pub settles_on : (mid : List Spot) (u : Phase) → is_large s ≡ false → n < length way → at_once s X ≡ None → kept (spot_at n s) out ≡ Some mid
-      → takes role s X ≡ Some u → Rest u mid ≡ Here
-  settles_on mid u small less e k t =
-      sym (ap (λ o. and_then o (taken_on (takes role s X) Rest)) k ∙ ap (λ o. taken_on o Rest mid) t) ∙ settles_kept small less e
+pub settles_large : (role : Role) (n : ℕ) (way : List Packet) (s : Phase) (out : List Spot) → is_large s ≡ true → None ≡ settles role n way s out
+settles_large role n [] s out large = sym (ap (λ b. if b then None else kept (spot_at n s) out) large)
+settles_large role n (x ∷ rest) s out large =
+    sym (ap (λ b. if b then None else settles_by (at_once s x) (takes role s x) (spot_at n s) (settles role (n + 1) rest) out) large)
 
 -- ---- all in which an end is behind a packet, that was anywhere from there on
 
@@ -158,3 +112,16 @@ made_some b new o e ok = sym e ∙ ap (λ c. made c new) ok
 
 pub made_none : (b : Bool) (new : List Spot) (o : Option (List Spot)) → made b new ≡ o → b ≡ false → o ≡ None
 made_none b new o e not_ok = sym e ∙ ap (λ c. made c new) not_ok
+
+-- ---- where each is polite, none is rude
+
+pub polite_none : (x : Packet) (qs : List Spot) → are_polite x qs ≡ true → None ≡ rude_from x None qs
+polite_none x [] h = refl
+polite_none x (q ∷ qs) h = go (is_large q.phase) (is_polite q.phase x) (may_send q.phase x) h (polite_none x qs)
+  where
+    go : (large polite may : Bool) → (not large && (polite && are_polite x qs)) ≡ true → (are_polite x qs ≡ true → None ≡ rude_from x None qs)
+        → None ≡ (if may then (if polite then None else rude_from x (Some q.phase) qs) else rude_from x None qs)
+    go true polite may h rest = absurd (false≢true h)
+    go false false may h rest = absurd (false≢true h)
+    go false true true h rest = refl
+    go false true false h rest = rest h

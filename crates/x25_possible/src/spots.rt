@@ -41,6 +41,7 @@ fn is_same(one: Phase, two: Phase) -> bool
     }
 }
 
+#[inline(always)]
 fn is_there(spots: &[Spot], spot: Spot) -> bool
     ensures { result ≡ definition.is_there spot spots.now }
 {
@@ -53,6 +54,7 @@ fn is_there(spots: &[Spot], spot: Spot) -> bool
 }
 
 /// Adds one that isn't there. False: no room.
+#[inline(always)]
 fn keep(out: &mut Spots, spot: Spot) -> bool
     ensures { definition.made result out.new.items ≡ definition.kept spot out.old.items }
 {
@@ -67,28 +69,37 @@ fn keep(out: &mut Spots, spot: Spot) -> bool
 }
 
 /// Adds all to which it comes from there on. False: no room.
+#[inline(always)]
 fn settle(role: Role, phase: Phase, at: usize, way: &[Packet], out: &mut Spots) -> bool
     ensures { definition.made result out.new.items ≡ definition.settles role at (drop at way.now) phase out.old.items }
 {
-    if is_large(phase) {
-        return false;
-    }
-    if at >= way.len() {
-        return keep(out, Spot { phase, at });
-    }
-    if let Some(next) = at_once(phase, way[at]) {
-        return settle(role, next, at + 1, way, out);
-    }
-    if !keep(out, Spot { phase, at }) {
-        return false;
-    }
-    match takes(role, phase, way[at]) {
-        None => true,
-        Some(next) => settle(role, next, at + 1, way, out),
+    let mut phase = phase;
+    let mut at = at;
+    loop {
+        if is_large(phase) {
+            return false;
+        }
+        if at >= way.len() {
+            return keep(out, Spot { phase, at });
+        }
+        if let Some(next) = at_once(phase, way[at]) {
+            phase = next;
+            at += 1;
+            continue;
+        }
+        if !keep(out, Spot { phase, at }) {
+            return false;
+        }
+        let Some(next) = takes(role, phase, way[at]) else {
+            return true;
+        };
+        phase = next;
+        at += 1;
     }
 }
 
 /// Adds all that one comes to as the end sends a packet, by the rules, or where that breaks one. False: no room.
+#[inline(always)]
 fn goes(
     breaks: bool,
     role: Role,
@@ -113,6 +124,7 @@ fn goes(
     }
 }
 
+#[inline(always)]
 fn go_all(
     breaks: bool,
     role: Role,
@@ -318,10 +330,25 @@ fn may_send(phase: Phase, packet: Packet) -> bool
     sends(phase, packet).is_some()
 }
 
+fn are_polite(spots: &[Spot], packet: Packet) -> bool
+    ensures { result ≡ definition.are_polite packet spots.now }
+{
+    for spot in spots {
+        if is_large(spot.phase) || !is_polite(spot.phase, packet) {
+            return false;
+        }
+    }
+    true
+}
+
 /// The last state that may send a packet, where none may politely.
 pub(crate) fn rude(spots: &[Spot], packet: Packet) -> Option<Phase>
     ensures { result ≡ definition.rude_from packet None spots.now }
 {
+    // Most packets are polite in all states, and go so.
+    if are_polite(spots, packet) {
+        return None;
+    }
     let mut found = None;
     for spot in spots {
         if may_send(spot.phase, packet) {

@@ -19,6 +19,7 @@ pub struct Spot {
 pub type Spots = ArrayVec<Spot, 16>;
 
 /// Whether one of them stands for all that this one does.
+#[inline(always)]
 fn is_covered(spots: &[Spot], spot: Spot) -> bool
     ensures { result ≡ definition.is_covered spot spots.now }
 {
@@ -31,6 +32,7 @@ fn is_covered(spots: &[Spot], spot: Spot) -> bool
 }
 
 /// Adds one that none covers. False: no room.
+#[inline(always)]
 fn keep(out: &mut Spots, spot: Spot) -> bool
     ensures { definition.made result out.new.items ≡ definition.kept spot out.old.items }
 {
@@ -45,19 +47,26 @@ fn keep(out: &mut Spots, spot: Spot) -> bool
 }
 
 /// Where it is once it has made the best of what it loses nothing by; None where a number is too large.
+#[inline(always)]
 fn best(stand: Stand, at: usize, way: &[Frame]) -> Option<Spot>
     ensures { result ≡ definition.best at (drop at way.now) stand }
 {
-    if is_large(stand) {
-        return None;
+    let mut stand = stand;
+    let mut at = at;
+    loop {
+        if is_large(stand) {
+            return None;
+        }
+        if at >= way.len() || !is_plain(stand, way[at]) {
+            return Some(Spot { stand, at });
+        }
+        stand = onward(stand, way[at]);
+        at += 1;
     }
-    if at >= way.len() || !is_plain(stand, way[at]) {
-        return Some(Spot { stand, at });
-    }
-    best(onward(stand, way[at]), at + 1, way)
 }
 
 /// Adds a stand, once it has made the best of what it loses nothing by. False: no room.
+#[inline(always)]
 fn settle(stand: Stand, at: usize, way: &[Frame], out: &mut Spots) -> bool
     ensures { definition.made result out.new.items ≡ definition.settles at (drop at way.now) stand out.old.items }
 {
@@ -68,20 +77,26 @@ fn settle(stand: Stand, at: usize, way: &[Frame], out: &mut Spots) -> bool
 }
 
 /// Adds the first place from there on in which it may send a frame. False: no room.
+#[inline(always)]
 fn goes(mode: Mode, frame: Frame, stand: Stand, at: usize, way: &[Frame], out: &mut Spots) -> bool
     ensures { definition.made result out.new.items
         ≡ definition.goes mode frame way.now at (drop at way.now) stand out.old.items }
 {
-    if is_large(stand) {
-        return false;
+    let mut stand = stand;
+    let mut at = at;
+    loop {
+        if is_large(stand) {
+            return false;
+        }
+        if let Some(next) = moves(mode, stand, at, way, frame) {
+            return settle(next, at, way, out);
+        }
+        if at >= way.len() {
+            return true;
+        }
+        stand = upward(stand, way[at]);
+        at += 1;
     }
-    if let Some(next) = moves(mode, stand, at, way, frame) {
-        return settle(next, at, way, out);
-    }
-    if at >= way.len() {
-        return true;
-    }
-    goes(mode, frame, upward(stand, way[at]), at + 1, way, out)
 }
 
 /// Adds where it is behind UA to SABM. False: no room.
@@ -218,29 +233,40 @@ pub(crate) fn least(spots: &[Spot], most: usize) -> usize
 // ---- where they stand once all has come
 
 /// Free where a number is too large.
+#[inline(always)]
 fn come(stand: Stand, at: usize, way: &[Frame]) -> Stand
     ensures { result ≡ definition.come (drop at way.now) stand }
 {
-    if is_large(stand) {
-        return Stand::Free;
+    let mut stand = stand;
+    let mut at = at;
+    loop {
+        if is_large(stand) {
+            return Stand::Free;
+        }
+        if at >= way.len() {
+            return stand;
+        }
+        stand = upward(stand, way[at]);
+        at += 1;
     }
-    if at >= way.len() {
-        return stand;
-    }
-    come(upward(stand, way[at]), at + 1, way)
 }
 
 /// Where it stands once all has come, whatever it made of it.
 fn rushed(stand: Stand, at: usize, front: &[Frame]) -> Stand
     ensures { result ≡ definition.rushed (drop at front.now) stand }
 {
-    if is_large(stand) {
-        return Stand::Free;
+    let mut stand = stand;
+    let mut at = at;
+    loop {
+        if is_large(stand) {
+            return Stand::Free;
+        }
+        if at >= front.len() {
+            return stand;
+        }
+        stand = pressed(stand, front[at]);
+        at += 1;
     }
-    if at >= front.len() {
-        return stand;
-    }
-    rushed(pressed(stand, front[at]), at + 1, front)
 }
 
 fn hurried(count: usize, front: &[Frame], spot: Spot) -> Spot
@@ -262,19 +288,26 @@ pub(crate) fn hurry_all(count: usize, front: &[Frame], spots: &mut [Spot])
 }
 
 /// Where it stands once all has come, where octets that spell no frame were none.
+#[inline(always)]
 fn gone(stand: Stand, at: usize, way: &[Frame]) -> Stand
     ensures { result ≡ definition.gone (drop at way.now) stand }
 {
-    if is_large(stand) {
-        return Stand::Free;
+    let mut stand = stand;
+    let mut at = at;
+    loop {
+        if is_large(stand) {
+            return Stand::Free;
+        }
+        if at >= way.len() {
+            return stand;
+        }
+        stand = passed(stand, way[at]);
+        at += 1;
     }
-    if at >= way.len() {
-        return stand;
-    }
-    gone(passed(stand, way[at]), at + 1, way)
 }
 
 /// Of the first of those that have come farthest.
+#[inline(always)]
 pub(crate) fn latest(spots: &[Spot], way: &[Frame]) -> Stand
     ensures { result ≡ definition.latest spots.now way.now }
 {
@@ -291,6 +324,7 @@ pub(crate) fn latest(spots: &[Spot], way: &[Frame]) -> Stand
 }
 
 /// Of the first of all: no octets were sent that spell no frame.
+#[inline(always)]
 pub(crate) fn plainest(spots: &[Spot], way: &[Frame]) -> Stand
     ensures { result ≡ definition.plainest spots.now way.now }
 {

@@ -20,6 +20,7 @@ use Rattle.x25_judge.proofs.verdicts.Innocents.{sent_end}
 use Rattle.x25_judge.proofs.verdicts.Manners.{IsFair, minds_has, small_window}
 use Rattle.x25_judge.specs.Links as links
 use Rattle.x25_possible_links.specs.laws.Places as place
+use Rattle.x25_possible_links.specs.code.Steps.{set_of}
 
 -- ---- a place from which a session may begin
 
@@ -102,7 +103,7 @@ asks_alone Out = refl
 asks_alone s = refl
 
 abbrev set_in : List Frame → List Spot → Bool → LinkSet
-set_in way qs b = record { way = record { items = way }; spots = record { items = qs }; is_blind = b }
+set_in way qs b = record (set_of way qs) { is_blind = b }
 
 abbrev Asks : LinkSet → Type 0
 Asks s = Has (sends_to Sabm s).set (At Asking) []

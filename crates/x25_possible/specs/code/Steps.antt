@@ -157,6 +157,10 @@ is_some (Some s) = true
 abbrev pub may_send : Phase → Packet → Bool
 may_send s x = if is_large s then false else is_some (sends s x)
 
+abbrev pub are_polite : Packet → List Spot → Bool
+are_polite x [] = true
+are_polite x (q ∷ qs) = not (is_large q.phase) && (is_polite q.phase x && are_polite x qs)
+
 -- the last state that may send it, where none may politely
 abbrev pub rude_from : Packet → Option Phase → List Spot → Option Phase
 rude_from x found [] = found
