@@ -1,4 +1,5 @@
 -- Why the laws hold (src/law.rt).
+pub mod Names
 pub mod Lines
 pub mod Manners
 pub mod Octets

@@ -2,10 +2,9 @@
 //! kept, as long as there is room for its places. Each law is the contract of a function that does nothing.
 ghost use Rattle.x25_frame.specs.laws.ReadingLaw.{ReadsSpelled, ReadsWhatIsSpelled};
 ghost use Rattle.x25_judge.specs.laws.VerdictClaims.{GuiltyAreTold, JudgedFinalsAreTold, JudgedSendingsAreTold};
-ghost use Rattle.x25_judge.specs.laws.VerdictClaims.{ToldAreGuilty};
-ghost use Rattle.x25_judge.specs.laws.VerdictClaims.{NoSessionIsAccused, NoStationIsAccused};
-ghost use Rattle.x25_judge.specs.laws.VerdictClaims.{SilenceMeansOrder, SilenceMeansRules};
-ghost use Rattle.x25_judge.specs.laws.VerdictClaims.{SetUpsBegin, SilenceMeansNumbers};
+ghost use Rattle.x25_judge.specs.laws.VerdictClaims.{ToldAreGuilty, NoSessionIsAccused, NoStationIsAccused};
+ghost use Rattle.x25_judge.specs.laws.VerdictClaims.{SilenceMeansOrder, SilenceMeansRules, SetUpsBegin};
+ghost use Rattle.x25_judge.specs.laws.VerdictClaims.{SilenceMeansNumbers};
 ghost use Rattle.x25_line.specs.laws.LawsBelow.{Laws};
 ghost use Rattle.x25_line.specs.laws.PeerClaims.{KeepsOrder, OnAnySilentTape};
 ghost use Rattle.x25_line.specs.laws.StationClaims.{EachEventHandsOne};

@@ -1,29 +1,13 @@
 -- What a packet makes of a book, and what is told of it.
-use Rattle.std.proofs.Common.{◌≡◌, ◌∙◌, ℕ, Bool, true, false, Some, None, refl, sym, ap, arith}
+use Rattle.x25_packet_judge.proofs.Names.{or_parts, ◌≡◌, ◌∙◌, ℕ, Bool, true, false, Some, None, refl, sym, ap, arith, ◌%◌, ◌==◌, ◌&&◌, ◌||◌, not, if◌then◌else◌, unwrap_or, Role, Dte, Dce, PlainPacket, is_of_all, is_restart, any_channel, rule_of, sent, Channels, all_happens, channel_of, put, item_of, Book, Channel, RestartAwaited, asked_of, awaits, behind_item, end_of, is_quiet, refuses, seen_by, set_of, BooksFollowTapes, is_known, sends_to, Packet, Elsewhere, Set, Nothing}
+use Rattle.std.specs.Prelude.{slice_index_or}
 use Rattle.std.proofs.lemmas.Bool.Decides.{nat_tests}
-use Rattle.std.specs.Prelude.{◌%◌, ◌==◌, ◌&&◌, ◌||◌, not, if◌then◌else◌, slice_index_or, unwrap_or}
-use Rattle.x25_bits.specs.declared.role.Role.{Role}
-use Rattle.x25_bits.specs.declared.role.Role.TheVariants.{Dte, Dce}
-use Rattle.x25_packet.specs.Packet.{PlainPacket}
-use Rattle.x25_packet_judge.specs.Book as book
-use Rattle.x25_packet_judge.specs.Book.{is_of_all, is_restart}
-use Rattle.x25_packet_judge.specs.Channel as channels
-use Rattle.x25_packet_judge.specs.Channel.{any_channel, rule_of, sent}
-use Rattle.x25_packet_judge.specs.Channels.{Channels, all_happens, channel_of, put}
-use Rattle.x25_packet_judge.specs.Item.{item_of}
-use Rattle.x25_packet_judge.specs.declared.book.Book.{Book}
 use Rattle.x25_packet_judge.specs.declared.book.Verdict.{Verdict}
-use Rattle.x25_packet_judge.specs.declared.channel.Channel.{Channel}
 use Rattle.x25_packet_judge.specs.declared.channel.Event.TheVariants.{Sends}
-use Rattle.x25_packet_judge.specs.declared.packet_rule.PacketRule.TheVariants.{RestartAwaited}
-use Rattle.x25_packet_judge.specs.laws.BookClaims.{asked_of, awaits, behind_item, end_of, is_quiet, refuses, seen_by, set_of, BooksFollowTapes}
 use Rattle.x25_packet_judge.proofs.ChannelsLemmas.{happens_on, put_other, put_same}
-use Rattle.x25_packet_judge.proofs.TellingLemmas.{ends_move, judged_ends, judged_is, judged_rule, neither}
-use Rattle.x25_possible.specs.code.Steps.{is_known, sends_to}
-use Rattle.x25_possible.specs.declared.packet.Packet.{Packet}
-use Rattle.x25_possible.specs.declared.packet.Packet.TheVariants.{Elsewhere}
-use Rattle.x25_possible.specs.declared.set.Set.{Set}
-use Rattle.x25_possible.specs.declared.set.Told.TheVariants.{Nothing}
+use Rattle.x25_packet_judge.proofs.TellingLemmas.{ends_move, judged_ends, judged_is, judged_rule}
+use Rattle.x25_packet_judge.specs.Book as book
+use Rattle.x25_packet_judge.specs.Channel as channels
 
 -- which packet it is
 pub is_channels : (from : Role) (of : ℕ) (packet : PlainPacket) (b : Book) → is_of_all packet ≡ false
@@ -82,10 +66,9 @@ restarts_follow b role from of packet false is loud =
 -- ---- an end that has sent
 
 spoken_layers : (role from : Role) (b : Book) → is_quiet role b ≡ false → is_quiet role (book.spoken from b) ≡ false
-spoken_layers Dte Dte b loud = refl
 spoken_layers Dte Dce b loud = loud
 spoken_layers Dce Dte b loud = loud
-spoken_layers Dce Dce b loud = refl
+spoken_layers role from b loud = refl
 
 spoken_once : (from : Role) (b : Book) → is_quiet from (book.spoken from b) ≡ false
 spoken_once Dte b = refl
@@ -155,7 +138,7 @@ module _ (from : Role) (of : ℕ) (packet : PlainPacket) (b : Book) where
       ap (λ (s : book.Seen). s.verdict.is_judged) (is_channels from of packet b is)
       ∙ one_judged from of (item_of packet) (channel_of of b.channels) (is_early from b)
       ∙ ap (λ a. (not a && is_early from b) || (sent (item_of packet) (asked from of b a)).finding.is_judged) (sym is)
-      ∙ ap (λ r. awaits from packet b || (r || (sent (item_of packet) (asked_of from of packet b)).finding.is_judged)) (sym (neither (is_restart packet) _ is))
+      ∙ ap (λ r. awaits from packet b || (r || (sent (item_of packet) (asked_of from of packet b)).finding.is_judged)) (sym (or_parts (is_restart packet) _ is).0)
   judged_so true is =
       ap (λ (s : book.Seen). s.verdict.is_judged) (is_all from of packet b is)
       ∙ ap (λ a. (not a && is_early from b) || (is_restart packet || (sent (item_of packet) (asked from of b a)).finding.is_judged)) (sym is)

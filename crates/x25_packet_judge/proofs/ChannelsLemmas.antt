@@ -1,12 +1,8 @@
 -- A channel of all that were seen, and of the others.
-use Rattle.std.proofs.Common.{◌≡◌, ◌∙◌, ◌+◌, ◌<◌, ℕ, zero, suc, List, [], ◌∷◌, ◌++◌, Option, Some, None, length, replicate, refl, ap, arith}
+use Rattle.x25_packet_judge.proofs.Names.{◌≡◌, ◌∙◌, ◌<◌, ℕ, zero, suc, List, [], ◌∷◌, ◌++◌, Option, Some, None, length, replicate, refl, ap, arith, get_or-set_same, get_or-set_other, length-append, length-replicate, ◌-◌, ◌%◌, unwrap_or, happens, Channels, all_happens, channel_of, padded, put, Channel}
+use Rattle.std.specs.Prelude.{slice_index_or}
 use Rattle.std.proofs.Math.ListN.{get_or-map}
-use Rattle.std.proofs.lemmas.List.{get_or-set_same, get_or-set_other, length-append, length-replicate}
 use Rattle.std.specs.Option.{option_map}
-use Rattle.std.specs.Prelude.{◌-◌, ◌%◌, slice_index_or, unwrap_or}
-use Rattle.x25_packet_judge.specs.Channel.{happens}
-use Rattle.x25_packet_judge.specs.Channels.{Channels, all_happens, channel_of, padded, put}
-use Rattle.x25_packet_judge.specs.declared.channel.Channel.{Channel}
 use Rattle.x25_packet_judge.specs.declared.channel.Event.{Event}
 
 -- a place without a channel is none

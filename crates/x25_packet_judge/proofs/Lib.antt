@@ -1,3 +1,4 @@
+mod Names
 mod ListLemmas
 mod ChannelsLemmas
 mod TellingLemmas

@@ -1,6 +1,5 @@
 -- A list whose elements are changed one after another, from the front.
-use Rattle.std.proofs.Common.{◌≡◌, ℕ, zero, suc, ◌+◌, ◌<◌, ◌≤◌, List, [], ◌∷◌, ◌++◌, length, map, slice_set, slice_index_or, take, drop, refl, sym, ap, ◌∙◌, arith, append-nil}
-use Rattle.std.proofs.lemmas.List.{take_all, drop_all}
+use Rattle.x25_packet_judge.proofs.Names.{◌≡◌, ℕ, zero, suc, ◌+◌, ◌<◌, ◌≤◌, List, [], ◌∷◌, ◌++◌, length, map, slice_set, slice_index_or, take, drop, refl, sym, ap, ◌∙◌, arith, append-nil, take_all, drop_all}
 
 -- those from a place on changed
 abbrev pub left_mapped : {A : Type 0} → (A → A) → ℕ → List A → List A

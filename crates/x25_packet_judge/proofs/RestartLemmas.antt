@@ -1,19 +1,8 @@
 -- Behind a set-up of the link, a RESTART and its confirmation.
-use Rattle.std.proofs.Common.{◌≡◌, ◌∙◌, ℕ, true, false, refl, ap}
-use Rattle.std.proofs.lemmas.Bool.{both_ways}
-use Rattle.x25_bits.specs.declared.role.Role.{Role}
-use Rattle.x25_bits.specs.declared.role.Role.TheVariants.{Dte, Dce}
-use Rattle.x25_packet.specs.Packet.{restart, restart_conf}
-use Rattle.x25_packet_judge.specs.Book as book
-use Rattle.x25_packet_judge.specs.Channel.{begun_channel, ready_channel}
-use Rattle.x25_packet_judge.specs.Channels.{all_alike, channel_of}
-use Rattle.x25_packet_judge.specs.Item.{item_of}
-use Rattle.x25_packet_judge.specs.declared.book.Book.{Book}
+use Rattle.x25_packet_judge.proofs.Names.{◌≡◌, ◌∙◌, ℕ, true, false, refl, ap, both_ways, Role, Dte, Dce, restart, restart_conf, begun_channel, ready_channel, all_alike, channel_of, item_of, Book, begins_with, behind_item, end_of, is_its, is_quiet, seen_by, RestartsBegin, behind, Restart, RestartConf}
 use Rattle.x25_packet_judge.specs.declared.layers.Layers.{Layers}
-use Rattle.x25_packet_judge.specs.laws.BookClaims.{begins_with, behind_item, end_of, is_its, is_quiet, seen_by, set_of, RestartsBegin}
 use Rattle.x25_packet_judge.proofs.BookLemmas.{books_follow_tapes, restarts_of_all, sends_first}
-use Rattle.x25_possible.specs.code.Steps.{behind}
-use Rattle.x25_possible.specs.declared.packet.Packet.TheVariants.{Restart, RestartConf}
+use Rattle.x25_packet_judge.specs.Book as book
 
 module _ (t : Layers) (b : Book) where
   up_channels : (r : Role) → (book.begins r t b).channels ≡ all_alike ready_channel
@@ -55,37 +44,20 @@ loud Dte Dce Dte one two cause diagnostic b apart = sends_first Dte two restart_
 loud role Dte Dte one two cause diagnostic b apart = absurd (both_ways true apart refl)
 loud role Dce Dce one two cause diagnostic b apart = absurd (both_ways true apart refl)
 
--- RESTART goes where the layer may go on from before, too
-module _ (role from : Role) (of : ℕ) (b : Book) where
-  restarted : (cause diagnostic : ℕ) → end_of role (book.takes from of (restart cause diagnostic) b).book.restarts ≡ behind_item (seen_by role from Restart) (end_of role b.restarts)
-  unfolding item_of
-  restarted cause diagnostic = restarts_of_all b role from of (restart cause diagnostic) refl
-
-  confirmed : end_of role (book.takes from of restart_conf b).book.restarts ≡ behind_item (seen_by role from RestartConf) (end_of role b.restarts)
-  unfolding item_of
-  confirmed = restarts_of_all b role from of restart_conf refl
-
-  set_restarted : (channel cause diagnostic : ℕ) → set_of role channel (book.takes from of (restart cause diagnostic) b).book ≡ behind_item (seen_by role from Restart) (set_of role channel b)
-  unfolding item_of
-  set_restarted channel cause diagnostic = books_follow_tapes.channels b role from channel of (restart cause diagnostic)
-
-  set_confirmed : (channel : ℕ) → set_of role channel (book.takes from of restart_conf b).book ≡ behind_item (seen_by role from RestartConf) (set_of role channel b)
-  unfolding item_of
-  set_confirmed channel = books_follow_tapes.channels b role from channel of restart_conf
-
 pub restarts_begin : RestartsBegin
+unfolding item_of
 restarts_begin b t role up from other channel one two cause diagnostic apart =
     let first : Book = book.begins up t b in
     let second : Book = (book.takes from one (restart cause diagnostic) first).book in
     record {
       dte = loud Dte from other one two cause diagnostic first apart;
       dce = loud Dce from other one two cause diagnostic first apart;
-      set = set_confirmed role other two second channel
-          ∙ ap (behind_item (seen_by role other RestartConf)) (set_restarted role from one first channel cause diagnostic
+      set = books_follow_tapes.channels second role other channel two restart_conf
+          ∙ ap (behind_item (seen_by role other RestartConf)) (books_follow_tapes.channels first role from channel one (restart cause diagnostic)
           ∙ ap (behind_item (seen_by role from Restart)) (ap (λ cs. end_of role (channel_of channel cs)) (up_channels t b up)))
           ∙ met role from other apart;
-      restart_set = confirmed role other two second
-          ∙ ap (behind_item (seen_by role other RestartConf)) (restarted role from one first cause diagnostic
+      restart_set = restarts_of_all second role other two restart_conf refl
+          ∙ ap (behind_item (seen_by role other RestartConf)) (restarts_of_all first role from one (restart cause diagnostic) refl
           ∙ ap (λ c. behind_item (seen_by role from Restart) (end_of role c)) (up_restarts t b up))
           ∙ known role from other apart;
     }

@@ -1,27 +1,8 @@
 -- What is told of an end, packet by packet and over whole tapes, by the laws of its sets.
-use Rattle.std.proofs.Common.{◌≡◌, ◌∙◌, ℕ, Bool, true, false, List, [], ◌∷◌, Some, refl, sym, ap}
-use Rattle.std.proofs.lemmas.Bool.{both_ways}
-use Rattle.std.specs.Prelude.{◌||◌, ◌&&◌, is_some, if◌then◌else◌, not}
-use Rattle.x25_bits.specs.declared.role.Role.{Role}
-use Rattle.x25_bits.specs.declared.role.Role.TheVariants.{Dte, Dce}
-use Rattle.x25_packet.specs.Packet.{PlainPacket}
-use Rattle.x25_packet_judge.specs.Book.{is_of_all, is_restart, takes}
-use Rattle.x25_packet_judge.specs.Channel.{any_channel, rule_of}
-use Rattle.x25_packet_judge.specs.Item.{item_of}
-use Rattle.x25_packet_judge.specs.PacketRule.{is_order}
-use Rattle.x25_packet_judge.specs.declared.book.Book.{Book}
-use Rattle.x25_packet_judge.specs.declared.packet_rule.PacketRule.TheVariants.{RestartAwaited}
-use Rattle.x25_packet_judge.specs.laws.BookClaims.{asked_of, awaits, behind_all, behind_item, end_of, is_manners, is_on}
-use Rattle.x25_packet_judge.specs.laws.BookClaims.{is_quiet, moved, of_restarts, refuses, seen_by, set_of, tape_of_restarts, tape_on, rule_told}
-use Rattle.x25_packet_judge.specs.laws.BookClaims.{BooksTellExactly, InnocentTapesStayUntold, IsBehind, MaySend, Spoken}
+use Rattle.x25_packet_judge.proofs.Names.{and_parts, ◌≡◌, ◌∙◌, ℕ, Bool, true, false, List, [], ◌∷◌, Some, refl, sym, ap, ◌||◌, ◌&&◌, is_some, if◌then◌else◌, not, Role, Dte, Dce, PlainPacket, is_of_all, is_restart, takes, any_channel, rule_of, item_of, is_order, Book, RestartAwaited, asked_of, awaits, behind_all, behind_item, end_of, is_manners, is_on, is_quiet, moved, of_restarts, refuses, seen_by, set_of, tape_of_restarts, tape_on, rule_told, BooksTellExactly, InnocentTapesStayUntold, IsBehind, MaySend, Spoken, InnocentsStayUntold, IsRude, PoliteStayUntold, SendsExactly, behind, is_known, sends_to, Packet, Elsewhere, Told}
 use Rattle.x25_packet_judge.proofs.BookLemmas.{books_follow_tapes, judged_so, told_is}
 use Rattle.x25_packet_judge.proofs.TellingLemmas.{broken, polite, rude, unbroken, untold}
 use Rattle.x25_possible.specs.laws.Possible.{Item, Own, Other}
-use Rattle.x25_possible.specs.laws.Sets.{InnocentsStayUntold, IsRude, PoliteStayUntold, SendsExactly}
-use Rattle.x25_possible.specs.code.Steps.{behind, is_known, sends_to}
-use Rattle.x25_possible.specs.declared.packet.Packet.{Packet}
-use Rattle.x25_possible.specs.declared.packet.Packet.TheVariants.{Elsewhere}
-use Rattle.x25_possible.specs.declared.set.Told.{Told}
 
 module _ (sets : SendsExactly) where
   calm : (from : Role) (channel : ℕ) (packet : PlainPacket) (b : Book) → awaits from packet b ≡ false
@@ -38,11 +19,7 @@ module _ (sets : SendsExactly) where
   refused : (from : Role) (packet : PlainPacket) (b : Book) → awaits from packet b ≡ true → is_quiet from b ≡ false
       → is_order (rule_of (sends_to Elsewhere (end_of from b.restarts)).told Elsewhere) ≡ true
   refused from packet b is loud =
-      second (not (is_of_all packet)) _ (ap (λ q. not (is_of_all packet) && refuses from (if q then any_channel else b.restarts)) (sym loud) ∙ is)
-    where
-      second : (a c : Bool) → (a && c) ≡ true → c ≡ true
-      second true c h = h
-      second false c h = absurd (both_ways false refl h)
+      (and_parts (not (is_of_all packet)) _ (ap (λ q. not (is_of_all packet) && refuses from (if q then any_channel else b.restarts)) (sym loud) ∙ is)).1
 
   pub tell_exactly : BooksTellExactly
   tell_exactly = record {

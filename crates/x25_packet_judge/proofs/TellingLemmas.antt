@@ -1,57 +1,21 @@
 -- What is told of a packet, by the set of its sender.
-use Rattle.std.proofs.Common.{◌≡◌, ◌∙◌, ℕ, Bool, true, false, Option, Some, None, refl, sym, ap}
-use Rattle.std.proofs.lemmas.Bool.{both_ways, cond_both}
-use Rattle.std.specs.Prelude.{◌-◌, ◌%◌, ◌==◌, is_some, not, ◌&&◌, ◌||◌, if◌then◌else◌, nat_lt, nat_le, unwrap_or}
-use Rattle.x25_bits.specs.declared.role.Role.{Role}
-use Rattle.x25_bits.specs.declared.role.Role.TheVariants.{Dte, Dce}
-use Rattle.x25_packet_judge.specs.Channel as channels
-use Rattle.x25_packet_judge.specs.Channel.{rule_of, sent}
+use Rattle.x25_packet_judge.proofs.Names.{and_parts, or_parts, both_ways, cond_both, ◌≡◌, ◌∙◌, ℕ, Bool, true, false, Option, Some, None, refl, sym, ap, ◌-◌, ◌%◌, ◌==◌, is_some, not, ◌&&◌, ◌||◌, if◌then◌else◌, nat_lt, nat_le, unwrap_or, Role, Dte, Dce, rule_of, sent, is_of_manners, is_order, Channel, ClearAwaited, NoCall, PacketUnsent, ResetAwaited, RestartAwaited, end_of, is_manners, seen_by, behind_item, IsBroken, IsRude, IsUntold, begun, is_known, sends_to, shows_to, Packet, Data, Rr, Rnr, Elsewhere, Set, Told, Nothing, Rude, Broken}
 use Rattle.x25_packet_judge.specs.Numbers.{apart}
-use Rattle.x25_packet_judge.specs.PacketRule.{is_of_manners, is_order}
-use Rattle.x25_packet_judge.specs.Reason as reason
-use Rattle.x25_packet_judge.specs.declared.channel.Channel.{Channel}
 use Rattle.x25_packet_judge.specs.declared.channel.Finding.{Finding}
 use Rattle.x25_packet_judge.specs.declared.packet_rule.PacketRule.{PacketRule}
-use Rattle.x25_packet_judge.specs.declared.packet_rule.PacketRule.TheVariants.{ClearAwaited, NoCall, PacketUnsent, ResetAwaited, RestartAwaited}
-use Rattle.x25_packet_judge.specs.laws.BookClaims.{end_of, is_manners, seen_by, behind_item}
-use Rattle.x25_possible.specs.laws.Sets.{IsBroken, IsRude, IsUntold}
-use Rattle.x25_possible.specs.code.Steps.{begun, is_known, sends_to, shows_to}
-use Rattle.x25_possible.specs.declared.packet.Packet.{Packet}
-use Rattle.x25_possible.specs.declared.packet.Packet.TheVariants.{Call, Accept, Clear, ClearConf, Reset, ResetConf}
-use Rattle.x25_possible.specs.declared.packet.Packet.TheVariants.{Restart, RestartConf, Data, Rr, Rnr, Interrupt}
-use Rattle.x25_possible.specs.declared.packet.Packet.TheVariants.{InterruptConf, Elsewhere}
 use Rattle.x25_possible.specs.declared.phase.Phase.{Phase}
-use Rattle.x25_possible.specs.declared.phase.Phase.TheVariants.{Idle, Calls, WasCalled, Talks, Free, Resets, WasReset}
-use Rattle.x25_possible.specs.declared.phase.Phase.TheVariants.{Clears, WasCleared, Restarts, WasRestarted}
+use Rattle.x25_possible.specs.declared.phase.Phase.TheVariants.{Talks, Resets, Clears, Restarts}
 use Rattle.x25_possible.specs.declared.phase.Talk.{Talk}
-use Rattle.x25_possible.specs.declared.set.Set.{Set}
-use Rattle.x25_possible.specs.declared.set.Told.{Told}
-use Rattle.x25_possible.specs.declared.set.Told.TheVariants.{Nothing, Rude, Broken}
+use Rattle.x25_packet_judge.specs.Channel as channels
+use Rattle.x25_packet_judge.specs.Reason as reason
 
 -- ---- reasons are of order, manners are not
-
-first : (a b : Bool) → (a && b) ≡ true → a ≡ true
-first true b h = refl
-first false b h = absurd (both_ways false refl h)
-
-second : (a b : Bool) → (a && b) ≡ true → b ≡ true
-second true b h = h
-second false b h = absurd (both_ways false refl h)
 
 manners_are : (s : Phase) → is_of_manners (reason.manners s) ≡ true
 manners_are (Talks k) = cond_both (nat_lt 0 k.window && (nat_lt k.window 7 && nat_le k.window (k.sent - k.acked))) _ _
     (λ r. is_of_manners r ≡ true)
-    (λ h. first (nat_lt k.window 7) _ (second (nat_lt 0 k.window) _ h)) (λ _. refl)
-manners_are Idle = refl
-manners_are (Calls terms) = refl
-manners_are (WasCalled terms) = refl
-manners_are Free = refl
-manners_are (Resets limits) = refl
-manners_are (WasReset limits) = refl
-manners_are Clears = refl
-manners_are WasCleared = refl
-manners_are Restarts = refl
-manners_are WasRestarted = refl
+    (λ h. (and_parts (nat_lt k.window 7) _ (and_parts (nat_lt 0 k.window) _ h).1).0) (λ _. refl)
+manners_are s = refl
 
 strays_are : (ahead pending : ℕ) (k : Talk) (rule : PacketRule) → is_of_manners rule ≡ false
     → is_of_manners (unwrap_or (reason.strays ahead pending k) rule) ≡ false
@@ -84,30 +48,14 @@ in_call : (k : Talk) (x : Packet) → is_of_manners (reason.in_call k x) ≡ fal
 in_call k (Data q m ps pr size) = strays_are (apart pr (k.told % 8)) (k.taken - k.told) k (reason.follows k ps size) (follows_is k ps size)
 in_call k (Rr pr) = strays_are (apart pr (k.told % 8)) (k.taken - k.told) k (PacketUnsent 0) refl
 in_call k (Rnr pr) = strays_are (apart pr (k.told % 8)) (k.taken - k.told) k (PacketUnsent 0) refl
-in_call k Interrupt = refl
-in_call k InterruptConf = refl
-in_call k (Call terms) = refl
-in_call k (Accept said) = refl
-in_call k Clear = refl
-in_call k ClearConf = refl
-in_call k Reset = refl
-in_call k ResetConf = refl
-in_call k Restart = refl
-in_call k RestartConf = refl
-in_call k Elsewhere = refl
+in_call k x = refl
 
 reasons_are : (s : Phase) (x : Packet) → is_of_manners (reason.reason s x) ≡ false
 reasons_are (Talks k) x = in_call k x
-reasons_are Idle x = out_of_call x NoCall refl
-reasons_are (Calls terms) x = out_of_call x NoCall refl
-reasons_are (WasCalled terms) x = out_of_call x NoCall refl
-reasons_are Free x = out_of_call x NoCall refl
 reasons_are (Resets limits) x = in_reset x ResetAwaited refl
-reasons_are (WasReset limits) x = out_of_call x NoCall refl
 reasons_are Clears x = in_clear x ClearAwaited refl
-reasons_are WasCleared x = out_of_call x NoCall refl
 reasons_are Restarts x = in_restart x RestartAwaited refl
-reasons_are WasRestarted x = out_of_call x NoCall refl
+reasons_are s x = out_of_call x NoCall refl
 
 -- ---- by what is told of a set
 
@@ -117,9 +65,8 @@ broken (Rude s) x h = absurd (both_ways _ (ap not (manners_are s)) h)
 broken (Broken s) x h = tt
 
 pub unbroken : (t : Told) (x : Packet) → is_order (rule_of t x) ≡ false → IsUntold t
-unbroken Nothing x h = tt
-unbroken (Rude s) x h = tt
 unbroken (Broken s) x h = absurd (both_ways _ h (ap not (reasons_are s x)))
+unbroken t x h = tt
 
 pub rude : (t : Told) (x : Packet) → is_manners (rule_of t x) ≡ true → IsRude t
 rude Nothing x h = absurd (both_ways false refl h)
@@ -176,14 +123,10 @@ none_of : (r : Option PacketRule) → is_some r ≡ false → None ≡ r
 none_of None h = refl
 none_of (Some rule) h = absurd (both_ways true h refl)
 
-pub neither : (a b : Bool) → (a || b) ≡ false → a ≡ false
-neither true b h = h
-neither false b h = refl
-
 none_known : (x : Packet) (s : Set) → Unknown x s → (known : Bool) → is_known s ≡ known
     → (known && (is_some (rule_of (sends_to x s).told x) || is_known (sends_to x s).set)) ≡ false
     → None ≡ rule_of (sends_to x s).told x
-none_known x s unknown true is h = none_of _ (neither _ _ h)
+none_known x s unknown true is h = none_of _ (or_parts _ _ h).0
 none_known x s unknown false is h = sym (ap (λ (t : Told). rule_of t x) (unknown is))
 
 marked_judged : (g h : Finding) (b : Bool) → h.is_judged ≡ false → g.is_judged ≡ b → (if b then g else h).is_judged ≡ b

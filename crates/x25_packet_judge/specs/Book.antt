@@ -13,7 +13,7 @@ use Rattle.x25_packet_judge.specs.Channel as channels
 use Rattle.x25_packet_judge.specs.Channel.{by_end}
 use Rattle.x25_packet_judge.specs.Channels.{all_alike, all_happens, channel_of, put}
 use Rattle.x25_packet_judge.specs.Item.{item_of}
-use Rattle.x25_packet_judge.specs.Layer.{unseen}
+use Rattle.x25_packet_judge.specs.Layers.{unseen}
 use Rattle.x25_packet_judge.specs.Layers as layers
 use Rattle.x25_packet_judge.specs.declared.book.Book.{Book}
 use Rattle.x25_packet_judge.specs.declared.book.Verdict.{Verdict}

@@ -1,10 +1,60 @@
--- The packet layers of both ends, as the frames of the link show them. When packets are followed is profile.
-use Rattle.std.specs.Prelude.{ℕ, ◌+◌, ◌==◌, nat_lt, Bool, not, ◌&&◌, ◌||◌, if◌then◌else◌, min}
-use Rattle.x25_packet_judge.specs.Layer.{is_unseen, is_dropped, is_followed, begun, found_at, lost, set_up_again, worn}
-use Rattle.x25_packet_judge.specs.Layer.{late, with_asked, with_acked, moved, spoken}
+-- The packet layers of both ends, as the frames of the link show them: which of their packets are followed (profile).
+use Rattle.std.specs.Prelude.{ℕ, ◌+◌, ◌%◌, ◌==◌, nat_lt, Bool, true, false, not, ◌&&◌, ◌||◌, if◌then◌else◌, min}
 use Rattle.x25_packet_judge.specs.Numbers.{apart, less}
-use Rattle.x25_packet_judge.specs.declared.layer.Layer.{Layer}
+use Rattle.x25_packet_judge.specs.declared.layers.Layer.{Layer}
 use Rattle.x25_packet_judge.specs.declared.layers.Layers.{Layers}
+use Rattle.x25_packet_judge.specs.declared.layers.Track.{Track}
+use Rattle.x25_packet_judge.specs.declared.layers.Track.TheVariants.{Unseen, Dropped, Followed}
+
+-- ---- one end
+
+abbrev pub is_unseen : Track → Bool
+is_unseen Unseen = true
+is_unseen Dropped = false
+is_unseen Followed = false
+
+abbrev pub is_dropped : Track → Bool
+is_dropped Unseen = false
+is_dropped Dropped = true
+is_dropped Followed = false
+
+abbrev pub is_followed : Track → Bool
+is_followed Unseen = false
+is_followed Dropped = false
+is_followed Followed = true
+
+-- nothing is known
+abbrev pub unseen : Layer
+unseen = record { track = Unseen; is_fresh = false; next = 0; acked = 0; asked = 0; is_quiet = false }
+
+-- the link is set up
+abbrev pub begun : ℕ → Layer
+begun asked = record unseen { track = Followed; is_fresh = true; asked = asked; is_quiet = true }
+
+-- packets are followed from an N(R) of the other end on: it has taken none from there on
+abbrev pub found_at : ℕ → Layer → Layer
+found_at number l = record unseen { track = Followed; next = number; acked = number; asked = l.asked }
+
+-- not all packets were seen
+abbrev pub lost : Layer → Layer
+lost l = record l { track = Unseen; is_fresh = false }
+
+-- Behind a set-up of the other end: what this end sent before it is dropped.
+abbrev pub set_up_again : Layer → Layer
+set_up_again l = if l.is_fresh then begun l.asked else record l { track = Dropped }
+
+abbrev pub behind_ua : Track → Track
+behind_ua Unseen = Unseen
+behind_ua Dropped = Dropped
+behind_ua Followed = Dropped
+
+-- UA again, behind frames that the other end sent since it is up: it changes nothing where the first end sent nothing
+-- since the first one. Else its numbers begin anew, and the other end may take those of before or these.
+abbrev pub late : Layer → Layer
+late l = if l.is_fresh then record l { asked = less l.asked }
+    else record l { track = behind_ua l.track; asked = less l.asked }
+
+-- ---- both
 
 abbrev pub with_own : Layer → Layers → Layers
 with_own own t = record t { own = own }
@@ -22,10 +72,10 @@ begins asked t = with_own (begun asked) (with_other (set_up_again t.other) t)
 
 -- SABM or DISC asks for UA or DM
 abbrev pub asks_more : Layers → Layers
-asks_more t = with_other (with_asked (min (t.other.asked + 1) 255) t.other) t
+asks_more t = with_other (record t.other { asked = min (t.other.asked + 1) 255 }) t
 
 abbrev pub answers : Layers → Layers
-answers t = with_own (with_asked (less t.own.asked) t.own) t
+answers t = with_own (record t.own { asked = less t.own.asked }) t
 
 -- An N(R) is about the packets of the other end, but where one of both is behind a set-up.
 abbrev pub may_hear : Layers → Bool
@@ -36,11 +86,15 @@ abbrev pub finds_other : ℕ → Layers → Bool
 finds_other number t = may_hear t
     && (is_unseen t.other.track || nat_lt (apart t.other.next t.other.acked) (apart number t.other.acked))
 
+-- a frame that may belong to no set-up
+abbrev pub worn : Layers → Layers
+worn t = with_own (record t.own { is_fresh = false }) t
+
 abbrev pub hears : ℕ → Layers → Layers
 hears number t =
-    if finds_other number t then with_other (found_at number t.other) (with_own (worn t.own) t)
-    else if may_hear t then with_other (with_acked number t.other) (with_own (worn t.own) t)
-    else with_own (worn t.own) t
+    if finds_other number t then with_other (found_at number t.other) (worn t)
+    else if may_hear t then with_other (record t.other { acked = number }) (worn t)
+    else worn t
 
 -- packets are seen in the order of N(S), each once
 abbrev pub is_next : ℕ → Layers → Bool
@@ -51,7 +105,7 @@ abbrev pub may_judge : ℕ → Layers → Bool
 may_judge number t = is_followed t.other.track && is_next number t
 
 abbrev pub moves : ℕ → Layers → Layers
-moves number t = if is_next number t then with_own (moved t.own) t else t
+moves number t = if is_next number t then with_own (record t.own { next = min (t.own.next + 1) 255 % 8 }) t else t
 
 abbrev pub asks : Layers → Layers
 asks t = begins t.own.asked (asks_more t)
@@ -61,8 +115,8 @@ accepts t = if t.other.is_fresh then begins (less t.own.asked) t else with_own (
 
 -- octets that spell none may have been UA, where one was asked for
 abbrev pub misses : Layers → Layers
-misses t = if nat_lt 0 t.own.asked then loses (with_own (worn t.own) t) else with_own (worn t.own) t
+misses t = if nat_lt 0 t.own.asked then loses (worn t) else worn t
 
 -- the first end sends a packet
 abbrev pub speaks : Layers → Layers
-speaks t = with_own (spoken t.own) t
+speaks t = with_own (record t.own { is_quiet = false }) t

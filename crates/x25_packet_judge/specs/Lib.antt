@@ -5,7 +5,6 @@ pub mod Item
 pub mod Reason
 pub mod Channel
 pub mod Channels
-pub mod Layer
 pub mod Layers
 pub mod Book
 pub mod laws

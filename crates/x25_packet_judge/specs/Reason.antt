@@ -4,20 +4,12 @@ use Rattle.std.specs.Prelude.{ℕ, ◌-◌, ◌%◌, ◌==◌, nat_lt, nat_le, n
 use Rattle.std.specs.Prelude.{Some, None, unwrap_or}
 use Rattle.x25_packet_judge.specs.Numbers.{apart}
 use Rattle.x25_packet_judge.specs.declared.packet_rule.PacketRule.{PacketRule}
-use Rattle.x25_packet_judge.specs.declared.packet_rule.PacketRule.TheVariants.{RestartAwaited, RestartUnasked}
-use Rattle.x25_packet_judge.specs.declared.packet_rule.PacketRule.TheVariants.{ClearAwaited, ClearUnasked, CallAgain}
-use Rattle.x25_packet_judge.specs.declared.packet_rule.PacketRule.TheVariants.{AcceptUnasked, NoCall, ResetAwaited}
-use Rattle.x25_packet_judge.specs.declared.packet_rule.PacketRule.TheVariants.{ResetUnasked, PacketUnsent, PacketFalls}
-use Rattle.x25_packet_judge.specs.declared.packet_rule.PacketRule.TheVariants.{PacketSkips, OverPackets, InterruptAgain}
-use Rattle.x25_packet_judge.specs.declared.packet_rule.PacketRule.TheVariants.{InterruptUnasked, TooManyOctets, NotFull}
-use Rattle.x25_packet_judge.specs.declared.packet_rule.PacketRule.TheVariants.{QualifierChanges}
+use Rattle.x25_packet_judge.specs.declared.packet_rule.PacketRule.TheVariants as rules
 use Rattle.x25_possible.specs.declared.packet.Packet.{Packet}
-use Rattle.x25_possible.specs.declared.packet.Packet.TheVariants.{Call, Accept, ClearConf, ResetConf}
-use Rattle.x25_possible.specs.declared.packet.Packet.TheVariants.{RestartConf, Data, Rr, Rnr, Interrupt}
-use Rattle.x25_possible.specs.declared.packet.Packet.TheVariants.{InterruptConf}
+use Rattle.x25_possible.specs.declared.packet.Packet.TheVariants.{Call, Accept, ClearConf, ResetConf, RestartConf}
+use Rattle.x25_possible.specs.declared.packet.Packet.TheVariants.{Data, Rr, Rnr, Interrupt, InterruptConf}
 use Rattle.x25_possible.specs.declared.phase.Phase.{Phase}
-use Rattle.x25_possible.specs.declared.phase.Phase.TheVariants.{Talks, Resets, Clears}
-use Rattle.x25_possible.specs.declared.phase.Phase.TheVariants.{Restarts}
+use Rattle.x25_possible.specs.declared.phase.Phase.TheVariants.{Talks, Resets, Clears, Restarts}
 use Rattle.x25_possible.specs.declared.phase.Talk.{Talk}
 
 -- ---- what breaks a rule of its own wherever it isn't allowed, and any other packet
@@ -43,16 +35,16 @@ accepts (Accept said) = true
 accepts x = false
 
 abbrev pub in_restart : Packet → PacketRule → PacketRule
-in_restart x rule = if confirms_restart x then RestartUnasked else rule
+in_restart x rule = if confirms_restart x then rules.RestartUnasked else rule
 
 abbrev pub in_clear : Packet → PacketRule → PacketRule
-in_clear x rule = if confirms_clear x then ClearUnasked else in_restart x rule
+in_clear x rule = if confirms_clear x then rules.ClearUnasked else in_restart x rule
 
 abbrev pub out_of_call : Packet → PacketRule → PacketRule
-out_of_call x rule = if calls x then CallAgain else if accepts x then AcceptUnasked else in_clear x rule
+out_of_call x rule = if calls x then rules.CallAgain else if accepts x then rules.AcceptUnasked else in_clear x rule
 
 abbrev pub in_reset : Packet → PacketRule → PacketRule
-in_reset x rule = if confirms_reset x then ResetUnasked else out_of_call x rule
+in_reset x rule = if confirms_reset x then rules.ResetUnasked else out_of_call x rule
 
 -- ---- in a call
 
@@ -61,8 +53,8 @@ in_reset x rule = if confirms_reset x then ResetUnasked else out_of_call x rule
 abbrev pub strays : ℕ → ℕ → Talk → Option PacketRule
 strays ahead pending k =
     if nat_le ahead pending then None
-    else if nat_lt (8 - ahead) (ahead - pending) then Some (PacketFalls (k.told % 8))
-    else Some (PacketUnsent (k.taken % 8))
+    else if nat_lt (8 - ahead) (ahead - pending) then Some (rules.PacketFalls (k.told % 8))
+    else Some (rules.PacketUnsent (k.taken % 8))
 
 abbrev pub acknowledges : Talk → ℕ → Option PacketRule
 acknowledges k number = strays (apart number (k.told % 8)) (k.taken - k.told) k
@@ -71,33 +63,33 @@ acknowledges k number = strays (apart number (k.told % 8)) (k.taken - k.told) k
 -- changes Q (sections 4.3.2 and 4.3.6)
 abbrev pub follows : Talk → ℕ → ℕ → PacketRule
 follows k ps size =
-    if not (ps == k.sent % 8) then PacketSkips (k.sent % 8)
-    else if nat_le 7 (k.sent - k.acked) then OverPackets 7
-    else if nat_lt 0 k.most && nat_lt k.most size then TooManyOctets k.most
-    else QualifierChanges
+    if not (ps == k.sent % 8) then rules.PacketSkips (k.sent % 8)
+    else if nat_le 7 (k.sent - k.acked) then rules.OverPackets 7
+    else if nat_lt 0 k.most && nat_lt k.most size then rules.TooManyOctets k.most
+    else rules.QualifierChanges
 
 abbrev pub in_call : Talk → Packet → PacketRule
 in_call k (Data q m ps pr size) = unwrap_or (acknowledges k pr) (follows k ps size)
-in_call k (Rr pr) = unwrap_or (acknowledges k pr) (PacketUnsent 0)
-in_call k (Rnr pr) = unwrap_or (acknowledges k pr) (PacketUnsent 0)
-in_call k Interrupt = InterruptAgain
-in_call k InterruptConf = InterruptUnasked
-in_call k x = in_reset x NoCall
+in_call k (Rr pr) = unwrap_or (acknowledges k pr) (rules.PacketUnsent 0)
+in_call k (Rnr pr) = unwrap_or (acknowledges k pr) (rules.PacketUnsent 0)
+in_call k Interrupt = rules.InterruptAgain
+in_call k InterruptConf = rules.InterruptUnasked
+in_call k x = in_reset x rules.NoCall
 
 abbrev pub reason : Phase → Packet → PacketRule
 reason (Talks k) x = in_call k x
-reason (Resets limits) x = in_reset x ResetAwaited
-reason Clears x = in_clear x ClearAwaited
-reason Restarts x = in_restart x RestartAwaited
-reason s x = out_of_call x NoCall
+reason (Resets limits) x = in_reset x rules.ResetAwaited
+reason Clears x = in_clear x rules.ClearAwaited
+reason Restarts x = in_restart x rules.RestartAwaited
+reason s x = out_of_call x rules.NoCall
 
 -- ---- manners: the window of the call, and full packets where the message goes on
 
 abbrev pub talks_rudely : Talk → PacketRule
 talks_rudely k =
-    if nat_lt 0 k.window && (nat_lt k.window 7 && nat_le k.window (k.sent - k.acked)) then OverPackets k.window
-    else NotFull k.most
+    if nat_lt 0 k.window && (nat_lt k.window 7 && nat_le k.window (k.sent - k.acked)) then rules.OverPackets k.window
+    else rules.NotFull k.most
 
 abbrev pub manners : Phase → PacketRule
 manners (Talks k) = talks_rudely k
-manners s = NotFull 0
+manners s = rules.NotFull 0

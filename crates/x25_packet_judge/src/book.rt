@@ -8,8 +8,7 @@ ghost use Rattle.x25_wide.specs.Reading.{wide_of};
 use crate::channel::{Channel, Event, Finding};
 use crate::channels::Channels;
 use crate::item::item_of;
-use crate::layer::Layer;
-use crate::layers::Layers;
+use crate::layers::{Layer, Layers};
 use crate::packet_rule::PacketRule;
 use std::alloc::{AllocError, Global};
 use x25_bits::Role;
@@ -169,10 +168,8 @@ impl Book {
     {
         if is_first {
             self.restarts = Channel::any();
-            self.judges(from, channel, item)
-        } else {
-            self.judges(from, channel, item)
         }
+        self.judges(from, channel, item)
     }
 
     /// RESTART or its confirmation, of all channels. No RESTART breaks a rule.

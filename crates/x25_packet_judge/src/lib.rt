@@ -8,7 +8,6 @@ mod channel;
 mod channels;
 mod item;
 mod law;
-mod layer;
 mod layers;
 mod numbers;
 mod packet_rule;

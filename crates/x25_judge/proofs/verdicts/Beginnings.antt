@@ -1,56 +1,26 @@
 -- SABM and UA begin a session of both ends.
-use Rattle.std.proofs.Common.{◌≡◌, ◌==◌, ◌⊎◌, inl, inr, ℕ, arith, Bool, true, false, zero, suc, List, [], ◌∷◌, ◌++◌, length, drop, Option, Some, None, Result, Ok, Err, refl, sym, ap, ◌∙◌, subst}
-use Rattle.std.specs.Prelude.{nat_le, not, ◌&&◌, ◌||◌, if◌then◌else◌, is_some}
-use Rattle.std.proofs.lemmas.Bool.{both_ways, and_from, cond_both, eq-eqb, le-leb, or_parts}
-use Rattle.x25_bits.specs.declared.role.Role.{Role}
-use Rattle.x25_bits.specs.declared.role.Role.TheVariants.{Dte, Dce}
-use Rattle.x25_decode.specs.Decoding.{gap_in, n1, sent_in}
-use Rattle.x25_decode.specs.declared.answer.Reading.{Reading}
-use Rattle.x25_frame.specs.Frame.{PlainFrame, sabm, ua}
-use Rattle.x25_frame.specs.Reading.{frame_of}
-use Rattle.x25_frame.specs.declared.error.FrameError.{FrameError}
-use Rattle.x25_link.specs.Hearing.{other}
-use Rattle.x25_judge.specs.Held.{Held, no_octets}
-use Rattle.x25_judge.specs.Judge.{all_told, answer_to, begins as judge_begins, book_by, gap_of, missed_by, next_missed, no_frame, other_of, own_of, past_gap, read_of, seen_by, sent_of, tallies}
-use Rattle.x25_judge.specs.Links as links
-use Rattle.x25_judge.specs.Manners as manners
+use Rattle.x25_judge.proofs.verdicts.Names.{◌≡◌, ◌==◌, ◌⊎◌, inl, inr, ℕ, arith, Bool, true, false, zero, suc, List, [], ◌∷◌, ◌++◌, length, drop, Option, Some, None, Result, Ok, Err, refl, sym, ap, ◌∙◌, subst, nat_le, not, ◌&&◌, ◌||◌, nat_lt, both_ways, cond_both, or_parts, and_parts, Role, Dte, Dce, gap_in, n1, sent_in, Reading, PlainFrame, sabm, ua, frame_of, FrameError, other, Held, no_octets, differs, all_told, answer_to, book_by, gap_of, missed_by, next_missed, no_frame, other_of, own_of, past_gap, read_of, seen_by, sent_of, tallies, Judge, Strictness, End, Rule, come, comes, has_answer, has_number, is_new, is_number, is_of_order, IsBegun, rule_of, Shows, after, IsClear, SetUpsBegin, PacketRule, IsIn, Place, at, At, Owes, State, fresh, has_ua, heard, is_asking, may_answer, owes, passes, sends, is_plain, onward, settled, upward, hastened, is_below, numbers_below, sends_to, set_as, shows_to, spot_at, trimmed, Frame, Before, Disc, Info, Ready, Sabm, Ua, Unread, LinkSet, Told, Broken, Nothing, Spot, Numbers, Stand, Asking, Free, Out, Up, AllAre, sent_all, shown_all, AreBelow, Below, below_on, below_self, HoldsAt, Leads, Stays, Steps, Has, HasIn, blind_sends, blind_shows, has_less, has_sent, has_shown, has_taken, shows_by, trim_has, is_of_manners, NoPoll, RejectAgain, OverWindow, Repeats, Packet}
+use Rattle.std.specs.Prelude.{if◌then◌else◌}
+use Rattle.std.proofs.lemmas.Bool.{eq-eqb, le-leb}
+use Rattle.x25_judge.specs.Judge.{begins as judge_begins}
+use Rattle.x25_possible_links.specs.laws.Link.{asks, answers, begins}
+use Rattle.x25_possible_links.specs.laws.Places.{first}
+use Rattle.x25_possible_links.specs.code.Steps.{set_of}
+use Rattle.x25_possible_links.specs.declared.set.Told.TheVariants.{Skips as SkipsOf}
 use Rattle.x25_judge.specs.Rule.{first as first_rule}
-use Rattle.x25_judge.specs.declared.judge.Judge.{Judge}
-use Rattle.x25_judge.specs.declared.judge.Strictness.{Strictness}
-use Rattle.x25_judge.specs.declared.links.End.{End}
-use Rattle.x25_judge.specs.declared.links.Minding.{Minding}
-use Rattle.x25_judge.specs.declared.manners.Minded.{Minded}
-use Rattle.x25_judge.specs.declared.note.Note.TheVariants.{PollAgain}
-use Rattle.x25_judge.specs.declared.rule.Rule.{Rule}
-use Rattle.x25_judge.specs.declared.rule.Rule.TheVariants.{NotUp, UaUnasked}
-use Rattle.x25_judge.specs.laws.Session.{are_new, begins_anywhere, begins_there, comes, has_answer, has_number, is_new, is_number, is_of_order, IsBegun, rule_of, Shows}
-use Rattle.x25_judge.specs.laws.VerdictClaims.{after, IsClear, SetUpsBegin}
-use Rattle.x25_packet_judge.specs.declared.packet_rule.PacketRule.{PacketRule}
-use Rattle.x25_possible.specs.laws.Possible.{IsIn, Place, at}
-use Rattle.x25_possible_links.specs.laws.Link.{At, Owes, State, asks, fresh, has_ua, heard, is_asking, may_answer, owed}
-use Rattle.x25_possible_links.specs.laws.Link.{answers, begins, owes, passes, sends}
-use Rattle.x25_possible_links.specs.laws.Places.{first, is_plain, onward, settled, upward}
-use Rattle.x25_possible_links.specs.laws.Places as place
-use Rattle.x25_possible_links.specs.code.Steps.{set_of, hastened, is_below, numbers_below, sends_to, set_as, shows_to, spot_at, trimmed}
-use Rattle.x25_possible_links.specs.declared.frame.Frame.{Frame}
-use Rattle.x25_possible_links.specs.declared.frame.Frame.TheVariants.{Before, Disc, Info, Ready, Sabm, Ua, Unread}
-use Rattle.x25_possible_links.specs.declared.set.LinkSet.{LinkSet}
-use Rattle.x25_possible_links.specs.declared.set.Told.{Told}
-use Rattle.x25_possible_links.specs.declared.set.Told.TheVariants.{Broken, Nothing, Skips as SkipsOf}
-use Rattle.x25_possible_links.specs.declared.spots.Spot.{Spot}
-use Rattle.x25_possible_links.specs.declared.stand.Numbers.{Numbers}
-use Rattle.x25_possible_links.specs.declared.stand.Stand.{Stand}
-use Rattle.x25_possible_links.specs.declared.stand.Stand.TheVariants.{Asking, Free, Out, Up}
-use Rattle.x25_possible_links.proofs.Alike.{AllAre, sent_all, shown_all, ua_told}
-use Rattle.x25_possible_links.proofs.Stands.{AreBelow, Below, below_on, below_self}
+use Rattle.x25_judge.specs.declared.rule.Rule.TheVariants.{Skips}
+use Rattle.std.specs.List.{list_any}
+use Rattle.std.proofs.lemmas.List.Folds.{list_any-append}
 use Rattle.x25_possible_links.proofs.Covers.{Covers, Here, Asked, Later, Begins}
-use Rattle.x25_possible_links.proofs.Leads.{HoldsAt, Leads, Stays, Steps}
-use Rattle.x25_possible_links.proofs.Covering.{Has, HasIn, blind_sends, blind_shows, has_less, has_sent, has_shown, has_taken, shows_by, trim_has}
 use Rattle.x25_judge.proofs.verdicts.Lines.{Goes, goes, next_goes, other_twice}
-use Rattle.x25_judge.proofs.verdicts.Minded.{before}
 use Rattle.x25_judge.proofs.verdicts.Octets.{HasRoom, each_room, keeps_room}
-use Rattle.x25_judge.proofs.verdicts.Silences.{no_numbers}
+use Rattle.x25_judge.proofs.verdicts.Silences.{no_numbers, saw}
 use Rattle.x25_judge.proofs.verdicts.Silent.{Fits, IsWithin, comes_on, heard_sent, heard_told, settled_comes, settled_within, upward_within}
+use Rattle.x25_judge.proofs.verdicts.Following.{owed_first}
+use Rattle.x25_judge.proofs.verdicts.Innocents.{sent_end}
+use Rattle.x25_judge.proofs.verdicts.Manners.{IsFair, minds_has, small_window}
+use Rattle.x25_judge.specs.Links as links
+use Rattle.x25_possible_links.specs.laws.Places as place
 
 -- ---- a place from which a session may begin
 
@@ -62,10 +32,8 @@ up_comes [] k s t = up_fresh k s t
 up_comes (x ∷ way) k s t = up_comes way (heard true true k x) (heard_sent k x ∙ s) (heard_told k x ∙ t)
 
 step_comes : (u : Stand) (x : Frame) (way : List Frame) → Below fresh (comes way (onward u x)) → Below fresh (comes way (upward u x))
-step_comes Out x way b = b
 step_comes Asking x way b = cond_both (may_answer x) fresh Asking (λ (u : Stand). Below fresh (comes way u)) (λ _. up_comes way _ refl refl) (λ _. b)
-step_comes Free x way b = b
-step_comes (Up k) x way b = b
+step_comes u x way b = b
 
 begins_come : (x : Frame) (way : List Frame) → may_answer x ≡ true → Below fresh (comes way (upward Asking x))
 begins_come x way may =
@@ -105,22 +73,9 @@ numbers_true k j b = both (j.sent == k.sent) (nat_le k.acked j.acked) (nat_le k.
     both a b c d e f g h = ap (λ (x : Bool). x && (b && (c && d))) e ∙ (ap (λ (x : Bool). x && (c && d)) f ∙ (ap (λ (x : Bool). x && d) g ∙ h))
 
 below_is : (s : Stand) → Below fresh s → is_below fresh s ≡ true
-below_is Out b = absurd b
-below_is Asking b = absurd b
 below_is (Up j) b = numbers_true _ j b
 below_is Free b = refl
-
-or_right : (a b : Bool) → b ≡ true → (a || b) ≡ true
-or_right true b h = refl
-or_right false b h = h
-
-in_begins : (way : List Frame) (qs : List Spot) (q : Spot) → IsIn q qs → begins_there way q ≡ true → begins_anywhere way qs ≡ true
-in_begins way [] q is h = absurd is
-in_begins way (p ∷ qs) q (inl e) h = ap (λ b. b || begins_anywhere way qs) (subst (λ r. begins_there way r ≡ true) e h)
-in_begins way (p ∷ qs) q (inr is) h = or_right (begins_there way p) (begins_anywhere way qs) (in_begins way qs q is h)
-
-has_begins : (s : LinkSet) → Has s (At fresh) [] → begins_anywhere s.way.items s.spots.items ≡ true
-has_begins s h = in_begins s.way.items s.spots.items h.0 h.1 (below_is _ (holds_come h.0.stand (drop h.0.at s.way.items) h.2))
+below_is s b = absurd b
 
 -- ---- a set of any places
 
@@ -145,9 +100,7 @@ free_in n way = (spot_at n Free, inl refl, record { good = Free; below = tt; sta
 
 asks_alone : (s : Stand) → asks s [] ≡ Some Asking
 asks_alone Out = refl
-asks_alone Asking = refl
-asks_alone (Up k) = refl
-asks_alone Free = refl
+asks_alone s = refl
 
 abbrev set_in : List Frame → List Spot → Bool → LinkSet
 set_in way qs b = record (set_of way qs) { is_blind = b }
@@ -162,18 +115,6 @@ asks_in way [] b =
 asks_in way (q ∷ qs) b =
     has_sent (set_in way (q ∷ qs) b) Sabm (At q.stand) (At Asking) [] (sends q.stand Asking [] Sabm 0 0 (asks_alone q.stand)) (first_in q qs way)
 
--- ---- what was blind stays so
-
-saw : (b c : Bool) → (b ≡ true → c ≡ true) → c ≡ false → b ≡ false
-saw true c on e = absurd (both_ways c e (on refl))
-saw false c on e = refl
-
-shown_sees : (x : Frame) (s : LinkSet) → (shows_to x s).is_blind ≡ false → s.is_blind ≡ false
-shown_sees x s room = saw s.is_blind (shows_to x s).is_blind (blind_shows s x) room
-
-sent_sees : (x : Frame) (s : LinkSet) → (sends_to x s).set.is_blind ≡ false → s.is_blind ≡ false
-sent_sees x s room = saw s.is_blind (sends_to x s).set.is_blind (blind_sends s x) room
-
 -- ---- the end that asks
 
 asker : (s : LinkSet) → Has (shows_to Ua (sends_to Sabm s).set) (At fresh) []
@@ -185,21 +126,11 @@ asker s =
 
 -- ---- the end that answers
 
-owed_first : (s : Stand) → IsIn fresh (owed s Sabm)
-owed_first Out = inl refl
-owed_first Asking = inl refl
-owed_first (Up k) = inl refl
-owed_first Free = inl refl
+none_answers : (s : LinkSet) → s.spots.items ≡ [] → (sends_to Ua s).told ≡ Broken Free
+none_answers s none = subst (λ (qs : List Spot). (sends_to Ua (set_in s.way.items qs s.is_blind)).told ≡ Broken Free) (sym none) refl
 
-abbrev IsToldUnasked : LinkSet → Type 0
-IsToldUnasked s = (stand : Stand) × ((sends_to Ua s).told ≡ Broken stand)
-
--- nothing is told where that isn't
-not_told : (s : LinkSet) → (IsToldUnasked s → ⊥) → (sends_to Ua s).told ≡ Nothing
-not_told s untold = elim (ua_told s) [ inl e ↦ e | inr h ↦ absurd (untold h) ]
-
-none_answers : (s : LinkSet) → s.spots.items ≡ [] → IsToldUnasked s
-none_answers s none = subst (λ (qs : List Spot). IsToldUnasked (set_in s.way.items qs s.is_blind)) (sym none) (Free, refl)
+something : (s : Stand) → Broken s ≡ Nothing → ⊥
+something s e = cc
 
 trimmed_none : (s : LinkSet) (way : List Frame) → (trimmed (set_as s way [])).spots.items ≡ []
 trimmed_none s way =
@@ -213,10 +144,10 @@ none_shown way b = go (length way == 128)
     go false = trimmed_none (set_in way [] b) (way ++ Sabm ∷ [])
 
 abbrev Answers : LinkSet → Type 0
-Answers s = (IsToldUnasked (shows_to Sabm s) → ⊥) → Has (sends_to Ua (shows_to Sabm s)).set (At fresh) []
+Answers s = (sends_to Ua (shows_to Sabm s)).told ≡ Nothing → Has (sends_to Ua (shows_to Sabm s)).set (At fresh) []
 
 answers_in : (way : List Frame) (qs : List Spot) (b : Bool) → Answers (set_in way qs b)
-answers_in way [] b untold = absurd (untold (none_answers (shows_to Sabm (set_in way [] b)) (none_shown way b)))
+answers_in way [] b untold = absurd (something Free (sym (none_answers (shows_to Sabm (set_in way [] b)) (none_shown way b)) ∙ untold))
 answers_in way (q ∷ qs) b untold =
     let mid = shows_to Sabm (set_in way (q ∷ qs) b) in
     let shown = has_shown Sabm (At q.stand) [] (set_in way (q ∷ qs) b) (λ full. omega arith) (first_in q qs way) in
@@ -229,27 +160,19 @@ answerer s = answers_in s.way.items s.spots.items s.is_blind
 -- ---- no more than a session that begins
 
 fits_is_new : (s : Stand) → Fits no_numbers s → is_new s ≡ true
-fits_is_new Out b = refl
-fits_is_new Asking b = refl
 fits_is_new (Up j) b = numbers_true j no_numbers b
 fits_is_new Free b = absurd b
-
-all_new : (way : List Frame) (qs : List Spot) → ((q : Spot) → IsIn q qs → Fits no_numbers (comes (drop q.at way) q.stand))
-    → are_new way qs ≡ true
-all_new way [] all = refl
-all_new way (q ∷ qs) all =
-    and_from (is_new (comes (drop q.at way) q.stand)) (are_new way qs) (fits_is_new (comes (drop q.at way) q.stand) (all q (inl refl)))
-    (all_new way qs (λ r is. all r (inr is)))
+fits_is_new s b = refl
 
 abbrev IsNew : LinkSet → Type 0
 IsNew s = AllAre (IsWithin no_numbers) s
 
 -- the end that asks
 
-no_answer_left : (n : ℕ) (way : List Frame) → has_answer way ≡ false → has_answer (drop n way) ≡ false
-no_answer_left zero way e = e
-no_answer_left (suc n) [] e = refl
-no_answer_left (suc n) (x ∷ way) e = no_answer_left n way (or_parts (may_answer x) (has_answer way) e).1
+none_left : (test : Frame → Bool) (n : ℕ) (way : List Frame) → list_any test way ≡ false → list_any test (drop n way) ≡ false
+none_left test zero way e = e
+none_left test (suc n) [] e = refl
+none_left test (suc n) (x ∷ way) e = none_left test n way (or_parts (test x) (list_any test way) e).1
 
 asking_comes : (way : List Frame) → has_answer way ≡ false → comes way Asking ≡ Asking
 asking_comes [] e = refl
@@ -280,7 +203,7 @@ asker_new s free told some room =
   where
     waits : AllAre Waits (sends_to Sabm s).set
     waits =
-        (sent_all (λ p. has_answer p.way ≡ false) Waits s Sabm (λ q is. no_answer_left q.at s.way.items free)
+        (sent_all (λ p. has_answer p.way ≡ false) Waits s Sabm (λ q is. none_left may_answer q.at s.way.items free)
         (λ p m h there. settled_comes m.way m.state ∙ goes_waits p.way p.state m h there) some told).all
 
     each : (p : Place Stand Frame) → Waits p → IsWithin no_numbers (place.shown Ua p)
@@ -289,17 +212,6 @@ asker_new s free told some room =
         (below_self fresh)
 
 -- the end that answers
-
-no_number_left : (n : ℕ) (way : List Frame) → has_number way ≡ false → has_number (drop n way) ≡ false
-no_number_left zero way e = e
-no_number_left (suc n) [] e = refl
-no_number_left (suc n) (x ∷ way) e = no_number_left n way (or_parts (is_number x) (has_number way) e).1
-
-no_number_on : (way : List Frame) → has_number way ≡ false → has_number (way ++ Sabm ∷ []) ≡ false
-no_number_on [] e = refl
-no_number_on (x ∷ way) e =
-    let a = or_parts (is_number x) (has_number way) e in
-    ap (λ b. b || has_number (way ++ Sabm ∷ [])) a.0 ∙ no_number_on way a.1
 
 settled_no_number : (way : List Frame) (s : Stand) → has_number way ≡ false → has_number (settled s way).way ≡ false
 settled_no_number [] s e = e
@@ -349,9 +261,9 @@ answerer_new s free some room told =
   where
     shown : AllAre HasNone (shows_to Sabm s)
     shown =
-        shown_all HasNone HasNone s Sabm (λ q is. no_number_left q.at s.way.items free)
+        shown_all HasNone HasNone s Sabm (λ q is. none_left is_number q.at s.way.items free)
         (λ u x v e h. (or_parts (is_number x) (has_number v) h).1)
-        (λ p h. settled_no_number (p.way ++ Sabm ∷ []) p.state (no_number_on p.way h)) some
+        (λ p h. settled_no_number (p.way ++ Sabm ∷ []) p.state (list_any-append is_number p.way (Sabm ∷ []) ∙ ap (λ b. b || false) h)) some
 
 -- ---- the judge
 
@@ -359,87 +271,67 @@ opposite_is : (from : Role) (j : Judge) → other_of from j ≡ own_of (other fr
 opposite_is Dte j = refl
 opposite_is Dce j = refl
 
-told_unasked : (told : Option PacketRule) → is_of_order (all_told (Some UaUnasked) told) ≡ true
-told_unasked None = refl
-told_unasked (Some rule) = refl
-
-accepts_broken : (f is_shown : Bool) (b : Minding) → b.seen.rule ≡ Some UaUnasked → (links.accepts f is_shown b).seen.rule ≡ Some UaUnasked
-accepts_broken f is_shown b e =
-    cond_both (is_some b.seen.rule) b (links.answers f is_shown (links.begins b)) (λ (c : Minding). c.seen.rule ≡ Some UaUnasked)
-    (λ _. e) (λ no. absurd (both_ways (is_some b.seen.rule) no (ap is_some e)))
-
-broken_told : (j : Judge) (from : Role) (f : Bool) (stand : Stand) → (sends_to Ua (own_of from j).set).told ≡ Broken stand → is_of_order (rule_of j from (ua f)) ≡ true
-unfolding links.minds links.shown
-broken_told j from f stand told =
-    let v = (book_by j from (ua f) (seen_by j from (ua f))).verdict.rule in
-    let e : (seen_by j from (ua f)).seen.rule ≡ Some UaUnasked = accepts_broken f _ _ (ap (λ (t : Told). links.rule_of t Ua) told) in
-    subst (λ (r : Option Rule). is_of_order (all_told r v) ≡ true) (sym e) (told_unasked v)
-
-told_not_up : (told : Option PacketRule) → is_of_order (all_told (Some NotUp) told) ≡ true
-told_not_up None = refl
-told_not_up (Some rule) = refl
-
-not_up : (s : Stand) → links.broken s Sabm ≡ NotUp
-not_up Out = refl
-not_up Asking = refl
-not_up (Up k) = refl
-not_up Free = refl
-
-asks_rule : (p : Bool) (b : Minding) → b.seen.rule ≡ Some NotUp → (links.asks p b).seen.rule ≡ Some NotUp
-asks_rule false b e = e
-asks_rule true b e =
-    cond_both b.own.is_polling (manners.notes PollAgain false (manners.asks_on true b.own)) (manners.quiet (manners.asks_on true b.own))
-    (λ (m : Minded). first_rule b.seen.rule m.rule ≡ Some NotUp) (λ _. ap (λ r. first_rule r None) e) (λ _. ap (λ r. first_rule r None) e)
-
-sabm_seen : (j : Judge) (from : Role) (p : Bool) (told : Told) → (sends_to Sabm (own_of from j).set).told ≡ told
-    → links.rule_of told Sabm ≡ Some NotUp → (seen_by j from (sabm p)).seen.rule ≡ Some NotUp
-unfolding links.minds links.shown
-sabm_seen j from p told e is =
-    asks_rule p
-    (links.begins (before j.window (sabm p) Sabm (links.is_blind (own_of from j) (other_of from j)) (own_of from j) (other_of from j)))
-    (ap (λ (t : Told). links.rule_of t Sabm) e ∙ is)
-
-sabm_breaks : (j : Judge) (from : Role) (p : Bool) (told : Told) → (sends_to Sabm (own_of from j).set).told ≡ told
-    → links.rule_of told Sabm ≡ Some NotUp → is_of_order (rule_of j from (sabm p)) ≡ true
-sabm_breaks j from p told e is =
-    let v = (book_by j from (sabm p) (seen_by j from (sabm p))).verdict.rule in
-    subst (λ (r : Option Rule). is_of_order (all_told r v) ≡ true) (sym (sabm_seen j from p told e is)) (told_not_up v)
-
-sabm_told : (j : Judge) (from : Role) (p : Bool) → is_of_order (rule_of j from (sabm p)) ≡ false
-    → (sends_to Sabm (own_of from j).set).told ≡ Nothing
-sabm_told j from p quiet = go (sends_to Sabm (own_of from j).set).told refl
+-- a rule of order that is told of the set stays told
+not_of_manners : (r : Rule) → is_of_order (Some r) ≡ true → is_of_manners r ≡ false
+not_of_manners (OverWindow window) h = go (nat_lt window 7) refl
   where
-    go : (told : Told) → (sends_to Sabm (own_of from j).set).told ≡ told → (sends_to Sabm (own_of from j).set).told ≡ Nothing
-    go Nothing e = e
-    go (Broken s) e =
-        absurd (both_ways (is_of_order (rule_of j from (sabm p))) quiet
-        (sabm_breaks j from p (Broken s) e (ap (λ (r : Rule). Some r) (not_up s))))
-    go (SkipsOf s) e =
-        absurd (both_ways (is_of_order (rule_of j from (sabm p))) quiet
-        (sabm_breaks j from p (SkipsOf s) e (ap (λ (r : Rule). Some r) (not_up s))))
+    go : (b : Bool) → nat_lt window 7 ≡ b → b ≡ false
+    go true e = absurd (both_ways (nat_le 7 window) (small_window window e) h)
+    go false e = refl
+not_of_manners NoPoll h = absurd (both_ways false refl h)
+not_of_manners RejectAgain h = absurd (both_ways false refl h)
+not_of_manners (Skips next) h = absurd (both_ways false refl h)
+not_of_manners (Repeats next) h = absurd (both_ways false refl h)
+not_of_manners (Packet rule) h = absurd (both_ways false refl h)
+not_of_manners r h = refl
 
-sabm_own : (j : Judge) (from : Role) (p : Bool) → (seen_by j from (sabm p)).own.set ≡ (sends_to Sabm (own_of from j).set).set
-unfolding links.shown
-sabm_own j from p = refl
+order_stays : (r m : Option Rule) (judged : Bool) → IsFair m → is_of_order r ≡ true → is_of_order (first_rule r m) ≡ true
+order_stays None m judged fair h = absurd (both_ways false refl h)
+order_stays (Some r) None judged fair h = h
+order_stays (Some r) (Some m) judged fair h =
+    cond_both (is_of_manners r && not (is_of_manners m)) (Some m) (Some r) (λ (o : Option Rule). is_of_order o ≡ true)
+    (λ both. absurd (both_ways (is_of_manners r) (not_of_manners r h) (and_parts (is_of_manners r) (not (is_of_manners m)) both).0)) (λ _. h)
 
-sabm_other : (j : Judge) (from : Role) (p : Bool) → (seen_by j from (sabm p)).other.set ≡ shows_to Sabm (own_of (other from) j).set
-unfolding links.shown
-sabm_other j from p = ap (λ (e : End). shows_to Sabm e.set) (opposite_is from j)
+all_stays : (r : Option Rule) (packet : Option PacketRule) → is_of_order r ≡ true → is_of_order (all_told r packet) ≡ true
+all_stays r None h = h
+all_stays r (Some packet) h = order_stays r (Some (Packet packet)) true refl h
 
-ua_own : (j : Judge) (from : Role) (f : Bool) → (seen_by j from (ua f)).own.set ≡ (sends_to Ua (own_of from j).set).set
-unfolding links.shown
-ua_own j from f = refl
+module _ (j : Judge) (from : Role) (frame : PlainFrame) (x : Frame) (is : (d : Bool) → links.shown frame d ≡ x)
+    (quiet : is_of_order (rule_of j from frame) ≡ false) where
+  not_of_order : is_of_order (links.rule_of (sends_to x (own_of from j).set).told x) ≡ true → ⊥
+  not_of_order h =
+      both_ways (is_of_order (rule_of j from frame)) quiet
+      (all_stays (seen_by j from frame).seen.rule _
+      (minds_has (λ r judged. is_of_order r ≡ true) order_stays j.window _ _ frame _
+      (subst (λ y. is_of_order (links.rule_of (sends_to y (own_of from j).set).told y) ≡ true) (sym (is (differs (own_of from j).held frame))) h)))
 
-ua_other : (j : Judge) (from : Role) (f : Bool) → (seen_by j from (ua f)).other.set ≡ shows_to Ua (own_of (other from) j).set
-unfolding links.shown
-ua_other j from f = ap (λ (e : End). shows_to Ua e.set) (opposite_is from j)
+  -- nothing is told where all that may be is of order
+  not_told : ((stand : Stand) → is_of_order (links.rule_of (Broken stand) x) ≡ true) → ((stand : Stand) → is_of_order (links.rule_of (SkipsOf stand) x) ≡ true)
+      → (sends_to x (own_of from j).set).told ≡ Nothing
+  not_told broken skips = go (sends_to x (own_of from j).set).told refl
+    where
+      go : (told : Told) → (sends_to x (own_of from j).set).told ≡ told → (sends_to x (own_of from j).set).told ≡ Nothing
+      go Nothing e = e
+      go (Broken s) e = absurd (not_of_order (subst (λ (o : Told). is_of_order (links.rule_of o x) ≡ true) (sym e) (broken s)))
+      go (SkipsOf s) e = absurd (not_of_order (subst (λ (o : Told). is_of_order (links.rule_of o x) ≡ true) (sym e) (skips s)))
+
+not_up : (s : Stand) → is_of_order (Some (links.broken s Sabm)) ≡ true
+not_up Out = refl
+not_up s = refl
+
+heard_by : (from : Role) (j : Judge) (line octets : List ℕ) (frame : PlainFrame) → Shows line from octets frame
+    → (own_of (other from) (answer_to j line).next).set
+    ≡ shows_to (links.shown frame (differs (own_of from j).held frame)) (own_of (other from) j).set
+heard_by Dte j line octets frame shows = ap (λ (e : End). e.set) (goes j line Dte octets frame shows).opposite
+heard_by Dce j line octets frame shows = ap (λ (e : End). e.set) (goes j line Dce octets frame shows).opposite
 
 begun_by : (j : Judge) (r : Role) (s : LinkSet) → (own_of r j).set ≡ s → Has s (At fresh) [] → (s.is_blind ≡ false → IsNew s)
     → (own_of r j).set.is_blind ≡ false → HasRoom (own_of r j).held → IsBegun j r
 begun_by j r s e h new sees room = record {
-  up = subst (λ (t : LinkSet). begins_anywhere t.way.items t.spots.items ≡ true) (sym e) (has_begins s h);
-  new = subst (λ (t : LinkSet). are_new t.way.items t.spots.items ≡ true) (sym e)
-      (all_new s.way.items s.spots.items (new (ap (λ (t : LinkSet). t.is_blind) (sym e) ∙ sees)));
+  up = subst (λ (t : LinkSet). (q : Spot) × IsIn q t.spots.items × (is_below fresh (come t q) ≡ true)) (sym e)
+      (h.0, h.1, below_is _ (holds_come h.0.stand (drop h.0.at s.way.items) h.2));
+  new = subst (λ (t : LinkSet). (q : Spot) → IsIn q t.spots.items → is_new (come t q) ≡ true) (sym e)
+      (λ q is. fits_is_new (come s q) (new (ap (λ (t : LinkSet). t.is_blind) (sym e) ∙ sees) q is));
   octets = room.octets;
   known = room.known;
 }
@@ -450,20 +342,18 @@ abbrev AreRoomy : Judge → Type 0
 AreRoomy j = (r : Role) → HasRoom (own_of r j).held
 
 by_roles : (from : Role) (k : Judge) (P : End → Type 0) → P (own_of from k) → P (own_of (other from) k) → (r : Role) → P (own_of r k)
-by_roles Dte k P a b Dte = a
 by_roles Dte k P a b Dce = b
 by_roles Dce k P a b Dte = b
-by_roles Dce k P a b Dce = a
+by_roles from k P a b r = a
 
 told_room : (told : Told) (h : Held) → HasRoom h → HasRoom (links.held_by told h)
-told_room Nothing h g = g
 told_room (SkipsOf s) h g = record { octets = g.octets; known = refl }
-told_room (Broken s) h g = g
+told_room told h g = g
 
 abbrev RoomOf : End → Type 0
 RoomOf e = HasRoom e.held
 
-goes_stay : (j k : Judge) (from : Role) (frame : PlainFrame) → Goes j k from (seen_by j from frame) → AreRoomy j → AreRoomy k
+goes_stay : (j k : Judge) (from : Role) (frame : PlainFrame) → Goes k from (seen_by j from frame).own (seen_by j from frame).other → AreRoomy j → AreRoomy k
 goes_stay j k from frame g stays =
     by_roles from k RoomOf
     (subst RoomOf (sym g.own) (keeps_room _ frame (told_room _ (own_of from j).held (stays from))))
@@ -507,14 +397,14 @@ begins_so window reading strictness Dce = record { octets = refl; known = refl }
 -- ---- the law
 
 either : (from end : Role) → (end ≡ from) ⊎ (end ≡ other from)
-either Dte Dte = inl refl
 either Dte Dce = inr refl
 either Dce Dte = inr refl
-either Dce Dce = inl refl
+either from end = inl refl
 
 begin_both : (j : Judge) (from end : Role) (asks accepts asked accepted : List ℕ) (p f : Bool) → AreRoomy j → Shows asks from asked (sabm p) → Shows accepts (other from) accepted (ua f)
     → is_of_order (rule_of j from (sabm p)) ≡ false → is_of_order (rule_of (answer_to j asks).next (other from) (ua f)) ≡ false → IsClear j from end
     → (own_of end (after j (asks ∷ accepts ∷ []))).set.is_blind ≡ false → IsBegun (after j (asks ∷ accepts ∷ [])) end
+unfolding links.shown
 begin_both j from end asks accepts asked accepted p f stays first second asks_well quiet clear room = elim (either from end) [
   | inl e ↦ subst (λ (r : Role). (own_of r j2).set.is_blind ≡ false → IsBegun j2 r) (sym e)
       (by_asker (subst (λ (r : Role). has_answer (own_of r j).set.way.items ≡ false) e (clear.0 e))) room
@@ -531,41 +421,32 @@ begin_both j from end asks accepts asked accepted p f stays first second asks_we
     still : AreRoomy j2
     still = line_stays j1 accepts (line_stays j asks stays)
 
-    one : Goes j j1 from (seen_by j from (sabm p))
-    one = goes j asks from asked (sabm p) first
-
-    two : Goes j1 j2 (other from) (seen_by j1 (other from) (ua f))
-    two = goes j1 accepts (other from) accepted (ua f) second
-
     asked_is : (own_of from j2).set ≡ shows_to Ua (sends_to Sabm (own_of from j).set).set
     asked_is =
-        let here = ap (λ (e : End). e.set) two.opposite ∙ ua_other j1 (other from) f in
-        subst (λ (r : Role). (own_of r j2).set ≡ shows_to Ua (own_of r j1).set) (other_twice from) here
-        ∙ ap (shows_to Ua) (ap (λ (e : End). e.set) one.own ∙ sabm_own j from p)
+        subst (λ (r : Role). (own_of r j2).set ≡ shows_to Ua (own_of r j1).set) (other_twice from)
+        (heard_by (other from) j1 accepts accepted (ua f) second)
+        ∙ ap (shows_to Ua) (sent_end from j asks asked (sabm p) first).places
 
     shown_is : (own_of (other from) j1).set ≡ shows_to Sabm (own_of (other from) j).set
-    shown_is = ap (λ (e : End). e.set) one.opposite ∙ sabm_other j from p
+    shown_is = heard_by from j asks asked (sabm p) first
 
-    answered_is : (own_of (other from) j2).set ≡ (sends_to Ua (shows_to Sabm (own_of (other from) j).set)).set
-    answered_is = ap (λ (e : End). e.set) two.own ∙ ua_own j1 (other from) f ∙ ap (λ (s : LinkSet). (sends_to Ua s).set) shown_is
-
-    untold : IsToldUnasked (shows_to Sabm (own_of (other from) j).set) → ⊥
-    untold t = both_ways (is_of_order (rule_of j1 (other from) (ua f))) quiet
-        (broken_told j1 (other from) f t.0 (ap (λ (s : LinkSet). (sends_to Ua s).told) shown_is ∙ t.1))
+    untold : (sends_to Ua (shows_to Sabm (own_of (other from) j).set)).told ≡ Nothing
+    untold =
+        ap (λ (s : LinkSet). (sends_to Ua s).told) (sym shown_is)
+        ∙ not_told j1 (other from) (ua f) Ua (λ d. refl) quiet (λ s. refl) (λ s. refl)
 
     by_asker : has_answer (own_of from j).set.way.items ≡ false → (own_of from j2).set.is_blind ≡ false → IsBegun j2 from
     by_asker free sees =
         let set = (own_of from j).set in
         begun_by j2 from _ asked_is (asker set)
-        (λ s. asker_new set free (sabm_told j from p asks_well) (shown_sees Ua (sends_to Sabm set).set s) s) sees (still from)
+        (λ s. asker_new set free (not_told j from (sabm p) Sabm (λ d. refl) asks_well not_up not_up) (saw (sends_to Sabm set).set.is_blind (shows_to Ua (sends_to Sabm set).set).is_blind (blind_shows (sends_to Sabm set).set Ua) s) s) sees (still from)
 
     by_answerer : has_number (own_of (other from) j).set.way.items ≡ false → (own_of (other from) j2).set.is_blind ≡ false → IsBegun j2 (other from)
     by_answerer free sees =
         let set = (own_of (other from) j).set in
-        begun_by j2 (other from) _ answered_is (answerer set untold)
-        (λ s.
-        let mid = sent_sees Ua (shows_to Sabm set) s in
-        answerer_new set free mid s (not_told (shows_to Sabm set) untold)) sees (still (other from))
+        begun_by j2 (other from) _
+        ((sent_end (other from) j1 accepts accepted (ua f) second).places ∙ ap (λ (s : LinkSet). (sends_to Ua s).set) shown_is)
+        (answerer set untold) (λ s. answerer_new set free (saw (shows_to Sabm set).is_blind (sends_to Ua (shows_to Sabm set)).set.is_blind (blind_sends (shows_to Sabm set) Ua) s) s untold) sees (still (other from))
 
 after_on : (j : Judge) (xs ys : List (List ℕ)) → after j (xs ++ ys) ≡ after (after j xs) ys
 after_on j [] ys = refl

@@ -1,25 +1,11 @@
 -- An end that keeps the rules of docs/PEER.md, beside the places in which the judge has it.
-use Rattle.std.proofs.Common.{◌≡◌, ◌⊎◌, inl, inr, ℕ, ◌+◌, ◌%◌, ◌≤◌, ◌==◌, arith, max, Bool, true, false, List, [], ◌∷◌, ◌++◌, length, suc, Option, Some, None, refl, sym, ap, ◌∙◌, subst}
-use Rattle.std.specs.Prelude.{not, ◌&&◌, ◌||◌, nat_le, nat_lt, if◌then◌else◌}
-use Rattle.std.proofs.lemmas.Bool.{and_from, both_ways, cond-true, eq-eqb, eqb-true, le-leb, lt-ltb}
-use Rattle.x25_frame.specs.Frame.{PlainFrame, info, rr, rnr, rej, sabm, disc, ua, dm, frmr}
-use Rattle.x25_line.specs.laws.Peer.{Peer, fresh_peer, MayAcknowledge, MayNumber}
+use Rattle.x25_judge.proofs.verdicts.Names.{◌≡◌, ◌⊎◌, inl, inr, ℕ, ◌+◌, ◌%◌, ◌≤◌, ◌==◌, arith, max, Bool, true, false, List, [], ◌∷◌, ◌++◌, length, suc, Option, Some, None, refl, sym, ap, ◌∙◌, subst, not, ◌&&◌, ◌||◌, nat_le, nat_lt, and_from, both_ways, cond-true, eqb-true, lt-ltb, PlainFrame, info, rr, rnr, rej, sabm, disc, ua, Peer, fresh_peer, MayAcknowledge, MayNumber, Said, Tells, In, shown, Way, MaySay, MaySend, HaveNoUa, IsUa, declined, numbered, asks_again, closes, declines, rejects, takes_disc, takes_sabm, waits_on, IsIn, State, At, Owes, owes, fresh, has_ua, is_asking, is_ua, may_acknowledge, may_number, sends_as, Frame, Ready, Sabm, Disc, Ua, Dm, Frmr, Unread, LinkSet, Numbers, Stand, Out, Asking, Up, Free, Has, has_taken}
+use Rattle.std.specs.Prelude.{if◌then◌else◌}
+use Rattle.std.proofs.lemmas.Bool.{eq-eqb, le-leb}
+use Rattle.x25_judge.specs.laws.Sessions.{asks}
 use Rattle.x25_line.specs.laws.Peer as peer
 use Rattle.x25_line.specs.laws.PeerSessions as session
-use Rattle.x25_line.specs.laws.PeerSessions.{In}
-use Rattle.x25_judge.specs.Links.{shown}
-use Rattle.x25_judge.specs.laws.Session.{Way}
-use Rattle.x25_judge.specs.laws.Sessions.{MaySay, MaySend, HaveNoUa, IsUa, declined, numbered, asks, asks_again, closes, declines, rejects, takes_disc, takes_sabm, waits_on}
-use Rattle.x25_possible.specs.laws.Possible.{IsIn}
-use Rattle.x25_possible_links.specs.laws.Link.{State, At, Owes, passes, owes, fresh, has_ua, is_asking, is_ua, may_acknowledge, may_number, sends_as}
 use Rattle.x25_possible_links.specs.laws.Link as link
-use Rattle.x25_possible_links.specs.declared.frame.Frame.{Frame}
-use Rattle.x25_possible_links.specs.declared.frame.Frame.TheVariants.{Ready, Sabm, Disc, Ua, Dm, Frmr, Unread}
-use Rattle.x25_possible_links.specs.declared.set.LinkSet.{LinkSet}
-use Rattle.x25_possible_links.specs.declared.stand.Numbers.{Numbers}
-use Rattle.x25_possible_links.specs.declared.stand.Stand.{Stand}
-use Rattle.x25_possible_links.specs.declared.stand.Stand.TheVariants.{Out, Asking, Up, Free}
-use Rattle.x25_possible_links.proofs.Covering.{Has, has_taken}
 
 abbrev pub numbers_of : Peer → Numbers
 numbers_of p = record { sent = p.sent; acked = p.acked; taken = length p.taken; told = p.told }
@@ -28,6 +14,24 @@ abbrev pub stand_of : session.Stand → Peer → Stand
 stand_of session.Out p = Out
 stand_of session.Asking p = Asking
 stand_of session.In p = Up (numbers_of p)
+
+-- what comes changes nothing of what it was given and has sent
+module _ (P : List (List ℕ) → ℕ → Type 0) where
+  hearing_keeps : (b : Bool) (nr : ℕ) (p : Peer) → P p.given p.sent → P (peer.hearing b nr p).given (peer.hearing b nr p).sent
+  hearing_keeps true nr p h = h
+  hearing_keeps false nr p h = h
+
+  taking_keeps : (b : Bool) (packet : List ℕ) (p : Peer) → P p.given p.sent
+      → P (peer.taking b packet p).given (peer.taking b packet p).sent
+  taking_keeps true packet p h = h
+  taking_keeps false packet p h = h
+
+  pub heard_keeps : (p q : Peer) (s : Said) → peer.MayMake p s q → P p.given p.sent → P q.given q.sent
+  heard_keeps p q (Tells None nr) may h = subst (λ (r : Peer). P r.given r.sent) (sym may.1) (hearing_keeps may.0 nr p h)
+  heard_keeps p q (Tells (Some c) nr) may h =
+      subst (λ (r : Peer). P r.given r.sent) (sym may.3)
+      (taking_keeps may.1 c.packet (peer.hearing may.0 nr p) (hearing_keeps may.0 nr p h))
+  heard_keeps p q s may h = subst (λ (r : Peer). P r.given r.sent) (sym may) h
 
 -- ---- what is on the way
 
@@ -48,15 +52,13 @@ Means end way = ⊥
 pub means_on : (end : List Frame) (way : Way) (y : Frame) (f : Option PlainFrame) → IsPart y f → Means end way
     → Means (end ++ y ∷ []) (way ++ f ∷ [])
 means_on [] [] y f is m = (is, tt)
-means_on [] (g ∷ way) y f is m = absurd m
-means_on (z ∷ end) [] y f is m = absurd m
 means_on (z ∷ end) (g ∷ way) y f is m = (m.0, means_on end way y f is m.1)
+means_on end way y f is m = absurd m
 
 pub means_same : (end : List Frame) (way : Way) → Means end way → length end ≡ length way
 means_same [] [] m = refl
-means_same [] (g ∷ way) m = absurd m
-means_same (z ∷ end) [] m = absurd m
 means_same (z ∷ end) (g ∷ way) m = ap suc (means_same end way m.1)
+means_same end way m = absurd m
 
 -- what is in front
 pub record Front (set : LinkSet) (s : Stand) (f : Option PlainFrame) (way : Way) : Type 0 where
@@ -74,36 +76,21 @@ front set s (y ∷ end) f way has m = record { first = y; rest = end; is = m.0; 
 -- no UA is among them
 not_ua : (y : Frame) (f : PlainFrame) → IsSeen y f → is_ua (shown f false) ≡ false → is_ua y ≡ false
 unfolding shown
-not_ua y (info ns nr pf packet) (inl h) e = ap is_ua h.1
-not_ua y (rr command nr pf) (inl h) e = ap is_ua h.1
-not_ua y (rnr command nr pf) (inl h) e = ap is_ua h.1
-not_ua y (rej command nr pf) (inl h) e = ap is_ua h.1
-not_ua y (sabm p) (inl h) e = ap is_ua h.1
-not_ua y (disc p) (inl h) e = ap is_ua h.1
 not_ua y (ua f) (inl h) e = absurd (both_ways true e refl)
-not_ua y (dm f) (inl h) e = ap is_ua h.1
-not_ua y (frmr f why) (inl h) e = ap is_ua h.1
 not_ua y f (inr h) e = ap is_ua h
+not_ua y f (inl h) e = ap is_ua h.1
 
 is_no_ua : (f : PlainFrame) → (IsUa f → ⊥) → is_ua (shown f false) ≡ false
 unfolding shown
-is_no_ua (info ns nr pf packet) none = refl
-is_no_ua (rr command nr pf) none = refl
-is_no_ua (rnr command nr pf) none = refl
-is_no_ua (rej command nr pf) none = refl
-is_no_ua (sabm p) none = refl
-is_no_ua (disc p) none = refl
 is_no_ua (ua f) none = absurd (none tt)
-is_no_ua (dm f) none = refl
-is_no_ua (frmr f why) none = refl
+is_no_ua f none = refl
 
 no_ua : (end : List Frame) (way : Way) → Means end way → HaveNoUa way → has_ua end ≡ false
 no_ua [] [] m h = refl
-no_ua [] (g ∷ way) m h = absurd m
-no_ua (y ∷ end) [] m h = absurd m
 no_ua (y ∷ end) (None ∷ way) m h = ap (λ b. b || has_ua end) (ap is_ua m.0) ∙ no_ua end way m.1 h
 no_ua (y ∷ end) (Some f ∷ way) m h =
     ap (λ b. b || has_ua end) (not_ua y f m.0 (is_no_ua f h.0)) ∙ no_ua end way m.1 h.1
+no_ua end way m h = absurd m
 
 -- ---- numbers
 
@@ -174,6 +161,10 @@ counts p q end frame d may same = absurd may
 
 -- ---- what it sends
 
+pub owed_first : (s : Stand) → IsIn fresh (link.owed s Sabm)
+owed_first Out = inl refl
+owed_first s = inl refl
+
 -- where it stands before it sends this, once it has taken what it answers
 pub record Says (set : LinkSet) (x : Frame) (stand : session.Stand) (p : Peer) (way : Way) : Type 0 where
   pub state : State
@@ -207,27 +198,18 @@ module _ (set : LinkSet) where
   owes_disc s b y (inr h) = subst (λ z. IsIn Out (link.owed s z)) (sym h) (any s)
     where
       any : (s : Stand) → IsIn Out (link.asked s)
-      any Out = inr (inl refl)
       any Asking = inr (inr (inl refl))
-      any (Up k) = inr (inl refl)
       any Free = inr (inr (inl refl))
+      any s = inr (inl refl)
 
   owes_fresh : (s : Stand) (b : Bool) (y : Frame) → IsSeen y (sabm b) → IsIn fresh (link.owed s y)
   unfolding shown
-  owes_fresh s b y (inl h) = subst (λ z. IsIn fresh (link.owed s z)) (sym h.1) (one s)
-    where
-      one : (s : Stand) → IsIn fresh (link.owed s Sabm)
-      one Out = inl refl
-      one Asking = inl refl
-      one (Up k) = inl refl
-      one Free = inl refl
+  owes_fresh s b y (inl h) = subst (λ z. IsIn fresh (link.owed s z)) (sym h.1) (owed_first s)
   owes_fresh s b y (inr h) = subst (λ z. IsIn fresh (link.owed s z)) (sym h) (any s)
     where
       any : (s : Stand) → IsIn fresh (link.asked s)
       any Out = inl refl
-      any Asking = inl refl
-      any (Up k) = inl refl
-      any Free = inl refl
+      any s = inl refl
 
   owes_waits : (b : Bool) (y : Frame) → IsSeen y (sabm b) → IsIn Asking (link.owed Asking y)
   unfolding shown

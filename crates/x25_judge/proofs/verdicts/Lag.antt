@@ -1,21 +1,6 @@
 -- An end that keeps the rules, ahead of the trace: what it did since its last octets that the trace has seen.
-use Rattle.std.proofs.Common.{◌≡◌, ◌⊎◌, inl, inr, ℕ, ◌≤◌, arith, length, zero, suc, List, [], ◌∷◌, ◌++◌, true, false, Option, Some, None, Result, Ok, Err, refl, sym, ap, ◌∙◌, subst, remove}
-use Rattle.x25_bits.specs.declared.role.Role.{Role}
-use Rattle.x25_decode.specs.Decoding.{n1}
-use Rattle.x25_frame.specs.Frame.{PlainFrame, info, rr, rnr, rej, sabm, disc, ua, dm, frmr}
-use Rattle.x25_frame.specs.Reading.{frame_of}
-use Rattle.x25_frame.specs.declared.error.FrameError.{FrameError}
-use Rattle.x25_frame.specs.declared.error.FrameError.TheVariants.{Short, BadFcs}
-use Rattle.x25_link.specs.Hearing.{other}
-use Rattle.x25_line.specs.laws.Peer.{Peer, MayHear}
-use Rattle.x25_line.specs.laws.StationClaims.{number_in}
-use Rattle.x25_line.specs.laws.Stations.{is_visible, replaced}
-use Rattle.x25_line.proofs.StationLines.{visible_reads}
-use Rattle.x25_judge.specs.declared.judge.Judge.{Judge}
+use Rattle.x25_judge.proofs.verdicts.Names.{◌≡◌, ◌⊎◌, inl, inr, ℕ, ◌≤◌, arith, length, zero, suc, List, [], ◌∷◌, ◌++◌, true, false, Option, Some, None, Result, Ok, Err, refl, sym, ap, ◌∙◌, subst, remove, Role, n1, PlainFrame, info, rr, rnr, rej, frame_of, FrameError, Short, BadFcs, other, Peer, MayHear, number_in, is_visible, replaced, visible_reads, Judge, MaySend, MayStand, In, IsNumbered, Way}
 use Rattle.x25_judge.specs.laws.Sessions as sessions
-use Rattle.x25_judge.specs.laws.Sessions.{MaySend, MayStand}
-use Rattle.x25_line.specs.laws.PeerSessions.{In}
-use Rattle.x25_judge.specs.laws.Session.{IsNumbered, Way}
 
 -- From p, with such frames on the way to it, to a state with what is left of these, and with such octets sent.
 pub data Did (from : Role) (p : Peer) (way : Way) : Peer → Way → List (List ℕ) → Type 0 where
@@ -37,6 +22,9 @@ comes_behind from p way q left out frame (said r s f octets l o reads may d) = s
 comes_behind from p way q left out frame (freed r octets l o none d) = freed q octets (left ++ frame ∷ []) o none (comes_behind from p way q left o frame d)
 
 -- ---- its front octets come to the trace
+
+not_some : (octets : List ℕ) (out : List (List ℕ)) → octets ∷ out ≡ [] → ⊥
+not_some octets out e = cc
 
 no_more : (out : List (List ℕ)) (octets : List ℕ) → out ++ octets ∷ [] ≡ [] → ⊥
 no_more [] octets e = cc
@@ -61,6 +49,10 @@ pub record Front (from : Role) (j : Judge) (way : Way) (q : Peer) (left : Way) (
   pub did : Did from after on_way q left rest
   pub few : length on_way ≤ length way
 
+then_did : {from : Role} {j : Judge} {way : Way} {q r : Peer} {left now : Way} {frame : PlainFrame} {rest more : List (List ℕ)}
+    → (f : Front from j way q left frame rest) → Did from f.after f.on_way r now more → Front from j way r now frame more
+then_did f d = record { before = f.before; after = f.after; on_way = f.on_way; may = f.may; sends = f.sends; did = d; few = f.few }
+
 -- what is left is no more than there was
 did_fewer : (from : Role) (p : Peer) (way : Way) (q : Peer) (left : Way) (out : List (List ℕ)) → Did from p way q left out → length left ≤ length way
 did_fewer from p way q left out did_nothing = omega arith
@@ -75,11 +67,7 @@ none_numbered (info ns nr pf packet) is e = cc
 none_numbered (rr command nr pf) is e = cc
 none_numbered (rnr command nr pf) is e = cc
 none_numbered (rej command nr pf) is e = cc
-none_numbered (sabm p) is e = is
-none_numbered (disc p) is e = is
-none_numbered (ua f) is e = is
-none_numbered (dm f) is e = is
-none_numbered (frmr f why) is e = is
+none_numbered frame is e = is
 
 first_is : (x y : List ℕ) (xs ys : List (List ℕ)) → x ∷ xs ≡ y ∷ ys → x ≡ y
 first_is x y xs ys e = cc
@@ -92,19 +80,10 @@ ok_is f g r e h = cc
 
 module _ (from : Role) (j : Judge) (p : Peer) (way : Way) (octets : List ℕ) (frame : PlainFrame) (reads : frame_of from n1 octets ≡ Ok frame) (is : IsNumbered frame) (may : MayStand from j In p way) where
   pub front : (q : Peer) (left : Way) (out rest : List (List ℕ)) → out ≡ octets ∷ rest → Did from p way q left out → Front from j way q left frame rest
-  front q left out rest e did_nothing = absurd (never e)
-    where
-      never : [] ≡ octets ∷ rest → ⊥
-      never x = cc
-  front q left out rest e (was_given r l o packet d) =
-      let f = front r left out rest e d in
-      record { before = f.before; after = f.after; on_way = f.on_way; may = f.may; sends = f.sends; did = was_given r left rest packet f.did; few = f.few }
-  front q left out rest e (heard r s g l o hears d) =
-      let f = front r (Some g ∷ left) out rest e d in
-      record { before = f.before; after = f.after; on_way = f.on_way; may = f.may; sends = f.sends; did = heard r q g left rest hears f.did; few = f.few }
-  front q left out rest e (faded r l o d) =
-      let f = front q (None ∷ left) out rest e d in
-      record { before = f.before; after = f.after; on_way = f.on_way; may = f.may; sends = f.sends; did = faded q left rest f.did; few = f.few }
+  front q left out rest e did_nothing = absurd (not_some octets rest (sym e))
+  front q left out rest e (was_given r l o packet d) = let f = front r left out rest e d in then_did f (was_given r left rest packet f.did)
+  front q left out rest e (heard r s g l o hears d) = let f = front r (Some g ∷ left) out rest e d in then_did f (heard r q g left rest hears f.did)
+  front q left out rest e (faded r l o d) = let f = front q (None ∷ left) out rest e d in then_did f (faded q left rest f.did)
   front q left all rest e (said r s g last l o read sends d) = go o (λ more is. front r left o more is d) d e
     where
       go : (out : List (List ℕ)) → ((more : List (List ℕ)) → out ≡ octets ∷ more → Front from j way r left frame more) → Did from p way r left out → out ++ last ∷ [] ≡ octets ∷ rest → Front from j way q left frame rest
@@ -121,30 +100,14 @@ module _ (from : Role) (j : Judge) (p : Peer) (way : Way) (octets : List ℕ) (f
           }
       go (x ∷ out) before d e =
           let f = before out (ap (λ (y : List ℕ). y ∷ out) (first_is x octets (out ++ last ∷ []) rest e)) in
-          record {
-            before = f.before;
-            after = f.after;
-            on_way = f.on_way;
-            may = f.may;
-            sends = f.sends;
-            did = subst (λ (y : List (List ℕ)). Did from f.after f.on_way q left y) (others_are x octets (out ++ last ∷ []) rest e) (said r q g last left out read sends f.did);
-            few = f.few;
-          }
+          then_did f (subst (λ (y : List (List ℕ)). Did from f.after f.on_way q left y) (others_are x octets (out ++ last ∷ []) rest e) (said r q g last left out read sends f.did))
   front q left all rest e (freed r last l o none d) = go o (λ more is. front q left o more is d) e
     where
       go : (out : List (List ℕ)) → ((more : List (List ℕ)) → out ≡ octets ∷ more → Front from j way q left frame more) → out ++ last ∷ [] ≡ octets ∷ rest → Front from j way q left frame rest
       go [] before e = absurd (none_numbered frame is (ap number_in (sym reads) ∙ ap (λ (x : List ℕ). number_in (frame_of from n1 x)) (sym (first_is last octets [] rest e)) ∙ none))
       go (x ∷ out) before e =
           let f = before out (ap (λ (y : List ℕ). y ∷ out) (first_is x octets (out ++ last ∷ []) rest e)) in
-          record {
-            before = f.before;
-            after = f.after;
-            on_way = f.on_way;
-            may = f.may;
-            sends = f.sends;
-            did = subst (λ (y : List (List ℕ)). Did from f.after f.on_way q left y) (others_are x octets (out ++ last ∷ []) rest e) (freed q last left out none f.did);
-            few = f.few;
-          }
+          then_did f (subst (λ (y : List (List ℕ)). Did from f.after f.on_way q left y) (others_are x octets (out ++ last ∷ []) rest e) (freed q last left out none f.did))
 
 -- ---- the octets on the line to it
 
@@ -219,10 +182,7 @@ pub record Taken (from : Role) (p : Peer) (way : Way) (q : Peer) (octets : List 
 
 pub taken : (from : Role) (p q : Peer) (way left : Way) (octets : List ℕ) (all back out : List (List ℕ)) → all ≡ octets ∷ back → OnLine (other from) left all → Did from p way q left out
     → Taken from p way q octets back out
-taken from p q way left octets all back out e empty d = absurd (never e)
-  where
-    never : [] ≡ octets ∷ back → ⊥
-    never x = cc
+taken from p q way left octets all back out e empty d = absurd (not_some octets back (sym e))
 taken from p q way left octets all back out e (lost None l b h) d = taken from p q way l octets all back out e h (faded q l out d)
 taken from p q way left octets all back out e (lost (Some f) l b h) d = taken from p q way l octets all back out e h (heard q q f l out (passes q (Ok f)) d)
 taken from p q way left octets all back out e (there f l o b is h) d = record {
@@ -243,11 +203,5 @@ pub all_lost : (from end : Role) (j : Judge) (p : Peer) (left : Way) (back : Lis
 all_lost from end j p left back none empty may = may
 all_lost from end j p left back none (lost None l b h) may = all_lost from end j p l back none h (sessions.Passes j In p None l may)
 all_lost from end j p left back none (lost (Some f) l b h) may = all_lost from end j p l back none h (sessions.Passes j In p (Some f) l may)
-all_lost from end j p left all none (there f l octets back reads h) may = absurd (some none)
-  where
-    some : octets ∷ back ≡ [] → ⊥
-    some e = cc
-all_lost from end j p left all none (damaged l octets back e reads h) may = absurd (some none)
-  where
-    some : octets ∷ back ≡ [] → ⊥
-    some e = cc
+all_lost from end j p left all none (there f l octets back reads h) may = absurd (not_some octets back none)
+all_lost from end j p left all none (damaged l octets back e reads h) may = absurd (not_some octets back none)

@@ -1,27 +1,7 @@
 -- What a line makes of the judge, where it is a frame.
-use Rattle.std.proofs.Common.{◌≡◌, inl, inr, ℕ, Bool, true, false, List, Option, Some, None, Err, refl, sym, ap, ◌∙◌, subst}
-use Rattle.std.specs.Prelude.{is_some, not, ◌&&◌}
-use Rattle.std.proofs.lemmas.Bool.{both_ways, or_parts, cond_both}
-use Rattle.x25_bits.specs.declared.role.Role.{Role}
-use Rattle.x25_bits.specs.declared.role.Role.TheVariants.{Dte, Dce}
-use Rattle.x25_frame.specs.Frame.{PlainFrame, info, rr, rnr, rej, sabm, disc, ua, dm, frmr}
-use Rattle.x25_link.specs.Hearing.{other}
+use Rattle.x25_judge.proofs.verdicts.Names.{◌≡◌, inl, inr, ℕ, Bool, true, false, List, Option, Some, None, Err, refl, sym, ap, ◌∙◌, subst, is_some, not, ◌&&◌, both_ways, or_parts, cond_both, Role, Dte, Dce, PlainFrame, info, other, PacketRule, Answer, own_of, counts_packet, counts_on, counts_carried, all_told, is_open, told_frame, remark_of, next_by, seen_by, missed_by, next_missed, no_frame, tallies, read_of, sent_of, answer_to, Both, breaks_order, is_of_manners, Judge, Rule, Packet, Shows, IsDamaged, is_of_order, gap_in, n1, frame_of, FrameError, Short, BadFcs, visible_reads, End}
 use Rattle.x25_packet.specs.Reading.{channel_in}
 use Rattle.x25_packet_judge.specs.Book as book
-use Rattle.x25_packet_judge.specs.declared.packet_rule.PacketRule.{PacketRule}
-use Rattle.x25_judge.specs.Judge.{Answer, own_of, counts_packet, counts_on, counts_carried, all_told, is_open, told_frame, remark_of, next_by}
-use Rattle.x25_judge.specs.Judge.{seen_by, missed_by, next_missed, no_frame, tallies, read_of, sent_of, answer_to}
-use Rattle.x25_judge.specs.Links.{Both}
-use Rattle.x25_judge.specs.Rule.{breaks_order, is_of_manners}
-use Rattle.x25_judge.specs.declared.judge.Judge.{Judge}
-use Rattle.x25_judge.specs.declared.rule.Rule.{Rule}
-use Rattle.x25_judge.specs.declared.rule.Rule.TheVariants.{Packet}
-use Rattle.x25_judge.specs.laws.Session.{Shows, IsDamaged, is_of_order}
-use Rattle.x25_decode.specs.Decoding.{gap_in, n1}
-use Rattle.x25_frame.specs.Reading.{frame_of}
-use Rattle.x25_frame.specs.declared.error.FrameError.{FrameError}
-use Rattle.x25_frame.specs.declared.error.FrameError.TheVariants.{Short, BadFcs}
-use Rattle.x25_line.proofs.StationLines.{visible_reads}
 
 pub other_twice : (from : Role) → other (other from) ≡ from
 other_twice Dte = refl
@@ -38,10 +18,9 @@ answered j line from octets frame shows =
 -- ---- the judge behind it
 
 -- its ends are those that it shows
-pub record Goes (j k : Judge) (from : Role) (t : Both) : Type 0 where
-  pub own : own_of from k ≡ t.own
-  pub opposite : own_of (other from) k ≡ t.other
-  pub window : k.window ≡ j.window
+pub record Goes (k : Judge) (from : Role) (sender hearer : End) : Type 0 where
+  pub own : own_of from k ≡ sender
+  pub opposite : own_of (other from) k ≡ hearer
 
 on_any : (from : Role) (channel : Option ℕ) (is_judged : Bool) (j : Judge) (P : Judge → Type 0)
     → ((c : ℕ) → P (counts_packet from c is_judged j)) → P (counts_on from channel is_judged j)
@@ -51,45 +30,35 @@ on_any from None is_judged j P h = h 0
 carried_any : (from : Role) (frame : PlainFrame) (is_again is_judged : Bool) (j : Judge) (P : Judge → Type 0) → P j
     → ((c : ℕ) → P (counts_packet from c is_judged j)) → P (counts_carried from frame is_again is_judged j)
 unfolding counts_carried
-carried_any from (info ns nr p octets) true is_judged j P h g = h
 carried_any from (info ns nr p octets) false is_judged j P h g = on_any from (channel_in octets) is_judged j P g
-carried_any from (rr command nr pf) is_again is_judged j P h g = h
-carried_any from (rnr command nr pf) is_again is_judged j P h g = h
-carried_any from (rej command nr pf) is_again is_judged j P h g = h
-carried_any from (sabm p) is_again is_judged j P h g = h
-carried_any from (disc p) is_again is_judged j P h g = h
-carried_any from (ua f) is_again is_judged j P h g = h
-carried_any from (dm f) is_again is_judged j P h g = h
-carried_any from (frmr f why) is_again is_judged j P h g = h
+carried_any from frame is_again is_judged j P h g = h
 
 pub next_goes : (from : Role) (j : Judge) (frame : PlainFrame) (t : Both) (s : book.Seen) (in_doubt : Bool) (rule : Option Rule)
-    → Goes j (tallies in_doubt rule (next_by from frame t s j)) from t
+    → Goes (tallies in_doubt rule (next_by from frame t s j)) from t.own t.other
 next_goes Dte j frame t s in_doubt rule =
-    carried_any Dte frame t.seen.is_again s.verdict.is_judged _ (λ k. Goes j (tallies in_doubt rule k) Dte t)
-    (record { own = refl; opposite = refl; window = refl }) (λ c. record { own = refl; opposite = refl; window = refl })
+    carried_any Dte frame t.seen.is_again s.verdict.is_judged _ (λ k. Goes (tallies in_doubt rule k) Dte t.own t.other)
+    (record { own = refl; opposite = refl }) (λ c. record { own = refl; opposite = refl })
 next_goes Dce j frame t s in_doubt rule =
-    carried_any Dce frame t.seen.is_again s.verdict.is_judged _ (λ k. Goes j (tallies in_doubt rule k) Dce t)
-    (record { own = refl; opposite = refl; window = refl }) (λ c. record { own = refl; opposite = refl; window = refl })
+    carried_any Dce frame t.seen.is_again s.verdict.is_judged _ (λ k. Goes (tallies in_doubt rule k) Dce t.own t.other)
+    (record { own = refl; opposite = refl }) (λ c. record { own = refl; opposite = refl })
 
 pub goes : (j : Judge) (line : List ℕ) (from : Role) (octets : List ℕ) (frame : PlainFrame) → Shows line from octets frame
-    → Goes j (answer_to j line).next from (seen_by j from frame)
+    → Goes (answer_to j line).next from (seen_by j from frame).own (seen_by j from frame).other
 goes j line from octets frame shows =
     let t = seen_by j from frame in
     let s = book.sees from j.reading frame (breaks_order t.seen.rule) j.book in
-    subst (λ (a : Answer). Goes j a.next from t) (sym (answered j line from octets frame shows))
+    subst (λ (a : Answer). Goes a.next from t.own t.other) (sym (answered j line from octets frame shows))
     (next_goes from j frame t s _ (all_told t.seen.rule s.verdict.rule))
 
 -- ---- the judge behind octets that are damaged
 
-pub record Past (j k : Judge) (from : Role) : Type 0 where
-  pub own : own_of from k ≡ (missed_by j from).own
-  pub opposite : own_of (other from) k ≡ (missed_by j from).other
-  pub window : k.window ≡ j.window
+abbrev Past : Judge → Judge → Role → Type 0
+Past j k from = Goes k from (missed_by j from).own (missed_by j from).other
 
 next_past : (from : Role) (e : FrameError) (in_doubt : Bool) (j : Judge)
     → Past j (tallies in_doubt (no_frame e) (next_missed from e (missed_by j from) j)) from
-next_past Dte e in_doubt j = record { own = refl; opposite = refl; window = refl }
-next_past Dce e in_doubt j = record { own = refl; opposite = refl; window = refl }
+next_past Dte e in_doubt j = record { own = refl; opposite = refl }
+next_past Dce e in_doubt j = record { own = refl; opposite = refl }
 
 pub past : (j : Judge) (line : List ℕ) (from : Role) (octets : List ℕ) → IsDamaged line from octets → Past j (answer_to j line).next from
 unfolding answer_to

@@ -1,38 +1,17 @@
 -- Manners tell no rule of order, and nothing of what is told of the link.
-use Rattle.std.proofs.Common.{◌≡◌, ℕ, ◌<◌, ◌≤◌, ◌%◌, ◌==◌, Bool, true, false, Option, Some, None, refl, arith}
-use Rattle.std.specs.Prelude.{is_some, not, nat_lt, nat_le, ◌&&◌, ◌||◌, if◌then◌else◌}
-use Rattle.std.proofs.lemmas.Bool.{and_parts, leb-true, ltb-true}
-use Rattle.x25_frame.specs.Frame.{PlainFrame, info, rr, rnr, rej, sabm, disc, ua, dm, frmr}
-use Rattle.x25_judge.specs.Links.{accepts, answers, asks, begins, bits, by_other, by_own, counts_in, hears}
-use Rattle.x25_judge.specs.Links.{minded_as, minded_by, minds, ready_minded, place_in, reject_minded, sends_back, skipped_by}
-use Rattle.x25_judge.specs.Manners as manners
-use Rattle.x25_judge.specs.Rule.{first, is_of_manners}
-use Rattle.x25_judge.specs.declared.links.Minding.{Minding}
-use Rattle.x25_judge.specs.declared.links.Sent.{Sent}
-use Rattle.x25_judge.specs.declared.manners.Manners.{Manners}
-use Rattle.x25_judge.specs.declared.manners.Minded.{Minded}
+use Rattle.x25_judge.proofs.verdicts.Names.{◌≡◌, ℕ, ◌<◌, ◌≤◌, ◌%◌, ◌==◌, Bool, true, false, Option, Some, None, refl, arith, is_some, not, nat_lt, nat_le, ◌&&◌, ◌||◌, and_parts, cond_both, leb-true, ltb-true, PlainFrame, info, rr, rnr, rej, sabm, disc, ua, dm, frmr, accepts, answers, asks, bits, by_other, by_own, counts_in, hears, minded_as, minded_by, minds, ready_minded, place_in, reject_minded, skipped_by, first, is_of_manners, Minding, Sent, Manners, Minded, Rule, OverWindow, is_of_order, LinkSet, Told, Nothing, Skips, Broken, Numbers, Stand, Up}
+use Rattle.std.specs.Prelude.{if◌then◌else◌}
+use Rattle.x25_judge.specs.Links.{begins}
 use Rattle.x25_judge.specs.declared.manners.Place.{Place}
-use Rattle.x25_judge.specs.declared.rule.Rule.{Rule}
-use Rattle.x25_judge.specs.declared.rule.Rule.TheVariants.{OverWindow}
-use Rattle.x25_judge.specs.laws.Session.{is_of_order}
-use Rattle.x25_possible_links.specs.declared.set.LinkSet.{LinkSet}
-use Rattle.x25_possible_links.specs.declared.set.Told.{Told}
-use Rattle.x25_possible_links.specs.declared.set.Told.TheVariants.{Nothing, Skips, Broken}
-use Rattle.x25_possible_links.specs.declared.stand.Numbers.{Numbers}
-use Rattle.x25_possible_links.specs.declared.stand.Stand.{Stand}
-use Rattle.x25_possible_links.specs.declared.stand.Stand.TheVariants.{Out, Asking, Up, Free}
+use Rattle.x25_judge.specs.Manners as manners
 
-abbrev IsFair : Option Rule → Type 0
+abbrev pub IsFair : Option Rule → Type 0
 IsFair rule = is_of_order rule ≡ false
 
 first_fair : (r m : Option Rule) → IsFair r → IsFair m → IsFair (first r m)
 first_fair None m a b = b
 first_fair (Some r) None a b = a
-first_fair (Some r) (Some m) a b = go (is_of_manners r && not (is_of_manners m))
-  where
-    go : (c : Bool) → IsFair (if c then Some m else Some r)
-    go true = b
-    go false = a
+first_fair (Some r) (Some m) a b = cond_both (is_of_manners r && not (is_of_manners m)) (Some m) (Some r) IsFair (λ _. b) (λ _. a)
 
 either : (b : Bool) (x y : Minded) → IsFair x.rule → IsFair y.rule → IsFair (if b then x else y).rule
 either true x y h g = h
@@ -40,7 +19,7 @@ either false x y h g = g
 
 -- ---- manners alone
 
-small_window : (window : ℕ) → nat_lt window 7 ≡ true → nat_le 7 window ≡ false
+pub small_window : (window : ℕ) → nat_lt window 7 ≡ true → nat_le 7 window ≡ false
 small_window window h = go (nat_le 7 window) refl
   where
     none : window < 7 → 7 ≤ window → ⊥
@@ -74,31 +53,7 @@ pub sends_fair : (window : ℕ) (at : Place) (number : ℕ) (is_poll skips : Boo
     → IsFair (manners.sends window at number is_poll skips m).rule
 sends_fair window at number is_poll skips m = from_fair window (manners.seen_place at m) _ _ is_poll skips m
 
-answered_fair : (is_shown : Bool) (m : Manners) → IsFair (manners.answered is_shown m).rule
-answered_fair is_shown m = either (not (m.polls == 0)) _ _ refl (either is_shown _ _ refl refl)
-
 -- ---- with what is said
-
-abbrev AreFair : Minding → Type 0
-AreFair b = IsFair b.seen.rule
-
-own_fair : (m : Minded) (b : Minding) → IsFair m.rule → AreFair b → AreFair (by_own m b)
-own_fair m b h g = first_fair b.seen.rule m.rule g h
-
-other_fair : (m : Minded) (b : Minding) → IsFair m.rule → AreFair b → AreFair (by_other m b)
-other_fair m b h g = first_fair b.seen.rule m.rule g h
-
-asks_fair : (p : Bool) (b : Minding) → AreFair b → AreFair (asks p b)
-asks_fair true b h = own_fair (manners.asks b.own) b (either b.own.is_polling _ _ refl refl) h
-asks_fair false b h = h
-
-answers_fair : (f is_shown : Bool) (b : Minding) → AreFair b → AreFair (answers f is_shown b)
-answers_fair true is_shown b h = other_fair (manners.answered is_shown b.other) b (answered_fair is_shown b.other) h
-answers_fair false is_shown b h = h
-
-bits_fair : (command pf is_shown : Bool) (b : Minding) → AreFair b → AreFair (bits command pf is_shown b)
-bits_fair true pf is_shown b h = asks_fair pf b h
-bits_fair false pf is_shown b h = answers_fair pf is_shown b h
 
 minded_fair : (told : Told) (window : ℕ) (k : Numbers) (t : Sent) (ns : ℕ) (p differs : Bool) (m : Manners)
     → IsFair (minded_as told window k t ns p differs m).rule
@@ -108,50 +63,69 @@ minded_fair Nothing window k t ns p differs m =
     either t.facts.is_counted _ _ (sends_fair window (manners.place_of k) ns p false m)
     (either (ns == k.sent % 8) _ _ refl refl)
 
-skipped_fair : (told : Told) (window : ℕ) (s : Stand) (ns : ℕ) (p : Bool) (b : Minding) → AreFair b → AreFair (skipped_by told window s ns p b)
-skipped_fair (Skips u) window s ns p b h =
-    own_fair (manners.sends window (place_in s) ns p true b.own) b (sends_fair window (place_in s) ns p true b.own) h
-skipped_fair Nothing window s ns p b h = h
-skipped_fair (Broken u) window s ns p b h = h
+-- What holds of the rule that is told and of whether the frame is judged, and stays so behind a rule of manners, holds of
+-- all that is minded.
+module _ (P : Option Rule → Bool → Type 0)
+    (on : (r m : Option Rule) (judged : Bool) → IsFair m → P r judged → P (first r m) judged) where
+  abbrev Has : Minding → Type 0
+  Has b = P b.seen.rule b.seen.is_judged
 
-counts_fair : (s : Stand) (window : ℕ) (t : Sent) (ns : ℕ) (p : Bool) (b : Minding) → AreFair b → AreFair (counts_in s window t ns p b)
-counts_fair (Up k) window t ns p b h = own_fair (minded_by window k t ns p _ b.own) b (minded_fair t.told window k t ns p _ b.own) h
-counts_fair Out window t ns p b h = skipped_fair t.told window Out ns p b h
-counts_fair Asking window t ns p b h = skipped_fair t.told window Asking ns p b h
-counts_fair Free window t ns p b h = skipped_fair t.told window Free ns p b h
+  has_if : (c : Bool) (b d : Minding) → Has b → Has d → Has (if c then b else d)
+  has_if true b d h g = h
+  has_if false b d h g = g
 
-ready_fair : (t : Sent) (to : LinkSet) (command : Bool) (nr : ℕ) (pf : Bool) (b : Minding) → AreFair b
-    → AreFair (ready_minded t to command nr pf b)
-ready_fair t to command nr pf b h = go (pf && not command)
-  where
-    go : (c : Bool)
-        → AreFair (if c then sends_back to nr (hears t to nr (bits command pf t.facts.is_known b))
-        else hears t to nr (bits command pf t.facts.is_known b))
-    go true = bits_fair command pf t.facts.is_known b h
-    go false = bits_fair command pf t.facts.is_known b h
+  own_has : (m : Minded) (b : Minding) → IsFair m.rule → Has b → Has (by_own m b)
+  own_has m b fair h = on b.seen.rule m.rule b.seen.is_judged fair h
 
-accepts_fair : (f is_shown : Bool) (b : Minding) → AreFair b → AreFair (accepts f is_shown b)
-accepts_fair f is_shown b h = go (is_some b.seen.rule)
-  where
-    go : (c : Bool) → AreFair (if c then b else answers f is_shown (begins b))
-    go true = h
-    go false = answers_fair f is_shown (begins b) h
+  other_has : (m : Minded) (b : Minding) → IsFair m.rule → Has b → Has (by_other m b)
+  other_has m b fair h = on b.seen.rule m.rule b.seen.is_judged fair h
 
-reject_fair : (t : Sent) (to : LinkSet) (command : Bool) (nr : ℕ) (pf : Bool) (b : Minding) → AreFair b
-    → AreFair (reject_minded t to command nr pf b)
-reject_fair t to command nr pf b h =
-    let c = hears t to nr (bits command pf t.facts.is_known b) in
-    own_fair (manners.rejects t.facts.is_sure c.own) c (either (t.facts.is_sure && c.own.is_rejecting) _ _ refl refl)
-    (bits_fair command pf t.facts.is_known b h)
+  asks_has : (p : Bool) (b : Minding) → Has b → Has (asks p b)
+  asks_has p b h = has_if p _ _ (own_has (manners.asks b.own) b (either b.own.is_polling _ _ refl refl) h) h
 
-pub minds_fair : (window : ℕ) (t : Sent) (to : LinkSet) (frame : PlainFrame) (b : Minding) → AreFair b → AreFair (minds window t to frame b)
-unfolding minds
-minds_fair window t to (info ns nr p octets) b h = counts_fair t.facts.stand window t ns p (asks p b) (asks_fair p b h)
-minds_fair window t to (rr command nr pf) b h = ready_fair t to command nr pf b h
-minds_fair window t to (rnr command nr pf) b h = ready_fair t to command nr pf b h
-minds_fair window t to (rej command nr pf) b h = reject_fair t to command nr pf b h
-minds_fair window t to (sabm p) b h = asks_fair p (begins b) h
-minds_fair window t to (disc p) b h = asks_fair p b h
-minds_fair window t to (ua f) b h = accepts_fair f t.facts.is_shown b h
-minds_fair window t to (dm f) b h = answers_fair f t.facts.is_shown b h
-minds_fair window t to (frmr f why) b h = answers_fair f t.facts.is_shown b h
+  answers_has : (f is_shown : Bool) (b : Minding) → Has b → Has (answers f is_shown b)
+  answers_has f is_shown b h =
+      has_if f _ _ (other_has (manners.answered is_shown b.other) b (either (not (b.other.polls == 0)) _ _ refl (either is_shown _ _ refl refl)) h) h
+
+  bits_has : (command pf is_shown : Bool) (b : Minding) → Has b → Has (bits command pf is_shown b)
+  bits_has command pf is_shown b h = has_if command _ _ (asks_has pf b h) (answers_has pf is_shown b h)
+
+  skipped_has : (told : Told) (window : ℕ) (s : Stand) (ns : ℕ) (p : Bool) (b : Minding) → Has b → Has (skipped_by told window s ns p b)
+  skipped_has (Skips u) window s ns p b h =
+      own_has (manners.sends window (place_in s) ns p true b.own) b (sends_fair window (place_in s) ns p true b.own) h
+  skipped_has told window s ns p b h = h
+
+  counts_has : (s : Stand) (window : ℕ) (t : Sent) (ns : ℕ) (p : Bool) (b : Minding) → Has b → Has (counts_in s window t ns p b)
+  counts_has (Up k) window t ns p b h = own_has (minded_by window k t ns p _ b.own) b (minded_fair t.told window k t ns p _ b.own) h
+  counts_has s window t ns p b h = skipped_has t.told window s ns p b h
+
+  ready_has : (t : Sent) (to : LinkSet) (command : Bool) (nr : ℕ) (pf : Bool) (b : Minding) → Has b
+      → Has (ready_minded t to command nr pf b)
+  ready_has t to command nr pf b h =
+      let said = bits_has command pf t.facts.is_known b h in has_if (pf && not command) _ _ said said
+
+  accepts_has : (f is_shown : Bool) (b : Minding) → Has b → Has (accepts f is_shown b)
+  accepts_has f is_shown b h = has_if (is_some b.seen.rule) _ _ h (answers_has f is_shown (begins b) h)
+
+  reject_has : (t : Sent) (to : LinkSet) (command : Bool) (nr : ℕ) (pf : Bool) (b : Minding) → Has b
+      → Has (reject_minded t to command nr pf b)
+  reject_has t to command nr pf b h =
+      let c = hears t to nr (bits command pf t.facts.is_known b) in
+      own_has (manners.rejects t.facts.is_sure c.own) c (either (t.facts.is_sure && c.own.is_rejecting) _ _ refl refl)
+      (bits_has command pf t.facts.is_known b h)
+
+  pub minds_has : (window : ℕ) (t : Sent) (to : LinkSet) (frame : PlainFrame) (b : Minding) → Has b → Has (minds window t to frame b)
+  unfolding minds
+  minds_has window t to (info ns nr p octets) b h = counts_has t.facts.stand window t ns p (asks p b) (asks_has p b h)
+  minds_has window t to (rr command nr pf) b h = ready_has t to command nr pf b h
+  minds_has window t to (rnr command nr pf) b h = ready_has t to command nr pf b h
+  minds_has window t to (rej command nr pf) b h = reject_has t to command nr pf b h
+  minds_has window t to (sabm p) b h = asks_has p (begins b) h
+  minds_has window t to (disc p) b h = asks_has p b h
+  minds_has window t to (ua f) b h = accepts_has f t.facts.is_shown b h
+  minds_has window t to (dm f) b h = answers_has f t.facts.is_shown b h
+  minds_has window t to (frmr f why) b h = answers_has f t.facts.is_shown b h
+
+pub minds_fair : (window : ℕ) (t : Sent) (to : LinkSet) (frame : PlainFrame) (b : Minding) → IsFair b.seen.rule
+    → IsFair (minds window t to frame b).seen.rule
+minds_fair = minds_has (λ r judged. IsFair r) (λ r m judged fair h. first_fair r m h fair)

@@ -1,38 +1,15 @@
 -- What counts as judged is told of: an N(S), and F=1.
-use Rattle.std.proofs.Common.{◌≡◌, ◌==◌, inl, inr, ℕ, ◌≤◌, arith, Bool, true, false, List, Option, Some, None, refl, sym, ap, ◌∙◌, subst, eq-eqb, le-leb}
-use Rattle.std.specs.Prelude.{nat_le, nat_lt, ◌&&◌, ◌||◌, not, is_some, if◌then◌else◌}
-use Rattle.std.proofs.lemmas.Bool.{eqb-true, and_parts, and_cases, or_cases, or_parts, both_ways, cond_both}
+use Rattle.x25_judge.proofs.verdicts.Names.{◌≡◌, ◌==◌, inl, inr, ℕ, ◌≤◌, arith, Bool, true, false, List, Option, Some, None, refl, sym, ap, ◌∙◌, subst, eq-eqb, le-leb, nat_le, nat_lt, ◌&&◌, ◌||◌, not, is_some, eqb-true, and_parts, and_cases, or_cases, or_parts, both_ways, cond_both, Role, PlainFrame, info, rr, rnr, rej, dm, frmr, differs, all_told, book_by, other_of, own_of, seen_by, first, is_of_manners, Judge, End, Minding, Sent, Manners, Minded, Rule, Packet, Repeats, is_final, is_up, rule_of, IsOutOfPlace, JudgedFinalsAreTold, JudgedSendingsAreTold, PacketRule, Frame, Info, LinkSet, Told, Broken, Nothing, Numbers, Stand, Up}
+use Rattle.x25_judge.specs.declared.rule.Rule.TheVariants.{Skips}
+use Rattle.x25_possible_links.specs.declared.set.Told.TheVariants.{Skips as SkipsOf}
+use Rattle.x25_judge.specs.declared.note.Note.TheVariants.{PollAgain, SentAgain}
 use Rattle.std.proofs.lemmas.Bool.Decides.{nat_tests}
-use Rattle.x25_bits.specs.declared.role.Role.{Role}
-use Rattle.x25_frame.specs.Frame.{PlainFrame, info, rr, rnr, rej, sabm, disc, ua, dm, frmr}
-use Rattle.x25_judge.specs.Held.{differs}
-use Rattle.x25_judge.specs.Judge.{all_told, book_by, other_of, own_of, seen_by}
+use Rattle.x25_judge.specs.declared.manners.Place.{Place}
+use Rattle.x25_judge.proofs.verdicts.Manners.{minds_has}
+use Rattle.x25_packet_judge.specs.Numbers.{apart}
 use Rattle.x25_judge.specs.Links as links
 use Rattle.x25_judge.specs.Manners as manners
-use Rattle.x25_judge.specs.Rule.{first, is_of_manners}
-use Rattle.x25_judge.specs.declared.judge.Judge.{Judge}
-use Rattle.x25_judge.specs.declared.links.End.{End}
-use Rattle.x25_judge.specs.declared.links.Minding.{Minding}
-use Rattle.x25_judge.specs.declared.links.Sent.{Sent}
-use Rattle.x25_judge.specs.declared.manners.Manners.{Manners}
-use Rattle.x25_judge.specs.declared.manners.Minded.{Minded}
-use Rattle.x25_judge.specs.declared.manners.Place.{Place}
-use Rattle.x25_judge.specs.declared.note.Note.TheVariants.{PollAgain, SentAgain}
-use Rattle.x25_judge.specs.declared.rule.Rule.{Rule}
-use Rattle.x25_judge.specs.declared.rule.Rule.TheVariants.{Packet, Repeats, Skips}
-use Rattle.x25_judge.specs.laws.Session.{is_final, is_up, rule_of}
-use Rattle.x25_judge.specs.laws.VerdictClaims.{IsOutOfPlace, JudgedFinalsAreTold, JudgedSendingsAreTold}
-use Rattle.x25_packet_judge.specs.Numbers.{apart}
-use Rattle.x25_packet_judge.specs.declared.packet_rule.PacketRule.{PacketRule}
 use Rattle.x25_possible_links.specs.code.Steps as steps
-use Rattle.x25_possible_links.specs.declared.frame.Frame.{Frame}
-use Rattle.x25_possible_links.specs.declared.frame.Frame.TheVariants.{Info}
-use Rattle.x25_possible_links.specs.declared.set.LinkSet.{LinkSet}
-use Rattle.x25_possible_links.specs.declared.set.Told.{Told}
-use Rattle.x25_possible_links.specs.declared.set.Told.TheVariants.{Broken, Nothing, Skips as SkipsOf}
-use Rattle.x25_possible_links.specs.declared.stand.Numbers.{Numbers}
-use Rattle.x25_possible_links.specs.declared.stand.Stand.{Stand}
-use Rattle.x25_possible_links.specs.declared.stand.Stand.TheVariants.{Asking, Free, Out, Up}
 
 -- a rule is told, or manners are
 abbrev pub IsTold : Option Rule → Type 0
@@ -58,53 +35,6 @@ all_of r (Some packet) h = first_keeps r (Some (Packet packet)) h
 pub tells_of : (from : Role) (j : Judge) (frame : PlainFrame) → IsTold (seen_by j from frame).seen.rule → IsTold (rule_of j from frame)
 tells_of from j frame h = all_of (seen_by j from frame).seen.rule (book_by j from frame (seen_by j from frame)).verdict.rule h
 
--- ---- what is judged is known before manners
-
-asks_judges : (p : Bool) (b : Minding) → (links.asks p b).seen.is_judged ≡ b.seen.is_judged
-asks_judges true b = refl
-asks_judges false b = refl
-
-answers_judge : (f is_shown : Bool) (b : Minding) → (links.answers f is_shown b).seen.is_judged ≡ b.seen.is_judged
-answers_judge true is_shown b = refl
-answers_judge false is_shown b = refl
-
-bits_judge : (command pf is_shown : Bool) (b : Minding) → (links.bits command pf is_shown b).seen.is_judged ≡ b.seen.is_judged
-bits_judge true pf is_shown b = asks_judges pf b
-bits_judge false pf is_shown b = answers_judge pf is_shown b
-
-skips_judge : (told : Told) (s : Stand) (window : ℕ) (ns : ℕ) (p : Bool) (b : Minding) → (links.skipped_by told window s ns p b).seen.is_judged ≡ b.seen.is_judged
-skips_judge (SkipsOf u) s window ns p b = refl
-skips_judge Nothing s window ns p b = refl
-skips_judge (Broken u) s window ns p b = refl
-
-counts_judge : (s : Stand) (window : ℕ) (t : Sent) (ns : ℕ) (p : Bool) (b : Minding) → (links.counts_in s window t ns p b).seen.is_judged ≡ b.seen.is_judged
-counts_judge (Up k) window t ns p b = refl
-counts_judge Out window t ns p b = skips_judge t.told Out window ns p b
-counts_judge Asking window t ns p b = skips_judge t.told Asking window ns p b
-counts_judge Free window t ns p b = skips_judge t.told Free window ns p b
-
-ready_judges : (t : Sent) (to : LinkSet) (command : Bool) (nr : ℕ) (pf : Bool) (b : Minding) → (links.ready_minded t to command nr pf b).seen.is_judged ≡ b.seen.is_judged
-ready_judges t to true nr true b = bits_judge true true t.facts.is_known b
-ready_judges t to true nr false b = bits_judge true false t.facts.is_known b
-ready_judges t to false nr true b = bits_judge false true t.facts.is_known b
-ready_judges t to false nr false b = bits_judge false false t.facts.is_known b
-
-accepts_judge : (rule : Bool) (f is_shown : Bool) (b : Minding) → (if rule then b else links.answers f is_shown (links.begins b)).seen.is_judged ≡ b.seen.is_judged
-accepts_judge true f is_shown b = refl
-accepts_judge false f is_shown b = answers_judge f is_shown (links.begins b)
-
-minds_judge : (window : ℕ) (t : Sent) (to : LinkSet) (frame : PlainFrame) (b : Minding) → (links.minds window t to frame b).seen.is_judged ≡ b.seen.is_judged
-unfolding links.minds
-minds_judge window t to (info ns nr p octets) b = counts_judge t.facts.stand window t ns p (links.asks p b) ∙ asks_judges p b
-minds_judge window t to (rr command nr pf) b = ready_judges t to command nr pf b
-minds_judge window t to (rnr command nr pf) b = ready_judges t to command nr pf b
-minds_judge window t to (rej command nr pf) b = bits_judge command pf t.facts.is_known b
-minds_judge window t to (sabm p) b = asks_judges p (links.begins b)
-minds_judge window t to (disc p) b = asks_judges p b
-minds_judge window t to (ua f) b = accepts_judge (is_some b.seen.rule) f t.facts.is_shown b
-minds_judge window t to (dm f) b = answers_judge f t.facts.is_shown b
-minds_judge window t to (frmr f why) b = answers_judge f t.facts.is_shown b
-
 -- ---- F=1
 
 answered_told : (is_shown : Bool) (m : Manners) → is_shown ≡ true → m.polls ≡ 0 → IsTold (manners.answered is_shown m).rule
@@ -116,36 +46,14 @@ answers_tell : (is_shown : Bool) (b : Minding) → is_shown ≡ true → b.other
 answers_tell is_shown b shown none = first_brings b.seen.rule (manners.answered is_shown b.other).rule (answered_told is_shown b.other shown none)
 
 module _ (window : ℕ) (t : Sent) (to : LinkSet) (b : Minding) (known : t.facts.is_sure ≡ true → t.facts.is_known ≡ true) (none : b.other.polls ≡ 0) where
-  ready_tells : (command : Bool) (nr : ℕ) (pf : Bool) → (pf && not command) ≡ true → t.facts.is_sure ≡ true → Tells (links.ready_minded t to command nr pf b)
-  ready_tells false nr true final sure = answers_tell t.facts.is_known b (known sure) none
-  ready_tells false nr false final sure = absurd (both_ways false refl final)
-  ready_tells true nr true final sure = absurd (both_ways false refl final)
-  ready_tells true nr false final sure = absurd (both_ways false refl final)
-
-  reject_tells : (command : Bool) (nr : ℕ) (pf : Bool) → (pf && not command) ≡ true → t.facts.is_sure ≡ true → Tells (links.reject_minded t to command nr pf b)
-  reject_tells false nr true final sure = first_keeps (links.bits false true t.facts.is_known b).seen.rule _ (answers_tell t.facts.is_known b (known sure) none)
-  reject_tells false nr false final sure = absurd (both_ways false refl final)
-  reject_tells true nr true final sure = absurd (both_ways false refl final)
-  reject_tells true nr false final sure = absurd (both_ways false refl final)
-
-  final_tells : (f : Bool) → f ≡ true → links.judges_final 0 f t.facts ≡ true → Tells (links.answers f t.facts.is_shown b)
-  final_tells true final judged = answers_tell t.facts.is_shown b judged none
-  final_tells false final judged = absurd (both_ways false refl final)
-
   minds_tells : (frame : PlainFrame) → is_final frame ≡ true → links.judges 0 frame t.facts ≡ true → Tells (links.minds window t to frame b)
   unfolding links.minds links.judges
-  minds_tells (info ns nr p octets) final judged = absurd (both_ways false refl final)
-  minds_tells (rr command nr pf) final judged = ready_tells command nr pf final judged
-  minds_tells (rnr command nr pf) final judged = ready_tells command nr pf final judged
-  minds_tells (rej command nr pf) final judged = reject_tells command nr pf final judged
-  minds_tells (sabm p) final judged = absurd (both_ways false refl final)
-  minds_tells (disc p) final judged = absurd (both_ways false refl final)
-  minds_tells (ua f) final judged = absurd (both_ways false refl final)
-  minds_tells (dm f) final judged = final_tells f final judged
-  minds_tells (frmr f why) final judged = final_tells f final judged
-
-sure_is_known : (s : LinkSet) → steps.is_certain s ≡ true → steps.is_known s ≡ true
-sure_is_known s sure = (and_parts (steps.is_known s) _ sure).0
+  minds_tells (rr false nr true) final judged = answers_tell t.facts.is_known b (known judged) none
+  minds_tells (rnr false nr true) final judged = answers_tell t.facts.is_known b (known judged) none
+  minds_tells (rej false nr true) final judged = first_keeps (links.bits false true t.facts.is_known b).seen.rule _ (answers_tell t.facts.is_known b (known judged) none)
+  minds_tells (dm true) final judged = answers_tell t.facts.is_shown b judged none
+  minds_tells (frmr true why) final judged = answers_tell t.facts.is_shown b judged none
+  minds_tells frame final judged = absurd (both_ways false refl final)
 
 -- both ends behind a frame, with manners and all that is said
 module _ (window : ℕ) (frame : PlainFrame) (x : Frame) (was : Bool) (own other : End) where
@@ -161,10 +69,10 @@ module _ (window : ℕ) (frame : PlainFrame) (x : Frame) (was : Bool) (own other
 
   judged_is : (links.sees_as window frame x was own other).seen.is_judged ≡ links.judges other.manners.polls frame (links.facts own.set)
   unfolding links.minds links.judges
-  judged_is = minds_judge window t (steps.shows_to x other.set) frame before
+  judged_is = minds_has (λ r judged. judged ≡ before.seen.is_judged) (λ r m judged fair h. h) window t (steps.shows_to x other.set) frame before refl
 
   final_is : is_final frame ≡ true → (links.sees_as window frame x was own other).seen.is_judged ≡ true → other.manners.polls ≡ 0 → IsTold (links.sees_as window frame x was own other).seen.rule
-  final_is final judged none = minds_tells window t (steps.shows_to x other.set) before (sure_is_known own.set) none frame final
+  final_is final judged none = minds_tells window t (steps.shows_to x other.set) before (λ sure. (and_parts (steps.is_known own.set) _ sure).0) none frame final
       (subst (λ n. links.judges n frame (links.facts own.set) ≡ true) none (sym judged_is ∙ judged))
 
 pub judged_finals_are_told : JudgedFinalsAreTold
@@ -215,22 +123,22 @@ stays_out : (ns : ℕ) (p q : Bool) (at : Place) (b : Minding) → IsOutOfPlace 
 stays_out ns p true at b h = subst (λ m. IsOutOfPlace ns p m at) (sym (asked_is b.own)) (record { here = h.here; back = h.back })
 stays_out ns p false at b h = h
 
-module _ (window : ℕ) (t : Sent) (ns : ℕ) (p : Bool) (b : Minding) (counted : t.facts.is_counted ≡ true) where
-  counts_tell : (told : Told) (x : Frame) (k : Numbers) → (IsTold (links.rule_of told x) → Tells b) → IsOutOfPlace ns p b.own (manners.place_of k)
+module _ (window : ℕ) (t : Sent) (ns : ℕ) (p : Bool) (b : Minding) where
+  pub number_tells : (told : Told) (x : Frame) (k : Numbers)
+      → (told ≡ Nothing → IsTold (links.minded_as Nothing window k t ns p (links.is_differing b.seen.rule) b.own).rule)
+      → (IsTold (links.rule_of told x) → Tells b)
       → Tells (links.by_own (links.minded_as told window k t ns p (links.is_differing b.seen.rule) b.own) b)
-  counts_tell (Broken s) x k broken out = first_keeps b.seen.rule _ (broken refl)
-  counts_tell (SkipsOf s) x k broken out = first_brings b.seen.rule (manners.sends window (manners.place_of k) ns p true b.own).rule refl
-  counts_tell Nothing x k broken out = first_brings b.seen.rule _
-      (cond_both t.facts.is_counted (manners.sends window (manners.place_of k) ns p false b.own) _ (λ (y : Minded). IsTold y.rule)
-      (λ _. number_told b.own (manners.seen_place (manners.place_of k) b.own) window (apart (manners.place_of k).next ns) _ p out.here out.back)
-      (λ no. absurd (both_ways t.facts.is_counted no counted)))
+  number_tells (Broken s) x k told broken = first_keeps b.seen.rule _ (broken refl)
+  number_tells (SkipsOf s) x k told broken = first_brings b.seen.rule (manners.sends window (manners.place_of k) ns p true b.own).rule refl
+  number_tells Nothing x k told broken = first_brings b.seen.rule _ (told refl)
 
-  stand_tells : (s : Stand) (x : Frame) → is_up s ≡ true → (IsTold (links.rule_of t.told x) → Tells b) → IsOutOfPlace ns p b.own (links.place_in s)
-      → Tells (links.counts_in s window t ns p b)
-  stand_tells (Up k) x up broken out = counts_tell t.told x k broken out
-  stand_tells Out x up broken out = absurd (both_ways false refl up)
-  stand_tells Asking x up broken out = absurd (both_ways false refl up)
-  stand_tells Free x up broken out = absurd (both_ways false refl up)
+  stand_tells : (s : Stand) (x : Frame) → t.facts.is_counted ≡ true → is_up s ≡ true → (IsTold (links.rule_of t.told x) → Tells b)
+      → IsOutOfPlace ns p b.own (links.place_in s) → Tells (links.counts_in s window t ns p b)
+  stand_tells (Up k) x counted up broken out = number_tells t.told x k
+      (λ _. cond_both t.facts.is_counted (manners.sends window (manners.place_of k) ns p false b.own) _ (λ (y : Minded). IsTold y.rule)
+      (λ _. number_told b.own (manners.seen_place (manners.place_of k) b.own) window (apart (manners.place_of k).next ns) _ p out.here out.back)
+      (λ no. absurd (both_ways t.facts.is_counted no counted))) broken
+  stand_tells s x counted up broken out = absurd (both_ways false refl up)
 
 pub asks_tells : (p : Bool) (b : Minding) → Tells b → Tells (links.asks p b)
 asks_tells true b h = first_keeps b.seen.rule (manners.asks b.own).rule h
@@ -244,7 +152,7 @@ module _ (window : ℕ) (x : Frame) (was : Bool) (own other : End) (ns nr : ℕ)
       let frame = info ns nr p octets in
       let b = before window frame x was own other in
       let sure = and_parts (steps.is_certain own.set) (links.is_counted (links.numbers own.set) own.set) (sym (judged_is window frame x was own other) ∙ judged) in
-      stand_tells window (t window frame x was own other) ns p (links.asks p b) sure.1 (links.numbers own.set) x up
+      stand_tells window (t window frame x was own other) ns p (links.asks p b) (links.numbers own.set) x sure.1 up
       (λ broken. asks_tells p b broken) (stays_out ns p p (links.place own) b out)
 
 pub judged_sendings_are_told : JudgedSendingsAreTold

@@ -1,133 +1,132 @@
--- Of an end of which nothing is told each number carries one packet, whatever is told of the other end.
-use Rattle.std.proofs.Common.{◌≡◌, ◌⊎◌, inl, inr, ℕ, ◌%◌, ◌≤◌, ◌+◌, ◌-◌, Bool, true, false, List, [], ◌∷◌, ◌++◌, length, refl, sym, ap, ◌∙◌, subst}
-use Rattle.std.specs.Prelude.{Some}
-use Rattle.x25_bits.specs.declared.role.Role.{Role}
-use Rattle.x25_decode.specs.Decoding.{n1, sent_in}
-use Rattle.x25_frame.specs.Frame.{PlainFrame, info, rr, rnr, rej}
-use Rattle.x25_frame.specs.laws.ReadingLaw.{ReadsWhatIsSpelled}
-use Rattle.x25_link.specs.Hearing.{other}
-use Rattle.x25_text.specs.declared.text.TheConstants.{ROOM}
-use Rattle.x25_judge.specs.Held.{Held, differs, keeps}
-use Rattle.x25_judge.specs.Judge.{own_of, answer_to}
-use Rattle.x25_judge.specs.Links.{shown}
-use Rattle.x25_judge.specs.declared.judge.Judge.{Judge}
-use Rattle.x25_judge.specs.laws.Explaining.{IsUntold, Begins, Says, Comes, Fails, Carries, Nothing, Next, Again, Beside, Passes}
-use Rattle.x25_judge.specs.laws.Session.{Shows, IsNumbered, IsSupervisory}
-use Rattle.x25_judge.specs.laws.VerdictClaims.{SilenceMeansNumbers}
-use Rattle.x25_possible.specs.Channel.{nth}
-use Rattle.x25_possible_links.specs.code.Steps.{sends_to}
-use Rattle.x25_possible_links.specs.laws.Link as link
-use Rattle.x25_possible_links.specs.laws.Link.{heard}
-use Rattle.x25_possible_links.specs.declared.frame.Frame.{Frame}
-use Rattle.x25_possible_links.specs.declared.frame.Frame.TheVariants.{Info, Ready, Unread}
-use Rattle.x25_possible_links.specs.declared.set.LinkSet.{LinkSet}
-use Rattle.x25_possible_links.specs.declared.set.Told.TheVariants.{Nothing as NothingTold}
-use Rattle.x25_possible_links.specs.declared.stand.Numbers.{Numbers}
+-- The lines of an end of which nothing is told are those of an end that keeps the rules, and each number carries one
+-- packet, whatever is told of the other end.
+use Rattle.x25_judge.proofs.verdicts.Names.{◌≡◌, ◌⊎◌, inl, inr, ℕ, ◌%◌, ◌≤◌, ◌+◌, ◌==◌, Bool, true, false, List, [], ◌∷◌, ◌++◌, if◌then◌else◌, arith, length, refl, sym, ap, ◌∙◌, subst, slice_get, eqb-true, length_push, Role, PlainFrame, info, rr, rnr, rej, ReadsWhatIsSpelled, Peer, fresh_peer, MayHear, IsWanted, said, notes, other, own_of, Judge, Shows, IsDamaged, IsNumbered, SilenceMeansNumbers, SilenceMeansRules, more, Unread}
+use Rattle.std.specs.Prelude.{Some, Ok}
+use Rattle.x25_judge.specs.laws.Explaining.{IsUntold, Begins, Says, Comes, Fails, IsKept, Fresh, HandsDown, Sends, Hears, Carries, Nothing, Next, Again, Beside, Passes}
 use Rattle.x25_judge.proofs.verdicts.Innocents.{lost_end}
-use Rattle.x25_judge.proofs.verdicts.Silences.{InTurn, IsNew, IsOld, IsShort, Knows, KnowsOf, OtherLine, OwnLine, acks, begun_knows, in_turn, is_short, no_numbers, other_by, other_line, own_line}
+use Rattle.x25_judge.proofs.verdicts.Silences.{Explains, Given, begun_knows, noted_line, notes_given, other_by, other_line, own_line, passes_line}
 
-record Has (from : Role) (j : Judge) (lines : List (List ℕ)) : Type 0 where
-  pub k : Numbers
-  pub given : List (List ℕ)
-  pub carries : Carries from lines given
-  pub knows : KnowsOf (own_of from j) k given
+-- what holds of such lines and of the end behind them
+record Reached (from : Role) (P : List (List ℕ) → Peer → Type 0) (j : Judge) (lines : List (List ℕ)) : Type 0 where
+  pub p : Peer
+  pub holds : P lines p
+  pub knows : Explains (own_of from j) p
 
-module _ (from : Role) (j : Judge) (lines : List (List ℕ)) (e : Has from j lines) (line octets : List ℕ) where
-  abbrev next : Judge
-  next = (answer_to j line).next
+-- behind damaged octets it has heard and taken what may be
+abbrev unread : Peer → Peer
+unread p = record p { acked = p.acked + 7; taken = p.taken ++ [] ∷ [] }
 
-  abbrev set : LinkSet
-  set = (own_of from j).set
+-- it is kept by each line
+record Steps (from : Role) (Damage : Type 0) (P : List (List ℕ) → Peer → Type 0) : Type 0 where
+  pub own : (lines : List (List ℕ)) (p q : Peer) (line octets : List ℕ) (frame : PlainFrame) → Shows line from octets frame
+      → length p.given ≡ p.sent → Given p frame q → q.given ≡ more frame p.given → P lines p → P (lines ++ line ∷ []) q
+  pub opposite : (lines : List (List ℕ)) (p : Peer) (line octets : List ℕ) (frame : PlainFrame)
+      → Shows line (other from) octets frame → IsNumbered frame → P lines p → P (lines ++ line ∷ []) (notes (Ok frame) p)
+  pub damaged : Damage → (lines : List (List ℕ)) (p : Peer) (line octets : List ℕ) → IsDamaged line (other from) octets
+      → P lines p → P (lines ++ line ∷ []) (unread p)
 
-  abbrev h : Held
-  h = (own_of from j).held
-
-  -- a frame of it without N(S)
-  ready_has : (frame : PlainFrame) (nr : ℕ) → IsSupervisory frame → keeps h frame ≡ h → Shows line from octets frame
-      → (sends_to (Ready nr) set).set.is_blind ≡ false → (sends_to (Ready nr) set).told ≡ NothingTold
-      → ((k : Numbers) (given : List (List ℕ)) → Knows (sends_to (Ready nr) set).set (keeps h frame) k given → KnowsOf (own_of from next) k given)
-      → Has from next (lines ++ line ∷ [])
-  ready_has frame nr bare same shows room told on =
-      let a = acks set h e.k e.given e.knows nr room told in
-      let k = link.told_to (nth e.k.told nr) e.k in
+module _ (reads : ReadsWhatIsSpelled) (from : Role) (Damage : Type 0) (P : List (List ℕ) → Peer → Type 0)
+    (starts : P [] fresh_peer) (steps : Steps from Damage P) where
+  reached : (j : Judge) (lines : List (List ℕ)) → IsUntold Damage from j lines → (own_of from j).set.is_blind ≡ false
+      → Reached from P j lines
+  reached j lines (Begins k up) room = record { p = fresh_peer; holds = starts; knows = begun_knows j from (up from) room }
+  reached k all (Says j lines line octets frame shows is quiet h) room =
+      let own = own_line from j line octets frame shows is quiet room in
+      let e = reached j lines h own.sees in
+      let x = passes_line reads from j line octets frame e.p shows is own e.knows in
+      record { p = x.q; holds = steps.own lines e.p x.q line octets frame shows e.knows.all x.sends x.shown e.holds; knows = x.knows }
+  reached k all (Comes j lines line octets frame shows is h) room =
+      let e = reached j lines h (other_line from j line octets frame shows room).sees in
       record {
-        k = k;
-        given = e.given;
-        carries = Beside lines e.given line octets frame shows bare e.carries;
-        knows = on k e.given (subst (λ (x : Held). Knows (sends_to (Ready nr) set).set x k e.given) (sym same) a.knows);
+        p = notes (Ok frame) e.p;
+        holds = steps.opposite lines e.p line octets frame shows is e.holds;
+        knows = noted_line from j line octets frame e.p shows is room e.knows;
+      }
+  reached k all (Fails j lines line octets damage broken h) room =
+      let o = other_by from j line Unread (lost_end from j line octets broken) room in
+      let e = reached j lines h o.sees in
+      record {
+        p = unread e.p;
+        holds = steps.damaged damage lines e.p line octets broken e.holds;
+        knows = o.on e.p (unread e.p)
+            (ap (λ m. record { sent = e.p.sent; acked = e.p.acked + 7; taken = m; told = e.p.told }) (length_push e.p.taken [])) refl e.knows;
       }
 
-  -- an I frame of it
-  module _ (ns nr : ℕ) (pf : Bool) (packet : List ℕ) where
-    abbrev f : PlainFrame
-    f = info ns nr pf packet
+-- ---- an end that keeps the rules
 
-    abbrev y : Frame
-    y = Info ns nr (differs h f)
+wanted : (b : Bool) (ns : ℕ) (p : Peer) → (ns == length p.taken % 8) ≡ b → IsWanted b ns p
+wanted true ns p e = eqb-true ns (length p.taken % 8) e
+wanted false ns p e = tt
 
-    info_has : length packet ≤ ROOM → Shows line from octets f → (sends_to y set).set.is_blind ≡ false → (sends_to y set).told ≡ NothingTold
-        → ((k : Numbers) (given : List (List ℕ)) → Knows (sends_to y set).set (keeps h f) k given → KnowsOf (own_of from next) k given)
-        → Has from next (lines ++ line ∷ [])
-    info_has fits shows room told on = go i.turn
-      where
-        i : InTurn set h e.k e.given e.knows ns nr pf packet
-        i = in_turn set h e.k e.given e.knows ns nr pf packet fits room told
+may_note : (frame : PlainFrame) (p : Peer) → IsNumbered frame → MayHear p (Ok frame) (notes (Ok frame) p)
+may_note (info ns nr pf packet) p is = (true, ns == length p.taken % 8, wanted (ns == length p.taken % 8) ns p refl, refl)
+may_note (rr command nr pf) p is = (true, refl)
+may_note (rnr command nr pf) p is = (true, refl)
+may_note (rej command nr pf) p is = (true, refl)
+may_note frame p is = absurd is
 
-        go : IsNew set h e.k e.given e.knows ns nr pf packet ⊎ IsOld set h e.k e.given e.knows ns nr pf packet
-            → Has from next (lines ++ line ∷ [])
-        go (inl new) = record {
-          k = _;
-          given = e.given ++ packet ∷ [];
-          carries = Next lines e.given line octets ns nr pf packet shows
-              (i.is.number ∙ ap (λ m. m % 8) (new.last ∙ sym e.knows.all)) e.carries;
-          knows = on _ (e.given ++ packet ∷ []) new.knows;
-        }
-        go (inr old) = record {
-          k = _;
-          given = e.given;
-          carries = Again lines e.given line octets ns nr (nth (e.k.sent - 7) ns) pf packet shows i.is.number
-              (subst (λ m. m ≤ nth (e.k.sent - 7) ns + 7) (sym e.knows.all) i.is.near) old.same e.carries;
-          knows = on _ e.given old.knows;
-        }
+given_kept : (from : Role) (lines : List (List ℕ)) (p u : Peer) → (u ≡ p) ⊎ ((packet : List ℕ) × (u ≡ record p { given = p.given ++ packet ∷ [] }))
+    → IsKept from lines p → IsKept from lines u
+given_kept from lines p u (inl e) h = subst (λ (x : Peer). IsKept from lines x) (sym e) h
+given_kept from lines p u (inr (packet, e)) h = subst (λ (x : Peer). IsKept from lines x) (sym e) (HandsDown lines p packet h)
 
-  own_by : (frame : PlainFrame) → IsShort frame → IsNumbered frame → Shows line from octets frame
-      → (sends_to (shown frame (differs h frame)) set).set.is_blind ≡ false
-      → (sends_to (shown frame (differs h frame)) set).told ≡ NothingTold
-      → ((k : Numbers) (given : List (List ℕ)) → Knows (sends_to (shown frame (differs h frame)) set).set (keeps h frame) k given → KnowsOf (own_of from next) k given)
-      → Has from next (lines ++ line ∷ [])
-  unfolding shown keeps
-  own_by (info ns nr pf packet) fits is shows room told on = info_has ns nr pf packet fits shows room told on
-  own_by (rr command nr pf) fits is shows room told on = ready_has (rr command nr pf) nr tt refl shows room told on
-  own_by (rnr command nr pf) fits is shows room told on = ready_has (rnr command nr pf) nr tt refl shows room told on
-  own_by (rej command nr pf) fits is shows room told on = ready_has (rej command nr pf) nr tt refl shows room told on
-  own_by frame fits is shows room told on = absurd is
+pub silence_means_rules : ReadsWhatIsSpelled → SilenceMeansRules
+silence_means_rules reads from j lines quiet room =
+    let e = reached reads from ⊥ (IsKept from) Fresh
+    (record {
+      own = λ lines p q line octets frame shows all sends is h.
+          Sends lines sends.before q line octets frame shows sends.may (given_kept from lines p sends.before sends.given h);
+      opposite = λ lines p line octets frame shows is h.
+          Hears lines p (notes (Ok frame) p) line octets frame shows (may_note frame p is) h;
+      damaged = λ never. absurd never;
+    }) j lines quiet room in (e.p, e.holds)
 
-  own_has : (frame : PlainFrame) → IsShort frame → IsNumbered frame → Shows line from octets frame → OwnLine from j line frame
-      → Has from next (lines ++ line ∷ [])
-  own_has frame fits is shows own = own_by frame fits is shows own.room own.told own.on
+-- ---- numbers
 
-  -- a line of the other end
-  other_has : (y : Frame) → sent_in line ≡ Some (other from, octets) → OtherLine from j line y → Has from next (lines ++ line ∷ [])
-  other_has y spells o = record {
-    k = heard true true e.k y;
-    given = e.given;
-    carries = Passes lines e.given line octets spells e.carries;
-    knows = o.on e.k e.given e.knows;
-  }
+before_sent : (p u : Peer) → (u ≡ p) ⊎ ((packet : List ℕ) × (u ≡ record p { given = p.given ++ packet ∷ [] })) → u.sent ≡ p.sent
+before_sent p u (inl e) = ap (λ (x : Peer). x.sent) e
+before_sent p u (inr (packet, e)) = ap (λ (x : Peer). x.sent) e
 
-has : ReadsWhatIsSpelled → (from : Role) (j : Judge) (lines : List (List ℕ)) → IsUntold from j lines → (own_of from j).set.is_blind ≡ false
-    → Has from j lines
-has reads from j lines (Begins k up) room = record { k = no_numbers; given = []; carries = Nothing; knows = begun_knows j from (up from) room }
-has reads from k all (Says j lines line octets frame shows is quiet q) room =
-    let own = own_line from j line octets frame shows is quiet room in
-    let spelled = (reads from n1 frame octets shows.low).0 shows.reads in
-    own_has from j lines (has reads from j lines q own.sees) line octets frame (is_short frame spelled.within) is shows own
-has reads from k all (Comes j lines line octets frame shows is q) room =
-    let o = other_line from j line octets frame shows room in
-    other_has from j lines (has reads from j lines q o.sees) line octets _ shows.spells o
-has reads from k all (Fails j lines line octets broken q) room =
-    let o = other_by from j line Unread (lost_end from j line octets broken) room in
-    other_has from j lines (has reads from j lines q o.sees) line octets Unread broken.spells o
+module _ (from : Role) (lines : List (List ℕ)) (p q : Peer) (line octets : List ℕ) (all : length p.given ≡ p.sent)
+    (h : Carries from lines p.given) where
+  beside : q.given ≡ p.given → (Carries from lines p.given → Carries from (lines ++ line ∷ []) p.given)
+      → Carries from (lines ++ line ∷ []) q.given
+  beside is on = subst (Carries from (lines ++ line ∷ [])) (sym is) (on h)
+
+  carried : (frame : PlainFrame) → Shows line from octets frame → Given p frame q → q.given ≡ more frame p.given
+      → Carries from (lines ++ line ∷ []) q.given
+  carried (info ns nr pf packet) shows sends is = go (ns == length p.given % 8) refl is
+    where
+      n : ℕ
+      n = sends.may.0
+
+      near : length p.given ≤ n + 7
+      near =
+          let same = before_sent p sends.before sends.given in
+          let again = sends.may.2.again in
+          omega (arith, all, same, again)
+
+      go : (b : Bool) → (ns == length p.given % 8) ≡ b → q.given ≡ (if b then p.given ++ packet ∷ [] else p.given)
+          → Carries from (lines ++ line ∷ []) q.given
+      go true e is =
+          subst (Carries from (lines ++ line ∷ [])) (sym is)
+          (Next lines p.given line octets ns nr pf packet shows (eqb-true ns (length p.given % 8) e) h)
+      go false e is =
+          let same : sends.before.given ≡ p.given = sym (ap (λ (x : Peer). x.given) sends.may.6) ∙ is in
+          subst (Carries from (lines ++ line ∷ [])) (sym is)
+          (Again lines p.given line octets ns nr n pf packet shows sends.may.2.number near
+          (subst (λ (xs : List (List ℕ)). slice_get xs n ≡ Some packet) same sends.may.2.same) h)
+  carried (rr command nr pf) shows sends is = beside is (Beside lines p.given line octets (rr command nr pf) shows tt)
+  carried (rnr command nr pf) shows sends is = beside is (Beside lines p.given line octets (rnr command nr pf) shows tt)
+  carried (rej command nr pf) shows sends is = beside is (Beside lines p.given line octets (rej command nr pf) shows tt)
+  carried frame shows sends is = absurd sends.may
 
 pub silence_means_numbers : ReadsWhatIsSpelled → SilenceMeansNumbers
-silence_means_numbers reads from j lines untold room = let e = has reads from j lines untold room in (e.given, e.carries)
+silence_means_numbers reads from j lines untold room =
+    let e = reached reads from (Unit {0}) (λ lines p. Carries from lines p.given) Nothing
+    (record {
+      own = λ lines p q line octets frame shows all sends is h. carried from lines p q line octets all h frame shows sends is;
+      opposite = λ lines p line octets frame shows is h.
+          subst (Carries from (lines ++ line ∷ [])) (sym (notes_given (said (Ok frame)) p)) (Passes lines p.given line octets shows.spells h);
+      damaged = λ d lines p line octets broken h. Passes lines p.given line octets broken.spells h;
+    }) j lines untold room in (e.p.given, e.holds)

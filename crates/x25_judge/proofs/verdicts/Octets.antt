@@ -1,29 +1,32 @@
 -- The octets that the judge holds of an end's last eight numbers.
-use Rattle.std.proofs.Common.{◌≡◌, ◌⊎◌, inl, inr, ℕ, ◌+◌, ◌%◌, ◌<◌, ◌≤◌, arith, max, Bool, true, zero, suc, List, [], ◌∷◌, ◌++◌, length, Some, refl, sym, ap, ◌∙◌, subst}
-use Rattle.std.specs.Prelude.{slice_get, slice_index_or, slice_set, nat_le, not, ◌&&◌, false, replicate}
+use Rattle.x25_judge.proofs.verdicts.Names.{◌≡◌, ◌⊎◌, inl, inr, ℕ, ◌+◌, ◌%◌, ◌<◌, ◌≤◌, arith, max, Bool, true, zero, suc, List, [], ◌∷◌, ◌++◌, length, Some, refl, sym, ap, ◌∙◌, subst, slice_get, slice_index_or, slice_set, nat_le, not, ◌&&◌, replicate, both_ways, cases_eq, cond-true, get_or-set_same, get_or-set_other, get_or-replicate, length-set, PlainFrame, info, rr, ROOM, Held, differs, forgets, forgets_all, is_held, kept, keeps, forgets_each, forgets_in, IsSupervisory, IsIn, Spot, Stand, Up}
+use Rattle.std.specs.Prelude.{false}
+use Rattle.std.proofs.lemmas.Bool.{le-leb}
 use Rattle.std.specs.Str.{bytes_eq}
-use Rattle.std.proofs.lemmas.Bool.{both_ways, cases_eq, le-leb, cond-true}
-use Rattle.std.proofs.lemmas.List.{get_or-set_same, get_or-set_other, get_or-replicate, length-set}
 use Rattle.std.proofs.lemmas.Slice.Eq.{bytes_eq-Decides}
-use Rattle.x25_frame.specs.Frame.{PlainFrame, info, rr, rnr, rej, sabm, disc, ua, dm, frmr}
-use Rattle.x25_text.specs.declared.text.TheConstants.{ROOM}
-use Rattle.x25_judge.specs.Held.{Held, differs, forgets, forgets_all, is_held, kept, keeps}
-use Rattle.x25_judge.specs.Links.{forgets_each, forgets_in}
-use Rattle.x25_judge.specs.laws.Session.{IsSupervisory}
-use Rattle.x25_possible.specs.laws.Possible.{IsIn}
-use Rattle.x25_possible_links.specs.declared.spots.Spot.{Spot}
-use Rattle.x25_possible_links.specs.declared.stand.Stand.{Stand}
-use Rattle.x25_possible_links.specs.declared.stand.Stand.TheVariants.{Out, Asking, Up, Free}
+
+-- there are octets of eight numbers
+pub record HasRoom (h : Held) : Type 0 where
+  pub octets : length h.octets ≡ 8
+  pub known : length h.known ≡ 8
+
+pub keeps_room : (h : Held) (frame : PlainFrame) → HasRoom h → HasRoom (keeps h frame)
+unfolding keeps
+keeps_room h (info ns nr pf packet) g = record {
+  octets = length-set h.octets (ns % 8) (kept packet) ∙ g.octets;
+  known = length-set h.known (ns % 8) (nat_le (length packet) ROOM) ∙ g.known;
+}
+keeps_room h (rr command nr pf) g = g
+keeps_room h frame g = g
 
 -- each of the last eight that is known is held under its number
 pub record IsHeld (h : Held) (given : List (List ℕ)) (m : ℕ) : Type 0 where
-  pub room : length h.octets ≡ 8
-  pub marks : length h.known ≡ 8
+  pub room : HasRoom h
   pub octets : (n : ℕ) → n < m → m ≤ n + 8 → is_held h n ≡ true
       → slice_get given n ≡ Some (slice_index_or h.octets (n % 8) [])
 
-pub begun_held : (h : Held) (given : List (List ℕ)) → length h.octets ≡ 8 → length h.known ≡ 8 → IsHeld h given 0
-begun_held h given room marks = record { room = room; marks = marks; octets = λ n lt low is. absurd (never n lt) }
+pub begun_held : (h : Held) (given : List (List ℕ)) → HasRoom h → IsHeld h given 0
+begun_held h given room = record { room = room; octets = λ n lt low is. absurd (never n lt) }
   where
     never : (n : ℕ) → n < 0 → ⊥
     never n lt = omega arith
@@ -36,13 +39,9 @@ pushed (z ∷ xs) x y (suc n) h = pushed xs x y n h
 pub pushed_held : (h : Held) (given : List (List ℕ)) (packet : List ℕ) (m : ℕ) → IsHeld h given m → IsHeld h (given ++ packet ∷ []) m
 pushed_held h given packet m is = record {
   room = is.room;
-  marks = is.marks;
   octets = λ n before near known.
       pushed given packet (slice_index_or h.octets (n % 8) []) n (is.octets n before near known);
 }
-
-kept_whole : (packet : List ℕ) → length packet ≤ ROOM → kept packet ≡ packet
-kept_whole packet fits = cond-true (nat_le (length packet) ROOM) packet [] (le-leb (length packet) ROOM fits)
 
 -- number n goes, new or again
 pub sent_held : (h : Held) (given : List (List ℕ)) (m n ns nr : ℕ) (pf : Bool) (packet : List ℕ) → ns ≡ n % 8 → n ≤ m → m ≤ n + 7
@@ -50,8 +49,7 @@ pub sent_held : (h : Held) (given : List (List ℕ)) (m n ns nr : ℕ) (pf : Boo
     → IsHeld (keeps h (info ns nr pf packet)) given (max m (n + 1))
 unfolding keeps
 sent_held h given m n ns nr pf packet number le near fits same is = record {
-  room = length-set h.octets (ns % 8) (kept packet) ∙ is.room;
-  marks = length-set h.known (ns % 8) (nat_le (length packet) ROOM) ∙ is.marks;
+  room = keeps_room h (info ns nr pf packet) is.room;
   octets = λ k before low known. go k before low known (cases_eq k n);
 }
   where
@@ -59,7 +57,7 @@ sent_held h given m n ns nr pf packet number le near fits same is = record {
     at = omega (arith, number)
 
     in_room : ns % 8 < length h.octets
-    in_room = rw is.room (omega arith)
+    in_room = rw is.room.octets (omega arith)
 
     apart_from : (k : ℕ) → k < max m (n + 1) → max m (n + 1) ≤ k + 8 → (k ≡ n → ⊥) → (k % 8 ≡ ns % 8 → ⊥)
     apart_from k before low ne e = omega (arith, number, le, near, ne)
@@ -77,7 +75,7 @@ sent_held h given m n ns nr pf packet number le near fits same is = record {
     go k before low known (inl e) =
         let here : slice_index_or (slice_set h.octets (ns % 8) (kept packet)) (k % 8) [] ≡ packet =
         ap (λ i. slice_index_or (slice_set h.octets (ns % 8) (kept packet)) i []) (ap (λ x. x % 8) e ∙ sym at)
-        ∙ get_or-set_same h.octets (ns % 8) (kept packet) [] in_room ∙ kept_whole packet fits in
+        ∙ get_or-set_same h.octets (ns % 8) (kept packet) [] in_room ∙ cond-true (nat_le (length packet) ROOM) packet [] (le-leb (length packet) ROOM fits) in
         ap (λ x. slice_get given x) e ∙ same ∙ ap (λ (x : List ℕ). Some x) (sym here)
     go k before low known (inr ne) =
         is.octets k (is_old k before ne) (is_near k low)
@@ -114,45 +112,27 @@ same_octets h given m n ns nr pf packet number before near same is = go (is_held
 pub bare_held : (h : Held) (frame : PlainFrame) → IsSupervisory frame → keeps h frame ≡ h
 unfolding keeps
 bare_held h (info ns nr pf packet) g = absurd g
-bare_held h (rr command nr pf) g = refl
-bare_held h (rnr command nr pf) g = refl
-bare_held h (rej command nr pf) g = refl
-bare_held h (sabm p) g = refl
-bare_held h (disc p) g = refl
-bare_held h (ua f) g = refl
-bare_held h (dm f) g = refl
-bare_held h (frmr f why) g = refl
-
--- each keeps its room
-pub record HasRoom (h : Held) : Type 0 where
-  pub octets : length h.octets ≡ 8
-  pub known : length h.known ≡ 8
-
-pub keeps_room : (h : Held) (frame : PlainFrame) → HasRoom h → HasRoom (keeps h frame)
-unfolding keeps
-keeps_room h (info ns nr pf packet) g = record {
-  octets = length-set h.octets (ns % 8) (kept packet) ∙ g.octets;
-  known = length-set h.known (ns % 8) (nat_le (length packet) ROOM) ∙ g.known;
-}
-keeps_room h (rr command nr pf) g = g
-keeps_room h (rnr command nr pf) g = g
-keeps_room h (rej command nr pf) g = g
-keeps_room h (sabm p) g = g
-keeps_room h (disc p) g = g
-keeps_room h (ua f) g = g
-keeps_room h (dm f) g = g
-keeps_room h (frmr f why) g = g
+bare_held h frame g = refl
 
 -- ---- octets of numbers that are known no longer
 
--- less is known
-pub record IsLess (g h : Held) : Type 0 where
+-- in a session it has sent so many
+abbrev pub HasSent : ℕ → Stand → Type 0
+HasSent n (Up k) = k.sent ≡ n
+HasSent n s = Unit {0}
+
+-- less is known, and nothing of the next number of an end that stands so
+pub record IsLess (g h : Held) (Stands : Stand → Type 0) : Type 0 where
   pub octets : g.octets ≡ h.octets
   pub marks : length g.known ≡ 8
   pub known : (n : ℕ) → is_held g n ≡ true → is_held h n ≡ true
+  pub gone : (n : ℕ) (s : Stand) → Stands s → HasSent n s → is_held g n ≡ true → ⊥
 
-less_on : (f g h : Held) → IsLess f g → IsLess g h → IsLess f h
-less_on f g h a b = record { octets = a.octets ∙ b.octets; marks = a.marks; known = λ n is. b.known n (a.known n is) }
+not_any : (n : ℕ) (h : Held) → is_held (forgets_all h) n ≡ true → ⊥
+not_any n h is = both_ways (slice_index_or (replicate 8 false) (n % 8) false) (get_or-replicate 8 (n % 8) false false low) is
+  where
+    low : n % 8 < 8
+    low = omega arith
 
 not_forgotten : (n k : ℕ) (h : Held) → length h.known ≡ 8 → k % 8 ≡ n % 8 → is_held (forgets n h) k ≡ true → ⊥
 not_forgotten n k h marks same is =
@@ -163,93 +143,64 @@ not_forgotten n k h marks same is =
     room : n % 8 < length h.known
     room = rw marks (omega arith)
 
-forgotten_less : (n : ℕ) (h : Held) → length h.known ≡ 8 → IsLess (forgets n h) h
-forgotten_less n h marks = record {
+in_less : (s : Stand) (h : Held) → length h.known ≡ 8 → IsLess (forgets_in s h) h (λ r. r ≡ s)
+in_less (Up k) h marks = record {
   octets = refl;
-  marks = length-set h.known (n % 8) false ∙ marks;
-  known = λ k is. go k is (cases_eq (k % 8) (n % 8));
+  marks = length-set h.known (k.sent % 8 % 8) false ∙ marks;
+  known = λ n is. go n is (cases_eq (n % 8) (k.sent % 8 % 8));
+  gone = λ n s same e is. not_forgotten (k.sent % 8) n h marks (next k.sent n (subst (HasSent n) same e)) is;
 }
   where
-    go : (k : ℕ) → is_held (forgets n h) k ≡ true → ((k % 8 ≡ n % 8) ⊎ (k % 8 ≡ n % 8 → ⊥)) → is_held h k ≡ true
-    go k is (inl e) = absurd (not_forgotten n k h marks e is)
-    go k is (inr ne) = sym (get_or-set_other h.known (n % 8) (k % 8) false false ne) ∙ is
+    next : (a b : ℕ) → a ≡ b → b % 8 ≡ a % 8 % 8
+    next a b e = omega (arith, e)
 
-not_any : (n : ℕ) (h : Held) → is_held (forgets_all h) n ≡ true → ⊥
-not_any n h is = both_ways (slice_index_or (replicate 8 false) (n % 8) false) (get_or-replicate 8 (n % 8) false false low) is
-  where
-    low : n % 8 < 8
-    low = omega arith
+    go : (n : ℕ) → is_held (forgets (k.sent % 8) h) n ≡ true → ((n % 8 ≡ k.sent % 8 % 8) ⊎ (n % 8 ≡ k.sent % 8 % 8 → ⊥)) → is_held h n ≡ true
+    go n is (inl e) = absurd (not_forgotten (k.sent % 8) n h marks e is)
+    go n is (inr ne) = sym (get_or-set_other h.known (k.sent % 8 % 8) (n % 8) false false ne) ∙ is
+in_less s h marks = record { octets = refl; marks = refl; known = λ n is. absurd (not_any n h is); gone = λ n r same e is. not_any n h is }
 
-all_less : (h : Held) → IsLess (forgets_all h) h
-all_less h = record { octets = refl; marks = refl; known = λ n is. absurd (not_any n h is) }
+-- some place stands so
+abbrev StandsIn : List Spot → Stand → Type 0
+StandsIn qs s = (q : Spot) × IsIn q qs × (s ≡ q.stand)
 
-in_less : (s : Stand) (h : Held) → length h.known ≡ 8 → IsLess (forgets_in s h) h
-in_less (Up k) h marks = forgotten_less (k.sent % 8) h marks
-in_less Out h marks = all_less h
-in_less Asking h marks = all_less h
-in_less Free h marks = all_less h
-
-each_less : (qs : List Spot) (h : Held) → length h.known ≡ 8 → IsLess (forgets_each qs h) h
-each_less [] h marks = record { octets = refl; marks = marks; known = λ n is. is }
+pub each_less : (qs : List Spot) (h : Held) → length h.known ≡ 8 → IsLess (forgets_each qs h) h (StandsIn qs)
+each_less [] h marks = record { octets = refl; marks = marks; known = λ n is. is; gone = λ n s there e is. there.1 }
 each_less (q ∷ qs) h marks =
     let one = in_less q.stand h marks in
-    less_on (forgets_each qs (forgets_in q.stand h)) (forgets_in q.stand h) h (each_less qs (forgets_in q.stand h) one.marks) one
-
--- in a session it has sent so many
-abbrev pub HasSent : ℕ → Stand → Type 0
-HasSent n (Up k) = k.sent ≡ n
-HasSent n s = Unit {0}
-
-not_in : (n : ℕ) (s : Stand) (h : Held) → length h.known ≡ 8 → HasSent n s → is_held (forgets_in s h) n ≡ true → ⊥
-not_in n (Up k) h marks e is = not_forgotten (k.sent % 8) n h marks (same k.sent n e) is
-  where
-    same : (a b : ℕ) → a ≡ b → b % 8 ≡ a % 8 % 8
-    same a b e = omega (arith, e)
-not_in n Out h marks e is = not_any n h is
-not_in n Asking h marks e is = not_any n h is
-not_in n Free h marks e is = not_any n h is
-
--- octets of the next number are forgotten
-pub not_each : (n : ℕ) (qs : List Spot) (q : Spot) (h : Held) → length h.known ≡ 8 → IsIn q qs → HasSent n q.stand
-    → is_held (forgets_each qs h) n ≡ true → ⊥
-not_each n [] q h marks is e known = is
-not_each n (p ∷ qs) q h marks (inl same) e known =
-    let one = in_less p.stand h marks in
-    not_in n p.stand h marks (subst (λ (r : Spot). HasSent n r.stand) same e)
-    ((each_less qs (forgets_in p.stand h) one.marks).known n known)
-not_each n (p ∷ qs) q h marks (inr is) e known =
-    not_each n qs q (forgets_in p.stand h) (in_less p.stand h marks).marks is e known
+    let all = each_less qs (forgets_in q.stand h) one.marks in
+    record {
+      octets = all.octets ∙ one.octets;
+      marks = all.marks;
+      known = λ n is. one.known n (all.known n is);
+      gone = λ n s there e is. elim there.1 [
+        | inl same ↦ one.gone n s (there.2 ∙ ap (λ (r : Spot). r.stand) same) e (all.known n is)
+        | inr more ↦ all.gone n s (there.0, more, there.2) e is
+      ];
+    }
 
 pub each_room : (qs : List Spot) (h : Held) → HasRoom h → HasRoom (forgets_each qs h)
 each_room qs h g =
     let less = each_less qs h g.known in
     record { octets = ap (λ (xs : List (List ℕ)). length xs) less.octets ∙ g.octets; known = less.marks }
 
-octets_less : (g h : Held) (given : List (List ℕ)) (m n : ℕ) → IsLess g h → IsHeld h given m → n < m → m ≤ n + 8
-    → is_held g n ≡ true → slice_get given n ≡ Some (slice_index_or g.octets (n % 8) [])
-octets_less g h given m n less is before near known =
+octets_less : (qs : List Spot) (h : Held) (given : List (List ℕ)) (m n : ℕ) → IsHeld h given m → n < m → m ≤ n + 8
+    → is_held (forgets_each qs h) n ≡ true → slice_get given n ≡ Some (slice_index_or (forgets_each qs h).octets (n % 8) [])
+octets_less qs h given m n is before near known =
+    let less = each_less qs h is.room.known in
     is.octets n before near (less.known n known)
     ∙ ap (λ (xs : List (List ℕ)). Some (slice_index_or xs (n % 8) [])) (sym less.octets)
 
 pub held_less : (qs : List Spot) (h : Held) (given : List (List ℕ)) (m : ℕ) → IsHeld h given m → IsHeld (forgets_each qs h) given m
 held_less qs h given m is =
-    let less = each_less qs h is.marks in
-    record {
-      room = ap (λ (xs : List (List ℕ)). length xs) less.octets ∙ is.room;
-      marks = less.marks;
-      octets = λ n before near known. octets_less (forgets_each qs h) h given m n less is before near known;
-    }
+    record { room = each_room qs h is.room; octets = λ n before near known. octets_less qs h given m n is before near known }
 
 -- a number more may have gone
 pub held_more : (qs : List Spot) (h : Held) (given : List (List ℕ)) (m : ℕ) → IsHeld h given m
-    → (is_held (forgets_each qs h) m ≡ true → ⊥) → IsHeld (forgets_each qs h) given (m + 1)
-held_more qs h given m is none =
-    let less = each_less qs h is.marks in
-    record {
-      room = ap (λ (xs : List (List ℕ)). length xs) less.octets ∙ is.room;
-      marks = less.marks;
-      octets = λ n before near known. go n before near known (cases_eq n m);
-    }
+    → ((q : Spot) × IsIn q qs × HasSent m q.stand) → IsHeld (forgets_each qs h) given (m + 1)
+held_more qs h given m is at = record {
+  room = each_room qs h is.room;
+  octets = λ n before near known. go n before near known (cases_eq n m);
+}
   where
     is_before : (n : ℕ) → n < m + 1 → (n ≡ m → ⊥) → n < m
     is_before n a b = omega (arith, a, b)
@@ -260,9 +211,9 @@ held_more qs h given m is none =
     go : (n : ℕ) → n < m + 1 → m + 1 ≤ n + 8 → is_held (forgets_each qs h) n ≡ true → ((n ≡ m) ⊎ (n ≡ m → ⊥))
         → slice_get given n ≡ Some (slice_index_or (forgets_each qs h).octets (n % 8) [])
     go n before near known (inl e) =
-        absurd (none (subst (λ k. is_held (forgets_each qs h) k ≡ true) e known))
-    go n before near known (inr ne) =
-        octets_less (forgets_each qs h) h given m n (each_less qs h is.marks) is (is_before n before ne) (is_near n near) known
+        absurd ((each_less qs h is.room.known).gone m at.0.stand (at.0, at.1, refl) at.2
+        (subst (λ k. is_held (forgets_each qs h) k ≡ true) e known))
+    go n before near known (inr ne) = octets_less qs h given m n is (is_before n before ne) (is_near n near) known
 
 -- ---- octets that are known of each number
 

@@ -1,22 +1,9 @@
 -- Places of an end each of which stands no better than one session, in which all is heard and taken as it is shown: what
 -- it sends with a number is what the session allows.
-use Rattle.std.proofs.Common.{◌≡◌, inl, inr, arith, Bool, true, false, List, [], ◌∷◌, ◌++◌, Some, None, Option, refl, sym, ap, ◌∙◌, subst}
+use Rattle.x25_judge.proofs.verdicts.Names.{◌≡◌, inl, inr, arith, Bool, true, false, List, [], ◌∷◌, ◌++◌, Some, None, Option, refl, sym, ap, ◌∙◌, subst, both_ways, cond_both, cond-true, none-some, cond_some, comes, IsIn, Place, at, counts, fresh, heard, may_answer, may_count, goes, is_plain, least_of, number_of, onward, settle, settled, upward, Frame, Info, Ready, Ua, Unread, Numbers, Stand, Out, Asking, Up, Free, IsPassed, counted_at, swaps, AreBelow, Below, below_on, below_self, counts_more, heard_below, onward_up}
+use Rattle.x25_possible_links.specs.laws.Places.{first, sends}
 use Rattle.std.specs.Prelude.{if◌then◌else◌}
-use Rattle.std.proofs.lemmas.Bool.{both_ways, cond_both}
-use Rattle.std.proofs.lemmas.Option.{none-some, cond_some}
-use Rattle.x25_judge.specs.laws.Session.{comes}
-use Rattle.x25_possible.specs.laws.Possible.{IsIn, Place, at}
-use Rattle.x25_possible_links.specs.laws.Link.{counts, fresh, heard, may_answer, may_count}
-use Rattle.x25_possible_links.specs.laws.Places.{first, goes, is_plain, least_of, number_of, onward, sends, settle, settled, upward}
 use Rattle.x25_possible_links.specs.laws.Places as place
-use Rattle.x25_possible_links.specs.declared.frame.Frame.{Frame}
-use Rattle.x25_possible_links.specs.declared.frame.Frame.TheVariants.{Info, Ready, Sabm, Disc, Ua, Dm, Frmr, Unread, Before}
-use Rattle.x25_possible_links.specs.declared.stand.Numbers.{Numbers}
-use Rattle.x25_possible_links.specs.declared.stand.Stand.{Stand}
-use Rattle.x25_possible_links.specs.declared.stand.Stand.TheVariants.{Out, Asking, Up, Free}
-use Rattle.x25_possible_links.proofs.Alike.{IsPassed}
-use Rattle.x25_possible_links.proofs.Sends.{counted_at, swaps}
-use Rattle.x25_possible_links.proofs.Stands.{AreBelow, Below, below_on, below_self, counts_more, heard_below, onward_up}
 
 -- ---- a session
 
@@ -40,18 +27,9 @@ IsWithin k p = Fits k (comes p.way p.state)
 -- ---- what is made the best of at once
 
 plain_on : (s : Stand) (x : Frame) → is_plain s x ≡ true → upward s x ≡ onward s x
-plain_on Asking (Info ns nr d) e = refl
-plain_on Asking (Ready nr) e = refl
-plain_on Asking Dm e = refl
-plain_on Asking Frmr e = refl
 plain_on Asking Ua e = absurd (both_ways false refl e)
 plain_on Asking Unread e = absurd (both_ways false refl e)
-plain_on Asking Sabm e = refl
-plain_on Asking Disc e = refl
-plain_on Asking Before e = refl
-plain_on Out x e = refl
-plain_on (Up k) x e = refl
-plain_on Free x e = refl
+plain_on s x e = refl
 
 pub settled_comes : (way : List Frame) (s : Stand) → comes (settled s way).way (settled s way).state ≡ comes way s
 settled_comes [] s = refl
@@ -71,14 +49,10 @@ comes_on (y ∷ way) s x = comes_on way (upward s y) x
 
 pub heard_sent : (k : Numbers) (x : Frame) → (heard true true k x).sent ≡ k.sent
 heard_sent k (Info ns nr d) = refl
-heard_sent k (Ready nr) = refl
-heard_sent k Unread = refl
 heard_sent k x = refl
 
 pub heard_told : (k : Numbers) (x : Frame) → (heard true true k x).told ≡ k.told
 heard_told k (Info ns nr d) = refl
-heard_told k (Ready nr) = refl
-heard_told k Unread = refl
 heard_told k x = refl
 
 pub upward_within : (u : Stand) (k : Numbers) (x : Frame) → Fits k u → Fits (heard true true k x) (upward u x)
@@ -139,45 +113,35 @@ sends_counts s way (Info ns nr d) is = refl
 sends_counts s way (Ready nr) is = refl
 sends_counts s way x is = absurd is
 
+counts_on : (j k : Numbers) (x : Frame) → AreBelow j k → may_count (number_of (Up j) x) (least_of (Up j) x) j x ≡ true
+    → (may_count (number_of (Up k) x) (least_of (Up k) x) k x ≡ true) × AreBelow (counted_at j x) (counted_at k x)
+counts_on j k x b may =
+    let more = counts_more (number_of (Up j) x) (least_of (Up j) x) (Up j) (Up k) x (Up (counted_at j x)) b
+    (cond-true (may_count (number_of (Up j) x) (least_of (Up j) x) j x) (Some (Up (counted_at j x))) None may) in
+    let there = cond_some (may_count (number_of (Up k) x) (least_of (Up k) x) k x) (Up (counted_at k x)) more.0 more.1 in
+    (there.0, subst (Below (Up (counted_at j x))) (sym there.1) more.2)
+
 at_up : (k j : Numbers) (way : List Frame) (x : Frame) (r : Stand) → counts (number_of (Up j) x) (least_of (Up j) x) (Up j) x ≡ Some r
     → Fits k (comes way (Up j)) → Allows k x (at r way)
-at_up k j way x r e b = record {
-  may = there.0;
-  within = subst (λ u. Fits (counted_at k x) (comes way u)) here.1
-      (subst (Fits (counted_at k x))
-      (sym (up_comes way (counted_at j x) ∙ ap (λ (i : Numbers). Up i) (all_swaps way j x)))
-      (subst (λ u. Below u (Up (counted_at k x))) (sym at_all.1) (subst (λ u. Below all.0 u) (sym there.1) more.2)));
-}
-  where
-    above : AreBelow (hears_all way j) k
-    above = subst (Fits k) (up_comes way j) b
-
-    here : (may_count (number_of (Up j) x) (least_of (Up j) x) j x ≡ true) × (Up (counted_at j x) ≡ r)
-    here = cond_some (may_count (number_of (Up j) x) (least_of (Up j) x) j x) (Up (counted_at j x)) r e
-
-    all : (c : Stand) × (counts (number_of (Up (hears_all way j)) x) (least_of (Up (hears_all way j)) x) (Up (hears_all way j)) x ≡ Some c) × Below r c
-    all = counts_more (number_of (Up j) x) (least_of (Up j) x) (Up j) (Up (hears_all way j)) x r (up_better way j) e
-
-    at_all : (may_count (number_of (Up (hears_all way j)) x) (least_of (Up (hears_all way j)) x) (hears_all way j) x ≡ true)
-        × (Up (counted_at (hears_all way j) x) ≡ all.0)
-    at_all = cond_some (may_count (number_of (Up (hears_all way j)) x) (least_of (Up (hears_all way j)) x) (hears_all way j) x)
-        (Up (counted_at (hears_all way j) x)) all.0 all.1
-
-    more : (c : Stand) × (counts (number_of (Up k) x) (least_of (Up k) x) (Up k) x ≡ Some c) × Below all.0 c
-    more = counts_more (number_of (Up (hears_all way j)) x) (least_of (Up (hears_all way j)) x) (Up (hears_all way j)) (Up k) x all.0 above all.1
-
-    there : (may_count (number_of (Up k) x) (least_of (Up k) x) k x ≡ true) × (Up (counted_at k x) ≡ more.0)
-    there = cond_some (may_count (number_of (Up k) x) (least_of (Up k) x) k x) (Up (counted_at k x)) more.0 more.1
+at_up k j way x r e b =
+    let here = cond_some (may_count (number_of (Up j) x) (least_of (Up j) x) j x) (Up (counted_at j x)) r e in
+    let all = counts_on j (hears_all way j) x (up_better way j) here.0 in
+    let more = counts_on (hears_all way j) k x (subst (Fits k) (up_comes way j) b) all.0 in
+    record {
+      may = more.0;
+      within = subst (λ u. Fits (counted_at k x) (comes way u)) here.1
+          (subst (Fits (counted_at k x))
+          (sym (up_comes way (counted_at j x) ∙ ap (λ (i : Numbers). Up i) (all_swaps way j x))) more.1);
+    }
 
 found_within : (k : Numbers) (s : Stand) (way : List Frame) (x : Frame) (r : Stand) → IsNumber x → sends s way x ≡ Some r
     → Fits k (comes way s) → Allows k x (at r way)
 found_within k s way x r is e b = go s (sym (sends_counts s way x is) ∙ e) b
   where
     go : (s : Stand) → counts (number_of s x) (least_of s x) s x ≡ Some r → Fits k (comes way s) → Allows k x (at r way)
-    go Out h c = absurd (none-some r h)
-    go Asking h c = absurd (none-some r h)
     go (Up j) h c = at_up k j way x r h c
     go Free h c = absurd (subst (Fits k) (free_comes way) c)
+    go s h c = absurd (none-some r h)
 
 first_within : (k : Numbers) (s : Stand) (way : List Frame) (x : Frame) (o : Option Stand) (later : List (Place Stand Frame))
     (m : Place Stand Frame) → IsNumber x → sends s way x ≡ o → Fits k (comes way s) → (IsIn m later → Allows k x m)

@@ -1,33 +1,16 @@
 -- A station of ours keeps the rules, whatever the other end and the line do.
-use Rattle.std.proofs.Common.{◌≡◌, ℕ, ◌+◌, ◌<◌, ◌≤◌, le_trans, List, [], ◌∷◌, ◌++◌, inl, length, Bool, true, false, Option, Some, None, Result, Ok, Err, refl, sym, ap, ◌∙◌, subst, arith}
-use Rattle.std.proofs.lemmas.List.{length-append}
+use Rattle.x25_judge.proofs.verdicts.Names.{◌≡◌, ℕ, ◌+◌, ◌<◌, ◌≤◌, le_trans, List, [], ◌∷◌, ◌++◌, inl, length, false, Option, Some, None, Result, Ok, Err, refl, sym, ap, ◌∙◌, subst, arith, length-append, same_Some, slice_get_within, n1, PlainFrame, info, rr, rnr, rej, frame_of, ReadsSpelled, FrameError, Short, BadFcs, BadAddress, Settings, other, Peer, fresh_peer, MayHear, Said, Tells, Odd, number_in, EachEventHandsOne, HandsOne, Near, acts, Judge, MayStand, numbered, In, Way, NoSessionIsAccused, NoStationIsAccused, Watched, our_end, IsAny, Begins, Acts, Rests, Says, Comes, Fails}
+use Rattle.x25_line.specs.laws.Said.{said as read_as}
 use Rattle.std.specs.List.{slice_get}
-use Rattle.std.proofs.lemmas.Option.{same_Some, slice_get_within}
-use Rattle.x25_decode.specs.Decoding.{n1}
-use Rattle.x25_frame.specs.Frame.{PlainFrame, info, rr, rnr, rej}
-use Rattle.x25_frame.specs.Reading.{frame_of}
-use Rattle.x25_frame.specs.laws.ReadingLaw.{ReadsSpelled}
-use Rattle.x25_frame.specs.declared.error.FrameError.{FrameError}
-use Rattle.x25_frame.specs.declared.error.FrameError.TheVariants.{Short, BadFcs, BadAddress}
-use Rattle.x25_link.specs.Station.{Settings}
-use Rattle.x25_link.specs.Hearing.{other}
 use Rattle.x25_line.specs.laws.LawsBelow.{Laws}
-use Rattle.x25_line.specs.laws.Peer.{Peer, fresh_peer, MayHear}
-use Rattle.x25_line.specs.laws.Peer as once
-use Rattle.x25_line.specs.laws.StationClaims.{number_in, EachEventHandsOne, HandsOne}
-use Rattle.x25_line.specs.laws.Stations.{Near, acts}
 use Rattle.x25_line.proofs.StationPeers.{Seen, peer_acts}
 use Rattle.x25_line.proofs.StationRuns.{noted_before}
 use Rattle.x25_line.proofs.StationSays.{MayDo}
 use Rattle.x25_line.proofs.StationSends.{AllWithin, within_push, item_at}
-use Rattle.x25_judge.specs.declared.judge.Judge.{Judge}
-use Rattle.x25_judge.specs.laws.Sessions as sessions
-use Rattle.x25_judge.specs.laws.Sessions.{MaySend, MayStand, numbered}
-use Rattle.x25_line.specs.laws.PeerSessions.{In}
-use Rattle.x25_judge.specs.laws.Session.{Way}
-use Rattle.x25_judge.specs.laws.VerdictClaims.{NoSessionIsAccused, NoStationIsAccused}
-use Rattle.x25_judge.specs.laws.Watching.{Watched, our_end, IsAny, Begins, Acts, Rests, Says, Comes, Fails}
+use Rattle.x25_judge.proofs.verdicts.Following.{heard_keeps}
 use Rattle.x25_judge.proofs.verdicts.Lag.{Did, did_nothing, was_given, said, freed, comes_behind, front, at_front, OnLine, empty, one_more, one_more_damaged, one_lost, one_damaged, taken, all_lost}
+use Rattle.x25_line.specs.laws.Peer as once
+use Rattle.x25_judge.specs.laws.Sessions as sessions
 
 module _ (c : Settings) (longest : c.longest ≡ n1) (j : Judge) (since : ℕ) where
   -- the trace, and how far the end is ahead of it
@@ -49,16 +32,11 @@ module _ (c : Settings) (longest : c.longest ≡ n1) (j : Judge) (since : ℕ) w
       fits : (x : ℕ) → x ≤ c.longest → x ≤ 65536
       fits x le = omega (arith, longest)
 
-  same_given : (p q : Peer) (r : Result PlainFrame FrameError) → once.MaySend ⊥ p r q → q.given ≡ p.given
-  same_given p q (Ok (info ns nr pf x)) may = ap (λ (z : Peer). z.given) may.4
-  same_given p q (Ok (rr command nr pf)) may = ap (λ (z : Peer). z.given) may.2
-  same_given p q (Ok (rnr command nr pf)) may = ap (λ (z : Peer). z.given) may.2
-  same_given p q (Ok (rej command nr pf)) may = ap (λ (z : Peer). z.given) may.2
-  same_given p q (Ok f) may = ap (λ (z : Peer). z.given) may
-  same_given p q (Err Short) may = ap (λ (z : Peer). z.given) may
-  same_given p q (Err BadFcs) may = ap (λ (z : Peer). z.given) may
-  same_given p q (Err BadAddress) may = ap (λ (z : Peer). z.given) may
-  same_given p q (Err e) may = absurd may.0
+  same_given : (p q : Peer) (s : Said) → once.MaySay ⊥ p s q → q.given ≡ p.given
+  same_given p q (Tells None nr) may = ap (λ (z : Peer). z.given) may.2
+  same_given p q (Tells (Some x) nr) may = ap (λ (z : Peer). z.given) may.4
+  same_given p q Odd may = absurd may.0
+  same_given p q s may = ap (λ (z : Peer). z.given) may
 
   sends : (before p q : Peer) (way left : Way) (out : List (List ℕ)) (octets : List ℕ) (r : Result PlainFrame FrameError) → frame_of c.role n1 octets ≡ r → once.MaySend ⊥ p r q → q.sent ≤ p.sent + 1
       → AllWithin c.longest p.given → Did c.role before way p left out → Did c.role before way q left (out ++ octets ∷ [])
@@ -75,28 +53,18 @@ module _ (c : Settings) (longest : c.longest ≡ n1) (j : Judge) (since : ℕ) w
   sends before p q way left out octets (Err BadAddress) read may next within d = subst (λ (z : Peer). Did c.role before way z left (out ++ octets ∷ [])) (sym may) (freed p octets left out (ap number_in read) d)
   sends before p q way left out octets (Err e) read may next within d = absurd may.0
 
+  goes_on : {os is : List (List ℕ)} {p q : Peer} {out now : List (List ℕ)} → (h : OnTrace os p out)
+      → Did c.role h.before h.way q h.left now → OnLine (other c.role) h.left is → AllWithin c.longest q.given → OnTrace is q now
+  goes_on h did line within =
+      record { before = h.before; way = h.way; may = h.may; left = h.left; did = did; line = line; within = within; few = h.few }
+
   trace_may : MayDo c ⊥ OnTrace
   trace_may = record {
-    handed = λ os p out packet short h. record {
-      before = h.before;
-      way = h.way;
-      may = h.may;
-      left = h.left;
-      did = was_given p h.left out packet h.did;
-      line = h.line;
-      within = within_push c.longest p.given packet h.within short;
-      few = h.few;
-    };
-    sends = λ os p q out octets may next h. record {
-      before = h.before;
-      way = h.way;
-      may = h.may;
-      left = h.left;
-      did = sends h.before p q h.way h.left out octets (frame_of c.role n1 octets) refl (subst (λ (n : ℕ). once.MaySend ⊥ p (frame_of c.role n octets) q) longest may) next h.within h.did;
-      line = h.line;
-      within = subst (AllWithin c.longest) (sym (same_given p q (frame_of c.role c.longest octets) may)) h.within;
-      few = h.few;
-    };
+    handed = λ os p out packet short h.
+        goes_on h (was_given p h.left out packet h.did) h.line (within_push c.longest p.given packet h.within short);
+    sends = λ os p q out octets may next h.
+        goes_on h (sends h.before p q h.way h.left out octets (frame_of c.role n1 octets) refl (subst (λ (n : ℕ). once.MaySend ⊥ p (frame_of c.role n octets) q) longest may) next h.within h.did)
+        h.line (subst (AllWithin c.longest) (sym (same_given p q (read_as (frame_of c.role c.longest octets)) may)) h.within);
     hears = λ o os p q out may h.
         (let t = taken c.role h.before p h.way h.left o (o ∷ os) os out refl h.line h.did in
         record {
@@ -106,39 +74,13 @@ module _ (c : Settings) (longest : c.longest ≡ n1) (j : Judge) (since : ℕ) w
           left = t.left;
           did = t.did q (subst (λ (n : ℕ). MayHear p (frame_of (other c.role) n o) q) longest may);
           line = t.on_line;
-          within = subst (AllWithin c.longest) (sym (heard_given p q (frame_of (other c.role) c.longest o) may)) h.within;
+          within = heard_keeps (λ given sent. AllWithin c.longest given) p q (read_as (frame_of (other c.role) c.longest o)) may h.within;
           few = h.few;
         });
-    loses = λ os p out i h. record { before = h.before; way = h.way; may = h.may; left = h.left; did = h.did; line = one_lost (other c.role) h.left os i h.line; within = h.within; few = h.few };
-    damages = λ os p out i octets visible h. record {
-      before = h.before;
-      way = h.way;
-      may = h.may;
-      left = h.left;
-      did = h.did;
-      line = one_damaged (other c.role) h.left os i octets visible h.line;
-      within = h.within;
-      few = h.few;
-    };
+    loses = λ os p out i h. goes_on h h.did (one_lost (other c.role) h.left os i h.line) h.within;
+    damages = λ os p out i octets visible h. goes_on h h.did (one_damaged (other c.role) h.left os i octets visible h.line) h.within;
     faultless = λ o os p out ending h never. never;
   }
-    where
-      hearing_given : (b : Bool) (nr : ℕ) (p : Peer) → (once.hearing b nr p).given ≡ p.given
-      hearing_given true nr p = refl
-      hearing_given false nr p = refl
-
-      taking_given : (b : Bool) (x : List ℕ) (p : Peer) → (once.taking b x p).given ≡ p.given
-      taking_given true x p = refl
-      taking_given false x p = refl
-
-      heard_given : (p q : Peer) (r : Result PlainFrame FrameError) → MayHear p r q → q.given ≡ p.given
-      heard_given p q (Ok (info ns nr pf x)) may = ap (λ (z : Peer). z.given) may.3 ∙ taking_given may.1 x (once.hearing may.0 nr p) ∙ hearing_given may.0 nr p
-      heard_given p q (Ok (rr command nr pf)) may = ap (λ (z : Peer). z.given) may.1 ∙ hearing_given may.0 nr p
-      heard_given p q (Ok (rnr command nr pf)) may = ap (λ (z : Peer). z.given) may.1 ∙ hearing_given may.0 nr p
-      heard_given p q (Ok (rej command nr pf)) may = ap (λ (z : Peer). z.given) may.1 ∙ hearing_given may.0 nr p
-      heard_given p q (Ok f) may = ap (λ (z : Peer). z.given) may
-      heard_given p q (Err Short) may = ap (λ (z : Peer). z.given) may
-      heard_given p q (Err x) may = ap (λ (z : Peer). z.given) may
 
 -- ---- traces
 
@@ -158,7 +100,7 @@ module _ (c : Settings) (high : c.window ≤ 7) (longest : c.longest ≡ n1) (re
       record { peer = h.peer; reached = reached; fits = h.fits; room = h.room; told = h.told; within = h.within; down = h.down; up = h.up; fine = λ never. absurd never }
 
   watched : (w : Watched) → IsAny c w → w.near.came_up ≡ false → Watches w
-  watched w (Begins j up any) once =
+  watched w (Begins j up) once =
       record {
         peer = fresh_peer;
         reached = record { before = fresh_peer; way = []; may = sessions.SetUp j (up c.role); left = []; did = did_nothing; line = empty; within = tt; few = omega arith };
@@ -189,7 +131,7 @@ module _ (c : Settings) (high : c.window ≤ 7) (longest : c.longest ≡ n1) (re
         within = r.within;
         few = omega arith;
       })
-  watched w (Says v line octets frame rest out shows is passes h) once =
+  watched w (Says v line octets frame rest out shows is h) once =
       let k = watched v h once in
       let r = k.reached in
       let f = front c.role v.judge r.before r.way octets frame shows.reads is r.may k.peer r.left v.out rest out r.did in
@@ -209,7 +151,7 @@ module _ (c : Settings) (high : c.window ≤ 7) (longest : c.longest ≡ n1) (re
         within = r.within;
         few = one_longer r.way (Some frame) v.since r.few;
       })
-  watched w (Fails v line octets damage broken passes lags h) once =
+  watched w (Fails v line octets damage broken lags h) once =
       let k = watched v h once in
       let r = k.reached in
       moved v k w.judge v.shown v.out (v.back ++ octets ∷ []) (v.since + 1)

@@ -11,13 +11,22 @@ use Rattle.x25_link.specs.Hearing.{other}
 use Rattle.x25_judge.specs.laws.Sessions.{MaySend}
 use Rattle.x25_judge.specs.laws.Session.{IsSetUp, Shows, IsDamaged, IsNumbered, IsSupervisory}
 
--- the judge behind frames with numbers of both ends, none of which breaks a rule or manners
-pub data IsQuiet : Judge → List (List ℕ) → Type 0 where
-  -- the trace has shown a set-up; at most seven I frames may be unacknowledged
-  Starts : (j : Judge) → IsSetUp j → j.window ≤ 7 → IsQuiet j []
-  Follows : (j : Judge) (lines : List (List ℕ)) (line : List ℕ) (end : Role) (octets : List ℕ) (frame : PlainFrame)
-      → Shows line end octets frame → IsNumbered frame → (answer_to j line).is_faulty ≡ false → IsQuiet j lines
-      → IsQuiet (answer_to j line).next (lines ++ line ∷ [])
+-- The judge behind frames with numbers of both ends, where no rule and no manners are told of the end `from`. Where
+-- `Damage` holds octets of the other end may be damaged.
+pub data IsUntold (Damage : Type 0) (from : Role) : Judge → List (List ℕ) → Type 0 where
+  -- the trace has shown a set-up
+  Begins : (j : Judge) → IsSetUp j → IsUntold Damage from j []
+  -- it sends
+  Says : (j : Judge) (lines : List (List ℕ)) (line octets : List ℕ) (frame : PlainFrame)
+      → Shows line from octets frame → IsNumbered frame → (answer_to j line).is_faulty ≡ false
+      → IsUntold Damage from j lines → IsUntold Damage from (answer_to j line).next (lines ++ line ∷ [])
+  -- the other end does, whatever is told of it
+  Comes : (j : Judge) (lines : List (List ℕ)) (line octets : List ℕ) (frame : PlainFrame)
+      → Shows line (other from) octets frame → IsNumbered frame → IsUntold Damage from j lines
+      → IsUntold Damage from (answer_to j line).next (lines ++ line ∷ [])
+  -- octets of it are damaged
+  Fails : (j : Judge) (lines : List (List ℕ)) (line octets : List ℕ) → Damage → IsDamaged line (other from) octets
+      → IsUntold Damage from j lines → IsUntold Damage from (answer_to j line).next (lines ++ line ∷ [])
 
 -- what the end `from` may be behind such lines, each of its own being one that it may send
 pub data IsKept (from : Role) : List (List ℕ) → Peer → Type 0 where
@@ -32,25 +41,6 @@ pub data IsKept (from : Role) : List (List ℕ) → Peer → Type 0 where
   Hears : (lines : List (List ℕ)) (p q : Peer) (line octets : List ℕ) (frame : PlainFrame)
       → Shows line (other from) octets frame → MayHear p (Ok frame) q → IsKept from lines p
       → IsKept from (lines ++ line ∷ []) q
-
--- ---- lines of which nothing is told of one end
-
--- The judge behind frames with numbers of both ends and damaged octets of the other end, where no rule and no manners
--- are told of the end `from`.
-pub data IsUntold (from : Role) : Judge → List (List ℕ) → Type 0 where
-  -- the trace has shown a set-up
-  Begins : (j : Judge) → IsSetUp j → IsUntold from j []
-  -- it sends
-  Says : (j : Judge) (lines : List (List ℕ)) (line octets : List ℕ) (frame : PlainFrame)
-      → Shows line from octets frame → IsNumbered frame → (answer_to j line).is_faulty ≡ false
-      → IsUntold from j lines → IsUntold from (answer_to j line).next (lines ++ line ∷ [])
-  -- the other end does, whatever is told of it
-  Comes : (j : Judge) (lines : List (List ℕ)) (line octets : List ℕ) (frame : PlainFrame)
-      → Shows line (other from) octets frame → IsNumbered frame → IsUntold from j lines
-      → IsUntold from (answer_to j line).next (lines ++ line ∷ [])
-  -- octets of it are damaged
-  Fails : (j : Judge) (lines : List (List ℕ)) (line octets : List ℕ) → IsDamaged line (other from) octets
-      → IsUntold from j lines → IsUntold from (answer_to j line).next (lines ++ line ∷ [])
 
 -- The I frames of an end in such lines carry these packets, number by number from 0 on: each for the first time in its
 -- turn, and the same one each time that its number goes again, which it does not eight behind (sections 2.3.2 and

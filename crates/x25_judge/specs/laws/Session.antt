@@ -1,6 +1,7 @@
 -- One session of a link, as a trace shows it: SABM and UA, and then frames with numbers.
-use Rattle.std.specs.Prelude.{◌≡◌, ℕ, ◌<◌, All, drop, Bool, true, false, not, ◌&&◌, ◌||◌, List, [], ◌∷◌, length, Option}
+use Rattle.std.specs.Prelude.{◌≡◌, ℕ, ◌<◌, All, drop, Bool, true, false, not, ◌&&◌, List, [], ◌∷◌, length, Option}
 use Rattle.std.specs.Prelude.{Some, None, Ok, nat_le}
+use Rattle.std.specs.List.{list_any}
 use Rattle.x25_bits.specs.declared.role.Role.{Role}
 use Rattle.x25_decode.specs.Decoding.{n1, sent_in}
 use Rattle.x25_frame.specs.Frame.{PlainFrame, info, rr, rnr, rej, dm, frmr}
@@ -11,11 +12,13 @@ use Rattle.x25_judge.specs.declared.rule.Rule.{Rule}
 use Rattle.x25_judge.specs.declared.rule.Rule.TheVariants.{NoFrame, UaUnasked, NotUp, Unsent, Falls, OverWindow}
 use Rattle.x25_judge.specs.declared.rule.Rule.TheVariants.{Differs, Packet}
 use Rattle.x25_line.specs.laws.Stations.{is_visible}
+use Rattle.x25_possible.specs.laws.Possible.{IsIn}
 use Rattle.x25_possible_links.specs.code.Steps.{is_below}
 use Rattle.x25_possible_links.specs.laws.Link.{fresh, may_answer}
 use Rattle.x25_possible_links.specs.laws.Places.{upward}
 use Rattle.x25_possible_links.specs.declared.frame.Frame.{Frame}
 use Rattle.x25_possible_links.specs.declared.frame.Frame.TheVariants.{Info, Ready, Unread}
+use Rattle.x25_possible_links.specs.declared.set.LinkSet.{LinkSet}
 use Rattle.x25_possible_links.specs.declared.spots.Spot.{Spot}
 use Rattle.x25_possible_links.specs.declared.stand.Stand.{Stand}
 use Rattle.x25_possible_links.specs.declared.stand.Stand.TheVariants.{Asking, Up}
@@ -25,34 +28,25 @@ abbrev pub comes : List Frame → Stand → Stand
 comes [] s = s
 comes (x ∷ way) s = comes way (upward s x)
 
--- it may begin a session then
-abbrev pub begins_there : List Frame → Spot → Bool
-begins_there way q = is_below fresh (comes (drop q.at way) q.stand)
-
-abbrev pub begins_anywhere : List Frame → List Spot → Bool
-begins_anywhere way [] = false
-begins_anywhere way (q ∷ qs) = begins_there way q || begins_anywhere way qs
+-- and where one of its places does
+abbrev pub come : LinkSet → Spot → Stand
+come set q = comes (drop q.at set.way.items) q.stand
 
 -- no more is known of it: it awaits UA, or all that it has sent, heard and taken is nothing
 abbrev pub is_new : Stand → Bool
 is_new Asking = true
 is_new s = is_below s fresh
 
-abbrev pub are_new : List Frame → List Spot → Bool
-are_new way [] = true
-are_new way (q ∷ qs) = is_new (comes (drop q.at way) q.stand) && are_new way qs
-
 -- a session of the end may begin, with all numbers 0, and no other one may go on
 pub record IsBegun (j : Judge) (from : Role) : Type 0 where
-  pub up : begins_anywhere (own_of from j).set.way.items (own_of from j).set.spots.items ≡ true
-  pub new : are_new (own_of from j).set.way.items (own_of from j).set.spots.items ≡ true
+  pub up : (q : Spot) × IsIn q (own_of from j).set.spots.items × (is_below fresh (come (own_of from j).set q) ≡ true)
+  pub new : (q : Spot) → IsIn q (own_of from j).set.spots.items → is_new (come (own_of from j).set q) ≡ true
   pub octets : length (own_of from j).held.octets ≡ 8
   pub known : length (own_of from j).held.known ≡ 8
 
 -- what may be UA is on the way, or numbers are
 abbrev pub has_answer : List Frame → Bool
-has_answer [] = false
-has_answer (x ∷ way) = may_answer x || has_answer way
+has_answer way = list_any may_answer way
 
 abbrev pub is_number : Frame → Bool
 is_number (Info ns nr differs) = true
@@ -61,8 +55,7 @@ is_number Unread = true
 is_number x = false
 
 abbrev pub has_number : List Frame → Bool
-has_number [] = false
-has_number (x ∷ way) = is_number x || has_number way
+has_number way = list_any is_number way
 
 -- the trace has shown a set-up, and nothing behind it
 abbrev pub IsSetUp : Judge → Type 0
@@ -99,9 +92,9 @@ IsTimely way = length way < 64
 
 -- it is a response with F=1, but for UA
 abbrev pub is_final : PlainFrame → Bool
-is_final (rr command nr pf) = pf && not command
-is_final (rnr command nr pf) = pf && not command
-is_final (rej command nr pf) = pf && not command
+is_final (rr command nr pf) = not command && pf
+is_final (rnr command nr pf) = not command && pf
+is_final (rej command nr pf) = not command && pf
 is_final (dm f) = f
 is_final (frmr f why) = f
 is_final frame = false

@@ -22,7 +22,7 @@ use Rattle.x25_line.specs.laws.Peer.{Peer}
 use Rattle.x25_link.specs.Hearing.{other}
 use Rattle.x25_link.specs.Station.{Settings}
 use Rattle.x25_line.specs.laws.PeerSessions.{Stand}
-use Rattle.x25_judge.specs.laws.Explaining.{IsQuiet, IsKept, IsUntold, Carries}
+use Rattle.x25_judge.specs.laws.Explaining.{IsKept, IsUntold, Carries}
 use Rattle.x25_judge.specs.laws.Sessions.{MaySay, MayStand}
 use Rattle.x25_judge.specs.laws.Session.{IsBegun, Shows, IsNumbered, has_answer, has_number, is_final, is_of_order}
 use Rattle.x25_judge.specs.laws.Session.{is_up, rule_of, Way}
@@ -53,14 +53,14 @@ SilenceMeansOrder =
 -- and the lines of each end are those of an end that keeps the rules
 abbrev pub SilenceMeansRules : Type 0
 SilenceMeansRules =
-    (from : Role) (j : Judge) (lines : List (List ℕ)) → IsQuiet j lines → (own_of from j).set.is_blind ≡ false
+    (from : Role) (j : Judge) (lines : List (List ℕ)) → IsUntold ⊥ from j lines → (own_of from j).set.is_blind ≡ false
     → (p : Peer) × IsKept from lines p
 
 -- and where lines of the other end are damaged, whatever is told of it, each number of an end carries one packet
 abbrev pub SilenceMeansNumbers : Type 0
 SilenceMeansNumbers =
-    (from : Role) (j : Judge) (lines : List (List ℕ)) → IsUntold from j lines → (own_of from j).set.is_blind ≡ false
-    → (given : List (List ℕ)) × Carries from lines given
+    (from : Role) (j : Judge) (lines : List (List ℕ)) → IsUntold (Unit {0}) from j lines
+    → (own_of from j).set.is_blind ≡ false → (given : List (List ℕ)) × Carries from lines given
 
 -- what the judge is behind these lines
 abbrev pub after : Judge → List (List ℕ) → Judge

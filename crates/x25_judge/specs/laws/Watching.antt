@@ -1,5 +1,5 @@
 -- A trace taken in front of a station, beside an end that may be any, line by line.
-use Rattle.std.specs.Prelude.{◌≡◌, ℕ, ◌+◌, ◌%◌, ◌==◌, ◌<◌, ◌≤◌, false, List, [], ◌∷◌, ◌++◌, length, if◌then◌else◌}
+use Rattle.std.specs.Prelude.{◌≡◌, ℕ, ◌+◌, ◌%◌, ◌==◌, ◌<◌, false, List, [], ◌∷◌, ◌++◌, length, if◌then◌else◌}
 use Rattle.x25_frame.specs.Frame.{PlainFrame, info}
 use Rattle.x25_judge.specs.Judge.{answer_to}
 use Rattle.x25_judge.specs.declared.judge.Judge.{Judge}
@@ -32,45 +32,44 @@ abbrev pub more : PlainFrame → List (List ℕ) → List (List ℕ)
 more (info ns nr pf packet) shown = if ns == length shown % 8 then shown ++ packet ∷ [] else shown
 more frame shown = shown
 
--- from a judge on that may begin it, and each of its lines as `Passes` has it; where `Damage` holds, lines of the other
--- end may be damaged, and where `MayLag` does of how many there were, one more may be shown
-pub data IsWatched (MayBegin : Judge → Type 0) (Passes : Judge → List ℕ → Type 0) (Damage : Type 0)
-    (MayLag : ℕ → Type 0) (c : Settings) : Watched → Type 0 where
+-- Lines of the other end are as `Passes` has it. Where `Damage` holds they may be damaged, and where `MayLag` does of
+-- how many there were, one more may be shown.
+pub data IsWatched (Passes : Judge → List ℕ → Type 0) (Damage : Type 0) (MayLag : ℕ → Type 0) (c : Settings)
+    : Watched → Type 0 where
   -- the trace has shown a set-up
-  Begins : (j : Judge) → IsSetUp j → MayBegin j → IsWatched MayBegin Passes Damage MayLag c (watched_from j)
+  Begins : (j : Judge) → IsSetUp j → IsWatched Passes Damage MayLag c (watched_from j)
   -- the station acts; or octets are lost or damaged between the tape and the station
-  Acts : (w : Watched) (act : Act) → IsWatched MayBegin Passes Damage MayLag c w
-      → IsWatched MayBegin Passes Damage MayLag c (acted w (acts c act (our_end w)))
+  Acts : (w : Watched) (act : Act) → IsWatched Passes Damage MayLag c w
+      → IsWatched Passes Damage MayLag c (acted w (acts c act (our_end w)))
   -- nothing is between the tape and the station
-  Rests : (w : Watched) → w.out ≡ [] → w.back ≡ [] → IsWatched MayBegin Passes Damage MayLag c w
-      → IsWatched MayBegin Passes Damage MayLag c (record w { since = 0 })
+  Rests : (w : Watched) → w.out ≡ [] → w.back ≡ [] → IsWatched Passes Damage MayLag c w
+      → IsWatched Passes Damage MayLag c (record w { since = 0 })
   -- octets of the station are on the tape
   Says : (w : Watched) (line octets : List ℕ) (frame : PlainFrame) (rest : List (List ℕ)) → w.out ≡ octets ∷ rest
-      → Shows line c.role octets frame → IsNumbered frame → Passes w.judge line
-      → IsWatched MayBegin Passes Damage MayLag c w
-      → IsWatched MayBegin Passes Damage MayLag c (record w { judge = (answer_to w.judge line).next; out = rest })
+      → Shows line c.role octets frame → IsNumbered frame → IsWatched Passes Damage MayLag c w
+      → IsWatched Passes Damage MayLag c (record w { judge = (answer_to w.judge line).next; out = rest })
   -- octets of the other end are
   Comes : (w : Watched) (line octets : List ℕ) (frame : PlainFrame) → Shows line (other c.role) octets frame
-      → IsNumbered frame → Passes w.judge line → MayLag w.since → IsWatched MayBegin Passes Damage MayLag c w
-      → IsWatched MayBegin Passes Damage MayLag c (record w {
+      → IsNumbered frame → Passes w.judge line → MayLag w.since → IsWatched Passes Damage MayLag c w
+      → IsWatched Passes Damage MayLag c (record w {
         judge = (answer_to w.judge line).next;
         shown = more frame w.shown;
         back = w.back ++ octets ∷ [];
         since = w.since + 1;
       })
   -- they are, and are damaged
-  Fails : (w : Watched) (line octets : List ℕ) → Damage → IsDamaged line (other c.role) octets → Passes w.judge line
-      → MayLag w.since → IsWatched MayBegin Passes Damage MayLag c w
-      → IsWatched MayBegin Passes Damage MayLag c (record w {
+  Fails : (w : Watched) (line octets : List ℕ) → Damage → IsDamaged line (other c.role) octets
+      → MayLag w.since → IsWatched Passes Damage MayLag c w
+      → IsWatched Passes Damage MayLag c (record w {
         judge = (answer_to w.judge line).next;
         back = w.back ++ octets ∷ [];
         since = w.since + 1;
       })
 
--- nothing is told of either end, no line is damaged, and at most seven I frames may be unacknowledged
+-- nothing is told of the other end, and no line is damaged
 abbrev pub IsSilent : Settings → Watched → Type 0
-IsSilent = IsWatched (λ j. j.window ≤ 7) (λ j line. (answer_to j line).is_faulty ≡ false) ⊥ (λ n. Unit {0})
+IsSilent = IsWatched (λ j line. (answer_to j line).is_faulty ≡ false) ⊥ (λ n. Unit {0})
 
 -- Whatever is told. Of any 64 lines of the other end nothing is between the tape and the station behind one of them.
 abbrev pub IsAny : Settings → Watched → Type 0
-IsAny = IsWatched (λ j. Unit {0}) (λ j line. Unit {0}) (Unit {0}) (λ n. n < 64)
+IsAny = IsWatched (λ j line. Unit {0}) (Unit {0}) (λ n. n < 64)

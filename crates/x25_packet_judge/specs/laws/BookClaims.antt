@@ -13,7 +13,7 @@ use Rattle.x25_packet_judge.specs.declared.book.Book.{Book}
 use Rattle.x25_packet_judge.specs.declared.channel.Channel.{Channel}
 use Rattle.x25_packet_judge.specs.declared.layers.Layers.{Layers}
 use Rattle.x25_packet_judge.specs.declared.packet_rule.PacketRule.{PacketRule}
-use Rattle.x25_packet_judge.specs.declared.packet_rule.PacketRule.TheVariants.{RestartAwaited}
+use Rattle.x25_packet_judge.specs.declared.packet_rule.PacketRule.TheVariants as rules
 use Rattle.x25_possible.specs.Channel.{channel_rules, is_polite, sends_as}
 use Rattle.x25_possible.specs.laws.Possible.{IsIn, IsUnexplained, Item, Own, Other, Stands}
 use Rattle.x25_possible.specs.laws.Sets.{Fits}
@@ -78,7 +78,7 @@ pub record BooksTellExactly : Type 0 where
   pub unknown : (b : Book) (from : Role) (channel : ℕ) (packet : PlainPacket) → awaits from packet b ≡ false
       → is_known (asked_of from channel packet b) ≡ false → rule_told from channel packet b ≡ None
   pub early : (b : Book) (from : Role) (channel : ℕ) (packet : PlainPacket) → awaits from packet b ≡ true
-      → rule_told from channel packet b ≡ Some RestartAwaited
+      → rule_told from channel packet b ≡ Some rules.RestartAwaited
   pub awaited : (b : Book) (from : Role) (packet : PlainPacket) (begun : List Phase) (tape : List (Item Packet))
       → awaits from packet b ≡ true → is_quiet from b ≡ false
       → Fits begun tape (end_of from b.restarts)

@@ -1,4 +1,4 @@
-use Rattle.x25_judge.proofs.verdicts.Silences.{silence_means_rules}
+use Rattle.x25_judge.proofs.verdicts.Numbering.{silence_means_rules}
 use Rattle.x25_judge.proofs.law.silence_means_rules_kept.Goals as goal
 
 pub returns : goal.returns
