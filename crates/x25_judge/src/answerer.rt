@@ -6,15 +6,14 @@ use crate::judge::{Judge, MOST_ANSWER, Strictness};
 use std::alloc::{AllocError, Global};
 use x25_decode::{Reading, long_lines_send_nothing};
 use x25_io::{Failed, Fault, LineTaker, Output, Sink, split_loose};
-use x25_text::{MOST_OCTETS, ROOM, Text};
+use x25_text::{MOST_OCTETS, ROOM};
 
-/// The answer to the last line, text that waits to be written, and the judge.
+/// The octets of the last line, the answers that wait to be written, and the judge.
 ///
 /// Its buffers are made by `new`; no other call is refused for want of memory.
 #[derive(Drop)]
 pub(crate) struct Answerer {
     octets: [u8; MOST_OCTETS],
-    answer: Text,
     output: Output,
     judge: Judge,
     loose: bool,
@@ -23,7 +22,7 @@ pub(crate) struct Answerer {
 
 impl Answerer {
     ghost use Rattle.std.specs.Prelude.{◌≡◌, ◌<◌, ◌≤◌, ◌++◌, [], ℕ, List, Option, true, false, ◌||◌, IfOk, OnOk, OnErr};
-    ghost use Rattle.std.specs.Prelude.{MatchOption, MatchResult};
+    ghost use Rattle.std.specs.Prelude.{◌+◌, MatchOption, MatchResult};
     ghost use Rattle.x25_io.specs.HeldLine.{most_line};
     ghost use Rattle.x25_io.specs.code.Written.{AppendsPrefix, Tells, TellsMore};
     ghost use Rattle.x25_judge.specs.Answerer.{reply};
@@ -43,12 +42,10 @@ impl Answerer {
         ensures empty { IfOk result (λ a. a.output ≡ []) }
         ensures faultless { IfOk result (λ a. a.is_faulty ≡ false) }
     {
-        let answer = Text::new(alloc)?;
         let output = Output::new(alloc)?;
         let judge = Judge::new(alloc, at, window, reading, strictness)?;
         Ok(Answerer {
             octets: [0; MOST_OCTETS],
-            answer,
             output,
             judge,
             loose,
@@ -58,9 +55,10 @@ impl Answerer {
 
     /// The answer to a line, `None` where it is too long; whether it counts is answered.
     fn judge_line(&mut self, line: Option<&[u8]>) -> bool
+        requires room { length self.old.output + MOST_ANSWER ≤ ROOM }
         ensures text { (first : List ℕ) → MatchOption line.entry (most_line < length first) (λ held. (held.now ≡ first)
             × (length first ≤ most_line))
-            → self.new.answer ≡ (answer_to self.old.judge first).text }
+            → self.new.output ≡ self.old.output ++ (answer_to self.old.judge first).text }
         ensures next { (first : List ℕ) → MatchOption line.entry (most_line < length first) (λ held. (held.now ≡ first)
             × (length first ≤ most_line))
             → self.new.judge ≡ (answer_to self.old.judge first).next }
@@ -68,16 +66,16 @@ impl Answerer {
             → MatchOption line.entry (most_line < length first) (λ held. (held.now ≡ first)
             × (length first ≤ most_line))
             → result ≡ (answer_to self.old.judge first).counts }
-        ensures output { self.new.output ≡ self.old.output }
         ensures before { self.new.is_faulty ≡ self.old.is_faulty }
         ensures loose { self.new.loose ≡ self.old.loose }
     {
-        self.answer.clear();
         match line {
-            Some(line) => self.judge.answer(line, &mut self.octets, &mut self.answer),
+            Some(line) => self
+                .judge
+                .answer(line, &mut self.octets, self.output.text()),
             None => {
                 long_lines_send_nothing();
-                self.answer.push(b"? 60\n");
+                self.output.text().push(b"? 60\n");
                 true
             }
         }
@@ -95,17 +93,18 @@ impl Answerer {
             (λ _. AppendsPrefix old (W.contents writer.new) (told ++ (answer_to self.old.judge first).text)) }
         ensures next { (first : List ℕ) → MatchOption line.entry (most_line < length first) (λ held. (held.now ≡ first)
             × (length first ≤ most_line))
-            → self.new.judge ≡ (answer_to self.old.judge first).next }
+            → OnOk result (self.new.judge ≡ (answer_to self.old.judge first).next) }
         ensures is_faulty { (first : List ℕ)
             → MatchOption line.entry (most_line < length first) (λ held. (held.now ≡ first)
-            × (length first ≤ most_line))
-            → self.new.is_faulty ≡ (self.old.is_faulty || (answer_to self.old.judge first).counts) }
+            × (length first ≤ most_line)) → OnOk result (self.new.is_faulty ≡ (self.old.is_faulty
+            || (answer_to self.old.judge first).counts)) }
         ensures loose { self.new.loose ≡ self.old.loose }
         ensures marked { OnErr result (W.is_marked writer.new ≡ true) }
     {
+        self.output.make_room(MOST_ANSWER, writer)?;
         let counts = self.judge_line(line);
         self.is_faulty |= counts;
-        self.output.tell(self.answer.as_slice(), writer)
+        Ok(())
     }
 
     /// Answers a line, and before that tells what stands beside what it asks.

@@ -199,6 +199,7 @@ fn blind_note(was: bool, is: bool) -> Option<Note>
 }
 
 /// Its numbers, where octets that spell no frame were none; where it isn't in a session then, where they were any.
+#[inline(always)]
 fn numbers(set: &LinkSet) -> Stand
     ensures { result ≡ definition.numbers set.now }
 {
@@ -396,6 +397,7 @@ impl Minding {
     }
 
     /// A command.
+    #[inline(always)]
     fn asks(self, p: bool) -> Minding
         ensures { result ≡ definition.asks p self }
     {
@@ -407,6 +409,7 @@ impl Minding {
     }
 
     /// A response, where it is shown or not what it may answer.
+    #[inline(always)]
     fn answers(self, f: bool, is_shown: bool) -> Minding
         ensures { result ≡ definition.answers f is_shown self }
     {
@@ -417,6 +420,7 @@ impl Minding {
         }
     }
 
+    #[inline(always)]
     fn bits(self, command: bool, pf: bool, is_shown: bool) -> Minding
         ensures { result ≡ definition.bits command pf is_shown self }
     {

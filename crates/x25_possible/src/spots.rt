@@ -41,6 +41,7 @@ fn is_same(one: Phase, two: Phase) -> bool
     }
 }
 
+#[inline(always)]
 fn is_there(spots: &[Spot], spot: Spot) -> bool
     ensures { result ≡ definition.is_there spot spots.now }
 {
@@ -53,6 +54,7 @@ fn is_there(spots: &[Spot], spot: Spot) -> bool
 }
 
 /// Adds one that isn't there. False: no room.
+#[inline(always)]
 fn keep(out: &mut Spots, spot: Spot) -> bool
     ensures { definition.made result out.new.items ≡ definition.kept spot out.old.items }
 {
@@ -67,6 +69,7 @@ fn keep(out: &mut Spots, spot: Spot) -> bool
 }
 
 /// Adds all to which it comes from there on. False: no room.
+#[inline(always)]
 fn settle(role: Role, phase: Phase, at: usize, way: &[Packet], out: &mut Spots) -> bool
     ensures { definition.made result out.new.items ≡ definition.settles role at (drop at way.now) phase out.old.items }
 {
@@ -96,6 +99,7 @@ fn settle(role: Role, phase: Phase, at: usize, way: &[Packet], out: &mut Spots) 
 }
 
 /// Adds all that one comes to as the end sends a packet, by the rules, or where that breaks one. False: no room.
+#[inline(always)]
 fn goes(
     breaks: bool,
     role: Role,
@@ -120,6 +124,7 @@ fn goes(
     }
 }
 
+#[inline(always)]
 fn go_all(
     breaks: bool,
     role: Role,

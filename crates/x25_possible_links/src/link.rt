@@ -60,6 +60,7 @@ fn may_number(n: u64, k: Numbers, ns: u8, differs: bool) -> bool
         && (n <= k.sent && (k.sent <= n + 7 && (n < k.acked + 7 && (n == k.sent || !differs))))
 }
 
+#[inline(always)]
 fn up_counts(k: Numbers, frame: Frame) -> Option<Stand>
     requires { IsSmall (Up k) }
     ensures { result ≡ definition.counts (places.number_of (Up k) frame) (places.least_of (Up k) frame) (Up k) frame }
@@ -101,6 +102,7 @@ fn up_counts(k: Numbers, frame: Frame) -> Option<Stand>
 }
 
 /// What has a number, or may have.
+#[inline(always)]
 fn counts(stand: Stand, frame: Frame) -> Option<Stand>
     requires { IsSmall stand }
     ensures { result ≡ definition.counts (places.number_of stand frame) (places.least_of stand frame) stand frame }
@@ -361,6 +363,7 @@ pub(crate) enum Mode {
 }
 
 /// Where it is behind a frame that it sends so, with the way from there on in front of it; None where it can't.
+#[inline(always)]
 pub(crate) fn moves(
     mode: Mode,
     stand: Stand,

@@ -9,15 +9,31 @@ use crate::spots::{
 };
 use crate::stand::Stand;
 use arrayvec::ArrayVec;
+use std::marker::Model;
 
 /// Half of the room for what is on the way.
 const HALF: usize = 64;
+
+/// A list in which places are made: no contract says what it holds.
+#[derive(Drop)]
+struct Spare {
+    list: Spots,
+}
+
+impl Model for Spare {
+    ghost use Rattle.std.specs.Prelude.{◌≡◌};
+
+    ghost Value = { Unit {0} };
+
+    ghost view = { λ s. tt };
+}
 
 /// The places in which an end may be, and what the other one sent that may not have come to all of them.
 #[derive(Drop)]
 pub struct LinkSet {
     pub way: ArrayVec<Frame, 128>,
     pub spots: Spots,
+    spare: Spare,
     /// There was no room for its places once, or it may have missed UA: less is known than the rules say, and told.
     pub is_blind: bool,
 }
@@ -71,6 +87,14 @@ fn has_request(way: &[Frame]) -> bool
     false
 }
 
+/// In place of these.
+fn put(spots: &mut Spots, next: &Spots)
+    ensures { spots.new.items ≡ next.now.items }
+{
+    spots.clear();
+    let _ = spots.try_extend_from_slice(next.as_slice());
+}
+
 impl LinkSet {
     /// Nothing is known of the end, or of what was sent to it.
     pub fn new() -> LinkSet
@@ -86,6 +110,7 @@ impl LinkSet {
         LinkSet {
             way,
             spots,
+            spare: Spare { list: Spots::new() },
             is_blind: false,
         }
     }
@@ -98,6 +123,7 @@ impl LinkSet {
     }
 
     /// Where the one of the places stands that has come farthest, once all has come.
+    #[inline(always)]
     pub fn latest(&self) -> Stand
         ensures { result ≡ definition.latest self.now.spots.items self.now.way.items }
     {
@@ -105,6 +131,7 @@ impl LinkSet {
     }
 
     /// Where it stands once all has come, where octets that spell no frame, of either end, were none.
+    #[inline(always)]
     pub fn plainest(&self) -> Stand
         ensures { result ≡ definition.plainest self.now.spots.items self.now.way.items }
     {
@@ -162,7 +189,11 @@ impl LinkSet {
             return;
         }
         shift_all(count, self.spots.as_mut_slice());
-        let _ = self.way.drain(..count);
+        if count == self.way.len() {
+            self.way.clear();
+        } else {
+            let _ = self.way.drain(..count);
+        }
     }
 
     /// The older half of a way that is full counts as come. An end that awaited UA may have passed over one there.
@@ -177,15 +208,6 @@ impl LinkSet {
         if !self.is_known() {
             self.is_blind = true;
         }
-    }
-
-    /// In these places.
-    fn stands(&mut self, spots: &Spots)
-        ensures { self.new ≡ definition.standing spots.now.items self.old }
-    {
-        self.spots.clear();
-        let _ = self.spots.try_extend_from_slice(spots.as_slice());
-        self.trim();
     }
 
     /// It may be anywhere from there on.
@@ -219,21 +241,22 @@ impl LinkSet {
     fn breaks(&mut self, frame: Frame)
         ensures { self.new ≡ definition.broken frame self.old }
     {
-        let mut spots = Spots::new();
+        self.spare.list.clear();
         if !walk_all(
             Mode::Wrong,
             frame,
             self.spots.as_slice(),
             self.way.as_slice(),
-            &mut spots,
+            &mut self.spare.list,
         ) {
             let at = self.came();
             self.lose(at);
-        } else if spots.is_empty() {
+        } else if self.spare.list.is_empty() {
             let at = self.came();
             self.strays(at);
         } else {
-            self.stands(&spots);
+            put(&mut self.spots, &self.spare.list);
+            self.trim();
         }
     }
 
@@ -246,22 +269,23 @@ impl LinkSet {
         if matches!(frame, Frame::Ua) {
             return Told::Broken(stand);
         }
-        let mut spots = Spots::new();
+        self.spare.list.clear();
         if !walk_all(
             Mode::Skipping,
             frame,
             self.spots.as_slice(),
             self.way.as_slice(),
-            &mut spots,
+            &mut self.spare.list,
         ) {
             let at = self.came();
             self.lose(at);
             Told::Broken(stand)
-        } else if spots.is_empty() {
+        } else if self.spare.list.is_empty() {
             self.breaks(frame);
             Told::Broken(stand)
         } else {
-            self.stands(&spots);
+            put(&mut self.spots, &self.spare.list);
+            self.trim();
             Told::Skips(stand)
         }
     }
@@ -271,21 +295,22 @@ impl LinkSet {
         ensures set { self.new ≡ (definition.sends_to frame self.old).set }
         ensures told { result ≡ (definition.sends_to frame self.old).told }
     {
-        let mut spots = Spots::new();
+        self.spare.list.clear();
         if !walk_all(
             Mode::Right,
             frame,
             self.spots.as_slice(),
             self.way.as_slice(),
-            &mut spots,
+            &mut self.spare.list,
         ) {
             let at = self.came();
             self.lose(at);
             Told::Nothing
-        } else if spots.is_empty() {
+        } else if self.spare.list.is_empty() {
             self.is_unexplained(frame)
         } else {
-            self.stands(&spots);
+            put(&mut self.spots, &self.spare.list);
+            self.trim();
             Told::Nothing
         }
     }

@@ -5,6 +5,7 @@ use Rattle.std.proofs.lemmas.Bool.{eq-eqb, le-leb}
 use Rattle.x25_judge.specs.Judge.{begins as judge_begins}
 use Rattle.x25_possible_links.specs.laws.Link.{asks, answers, begins}
 use Rattle.x25_possible_links.specs.laws.Places.{first}
+use Rattle.x25_possible_links.specs.code.Steps.{set_of}
 use Rattle.x25_possible_links.specs.declared.set.Told.TheVariants.{Skips as SkipsOf}
 use Rattle.x25_judge.specs.Rule.{first as first_rule}
 use Rattle.x25_judge.specs.declared.rule.Rule.TheVariants.{Skips}
@@ -13,13 +14,14 @@ use Rattle.std.proofs.lemmas.List.Folds.{list_any-append}
 use Rattle.x25_possible_links.proofs.Covers.{Covers, Here, Asked, Later, Begins}
 use Rattle.x25_judge.proofs.verdicts.Lines.{Goes, goes, next_goes, other_twice}
 use Rattle.x25_judge.proofs.verdicts.Octets.{HasRoom, each_room, keeps_room}
-use Rattle.x25_judge.proofs.verdicts.Silences.{no_numbers}
+use Rattle.x25_judge.proofs.verdicts.Silences.{no_numbers, saw}
 use Rattle.x25_judge.proofs.verdicts.Silent.{Fits, IsWithin, comes_on, heard_sent, heard_told, settled_comes, settled_within, upward_within}
 use Rattle.x25_judge.proofs.verdicts.Following.{owed_first}
 use Rattle.x25_judge.proofs.verdicts.Innocents.{sent_end}
 use Rattle.x25_judge.proofs.verdicts.Manners.{IsFair, minds_has, small_window}
 use Rattle.x25_judge.specs.Links as links
 use Rattle.x25_possible_links.specs.laws.Places as place
+use Rattle.x25_possible_links.specs.code.Steps.{set_of}
 
 -- ---- a place from which a session may begin
 
@@ -102,7 +104,7 @@ asks_alone Out = refl
 asks_alone s = refl
 
 abbrev set_in : List Frame → List Spot → Bool → LinkSet
-set_in way qs b = record { way = record { items = way }; spots = record { items = qs }; is_blind = b }
+set_in way qs b = record (set_of way qs) { is_blind = b }
 
 abbrev Asks : LinkSet → Type 0
 Asks s = Has (sends_to Sabm s).set (At Asking) []
@@ -113,18 +115,6 @@ asks_in way [] b =
     has_less s.spots.items s.way.items Free Asking [] (trim_has (set_in way [] b) way (spot_at (length way) Free ∷ []) (At Free) [] (free_in (length way) way)) tt
 asks_in way (q ∷ qs) b =
     has_sent (set_in way (q ∷ qs) b) Sabm (At q.stand) (At Asking) [] (sends q.stand Asking [] Sabm 0 0 (asks_alone q.stand)) (first_in q qs way)
-
--- ---- what was blind stays so
-
-saw : (b c : Bool) → (b ≡ true → c ≡ true) → c ≡ false → b ≡ false
-saw true c on e = absurd (both_ways c e (on refl))
-saw false c on e = refl
-
-shown_sees : (x : Frame) (s : LinkSet) → (shows_to x s).is_blind ≡ false → s.is_blind ≡ false
-shown_sees x s room = saw s.is_blind (shows_to x s).is_blind (blind_shows s x) room
-
-sent_sees : (x : Frame) (s : LinkSet) → (sends_to x s).set.is_blind ≡ false → s.is_blind ≡ false
-sent_sees x s room = saw s.is_blind (sends_to x s).set.is_blind (blind_sends s x) room
 
 -- ---- the end that asks
 
@@ -450,14 +440,14 @@ begin_both j from end asks accepts asked accepted p f stays first second asks_we
     by_asker free sees =
         let set = (own_of from j).set in
         begun_by j2 from _ asked_is (asker set)
-        (λ s. asker_new set free (not_told j from (sabm p) Sabm (λ d. refl) asks_well not_up not_up) (shown_sees Ua (sends_to Sabm set).set s) s) sees (still from)
+        (λ s. asker_new set free (not_told j from (sabm p) Sabm (λ d. refl) asks_well not_up not_up) (saw (sends_to Sabm set).set.is_blind (shows_to Ua (sends_to Sabm set).set).is_blind (blind_shows (sends_to Sabm set).set Ua) s) s) sees (still from)
 
     by_answerer : has_number (own_of (other from) j).set.way.items ≡ false → (own_of (other from) j2).set.is_blind ≡ false → IsBegun j2 (other from)
     by_answerer free sees =
         let set = (own_of (other from) j).set in
         begun_by j2 (other from) _
         ((sent_end (other from) j1 accepts accepted (ua f) second).places ∙ ap (λ (s : LinkSet). (sends_to Ua s).set) shown_is)
-        (answerer set untold) (λ s. answerer_new set free (sent_sees Ua (shows_to Sabm set) s) s untold) sees (still (other from))
+        (answerer set untold) (λ s. answerer_new set free (saw (shows_to Sabm set).is_blind (sends_to Ua (shows_to Sabm set)).set.is_blind (blind_sends (shows_to Sabm set) Ua) s) s untold) sees (still (other from))
 
 after_on : (j : Judge) (xs ys : List (List ℕ)) → after j (xs ++ ys) ≡ after (after j xs) ys
 after_on j [] ys = refl

@@ -53,9 +53,6 @@ pub sends_fair : (window : ℕ) (at : Place) (number : ℕ) (is_poll skips : Boo
     → IsFair (manners.sends window at number is_poll skips m).rule
 sends_fair window at number is_poll skips m = from_fair window (manners.seen_place at m) _ _ is_poll skips m
 
-answered_fair : (is_shown : Bool) (m : Manners) → IsFair (manners.answered is_shown m).rule
-answered_fair is_shown m = either (not (m.polls == 0)) _ _ refl (either is_shown _ _ refl refl)
-
 -- ---- with what is said
 
 minded_fair : (told : Told) (window : ℕ) (k : Numbers) (t : Sent) (ns : ℕ) (p differs : Bool) (m : Manners)
@@ -88,7 +85,7 @@ module _ (P : Option Rule → Bool → Type 0)
 
   answers_has : (f is_shown : Bool) (b : Minding) → Has b → Has (answers f is_shown b)
   answers_has f is_shown b h =
-      has_if f _ _ (other_has (manners.answered is_shown b.other) b (answered_fair is_shown b.other) h) h
+      has_if f _ _ (other_has (manners.answered is_shown b.other) b (either (not (b.other.polls == 0)) _ _ refl (either is_shown _ _ refl refl)) h) h
 
   bits_has : (command pf is_shown : Bool) (b : Minding) → Has b → Has (bits command pf is_shown b)
   bits_has command pf is_shown b h = has_if command _ _ (asks_has pf b h) (answers_has pf is_shown b h)

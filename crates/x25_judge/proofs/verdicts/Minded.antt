@@ -55,9 +55,6 @@ module _ (window : ℕ) (t : Sent) (to : LinkSet) (b : Minding) (known : t.facts
   minds_tells (frmr true why) final judged = answers_tell t.facts.is_shown b judged none
   minds_tells frame final judged = absurd (both_ways false refl final)
 
-sure_is_known : (s : LinkSet) → steps.is_certain s ≡ true → steps.is_known s ≡ true
-sure_is_known s sure = (and_parts (steps.is_known s) _ sure).0
-
 -- both ends behind a frame, with manners and all that is said
 module _ (window : ℕ) (frame : PlainFrame) (x : Frame) (was : Bool) (own other : End) where
   abbrev pub t : Sent
@@ -75,7 +72,7 @@ module _ (window : ℕ) (frame : PlainFrame) (x : Frame) (was : Bool) (own other
   judged_is = minds_has (λ r judged. judged ≡ before.seen.is_judged) (λ r m judged fair h. h) window t (steps.shows_to x other.set) frame before refl
 
   final_is : is_final frame ≡ true → (links.sees_as window frame x was own other).seen.is_judged ≡ true → other.manners.polls ≡ 0 → IsTold (links.sees_as window frame x was own other).seen.rule
-  final_is final judged none = minds_tells window t (steps.shows_to x other.set) before (sure_is_known own.set) none frame final
+  final_is final judged none = minds_tells window t (steps.shows_to x other.set) before (λ sure. (and_parts (steps.is_known own.set) _ sure).0) none frame final
       (subst (λ n. links.judges n frame (links.facts own.set) ≡ true) none (sym judged_is ∙ judged))
 
 pub judged_finals_are_told : JudgedFinalsAreTold

@@ -239,10 +239,15 @@ least (q ∷ qs) n = least qs (if nat_lt q.at n then q.at else n)
 -- ---- a set
 
 abbrev pub set_of : List Frame → List Spot → LinkSet
-set_of way spots = record { way = record { items = way }; spots = record { items = spots }; is_blind = false }
+set_of way spots = record {
+  way = record { items = way };
+  spots = record { items = spots };
+  spare = tt;
+  is_blind = false;
+}
 
 abbrev pub set_as : LinkSet → List Frame → List Spot → LinkSet
-set_as s way spots = record { way = record { items = way }; spots = record { items = spots }; is_blind = s.is_blind }
+set_as s way spots = record (set_of way spots) { is_blind = s.is_blind }
 
 -- nothing is known
 abbrev pub unknown : LinkSet
@@ -366,6 +371,7 @@ abbrev pub hastened_to : List Spot → LinkSet → LinkSet
 hastened_to qs s = record {
   way = record { items = drop 64 s.way.items };
   spots = record { items = qs };
+  spare = tt;
   is_blind = if are_known qs then s.is_blind else true;
 }
 

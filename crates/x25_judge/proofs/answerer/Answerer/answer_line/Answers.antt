@@ -19,11 +19,11 @@ pub returns-in-None-clause-next : goal.returns-in-None-clause-next
 returns-in-None-clause-next g c = λ first line.
     let s = c.args.self.now in
     let long = subst (λ o. MatchOption o (most_line < length first) (λ held. (held.now ≡ first) × (length first ≤ most_line))) c.in-None.is line in
-    on_ok_weaker c.answer_asked.result (λ _. c.answer_asked.ensures.next first long ∙ sym (ap (λ (a : Answer). a.next) (long_reply s.loose s.judge first long))) c.answer_asked.ensures.kept
+    on_ok_weaker c.answer_asked.result (λ e. e ∙ sym (ap (λ (a : Answer). a.next) (long_reply s.loose s.judge first long))) (c.answer_asked.ensures.next first long)
 
 pub returns-in-None-clause-is_faulty : goal.returns-in-None-clause-is_faulty
 returns-in-None-clause-is_faulty g c = λ first line.
     let s = c.args.self.now in
     let long = subst (λ o. MatchOption o (most_line < length first) (λ held. (held.now ≡ first) × (length first ≤ most_line))) c.in-None.is line in
     on_ok_weaker c.answer_asked.result
-    (λ _. c.answer_asked.ensures.is_faulty first long ∙ ap (λ b. s.is_faulty || b) (sym (ap (λ (a : Answer). a.counts) (long_reply s.loose s.judge first long)))) c.answer_asked.ensures.kept
+    (λ e. e ∙ ap (λ b. s.is_faulty || b) (sym (ap (λ (a : Answer). a.counts) (long_reply s.loose s.judge first long)))) (c.answer_asked.ensures.is_faulty first long)

@@ -36,7 +36,7 @@ returns-in-Some-clause-next g c = λ few.
     let part = c.in-Some.line.now in
     let found = subst (λ o. MatchOption o (asked s.loose line ≡ None) (λ found. asked s.loose line ≡ Some found.now)) c.in-Some.is (c.split_loose.ensures.asked few) in
     let shorter = subst (λ o. IfSome o (λ found. length found.now ≤ length line)) c.in-Some.is c.split_loose.ensures.shorter in
-    on_ok_weaker c.answer_asked.result (λ _. c.answer_asked.ensures.next part (refl, omega (arith, shorter, few)) ∙ sym (reply_next s.loose s.judge line (Some part) found)) c.answer_asked.ensures.kept
+    on_ok_weaker c.answer_asked.result (λ e. e ∙ sym (reply_next s.loose s.judge line (Some part) found)) (c.answer_asked.ensures.next part (refl, omega (arith, shorter, few)))
 
 pub returns-in-Some-clause-is_faulty : goal.returns-in-Some-clause-is_faulty
 returns-in-Some-clause-is_faulty g c = λ few.
@@ -46,7 +46,7 @@ returns-in-Some-clause-is_faulty g c = λ few.
     let found = subst (λ o. MatchOption o (asked s.loose line ≡ None) (λ found. asked s.loose line ≡ Some found.now)) c.in-Some.is (c.split_loose.ensures.asked few) in
     let shorter = subst (λ o. IfSome o (λ found. length found.now ≤ length line)) c.in-Some.is c.split_loose.ensures.shorter in
     on_ok_weaker c.answer_asked.result
-    (λ _. c.answer_asked.ensures.is_faulty part (refl, omega (arith, shorter, few)) ∙ ap (λ b. s.is_faulty || b) (sym (reply_counts s.loose s.judge line (Some part) found))) c.answer_asked.ensures.kept
+    (λ e. e ∙ ap (λ b. s.is_faulty || b) (sym (reply_counts s.loose s.judge line (Some part) found))) (c.answer_asked.ensures.is_faulty part (refl, omega (arith, shorter, few)))
 
 pub returns-in-None-clause-tells : goal.returns-in-None-clause-tells
 returns-in-None-clause-tells g c = λ few old told h.
