@@ -26,10 +26,7 @@ pub record IsHeld (h : Held) (given : List (List ℕ)) (m : ℕ) : Type 0 where
       → slice_get given n ≡ Some (slice_index_or h.octets (n % 8) [])
 
 pub begun_held : (h : Held) (given : List (List ℕ)) → HasRoom h → IsHeld h given 0
-begun_held h given room = record { room = room; octets = λ n lt low is. absurd (never n lt) }
-  where
-    never : (n : ℕ) → n < 0 → ⊥
-    never n lt = omega arith
+begun_held h given room = record { room = room; octets = λ n lt low is. absurd (omega (arith, lt)) }
 
 pushed : (xs : List (List ℕ)) (x y : List ℕ) (n : ℕ) → slice_get xs n ≡ Some y → slice_get (xs ++ x ∷ []) n ≡ Some y
 pushed [] x y n h = cc
@@ -62,12 +59,6 @@ sent_held h given m n ns nr pf packet number le near fits same is = record {
     apart_from : (k : ℕ) → k < max m (n + 1) → max m (n + 1) ≤ k + 8 → (k ≡ n → ⊥) → (k % 8 ≡ ns % 8 → ⊥)
     apart_from k before low ne e = omega (arith, number, le, near, ne)
 
-    is_old : (k : ℕ) → k < max m (n + 1) → (k ≡ n → ⊥) → k < m
-    is_old k before ne = omega (arith, le, ne)
-
-    is_near : (k : ℕ) → max m (n + 1) ≤ k + 8 → m ≤ k + 8
-    is_near k low = omega arith
-
     go : (k : ℕ) → k < max m (n + 1) → max m (n + 1) ≤ k + 8
         → slice_index_or (slice_set h.known (ns % 8) (nat_le (length packet) ROOM)) (k % 8) false ≡ true
         → ((k ≡ n) ⊎ (k ≡ n → ⊥))
@@ -78,7 +69,7 @@ sent_held h given m n ns nr pf packet number le near fits same is = record {
         ∙ get_or-set_same h.octets (ns % 8) (kept packet) [] in_room ∙ cond-true (nat_le (length packet) ROOM) packet [] (le-leb (length packet) ROOM fits) in
         ap (λ x. slice_get given x) e ∙ same ∙ ap (λ (x : List ℕ). Some x) (sym here)
     go k before low known (inr ne) =
-        is.octets k (is_old k before ne) (is_near k low)
+        is.octets k (omega (arith, before, le, ne)) (omega (arith, low))
         (sym (get_or-set_other h.known (ns % 8) (k % 8) (nat_le (length packet) ROOM) false (apart_from k before low ne)) ∙ known)
         ∙ ap (λ (x : List ℕ). Some x)
         (sym (get_or-set_other h.octets (ns % 8) (k % 8) (kept packet) [] (apart_from k before low ne)))
@@ -202,18 +193,12 @@ held_more qs h given m is at = record {
   octets = λ n before near known. go n before near known (cases_eq n m);
 }
   where
-    is_before : (n : ℕ) → n < m + 1 → (n ≡ m → ⊥) → n < m
-    is_before n a b = omega (arith, a, b)
-
-    is_near : (n : ℕ) → m + 1 ≤ n + 8 → m ≤ n + 8
-    is_near n a = omega (arith, a)
-
     go : (n : ℕ) → n < m + 1 → m + 1 ≤ n + 8 → is_held (forgets_each qs h) n ≡ true → ((n ≡ m) ⊎ (n ≡ m → ⊥))
         → slice_get given n ≡ Some (slice_index_or (forgets_each qs h).octets (n % 8) [])
     go n before near known (inl e) =
         absurd ((each_less qs h is.room.known).gone m at.0.stand (at.0, at.1, refl) at.2
         (subst (λ k. is_held (forgets_each qs h) k ≡ true) e known))
-    go n before near known (inr ne) = octets_less qs h given m n is (is_before n before ne) (is_near n near) known
+    go n before near known (inr ne) = octets_less qs h given m n is (omega (arith, before, ne)) (omega (arith, near)) known
 
 -- ---- octets that are known of each number
 
@@ -237,19 +222,13 @@ sent_known h m n ns nr pf packet number le fits marks are k before near = go (ca
     in_room : ns % 8 < length h.known
     in_room = rw marks (omega arith)
 
-    is_old : (k % 8 ≡ ns % 8 → ⊥) → k < m
-    is_old ne = omega (arith, before, ne, at, le)
-
-    is_near : m ≤ k + 8
-    is_near = omega (arith, near)
-
     go : ((k % 8 ≡ ns % 8) ⊎ (k % 8 ≡ ns % 8 → ⊥))
         → slice_index_or (slice_set h.known (ns % 8) (nat_le (length packet) ROOM)) (k % 8) false ≡ true
     go (inl e) =
         ap (λ i. slice_index_or (slice_set h.known (ns % 8) (nat_le (length packet) ROOM)) i false) e
         ∙ get_or-set_same h.known (ns % 8) (nat_le (length packet) ROOM) false in_room ∙ le-leb (length packet) ROOM fits
     go (inr ne) =
-        get_or-set_other h.known (ns % 8) (k % 8) (nat_le (length packet) ROOM) false ne ∙ are k (is_old ne) is_near
+        get_or-set_other h.known (ns % 8) (k % 8) (nat_le (length packet) ROOM) false ne ∙ are k (omega (arith, before, ne, at, le)) (omega (arith, near))
 
 -- octets that don't differ from known ones are the same
 pub old_octets : (h : Held) (given : List (List ℕ)) (m n ns nr : ℕ) (pf : Bool) (packet : List ℕ) → ns ≡ n % 8 → n < m → m ≤ n + 7

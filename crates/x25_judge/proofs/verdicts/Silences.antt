@@ -48,11 +48,8 @@ begun_knows j from b room = record {
   within = λ q is. fits_new (come (own_of from j).set q) (b.new q is);
   all = refl;
   octets = begun_held (own_of from j).held [] (record { octets = b.octets; known = b.known });
-  known = λ n lt near. absurd (never n lt);
+  known = λ n lt near. absurd (omega (arith, lt));
 }
-  where
-    never : (n : ℕ) → n < 0 → ⊥
-    never n lt = omega arith
 
 -- the end was handed down a packet or not, and may send the frame
 pub record Given (p : Peer) (frame : PlainFrame) (q : Peer) : Type 0 where
