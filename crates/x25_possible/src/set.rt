@@ -6,8 +6,8 @@ use crate::channel::dropped;
 use crate::packet::Packet;
 use crate::phase::Phase;
 use crate::spots::{
-    Spot, Spots, anew, are_answered, are_at_end, are_bound, found_all, gone, grown, is_one_idle,
-    latest, rude,
+    Spot, Spots, are_answered, are_at_end, are_bound, found_all, gone, grown, is_one_idle, latest,
+    renew, rude,
 };
 use arrayvec::ArrayVec;
 use x25_bits::Role;
@@ -209,15 +209,12 @@ impl Set {
         let _ = self.spots.try_extend_from_slice(spots.as_slice());
     }
 
-    /// Where all have come to the end of the way, nothing is on it. `next` is overwritten.
-    fn trim(&mut self, next: &mut Spots)
+    /// Where all have come to the end of the way, nothing is on it.
+    fn trim(&mut self)
         ensures { self.new ≡ definition.trimmed self.old }
     {
-        if self.is_awaiting()
-            && are_at_end(&self.spots, self.way.len())
-            && anew(&self.spots, next)
-        {
-            self.take(next);
+        if self.is_awaiting() && are_at_end(&self.spots, self.way.len()) {
+            renew(&mut self.spots);
             self.way.clear();
         }
     }
@@ -274,7 +271,7 @@ impl Set {
             Knowledge::Likely
         };
         self.take(spots);
-        self.trim(spots);
+        self.trim();
     }
 
     /// A packet of an end that may be anywhere on the way.
@@ -315,7 +312,7 @@ impl Set {
             return Told::Nothing;
         }
         let told = self.goes(packet, &mut next);
-        self.trim(&mut next);
+        self.trim();
         told
     }
 
@@ -364,6 +361,6 @@ impl Set {
         }
         let mut next = Spots::new();
         self.grows(packet, &mut next);
-        self.trim(&mut next);
+        self.trim();
     }
 }

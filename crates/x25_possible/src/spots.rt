@@ -1,5 +1,5 @@
 //! The states in which an end may be, in a fixed room: each with the place on the way up to which it has come.
-ghost use Rattle.std.specs.Prelude.{◌≡◌, None, [], drop, true};
+ghost use Rattle.std.specs.Prelude.{◌≡◌, ◌≤◌, None, Some, [], drop, length, take, true};
 ghost use Rattle.x25_possible.specs.code.Steps as definition;
 ghost use Rattle.x25_possible.specs.declared.phase.Phase.TheVariants.{Idle};
 
@@ -216,22 +216,31 @@ fn is_past(spots: &[Spot], end: usize) -> bool
     true
 }
 
-/// Adds all, with nothing on the way. False: no room.
-fn anew_all(spots: &[Spot], out: &mut Spots) -> bool
-    ensures { definition.made result out.new.items ≡ definition.anew spots.now out.old.items }
+/// Nothing is on the way any more. Those that are kept stand in front, and are counted.
+fn renew_all(spots: &mut [Spot]) -> usize
+    requires { length spots.old ≤ 8 }
+    ensures kept { Some (take result spots.new) ≡ definition.anew spots.old [] }
 {
-    for spot in spots {
-        if !keep(
-            out,
-            Spot {
-                phase: spot.phase,
-                at: 0,
-            },
-        ) {
-            return false;
+    let mut count = 0;
+    for index in 0..spots.len() {
+        let spot = Spot {
+            phase: spots[index].phase,
+            at: 0,
+        };
+        if !is_there(&spots[..count], spot) {
+            spots[count] = spot;
+            count += 1;
         }
     }
-    true
+    count
+}
+
+/// Nothing is on the way any more: what is there twice then is left out.
+pub(crate) fn renew(spots: &mut Spots)
+    ensures { Some spots.new.items ≡ definition.anew spots.old.items [] }
+{
+    let count = renew_all(spots.as_mut_slice());
+    spots.truncate(count);
 }
 
 // ---- a new list. False: no room
@@ -264,13 +273,6 @@ pub(crate) fn grown(
 {
     out.clear();
     grow_all(role, spots.as_slice(), last, way.as_slice(), out)
-}
-
-pub(crate) fn anew(spots: &Spots, out: &mut Spots) -> bool
-    ensures { definition.made result out.new.items ≡ definition.anew spots.now.items [] }
-{
-    out.clear();
-    anew_all(spots.as_slice(), out)
 }
 
 /// Where an end is behind a packet that may have been anywhere on the way.

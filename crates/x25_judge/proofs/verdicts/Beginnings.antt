@@ -5,7 +5,6 @@ use Rattle.std.proofs.lemmas.Bool.{eq-eqb, le-leb}
 use Rattle.x25_judge.specs.Judge.{begins as judge_begins}
 use Rattle.x25_possible_links.specs.laws.Link.{asks, answers, begins}
 use Rattle.x25_possible_links.specs.laws.Places.{first}
-use Rattle.x25_possible_links.specs.code.Steps.{set_of}
 use Rattle.x25_possible_links.specs.declared.set.Told.TheVariants.{Skips as SkipsOf}
 use Rattle.x25_judge.specs.Rule.{first as first_rule}
 use Rattle.x25_judge.specs.declared.rule.Rule.TheVariants.{Skips}
