@@ -5,7 +5,7 @@ the clock, and peak memory.
     sim.py [LINES [RUNS [PROGRAM]]]
 
 The kinds: a random script that `tools/losses.py` writes; one that leaves its frames on the line; and such a one whose last third loses
-them from the middle of the line, or damages the one in the middle.
+them from the middle of the line, or damages the one in the middle (of a longer line the furthest that a line of a script can name).
 """
 import os
 import sys
@@ -20,6 +20,8 @@ runs = int(sys.argv[2]) if len(sys.argv) > 2 else 3
 program = sys.argv[3] if len(sys.argv) > 3 else os.path.join(TOP, "build", "x25")
 
 POLLS = 240
+# The most that a place of a script's line can be.
+FURTHEST = 65_535
 
 
 def frames_left(count):
@@ -31,12 +33,12 @@ def frames_left(count):
 
 def lost_from_the_middle(count):
     script, left = frames_left(count * 2 // 3)
-    return script + "".join(f"lose < {rest // 2}\n" for rest in range(left, 0, -1))
+    return script + "".join(f"lose < {min(rest // 2, FURTHEST)}\n" for rest in range(left, 0, -1))
 
 
 def damaged_in_the_middle(count):
     script, left = frames_left(count * 2 // 3)
-    return script + f"damage < {left // 2} 00ff\n" * left
+    return script + f"damage < {min(left // 2, FURTHEST)} 00ff\n" * left
 
 
 KINDS = {
